@@ -1,0 +1,3 @@
+pub mod Tropical
+pub mod Problem
+pub mod Certificate

@@ -1,0 +1,1 @@
+// Definitions only: what a reader must believe stands in specs/.

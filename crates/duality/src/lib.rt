@@ -1,0 +1,1 @@
+// The theory: antt only, in specs/ and proofs/.
