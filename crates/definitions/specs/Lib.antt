@@ -1,3 +1,13 @@
+pub mod Limits
 pub mod Tropical
 pub mod Problem
 pub mod Certificate
+pub mod Bytes
+pub mod Offset
+pub mod ProblemRecord
+pub mod AnswerRecord
+pub mod Bisection
+pub mod Verdict
+pub mod Solved
+pub mod Programs
+pub mod Demands

@@ -1,0 +1,136 @@
+-- The answer record: its fields, sizes by class, refusals, and its bytes. Document 01, "Records" and "What is turned
+-- away", 4 and 7 to 13.
+use Prim.Native.Nat.{ℕ, zero, suc, _+_, _*_, _-_}
+use mathlib.Core.Path.{_≡_}
+use mathlib.Core.Bool.{Bool, true, false, not, cond, _&&_, _||_}
+use mathlib.Core.List.{List, [], _∷_, _++_, map}
+use lib.Dec.{eqb, ltb, leb}
+use lib.ListN.{length}
+use lib.IntN.{ℤ, pos, natAbs}
+use Rattle.definitions.specs.Limits.{span-limit, stamp-limit, length-bytes, short-bytes, signed-bytes, answer-kind, class-optimal, class-unbounded, class-infeasible, answer-header, answer-most}
+use Rattle.definitions.specs.Tropical.{Trop, bot, fin}
+use Rattle.definitions.specs.Bytes.{numAt, numsAt, le, fields, tropField, fieldOf, tropAt, put, all, whole-within, blank-or-within, Clause, first, or-else}
+use Rattle.definitions.specs.ProblemRecord.{above-limits, lengthField, kindField, nField}
+
+-- The fields of an answer: class, span, and by class stamps and picks.
+pub record Answer : Type 0 where
+  pub class : ℕ
+  pub span : Trop
+  pub stamps : List Trop
+  pub picks : List ℕ
+
+-- The class is 1, 2 or 3.
+abbrev pub known-class : ℕ → Bool
+known-class class = eqb class class-optimal || (eqb class class-unbounded || eqb class class-infeasible)
+
+-- How many stamps an answer of this class has: n + 1 for least, else none.
+abbrev pub stampCount : ℕ → ℕ → ℕ
+stampCount class n = cond (eqb class class-optimal) (suc n) 0
+
+-- How many picks: one a row for bottomless, else one a moment.
+abbrev pub pickCount : ℕ → ℕ → ℕ → ℕ
+pickCount class n m = cond (eqb class class-unbounded) (suc m) (suc n)
+
+-- The highest pick: 1 + a moment's number for bottomless, else m + 1, the question.
+abbrev pub highestPick : ℕ → ℕ → ℕ → ℕ
+highestPick class n m = cond (eqb class class-unbounded) (suc n) (suc m)
+
+-- Sizes: 14 + 6 (n + 1), 14 + 2 (m + 1), 14 + 2 (n + 1).
+abbrev pub answerSize : ℕ → ℕ → ℕ → ℕ
+answerSize class n m = answer-header + signed-bytes * stampCount class n + short-bytes * pickCount class n m
+
+-- ---- form
+
+-- The number is whole and 0.
+unfoldable pub is-zero : Trop → Bool
+is-zero bot = false
+is-zero (fin z) = eqb (natAbs z) 0
+
+unfoldable pub is-blank : Trop → Bool
+is-blank bot = true
+is-blank (fin z) = false
+
+-- The span's form: whole and within ±645,120 for least, else blank.
+unfoldable pub spanFits : ℕ → Trop → Bool
+spanFits class span = cond (eqb class class-optimal) (whole-within span-limit span) (is-blank span)
+
+-- The stamps' form: stamp 0 is 0, the others are blank or within ±2,000,000.
+unfoldable pub stampsFit : List Trop → Bool
+stampsFit [] = true
+stampsFit (anchor ∷ others) = is-zero anchor && all (blank-or-within stamp-limit) others
+
+-- No pick is above its highest value.
+unfoldable pub picksFit : ℕ → List ℕ → Bool
+picksFit highest picks = all (λ pick. leb pick highest) picks
+
+-- Refusals 12 and 13, the same for bytes and for fields handed to the writer.
+unfoldable pub formRefusal : Answer → ℕ → ℕ → ℕ
+formRefusal a n m =
+    first
+    (record { applies = not (spanFits (a .class) (a .span) && stampsFit (a .stamps)); number = 12 }
+    ∷ record { applies = not (picksFit (highestPick (a .class) n m) (a .picks)); number = 13 }
+    ∷ [])
+
+-- As many stamps and as many picks as the class has.
+unfoldable pub rightCounts : Answer → ℕ → ℕ → Bool
+rightCounts a n m = eqb (length (a .stamps)) (stampCount (a .class) n) && eqb (length (a .picks)) (pickCount (a .class) n m)
+
+-- ---- bytes
+
+-- Fields of an answer's header after length, kind and n: class and span. Stamps and picks follow.
+abbrev pub classField : List ℕ → ℕ
+classField s = numAt short-bytes s 8
+
+abbrev pub spanField : List ℕ → Trop
+spanField s = tropAt s 10
+
+-- The answer that the bytes mean, read with the problem's n and m.
+unfoldable pub answerOf : List ℕ → ℕ → ℕ → Answer
+answerOf s n m =
+    record {
+      class = classField s;
+      span = spanField s;
+      stamps = map tropField (numsAt signed-bytes (stampCount (classField s) n) s answer-header);
+      picks = numsAt short-bytes (pickCount (classField s) n m) s (answer-header + signed-bytes * stampCount (classField s) n);
+    }
+
+-- An answer as its record, with the problem's n: length, kind, n, class, span, stamps, picks.
+unfoldable pub answerBytes : ℕ → Answer → List ℕ
+answerBytes n a =
+    (le length-bytes (answer-header + signed-bytes * length (a .stamps) + short-bytes * length (a .picks) - length-bytes)
+    ++ (le short-bytes answer-kind ++ (le short-bytes n ++ (le short-bytes (a .class) ++ le signed-bytes (fieldOf (a .span))))))
+    ++ (fields signed-bytes (map fieldOf (a .stamps)) ++ fields short-bytes (a .picks))
+
+-- ---- refusals
+
+-- Refusals 4 and 8 to 11 concern the first bytes of an answer, its size, and the problem's n and m.
+unfoldable pub answerHeaderRefusal : List ℕ → ℕ → ℕ → ℕ → ℕ
+answerHeaderRefusal s size n m =
+    first
+    (record { applies = above-limits n m; number = 4 }
+    ∷ record { applies = ltb size answer-header; number = 8 }
+    ∷ record { applies = not (eqb (lengthField s + length-bytes) size); number = 9 }
+    ∷ record { applies = not (eqb (kindField s) answer-kind && known-class (classField s)); number = 10 }
+    ∷ record { applies = not (eqb (nField s) n && eqb size (answerSize (classField s) n m)); number = 11 }
+    ∷ [])
+
+-- The first of refusals 4 and 8 to 13 that applies to an answer read with the problem's n and m, 0 where none does.
+unfoldable pub answerRefusal : List ℕ → ℕ → ℕ → ℕ
+answerRefusal s n m = or-else (answerHeaderRefusal s (length s) n m) (formRefusal (answerOf s n m) n m)
+
+-- The first of refusals 4, 7 and 10 to 13 that applies to fields handed to the writer with n, m and a buffer of `room`
+-- bytes, 0 where none does. Stamps or picks in another count than the class has get 11.
+unfoldable pub writerRefusal : Answer → ℕ → ℕ → ℕ → ℕ
+writerRefusal a n m room =
+    or-else
+    (first
+    (record { applies = above-limits n m; number = 4 }
+    ∷ record { applies = ltb room answer-most; number = 7 }
+    ∷ record { applies = not (known-class (a .class)); number = 10 }
+    ∷ record { applies = not (rightCounts a n m); number = 11 }
+    ∷ []))
+    (formRefusal a n m)
+
+-- The buffer once the writer is done: the record, and after it every byte as it was.
+unfoldable pub written : List ℕ → List ℕ → List ℕ
+written buffer bytes = put buffer 0 bytes

@@ -1,0 +1,236 @@
+-- The three demands of the service description, sentence by sentence, as statements about any functions on bytes:
+-- an engine, a checker, a reader, a writer and the two programs. That a function ends on every string of bytes is part
+-- of its being a function. Document 01 says under "The checker" what the words of demand 3 mean.
+use Prim.Native.Nat.{ℕ, zero, suc, _≤_}
+use mathlib.Core.Path.{_≡_}
+use mathlib.Core.Bool.{Bool, true}
+use mathlib.Core.Logic.{_↔_}
+use mathlib.Core.List.{List, []}
+use lib.ListN.{length, take}
+use lib.IntN.{ℤ}
+use Rattle.definitions.specs.Limits.{most-trials, class-optimal, class-unbounded, class-infeasible, answer-most}
+use Rattle.definitions.specs.Tropical.{Trop, bot, fin}
+use Rattle.definitions.specs.Problem.{Problem, Point, Feasible, value, whole, plus-infinity, _≼_, Attainable}
+use Rattle.definitions.specs.Bytes.{Bytes}
+use Rattle.definitions.specs.ProblemRecord.{problemRefusal, WithinLayout, problemOf, nField, mField, listOf}
+use Rattle.definitions.specs.AnswerRecord.{Answer, answerRefusal, writerRefusal, answerOf, answerBytes, answerSize, pickCount, highestPick, picksFit, spanFits, stampsFit, written}
+use Rattle.definitions.specs.Verdict.{Verdict, accepted, refused, refusalOf, checkRefusal, Accepted, answerFor, pointOf, Judged}
+use Rattle.definitions.specs.Solved.{Solved, answered, Found, engineRefusal, Solves}
+use Rattle.definitions.specs.Programs.{VerdictOutput, SpanOutput}
+
+-- ---- the functions that the demands speak of
+
+-- A checker: the verdict for the bytes of a problem and of an answer.
+abbrev pub Checker : Type 0
+Checker = List ℕ → List ℕ → Verdict
+
+-- An engine: for the bytes of a problem and a lent buffer, the result and the buffer afterwards.
+pub record Engine : Type 0 where
+  pub result : List ℕ → List ℕ → Solved
+  pub buffer : List ℕ → List ℕ → List ℕ
+
+-- What a reader answers: the refusal, or the fields.
+pub data Reading : Type 0 where
+  refusal : ℕ → Reading
+  fields : Answer → Reading
+
+-- A problem reader: the refusal for its bytes, 0 for none.
+abbrev pub ProblemReader : Type 0
+ProblemReader = List ℕ → ℕ
+
+-- An answer reader: for bytes and the problem's n and m.
+abbrev pub Reader : Type 0
+Reader = List ℕ → ℕ → ℕ → Reading
+
+-- An answer writer: for fields, the problem's n and m and a lent buffer, the refusal (0 for none) and the buffer
+-- afterwards.
+pub record Writer : Type 0 where
+  pub number : Answer → ℕ → ℕ → List ℕ → ℕ
+  pub buffer : Answer → ℕ → ℕ → List ℕ → List ℕ
+
+-- A program: what it puts out for its input.
+abbrev pub Program : Type 0
+Program = List ℕ → List ℕ
+
+-- ---- demand 1
+
+-- Bytes outside the layouts get the first refusal that applies, and a lent buffer is then untouched. No statement has a
+-- premise on the bytes: no entry relies on somebody having looked beforehand.
+pub record EngineRefuses (engine : Engine) : Type 0 where
+  pub first-refusal :
+      (p buffer : List ℕ) (k : ℕ) → engineRefusal p (length buffer) ≡ suc k → engine .result p buffer ≡ Solved.refused (suc k)
+  pub untouched : (p buffer : List ℕ) (k : ℕ) → engineRefusal p (length buffer) ≡ suc k → engine .buffer p buffer ≡ buffer
+
+abbrev pub CheckerRefuses : Checker → Type 0
+CheckerRefuses check = (p a : List ℕ) (k : ℕ) → checkRefusal p a ≡ suc k → check p a ≡ refused (suc k)
+
+abbrev pub ProblemReaderRefuses : ProblemReader → Type 0
+ProblemReaderRefuses number = (p : List ℕ) → number p ≡ problemRefusal p
+
+abbrev pub ReaderRefuses : Reader → Type 0
+ReaderRefuses read = (s : List ℕ) (n m k : ℕ) → answerRefusal s n m ≡ suc k → read s n m ≡ refusal (suc k)
+
+pub record WriterRefuses (write : Writer) : Type 0 where
+  pub first-refusal : (a : Answer) (n m : ℕ) (buffer : List ℕ) → write .number a n m buffer ≡ writerRefusal a n m (length buffer)
+  pub untouched :
+      (a : Answer) (n m : ℕ) (buffer : List ℕ) (k : ℕ) → writerRefusal a n m (length buffer) ≡ suc k
+      → write .buffer a n m buffer ≡ buffer
+
+-- The program as a whole takes every string of bytes, and puts out what document 01 says.
+pub record ProgramsAnswer (span verdict : Program) : Type 0 where
+  pub span-output : (input : List ℕ) → SpanOutput input (span input)
+  pub verdict-output : (input : List ℕ) → VerdictOutput input (verdict input)
+
+-- ---- demand 2
+
+-- For every problem within the layout (and a buffer that is long enough) the class and least span are those of the
+-- theory, in at most 23 trials.
+pub record FoundBy (engine : Engine) (p buffer : List ℕ) : Type 0 where
+  pub class : ℕ
+  pub span : Trop
+  pub trials : ℕ
+  pub size : ℕ
+  pub result-is : engine .result p buffer ≡ answered class span trials size
+  pub found : Found (problemOf p) class span trials
+  pub few : trials ≤ most-trials
+
+abbrev pub LeastSpans : Engine → Type 0
+LeastSpans engine = (p buffer : List ℕ) → WithinLayout p → answer-most ≤ length buffer → FoundBy engine p buffer
+
+-- What is read: the fields of the bytes. What is written: the record of the fields, and every byte after it stays.
+abbrev pub ReadsFields : Reader → Type 0
+ReadsFields read = (s : List ℕ) (n m : ℕ) → answerRefusal s n m ≡ 0 → read s n m ≡ fields (answerOf s n m)
+
+abbrev pub WritesRecord : Writer → Type 0
+WritesRecord write =
+    (a : Answer) (n m : ℕ) (buffer : List ℕ) → writerRefusal a n m (length buffer) ≡ 0
+    → write .buffer a n m buffer ≡ written buffer (answerBytes n a)
+
+-- Every answer written reads back as itself: what the engine wrote, with the class and span of its result,
+pub record ReadBy (engine : Engine) (read : Reader) (p buffer : List ℕ) : Type 0 where
+  pub trials : ℕ
+  pub size : ℕ
+  pub answer : Answer
+  pub result-is : engine .result p buffer ≡ answered (answer .class) (answer .span) trials size
+  pub reads : read (take size (engine .buffer p buffer)) (nField p) (mField p) ≡ fields answer
+
+abbrev pub EngineReadsBack : Engine → Reader → Type 0
+EngineReadsBack engine read =
+    (p buffer : List ℕ) → WithinLayout p → answer-most ≤ length buffer → ReadBy engine read p buffer
+
+-- and what the writer wrote, read with the same n and m.
+abbrev pub ReadsBack : Reader → Writer → Type 0
+ReadsBack read write =
+    (a : Answer) (n m : ℕ) (buffer : List ℕ) → write .number a n m buffer ≡ 0
+    → read (take (answerSize (a .class) n m) (write .buffer a n m buffer)) n m ≡ fields a
+
+-- Every answer record read is written again to the same bytes, and every byte after the record stays.
+abbrev pub WritesBack : Reader → Writer → Type 0
+WritesBack read write =
+    (s : List ℕ) (n m : ℕ) (a : Answer) (buffer : List ℕ) → Bytes s → answer-most ≤ length buffer → read s n m ≡ fields a
+    → write .buffer a n m buffer ≡ written buffer s
+
+-- ---- demand 3
+
+-- The checker gives no refusal.
+abbrev pub Accepts : Checker → List ℕ → List ℕ → Type 0
+Accepts check p a = refusalOf (check p a) ≡ 0
+
+-- The checker accepts an answer exactly when it is of the right form and all that document 01 lists for its class holds.
+abbrev pub AcceptsExactly : Checker → Type 0
+AcceptsExactly check =
+    (p a : List ℕ) → WithinLayout p
+    → Accepts check p a ↔ ((answerRefusal a (nField p) (mField p) ≡ 0) × Accepted (problemOf p) (answerFor p a))
+
+-- So never one whose plan breaks a rule or has another span than its field.
+pub record PlanHolds (p a : List ℕ) : Type 0 where
+  pub keeps-rules : Feasible (problemOf p) (pointOf (answerFor p a .stamps))
+  pub s : ℤ
+  pub span-is : answerFor p a .span ≡ fin s
+  pub value-is : value (problemOf p) (pointOf (answerFor p a .stamps)) ≡ whole s
+
+abbrev pub NeverBroken : Checker → Type 0
+NeverBroken check = (p a : List ℕ) → Accepts check p a → answerFor p a .class ≡ class-optimal → PlanHolds p a
+
+-- A pick table has as many picks as an answer of its class, none above the highest value there. Some table makes the
+-- checker accept the answer that holds it.
+pub record SomeTable (check : Checker) (p : List ℕ) (class : ℕ) (answerWith : List ℕ → Answer) : Type 0 where
+  pub picks : List ℕ
+  pub count : length picks ≡ pickCount class (nField p) (mField p)
+  pub none-above : picksFit (highestPick class (nField p) (mField p)) picks ≡ true
+  pub accepts : Accepts check p (answerBytes (nField p) (answerWith picks))
+
+-- A plan fits the answer record if its span and stamps have the form of class 1.
+pub record Fits (n : ℕ) (s : ℤ) (x : Point) : Type 0 where
+  pub span : spanFits class-optimal (fin s) ≡ true
+  pub stamps : stampsFit (listOf x (suc n)) ≡ true
+
+-- The answers of each class with a pick table; class 1 with a plan's own span and its stamps.
+abbrev pub leastAnswer : ℕ → ℤ → Point → List ℕ → Answer
+leastAnswer n s x picks = record { class = class-optimal; span = fin s; stamps = listOf x (suc n); picks = picks }
+
+abbrev pub blankAnswer : ℕ → List ℕ → Answer
+blankAnswer class picks = record { class = class; span = bot; stamps = []; picks = picks }
+
+-- Let a plan fit the answer record, keep every rule and have a whole span. The checker accepts this plan with some pick
+-- table exactly when every other plan that keeps the rules, in blanks or whole minutes without limit, has at least as
+-- great a span.
+abbrev pub LeastExactly : Checker → Type 0
+LeastExactly check =
+    (p : List ℕ) → WithinLayout p → (x : Point) (s : ℤ) → Fits (nField p) s x → Feasible (problemOf p) x
+    → value (problemOf p) x ≡ whole s
+    → SomeTable check p class-optimal (leastAnswer (nField p) s x)
+    ↔ ((y : Point) → Feasible (problemOf p) y → whole s ≼ value (problemOf p) y)
+
+-- The checker accepts some pick table for none exactly when no plan that keeps the rules has a span below plus infinity.
+abbrev pub NoneExactly : Checker → Type 0
+NoneExactly check =
+    (p : List ℕ) → WithinLayout p
+    → SomeTable check p class-infeasible (blankAnswer class-infeasible)
+    ↔ ((y : Point) → Feasible (problemOf p) y → plus-infinity ≼ value (problemOf p) y)
+
+-- It accepts some pick table for bottomless exactly when for every whole number some plan that keeps the rules has a
+-- span at or under it.
+abbrev pub BottomlessExactly : Checker → Type 0
+BottomlessExactly check =
+    (p : List ℕ) → WithinLayout p
+    → SomeTable check p class-unbounded (blankAnswer class-unbounded) ↔ ((t : ℤ) → Attainable (problemOf p) t)
+
+-- Whatever stood in an answer buffer that is long enough, the engine writes an answer there, and the checker accepts
+-- that answer for this problem.
+pub record OwnAnswer (engine : Engine) (check : Checker) (p buffer : List ℕ) : Type 0 where
+  pub class : ℕ
+  pub span : Trop
+  pub trials : ℕ
+  pub size : ℕ
+  pub result-is : engine .result p buffer ≡ answered class span trials size
+  pub record-is : check p (take size (engine .buffer p buffer)) ≡ accepted class span
+
+abbrev pub OwnAnswers : Engine → Checker → Type 0
+OwnAnswers engine check = (p buffer : List ℕ) → WithinLayout p → answer-most ≤ length buffer → OwnAnswer engine check p buffer
+
+-- ---- the demands, whole
+
+pub record Demand1 (engine : Engine) (check : Checker) (readProblem : ProblemReader) (read : Reader) (write : Writer) (span verdict : Program) : Type 0 where
+  pub engine-refuses : EngineRefuses engine
+  pub checker-refuses : CheckerRefuses check
+  pub problem-reader-refuses : ProblemReaderRefuses readProblem
+  pub reader-refuses : ReaderRefuses read
+  pub writer-refuses : WriterRefuses write
+  pub programs-answer : ProgramsAnswer span verdict
+
+pub record Demand2 (engine : Engine) (read : Reader) (write : Writer) : Type 0 where
+  pub least-spans : LeastSpans engine
+  pub reads-fields : ReadsFields read
+  pub writes-record : WritesRecord write
+  pub engine-reads-back : EngineReadsBack engine read
+  pub reads-back : ReadsBack read write
+  pub writes-back : WritesBack read write
+
+pub record Demand3 (engine : Engine) (check : Checker) : Type 0 where
+  pub accepts-exactly : AcceptsExactly check
+  pub never-broken : NeverBroken check
+  pub least-exactly : LeastExactly check
+  pub none-exactly : NoneExactly check
+  pub bottomless-exactly : BottomlessExactly check
+  pub own-answers : OwnAnswers engine check

@@ -1,0 +1,86 @@
+-- Every number of document 01, once. What document 01 derives is derived here.
+use Prim.Native.Nat.{ℕ, suc, _+_, _*_}
+use lib.IntN.{ℤ, pos, negsuc}
+
+-- The highest n (moments besides the anchor) and the highest m (rules).
+abbrev pub most-variables : ℕ
+most-variables = 31
+
+abbrev pub most-inequalities : ℕ
+most-inequalities = 63
+
+-- A lead is blank or within this of 0.
+abbrev pub lead-limit : ℕ
+lead-limit = 10080
+
+-- A least span is within this of 0: two leads for each of 32 variables, 645,120.
+abbrev pub span-limit : ℕ
+span-limit = 2 * suc most-variables * lead-limit
+
+-- A stamp is blank or within this of 0.
+abbrev pub stamp-limit : ℕ
+stamp-limit = 2000000
+
+-- The two outer trials: 645,120 and −645,121.
+abbrev pub top-trial : ℤ
+top-trial = pos span-limit
+
+abbrev pub lowest-trial : ℤ
+lowest-trial = negsuc span-limit
+
+-- The most trials that an answer takes.
+abbrev pub most-trials : ℕ
+most-trials = 23
+
+-- A byte is below this; fields of 2 and of 4 bytes are below its powers.
+abbrev pub byte-values : ℕ
+byte-values = 256
+
+-- The size of a length field, and of the fields of 2 bytes and of 4 bytes.
+abbrev pub length-bytes : ℕ
+length-bytes = 4
+
+abbrev pub short-bytes : ℕ
+short-bytes = 2
+
+abbrev pub signed-bytes : ℕ
+signed-bytes = 4
+
+-- 2³¹ and 2³²: a signed field below the first stands for itself, from there on for itself less the second.
+abbrev pub signed-half : ℕ
+signed-half = 2147483648
+
+abbrev pub signed-full : ℕ
+signed-full = 4294967296
+
+-- Kinds of records.
+abbrev pub problem-kind : ℕ
+problem-kind = 1
+
+abbrev pub answer-kind : ℕ
+answer-kind = 2
+
+-- Classes of answers: least, bottomless, none.
+abbrev pub class-optimal : ℕ
+class-optimal = 1
+
+abbrev pub class-unbounded : ℕ
+class-unbounded = 2
+
+abbrev pub class-infeasible : ℕ
+class-infeasible = 3
+
+-- The bytes of a problem before its leads, and of an answer before its stamps and picks.
+abbrev pub problem-header : ℕ
+problem-header = 10
+
+abbrev pub answer-header : ℕ
+answer-header = 14
+
+-- The largest answer record, 206 bytes: n = 31, class 1. A shorter answer buffer is refused, whichever class is due.
+abbrev pub answer-most : ℕ
+answer-most = answer-header + (signed-bytes + short-bytes) * suc most-variables
+
+-- How many bytes of their input the programs keep.
+abbrev pub kept-bytes : ℕ
+kept-bytes = 20000

@@ -1,0 +1,99 @@
+-- The problem record: its size, its refusals, what its bytes mean, and a problem as bytes. Document 01, "Records"
+-- and "What is turned away", 1 to 6.
+use Prim.Native.Nat.{ℕ, zero, suc, _+_, _*_, _-_}
+use mathlib.Core.Path.{_≡_}
+use mathlib.Core.Bool.{Bool, not, _||_}
+use mathlib.Core.List.{List, [], _∷_, _++_, map}
+use lib.Dec.{eqb, ltb}
+use lib.ListN.{length}
+use Rattle.definitions.specs.Limits.{most-variables, most-inequalities, lead-limit, length-bytes, short-bytes, signed-bytes, problem-kind, problem-header}
+use Rattle.definitions.specs.Tropical.{Trop}
+use Rattle.definitions.specs.Problem.{Problem}
+use Rattle.definitions.specs.Bytes.{numAt, numsAt, le, fields, tropField, fieldOf, tropAt, all, blank-or-within, Clause, first, or-else}
+
+-- Size of a problem record: 10 + 8 × (n + 1) × (m + 1).
+abbrev pub problemSize : ℕ → ℕ → ℕ
+problemSize n m = problem-header + 2 * signed-bytes * (suc n * suc m)
+
+-- Fields of the header: length, kind, n, m.
+abbrev pub lengthField : List ℕ → ℕ
+lengthField s = numAt length-bytes s 0
+
+abbrev pub kindField : List ℕ → ℕ
+kindField s = numAt short-bytes s 4
+
+abbrev pub nField : List ℕ → ℕ
+nField s = numAt short-bytes s 6
+
+abbrev pub mField : List ℕ → ℕ
+mField s = numAt short-bytes s 8
+
+-- The leads of a problem record in their order: for each row n + 1 left leads, then n + 1 right leads.
+unfoldable pub leadsOf : List ℕ → List Trop
+leadsOf s = map tropField (numsAt signed-bytes (2 * (suc (nField s) * suc (mField s))) s problem-header)
+
+-- n is above 31 or m above 63.
+abbrev pub above-limits : ℕ → ℕ → Bool
+above-limits n m = ltb most-variables n || ltb most-inequalities m
+
+-- Refusals 1 to 5 concern the first bytes of a problem and its size.
+unfoldable pub headerRefusal : List ℕ → ℕ → ℕ
+headerRefusal s size =
+    first
+    (record { applies = ltb size problem-header; number = 1 }
+    ∷ record { applies = not (eqb (lengthField s + length-bytes) size); number = 2 }
+    ∷ record { applies = not (eqb (kindField s) problem-kind); number = 3 }
+    ∷ record { applies = above-limits (nField s) (mField s); number = 4 }
+    ∷ record { applies = not (eqb size (problemSize (nField s) (mField s))); number = 5 }
+    ∷ [])
+
+-- Refusal 6: a lead is neither blank nor within ±10,080.
+abbrev pub leadRefused : List ℕ → Bool
+leadRefused s = not (all (blank-or-within lead-limit) (leadsOf s))
+
+-- The first of refusals 1 to 6 that applies to a problem, 0 where none does.
+unfoldable pub problemRefusal : List ℕ → ℕ
+problemRefusal s = or-else (headerRefusal s (length s)) (first (record { applies = leadRefused s; number = 6 } ∷ []))
+
+-- A problem is within the layout if no refusal that concerns the problem applies to it.
+abbrev pub WithinLayout : List ℕ → Type 0
+WithinLayout s = problemRefusal s ≡ 0
+
+-- Places of the leads: row i has its left leads first, then its right leads, anchor first.
+abbrev pub leftPlace : ℕ → ℕ → ℕ → ℕ
+leftPlace n i j = problem-header + 2 * signed-bytes * (i * suc n) + signed-bytes * j
+
+abbrev pub rightPlace : ℕ → ℕ → ℕ → ℕ
+rightPlace n i j = problem-header + 2 * signed-bytes * (i * suc n) + signed-bytes * suc n + signed-bytes * j
+
+-- The problem that the bytes mean.
+unfoldable pub problemOf : List ℕ → Problem
+problemOf s =
+    record {
+      n = nField s;
+      m = mField s;
+      left = λ i j. tropAt s (leftPlace (nField s) i j);
+      right = λ i j. tropAt s (rightPlace (nField s) i j);
+    }
+
+-- f 0, …, f (k − 1) as a list.
+unfoldable pub listOf {ℓ} : {A : Type ℓ} → (ℕ → A) → ℕ → List A
+listOf f zero = []
+listOf f (suc k) = listOf f k ++ (f k ∷ [])
+
+-- One row of a problem as bytes: its left leads, then its right leads.
+unfoldable pub rowBytes : Problem → ℕ → List ℕ
+rowBytes p i =
+    fields signed-bytes (map fieldOf (listOf (p .left i) (suc (p .n))))
+    ++ fields signed-bytes (map fieldOf (listOf (p .right i) (suc (p .n))))
+
+-- The first k rows as bytes.
+unfoldable pub rowsBytes : Problem → ℕ → List ℕ
+rowsBytes p zero = []
+rowsBytes p (suc k) = rowsBytes p k ++ rowBytes p k
+
+-- A problem as its record.
+unfoldable pub problemBytes : Problem → List ℕ
+problemBytes p =
+    (le length-bytes (problemSize (p .n) (p .m) - length-bytes) ++ le short-bytes problem-kind)
+    ++ ((le short-bytes (p .n) ++ le short-bytes (p .m)) ++ rowsBytes p (suc (p .m)))
