@@ -1,2 +1,5 @@
 pub mod Whole
 pub mod Tropical
+pub mod Bisection
+pub mod Examples
+pub mod Edges

@@ -11,3 +11,4 @@ pub mod Verdict
 pub mod Solved
 pub mod Programs
 pub mod Demands
+pub mod Examples

@@ -1,0 +1,154 @@
+-- Refusals at their edges, and the order in which they are looked at, as facts of the definitions: each list of bytes, or
+-- of fields, with its number.
+use Prim.Native.Nat.{ℕ}
+use mathlib.Core.Path.{_≡_, refl}
+use mathlib.Core.List.{List, [], _∷_, map}
+use lib.IntN.{ℤ, pos, negsuc}
+use Rattle.definitions.specs.Tropical.{Trop, bot, fin}
+use Rattle.definitions.specs.Bytes.{numAt, numsAt, signed, tropField, tropAt, all, blank-or-within, whole-within}
+use Rattle.definitions.specs.ProblemRecord.{headerRefusal, problemRefusal, leadsOf}
+use Rattle.definitions.specs.AnswerRecord.{Answer, answerHeaderRefusal, answerRefusal, answerOf, writerRefusal, rightCounts, formRefusal, spanFits, stampsFit, picksFit, is-zero, is-blank}
+
+-- A problem's bytes and its refusal.
+record Damaged : Type 0 where
+  number : ℕ
+  bytes : List ℕ
+
+problems : List Damaged
+problems =
+    -- empty
+    record { number = 1; bytes = [] } ∷
+    -- nine bytes
+    record { number = 1; bytes = (6 ∷ 0 ∷ 0 ∷ 0 ∷ 1 ∷ 0 ∷ 0 ∷ 0 ∷ 0 ∷ []) } ∷
+    -- length one short
+    record { number = 2; bytes = (13 ∷ 0 ∷ 0 ∷ 0 ∷ 1 ∷ 0 ∷ 0 ∷ 0 ∷ 0 ∷ 0 ∷ 5 ∷ 0 ∷ 0 ∷ 0 ∷ 2 ∷ 0 ∷ 0 ∷ 0 ∷ []) } ∷
+    -- length and kind wrong
+    record { number = 2; bytes = (13 ∷ 0 ∷ 0 ∷ 0 ∷ 2 ∷ 0 ∷ 0 ∷ 0 ∷ 0 ∷ 0 ∷ 5 ∷ 0 ∷ 0 ∷ 0 ∷ 2 ∷ 0 ∷ 0 ∷ 0 ∷ []) } ∷
+    -- kind 2
+    record { number = 3; bytes = (14 ∷ 0 ∷ 0 ∷ 0 ∷ 2 ∷ 0 ∷ 0 ∷ 0 ∷ 0 ∷ 0 ∷ 5 ∷ 0 ∷ 0 ∷ 0 ∷ 2 ∷ 0 ∷ 0 ∷ 0 ∷ []) } ∷
+    -- kind wrong and n 32
+    record { number = 3; bytes = (14 ∷ 0 ∷ 0 ∷ 0 ∷ 0 ∷ 0 ∷ 32 ∷ 0 ∷ 0 ∷ 0 ∷ 5 ∷ 0 ∷ 0 ∷ 0 ∷ 2 ∷ 0 ∷ 0 ∷ 0 ∷ []) } ∷
+    -- n 32
+    record { number = 4; bytes = (14 ∷ 0 ∷ 0 ∷ 0 ∷ 1 ∷ 0 ∷ 32 ∷ 0 ∷ 0 ∷ 0 ∷ 5 ∷ 0 ∷ 0 ∷ 0 ∷ 2 ∷ 0 ∷ 0 ∷ 0 ∷ []) } ∷
+    -- m 64
+    record { number = 4; bytes = (14 ∷ 0 ∷ 0 ∷ 0 ∷ 1 ∷ 0 ∷ 0 ∷ 0 ∷ 64 ∷ 0 ∷ 5 ∷ 0 ∷ 0 ∷ 0 ∷ 2 ∷ 0 ∷ 0 ∷ 0 ∷ []) } ∷
+    -- size of n = 0 with n = 1
+    record { number = 5; bytes = (14 ∷ 0 ∷ 0 ∷ 0 ∷ 1 ∷ 0 ∷ 1 ∷ 0 ∷ 0 ∷ 0 ∷ 5 ∷ 0 ∷ 0 ∷ 0 ∷ 2 ∷ 0 ∷ 0 ∷ 0 ∷ []) } ∷
+    -- size and a lead wrong
+    record { number = 5; bytes = (14 ∷ 0 ∷ 0 ∷ 0 ∷ 1 ∷ 0 ∷ 0 ∷ 0 ∷ 1 ∷ 0 ∷ 97 ∷ 39 ∷ 0 ∷ 0 ∷ 2 ∷ 0 ∷ 0 ∷ 0 ∷ []) } ∷
+    -- lead 10,081
+    record { number = 6; bytes = (14 ∷ 0 ∷ 0 ∷ 0 ∷ 1 ∷ 0 ∷ 0 ∷ 0 ∷ 0 ∷ 0 ∷ 97 ∷ 39 ∷ 0 ∷ 0 ∷ 2 ∷ 0 ∷ 0 ∷ 0 ∷ []) } ∷
+    -- lead −10,081, right
+    record { number = 6; bytes = (14 ∷ 0 ∷ 0 ∷ 0 ∷ 1 ∷ 0 ∷ 0 ∷ 0 ∷ 0 ∷ 0 ∷ 5 ∷ 0 ∷ 0 ∷ 0 ∷ 159 ∷ 216 ∷ 255 ∷ 255 ∷ []) } ∷
+    -- leads ±10,080
+    record { number = 0; bytes = (14 ∷ 0 ∷ 0 ∷ 0 ∷ 1 ∷ 0 ∷ 0 ∷ 0 ∷ 0 ∷ 0 ∷ 96 ∷ 39 ∷ 0 ∷ 0 ∷ 160 ∷ 216 ∷ 255 ∷ 255 ∷ []) } ∷
+    []
+
+problems-refused : map (λ d. problemRefusal (d .bytes)) problems ≡ map (λ d. d .number) problems
+unfolding problems problemRefusal headerRefusal leadsOf numAt numsAt all blank-or-within tropField signed
+problems-refused = refl
+
+-- An answer's bytes, read with n and m, and its refusal.
+record Misread : Type 0 where
+  number : ℕ
+  n : ℕ
+  m : ℕ
+  bytes : List ℕ
+
+answers : List Misread
+answers =
+    -- n 32
+    record { number = 4; n = 32; m = 0; bytes = [] } ∷
+    -- m 64
+    record { number = 4; n = 0; m = 64; bytes = [] } ∷
+    -- thirteen bytes
+    record { number = 8; n = 0; m = 0; bytes = (16 ∷ 0 ∷ 0 ∷ 0 ∷ 2 ∷ 0 ∷ 0 ∷ 0 ∷ 1 ∷ 0 ∷ 3 ∷ 0 ∷ 0 ∷ []) } ∷
+    -- length one long
+    record { number = 9; n = 0; m = 0; bytes = (17 ∷ 0 ∷ 0 ∷ 0 ∷ 2 ∷ 0 ∷ 0 ∷ 0 ∷ 1 ∷ 0 ∷ 3 ∷ 0 ∷ 0 ∷ 0 ∷ 0 ∷ 0 ∷ 0 ∷ 0 ∷ 1 ∷ 0 ∷ []) } ∷
+    -- length and kind wrong
+    record { number = 9; n = 0; m = 0; bytes = (17 ∷ 0 ∷ 0 ∷ 0 ∷ 1 ∷ 0 ∷ 0 ∷ 0 ∷ 1 ∷ 0 ∷ 3 ∷ 0 ∷ 0 ∷ 0 ∷ 0 ∷ 0 ∷ 0 ∷ 0 ∷ 1 ∷ 0 ∷ []) } ∷
+    -- kind 1
+    record { number = 10; n = 0; m = 0; bytes = (16 ∷ 0 ∷ 0 ∷ 0 ∷ 1 ∷ 0 ∷ 0 ∷ 0 ∷ 1 ∷ 0 ∷ 3 ∷ 0 ∷ 0 ∷ 0 ∷ 0 ∷ 0 ∷ 0 ∷ 0 ∷ 1 ∷ 0 ∷ []) } ∷
+    -- class 0
+    record { number = 10; n = 0; m = 0; bytes = (16 ∷ 0 ∷ 0 ∷ 0 ∷ 2 ∷ 0 ∷ 0 ∷ 0 ∷ 0 ∷ 0 ∷ 3 ∷ 0 ∷ 0 ∷ 0 ∷ 0 ∷ 0 ∷ 0 ∷ 0 ∷ 1 ∷ 0 ∷ []) } ∷
+    -- class 4 and n 1
+    record { number = 10; n = 0; m = 0; bytes = (16 ∷ 0 ∷ 0 ∷ 0 ∷ 2 ∷ 0 ∷ 1 ∷ 0 ∷ 4 ∷ 0 ∷ 3 ∷ 0 ∷ 0 ∷ 0 ∷ 0 ∷ 0 ∷ 0 ∷ 0 ∷ 1 ∷ 0 ∷ []) } ∷
+    -- n 1 for a problem with n 0
+    record { number = 11; n = 0; m = 0; bytes = (16 ∷ 0 ∷ 0 ∷ 0 ∷ 2 ∷ 0 ∷ 1 ∷ 0 ∷ 1 ∷ 0 ∷ 3 ∷ 0 ∷ 0 ∷ 0 ∷ 0 ∷ 0 ∷ 0 ∷ 0 ∷ 1 ∷ 0 ∷ []) } ∷
+    -- a pick too many, a span too large
+    record { number = 11; n = 0; m = 0; bytes = (18 ∷ 0 ∷ 0 ∷ 0 ∷ 2 ∷ 0 ∷ 0 ∷ 0 ∷ 1 ∷ 0 ∷ 1 ∷ 216 ∷ 9 ∷ 0 ∷ 0 ∷ 0 ∷ 0 ∷ 0 ∷ 1 ∷ 0 ∷ 1 ∷ 0 ∷ []) } ∷
+    -- span 645,121
+    record { number = 12; n = 0; m = 0; bytes = (16 ∷ 0 ∷ 0 ∷ 0 ∷ 2 ∷ 0 ∷ 0 ∷ 0 ∷ 1 ∷ 0 ∷ 1 ∷ 216 ∷ 9 ∷ 0 ∷ 0 ∷ 0 ∷ 0 ∷ 0 ∷ 1 ∷ 0 ∷ []) } ∷
+    -- span −645,121
+    record { number = 12; n = 0; m = 0; bytes = (16 ∷ 0 ∷ 0 ∷ 0 ∷ 2 ∷ 0 ∷ 0 ∷ 0 ∷ 1 ∷ 0 ∷ 255 ∷ 39 ∷ 246 ∷ 255 ∷ 0 ∷ 0 ∷ 0 ∷ 0 ∷ 1 ∷ 0 ∷ []) } ∷
+    -- blank span for least
+    record { number = 12; n = 0; m = 0; bytes = (16 ∷ 0 ∷ 0 ∷ 0 ∷ 2 ∷ 0 ∷ 0 ∷ 0 ∷ 1 ∷ 0 ∷ 0 ∷ 0 ∷ 0 ∷ 128 ∷ 0 ∷ 0 ∷ 0 ∷ 0 ∷ 1 ∷ 0 ∷ []) } ∷
+    -- stamp 0 is 1
+    record { number = 12; n = 0; m = 0; bytes = (16 ∷ 0 ∷ 0 ∷ 0 ∷ 2 ∷ 0 ∷ 0 ∷ 0 ∷ 1 ∷ 0 ∷ 3 ∷ 0 ∷ 0 ∷ 0 ∷ 1 ∷ 0 ∷ 0 ∷ 0 ∷ 1 ∷ 0 ∷ []) } ∷
+    -- stamp 0 blank
+    record { number = 12; n = 0; m = 0; bytes = (16 ∷ 0 ∷ 0 ∷ 0 ∷ 2 ∷ 0 ∷ 0 ∷ 0 ∷ 1 ∷ 0 ∷ 3 ∷ 0 ∷ 0 ∷ 0 ∷ 0 ∷ 0 ∷ 0 ∷ 128 ∷ 1 ∷ 0 ∷ []) } ∷
+    -- stamp 2,000,001, and a pick too high
+    record { number = 12; n = 1; m = 0; bytes = (22 ∷ 0 ∷ 0 ∷ 0 ∷ 2 ∷ 0 ∷ 1 ∷ 0 ∷ 1 ∷ 0 ∷ 3 ∷ 0 ∷ 0 ∷ 0 ∷ 0 ∷ 0 ∷ 0 ∷ 0 ∷ 129 ∷ 132 ∷ 30 ∷ 0 ∷ 1 ∷ 0 ∷ 9 ∷ 0 ∷ []) } ∷
+    -- stamp −2,000,001
+    record { number = 12; n = 1; m = 0; bytes = (22 ∷ 0 ∷ 0 ∷ 0 ∷ 2 ∷ 0 ∷ 1 ∷ 0 ∷ 1 ∷ 0 ∷ 3 ∷ 0 ∷ 0 ∷ 0 ∷ 0 ∷ 0 ∷ 0 ∷ 0 ∷ 127 ∷ 123 ∷ 225 ∷ 255 ∷ 1 ∷ 0 ∷ 1 ∷ 0 ∷ []) } ∷
+    -- whole span for bottomless
+    record { number = 12; n = 0; m = 0; bytes = (12 ∷ 0 ∷ 0 ∷ 0 ∷ 2 ∷ 0 ∷ 0 ∷ 0 ∷ 2 ∷ 0 ∷ 0 ∷ 0 ∷ 0 ∷ 0 ∷ 0 ∷ 0 ∷ []) } ∷
+    -- whole span for none
+    record { number = 12; n = 0; m = 0; bytes = (12 ∷ 0 ∷ 0 ∷ 0 ∷ 2 ∷ 0 ∷ 0 ∷ 0 ∷ 3 ∷ 0 ∷ 0 ∷ 0 ∷ 0 ∷ 0 ∷ 0 ∷ 0 ∷ []) } ∷
+    -- pick m + 2
+    record { number = 13; n = 0; m = 0; bytes = (16 ∷ 0 ∷ 0 ∷ 0 ∷ 2 ∷ 0 ∷ 0 ∷ 0 ∷ 1 ∷ 0 ∷ 3 ∷ 0 ∷ 0 ∷ 0 ∷ 0 ∷ 0 ∷ 0 ∷ 0 ∷ 2 ∷ 0 ∷ []) } ∷
+    -- pick n + 2 for bottomless
+    record { number = 13; n = 0; m = 1; bytes = (14 ∷ 0 ∷ 0 ∷ 0 ∷ 2 ∷ 0 ∷ 0 ∷ 0 ∷ 2 ∷ 0 ∷ 0 ∷ 0 ∷ 0 ∷ 128 ∷ 0 ∷ 0 ∷ 2 ∷ 0 ∷ []) } ∷
+    -- pick m + 2 for none
+    record { number = 13; n = 1; m = 0; bytes = (14 ∷ 0 ∷ 0 ∷ 0 ∷ 2 ∷ 0 ∷ 1 ∷ 0 ∷ 3 ∷ 0 ∷ 0 ∷ 0 ∷ 0 ∷ 128 ∷ 0 ∷ 0 ∷ 2 ∷ 0 ∷ []) } ∷
+    -- span and stamp at their limits
+    record { number = 0; n = 1; m = 0; bytes = (22 ∷ 0 ∷ 0 ∷ 0 ∷ 2 ∷ 0 ∷ 1 ∷ 0 ∷ 1 ∷ 0 ∷ 0 ∷ 216 ∷ 9 ∷ 0 ∷ 0 ∷ 0 ∷ 0 ∷ 0 ∷ 128 ∷ 123 ∷ 225 ∷ 255 ∷ 1 ∷ 0 ∷ 1 ∷ 0 ∷ []) } ∷
+    -- span −645,120, a blank stamp
+    record { number = 0; n = 1; m = 0; bytes = (22 ∷ 0 ∷ 0 ∷ 0 ∷ 2 ∷ 0 ∷ 1 ∷ 0 ∷ 1 ∷ 0 ∷ 0 ∷ 40 ∷ 246 ∷ 255 ∷ 0 ∷ 0 ∷ 0 ∷ 0 ∷ 0 ∷ 0 ∷ 0 ∷ 128 ∷ 0 ∷ 0 ∷ 1 ∷ 0 ∷ []) } ∷
+    -- pick n + 1 for bottomless
+    record { number = 0; n = 0; m = 1; bytes = (14 ∷ 0 ∷ 0 ∷ 0 ∷ 2 ∷ 0 ∷ 0 ∷ 0 ∷ 2 ∷ 0 ∷ 0 ∷ 0 ∷ 0 ∷ 128 ∷ 0 ∷ 0 ∷ 1 ∷ 0 ∷ []) } ∷
+    -- pick m + 1 for none
+    record { number = 0; n = 0; m = 1; bytes = (12 ∷ 0 ∷ 0 ∷ 0 ∷ 2 ∷ 0 ∷ 0 ∷ 0 ∷ 3 ∷ 0 ∷ 0 ∷ 0 ∷ 0 ∷ 128 ∷ 2 ∷ 0 ∷ []) } ∷
+    []
+
+answers-refused : map (λ d. answerRefusal (d .bytes) (d .n) (d .m)) answers ≡ map (λ d. d .number) answers
+unfolding answers answerRefusal answerHeaderRefusal answerOf formRefusal spanFits stampsFit picksFit is-zero is-blank numAt numsAt all blank-or-within whole-within tropField tropAt signed
+answers-refused = refl
+
+-- Fields handed to the writer with n, m and the room of the buffer, and their refusal.
+record Unfit : Type 0 where
+  number : ℕ
+  n : ℕ
+  m : ℕ
+  room : ℕ
+  answer : Answer
+
+handed : List Unfit
+handed =
+    record { number = 4; n = 32; m = 0; room = 205; answer = record { class = 0; span = bot; stamps = []; picks = [] } } ∷
+    record { number = 4; n = 0; m = 64; room = 206; answer = record { class = 1; span = fin (pos 3); stamps = fin (pos 0) ∷ []; picks = 1 ∷ [] } } ∷
+    record { number = 7; n = 0; m = 0; room = 205; answer = record { class = 0; span = bot; stamps = []; picks = [] } } ∷
+    record { number = 10; n = 0; m = 0; room = 206; answer = record { class = 0; span = bot; stamps = []; picks = [] } } ∷
+    record { number = 10; n = 0; m = 0; room = 206; answer = record { class = 4; span = bot; stamps = []; picks = [] } } ∷
+    record { number = 10; n = 0; m = 0; room = 206; answer = record { class = 65537; span = fin (pos 3); stamps = fin (pos 0) ∷ []; picks = 1 ∷ [] } } ∷
+    record { number = 11; n = 0; m = 0; room = 206; answer = record { class = 1; span = bot; stamps = []; picks = 1 ∷ [] } } ∷
+    record { number = 11; n = 0; m = 0; room = 206; answer = record { class = 1; span = fin (pos 3); stamps = fin (pos 0) ∷ []; picks = 1 ∷ 1 ∷ [] } } ∷
+    record { number = 11; n = 0; m = 0; room = 206; answer = record { class = 2; span = bot; stamps = fin (pos 0) ∷ []; picks = 0 ∷ [] } } ∷
+    record { number = 11; n = 0; m = 1; room = 206; answer = record { class = 2; span = bot; stamps = []; picks = 0 ∷ [] } } ∷
+    record { number = 11; n = 1; m = 0; room = 206; answer = record { class = 3; span = fin (pos 0); stamps = []; picks = 0 ∷ [] } } ∷
+    record { number = 12; n = 0; m = 0; room = 206; answer = record { class = 1; span = fin (pos 645121); stamps = fin (pos 0) ∷ []; picks = 9 ∷ [] } } ∷
+    record { number = 12; n = 0; m = 0; room = 206; answer = record { class = 1; span = fin (pos 4294967299); stamps = fin (pos 0) ∷ []; picks = 1 ∷ [] } } ∷
+    record { number = 12; n = 0; m = 0; room = 206; answer = record { class = 1; span = fin (pos 3); stamps = fin (pos 1) ∷ []; picks = 1 ∷ [] } } ∷
+    record { number = 12; n = 1; m = 0; room = 206; answer = record { class = 1; span = fin (pos 3); stamps = fin (pos 0) ∷ fin (pos 2000001) ∷ []; picks = 1 ∷ 1 ∷ [] } } ∷
+    record { number = 12; n = 0; m = 0; room = 206; answer = record { class = 2; span = fin (pos 0); stamps = []; picks = 0 ∷ [] } } ∷
+    record { number = 13; n = 0; m = 0; room = 206; answer = record { class = 1; span = fin (pos 3); stamps = fin (pos 0) ∷ []; picks = 2 ∷ [] } } ∷
+    record { number = 13; n = 0; m = 0; room = 206; answer = record { class = 3; span = bot; stamps = []; picks = 65537 ∷ [] } } ∷
+    record { number = 13; n = 0; m = 1; room = 206; answer = record { class = 2; span = bot; stamps = []; picks = 0 ∷ 2 ∷ [] } } ∷
+    record { number = 0; n = 0; m = 0; room = 206; answer = record { class = 1; span = fin (pos 3); stamps = fin (pos 0) ∷ []; picks = 1 ∷ [] } } ∷
+    record { number = 0; n = 0; m = 1; room = 206; answer = record { class = 2; span = bot; stamps = []; picks = 0 ∷ 1 ∷ [] } } ∷
+    record { number = 0; n = 1; m = 0; room = 207; answer = record { class = 3; span = bot; stamps = []; picks = 0 ∷ 1 ∷ [] } } ∷
+    []
+
+handed-refused : map (λ d. writerRefusal (d .answer) (d .n) (d .m) (d .room)) handed ≡ map (λ d. d .number) handed
+unfolding handed writerRefusal rightCounts formRefusal spanFits stampsFit picksFit is-zero is-blank all blank-or-within whole-within
+handed-refused = refl

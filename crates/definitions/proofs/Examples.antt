@@ -1,0 +1,146 @@
+-- The table of starred examples: no problem is refused, each has the coefficients that document 01 says in words; and
+-- facts that pin the definitions: the infinities of values, blanks, the later of two, closed walks at s − 1.
+use Prim.Native.Nat.{ℕ, zero, suc, _+_, _≤_, _<_}
+use mathlib.Core.Path.{_≡_, refl, sym, ap₂, subst, subst₂, _∙_}
+use mathlib.Core.Bool.{cond}
+use mathlib.Core.List.{List, [], _∷_, map}
+use native.Mathlib.Omega.{arith}
+use lib.Dec.{eqb}
+use lib.IntN.{ℤ, pos, negsuc, _+ℤ_, _-ℤ_}
+use lib.Signed.{_<ℤ_, <ℤ-irrefl}
+use Rattle.definitions.specs.Tropical.{Trop, bot, fin, blank-least, whole-least, plus, larger, largest, Finite}
+use Rattle.definitions.specs.Problem.{Problem, Point, Keeps, Feasible, value, side, minus, minus-infinity, plus-infinity}
+use Rattle.definitions.specs.Certificate.{Strategy, Arc, ArcBy, Walk, step, stop, Circuit, Reachable, start, onward, Anchor, Leads, HasPick, BelowZero, raise}
+use Rattle.definitions.specs.Bytes.{numAt, numsAt, signed, tropField, tropAt, all, blank-or-within, whole-within}
+use Rattle.definitions.specs.ProblemRecord.{headerRefusal, problemRefusal, leadsOf, problemOf, listOf}
+use Rattle.definitions.specs.AnswerRecord.{Answer, answerHeaderRefusal, answerRefusal, answerOf, formRefusal, spanFits, stampsFit, picksFit, is-zero, is-blank}
+use Rattle.definitions.specs.Verdict.{checkRefusal, Accepted, optimal, unbounded, infeasible, pointOf, strategyOf}
+use Rattle.definitions.specs.Examples.{Row, Example, examples, example-A, example-B, example-C, example-D, example-E, example-F, example-G, example-H, example-I, example-J, example-K, example-M}
+use Rattle.definitions.proofs.Whole.{up, down, whole, lt-show, eq-read, plus-read}
+use Rattle.definitions.proofs.Tropical.{fin-injective}
+
+-- The rows of a problem in the table's form.
+unfoldable pub rowsOf : Problem → List Row
+rowsOf p = listOf (λ i. record { left = listOf (p .left i) (suc (p .n)); right = listOf (p .right i) (suc (p .n)) }) (suc (p .m))
+
+-- An example with its words, class and span as its bytes say them.
+unfoldable pub asRead : Example → Example
+asRead e =
+    let p : Problem = problemOf (e .problem) in
+    let a : Answer = answerOf (e .answer) (e .n) (e .m) in
+    record { n = p .n; m = p .m; rows = rowsOf p; problem = e .problem; answer = e .answer; class = a .class; span = a .span }
+
+-- The whole table, M too.
+unfoldable pub table : List Example
+table = example-M ∷ examples
+
+-- No problem and no answer of the table is refused.
+pub no-refusals : map (λ e. checkRefusal (e .problem) (e .answer)) table ≡ map (λ e. 0) table
+unfolding table examples example-A example-B example-C example-D example-E example-F example-G example-H example-I example-J example-K example-M checkRefusal problemRefusal headerRefusal leadsOf numAt numsAt all blank-or-within tropField signed tropAt answerRefusal answerHeaderRefusal answerOf formRefusal spanFits stampsFit picksFit is-zero is-blank whole-within
+no-refusals = refl
+
+-- The bytes of every problem mean the words, and the bytes of every answer the class and span.
+pub words-are-read : map asRead table ≡ table
+unfolding table examples example-A example-B example-C example-D example-E example-F example-G example-H example-I example-J example-K example-M asRead rowsOf listOf problemOf answerOf numAt numsAt tropField signed tropAt
+words-are-read = refl
+
+-- ---- values with blanks
+
+-- D's point has value minus infinity, though both lists are blank; C's has plus infinity.
+abbrev pub anchor-only : Point
+anchor-only j = cond (eqb j 0) (fin (pos 0)) bot
+
+pub both-blank : value (problemOf (example-D .problem)) anchor-only ≡ minus-infinity
+unfolding value minus side largest larger plus problemOf tropAt tropField numAt signed example-D
+both-blank = refl
+
+pub second-blank : value (problemOf (example-C .problem)) anchor-only ≡ plus-infinity
+unfolding value minus side largest larger plus problemOf tropAt tropField numAt signed example-C
+second-blank = refl
+
+-- J's point with both moments blank is feasible, with value minus infinity.
+pub blanks-feasible : Feasible (problemOf (example-J .problem)) anchor-only
+unfolding problemOf example-J side largest larger plus tropAt tropField numAt signed
+blanks-feasible = record { anchored = refl; keeps = keeps }
+  where
+    keeps : (i : ℕ) → i < 1 → Keeps (problemOf (example-J .problem)) anchor-only i
+    keeps zero h = blank-least
+    keeps (suc i) h = absurd (omega arith)
+
+pub blanks-value : value (problemOf (example-J .problem)) anchor-only ≡ minus-infinity
+unfolding value minus side largest larger plus problemOf tropAt tropField numAt signed example-J
+blanks-value = refl
+
+-- ---- the later of two
+
+-- I's point (0, 0, 45) is feasible: moment 2 alone carries the rule, though moment 1 is too early for it.
+pub later-carries : Feasible (problemOf (example-I .problem)) (pointOf (fin (pos 0) ∷ fin (pos 0) ∷ fin (pos 45) ∷ []))
+unfolding problemOf example-I side largest larger plus tropAt tropField numAt signed pointOf
+later-carries = record { anchored = refl; keeps = keeps }
+  where
+    keeps : (i : ℕ) → i < 1 → Keeps (problemOf (example-I .problem)) (pointOf (fin (pos 0) ∷ fin (pos 0) ∷ fin (pos 45) ∷ [])) i
+    keeps zero h = whole-least (record { le = tt })
+    keeps (suc i) h = absurd (omega arith)
+
+-- ---- closed walks at s − 1
+
+-- A's only arc, from the anchor to itself by the question, weighs 2 − 5 + (3 − 1) = −1.
+problem-A : Problem
+problem-A = problemOf (example-A .problem)
+
+picks-A : Strategy
+picks-A = strategyOf (1 ∷ [])
+
+arc-A : (w : ℤ) → ArcBy problem-A (pos 2) 0 0 0 w → w ≡ negsuc 0
+unfolding problem-A problemOf example-A tropAt tropField numAt signed raise
+arc-A w c =
+    let a-is : pos 5 ≡ c .a = fin-injective (c .left-is) in
+    let b-is : pos 2 ≡ c .b = fin-injective (c .right-is) in
+    c .weighs ∙ ap₂ (λ (b a : ℤ). (b -ℤ a) +ℤ pos 2) (sym b-is) (sym a-is)
+
+arcs-A : (j l : ℕ) (w : ℤ) → Arc problem-A picks-A (pos 2) j l w → w ≡ negsuc 0
+unfolding problem-A picks-A problemOf example-A strategyOf numAt
+arcs-A zero l w c =
+    let r : c .row ≡ 0 = omega (arith, c .picked) in
+    let e : l ≡ 0 = omega (arith, c .inside) in
+    arc-A w (subst₂ (λ (i k : ℕ). ArcBy problem-A (pos 2) i 0 k w) r e (c .by))
+arcs-A (suc j) l w c = absurd (omega (arith, c .picked))
+
+walks-A : {j k n : ℕ} {w : ℤ} → Walk (Arc problem-A picks-A (pos 2)) j k n w → up w + n ≤ down w
+walks-A stop = omega arith
+walks-A (step {j = j} {l = l} {n = n} {w = w} {v = v} c r) = omega (arith, walks-A r, plus-read w v, eq-read (arcs-A j l w c))
+
+reached-A : {j : ℕ} → Reachable Anchor (Leads problem-A picks-A) j → j ≡ 0
+unfolding problem-A problemOf example-A numAt
+reached-A (start e) = e
+reached-A (onward r c) = omega (arith, c .inside)
+
+-- A's answer is accepted.
+pub accepted-A : Accepted (problemOf (example-A .problem)) (answerOf (example-A .answer) 0 0)
+unfolding problem-A picks-A problemOf example-A answerOf tropAt tropField numAt numsAt signed pointOf strategyOf value minus side largest larger plus
+accepted-A = optimal refl refl (record {
+  feasible = record { anchored = refl; keeps = λ i h. absurd (omega arith) };
+  value-is = refl;
+  picks-count = λ j r. subst (HasPick problem-A picks-A) (sym (reached-A r)) (record { row = 0; picked = refl; left = record { whole = pos 5; is = refl } });
+  below-zero = λ w c. let h : up w + suc (c .arcs) ≤ down w = walks-A (c .walk) in omega (whole, h);
+})
+
+-- M's is not: its closed walk from the anchor to moment 1 by the rule and back by the question weighs −30 + 0 + (31 − 1).
+pub circuit-M : Circuit Anchor (Leads (problemOf (example-M .problem)) (strategyOf (1 ∷ 2 ∷ []))) (Arc (problemOf (example-M .problem)) (strategyOf (1 ∷ 2 ∷ [])) (pos 30)) (pos 0)
+unfolding problemOf example-M tropAt tropField numAt signed strategyOf raise
+circuit-M = record {
+  at = 0;
+  arcs = 1;
+  reachable = start refl;
+  walk = step {l = 1} {w = negsuc 29} {v = pos 30} (record { row = 0; picked = refl; inside = omega arith; by = record { a = pos 30; b = pos 0; left-is = refl; right-is = refl; weighs = refl } })
+      (step {l = 0} {w = pos 30} {v = pos 0} (record { row = 1; picked = refl; inside = omega arith; by = record { a = pos 0; b = pos 0; left-is = refl; right-is = refl; weighs = refl } }) stop);
+}
+
+pub not-accepted-M : Accepted (problemOf (example-M .problem)) (answerOf (example-M .answer) 1 1) → ⊥
+unfolding example-M answerOf tropAt tropField numAt numsAt signed
+not-accepted-M (optimal {s = s} c e h) =
+    let s-is : pos 31 ≡ s = fin-injective e in
+    let b : BelowZero (problemOf (example-M .problem)) (strategyOf (1 ∷ 2 ∷ [])) (pos 30) = subst (λ (z : ℤ). BelowZero (problemOf (example-M .problem)) (strategyOf (1 ∷ 2 ∷ [])) (z -ℤ pos 1)) (sym s-is) (h .below-zero) in
+    <ℤ-irrefl (b (pos 0) circuit-M)
+not-accepted-M (unbounded c h) = absurd (omega (arith, c))
+not-accepted-M (infeasible c h) = absurd (omega (arith, c))
