@@ -7,7 +7,7 @@ use mathlib.Core.List.{List, [], _∷_, _++_, map}
 use lib.Dec.{eqb, ltb, leb}
 use lib.ListN.{length}
 use lib.IntN.{ℤ, pos, natAbs}
-use Rattle.definitions.specs.Limits.{span-limit, stamp-limit, length-bytes, short-bytes, signed-bytes, answer-kind, class-optimal, class-unbounded, class-infeasible, answer-header, answer-most}
+use Rattle.definitions.specs.Limits.{span-limit, stamp-limit, length-bytes, short-bytes, signed-bytes, class-place, span-place, answer-kind, class-optimal, class-unbounded, class-infeasible, answer-header, answer-most}
 use Rattle.definitions.specs.Tropical.{Trop, bot, fin}
 use Rattle.definitions.specs.Bytes.{numAt, numsAt, le, fields, tropField, fieldOf, tropAt, put, all, whole-within, blank-or-within, Clause, first, or-else}
 use Rattle.definitions.specs.ProblemRecord.{above-limits, lengthField, kindField, nField}
@@ -79,10 +79,10 @@ rightCounts a n m = eqb (length (a .stamps)) (stampCount (a .class) n) && eqb (l
 
 -- Fields of an answer's header after length, kind and n: class and span. Stamps and picks follow.
 abbrev pub classField : List ℕ → ℕ
-classField s = numAt short-bytes s 8
+classField s = numAt short-bytes s class-place
 
 abbrev pub spanField : List ℕ → Trop
-spanField s = tropAt s 10
+spanField s = tropAt s span-place
 
 -- The answer that the bytes mean, read with the problem's n and m.
 unfoldable pub answerOf : List ℕ → ℕ → ℕ → Answer
@@ -97,7 +97,7 @@ answerOf s n m =
 -- An answer as its record, with the problem's n: length, kind, n, class, span, stamps, picks.
 unfoldable pub answerBytes : ℕ → Answer → List ℕ
 answerBytes n a =
-    (le length-bytes (answer-header + signed-bytes * length (a .stamps) + short-bytes * length (a .picks) - length-bytes)
+    (le length-bytes ((answer-header + signed-bytes * length (a .stamps) + short-bytes * length (a .picks)) - length-bytes)
     ++ (le short-bytes answer-kind ++ (le short-bytes n ++ (le short-bytes (a .class) ++ le signed-bytes (fieldOf (a .span))))))
     ++ (fields signed-bytes (map fieldOf (a .stamps)) ++ fields short-bytes (a .picks))
 

@@ -6,7 +6,7 @@ use lib.IntN.{ℤ, pos, negsuc, negℤ, natAbs, _+ℤ_, _-ℤ_}
 use lib.Signed.{leZ}
 use Rattle.definitions.specs.Limits.{top-trial, lowest-trial}
 
--- The bracket: `low` is not possible, `high` is.
+-- The bracket of a search for the least possible span: between a `low` that is not possible and a `high` that is.
 pub record Bracket : Type 0 where
   pub low : ℤ
   pub high : ℤ

@@ -70,11 +70,12 @@ unfoldable pub blank-or-within : ℕ → Trop → Bool
 blank-or-within limit bot = true
 blank-or-within limit (fin z) = leb (natAbs z) limit
 
--- The first refusal that applies, 0 where none does: a list of tests in document 01's order, each with its number.
+-- A test, and the number of the refusal that applies where it passes.
 pub record Clause : Type 0 where
   pub applies : Bool
   pub number : ℕ
 
+-- The first refusal that applies of a list in document 01's order, 0 where none does.
 abbrev pub first : List Clause → ℕ
 first [] = 0
 first (c ∷ cs) = cond (c .applies) (c .number) (first cs)

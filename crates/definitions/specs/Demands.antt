@@ -1,5 +1,5 @@
 -- The three demands of the service description, sentence by sentence, as statements about any functions on bytes:
--- an engine, a checker, a reader, a writer and the two programs. That a function ends on every string of bytes is part
+-- an engine, a checker, readers, a writer and the two programs. That a function ends on every string of bytes is part
 -- of its being a function. Document 01 says under "The checker" what the words of demand 3 mean.
 use Prim.Native.Nat.{ℕ, zero, suc, _≤_}
 use mathlib.Core.Path.{_≡_}
@@ -8,13 +8,13 @@ use mathlib.Core.Logic.{_↔_}
 use mathlib.Core.List.{List, []}
 use lib.ListN.{length, take}
 use lib.IntN.{ℤ}
-use Rattle.definitions.specs.Limits.{most-trials, class-optimal, class-unbounded, class-infeasible, answer-most}
+use Rattle.definitions.specs.Limits.{most-trials, class-optimal, class-unbounded, class-infeasible, answer-most, kept-bytes}
 use Rattle.definitions.specs.Tropical.{Trop, bot, fin}
 use Rattle.definitions.specs.Problem.{Problem, Point, Feasible, value, whole, plus-infinity, _≼_, Attainable}
 use Rattle.definitions.specs.Bytes.{Bytes}
 use Rattle.definitions.specs.ProblemRecord.{problemRefusal, WithinLayout, problemOf, nField, mField, listOf}
 use Rattle.definitions.specs.AnswerRecord.{Answer, answerRefusal, writerRefusal, answerOf, answerBytes, answerSize, pickCount, highestPick, picksFit, spanFits, stampsFit, written}
-use Rattle.definitions.specs.Verdict.{Verdict, accepted, refused, refusalOf, checkRefusal, Accepted, answerFor, pointOf, Judged}
+use Rattle.definitions.specs.Verdict.{Verdict, accepted, refused, accepts, checkRefusal, Accepted, answerFor, pointOf, Judged}
 use Rattle.definitions.specs.Solved.{Solved, answered, Found, engineRefusal, Solves}
 use Rattle.definitions.specs.Programs.{VerdictOutput, SpanOutput}
 
@@ -29,57 +29,67 @@ pub record Engine : Type 0 where
   pub result : List ℕ → List ℕ → Solved
   pub buffer : List ℕ → List ℕ → List ℕ
 
--- What a reader answers: the refusal, or the fields.
+-- A problem reader: the refusal for its bytes, 0 for none, and the problem.
+pub record ProblemReader : Type 0 where
+  pub number : List ℕ → ℕ
+  pub problem : List ℕ → Problem
+
+-- What an answer reader answers: the refusal, or the fields.
 pub data Reading : Type 0 where
   refusal : ℕ → Reading
   fields : Answer → Reading
-
--- A problem reader: the refusal for its bytes, 0 for none.
-abbrev pub ProblemReader : Type 0
-ProblemReader = List ℕ → ℕ
 
 -- An answer reader: for bytes and the problem's n and m.
 abbrev pub Reader : Type 0
 Reader = List ℕ → ℕ → ℕ → Reading
 
--- An answer writer: for fields, the problem's n and m and a lent buffer, the refusal (0 for none) and the buffer
+-- An answer writer: for fields, the problem's n and m and a lent buffer, the refusal, 0 for none, and the buffer
 -- afterwards.
 pub record Writer : Type 0 where
   pub number : Answer → ℕ → ℕ → List ℕ → ℕ
   pub buffer : Answer → ℕ → ℕ → List ℕ → List ℕ
 
--- A program: what it puts out for its input.
+-- A program: what it puts out, by the bytes of its input that it kept and the size of its input.
 abbrev pub Program : Type 0
-Program = List ℕ → List ℕ
+Program = List ℕ → ℕ → List ℕ
 
 -- ---- demand 1
 
--- Bytes outside the layouts get the first refusal that applies, and a lent buffer is then untouched. No statement has a
--- premise on the bytes: no entry relies on somebody having looked beforehand.
+-- Bytes outside the layouts get the first refusal that applies, and a lent buffer is then untouched. The only premise on
+-- a string is that it is one of bytes: no entry relies on somebody having looked beforehand.
 pub record EngineRefuses (engine : Engine) : Type 0 where
   pub first-refusal :
-      (p buffer : List ℕ) (k : ℕ) → engineRefusal p (length buffer) ≡ suc k → engine .result p buffer ≡ Solved.refused (suc k)
-  pub untouched : (p buffer : List ℕ) (k : ℕ) → engineRefusal p (length buffer) ≡ suc k → engine .buffer p buffer ≡ buffer
+    (p buffer : List ℕ) → Bytes p → Bytes buffer → (k : ℕ) → engineRefusal p (length buffer) ≡ suc k
+    → engine .result p buffer ≡ Solved.refused (suc k)
+  pub untouched :
+    (p buffer : List ℕ) → Bytes p → Bytes buffer → (k : ℕ) → engineRefusal p (length buffer) ≡ suc k
+    → engine .buffer p buffer ≡ buffer
 
 abbrev pub CheckerRefuses : Checker → Type 0
-CheckerRefuses check = (p a : List ℕ) (k : ℕ) → checkRefusal p a ≡ suc k → check p a ≡ refused (suc k)
+CheckerRefuses check =
+    (p a : List ℕ) → Bytes p → Bytes a → (k : ℕ) → checkRefusal p a ≡ suc k → check p a ≡ refused (suc k)
 
 abbrev pub ProblemReaderRefuses : ProblemReader → Type 0
-ProblemReaderRefuses number = (p : List ℕ) → number p ≡ problemRefusal p
+ProblemReaderRefuses read = (p : List ℕ) → Bytes p → read .number p ≡ problemRefusal p
 
 abbrev pub ReaderRefuses : Reader → Type 0
-ReaderRefuses read = (s : List ℕ) (n m k : ℕ) → answerRefusal s n m ≡ suc k → read s n m ≡ refusal (suc k)
+ReaderRefuses read =
+    (s : List ℕ) → Bytes s → (n m k : ℕ) → answerRefusal s n m ≡ suc k → read s n m ≡ refusal (suc k)
 
 pub record WriterRefuses (write : Writer) : Type 0 where
-  pub first-refusal : (a : Answer) (n m : ℕ) (buffer : List ℕ) → write .number a n m buffer ≡ writerRefusal a n m (length buffer)
+  pub number-is :
+    (a : Answer) (n m : ℕ) (buffer : List ℕ) → Bytes buffer
+    → write .number a n m buffer ≡ writerRefusal a n m (length buffer)
   pub untouched :
-      (a : Answer) (n m : ℕ) (buffer : List ℕ) (k : ℕ) → writerRefusal a n m (length buffer) ≡ suc k
-      → write .buffer a n m buffer ≡ buffer
+    (a : Answer) (n m : ℕ) (buffer : List ℕ) → Bytes buffer → (k : ℕ) → writerRefusal a n m (length buffer) ≡ suc k
+    → write .buffer a n m buffer ≡ buffer
 
--- The program as a whole takes every string of bytes, and puts out what document 01 says.
+-- The program as a whole takes every string of bytes, and puts out what document 01 says, though it keeps only the first
+-- 20,000 bytes.
 pub record ProgramsAnswer (span verdict : Program) : Type 0 where
-  pub span-output : (input : List ℕ) → SpanOutput input (span input)
-  pub verdict-output : (input : List ℕ) → VerdictOutput input (verdict input)
+  pub span-output : (input : List ℕ) → Bytes input → SpanOutput input (span (take kept-bytes input) (length input))
+  pub verdict-output :
+    (input : List ℕ) → Bytes input → VerdictOutput input (verdict (take kept-bytes input) (length input))
 
 -- ---- demand 2
 
@@ -95,15 +105,30 @@ pub record FoundBy (engine : Engine) (p buffer : List ℕ) : Type 0 where
   pub few : trials ≤ most-trials
 
 abbrev pub LeastSpans : Engine → Type 0
-LeastSpans engine = (p buffer : List ℕ) → WithinLayout p → answer-most ≤ length buffer → FoundBy engine p buffer
+LeastSpans engine =
+    (p buffer : List ℕ) → Bytes p → Bytes buffer → WithinLayout p → answer-most ≤ length buffer → FoundBy engine p buffer
+
+-- Result and buffer are those that document 01 gives: every byte but the free ones, and those after the record stay.
+abbrev pub EngineSolves : Engine → Type 0
+EngineSolves engine =
+    (p buffer : List ℕ) → Bytes p → Bytes buffer → Solves p buffer (engine .result p buffer) (engine .buffer p buffer)
 
 -- What is read: the fields of the bytes. What is written: the record of the fields, and every byte after it stays.
+pub record ReadsProblem (read : ProblemReader) (p : List ℕ) : Type 0 where
+  pub n-is : read .problem p .n ≡ problemOf p .n
+  pub m-is : read .problem p .m ≡ problemOf p .m
+  pub left-is : (i j : ℕ) → i ≤ mField p → j ≤ nField p → read .problem p .left i j ≡ problemOf p .left i j
+  pub right-is : (i j : ℕ) → i ≤ mField p → j ≤ nField p → read .problem p .right i j ≡ problemOf p .right i j
+
+abbrev pub ReadsProblems : ProblemReader → Type 0
+ReadsProblems read = (p : List ℕ) → Bytes p → WithinLayout p → ReadsProblem read p
+
 abbrev pub ReadsFields : Reader → Type 0
-ReadsFields read = (s : List ℕ) (n m : ℕ) → answerRefusal s n m ≡ 0 → read s n m ≡ fields (answerOf s n m)
+ReadsFields read = (s : List ℕ) → Bytes s → (n m : ℕ) → answerRefusal s n m ≡ 0 → read s n m ≡ fields (answerOf s n m)
 
 abbrev pub WritesRecord : Writer → Type 0
 WritesRecord write =
-    (a : Answer) (n m : ℕ) (buffer : List ℕ) → writerRefusal a n m (length buffer) ≡ 0
+    (a : Answer) (n m : ℕ) (buffer : List ℕ) → Bytes buffer → writerRefusal a n m (length buffer) ≡ 0
     → write .buffer a n m buffer ≡ written buffer (answerBytes n a)
 
 -- Every answer written reads back as itself: what the engine wrote, with the class and span of its result,
@@ -116,30 +141,36 @@ pub record ReadBy (engine : Engine) (read : Reader) (p buffer : List ℕ) : Type
 
 abbrev pub EngineReadsBack : Engine → Reader → Type 0
 EngineReadsBack engine read =
-    (p buffer : List ℕ) → WithinLayout p → answer-most ≤ length buffer → ReadBy engine read p buffer
+    (p buffer : List ℕ) → Bytes p → Bytes buffer → WithinLayout p → answer-most ≤ length buffer
+    → ReadBy engine read p buffer
 
 -- and what the writer wrote, read with the same n and m.
 abbrev pub ReadsBack : Reader → Writer → Type 0
 ReadsBack read write =
-    (a : Answer) (n m : ℕ) (buffer : List ℕ) → write .number a n m buffer ≡ 0
+    (a : Answer) (n m : ℕ) (buffer : List ℕ) → Bytes buffer → write .number a n m buffer ≡ 0
     → read (take (answerSize (a .class) n m) (write .buffer a n m buffer)) n m ≡ fields a
 
 -- Every answer record read is written again to the same bytes, and every byte after the record stays.
 abbrev pub WritesBack : Reader → Writer → Type 0
 WritesBack read write =
-    (s : List ℕ) (n m : ℕ) (a : Answer) (buffer : List ℕ) → Bytes s → answer-most ≤ length buffer → read s n m ≡ fields a
-    → write .buffer a n m buffer ≡ written buffer s
+    (s : List ℕ) → Bytes s → (n m : ℕ) (a : Answer) (buffer : List ℕ) → Bytes buffer → answer-most ≤ length buffer
+    → read s n m ≡ fields a → write .buffer a n m buffer ≡ written buffer s
 
 -- ---- demand 3
 
 -- The checker gives no refusal.
 abbrev pub Accepts : Checker → List ℕ → List ℕ → Type 0
-Accepts check p a = refusalOf (check p a) ≡ 0
+Accepts check p a = accepts (check p a) ≡ true
+
+-- The checker's verdict is the one that document 01 gives: 14 where the form is right and the answer is not accepted,
+-- and an accepted answer's own class and span.
+abbrev pub CheckerJudges : Checker → Type 0
+CheckerJudges check = (p a : List ℕ) → Bytes p → Bytes a → Judged p a (check p a)
 
 -- The checker accepts an answer exactly when it is of the right form and all that document 01 lists for its class holds.
 abbrev pub AcceptsExactly : Checker → Type 0
 AcceptsExactly check =
-    (p a : List ℕ) → WithinLayout p
+    (p a : List ℕ) → Bytes p → Bytes a → WithinLayout p
     → Accepts check p a ↔ ((answerRefusal a (nField p) (mField p) ≡ 0) × Accepted (problemOf p) (answerFor p a))
 
 -- So never one whose plan breaks a rule or has another span than its field.
@@ -150,7 +181,8 @@ pub record PlanHolds (p a : List ℕ) : Type 0 where
   pub value-is : value (problemOf p) (pointOf (answerFor p a .stamps)) ≡ whole s
 
 abbrev pub NeverBroken : Checker → Type 0
-NeverBroken check = (p a : List ℕ) → Accepts check p a → answerFor p a .class ≡ class-optimal → PlanHolds p a
+NeverBroken check =
+    (p a : List ℕ) → Bytes p → Bytes a → Accepts check p a → answerFor p a .class ≡ class-optimal → PlanHolds p a
 
 -- A pick table has as many picks as an answer of its class, none above the highest value there. Some table makes the
 -- checker accept the answer that holds it.
@@ -158,7 +190,7 @@ pub record SomeTable (check : Checker) (p : List ℕ) (class : ℕ) (answerWith 
   pub picks : List ℕ
   pub count : length picks ≡ pickCount class (nField p) (mField p)
   pub none-above : picksFit (highestPick class (nField p) (mField p)) picks ≡ true
-  pub accepts : Accepts check p (answerBytes (nField p) (answerWith picks))
+  pub accepted-with : Accepts check p (answerBytes (nField p) (answerWith picks))
 
 -- A plan fits the answer record if its span and stamps have the form of class 1.
 pub record Fits (n : ℕ) (s : ℤ) (x : Point) : Type 0 where
@@ -177,7 +209,7 @@ blankAnswer class picks = record { class = class; span = bot; stamps = []; picks
 -- great a span.
 abbrev pub LeastExactly : Checker → Type 0
 LeastExactly check =
-    (p : List ℕ) → WithinLayout p → (x : Point) (s : ℤ) → Fits (nField p) s x → Feasible (problemOf p) x
+    (p : List ℕ) → Bytes p → WithinLayout p → (x : Point) (s : ℤ) → Fits (nField p) s x → Feasible (problemOf p) x
     → value (problemOf p) x ≡ whole s
     → SomeTable check p class-optimal (leastAnswer (nField p) s x)
     ↔ ((y : Point) → Feasible (problemOf p) y → whole s ≼ value (problemOf p) y)
@@ -185,7 +217,7 @@ LeastExactly check =
 -- The checker accepts some pick table for none exactly when no plan that keeps the rules has a span below plus infinity.
 abbrev pub NoneExactly : Checker → Type 0
 NoneExactly check =
-    (p : List ℕ) → WithinLayout p
+    (p : List ℕ) → Bytes p → WithinLayout p
     → SomeTable check p class-infeasible (blankAnswer class-infeasible)
     ↔ ((y : Point) → Feasible (problemOf p) y → plus-infinity ≼ value (problemOf p) y)
 
@@ -193,7 +225,7 @@ NoneExactly check =
 -- span at or under it.
 abbrev pub BottomlessExactly : Checker → Type 0
 BottomlessExactly check =
-    (p : List ℕ) → WithinLayout p
+    (p : List ℕ) → Bytes p → WithinLayout p
     → SomeTable check p class-unbounded (blankAnswer class-unbounded) ↔ ((t : ℤ) → Attainable (problemOf p) t)
 
 -- Whatever stood in an answer buffer that is long enough, the engine writes an answer there, and the checker accepts
@@ -204,10 +236,12 @@ pub record OwnAnswer (engine : Engine) (check : Checker) (p buffer : List ℕ) :
   pub trials : ℕ
   pub size : ℕ
   pub result-is : engine .result p buffer ≡ answered class span trials size
-  pub record-is : check p (take size (engine .buffer p buffer)) ≡ accepted class span
+  pub accepted-is : check p (take size (engine .buffer p buffer)) ≡ accepted class span
 
 abbrev pub OwnAnswers : Engine → Checker → Type 0
-OwnAnswers engine check = (p buffer : List ℕ) → WithinLayout p → answer-most ≤ length buffer → OwnAnswer engine check p buffer
+OwnAnswers engine check =
+    (p buffer : List ℕ) → Bytes p → Bytes buffer → WithinLayout p → answer-most ≤ length buffer
+    → OwnAnswer engine check p buffer
 
 -- ---- the demands, whole
 
@@ -219,8 +253,10 @@ pub record Demand1 (engine : Engine) (check : Checker) (readProblem : ProblemRea
   pub writer-refuses : WriterRefuses write
   pub programs-answer : ProgramsAnswer span verdict
 
-pub record Demand2 (engine : Engine) (read : Reader) (write : Writer) : Type 0 where
+pub record Demand2 (engine : Engine) (readProblem : ProblemReader) (read : Reader) (write : Writer) : Type 0 where
   pub least-spans : LeastSpans engine
+  pub engine-solves : EngineSolves engine
+  pub reads-problems : ReadsProblems readProblem
   pub reads-fields : ReadsFields read
   pub writes-record : WritesRecord write
   pub engine-reads-back : EngineReadsBack engine read
@@ -228,6 +264,7 @@ pub record Demand2 (engine : Engine) (read : Reader) (write : Writer) : Type 0 w
   pub writes-back : WritesBack read write
 
 pub record Demand3 (engine : Engine) (check : Checker) : Type 0 where
+  pub checker-judges : CheckerJudges check
   pub accepts-exactly : AcceptsExactly check
   pub never-broken : NeverBroken check
   pub least-exactly : LeastExactly check

@@ -1,13 +1,14 @@
--- Every number of document 01, once. What document 01 derives is derived here.
+-- The numbers of document 01, each once. What document 01 derives is derived here. (Refusals have their numbers where they
+-- are listed, in ProblemRecord, AnswerRecord, Solved and Verdict.)
 use Prim.Native.Nat.{ℕ, suc, _+_, _*_}
 use lib.IntN.{ℤ, pos, negsuc}
 
 -- The highest n (moments besides the anchor) and the highest m (rules).
-abbrev pub most-variables : ℕ
-most-variables = 31
+abbrev pub highest-n : ℕ
+highest-n = 31
 
-abbrev pub most-inequalities : ℕ
-most-inequalities = 63
+abbrev pub highest-m : ℕ
+highest-m = 63
 
 -- A lead is blank or within this of 0.
 abbrev pub lead-limit : ℕ
@@ -15,7 +16,7 @@ lead-limit = 10080
 
 -- A least span is within this of 0: two leads for each of 32 variables, 645,120.
 abbrev pub span-limit : ℕ
-span-limit = 2 * suc most-variables * lead-limit
+span-limit = 2 * suc highest-n * lead-limit
 
 -- A stamp is blank or within this of 0.
 abbrev pub stamp-limit : ℕ
@@ -53,6 +54,22 @@ signed-half = 2147483648
 abbrev pub signed-full : ℕ
 signed-full = 4294967296
 
+-- Places in a record's header: the length, the kind, n; then m of a problem, or class and span of an answer.
+abbrev pub kind-place : ℕ
+kind-place = length-bytes
+
+abbrev pub n-place : ℕ
+n-place = kind-place + short-bytes
+
+abbrev pub m-place : ℕ
+m-place = n-place + short-bytes
+
+abbrev pub class-place : ℕ
+class-place = n-place + short-bytes
+
+abbrev pub span-place : ℕ
+span-place = class-place + short-bytes
+
 -- Kinds of records.
 abbrev pub problem-kind : ℕ
 problem-kind = 1
@@ -70,16 +87,16 @@ class-unbounded = 2
 abbrev pub class-infeasible : ℕ
 class-infeasible = 3
 
--- The bytes of a problem before its leads, and of an answer before its stamps and picks.
+-- The bytes of a problem before its leads, 10, and of an answer before its stamps and picks, 14.
 abbrev pub problem-header : ℕ
-problem-header = 10
+problem-header = m-place + short-bytes
 
 abbrev pub answer-header : ℕ
-answer-header = 14
+answer-header = span-place + signed-bytes
 
 -- The largest answer record, 206 bytes: n = 31, class 1. A shorter answer buffer is refused, whichever class is due.
 abbrev pub answer-most : ℕ
-answer-most = answer-header + (signed-bytes + short-bytes) * suc most-variables
+answer-most = answer-header + (signed-bytes + short-bytes) * suc highest-n
 
 -- How many bytes of their input the programs keep.
 abbrev pub kept-bytes : ℕ

@@ -1,5 +1,5 @@
 -- Offset numbers: the form in which the programs keep leads, stamps and spans. 0 stands for blank, any other number k
--- for k − 2³¹. They are natural numbers, so sums and comparisons of them are, too.
+-- for k − 2³¹. They are natural numbers in the order of what they stand for; two of them add up to 2³¹ more than their sum.
 use Prim.Native.Nat.{ℕ, _+_, _%_}
 use mathlib.Core.Bool.{cond}
 use lib.Dec.{eqb}

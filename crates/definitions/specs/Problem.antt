@@ -55,7 +55,7 @@ minus (fin a) (fin b) = whole (a -ℤ b)
 unfoldable pub value : Problem → Point → Value
 value p x = minus (side (p .n) (p .left (p .m)) x) (side (p .n) (p .right (p .m)) x)
 
--- Attainable at t (a span t is possible): some feasible point has a value of at most t.
+-- Attainable within t (a span t is possible): some feasible point has a value of at most t.
 pub record Attainable (p : Problem) (t : ℤ) : Type 0 where
   pub point : Point
   pub feasible : Feasible p point
@@ -72,6 +72,6 @@ pub record Optimal (p : Problem) (s : ℤ) : Type 0 where
 abbrev pub Unbounded : Problem → Type 0
 Unbounded p = (t : ℤ) → Attainable p t
 
--- Infeasible (none): no feasible point has a value below plus infinity.
+-- Infeasible (none): no feasible point has a value below plus infinity. (Points that keep the rules may be there.)
 abbrev pub Infeasible : Problem → Type 0
 Infeasible p = (x : Point) → Feasible p x → plus-infinity ≼ value p x

@@ -6,7 +6,7 @@ use mathlib.Core.Bool.{Bool, not, _||_}
 use mathlib.Core.List.{List, [], _∷_, _++_, map}
 use lib.Dec.{eqb, ltb}
 use lib.ListN.{length}
-use Rattle.definitions.specs.Limits.{most-variables, most-inequalities, lead-limit, length-bytes, short-bytes, signed-bytes, problem-kind, problem-header}
+use Rattle.definitions.specs.Limits.{highest-n, highest-m, lead-limit, length-bytes, short-bytes, signed-bytes, kind-place, n-place, m-place, problem-kind, problem-header}
 use Rattle.definitions.specs.Tropical.{Trop}
 use Rattle.definitions.specs.Problem.{Problem}
 use Rattle.definitions.specs.Bytes.{numAt, numsAt, le, fields, tropField, fieldOf, tropAt, all, blank-or-within, Clause, first, or-else}
@@ -20,21 +20,21 @@ abbrev pub lengthField : List ℕ → ℕ
 lengthField s = numAt length-bytes s 0
 
 abbrev pub kindField : List ℕ → ℕ
-kindField s = numAt short-bytes s 4
+kindField s = numAt short-bytes s kind-place
 
 abbrev pub nField : List ℕ → ℕ
-nField s = numAt short-bytes s 6
+nField s = numAt short-bytes s n-place
 
 abbrev pub mField : List ℕ → ℕ
-mField s = numAt short-bytes s 8
+mField s = numAt short-bytes s m-place
 
 -- The leads of a problem record in their order: for each row n + 1 left leads, then n + 1 right leads.
 unfoldable pub leadsOf : List ℕ → List Trop
 leadsOf s = map tropField (numsAt signed-bytes (2 * (suc (nField s) * suc (mField s))) s problem-header)
 
--- n is above 31 or m above 63.
+-- n is above its limit, 31, or m above its, 63.
 abbrev pub above-limits : ℕ → ℕ → Bool
-above-limits n m = ltb most-variables n || ltb most-inequalities m
+above-limits n m = ltb highest-n n || ltb highest-m m
 
 -- Refusals 1 to 5 concern the first bytes of a problem and its size.
 unfoldable pub headerRefusal : List ℕ → ℕ → ℕ

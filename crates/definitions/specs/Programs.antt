@@ -103,8 +103,8 @@ pub data SpanOutput (input : List ℕ) : List ℕ → Type 0 where
 
 -- ---- long inputs
 
--- Both programs count all input and keep the first 20,000 bytes of it: an input of this size that begins with what was
--- kept. What is decided from the two holds of every such input.
+-- Both programs count all input and keep the first 20,000 bytes of it. An input of this size whose first bytes are those
+-- that were kept, of which only the first `size` count: what is decided from the two holds of every such input.
 pub record KeptOf (kept : List ℕ) (size : ℕ) (input : List ℕ) : Type 0 where
   pub size-is : length input ≡ size
-  pub begins : take kept-bytes input ≡ take size kept
+  pub begins : take kept-bytes input ≡ take kept-bytes (take size kept)

@@ -1,6 +1,7 @@
 -- What the checker says of a problem's bytes and an answer's bytes. Document 01, "The checker".
 use Prim.Native.Nat.{ℕ, zero, suc}
 use mathlib.Core.Path.{_≡_}
+use mathlib.Core.Bool.{Bool, true, false}
 use mathlib.Core.List.{List}
 use lib.ListN.{getD}
 use lib.IntN.{ℤ}
@@ -40,7 +41,12 @@ pub data Verdict : Type 0 where
   accepted : ℕ → Trop → Verdict
   refused : ℕ → Verdict
 
--- The number of a verdict: 0 where it gives no refusal.
+-- The verdict gives no refusal.
+unfoldable pub accepts : Verdict → Bool
+accepts (accepted class span) = true
+accepts (refused k) = false
+
+-- The number of a verdict: that of its refusal, 0 where it gives none.
 unfoldable pub refusalOf : Verdict → ℕ
 refusalOf (accepted class span) = 0
 refusalOf (refused k) = k
