@@ -1,0 +1,39 @@
+// Fields of 2 and 4 bytes at a place of a string of bytes.
+ghost use mathlib.Core.Path.{_≡_};
+ghost use Prim.Native.Nat.{_<_};
+ghost use lib.ListN.{length, getD};
+ghost use Rattle.definitions.specs.Bytes.{numAt};
+
+// A byte as a number.
+fn wide(x: u8) -> u64
+    ensures { λ r. ⌜ (r ≡ x) × (r < 256) ⌝ }
+{
+    x as u64
+}
+
+// The byte at a place, 0 past the end.
+pub fn byte_at(s: &[u8], at: usize) -> u64
+    ensures { λ r. ⌜ (r ≡ getD (now (s .entry)) at 0) × (r < 256) ⌝ }
+{
+    if at < s.len() { wide(s[at]) } else { 0 }
+}
+
+// A field of 2 bytes.
+pub fn short_at(s: &[u8], at: usize) -> u64
+    requires { ⌜ at < 4294967296 ⌝ }
+    ensures { λ r. ⌜ (r ≡ numAt 2 (now (s .entry)) at) × (r < 65536) ⌝ }
+{
+    let b = at + 1;
+    byte_at(s, at) + 256 * byte_at(s, b)
+}
+
+// A field of 4 bytes.
+pub fn word_at(s: &[u8], at: usize) -> u64
+    requires { ⌜ at < 4294967296 ⌝ }
+    ensures { λ r. ⌜ (r ≡ numAt 4 (now (s .entry)) at) × (r < 4294967296) ⌝ }
+{
+    let b = at + 1;
+    let c = b + 1;
+    let d = c + 1;
+    byte_at(s, at) + 256 * (byte_at(s, b) + 256 * (byte_at(s, c) + 256 * byte_at(s, d)))
+}
