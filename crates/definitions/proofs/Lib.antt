@@ -2,3 +2,4 @@ pub mod Whole
 pub mod Tropical
 pub mod Bytes
 pub mod Put
+pub mod Offset
