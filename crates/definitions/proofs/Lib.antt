@@ -3,3 +3,4 @@ pub mod Tropical
 pub mod Bytes
 pub mod Put
 pub mod Offset
+pub mod Refusals

@@ -103,10 +103,14 @@ pub record FitsField (x : Trop) : Type 0 where
 pub bot-fits : FitsField bot
 bot-fits = record { size = λ z e. absurd (bot-not-fin e) }
 
+-- A whole number that is blank or within a limit is within it.
+pub within-size : (limit : ℕ) {x : Trop} {z : ℤ} → blank-or-within limit x ≡ true → x ≡ fin z → natAbs z ≤ limit
+unfolding blank-or-within
+within-size limit {z = z} t e = leb-true (natAbs z) limit (rw e at t)
+
 -- A number within a limit below 2³¹, or blank, fits a field.
 pub within-fits : (limit : ℕ) {x : Trop} → limit < signed-half → blank-or-within limit x ≡ true → FitsField x
-unfolding blank-or-within
-within-fits limit {x} l t = record { size = λ z e. let b : leb (natAbs z) limit ≡ true = rw e at t in omega (arith, leb-true) }
+within-fits limit l t = record { size = λ z e. let b : natAbs z ≤ limit = within-size limit t e in omega arith }
 
 -- The field of a number that fits is below 2³².
 pub fieldOf-bound : (x : Trop) → FitsField x → fieldOf x < signed-full
