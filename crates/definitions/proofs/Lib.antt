@@ -1,5 +1,9 @@
 pub mod Whole
 pub mod Tropical
+pub mod Bytes
+pub mod Put
+pub mod Offset
+pub mod Refusals
 pub mod Bisection
 pub mod Examples
 pub mod Edges

@@ -1,0 +1,85 @@
+-- Laws of `put`, the list with values put from a place on. Everything that is said of a written buffer goes through these.
+use Prim.Native.Nat.{ℕ, zero, suc, _+_, _-_, _≤_, _<_}
+use mathlib.Core.Path.{_≡_, refl, ap, sym, subst, _∙_}
+use mathlib.Core.List.{List, [], _∷_, _++_, append-assoc}
+use native.Mathlib.Omega.{arith}
+use native.Mathlib.Nat.{add-zero, zero-add, add-assoc}
+use native.Mathlib.Numerals.{add-one}
+use lib.ListN.{length, getD, set, take, drop, length-append, length-drop, take-append-drop, List·getD-append}
+use lib.Seq.{length-take-le, take-at, take-append-le, take-take, drop-append-add, drop-drop, set-split, getD-take, getD-drop, getD-append-add}
+use Rattle.definitions.specs.Bytes.{put}
+
+-- Nothing put changes nothing.
+pub put-nil : (l : List ℕ) (at : ℕ) → put l at [] ≡ l
+unfolding put
+put-nil l at = rw (add-zero, take-append-drop)
+
+-- Values put at the front stand before the rest.
+pub put-zero : (l vs : List ℕ) → put l 0 vs ≡ vs ++ drop (length vs) l
+unfolding put
+put-zero l vs = rw zero-add
+
+-- A store puts one value.
+pub put-one : (l : List ℕ) (at x : ℕ) → at < length l → set l at x ≡ put l at (x ∷ [])
+unfolding put
+put-one l at x h = rw (set-split l at x h, add-one)
+
+drop-past : (p q : List ℕ) (m n : ℕ) → length p ≡ m → m ≤ n → drop n (p ++ q) ≡ drop (n - m) q
+drop-past p q m n e h =
+    let f : length p + (n - m) ≡ n = omega arith in
+    subst (λ (k : ℕ). drop k (p ++ q) ≡ drop (n - m) q) f (drop-append-add p q (n - m))
+
+module _ (l : List ℕ) (at : ℕ) (vs : List ℕ) (inside : at ≤ length l) where
+  front-length : length (take at l ++ vs) ≡ at + length vs
+  front-length = rw (length-append, length-take-le at l inside)
+
+  -- The list is: what stood before, then the values, then the rest.
+  pub put-split : put l at vs ≡ (take at l ++ vs) ++ drop (at + length vs) l
+  unfolding put
+  put-split = rw append-assoc
+
+  -- What stands up to the end of the values.
+  pub take-put : take (at + length vs) (put l at vs) ≡ take at l ++ vs
+  take-put = rw put-split (take-at (take at l ++ vs) (drop (at + length vs) l) (at + length vs) front-length)
+
+  -- What stands before the values is as it was.
+  pub take-put-front : (n : ℕ) → n ≤ at → take n (put l at vs) ≡ take n l
+  unfolding put
+  take-put-front n h = rw (take-append-le n (take at l) (vs ++ drop (at + length vs) l) (rw (length-take-le at l inside) h), take-take n at l h)
+
+  -- What stands from the end of the values on is as it was.
+  pub drop-put : (n : ℕ) → at + length vs ≤ n → drop n (put l at vs) ≡ drop n l
+  drop-put n h =
+      let e : (at + length vs) + (n - (at + length vs)) ≡ n = omega arith in
+      rw put-split (drop-past (take at l ++ vs) (drop (at + length vs) l) (at + length vs) n front-length h ∙ rw (drop-drop, e))
+
+  -- The length stays where the values fit.
+  pub length-put : at + length vs ≤ length l → length (put l at vs) ≡ length l
+  length-put h = rw (put-split, length-append, front-length, length-drop) (omega arith)
+
+  -- An element before the values is as it was.
+  pub getD-put-front : (i : ℕ) → i < at → getD (put l at vs) i 0 ≡ getD l i 0
+  getD-put-front i h = sym (getD-take at (put l at vs) i 0 h) ∙ rw (take-put-front at (omega arith)) (getD-take at l i 0 h)
+
+  -- An element of the values.
+  pub getD-put : (i : ℕ) → i < length vs → getD (put l at vs) (at + i) 0 ≡ getD vs i 0
+  unfolding put
+  getD-put i h =
+      let e : length (take at l) ≡ at = length-take-le at l inside in
+      subst (λ (n : ℕ). getD (take at l ++ (vs ++ drop (at + length vs) l)) (n + i) 0 ≡ getD vs i 0) e
+      (getD-append-add (take at l) (vs ++ drop (at + length vs) l) i 0 ∙ List·getD-append vs (drop (at + length vs) l) 0 i h)
+
+  -- An element after the values is as it was.
+  pub getD-put-after : (i : ℕ) → at + length vs ≤ i → getD (put l at vs) i 0 ≡ getD l i 0
+  getD-put-after i h =
+      let same : getD (drop i (put l at vs)) 0 0 ≡ getD (drop i l) 0 0 = rw (drop-put i h) in
+      simp (getD-drop, add-zero) at same
+
+-- Values put right after others are put with them.
+pub put-put : (l : List ℕ) (at : ℕ) (a : List ℕ) (n : ℕ) (b : List ℕ) → at ≤ length l → n ≡ at + length a → put (put l at a) n b ≡ put l at (a ++ b)
+unfolding put
+put-put l at a n b h e =
+    let f : at + length (a ++ b) ≡ n + length b = rw length-append (omega arith) in
+    let front : take n (put l at a) ≡ take at l ++ a = rw e (take-put l at a h) in
+    let rest : drop (n + length b) (put l at a) ≡ drop (n + length b) l = drop-put l at a h (n + length b) (omega arith) in
+    rw (f, front, rest) (simp append-assoc)

@@ -1,0 +1,269 @@
+-- What it means that nothing is refused: the refusals of problems, answers and the writer as records of facts.
+use Prim.Native.Nat.{ℕ, zero, suc, _+_, _*_, _-_, _≤_, _<_}
+use mathlib.Core.Path.{_≡_, refl, ap, sym, subst, _∙_}
+use mathlib.Core.Bool.{Bool, true, false, not, cond, _&&_, _||_, and-eq-true-iff, false≢true}
+use mathlib.Core.List.{List, [], _∷_}
+use mathlib.Core.Logic.{_⊎_, inl, inr, ⊎-elim, _↔_}
+use native.Mathlib.Omega.{arith}
+use native.Mathlib.Nat.{mul-le-mul-right}
+use lib.Dec.{eqb, ltb, leb}
+use lib.ListN.{length}
+use lib.IntN.{ℤ, natAbs}
+use borrow.Author.Tests.{ltb-true, ltb-false, eqb-true, not-false, le-ltb, eq-eqb}
+use Rattle.definitions.specs.Limits.{highest-n, highest-m, lead-limit, length-bytes, signed-bytes, problem-kind, answer-kind, problem-header, answer-header, answer-most}
+use Rattle.definitions.specs.Tropical.{Trop, fin}
+use Rattle.definitions.specs.Bytes.{tropField, tropAt, numAt, all, blank-or-within, or-else}
+use Rattle.definitions.specs.ProblemRecord.{problemSize, lengthField, kindField, nField, mField, leadsOf, above-limits, headerRefusal, problemRefusal, WithinLayout, problemOf, leftPlace, rightPlace}
+use Rattle.definitions.specs.AnswerRecord.{Answer, known-class, stampCount, pickCount, highestPick, answerSize, spanFits, stampsFit, picksFit, formRefusal, rightCounts, classField, answerOf, answerHeaderRefusal, answerRefusal, writerRefusal}
+use Rattle.definitions.proofs.Bytes.{all-numsAt}
+use Rattle.definitions.proofs.Offset.{within-size}
+
+-- ---- the first of several
+
+-- Where the first is none, the second counts.
+pub or-else-zero : (k : ℕ) → or-else 0 k ≡ k
+or-else-zero k = refl
+
+-- Where the first is one, it counts.
+pub or-else-suc : (a b : ℕ) → 0 < a → or-else a b ≡ a
+or-else-suc zero b h = absurd (omega arith)
+or-else-suc (suc a) b h = refl
+
+-- Neither applies exactly when none is the answer.
+pub or-else-none : (a b : ℕ) → (or-else a b ≡ 0) ↔ ((a ≡ 0) × (b ≡ 0))
+or-else-none zero b = (λ e. (refl, e), λ h. h .1)
+or-else-none (suc a) b = (λ e. absurd (omega arith), λ h. h .0)
+
+-- A clause and the clauses after it: none applies exactly when its test fails and none after it applies.
+clause-none : (t : Bool) (n k : ℕ) → (cond t (suc n) k ≡ 0) ↔ ((t ≡ false) × (k ≡ 0))
+clause-none true n k = (λ e. absurd (omega arith), λ h. absurd (false≢true (sym (h .0))))
+clause-none false n k = (λ e. (refl, e), λ h. h .1)
+
+-- The same where the test's failing means P.
+clause : {P : Type 0} (t : Bool) → (t ≡ false) ↔ P → (n k : ℕ) → (cond t (suc n) k ≡ 0) ↔ (P × (k ≡ 0))
+clause t f n k =
+    let c = clause-none t n k in
+    (λ e. (f .0 (c .0 e .0), c .0 e .1), λ h. c .1 (f .1 (h .0), h .1))
+
+-- A clause of a negated test.
+pub passes-clause : (t : Bool) (n k : ℕ) → (cond (not t) (suc n) k ≡ 0) ↔ ((t ≡ true) × (k ≡ 0))
+passes-clause t n k = clause (not t) (not-false t, λ e. ap not e) n k
+
+-- A clause of two negated tests.
+pub both-clause : (s t : Bool) (n k : ℕ) → (cond (not (s && t)) (suc n) k ≡ 0) ↔ (((s ≡ true) × (t ≡ true)) × (k ≡ 0))
+both-clause s t n k =
+    let both = and-eq-true-iff s t in
+    clause (not (s && t)) (λ e. both .0 (not-false (s && t) e), λ h. ap not (both .1 h)) n k
+
+-- A clause of "not equal".
+pub equal-clause : (a b n k : ℕ) → (cond (not (eqb a b)) (suc n) k ≡ 0) ↔ ((a ≡ b) × (k ≡ 0))
+equal-clause a b n k = clause (not (eqb a b)) (λ e. eqb-true a b (not-false (eqb a b) e), λ e. ap not (eq-eqb a b e)) n k
+
+-- A clause of "below".
+pub enough-clause : (a b n k : ℕ) → (cond (ltb a b) (suc n) k ≡ 0) ↔ ((b ≤ a) × (k ≡ 0))
+enough-clause a b n k = clause (ltb a b) (ltb-false a b, le-ltb a b) n k
+
+-- A clause of the limits of n and m.
+pub limits-clause : (n m c k : ℕ) → (cond (above-limits n m) (suc c) k ≡ 0) ↔ (((n ≤ highest-n) × (m ≤ highest-m)) × (k ≡ 0))
+limits-clause n m c k =
+    let either = or-false (ltb highest-n n) (ltb highest-m m) in
+    clause (above-limits n m)
+    (λ e. (ltb-false highest-n n (either .0 e .0), ltb-false highest-m m (either .0 e .1)),
+    λ h. either .1 (le-ltb highest-n n (h .0), le-ltb highest-m m (h .1)))
+    c
+    k
+  where
+    or-false : (s t : Bool) → ((s || t) ≡ false) ↔ ((s ≡ false) × (t ≡ false))
+    or-false true t = (λ e. absurd (false≢true (sym e)), λ h. h .0)
+    or-false false t = (λ e. (refl, e), λ h. h .1)
+
+-- ---- problems
+
+-- The facts of a problem record that nothing refuses.
+pub record ProblemFits (s : List ℕ) : Type 0 where
+  pub size-enough : problem-header ≤ length s
+  pub length-is : lengthField s + length-bytes ≡ length s
+  pub kind-is : kindField s ≡ problem-kind
+  pub n-most : nField s ≤ highest-n
+  pub m-most : mField s ≤ highest-m
+  pub size-is : length s ≡ problemSize (nField s) (mField s)
+  pub leads-fit : all (blank-or-within lead-limit) (leadsOf s) ≡ true
+
+-- Nothing refuses a problem exactly when these hold.
+pub problem-fits : (s : List ℕ) → WithinLayout s ↔ ProblemFits s
+unfolding problemRefusal headerRefusal
+problem-fits s = (fits, within)
+  where
+    fits : WithinLayout s → ProblemFits s
+    fits e =
+        let h = or-else-none (headerRefusal s (length s)) _ .0 e in
+        let a = enough-clause (length s) problem-header _ _ .0 (h .0) in
+        let b = equal-clause (lengthField s + length-bytes) (length s) _ _ .0 (a .1) in
+        let c = equal-clause (kindField s) problem-kind _ _ .0 (b .1) in
+        let d = limits-clause (nField s) (mField s) _ _ .0 (c .1) in
+        let g = equal-clause (length s) (problemSize (nField s) (mField s)) _ _ .0 (d .1) in
+        let l = passes-clause (all (blank-or-within lead-limit) (leadsOf s)) _ _ .0 (h .1) in
+        record {
+          size-enough = a .0;
+          length-is = b .0;
+          kind-is = c .0;
+          n-most = d .0 .0;
+          m-most = d .0 .1;
+          size-is = g .0;
+          leads-fit = l .0;
+        }
+
+    within : ProblemFits s → WithinLayout s
+    within f =
+        or-else-none (headerRefusal s (length s)) _ .1
+        (enough-clause (length s) problem-header _ _ .1 (f .size-enough,
+          equal-clause _ _ _ _ .1 (f .length-is,
+            equal-clause _ _ _ _ .1 (f .kind-is, limits-clause _ _ _ _ .1 ((f .n-most, f .m-most), equal-clause _ _ _ _ .1 (f .size-is, refl))))),
+        passes-clause _ _ _ .1 (f .leads-fit, refl))
+
+-- ---- leads
+
+-- Each lead of a problem within the layout is blank or within the limit.
+pub lead-within : (s : List ℕ) → WithinLayout s → (k : ℕ) → k < 2 * (suc (nField s) * suc (mField s))
+    → blank-or-within lead-limit (tropAt s (problem-header + signed-bytes * k)) ≡ true
+unfolding leadsOf tropAt
+lead-within s w k h =
+    all-numsAt (blank-or-within lead-limit) tropField signed-bytes (2 * (suc (nField s) * suc (mField s))) s problem-header .0
+    (problem-fits s .0 w .leads-fit)
+    k
+    h
+
+module _ (s : List ℕ) (w : WithinLayout s) (i j : ℕ) (row : i ≤ mField s) (column : j ≤ nField s) where
+  -- Lead k of row i, of the left ones and the right ones counted together, stands at this place among all leads.
+  row-inside : (k : ℕ) → k < 2 * suc (nField s) → 2 * (i * suc (nField s)) + k < 2 * (suc (nField s) * suc (mField s))
+  row-inside k h = omega (arith, mul-le-mul-right {m = suc i} {n = suc (mField s)} (suc (nField s)) (omega arith))
+
+  -- The left coefficients are blank or within the limit.
+  pub left-within : blank-or-within lead-limit (problemOf s .left i j) ≡ true
+  unfolding problemOf
+  left-within =
+      let k : ℕ = 2 * (i * suc (nField s)) + j in
+      let place : problem-header + signed-bytes * (2 * (i * suc (nField s)) + j) ≡ leftPlace (nField s) i j = omega arith in
+      rw place at (lead-within s w k (row-inside j (omega arith)))
+
+  -- The right coefficients are blank or within the limit.
+  pub right-within : blank-or-within lead-limit (problemOf s .right i j) ≡ true
+  unfolding problemOf
+  right-within =
+      let k : ℕ = 2 * (i * suc (nField s)) + (suc (nField s) + j) in
+      let place : problem-header + signed-bytes * (2 * (i * suc (nField s)) + (suc (nField s) + j)) ≡ rightPlace (nField s) i j = omega arith in
+      rw place at (lead-within s w k (row-inside (suc (nField s) + j) (omega arith)))
+
+  -- A whole left coefficient is at most the limit in size.
+  pub left-size : {z : ℤ} → problemOf s .left i j ≡ fin z → natAbs z ≤ lead-limit
+  left-size e = within-size lead-limit left-within e
+
+  -- A whole right coefficient is at most the limit in size.
+  pub right-size : {z : ℤ} → problemOf s .right i j ≡ fin z → natAbs z ≤ lead-limit
+  right-size e = within-size lead-limit right-within e
+
+-- ---- answers
+
+-- The form of an answer's span, stamps and picks.
+pub record FormFits (a : Answer) (n m : ℕ) : Type 0 where
+  pub span-fits : spanFits (a .class) (a .span) ≡ true
+  pub stamps-fit : stampsFit (a .stamps) ≡ true
+  pub picks-fit : picksFit (highestPick (a .class) n m) (a .picks) ≡ true
+
+-- Nothing is refused in the form exactly when these hold.
+pub form-fits : (a : Answer) (n m : ℕ) → (formRefusal a n m ≡ 0) ↔ FormFits a n m
+unfolding formRefusal
+form-fits a n m =
+    (λ e.
+      let b = both-clause (spanFits (a .class) (a .span)) (stampsFit (a .stamps)) _ _ .0 e in
+      let c = passes-clause (picksFit (highestPick (a .class) n m) (a .picks)) _ _ .0 (b .1) in
+      record { span-fits = b .0 .0; stamps-fit = b .0 .1; picks-fit = c .0 },
+    λ f. both-clause _ _ _ _ .1 ((f .span-fits, f .stamps-fit), passes-clause _ _ _ .1 (f .picks-fit, refl)))
+
+-- The facts of an answer record that nothing refuses, read with the problem's n and m.
+pub record AnswerFits (s : List ℕ) (n m : ℕ) : Type 0 where
+  pub n-most : n ≤ highest-n
+  pub m-most : m ≤ highest-m
+  pub size-enough : answer-header ≤ length s
+  pub length-is : lengthField s + length-bytes ≡ length s
+  pub kind-is : kindField s ≡ answer-kind
+  pub class-known : known-class (classField s) ≡ true
+  pub n-is : nField s ≡ n
+  pub size-is : length s ≡ answerSize (classField s) n m
+  pub form : FormFits (answerOf s n m) n m
+
+-- Nothing refuses an answer exactly when these hold.
+pub answer-fits : (s : List ℕ) (n m : ℕ) → (answerRefusal s n m ≡ 0) ↔ AnswerFits s n m
+unfolding answerRefusal answerHeaderRefusal
+answer-fits s n m = (fits, within)
+  where
+    fits : answerRefusal s n m ≡ 0 → AnswerFits s n m
+    fits e =
+        let h = or-else-none (answerHeaderRefusal s (length s) n m) (formRefusal (answerOf s n m) n m) .0 e in
+        let a = limits-clause n m _ _ .0 (h .0) in
+        let b = enough-clause (length s) answer-header _ _ .0 (a .1) in
+        let c = equal-clause (lengthField s + length-bytes) (length s) _ _ .0 (b .1) in
+        let d = both-clause (eqb (kindField s) answer-kind) (known-class (classField s)) _ _ .0 (c .1) in
+        let g = both-clause (eqb (nField s) n) (eqb (length s) (answerSize (classField s) n m)) _ _ .0 (d .1) in
+        record {
+          n-most = a .0 .0;
+          m-most = a .0 .1;
+          size-enough = b .0;
+          length-is = c .0;
+          kind-is = eqb-true (kindField s) answer-kind (d .0 .0);
+          class-known = d .0 .1;
+          n-is = eqb-true (nField s) n (g .0 .0);
+          size-is = eqb-true (length s) (answerSize (classField s) n m) (g .0 .1);
+          form = form-fits (answerOf s n m) n m .0 (h .1);
+        }
+
+    within : AnswerFits s n m → answerRefusal s n m ≡ 0
+    within f =
+        or-else-none (answerHeaderRefusal s (length s) n m) (formRefusal (answerOf s n m) n m) .1
+        (limits-clause n m _ _ .1 ((f .n-most, f .m-most),
+          enough-clause _ _ _ _ .1 (f .size-enough,
+            equal-clause _ _ _ _ .1 (f .length-is,
+              both-clause _ _ _ _ .1 ((eq-eqb _ _ (f .kind-is), f .class-known),
+                both-clause _ _ _ _ .1 ((eq-eqb _ _ (f .n-is), eq-eqb _ _ (f .size-is)), refl))))),
+        form-fits (answerOf s n m) n m .1 (f .form))
+
+-- The facts of fields that the writer takes, with n, m and the size of the buffer.
+pub record WriterFits (a : Answer) (n m room : ℕ) : Type 0 where
+  pub n-most : n ≤ highest-n
+  pub m-most : m ≤ highest-m
+  pub room-enough : answer-most ≤ room
+  pub class-known : known-class (a .class) ≡ true
+  pub stamps-count : length (a .stamps) ≡ stampCount (a .class) n
+  pub picks-count : length (a .picks) ≡ pickCount (a .class) n m
+  pub form : FormFits a n m
+
+-- The writer refuses nothing exactly when these hold.
+pub writer-fits : (a : Answer) (n m room : ℕ) → (writerRefusal a n m room ≡ 0) ↔ WriterFits a n m room
+unfolding writerRefusal rightCounts
+writer-fits a n m room = (fits, within)
+  where
+    fits : writerRefusal a n m room ≡ 0 → WriterFits a n m room
+    fits e =
+        let h = or-else-none _ (formRefusal a n m) .0 e in
+        let b = limits-clause n m _ _ .0 (h .0) in
+        let c = enough-clause room answer-most _ _ .0 (b .1) in
+        let d = passes-clause (known-class (a .class)) _ _ .0 (c .1) in
+        let g = both-clause (eqb (length (a .stamps)) (stampCount (a .class) n)) (eqb (length (a .picks)) (pickCount (a .class) n m)) _ _ .0 (d .1) in
+        record {
+          n-most = b .0 .0;
+          m-most = b .0 .1;
+          room-enough = c .0;
+          class-known = d .0;
+          stamps-count = eqb-true (length (a .stamps)) (stampCount (a .class) n) (g .0 .0);
+          picks-count = eqb-true (length (a .picks)) (pickCount (a .class) n m) (g .0 .1);
+          form = form-fits a n m .0 (h .1);
+        }
+
+    within : WriterFits a n m room → writerRefusal a n m room ≡ 0
+    within f =
+        or-else-none _ (formRefusal a n m) .1
+        (limits-clause n m _ _ .1 ((f .n-most, f .m-most),
+          enough-clause _ _ _ _ .1 (f .room-enough,
+            passes-clause _ _ _ .1 (f .class-known,
+              both-clause _ _ _ _ .1 ((eq-eqb _ _ (f .stamps-count), eq-eqb _ _ (f .picks-count)), refl)))),
+        form-fits a n m .1 (f .form))
