@@ -1,2 +1,4 @@
 pub mod Pigeonhole
 pub mod Walks
+pub mod Reach
+pub mod Weak
