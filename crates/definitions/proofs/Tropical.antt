@@ -74,6 +74,19 @@ pub plus-fin : (a b : ℤ) → plus (fin a) (fin b) ≡ fin (a +ℤ b)
 unfolding plus
 plus-fin a b = refl
 
+-- The sum of two numbers that are whole.
+pub plus-is : {x y : Trop} {a b : ℤ} → x ≡ fin a → y ≡ fin b → plus x y ≡ fin (a +ℤ b)
+plus-is e d = rw (e, d, plus-fin)
+
+-- What a whole sum with a whole number came from.
+pub plus-from : {x : Trop} (c : ℤ) {d : ℤ} → plus x (fin c) ≡ fin d → x ≡ fin (d -ℤ c)
+unfolding plus
+plus-from {x = bot} c e = absurd (bot-not-fin e)
+plus-from {x = fin a} c {d = d} e =
+    let f : a +ℤ c ≡ d = fin-injective e in
+    let g : a ≡ d -ℤ c = omega (whole, plus-read a c, minus-read d c) in
+    ap fin g
+
 pub plus-comm : (x y : Trop) → plus x y ≡ plus y x
 unfolding plus
 plus-comm bot bot = refl

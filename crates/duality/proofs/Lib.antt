@@ -2,3 +2,4 @@ pub mod Pigeonhole
 pub mod Walks
 pub mod Reach
 pub mod Weak
+pub mod Picks

@@ -7,7 +7,7 @@ use lib.IntN.{ℤ, pos, _+ℤ_}
 use lib.Signed.{_≤ℤ_}
 use Rattle.definitions.specs.Certificate.{Reachable, start, onward, Walk, stop, step, Circuit}
 use Rattle.definitions.proofs.Whole.{whole, plus-read}
-use Rattle.duality.proofs.Walks.{walk-as, walk-keep, walk-fold}
+use Rattle.duality.proofs.Walks.{walk-as, walk-keep, walk-change, walk-fold}
 
 -- A property that the start has and that leads keep holds of what is reachable, which is so by other leads too.
 pub reach-keep : {Start Start′ : ℕ → Type 0} {L L′ : ℕ → ℕ → Type 0} (P : ℕ → Type 0)
@@ -26,6 +26,17 @@ pub circuit-keep : {Start Start′ : ℕ → Type 0} {L L′ : ℕ → ℕ → T
 circuit-keep P f g h c =
     let r = reach-keep P f g (c .reachable) in
     record { at = c .at; arcs = c .arcs; reachable = r .0; walk = walk-keep P h (r .1) (c .walk) .0 }
+
+-- The two without such a property.
+pub reach-map : {Start Start′ : ℕ → Type 0} {L L′ : ℕ → ℕ → Type 0}
+    → ((j : ℕ) → Start j → Start′ j) → ((j l : ℕ) → L j l → L′ j l) → {j : ℕ} → Reachable Start L j → Reachable Start′ L′ j
+reach-map f g r = reach-keep (λ _. Unit) (λ j h. (f j h, tt)) (λ j l _ h. (g j l h, tt)) r .0
+
+pub circuit-map : {Start Start′ : ℕ → Type 0} {L L′ : ℕ → ℕ → Type 0} {A A′ : ℕ → ℕ → ℤ → Type 0}
+    → ((j : ℕ) → Start j → Start′ j) → ((j l : ℕ) → L j l → L′ j l) → ((j l : ℕ) (w : ℤ) → A j l w → A′ j l w)
+    → {w : ℤ} → Circuit Start L A w → Circuit Start′ L′ A′ w
+circuit-map f g h c =
+    record { at = c .at; arcs = c .arcs; reachable = reach-map f g (c .reachable); walk = walk-change h (c .walk) }
 
 -- A walk from a reachable variable ends at one.
 pub reach-along : {Start : ℕ → Type 0} {L : ℕ → ℕ → Type 0} {A : ℕ → ℕ → ℤ → Type 0}

@@ -91,6 +91,11 @@ walk-keep P f h (step {j = j} {l = l} {w = w} a p) =
     let q = walk-keep P f (s .1) p in
     (step (s .0) (q .0), q .1)
 
+-- Arcs of one kind that are arcs of another make walks of it.
+pub walk-change : {A B : ℕ → ℕ → ℤ → Type 0} → ((j l : ℕ) (w : ℤ) → A j l w → B j l w)
+    → {j k n : ℕ} {w : ℤ} → Walk A j k n w → Walk B j k n w
+walk-change f p = walk-keep (λ _. Unit) (λ j l w _ a. (f j l w a, tt)) tt p .0
+
 -- A map of weights that respects zero and sums takes walks to walks.
 pub walk-map : {A B : ℕ → ℕ → ℤ → Type 0} (f : ℤ → ℤ) → f (pos 0) ≡ pos 0 → ((w v : ℤ) → f (w +ℤ v) ≡ f w +ℤ f v)
     → ((j l : ℕ) (w : ℤ) → A j l w → B j l (f w)) → {j k n : ℕ} {w : ℤ} → Walk A j k n w → Walk B j k n (f w)

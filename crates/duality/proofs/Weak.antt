@@ -13,10 +13,10 @@ use Rattle.definitions.specs.Tropical.{Trop, bot, fin, plus, largest, _⊑_, Fi
 use Rattle.definitions.specs.Problem.{Point}
 use Rattle.definitions.specs.Certificate.{Strategy, Reachable, start, onward, Walk, Circuit}
 use Rattle.definitions.proofs.Whole.{whole, plus-read, minus-read}
-use Rattle.definitions.proofs.Tropical.{Attains, largest-above, largest-attained, ⊑-trans, ⊑-of-eq, finite-above, finite-fin, fin-below, fin-injective, not-finite-bot, plus-fin, plus-parts}
+use Rattle.definitions.proofs.Tropical.{Attains, largest-above, largest-attained, ⊑-trans, ⊑-of-eq, finite-above, finite-fin, fin-below, fin-injective, not-finite-bot, plus-is, plus-parts}
 use Rattle.duality.specs.System.{System, sideOf, Solves, Leads, Arc, HasPick, Blocks, RowLeads, RowArc, RowHasPick, Saves}
-use Rattle.duality.proofs.Walks.{Inside, Looped, looped, Onward, Endless, endless, walk-keep}
-use Rattle.duality.proofs.Reach.{reach-keep, circuit, potential-walk}
+use Rattle.duality.proofs.Walks.{Inside, Looped, looped, Onward, Endless, endless, walk-keep, walk-change}
+use Rattle.duality.proofs.Reach.{reach-keep, reach-map, circuit-map, circuit, potential-walk}
 
 -- ---- a solution saves
 
@@ -47,9 +47,6 @@ whole-is : {x : Trop} → Finite x → x ≡ fin (wholeOf x)
 unfolding wholeOf
 whole-is {x = bot} f = absurd (not-finite-bot f)
 whole-is {x = fin a} f = refl
-
-plus-is : {x y : Trop} {a b : ℤ} → x ≡ fin a → y ≡ fin b → plus x y ≡ fin (a +ℤ b)
-plus-is e d = rw (e, d, plus-fin)
 
 -- A variable at which the point is finite.
 record Held (s : System) (x : Point) (j : ℕ) : Type 0 where
@@ -191,9 +188,9 @@ clash s Start τ σ j h k b v = closed (looped (both-inside s τ σ) k (omega ar
     closed l =
         let m = walk-keep {B = Both s τ σ} (Met s Start τ σ) (λ j l w m a. (a, both-met s Start τ σ j l w m a)) first (l .way) .1 in
         let p : Walk (Arc s τ) (l .at) (l .at) (l .loop-arcs) (l .loop-weight) =
-            walk-keep (λ _. Unit) (λ j l w m a. (a .by-variable, tt)) tt (l .loop) .0 in
+            walk-change (λ j l w a. a .by-variable) (l .loop) in
         let q : Walk (RowArc s σ) (l .at) (l .at) (l .loop-arcs) (l .loop-weight) =
-            walk-keep (λ _. Unit) (λ j l w m a. (a .by-row, tt)) tt (l .loop) .0 in
+            walk-change (λ j l w a. a .by-row) (l .loop) in
         omega
           ( whole, b .negative (l .loop-weight) (circuit (m .by-variables) (l .some) p)
           , v .nonnegative (l .loop-weight) (circuit (m .by-rows) (l .some) q) )
@@ -202,11 +199,13 @@ clash s Start τ σ j h k b v = closed (looped (both-inside s τ σ) k (omega ar
 
 -- A strategy that blocks from a start blocks from each of its variables alone.
 pub blocks-from : (s : System) (Start : ℕ → Type 0) (τ : Strategy) (j : ℕ) → Start j → Blocks s Start τ → Blocks s (λ i. i ≡ j) τ
-blocks-from s Start τ j h b = record { counts = λ i r. b .counts i (wider r); negative = λ w c. b .negative w (record
-    { at = c .at; arcs = c .arcs; reachable = wider (c .reachable); walk = c .walk }) }
+blocks-from s Start τ j h b = record
+  { counts = λ i r. b .counts i (reach-map wider (λ i l a. a) r)
+  ; negative = λ w c. b .negative w (circuit-map wider (λ i l a. a) (λ i l w a. a) c)
+  }
   where
-    wider : {i : ℕ} → Reachable (λ i. i ≡ j) (Leads s τ) i → Reachable Start (Leads s τ) i
-    wider r = reach-keep (λ _. Unit) (λ i e. (subst Start (sym e) h, tt)) (λ i l _ a. (a, tt)) r .0
+    wider : (i : ℕ) → i ≡ j → Start i
+    wider i e = rw e h
 
 -- A point that solves the system and is finite at a start variable excludes a strategy that blocks.
 pub weak : (s : System) (Start : ℕ → Type 0) (x : Point) (τ : Strategy) (j : ℕ) → Start j → j < s .variables → Finite (x j)
