@@ -3,3 +3,4 @@ pub mod Walks
 pub mod Reach
 pub mod Weak
 pub mod Picks
+pub mod Numbers
