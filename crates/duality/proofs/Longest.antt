@@ -1,0 +1,127 @@
+-- Longest walks by rounds (Bellman–Ford), over any matrix, exits and number N of variables.
+-- The value after k rounds is that of the heaviest walk of at most k arcs to an exit. A round that changes nothing stays
+-- so, and its values are a potential, which bounds every walk.
+use Prim.Native.Nat.{ℕ, zero, suc, _+_, _≤_, _<_}
+use mathlib.Core.Path.{_≡_, refl, ap, ap₂, sym, subst, _∙_}
+use mathlib.Core.Logic.{_⊎_, inl, inr, ⊎-elim}
+use native.Mathlib.Omega.{arith}
+use lib.IntN.{ℤ, pos, _+ℤ_, +ℤ-idl}
+use lib.Signed.{_≤ℤ_, _<ℤ_, ≤ℤ-refl}
+use Rattle.definitions.specs.Tropical.{Trop, bot, fin, plus, _⊑_, blank-least, whole-least, larger, largest, Finite}
+use Rattle.definitions.specs.Certificate.{Walk, stop, step}
+use Rattle.definitions.proofs.Whole.{whole, plus-read, nat-le-or-lt}
+use Rattle.definitions.proofs.Tropical.{fin-injective, not-finite-bot, finite-fin, ⊑-refl, ⊑-trans, ⊑-of-eq, ⊑-antisym, fin-below, finite-above, below-bot, zero-plus, plus-twice, plus-fin, plus-assoc, Parts, plus-above, plus-mono, plus-cancel, larger-left, larger-right, larger-one, larger-least, larger-mono, largest-above, largest-least, largest-mono, largest-ext, Attains, largest-at}
+use Rattle.duality.specs.Values.{valueAt}
+
+-- The arcs of a matrix: its entries that are not blank, to a variable below N.
+pub record Entry (W : ℕ → ℕ → Trop) (N j l : ℕ) (w : ℤ) : Type 0 where
+  pub inside : l < N
+  pub entry : W j l ≡ fin w
+
+-- A walk of at most k arcs from j to an exit, worth at least v.
+pub record Way (W : ℕ → ℕ → Trop) (exits : ℕ → Trop) (N k j : ℕ) (v : ℤ) : Type 0 where
+  pub arcs : ℕ
+  pub weight : ℤ
+  pub end : ℕ
+  pub exit : ℤ
+  pub few : arcs ≤ k
+  pub exit-is : exits end ≡ fin exit
+  pub worth : v ≤ℤ (weight +ℤ exit)
+  pub walk : Walk (Entry W N) j end arcs weight
+
+-- Numbers below N that each arc of the matrix bounds: a potential.
+pub record Potential (W : ℕ → ℕ → Trop) (N : ℕ) (e : ℕ → Trop) : Type 0 where
+  pub bounds : (j l : ℕ) → j < N → l < N → plus (W j l) (e l) ⊑ e j
+
+-- The numbers e are unchanged by a round.
+pub record Stable (W : ℕ → ℕ → Trop) (exits : ℕ → Trop) (N : ℕ) (e : ℕ → Trop) : Type 0 where
+  pub stable : (j : ℕ) → j < N → larger (exits j) (largest (λ l. plus (W j l) (e l)) N) ≡ e j
+
+-- ---- potentials
+
+-- A potential bounds every walk.
+pub potential-walk : {W : ℕ → ℕ → Trop} {N : ℕ} {e : ℕ → Trop} {j k n : ℕ} {w : ℤ} → Potential W N e → j < N
+    → Walk (Entry W N) j k n w → plus (fin w) (e k) ⊑ e j
+potential-walk {e = e} p h (stop {j = j}) = ⊑-of-eq (zero-plus (e j))
+potential-walk {e = e} p h (step {j = j} {l = l} {k = k} {w = w} {v = v} a r) =
+    rw plus-twice
+    (⊑-trans
+    (plus-mono (⊑-refl (fin w)) (potential-walk p (a .inside) r))
+    (rw (a .entry) at (p .bounds j l h (a .inside))))
+
+-- A closed walk through a variable where the potential is whole weighs at most zero.
+pub potential-closed : {W : ℕ → ℕ → Trop} {N : ℕ} {e : ℕ → Trop} {j n : ℕ} {w : ℤ} → Potential W N e → j < N
+    → Finite (e j) → Walk (Entry W N) j j n w → w ≤ℤ pos 0
+potential-closed {e = e} {j} {w = w} p h f r =
+    fin-below (plus-cancel (f .whole) (rw (zero-plus, ← f .is) (potential-walk p h r)))
+
+module _ (W : ℕ → ℕ → Trop) (exits : ℕ → Trop) (N : ℕ) where
+  -- ---- stable numbers
+
+  -- An exit is at most the value after any number of rounds.
+  pub exit-value : (k j : ℕ) → exits j ⊑ valueAt W exits N k j
+  unfolding valueAt
+  exit-value zero j = ⊑-refl (exits j)
+  exit-value (suc k) j = larger-left _ _
+
+  -- A round bounds every arc.
+  pub arc-value : (k j l : ℕ) → l < N → plus (W j l) (valueAt W exits N k l) ⊑ valueAt W exits N (suc k) j
+  unfolding valueAt
+  arc-value k j l h = ⊑-trans (largest-above (λ l. plus (W j l) (valueAt W exits N k l)) N l h) (larger-right _ _)
+
+  -- A round is at most what exceeds the exit and every arc.
+  pub round-least : (k j : ℕ) {z : Trop} → exits j ⊑ z → ((l : ℕ) → l < N → plus (W j l) (valueAt W exits N k l) ⊑ z)
+      → valueAt W exits N (suc k) j ⊑ z
+  unfolding valueAt
+  round-least k j h a = larger-least h (largest-least _ N a)
+
+  -- ---- values and walks
+
+  -- What an exit at least is, the walk without arcs is worth.
+  exit-way : (k j : ℕ) {v : ℤ} → fin v ⊑ exits j → Way W exits N k j v
+  exit-way k j {v} h =
+      let f : Finite (exits j) = finite-above h in
+      let b : v ≤ℤ f .whole = fin-below (rw (f .is) at h) in
+      record
+        { arcs = 0; weight = pos 0; end = j; exit = f .whole; few = omega arith; exit-is = f .is
+        ; worth = rw +ℤ-idl b
+        ; walk = stop }
+
+  -- A walk is led by an arc.
+  arc-way : (k j l : ℕ) {v w u : ℤ} → Entry W N j l w → v ≤ℤ (w +ℤ u) → Way W exits N k l u → Way W exits N (suc k) j v
+  arc-way k j l {v} {w} {u} a h r =
+      record
+        { arcs = suc (r .arcs); weight = w +ℤ r .weight; end = r .end; exit = r .exit; few = omega arith
+        ; exit-is = r .exit-is
+        ; worth = omega (whole, plus-read (w +ℤ r .weight) (r .exit), plus-read w (r .weight), plus-read (r .weight) (r .exit), plus-read w u)
+        ; walk = step a (r .walk) }
+
+  -- What a whole value at least is, a walk is worth.
+  pub value-way : (k j : ℕ) {v : ℤ} → fin v ⊑ valueAt W exits N k j → Way W exits N k j v
+  unfolding valueAt
+  value-way zero j h = exit-way 0 j h
+  value-way (suc k) j {v} h =
+      ⊎-elim (λ e. exit-way (suc k) j (rw e at h)) (λ e. by-arc (λ l u. value-way k l {v = u}) (rw e at h)) (larger-one (exits j) (largest terms N))
+    where
+      terms : ℕ → Trop
+      terms l = plus (W j l) (valueAt W exits N k l)
+
+      by-arc : ((l : ℕ) (u : ℤ) → fin u ⊑ valueAt W exits N k l → Way W exits N k l u) → fin v ⊑ largest terms N → Way W exits N (suc k) j v
+      by-arc shorter b =
+          let a : Attains terms N = largest-at terms N (finite-above b) in
+          let p : Parts v (W j (a .place)) (valueAt W exits N k (a .place)) = plus-above _ _ (rw (a .same) at b) in
+          arc-way k j (a .place) (record { inside = a .inside; entry = p .first-is }) (p .worth)
+          (shorter (a .place) (p .second) (⊑-of-eq (sym (p .second-is))))
+
+  -- What a walk is worth, the value at least is.
+  walk-value : {j end n : ℕ} {w : ℤ} (k : ℕ) → Walk (Entry W N) j end n w → n ≤ k → plus (fin w) (exits end) ⊑ valueAt W exits N k j
+  walk-value {j} k stop h = rw zero-plus (exit-value k j)
+  walk-value zero (step a r) h = absurd (omega arith)
+  walk-value {j} {end} (suc k) (step {l = l} {w = w} a r) h =
+      rw plus-twice
+      (⊑-trans
+      (plus-mono (⊑-refl (fin w)) (walk-value k r (omega arith)))
+      (rw (a .entry) at (arc-value k j l (a .inside))))
+
+  pub way-value : (k j : ℕ) {v : ℤ} → Way W exits N k j v → fin v ⊑ valueAt W exits N k j
+  way-value k j {v} r = ⊑-trans (rw (r .exit-is, plus-fin) (whole-least (r .worth))) (walk-value k (r .walk) (r .few))
