@@ -125,3 +125,63 @@ module _ (W : ℕ → ℕ → Trop) (exits : ℕ → Trop) (N : ℕ) where
 
   pub way-value : (k j : ℕ) {v : ℤ} → Way W exits N k j v → fin v ⊑ valueAt W exits N k j
   way-value k j {v} r = ⊑-trans (rw (r .exit-is, plus-fin) (whole-least (r .worth))) (walk-value k (r .walk) (r .few))
+
+  -- ---- more rounds
+
+  -- A round of equal values gives equal values.
+  pub round-same : (k m j : ℕ) → ((l : ℕ) → l < N → valueAt W exits N k l ≡ valueAt W exits N m l)
+      → valueAt W exits N (suc k) j ≡ valueAt W exits N (suc m) j
+  unfolding valueAt
+  round-same k m j h = ap (larger (exits j)) (largest-ext _ _ N (λ l i. ap (plus (W j l)) (h l i)))
+
+  -- A round loses nothing.
+  pub value-grows : (k j : ℕ) → valueAt W exits N k j ⊑ valueAt W exits N (suc k) j
+  unfolding valueAt
+  value-grows zero j = exit-value 1 j
+  value-grows (suc k) j =
+      round-least k j (exit-value (suc (suc k)) j)
+      (λ l h. ⊑-trans (plus-mono (⊑-refl (W j l)) (value-grows k l)) (arc-value (suc k) j l h))
+
+  -- A round without change stays so.
+  pub value-still : (k : ℕ) → ((j : ℕ) → j < N → valueAt W exits N (suc k) j ≡ valueAt W exits N k j)
+      → (m : ℕ) → k ≤ m → (j : ℕ) → j < N → valueAt W exits N m j ≡ valueAt W exits N k j
+  value-still k h zero b j i = let e : k ≡ 0 = omega arith in rw e
+  value-still k h (suc m) b j i =
+      ⊎-elim
+      (λ (le : k ≤ m). round-same m k j (value-still k h m le) ∙ h j i)
+      (λ (lt : m < k). let e : k ≡ suc m = omega arith in rw e)
+      (nat-le-or-lt k m)
+
+  -- ---- stable numbers
+
+  -- A value that a round leaves as it is, is stable.
+  pub still-stable : (k : ℕ) → ((j : ℕ) → j < N → valueAt W exits N (suc k) j ≡ valueAt W exits N k j)
+      → Stable W exits N (valueAt W exits N k)
+  unfolding valueAt
+  still-stable k h = record { stable = h }
+
+  -- Stable numbers are a potential,
+  pub stable-potential : {e : ℕ → Trop} → Stable W exits N e → Potential W N e
+  stable-potential {e} s = record { bounds = λ j l h i. subst (λ z. plus (W j l) (e l) ⊑ z) (s .stable j h)
+      (⊑-trans (largest-above (λ l. plus (W j l) (e l)) N l i) (larger-right _ _)) }
+
+  -- and at least the exits.
+  pub stable-exit : {e : ℕ → Trop} → Stable W exits N e → (j : ℕ) → j < N → exits j ⊑ e j
+  stable-exit {e} s j h = subst (λ z. exits j ⊑ z) (s .stable j h) (larger-left _ _)
+
+  -- A potential that is at least the exits is at least every value.
+  pub value-under : {e : ℕ → Trop} → Potential W N e → ((j : ℕ) → j < N → exits j ⊑ e j)
+      → (k j : ℕ) → j < N → valueAt W exits N k j ⊑ e j
+  unfolding valueAt
+  value-under p x zero j h = x j h
+  value-under p x (suc k) j h =
+      round-least k j (x j h) (λ l i. ⊑-trans (plus-mono (⊑-refl (W j l)) (value-under p x k l i)) (p .bounds j l h i))
+
+-- Larger entries and exits have larger values.
+pub value-mono : (W W′ : ℕ → ℕ → Trop) (exits exits′ : ℕ → Trop) (N : ℕ)
+    → ((j l : ℕ) → j < N → l < N → W j l ⊑ W′ j l) → ((j : ℕ) → j < N → exits j ⊑ exits′ j)
+    → (k j : ℕ) → j < N → valueAt W exits N k j ⊑ valueAt W′ exits′ N k j
+unfolding valueAt
+value-mono W W′ exits exits′ N w x zero j h = x j h
+value-mono W W′ exits exits′ N w x (suc k) j h =
+    larger-mono (x j h) (largest-mono _ _ N (λ l i. plus-mono (w j l h i) (value-mono W W′ exits exits′ N w x k l i)))
