@@ -46,6 +46,11 @@ pub ⊑-antisym : {x y : Trop} → x ⊑ y → y ⊑ x → x ≡ y
 ⊑-antisym blank-least blank-least = refl
 ⊑-antisym (whole-least {a = a} {b = b} h) (whole-least k) = let e : a ≡ b = omega whole in ap fin e
 
+-- At most y is what y exceeds whenever it is whole.
+pub ⊑-by-wholes : (x y : Trop) → ((v : ℤ) → fin v ⊑ x → fin v ⊑ y) → x ⊑ y
+⊑-by-wholes bot y h = blank-least
+⊑-by-wholes (fin a) y h = h a (⊑-refl (fin a))
+
 pub fin-below : {a b : ℤ} → fin a ⊑ fin b → a ≤ℤ b
 fin-below (whole-least h) = h
 
@@ -63,12 +68,20 @@ pub ⊑-or-above : (x y : Trop) → (x ⊑ y) ⊎ ((y ⊑ x) × ((x ⊑ y) → �
 ⊑-or-above (fin a) (fin b) =
     ⊎-elim (λ h. inl (whole-least h)) (λ (h : b <ℤ a). inr (whole-least (omega whole), λ k. let r : a ≤ℤ b = fin-below k in omega whole)) (le-or-lt a b)
 
+-- What is not at least x is at most x.
+pub ⊑-of-not : {x y : Trop} → ((y ⊑ x) → ⊥) → x ⊑ y
+⊑-of-not {x} {y} f = ⊎-elim (λ h. absurd (f h)) (λ h. h .0) (⊑-or-above y x)
+
 -- ---- the sum
 
 pub plus-bot : (x : Trop) → plus x bot ≡ bot
 unfolding plus
 plus-bot bot = refl
 plus-bot (fin a) = refl
+
+pub bot-plus : (x : Trop) → plus bot x ≡ bot
+unfolding plus
+bot-plus x = refl
 
 pub plus-fin : (a b : ℤ) → plus (fin a) (fin b) ≡ fin (a +ℤ b)
 unfolding plus

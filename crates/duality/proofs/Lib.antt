@@ -1,1 +1,7 @@
+pub mod Pigeonhole
+pub mod Walks
 pub mod Longest
+pub mod Weights
+pub mod Policy
+pub mod Ends
+pub mod Warm

@@ -10,8 +10,9 @@ use lib.Signed.{_≤ℤ_, _<ℤ_, ≤ℤ-refl}
 use Rattle.definitions.specs.Tropical.{Trop, bot, fin, plus, _⊑_, blank-least, whole-least, larger, largest, Finite}
 use Rattle.definitions.specs.Certificate.{Walk, stop, step}
 use Rattle.definitions.proofs.Whole.{whole, plus-read, nat-le-or-lt}
-use Rattle.definitions.proofs.Tropical.{fin-injective, not-finite-bot, finite-fin, ⊑-refl, ⊑-trans, ⊑-of-eq, ⊑-antisym, fin-below, finite-above, below-bot, zero-plus, plus-twice, plus-fin, plus-assoc, Parts, plus-above, plus-mono, plus-cancel, larger-left, larger-right, larger-one, larger-least, larger-mono, largest-above, largest-least, largest-mono, largest-ext, Attains, largest-at}
+use Rattle.definitions.proofs.Tropical.{fin-injective, not-finite-bot, finite-fin, ⊑-refl, ⊑-trans, ⊑-of-eq, ⊑-antisym, ⊑-by-wholes, fin-below, finite-above, below-bot, zero-plus, plus-twice, plus-fin, plus-assoc, Parts, plus-above, plus-mono, plus-cancel, larger-left, larger-right, larger-one, larger-least, larger-mono, largest-above, largest-least, largest-mono, largest-ext, Attains, largest-at}
 use Rattle.duality.specs.Values.{valueAt}
+use Rattle.duality.proofs.Walks.{Inside, NoGain, Short, shorten, walk-keep}
 
 -- The arcs of a matrix: its entries that are not blank, to a variable below N.
 pub record Entry (W : ℕ → ℕ → Trop) (N j l : ℕ) (w : ℤ) : Type 0 where
@@ -36,6 +37,12 @@ pub record Potential (W : ℕ → ℕ → Trop) (N : ℕ) (e : ℕ → Trop) : T
 -- The numbers e are unchanged by a round.
 pub record Stable (W : ℕ → ℕ → Trop) (exits : ℕ → Trop) (N : ℕ) (e : ℕ → Trop) : Type 0 where
   pub stable : (j : ℕ) → j < N → larger (exits j) (largest (λ l. plus (W j l) (e l)) N) ≡ e j
+
+-- A walk of at least one arc ends below N.
+pub entries-end : {W : ℕ → ℕ → Trop} {N j k n : ℕ} {w : ℤ} → 0 < n → Walk (Entry W N) j k n w → k < N
+entries-end h stop = absurd (omega arith)
+entries-end {W} {N} h (step a r) =
+    (walk-keep {B = Entry W N} (λ j. j < N) (λ j l w h b. (b, b .inside)) (a .inside) r) .1
 
 -- ---- potentials
 
@@ -176,6 +183,25 @@ module _ (W : ℕ → ℕ → Trop) (exits : ℕ → Trop) (N : ℕ) where
   value-under p x zero j h = x j h
   value-under p x (suc k) j h =
       round-least k j (x j h) (λ l i. ⊑-trans (plus-mono (⊑-refl (W j l)) (value-under p x k l i)) (p .bounds j l h i))
+
+  -- ---- stability
+
+  entries-inside : Inside (Entry W N) N
+  entries-inside = record { inside = λ j l w a. a .inside }
+
+  -- Where no closed walk gains, one arc fewer than variables suffices: further rounds change nothing.
+  pub value-fixed : NoGain (Entry W N) N → (k : ℕ) → N ≤ suc k → (j : ℕ) → j < N
+      → valueAt W exits N (suc k) j ≡ valueAt W exits N k j
+  value-fixed g k b j h = ⊑-antisym (⊑-by-wholes _ _ (λ v u. shorter v (value-way (suc k) j u))) (value-grows k j)
+    where
+      shorter : (v : ℤ) → Way W exits N (suc k) j v → fin v ⊑ valueAt W exits N k j
+      shorter v r =
+          let q : Short (Entry W N) N j (r .end) (r .weight) = shorten entries-inside g j h (r .walk) in
+          way-value k j
+          (record
+            { arcs = q .arcs; weight = q .weight; end = r .end; exit = r .exit; few = omega arith; exit-is = r .exit-is
+            ; worth = omega (whole, plus-read (r .weight) (r .exit), plus-read (q .weight) (r .exit), r .worth, q .heavy)
+            ; walk = q .walk })
 
 -- Larger entries and exits have larger values.
 pub value-mono : (W W′ : ℕ → ℕ → Trop) (exits exits′ : ℕ → Trop) (N : ℕ)
