@@ -5,3 +5,4 @@ pub mod Weights
 pub mod Policy
 pub mod Ends
 pub mod Warm
+pub mod Height
