@@ -6,3 +6,4 @@ pub mod Policy
 pub mod Ends
 pub mod Warm
 pub mod Height
+pub mod Strong
