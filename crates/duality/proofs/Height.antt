@@ -95,6 +95,13 @@ value-floor W exits N D a x (suc k) j h =
     floored-larger _ _ (floored-more (omega arith) (x j h))
     (floored-largest _ N (λ l i. floored-more (omega arith) (floored-plus (W j l) (valueAt W exits N k l) (a j l h i) (value-floor W exits N D a x k l i))))
 
+-- An exit is blank or zero.
+pub exit-floor : (s : System) (i : ℕ) → Floored 0 (exitBy s i)
+exit-floor s i = ⊎-elim
+    (λ h. rw (exit-terminal s i h) (record { floor = λ v e. omega (arith, eq-read (fin-injective e)) }))
+    (λ h. rw (exit-picked s i h) (floored-bot 0))
+    (nat-le-or-lt (s .rows) i)
+
 module _ (s : System) (C : ℕ) (bounded : Bounded s C) where
   weight-floor : (τ : Strategy) (j l : ℕ) → j < s .variables → l < s .variables → Floored (2 * C) (weights s τ j l)
   weight-floor τ j l h i = record { floor = λ w e. of-arc w (entry-arc s τ (record { inside = i; entry = e })) }
@@ -104,14 +111,10 @@ module _ (s : System) (C : ℕ) (bounded : Bounded s C) where
           ( whole, a .weighs, minus-read (a .b) (a .a), abs-read (a .a), abs-read (a .b)
           , bounded .left (τ j) j (a .a) (a .picked) h (a .left-is), bounded .right (τ j) l (a .b) (a .picked) i (a .right-is))
 
-  exit-floor : (i : ℕ) → Floored 0 (exitBy s i)
-  exit-floor i =
-      ⊎-elim (λ h. rw (exit-terminal s i h) (record { floor = λ v e. omega (arith, eq-read (fin-injective e)) })) (λ h. rw (exit-picked s i h) (floored-bot 0)) (nat-le-or-lt (s .rows) i)
-
   -- No value lies below −(variables · 2C).
   pub values-floor : (τ : Strategy) (j : ℕ) → j < s .variables → Floored (s .variables * (2 * C)) (values s τ j)
   unfolding values
-  values-floor τ j h = value-floor (weights s τ) (exits s τ) (s .variables) (2 * C) (weight-floor τ) (λ j _. exit-floor (τ j)) (s .variables) j h
+  values-floor τ j h = value-floor (weights s τ) (exits s τ) (s .variables) (2 * C) (weight-floor τ) (λ j _. exit-floor s (τ j)) (s .variables) j h
 
   -- A step that switches a variable lowers the height.
   pub height-falls : (τ τ′ : Strategy) → Policy s τ → Switch s τ τ′ → (j : ℕ) → j < s .variables → Switched s τ τ′ j

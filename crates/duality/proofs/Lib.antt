@@ -7,3 +7,4 @@ pub mod Ends
 pub mod Warm
 pub mod Height
 pub mod Strong
+pub mod Stamps

@@ -1,3 +1,4 @@
 pub mod System
 pub mod Values
 pub mod Height
+pub mod Within
