@@ -2,5 +2,13 @@ pub mod Pigeonhole
 pub mod Walks
 pub mod Reach
 pub mod Weak
+pub mod Longest
+pub mod Weights
+pub mod Policy
+pub mod Ends
+pub mod Warm
+pub mod Height
+pub mod Strong
+pub mod Stamps
 pub mod Picks
 pub mod Numbers
