@@ -12,3 +12,5 @@ pub mod Strong
 pub mod Stamps
 pub mod Picks
 pub mod Numbers
+pub mod Rows
+pub mod Attain

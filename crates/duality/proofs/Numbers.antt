@@ -42,7 +42,8 @@ record Weighed (A : ℕ → ℕ → ℤ → Type 0) (j k n : ℕ) : Type 0 where
   weight : ℤ
   walk : Walk A j k n weight
 
-raised : (p : Problem) (t : ℤ) → raise p t (p .m) ≡ t
+-- The raise of the objective's row is t.
+pub raised : (p : Problem) (t : ℤ) → raise p t (p .m) ≡ t
 unfolding raise
 raised p t = go (eqb (p .m) (p .m)) refl
   where
@@ -50,7 +51,8 @@ raised p t = go (eqb (p .m) (p .m)) refl
     go true e = refl
     go false e = absurd (eqb-false (p .m) (p .m) e refl)
 
-unraised : (p : Problem) (t : ℤ) (i : ℕ) → (i ≡ p .m → ⊥) → raise p t i ≡ pos 0
+-- The raise of every other row is zero.
+pub unraised : (p : Problem) (t : ℤ) (i : ℕ) → (i ≡ p .m → ⊥) → raise p t i ≡ pos 0
 unfolding raise
 unraised p t i d = go (eqb i (p .m)) refl
   where

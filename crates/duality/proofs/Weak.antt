@@ -14,7 +14,7 @@ use Rattle.definitions.specs.Problem.{Point}
 use Rattle.definitions.specs.Certificate.{Strategy, Reachable, start, onward, Walk, Circuit}
 use Rattle.definitions.proofs.Whole.{whole, plus-read, minus-read}
 use Rattle.definitions.proofs.Tropical.{Attains, largest-above, largest-attained, ⊑-trans, ⊑-of-eq, finite-above, finite-fin, fin-below, fin-injective, not-finite-bot, plus-is, plus-parts}
-use Rattle.duality.specs.System.{System, sideOf, Solves, Leads, Arc, HasPick, Blocks, RowLeads, RowArc, RowHasPick, Saves}
+use Rattle.duality.specs.System.{System, sideOf, Solves, Solution, Leads, Arc, HasPick, Blocks, Blocked, RowLeads, RowArc, RowHasPick, Saves}
 use Rattle.duality.proofs.Walks.{Inside, Looped, looped, Onward, Endless, endless, walk-keep, walk-change}
 use Rattle.duality.proofs.Reach.{reach-keep, reach-map, circuit-map, circuit, potential-walk}
 
@@ -207,8 +207,23 @@ blocks-from s Start τ j h b = record
     wider : (i : ℕ) → i ≡ j → Start i
     wider i e = rw e h
 
+-- The same of a strategy of rows that saves.
+pub saves-from : (s : System) (Start : ℕ → Type 0) (σ : Strategy) (j : ℕ) → Start j → Saves s Start σ → Saves s (λ i. i ≡ j) σ
+saves-from s Start σ j h v = record
+  { counts = λ i k b r l. v .counts i k b (reach-map wider (λ i l a. a) r) l
+  ; nonnegative = λ w c. v .nonnegative w (circuit-map wider (λ i l a. a) (λ i l w a. a) c)
+  }
+  where
+    wider : (i : ℕ) → i ≡ j → Start i
+    wider i e = rw e h
+
 -- A point that solves the system and is finite at a start variable excludes a strategy that blocks.
 pub weak : (s : System) (Start : ℕ → Type 0) (x : Point) (τ : Strategy) (j : ℕ) → Start j → j < s .variables → Finite (x j)
     → Solves s x → Blocks s Start τ → ⊥
 weak s Start x τ j h k f v b = clash s (λ i. i ≡ j) τ (best s x) j refl k (blocks-from s Start τ j h b)
-    (solution-saves s x (λ i. i ≡ j) v (λ i e. (subst (λ (i : ℕ). i < s .variables) (sym e) k, subst (λ (i : ℕ). Finite (x i)) (sym e) f)))
+    (solution-saves s x (λ i. i ≡ j) v (λ i e. (rw e k, rw e f)))
+
+-- No system has both a solution and a strategy that blocks.
+pub not-solved-and-blocked : (s : System) (Start : ℕ → Type 0) → Solution s Start → Blocked s Start → ⊥
+not-solved-and-blocked s Start v b =
+    weak s Start (v .point) (b .strategy) (v .at) (v .started) (v .inside) (v .finite) (v .solves) (b .blocks)
