@@ -14,3 +14,4 @@ pub mod Picks
 pub mod Numbers
 pub mod Rows
 pub mod Attain
+pub mod Classes

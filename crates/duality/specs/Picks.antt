@@ -27,3 +27,9 @@ NoneAbove many width picks = (j : ℕ) → j < width → picks j ≤ many
 pub record Joined (picks τ : Strategy) (many width : ℕ) : Type 0 where
   pub read : (j i : ℕ) → j < width → picks j ≡ suc i → (τ j ≡ i) × (i < many)
   pub show : (j : ℕ) → j < width → τ j < many → picks j ≡ suc (τ j)
+
+-- Some picks, none above `many`, that are accepted.
+pub record SomePicks (many width : ℕ) (Accepted : Strategy → Type 0) : Type 0 where
+  pub picks : Strategy
+  pub none-above : NoneAbove many width picks
+  pub accepted : Accepted picks
