@@ -57,11 +57,11 @@ keeps-solves p t x h i r = rw (side-raised (p .right i) x (fin (raise p t i)) (s
 -- A point that stands at 0 is feasible and has a value of at most t exactly when it solves the system at t.
 pub solves-attains : (p : Problem) (t : ℤ) (x : Point) → x 0 ≡ fin (pos 0) → Solves (systemAt p t) x → Attainable p t
 unfolding value
-solves-attains p t x e h = record
-  { point = x
-  ; feasible = record { anchored = e; keeps = keeps }
-  ; within = raised-minus t _ _ objective
-  }
+solves-attains p t x e h = record {
+  point = x;
+  feasible = record { anchored = e; keeps = keeps };
+  within = raised-minus t _ _ objective;
+}
   where
     keeps : (i : ℕ) → i < p .m → Keeps p x i
     keeps i r = rw (unraised p t i (λ e. omega arith), plus-zero) at (solves-keeps p t x h i (omega arith))
@@ -81,14 +81,14 @@ attains-solves p t x f v = keeps-solves p t x (λ i r. go i r (ℕ-discrete i (p
 
 pub attainable-solution : (p : Problem) (t : ℤ) → Attainable p t → Solution (systemAt p t) Anchor
 unfolding systemAt
-attainable-solution p t a = record
-  { point = a .point
-  ; solves = attains-solves p t (a .point) (a .feasible) (a .within)
-  ; at = 0
-  ; inside = omega arith
-  ; started = refl
-  ; finite = record { whole = pos 0; is = a .feasible .anchored }
-  }
+attainable-solution p t a = record {
+  point = a .point;
+  solves = attains-solves p t (a .point) (a .feasible) (a .within);
+  at = 0;
+  inside = omega arith;
+  started = refl;
+  finite = record { whole = pos 0; is = a .feasible .anchored };
+}
 
 pub solution-attainable : (p : Problem) (t : ℤ) → Solution (systemAt p t) Anchor → Attainable p t
 solution-attainable p t v =

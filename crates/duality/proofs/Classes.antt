@@ -39,11 +39,11 @@ unattainable-exactly p t = (show, refute)
     show : (Attainable p t → ⊥) → SomePicks (suc (p .m)) (suc (p .n)) (λ picks. PicksCount p picks × BelowZero p picks t)
     show d =
         let b = blocked-exactly (systemAt p t) (some-variable p t) .0 (λ v. d (solution-attainable p t v)) in
-        record
-          { picks = picksFrom (b .strategy) (suc (p .m))
-          ; none-above = picks-none-above (b .strategy) (suc (p .m)) (suc (p .n))
-          ; accepted = block-picks p t (picks-joined (b .strategy) (suc (p .m)) (suc (p .n))) (b .blocks)
-          }
+        record {
+          picks = picksFrom (b .strategy) (suc (p .m));
+          none-above = picks-none-above (b .strategy) (suc (p .m)) (suc (p .n));
+          accepted = block-picks p t (picks-joined (b .strategy) (suc (p .m)) (suc (p .n))) (b .blocks);
+        }
 
     refute : SomePicks (suc (p .m)) (suc (p .n)) (λ picks. PicksCount p picks × BelowZero p picks t) → Attainable p t → ⊥
     refute c a = blocked-exactly (systemAt p t) (some-variable p t) .1
@@ -58,11 +58,11 @@ attainable-by-rows p t = (show, attain)
     show : Attainable p t → SomePicks (suc (p .n)) (suc (p .m)) (λ picks. RowPicksCount p picks × AtLeastZero p picks t)
     show a =
         let b = saved-exactly (systemAt p t) (some-variable p t) .0 (attainable-solution p t a) in
-        record
-          { picks = picksFrom (b .strategy) (suc (p .n))
-          ; none-above = picks-none-above (b .strategy) (suc (p .n)) (suc (p .m))
-          ; accepted = save-picks p t (picks-joined (b .strategy) (suc (p .n)) (suc (p .m))) (b .saves)
-          }
+        record {
+          picks = picksFrom (b .strategy) (suc (p .n));
+          none-above = picks-none-above (b .strategy) (suc (p .n)) (suc (p .m));
+          accepted = save-picks p t (picks-joined (b .strategy) (suc (p .n)) (suc (p .m))) (b .saves);
+        }
 
     attain : SomePicks (suc (p .n)) (suc (p .m)) (λ picks. RowPicksCount p picks × AtLeastZero p picks t) → Attainable p t
     attain c = solution-attainable p t (saved-exactly (systemAt p t) (some-variable p t) .1
@@ -73,33 +73,38 @@ attainable-by-rows p t = (show, attain)
 -- Every feasible point has a value of at least s exactly when s − 1 is not attainable.
 pub least-exactly : (p : Problem) (s : ℤ)
     → ((y : Point) → Feasible p y → Problems.whole s ≼ value p y) ↔ (Attainable p (s -ℤ pos 1) → ⊥)
-least-exactly p s =
-    (λ least a. not-least-and-below s (least (a .point) (a .feasible)) (a .within)
-    , λ d y f. ⊎-elim (λ h. h) (λ h. absurd (d (record { point = y; feasible = f; within = h }))) (least-or-below s (value p y)))
+least-exactly p s = (
+  λ least a. not-least-and-below s (least (a .point) (a .feasible)) (a .within),
+  λ d y f. ⊎-elim (λ h. h) (λ h. absurd (d (record { point = y; feasible = f; within = h }))) (least-or-below s (value p y)),
+)
 
 -- Optimal s exactly when s is attainable and s − 1 is not.
 pub optimal-exactly : (p : Problem) (s : ℤ) → Optimal p s ↔ (Attainable p s × (Attainable p (s -ℤ pos 1) → ⊥))
-optimal-exactly p s =
-    (λ o. (record { point = o .point; feasible = o .feasible; within = rw (o .value-is) (≼-refl (Problems.whole s)) }
-      , least-exactly p s .0 (o .least))
-    , λ c. let least = least-exactly p s .1 (c .1) in record
-      { point = c .0 .point
-      ; feasible = c .0 .feasible
-      ; value-is = ≼-antisym (c .0 .within) (least (c .0 .point) (c .0 .feasible))
-      ; least = least
-      })
+optimal-exactly p s = (
+  λ o. (
+    record { point = o .point; feasible = o .feasible; within = rw (o .value-is) (≼-refl (Problems.whole s)) },
+    least-exactly p s .0 (o .least),
+  ),
+  λ c. let least = least-exactly p s .1 (c .1) in record {
+    point = c .0 .point;
+    feasible = c .0 .feasible;
+    value-is = ≼-antisym (c .0 .within) (least (c .0 .point) (c .0 .feasible));
+    least = least;
+  },
+)
 
 -- A feasible point of value s is least exactly when some picks make the list of class 1.
 pub optimal-accepted : (p : Problem) (s : ℤ) (x : Point) → Feasible p x → value p x ≡ Problems.whole s
     → ((y : Point) → Feasible p y → Problems.whole s ≼ value p y) ↔ SomePicks (suc (p .m)) (suc (p .n)) (AcceptedOptimal p s x)
-optimal-accepted p s x f v =
-    (λ least. let c = unattainable-exactly p (s -ℤ pos 1) .0 (least-exactly p s .0 least) in record
-      { picks = c .picks
-      ; none-above = c .none-above
-      ; accepted = record { feasible = f; value-is = v; picks-count = c .accepted .0; below-zero = c .accepted .1 }
-      }
-    , λ c. least-exactly p s .1 (unattainable-exactly p (s -ℤ pos 1) .1 (record
-      { picks = c .picks; none-above = c .none-above; accepted = (c .accepted .picks-count, c .accepted .below-zero) })))
+optimal-accepted p s x f v = (
+  λ least. let c = unattainable-exactly p (s -ℤ pos 1) .0 (least-exactly p s .0 least) in record {
+    picks = c .picks;
+    none-above = c .none-above;
+    accepted = record { feasible = f; value-is = v; picks-count = c .accepted .0; below-zero = c .accepted .1 };
+  },
+  λ c. least-exactly p s .1 (unattainable-exactly p (s -ℤ pos 1) .1 (record
+      { picks = c .picks; none-above = c .none-above; accepted = (c .accepted .picks-count, c .accepted .below-zero) })),
+)
 
 -- An optimal value.
 pub record HasOptimal (p : Problem) : Type 0 where
@@ -121,26 +126,27 @@ descend p (suc k) t a d = ⊎-elim
 
 -- Infeasible exactly when nothing is attainable.
 pub infeasible-never : (p : Problem) → Infeasible p ↔ ((t : ℤ) → Attainable p t → ⊥)
-infeasible-never p =
-    (λ h t a. infinite-not-below (≼-trans (h (a .point) (a .feasible)) (a .within))
-    , λ d x f. ⊎-elim (λ h. h) (λ b. absurd (d (b .bound) (record { point = x; feasible = f; within = b .below })))
-      (infinite-or-bounded (value p x)))
+infeasible-never p = (
+  λ h t a. infinite-not-below (≼-trans (h (a .point) (a .feasible)) (a .within)),
+  λ d x f. ⊎-elim (λ h. h) (λ b. absurd (d (b .bound) (record { point = x; feasible = f; within = b .below })))
+      (infinite-or-bounded (value p x)),
+)
 
 -- Where class 3 accepts, nothing is attainable.
 pub accepted-infeasible : (p : Problem) → SomePicks (suc (p .m)) (suc (p .n)) (AcceptedInfeasible p) → Infeasible p
-accepted-infeasible p c = infeasible-never p .1 (λ t. unattainable-exactly p t .1 (record
-  { picks = c .picks
-  ; none-above = c .none-above
-  ; accepted = (c .accepted .picks-count, infeasible-below p (c .picks) t (c .accepted))
-  }))
+accepted-infeasible p c = infeasible-never p .1 (λ t. unattainable-exactly p t .1 (record {
+  picks = c .picks;
+  none-above = c .none-above;
+  accepted = (c .accepted .picks-count, infeasible-below p (c .picks) t (c .accepted));
+}))
 
 -- Where class 2 accepts, everything is attainable.
 pub accepted-unbounded : (p : Problem) → SomePicks (suc (p .n)) (suc (p .m)) (AcceptedUnbounded p) → Unbounded p
-accepted-unbounded p c t = attainable-by-rows p t .1 (record
-  { picks = c .picks
-  ; none-above = c .none-above
-  ; accepted = (c .accepted .picks-count, unbounded-above p (c .picks) t (c .accepted))
-  })
+accepted-unbounded p c t = attainable-by-rows p t .1 (record {
+  picks = c .picks;
+  none-above = c .none-above;
+  accepted = (c .accepted .picks-count, unbounded-above p (c .picks) t (c .accepted));
+})
 
 -- ---- the numbers that decide
 
@@ -149,21 +155,21 @@ module _ (p : Problem) (L T : ℕ) (within : Within p L) (enough : 2 * (suc (p .
   unattainable-accepted : (Attainable p (pos T) → ⊥) → SomePicks (suc (p .m)) (suc (p .n)) (AcceptedInfeasible p)
   unattainable-accepted d =
       let c = unattainable-exactly p (pos T) .0 d in
-      record
-        { picks = c .picks
-        ; none-above = c .none-above
-        ; accepted = below-infeasible p L T (c .picks) within enough (c .none-above) (c .accepted .0) (c .accepted .1)
-        }
+      record {
+        picks = c .picks;
+        none-above = c .none-above;
+        accepted = below-infeasible p L T (c .picks) within enough (c .none-above) (c .accepted .0) (c .accepted .1);
+      }
 
   -- What is attainable at −T − 1 has row picks that class 2 accepts.
   attainable-accepted : Attainable p (negsuc T) → SomePicks (suc (p .n)) (suc (p .m)) (AcceptedUnbounded p)
   attainable-accepted a =
       let c = attainable-by-rows p (negsuc T) .0 a in
-      record
-        { picks = c .picks
-        ; none-above = c .none-above
-        ; accepted = above-unbounded p L T (c .picks) within enough (c .none-above) (c .accepted .0) (c .accepted .1)
-        }
+      record {
+        picks = c .picks;
+        none-above = c .none-above;
+        accepted = above-unbounded p L T (c .picks) within enough (c .none-above) (c .accepted .0) (c .accepted .1);
+      }
 
   -- Infeasible exactly when T is not attainable.
   pub infeasible-exactly : Infeasible p ↔ (Attainable p (pos T) → ⊥)
@@ -197,9 +203,9 @@ module _ (p : Problem) (L T : ℕ) (within : Within p L) (enough : 2 * (suc (p .
   pub optimal-range : (s : ℤ) → Optimal p s → natAbs s ≤ T
   optimal-range s o = ⊎-elim
       (λ (h : s ≤ℤ pos T). ⊎-elim
-        (λ (k : s ≤ℤ negsuc T). absurd (optimal-not-below s o k))
-        (λ (k : negsuc T <ℤ s). abs-show s (omega whole) (omega whole))
-        (le-or-lt s (negsuc T)))
+      (λ (k : s ≤ℤ negsuc T). absurd (optimal-not-below s o k))
+      (λ (k : negsuc T <ℤ s). abs-show s (omega whole) (omega whole))
+      (le-or-lt s (negsuc T)))
       (λ (h : pos T <ℤ s). absurd (optimal-not-above s o h))
       (le-or-lt s (pos T))
 

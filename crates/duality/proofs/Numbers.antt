@@ -65,8 +65,12 @@ abbrev weight-at : {p : Problem} {C : ℕ → ℕ → ℕ → Type 0} {t : ℤ} 
 weight-at {p} u a = (a .by .b -ℤ a .by .a) +ℤ raise p u (a .row)
 
 arc-at : {p : Problem} {C : ℕ → ℕ → ℕ → Type 0} {t : ℤ} (u : ℤ) {j l : ℕ} {w : ℤ} (a : By p C t j l w) → By p C u j l (weight-at u a)
-arc-at u a = record { row = a .row; chosen = a .chosen; by = record
-  { a = a .by .a; b = a .by .b; left-is = a .by .left-is; right-is = a .by .right-is; weighs = refl } }
+arc-at u a = record {
+  row = a .row;
+  chosen = a .chosen;
+  by = record
+      { a = a .by .a; b = a .by .b; left-is = a .by .left-is; right-is = a .by .right-is; weighs = refl };
+}
 
 -- A walk at t is one at u, of another weight.
 walk-at : {p : Problem} {C : ℕ → ℕ → ℕ → Type 0} {t : ℤ} (u : ℤ) {j k n : ℕ} {w : ℤ} → Walk (By p C t) j k n w → Weighed (By p C u) j k n
@@ -76,13 +80,17 @@ walk-at u (step a q) = let r = walk-at u q in record { weight = weight-at u a +�
 -- An arc that is not by the objective weighs the same at every t.
 plain : {p : Problem} {C : ℕ → ℕ → ℕ → Type 0} {t : ℤ} (u : ℤ) {j l : ℕ} {w : ℤ} (a : By p C t j l w)
     → (a .row ≡ p .m → ⊥) → By p C u j l w
-plain {p} {C} {t} u {w = w} a d = record { row = a .row; chosen = a .chosen; by = record
-  { a = a .by .a
-  ; b = a .by .b
-  ; left-is = a .by .left-is
-  ; right-is = a .by .right-is
-  ; weighs = rw (unraised p u (a .row) d) (rw (unraised p t (a .row) d) at (a .by .weighs))
-  } }
+plain {p} {C} {t} u {w = w} a d = record {
+  row = a .row;
+  chosen = a .chosen;
+  by = record {
+    a = a .by .a;
+    b = a .by .b;
+    left-is = a .by .left-is;
+    right-is = a .by .right-is;
+    weighs = rw (unraised p u (a .row) d) (rw (unraised p t (a .row) d) at (a .by .weighs));
+  };
+}
 
 -- An arc by the objective on the way from j to k.
 record Found (p : Problem) (C : ℕ → ℕ → ℕ → Type 0) (j k : ℕ) : Type 0 where
@@ -103,30 +111,31 @@ find u stop = inl stop
 find {p} {C} {t} u {j} {k} (step {l = l} {n = n} {w = w} {v = v} a q) = go (ℕ-discrete (a .row) (p .m)) (find u q)
   where
     here : a .row ≡ p .m → Found p C j k
-    here e = record
-      { at = j
-      ; to = l
-      ; w = weight-at (pos 0) a
-      ; before-arcs = 0
-      ; after-arcs = n
-      ; before = record { weight = pos 0; walk = stop }
-      ; arc = record
-          { chosen = subst (λ (i : ℕ). C i j l) e (a .chosen)
-          ; by = subst (λ (i : ℕ). ArcBy p (pos 0) i j l (weight-at (pos 0) a)) e (arc-at (pos 0) a .by) }
-      ; after = walk-at (pos 0) q
-      }
+    here e = record {
+      at = j;
+      to = l;
+      w = weight-at (pos 0) a;
+      before-arcs = 0;
+      after-arcs = n;
+      before = record { weight = pos 0; walk = stop };
+      arc = record {
+        chosen = subst (λ (i : ℕ). C i j l) e (a .chosen);
+        by = subst (λ (i : ℕ). ArcBy p (pos 0) i j l (weight-at (pos 0) a)) e (arc-at (pos 0) a .by);
+      };
+      after = walk-at (pos 0) q;
+    }
 
     later : Found p C l k → Found p C j k
-    later f = record
-      { at = f .at
-      ; to = f .to
-      ; w = f .w
-      ; before-arcs = suc (f .before-arcs)
-      ; after-arcs = f .after-arcs
-      ; before = record { weight = weight-at (pos 0) a +ℤ f .before .weight; walk = step (arc-at (pos 0) a) (f .before .walk) }
-      ; arc = f .arc
-      ; after = f .after
-      }
+    later f = record {
+      at = f .at;
+      to = f .to;
+      w = f .w;
+      before-arcs = suc (f .before-arcs);
+      after-arcs = f .after-arcs;
+      before = record { weight = weight-at (pos 0) a +ℤ f .before .weight; walk = step (arc-at (pos 0) a) (f .before .walk) };
+      arc = f .arc;
+      after = f .after;
+    }
 
     go : Dec (a .row ≡ p .m) → Walk (By p C u) l k n v ⊎ Found p C l k → Walk (By p C u) j k (suc n) (w +ℤ v) ⊎ Found p C j k
     go (yes e) r = inr (here e)
@@ -141,16 +150,16 @@ circuit-at p C {Start} {L} t u leads d {w} c = ⊎-elim
     (λ q. record { at = c .at; arcs = c .arcs; reachable = c .reachable; walk = q }) (λ f. absurd (d (uses f))) (find u (c .walk))
   where
     uses : Found p C (c .at) (c .at) → UsesObjective Start L (ByObjective p C) (By p C (pos 0))
-    uses f = record
-      { at = f .at
-      ; to = f .to
-      ; arcs = f .after-arcs + f .before-arcs
-      ; w = f .w
-      ; v = f .after .weight +ℤ f .before .weight
-      ; reachable = reach-along leads (c .reachable) (f .before .walk)
-      ; arc = f .arc
-      ; back = walk-append (f .after .walk) (f .before .walk)
-      }
+    uses f = record {
+      at = f .at;
+      to = f .to;
+      arcs = f .after-arcs + f .before-arcs;
+      w = f .w;
+      v = f .after .weight +ℤ f .before .weight;
+      reachable = reach-along leads (c .reachable) (f .before .walk);
+      arc = f .arc;
+      back = walk-append (f .after .walk) (f .before .walk);
+    }
 
 -- ---- a closed walk that uses the objective outweighs
 
@@ -191,8 +200,8 @@ module _ (p : Problem) (L : ℕ) (within : Within p L) {C : ℕ → ℕ → ℕ 
       let a = c .a in
       let b = c .b in
       let d : natAbs (b -ℤ a) ≤ 2 * L = abs-show (b -ℤ a)
-          (omega (arith, minus-read b a, abs-read a, abs-read b, within .left i j a hi hj (c .left-is), within .right i l b hi hl (c .right-is)))
-          (omega (arith, minus-read b a, abs-read a, abs-read b, within .left i j a hi hj (c .left-is), within .right i l b hi hl (c .right-is))) in
+      (omega (arith, minus-read b a, abs-read a, abs-read b, within .left i j a hi hj (c .left-is), within .right i l b hi hl (c .right-is)))
+      (omega (arith, minus-read b a, abs-read a, abs-read b, within .left i j a hi hj (c .left-is), within .right i l b hi hl (c .right-is))) in
       omega (arith, sign .size (b -ℤ a))
 
   -- Under the sign no raise weighs below zero.
@@ -218,11 +227,11 @@ module _ (p : Problem) (L : ℕ) (within : Within p L) {C : ℕ → ℕ → ℕ 
       on : {k : ℕ} → Heavy p C f t l k n (2 * L) → Heavy p C f t j k (suc n) (2 * L)
       on r =
           let v = weight-at t a in
-          record
-            { weight = v +ℤ r .weight
-            ; walk = step (arc-at t a) (r .walk)
-            ; heavy = rw (sign .sum v (r .weight)) (omega (arith, arc-heavy a h, r .heavy, plus-read (f v) (f (r .weight))))
-            }
+          record {
+            weight = v +ℤ r .weight;
+            walk = step (arc-at t a) (r .walk);
+            heavy = rw (sign .sum v (r .weight)) (omega (arith, arc-heavy a h, r .heavy, plus-read (f v) (f (r .weight))));
+          }
 
   -- A closed walk that uses the objective gives one at t that weighs at least t − (n + 1) · 2L.
   outweighs : {Start : ℕ → Type 0} {Leads : ℕ → ℕ → Type 0} → ((j : ℕ) → Reachable Start Leads j → j ≤ p .n)
@@ -243,17 +252,22 @@ module _ (p : Problem) (L : ℕ) (within : Within p L) {C : ℕ → ℕ → ℕ 
           let v = weight-at t first in
           let low-enough = low (u .at) (u .reachable) in
           let s = spread (choice .row (p .m) (u .at) (u .to) low-enough (u .arc .chosen)) low-enough
-              (choice .to (p .m) (u .at) (u .to) (u .arc .chosen)) (first .by) in
+          (choice .to (p .m) (u .at) (u .to) (u .arc .chosen)) (first .by) in
           let e : f v ≡ f x +ℤ f t = rw (sign .sum x (raise p t (p .m)), raised) in
           let few′ : k ≤ p .n = omega arith in
-          record
-            { weight = v +ℤ r .weight
-            ; circuit = record { at = u .at; arcs = k; reachable = u .reachable; walk = step (arc-at t first) (r .walk) }
-            ; heavy = rw (sign .sum v (r .weight), e)
-                (omega
-                  ( arith, s, r .heavy, plus-read (f x) (f t), plus-read (f x +ℤ f t) (f (r .weight))
-                  , mul-le-mul-right (2 * L) few′ ))
-            }
+          record {
+            weight = v +ℤ r .weight;
+            circuit = record { at = u .at; arcs = k; reachable = u .reachable; walk = step (arc-at t first) (r .walk) };
+            heavy = rw (sign .sum v (r .weight), e)
+                (omega (
+                  arith,
+                  s,
+                  r .heavy,
+                  plus-read (f x) (f t),
+                  plus-read (f x +ℤ f t) (f (r .weight)),
+                  mul-le-mul-right (2 * L) few′,
+                ));
+          }
 
       close : Brief (By p C (pos 0)) (suc (p .n)) (u .to) (u .at) → Outweighs (By p C t) f t Start Leads (suc (p .n) * (2 * L))
       close b = joined (b .arcs) (b .few) (walk-heavy (b .walk) (choice .to (p .m) (u .at) (u .to) (u .arc .chosen)))
@@ -274,21 +288,35 @@ module _ {p : Problem} {C : ℕ → ℕ → ℕ → Type 0} {A : ℤ → ℕ →
   circuit-moved : (t u : ℤ) → (UsesObjective Start Leads O (A (pos 0)) → ⊥) → {w : ℤ} → Circuit Start Leads (A t) w → Circuit Start Leads (A u) w
   circuit-moved t u none c = circuit-map (λ j h. h) (λ j l h. h) (kind .arc u)
       (circuit-at p C t u (λ j l w a. kind .leads (pos 0) j l w (kind .arc (pos 0) j l w a)) (λ q. none (back q))
-          (circuit-map (λ j h. h) (λ j l h. h) (kind .by t) c))
+      (circuit-map (λ j h. h) (λ j l h. h) (kind .by t) c))
     where
       back : UsesObjective Start Leads (ByObjective p C) (By p C (pos 0)) → UsesObjective Start Leads O (A (pos 0))
-      back q = record
-        { at = q .at; to = q .to; arcs = q .arcs; w = q .w; v = q .v; reachable = q .reachable
-        ; arc = kind .objective (q .at) (q .to) (q .w) (q .arc); back = walk-change (kind .arc (pos 0)) (q .back) }
+      back q = record {
+        at = q .at;
+        to = q .to;
+        arcs = q .arcs;
+        w = q .w;
+        v = q .v;
+        reachable = q .reachable;
+        arc = kind .objective (q .at) (q .to) (q .w) (q .arc);
+        back = walk-change (kind .arc (pos 0)) (q .back);
+      }
 
   -- One that uses the objective gives one at t that weighs at least t − (n + 1) · 2L.
   circuit-outweighs : (L : ℕ) → Within p L → Choice p C → {f : ℤ → ℤ} → Sign f → (t : ℤ) → down (f t) ≤ up (f t)
       → ((j : ℕ) → Reachable Start Leads j → j ≤ p .n)
       → UsesObjective Start Leads O (A (pos 0)) → Outweighs (A t) f t Start Leads (suc (p .n) * (2 * L))
   circuit-outweighs L within choice sign t upwards low q =
-      let r = outweighs p L within choice sign t upwards low (record
-          { at = q .at; to = q .to; arcs = q .arcs; w = q .w; v = q .v; reachable = q .reachable
-          ; arc = kind .by-objective (q .at) (q .to) (q .w) (q .arc); back = walk-change (kind .by (pos 0)) (q .back) }) in
+      let r = outweighs p L within choice sign t upwards low (record {
+        at = q .at;
+        to = q .to;
+        arcs = q .arcs;
+        w = q .w;
+        v = q .v;
+        reachable = q .reachable;
+        arc = kind .by-objective (q .at) (q .to) (q .w) (q .arc);
+        back = walk-change (kind .by (pos 0)) (q .back);
+      }) in
       record { weight = r .weight; circuit = circuit-map (λ j h. h) (λ j l h. h) (kind .arc t) (r .circuit); heavy = r .heavy }
 
 -- ---- class 3
@@ -301,14 +329,14 @@ picked-choice : (p : Problem) (picks : Strategy) → NoneAbove (suc (p .m)) (suc
 picked-choice p picks h = record { to = λ i j l c. c .1; row = λ i j l k c. omega (arith, h j (omega arith)) }
 
 picked-kind : (p : Problem) (picks : Strategy) → Kind p (Picked p picks) (Arc p picks) (ObjectiveArc p picks) (Leads p picks)
-picked-kind p picks = record
-  { by = λ t j l w a. record { row = a .row; chosen = (a .picked, a .inside); by = a .by }
-  ; arc = λ t j l w a. record { row = a .row; picked = a .chosen .0; inside = a .chosen .1; by = a .by }
-  ; by-objective = λ j l w a. record { chosen = (a .picked, a .inside); by = a .by }
-  ; objective = λ j l w a. record { picked = a .chosen .0; inside = a .chosen .1; by = a .by }
-  ; leads = λ t j l w a. record
-      { row = a .row; picked = a .picked; inside = a .inside; right = record { whole = a .by .b; is = a .by .right-is } }
-  }
+picked-kind p picks = record {
+  by = λ t j l w a. record { row = a .row; chosen = (a .picked, a .inside); by = a .by };
+  arc = λ t j l w a. record { row = a .row; picked = a .chosen .0; inside = a .chosen .1; by = a .by };
+  by-objective = λ j l w a. record { chosen = (a .picked, a .inside); by = a .by };
+  objective = λ j l w a. record { picked = a .chosen .0; inside = a .chosen .1; by = a .by };
+  leads = λ t j l w a. record
+      { row = a .row; picked = a .picked; inside = a .inside; right = record { whole = a .by .b; is = a .by .right-is } };
+}
 
 -- Reachable variables are inside.
 reached-inside : (p : Problem) (picks : Strategy) (j : ℕ) → Reachable Anchor (Leads p picks) j → j ≤ p .n
@@ -322,16 +350,16 @@ infeasible-below p picks t c w q = c .below-zero w (circuit-moved (picked-kind p
 -- Where the picks count and reachable closed walks weigh below zero at T, class 3 accepts.
 pub below-infeasible : (p : Problem) (L T : ℕ) (picks : Strategy) → Within p L → 2 * (suc (p .n) * L) ≤ T
     → NoneAbove (suc (p .m)) (suc (p .n)) picks → PicksCount p picks → BelowZero p picks (pos T) → AcceptedInfeasible p picks
-below-infeasible p L T picks within h above count below = record
-  { picks-count = count
-  ; no-objective = none
-  ; below-zero = λ w c. below w (circuit-moved (picked-kind p picks) (pos 0) (pos T) none c)
-  }
+below-infeasible p L T picks within h above count below = record {
+  picks-count = count;
+  no-objective = none;
+  below-zero = λ w c. below w (circuit-moved (picked-kind p picks) (pos 0) (pos T) none c);
+}
   where
     none : UsesObjective Anchor (Leads p picks) (ObjectiveArc p picks) (Arc p picks (pos 0)) → ⊥
     none q =
         let r = circuit-outweighs (picked-kind p picks) L within (picked-choice p picks above) as-is (pos T) (omega arith)
-            (reached-inside p picks) q in
+        (reached-inside p picks) q in
         omega (whole, below (r .weight) (r .circuit), r .heavy)
 
 -- Class 3 accepts exactly the picks that block the system at T.
@@ -339,9 +367,10 @@ pub infeasible-blocks : (p : Problem) (L T : ℕ) (picks : Strategy) → Within 
     → NoneAbove (suc (p .m)) (suc (p .n)) picks
     → AcceptedInfeasible p picks ↔ Blocks (systemAt p (pos T)) Anchor (strategyOf picks (suc (p .m)))
 infeasible-blocks p L T picks within h above =
-    let e = blocks-exactly p (pos T) picks above in
-    (λ c. e .0 (c .picks-count, infeasible-below p picks (pos T) c)
-    , λ b. below-infeasible p L T picks within h above (e .1 b .0) (e .1 b .1))
+    let e = blocks-exactly p (pos T) picks above in (
+      λ c. e .0 (c .picks-count, infeasible-below p picks (pos T) c),
+      λ b. below-infeasible p L T picks within h above (e .1 b .0) (e .1 b .1),
+    )
 
 -- ---- class 2
 
@@ -353,14 +382,14 @@ row-picked-choice : (p : Problem) (picks : Strategy) → NoneAbove (suc (p .n)) 
 row-picked-choice p picks h = record { to = λ i j l c. omega (arith, h i (omega arith)); row = λ i j l k c. c .0 }
 
 row-picked-kind : (p : Problem) (picks : Strategy) → Kind p (RowPicked p picks) (RowArc p picks) (RowObjectiveArc p picks) (RowLeads p picks)
-row-picked-kind p picks = record
-  { by = λ t j l w a. record { row = a .row; chosen = (a .inside, a .picked); by = a .by }
-  ; arc = λ t j l w a. record { row = a .row; inside = a .chosen .0; picked = a .chosen .1; by = a .by }
-  ; by-objective = λ j l w a. record { chosen = (omega arith, a .picked); by = a .by }
-  ; objective = λ j l w a. record { picked = a .chosen .1; by = a .by }
-  ; leads = λ t j l w a. record
-      { row = a .row; inside = a .inside; left = record { whole = a .by .a; is = a .by .left-is }; picked = a .picked }
-  }
+row-picked-kind p picks = record {
+  by = λ t j l w a. record { row = a .row; chosen = (a .inside, a .picked); by = a .by };
+  arc = λ t j l w a. record { row = a .row; inside = a .chosen .0; picked = a .chosen .1; by = a .by };
+  by-objective = λ j l w a. record { chosen = (omega arith, a .picked); by = a .by };
+  objective = λ j l w a. record { picked = a .chosen .1; by = a .by };
+  leads = λ t j l w a. record
+      { row = a .row; inside = a .inside; left = record { whole = a .by .a; is = a .by .left-is }; picked = a .picked };
+}
 
 row-reached-inside : (p : Problem) (picks : Strategy) → NoneAbove (suc (p .n)) (suc (p .m)) picks
     → (j : ℕ) → Reachable Anchor (RowLeads p picks) j → j ≤ p .n
@@ -374,16 +403,16 @@ unbounded-above p picks t c w q = c .zero-or-more w (circuit-moved (row-picked-k
 -- Where the rows in use pick and reachable closed walks weigh zero or more at −T − 1, class 2 accepts.
 pub above-unbounded : (p : Problem) (L T : ℕ) (picks : Strategy) → Within p L → 2 * (suc (p .n) * L) ≤ T
     → NoneAbove (suc (p .n)) (suc (p .m)) picks → RowPicksCount p picks → AtLeastZero p picks (negsuc T) → AcceptedUnbounded p picks
-above-unbounded p L T picks within h above count more = record
-  { picks-count = count
-  ; no-objective = none
-  ; zero-or-more = λ w c. more w (circuit-moved (row-picked-kind p picks) (pos 0) (negsuc T) none c)
-  }
+above-unbounded p L T picks within h above count more = record {
+  picks-count = count;
+  no-objective = none;
+  zero-or-more = λ w c. more w (circuit-moved (row-picked-kind p picks) (pos 0) (negsuc T) none c);
+}
   where
     none : UsesObjective Anchor (RowLeads p picks) (RowObjectiveArc p picks) (RowArc p picks (pos 0)) → ⊥
     none q =
         let r = circuit-outweighs (row-picked-kind p picks) L within (row-picked-choice p picks above) negated (negsuc T) (omega arith)
-            (row-reached-inside p picks above) q in
+        (row-reached-inside p picks above) q in
         omega (whole, more (r .weight) (r .circuit), r .heavy, neg-read (r .weight))
 
 -- Class 2 accepts exactly the row picks that save the system at −T − 1.
@@ -391,9 +420,10 @@ pub unbounded-saves : (p : Problem) (L T : ℕ) (picks : Strategy) → Within p 
     → NoneAbove (suc (p .n)) (suc (p .m)) picks
     → AcceptedUnbounded p picks ↔ Saves (systemAt p (negsuc T)) Anchor (strategyOf picks (suc (p .n)))
 unbounded-saves p L T picks within h above =
-    let e = saves-exactly p (negsuc T) picks above in
-    (λ c. e .0 (c .picks-count, unbounded-above p picks (negsuc T) c)
-    , λ b. above-unbounded p L T picks within h above (e .1 b .0) (e .1 b .1))
+    let e = saves-exactly p (negsuc T) picks above in (
+      λ c. e .0 (c .picks-count, unbounded-above p picks (negsuc T) c),
+      λ b. above-unbounded p L T picks within h above (e .1 b .0) (e .1 b .1),
+    )
 
 -- ---- the limit
 

@@ -17,7 +17,7 @@ pub saves-solution : (s : System) (Start : ℕ → Type 0) (σ : Strategy) (j : 
     → Saves s Start σ → Solution s Start
 saves-solution s Start σ j h k v = ⊎-elim
     (λ (x : Solution s (λ i. i ≡ j)). record
-      { point = x .point; solves = x .solves; at = x .at; inside = x .inside; started = rw (x .started) h; finite = x .finite })
+    { point = x .point; solves = x .solves; at = x .at; inside = x .inside; started = rw (x .started) h; finite = x .finite })
     (λ (b : Blocked s (λ i. i ≡ j)). absurd (clash s (λ i. i ≡ j) (b .strategy) σ j refl k (b .blocks) (saves-from s Start σ j h v)))
     (strong-start s (λ i. i ≡ j) (λ i. is-or-not i (ℕ-discrete i j)) (λ i e. rw e k))
   where
@@ -27,10 +27,10 @@ saves-solution s Start σ j h k v = ⊎-elim
 
 -- A solution that is finite at variable 0 induces a strategy that saves from there.
 pub solution-saved : (s : System) → Solution s Anchor → Saved s Anchor
-solution-saved s v = record
-  { strategy = best s (v .point)
-  ; saves = solution-saves s (v .point) Anchor (v .solves) (λ j e. let d : j ≡ v .at = cc in (rw d (v .inside), rw d (v .finite)))
-  }
+solution-saved s v = record {
+  strategy = best s (v .point);
+  saves = solution-saves s (v .point) Anchor (v .solves) (λ j e. let d : j ≡ v .at = cc in (rw d (v .inside), rw d (v .finite)));
+}
 
 -- Exactly when some strategy of rows saves from variable 0, there is a solution that is finite there.
 pub saved-exactly : (s : System) → 0 < s .variables → Solution s Anchor ↔ Saved s Anchor

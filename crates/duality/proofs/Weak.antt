@@ -63,12 +63,12 @@ record Carried (s : System) (x : Point) (i l : ℕ) (a u : ℤ) : Type 0 where
 carries : (s : System) (x : Point) → Solves s x → (i j : ℕ) → i < s .rows → j < s .variables → (a u : ℤ)
     → s .left i j ≡ fin a → x j ≡ fin u → Carried s x i (best s x i) a u
 carries s x h i j r k a u e d =
-    record
-      { b = right .whole
-      ; right-is = right .is
-      ; held = record { inside = b .inside; finite = parts .1 }
-      ; above = fin-below (⊑-trans up (⊑-of-eq sum))
-      }
+    record {
+      b = right .whole;
+      right-is = right .is;
+      held = record { inside = b .inside; finite = parts .1 };
+      above = fin-below (⊑-trans up (⊑-of-eq sum));
+    }
   where
     first : fin (a +ℤ u) ⊑ sideOf s (s .right i) x
     first = ⊑-trans (⊑-trans (⊑-of-eq (sym (plus-is e d))) (largest-above (λ j. plus (s .left i j) (x j)) (s .variables) j k)) (h i r)
@@ -93,7 +93,7 @@ carries-to : (s : System) (x : Point) → Solves s x → (i j l : ℕ) → i < s
     → best s x i ≡ l → Carried s x i l (f .whole) (wholeOf (x j))
 carries-to s x h i j l r k f e =
     subst (λ (l : ℕ). Carried s x i l (f .whole) (wholeOf (x j))) e
-        (carries s x h i j r (k .inside) (f .whole) (wholeOf (x j)) (f .is) (whole-is (k .finite)))
+    (carries s x h i j r (k .inside) (f .whole) (wholeOf (x j)) (f .is) (whole-is (k .finite)))
 
 -- A point that solves the system induces a strategy of rows that saves from every variable at which it is finite.
 pub solution-saves : (s : System) (x : Point) (Start : ℕ → Type 0) → Solves s x
@@ -116,10 +116,17 @@ solution-saves s x Start h f = record { counts = counts; nonnegative = nonnegati
     arc j l w k r =
         let c = carries-to s x h (r .row) j l (r .inside) k (record { whole = r .a; is = r .left-is }) (r .picked) in
         let e : fin (r .b) ≡ fin (c .b) = cc in
-        let d : r .b ≡ c .b = fin-injective e in
-        (omega
-            ( whole, plus-read w (wholeOf (x l)), minus-read (r .b) (r .a), plus-read (r .a) (wholeOf (x j))
-            , plus-read (c .b) (wholeOf (x l)), c .above ), c .held)
+        let d : r .b ≡ c .b = fin-injective e in (
+          omega (
+            whole,
+            plus-read w (wholeOf (x l)),
+            minus-read (r .b) (r .a),
+            plus-read (r .a) (wholeOf (x j)),
+            plus-read (c .b) (wholeOf (x l)),
+            c .above,
+          ),
+          c .held,
+        )
 
     nonnegative : (w : ℤ) → Circuit Start (RowLeads s (best s x)) (RowArc s (best s x)) w → pos 0 ≤ℤ w
     nonnegative w c =
@@ -143,20 +150,20 @@ both-inside s τ σ = record { inside = λ j l w a. a .by-variable .inside }
 
 -- Along an arc of both, what both reach leads to what both reach.
 both-met : (s : System) (Start : ℕ → Type 0) (τ σ : Strategy) (j l : ℕ) (w : ℤ) → Met s Start τ σ j → Both s τ σ j l w → Met s Start τ σ l
-both-met s Start τ σ j l w m a = record
-  { by-variables = onward (m .by-variables) (record
-      { picked = a .by-variable .picked
-      ; inside = a .by-variable .inside
-      ; right = record { whole = a .by-variable .b; is = a .by-variable .right-is }
-      })
-  ; by-rows = onward (m .by-rows) (record
-      { row = a .by-row .row
-      ; inside = a .by-row .inside
-      ; left = record { whole = a .by-row .a; is = a .by-row .left-is }
-      ; picked = a .by-row .picked
-      ; target = a .by-row .target
-      })
-  }
+both-met s Start τ σ j l w m a = record {
+  by-variables = onward (m .by-variables) (record {
+    picked = a .by-variable .picked;
+    inside = a .by-variable .inside;
+    right = record { whole = a .by-variable .b; is = a .by-variable .right-is };
+  });
+  by-rows = onward (m .by-rows) (record {
+    row = a .by-row .row;
+    inside = a .by-row .inside;
+    left = record { whole = a .by-row .a; is = a .by-row .left-is };
+    picked = a .by-row .picked;
+    target = a .by-row .target;
+  });
+}
 
 -- From no start variable can one strategy block and another save.
 pub clash : (s : System) (Start : ℕ → Type 0) (τ σ : Strategy) (j : ℕ) → Start j → j < s .variables
@@ -171,14 +178,28 @@ clash s Start τ σ j h k b v = closed (looped (both-inside s τ σ) k (omega ar
         let c = b .counts i (m .by-variables) in
         let r = v .counts (τ i) i (c .picked) (m .by-rows) (c .left) in
         let w = r .right .whole -ℤ c .left .whole in
-        let a : Both s τ σ i (σ (τ i)) w = record
-          { by-variable = record
-              { picked = c .picked; inside = r .picked; a = c .left .whole; b = r .right .whole
-              ; left-is = c .left .is; right-is = r .right .is; weighs = refl }
-          ; by-row = record
-              { row = τ i; inside = c .picked; picked = refl; target = r .picked; a = c .left .whole; b = r .right .whole
-              ; left-is = c .left .is; right-is = r .right .is; weighs = refl }
-          } in
+        let a : Both s τ σ i (σ (τ i)) w = record {
+          by-variable = record {
+            picked = c .picked;
+            inside = r .picked;
+            a = c .left .whole;
+            b = r .right .whole;
+            left-is = c .left .is;
+            right-is = r .right .is;
+            weighs = refl;
+          };
+          by-row = record {
+            row = τ i;
+            inside = c .picked;
+            picked = refl;
+            target = r .picked;
+            a = c .left .whole;
+            b = r .right .whole;
+            left-is = c .left .is;
+            right-is = r .right .is;
+            weighs = refl;
+          };
+        } in
         record { to = σ (τ i); weight = w; arc = a; kept = both-met s Start τ σ i (σ (τ i)) w m a }
 
     walk : Endless (Both s τ σ) j (s .variables)
@@ -188,31 +209,33 @@ clash s Start τ σ j h k b v = closed (looped (both-inside s τ σ) k (omega ar
     closed l =
         let m = walk-keep {B = Both s τ σ} (Met s Start τ σ) (λ j l w m a. (a, both-met s Start τ σ j l w m a)) first (l .way) .1 in
         let p : Walk (Arc s τ) (l .at) (l .at) (l .loop-arcs) (l .loop-weight) =
-            walk-change (λ j l w a. a .by-variable) (l .loop) in
+        walk-change (λ j l w a. a .by-variable) (l .loop) in
         let q : Walk (RowArc s σ) (l .at) (l .at) (l .loop-arcs) (l .loop-weight) =
-            walk-change (λ j l w a. a .by-row) (l .loop) in
-        omega
-          ( whole, b .negative (l .loop-weight) (circuit (m .by-variables) (l .some) p)
-          , v .nonnegative (l .loop-weight) (circuit (m .by-rows) (l .some) q) )
+        walk-change (λ j l w a. a .by-row) (l .loop) in
+        omega (
+          whole,
+          b .negative (l .loop-weight) (circuit (m .by-variables) (l .some) p),
+          v .nonnegative (l .loop-weight) (circuit (m .by-rows) (l .some) q),
+        )
 
 -- ---- weak duality
 
 -- A strategy that blocks from a start blocks from each of its variables alone.
 pub blocks-from : (s : System) (Start : ℕ → Type 0) (τ : Strategy) (j : ℕ) → Start j → Blocks s Start τ → Blocks s (λ i. i ≡ j) τ
-blocks-from s Start τ j h b = record
-  { counts = λ i r. b .counts i (reach-map wider (λ i l a. a) r)
-  ; negative = λ w c. b .negative w (circuit-map wider (λ i l a. a) (λ i l w a. a) c)
-  }
+blocks-from s Start τ j h b = record {
+  counts = λ i r. b .counts i (reach-map wider (λ i l a. a) r);
+  negative = λ w c. b .negative w (circuit-map wider (λ i l a. a) (λ i l w a. a) c);
+}
   where
     wider : (i : ℕ) → i ≡ j → Start i
     wider i e = rw e h
 
 -- The same of a strategy of rows that saves.
 pub saves-from : (s : System) (Start : ℕ → Type 0) (σ : Strategy) (j : ℕ) → Start j → Saves s Start σ → Saves s (λ i. i ≡ j) σ
-saves-from s Start σ j h v = record
-  { counts = λ i k b r l. v .counts i k b (reach-map wider (λ i l a. a) r) l
-  ; nonnegative = λ w c. v .nonnegative w (circuit-map wider (λ i l a. a) (λ i l w a. a) c)
-  }
+saves-from s Start σ j h v = record {
+  counts = λ i k b r l. v .counts i k b (reach-map wider (λ i l a. a) r) l;
+  nonnegative = λ w c. v .nonnegative w (circuit-map wider (λ i l a. a) (λ i l w a. a) c);
+}
   where
     wider : (i : ℕ) → i ≡ j → Start i
     wider i e = rw e h
