@@ -72,10 +72,10 @@ pigeonhole (suc n) f h = go (placed f (f (suc n)) n) (λ d. pigeonhole n (λ k. 
     go : Place f (f (suc n)) n ⊎ ((k : ℕ) → k ≤ n → f k ≡ f (suc n) → ⊥)
         → (((k : ℕ) → k ≤ n → f k ≡ f (suc n) → ⊥) → Repeat (λ k. skip (f (suc n)) (f k)) n) → Repeat f (suc n)
     go (inl q) r = record { one = q .place; two = suc n; ordered = omega arith; inside = omega arith; same = q .same }
-    go (inr d) r = record {
-      one = r d .one;
-      two = r d .two;
-      ordered = r d .ordered;
-      inside = omega (arith, r d .inside);
-      same = skip-same (f (suc n)) (f (r d .one)) (f (r d .two)) (d (r d .one) (omega (arith, r d .inside, r d .ordered))) (d (r d .two) (r d .inside)) (r d .same);
-    }
+    go (inr d) r = record
+      { one = r d .one
+      ; two = r d .two
+      ; ordered = r d .ordered
+      ; inside = omega (arith, r d .inside)
+      ; same = skip-same (f (suc n)) (f (r d .one)) (f (r d .two)) (d (r d .one) (omega (arith, r d .inside, r d .ordered))) (d (r d .two) (r d .inside)) (r d .same)
+      }

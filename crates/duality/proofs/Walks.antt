@@ -91,6 +91,11 @@ walk-keep P f h (step {j = j} {l = l} {w = w} a p) =
     let q = walk-keep P f (s .1) p in
     (step (s .0) (q .0), q .1)
 
+-- Arcs of one kind that are arcs of another make walks of it.
+pub walk-change : {A B : ℕ → ℕ → ℤ → Type 0} → ((j l : ℕ) (w : ℤ) → A j l w → B j l w)
+    → {j k n : ℕ} {w : ℤ} → Walk A j k n w → Walk B j k n w
+walk-change f p = walk-keep (λ _. Unit) (λ j l w _ a. (f j l w a, tt)) tt p .0
+
 -- A map of weights that respects zero and sums takes walks to walks.
 pub walk-map : {A B : ℕ → ℕ → ℤ → Type 0} (f : ℤ → ℤ) → f (pos 0) ≡ pos 0 → ((w v : ℤ) → f (w +ℤ v) ≡ f w +ℤ f v)
     → ((j l : ℕ) (w : ℤ) → A j l w → B j l (f w)) → {j k n : ℕ} {w : ℤ} → Walk A j k n w → Walk B j k n (f w)
@@ -130,69 +135,65 @@ record Cut (A : ℕ → ℕ → ℤ → Type 0) (j m k i n : ℕ) (w : ℤ) : Ty
 
 -- An arc put in front of a cut walk.
 cut-on : {A : ℕ → ℕ → ℤ → Type 0} {j l m k i n : ℕ} {v : ℤ} (w : ℤ) → A j l w → Cut A l m k i n v → Cut A j m k (suc i) (suc n) (w +ℤ v)
-cut-on {v = v} w a c = record {
-  after = c .after;
-  u = w +ℤ c .u;
-  v = c .v;
-  first = step a (c .first);
-  second = c .second;
-  counts = omega arith;
-  weights = omega (whole, plus-read w (c .u), plus-read (w +ℤ c .u) (c .v), plus-read (c .u) (c .v), plus-read w v);
-}
+cut-on {v = v} w a c = record
+  { after = c .after
+  ; u = w +ℤ c .u
+  ; v = c .v
+  ; first = step a (c .first)
+  ; second = c .second
+  ; counts = omega arith
+  ; weights = omega (whole, plus-read w (c .u), plus-read (w +ℤ c .u) (c .v), plus-read (c .u) (c .v), plus-read w v)
+  }
 
 cut : {A : ℕ → ℕ → ℤ → Type 0} {j k n : ℕ} {w : ℤ} (p : Walk A j k n w) (i : ℕ) → i ≤ n → Cut A j (node p i) k i n w
 unfolding node
 cut stop zero h = record { after = 0; u = pos 0; v = pos 0; first = stop; second = stop; counts = omega arith; weights = refl }
 cut stop (suc i) h = absurd (omega arith)
 cut (step {n = n} {w = w} {v = v} a p) zero h = record
-    { after = suc n; u = pos 0; v = w +ℤ v; first = stop; second = step a p; counts = omega arith; weights = +ℤ-idl (w +ℤ v) }
+  { after = suc n; u = pos 0; v = w +ℤ v; first = stop; second = step a p; counts = omega arith; weights = +ℤ-idl (w +ℤ v) }
 cut (step {w = w} a p) (suc i) h = cut-on w a (cut p i (omega arith))
 
 -- ---- closed walks taken out
 
 -- An arc put in front of a walk taken apart.
 looped-on : {A : ℕ → ℕ → ℤ → Type 0} {N j l k n : ℕ} {v : ℤ} (w : ℤ) → A j l w → Looped A N l k n v → Looped A N j k (suc n) (w +ℤ v)
-looped-on {v = v} w a r = record {
-  at = r .at;
-  loop-arcs = r .loop-arcs;
-  loop-weight = r .loop-weight;
-  rest-arcs = suc (r .rest-arcs);
-  rest-weight = w +ℤ r .rest-weight;
-  way-arcs = suc (r .way-arcs);
-  way-weight = w +ℤ r .way-weight;
-  some = r .some;
-  most = r .most;
-  loop = r .loop;
-  rest = step a (r .rest);
-  way = step a (r .way);
-  counts = omega arith;
-  weights = omega (
-    whole,
-    plus-read w (r .rest-weight),
-    plus-read (r .loop-weight) (w +ℤ r .rest-weight),
-    plus-read (r .loop-weight) (r .rest-weight),
-    plus-read w v,
-  );
-}
+looped-on {v = v} w a r = record
+  { at = r .at
+  ; loop-arcs = r .loop-arcs
+  ; loop-weight = r .loop-weight
+  ; rest-arcs = suc (r .rest-arcs)
+  ; rest-weight = w +ℤ r .rest-weight
+  ; way-arcs = suc (r .way-arcs)
+  ; way-weight = w +ℤ r .way-weight
+  ; some = r .some
+  ; most = r .most
+  ; loop = r .loop
+  ; rest = step a (r .rest)
+  ; way = step a (r .way)
+  ; counts = omega arith
+  ; weights = omega
+      ( whole, plus-read w (r .rest-weight), plus-read (r .loop-weight) (w +ℤ r .rest-weight)
+      , plus-read (r .loop-weight) (r .rest-weight), plus-read w v )
+  }
 
 -- A walk that is closed after its first arcs, taken apart there.
 looped-first : {A : ℕ → ℕ → ℤ → Type 0} {N j k i n : ℕ} {w : ℤ} → 0 < i → i ≤ N → Cut A j j k i n w → Looped A N j k n w
-looped-first {j = j} {i = i} o b c = record {
-  at = j;
-  loop-arcs = i;
-  loop-weight = c .u;
-  rest-arcs = c .after;
-  rest-weight = c .v;
-  way-arcs = 0;
-  way-weight = pos 0;
-  some = o;
-  most = b;
-  loop = c .first;
-  rest = c .second;
-  way = stop;
-  counts = c .counts;
-  weights = c .weights;
-}
+looped-first {j = j} {i = i} o b c = record
+  { at = j
+  ; loop-arcs = i
+  ; loop-weight = c .u
+  ; rest-arcs = c .after
+  ; rest-weight = c .v
+  ; way-arcs = 0
+  ; way-weight = pos 0
+  ; some = o
+  ; most = b
+  ; loop = c .first
+  ; rest = c .second
+  ; way = stop
+  ; counts = c .counts
+  ; weights = c .weights
+  }
 
 -- A walk that meets the same variable after `one` and after `two` arcs, taken apart there.
 looped-at : {A : ℕ → ℕ → ℤ → Type 0} (N : ℕ) {j k n : ℕ} {w : ℤ} (p : Walk A j k n w) (one two : ℕ)
