@@ -76,7 +76,7 @@ potential-closed {e = e} {j} {w = w} p h f r =
     fin-below (plus-cancel (f .whole) (rw (zero-plus, ← f .is) (potential-walk p h r)))
 
 module _ (W : ℕ → ℕ → Trop) (exits : ℕ → Trop) (N : ℕ) where
-  -- ---- stable numbers
+  -- ---- one round
 
   -- An exit is at most the value after any number of rounds.
   pub exit-value : (k j : ℕ) → exits j ⊑ valueAt W exits N k j

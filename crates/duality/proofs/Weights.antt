@@ -13,7 +13,7 @@ use Rattle.definitions.proofs.Whole.{whole, nat-le-or-lt, plus-read, minus-read
 use Rattle.definitions.proofs.Tropical.{bot-not-fin, fin-injective, ⊑-of-eq, ⊑-antisym, below-bot, plus-comm, plus-assoc, bot-plus, largest-least, largest-ext, largest-plus}
 use Rattle.duality.specs.System.{System, sideOf, Arc}
 use Rattle.duality.specs.Values.{valueAt, difference, weightBy, exitBy, weights, exits, valuesAfter, values}
-use Rattle.duality.proofs.Walks.{walk-map}
+use Rattle.duality.proofs.Walks.{walk-change}
 use Rattle.duality.proofs.Longest.{Entry, Stable, exit-value, round-least, value-still, value-fixed, still-stable}
 
 -- ---- differences
@@ -137,11 +137,11 @@ module _ (s : System) (τ : Strategy) where
 
   -- So walks along the entries are walks along the arcs,
   pub entries-arcs : {j k n : ℕ} {w : ℤ} → Walk (Entry (weights s τ) (s .variables)) j k n w → Walk (Arc s τ) j k n w
-  entries-arcs p = walk-map (λ w. w) refl (λ w v. refl) (λ j l w a. entry-arc a) p
+  entries-arcs p = walk-change (λ j l w a. entry-arc a) p
 
   -- and back.
   pub arcs-entries : {j k n : ℕ} {w : ℤ} → Walk (Arc s τ) j k n w → Walk (Entry (weights s τ) (s .variables)) j k n w
-  arcs-entries p = walk-map (λ w. w) refl (λ w v. refl) (λ j l w a. arc-entry a) p
+  arcs-entries p = walk-change (λ j l w a. arc-entry a) p
 
   -- ---- stability
 
