@@ -46,11 +46,6 @@ pub ⊑-antisym : {x y : Trop} → x ⊑ y → y ⊑ x → x ≡ y
 ⊑-antisym blank-least blank-least = refl
 ⊑-antisym (whole-least {a = a} {b = b} h) (whole-least k) = let e : a ≡ b = omega whole in ap fin e
 
--- At most y is what y exceeds whenever it is whole.
-pub ⊑-by-wholes : (x y : Trop) → ((v : ℤ) → fin v ⊑ x → fin v ⊑ y) → x ⊑ y
-⊑-by-wholes bot y h = blank-least
-⊑-by-wholes (fin a) y h = h a (⊑-refl (fin a))
-
 pub fin-below : {a b : ℤ} → fin a ⊑ fin b → a ≤ℤ b
 fin-below (whole-least h) = h
 

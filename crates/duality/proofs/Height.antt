@@ -1,24 +1,24 @@
 -- The policy iteration ends: with coefficients within ±C no value lies below −(variables · 2C), ranks above that floor
 -- fall with the values, and every step lowers their sum.
-use Prim.Native.Nat.{ℕ, zero, suc, _+_, _-_, _*_, _≤_, _<_}
-use mathlib.Core.Path.{_≡_, refl, ap, sym, subst, _∙_}
-use mathlib.Core.Logic.{_⊎_, inl, inr, ⊎-elim}
+use Prim.Native.Nat.{ℕ, zero, suc, _+_, _*_, _≤_, _<_}
+use mathlib.Core.Path.{_≡_, refl}
+use mathlib.Core.Logic.{⊎-elim}
 use native.Mathlib.Omega.{arith}
-use lib.IntN.{ℤ, pos, natAbs, _+ℤ_, _-ℤ_}
-use lib.Signed.{_≤ℤ_, _<ℤ_}
-use Rattle.definitions.specs.Tropical.{Trop, bot, fin, plus, _⊑_, blank-least, whole-least, larger, largest, Finite}
+use lib.IntN.{ℤ}
+use lib.Signed.{_<ℤ_}
+use Rattle.definitions.specs.Tropical.{Trop, bot, fin, plus, _⊑_, blank-least, whole-least, larger, largest}
 use Rattle.definitions.specs.Certificate.{Strategy}
 use Rattle.definitions.proofs.Whole.{up, down, whole, eq-read, plus-read, minus-read, abs-read, nat-le-or-lt, le-or-lt}
 use Rattle.definitions.proofs.Tropical.{bot-not-fin, fin-injective, larger-one}
 use Rattle.duality.specs.System.{System, Arc}
-use Rattle.duality.specs.Values.{valueAt, exitBy, weights, exits, valuesAfter, values, Policy, Switched, Switch}
+use Rattle.duality.specs.Values.{valueAt, exitBy, weights, exits, values, Policy, Switched, Switch}
 use Rattle.duality.specs.Height.{Bounded, rank, total, height}
-use Rattle.duality.proofs.Longest.{Entry}
-use Rattle.duality.proofs.Weights.{entry-arc, exit-below, exit-picked, exit-terminal}
+use Rattle.duality.proofs.Weights.{entry-arc, exit-picked, exit-terminal}
 use Rattle.duality.proofs.Policy.{next-falls, next-strict}
 
 -- ---- sums
 
+-- Larger parts have a larger sum.
 pub total-mono : (f g : ℕ → ℕ) (n : ℕ) → ((j : ℕ) → j < n → f j ≤ g j) → total f n ≤ total g n
 unfolding total
 total-mono f g zero h = omega arith
@@ -31,7 +31,7 @@ total-falls f g zero j h i b = absurd (omega arith)
 total-falls f g (suc n) j h i b =
     ⊎-elim
     (λ (l : n ≤ j). let e : j ≡ n = omega arith in
-      let c : f n < g n = rw e at b in omega (arith, total-mono f g n (λ j i. h j (omega arith))))
+    let c : f n < g n = rw e at b in omega (arith, total-mono f g n (λ j i. h j (omega arith))))
     (λ (l : j < n). omega (arith, total-falls f g n j (λ j i. h j (omega arith)) l b, h n (omega arith)))
     (nat-le-or-lt n j)
 
@@ -51,11 +51,13 @@ total-above f (suc n) j h =
 pub record Floored (c : ℕ) (x : Trop) : Type 0 where
   pub floor : (v : ℤ) → x ≡ fin v → down v ≤ c + up v
 
+-- Ranks grow with the numbers,
 pub rank-mono : (c : ℕ) {x y : Trop} → x ⊑ y → rank c x ≤ rank c y
 unfolding rank
 rank-mono c blank-least = omega arith
 rank-mono c (whole-least {a = a} {b = b} h) = omega whole
 
+-- strictly above the floor.
 pub rank-strict : (c : ℕ) (x y : Trop) → Floored c y → ((y ⊑ x) → ⊥) → rank c x < rank c y
 unfolding rank
 rank-strict c x bot f h = absurd (h blank-least)
@@ -76,7 +78,7 @@ unfolding plus
 floored-plus {c} {d} bot y f g = floored-bot (c + d)
 floored-plus {c} {d} (fin a) bot f g = floored-bot (c + d)
 floored-plus (fin a) (fin b) f g = record
-  { floor = λ v e. omega (arith, f .floor a refl, g .floor b refl, plus-read a b, eq-read (fin-injective e)) }
+    { floor = λ v e. omega (arith, f .floor a refl, g .floor b refl, plus-read a b, eq-read (fin-injective e)) }
 
 floored-larger : {c : ℕ} (x y : Trop) → Floored c x → Floored c y → Floored c (larger x y)
 floored-larger x y f g = ⊎-elim (λ e. rw e f) (λ e. rw e g) (larger-one x y)
@@ -107,9 +109,15 @@ module _ (s : System) (C : ℕ) (bounded : Bounded s C) where
   weight-floor τ j l h i = record { floor = λ w e. of-arc w (entry-arc s τ (record { inside = i; entry = e })) }
     where
       of-arc : (w : ℤ) → Arc s τ j l w → down w ≤ 2 * C + up w
-      of-arc w a = omega
-          ( whole, a .weighs, minus-read (a .b) (a .a), abs-read (a .a), abs-read (a .b)
-          , bounded .left (τ j) j (a .a) (a .picked) h (a .left-is), bounded .right (τ j) l (a .b) (a .picked) i (a .right-is))
+      of-arc w a = omega (
+        whole,
+        a .weighs,
+        minus-read (a .b) (a .a),
+        abs-read (a .a),
+        abs-read (a .b),
+        bounded .left (τ j) j (a .a) (a .picked) h (a .left-is),
+        bounded .right (τ j) l (a .b) (a .picked) i (a .right-is),
+      )
 
   -- No value lies below −(variables · 2C).
   pub values-floor : (τ : Strategy) (j : ℕ) → j < s .variables → Floored (s .variables * (2 * C)) (values s τ j)

@@ -1,18 +1,18 @@
 -- Longest walks by rounds (Bellman–Ford), over any matrix, exits and number N of variables.
 -- The value after k rounds is that of the heaviest walk of at most k arcs to an exit. A round that changes nothing stays
 -- so, and its values are a potential, which bounds every walk.
-use Prim.Native.Nat.{ℕ, zero, suc, _+_, _≤_, _<_}
-use mathlib.Core.Path.{_≡_, refl, ap, ap₂, sym, subst, _∙_}
+use Prim.Native.Nat.{ℕ, zero, suc, _≤_, _<_}
+use mathlib.Core.Path.{_≡_, ap, sym, subst, _∙_}
 use mathlib.Core.Logic.{_⊎_, inl, inr, ⊎-elim}
 use native.Mathlib.Omega.{arith}
 use lib.IntN.{ℤ, pos, _+ℤ_, +ℤ-idl}
-use lib.Signed.{_≤ℤ_, _<ℤ_, ≤ℤ-refl}
-use Rattle.definitions.specs.Tropical.{Trop, bot, fin, plus, _⊑_, blank-least, whole-least, larger, largest, Finite}
+use lib.Signed.{_≤ℤ_, _<ℤ_}
+use Rattle.definitions.specs.Tropical.{Trop, bot, fin, plus, _⊑_, whole-least, larger, largest, Finite}
 use Rattle.definitions.specs.Certificate.{Walk, stop, step}
-use Rattle.definitions.proofs.Whole.{whole, plus-read, nat-le-or-lt}
-use Rattle.definitions.proofs.Tropical.{fin-injective, not-finite-bot, finite-fin, ⊑-refl, ⊑-trans, ⊑-of-eq, ⊑-antisym, ⊑-by-wholes, fin-below, finite-above, below-bot, zero-plus, plus-twice, plus-fin, plus-assoc, Parts, plus-above, plus-mono, plus-cancel, larger-left, larger-right, larger-one, larger-least, larger-mono, largest-above, largest-least, largest-mono, largest-ext, Attains, largest-at}
+use Rattle.definitions.proofs.Whole.{whole, plus-read, nat-le-or-lt, le-or-lt}
+use Rattle.definitions.proofs.Tropical.{blank-or-finite, ⊑-refl, ⊑-trans, ⊑-of-eq, ⊑-antisym, fin-below, finite-above, below-bot, zero-plus, plus-twice, plus-fin, Parts, plus-above, plus-mono, plus-cancel, larger-left, larger-right, larger-one, larger-least, larger-mono, largest-above, largest-least, largest-mono, largest-ext, Attains, largest-at}
 use Rattle.duality.specs.Values.{valueAt}
-use Rattle.duality.proofs.Walks.{Inside, NoGain, Short, shorten, walk-keep}
+use Rattle.duality.proofs.Walks.{Inside, NoGain, Looped, looped, walk-keep}
 
 -- The arcs of a matrix: its entries that are not blank, to a variable below N.
 pub record Entry (W : ℕ → ℕ → Trop) (N j l : ℕ) (w : ℤ) : Type 0 where
@@ -33,6 +33,19 @@ pub record Way (W : ℕ → ℕ → Trop) (exits : ℕ → Trop) (N k j : ℕ) (
 -- Numbers below N that each arc of the matrix bounds: a potential.
 pub record Potential (W : ℕ → ℕ → Trop) (N : ℕ) (e : ℕ → Trop) : Type 0 where
   pub bounds : (j l : ℕ) → j < N → l < N → plus (W j l) (e l) ⊑ e j
+
+-- A closed walk of 1 to N arcs above zero, and a way to it from j.
+pub record Gain (W : ℕ → ℕ → Trop) (N j : ℕ) : Type 0 where
+  pub at : ℕ
+  pub way-arcs : ℕ
+  pub way-weight : ℤ
+  pub way : Walk (Entry W N) j at way-arcs way-weight
+  pub arcs : ℕ
+  pub weight : ℤ
+  pub some : 0 < arcs
+  pub most : arcs ≤ N
+  pub gains : pos 0 <ℤ weight
+  pub loop : Walk (Entry W N) at at arcs weight
 
 -- The numbers e are unchanged by a round.
 pub record Stable (W : ℕ → ℕ → Trop) (exits : ℕ → Trop) (N : ℕ) (e : ℕ → Trop) : Type 0 where
@@ -63,7 +76,7 @@ potential-closed {e = e} {j} {w = w} p h f r =
     fin-below (plus-cancel (f .whole) (rw (zero-plus, ← f .is) (potential-walk p h r)))
 
 module _ (W : ℕ → ℕ → Trop) (exits : ℕ → Trop) (N : ℕ) where
-  -- ---- stable numbers
+  -- ---- one round
 
   -- An exit is at most the value after any number of rounds.
   pub exit-value : (k j : ℕ) → exits j ⊑ valueAt W exits N k j
@@ -89,19 +102,30 @@ module _ (W : ℕ → ℕ → Trop) (exits : ℕ → Trop) (N : ℕ) where
   exit-way k j {v} h =
       let f : Finite (exits j) = finite-above h in
       let b : v ≤ℤ f .whole = fin-below (rw (f .is) at h) in
-      record
-        { arcs = 0; weight = pos 0; end = j; exit = f .whole; few = omega arith; exit-is = f .is
-        ; worth = rw +ℤ-idl b
-        ; walk = stop }
+      record {
+        arcs = 0;
+        weight = pos 0;
+        end = j;
+        exit = f .whole;
+        few = omega arith;
+        exit-is = f .is;
+        worth = rw +ℤ-idl b;
+        walk = stop;
+      }
 
   -- A walk is led by an arc.
   arc-way : (k j l : ℕ) {v w u : ℤ} → Entry W N j l w → v ≤ℤ (w +ℤ u) → Way W exits N k l u → Way W exits N (suc k) j v
   arc-way k j l {v} {w} {u} a h r =
-      record
-        { arcs = suc (r .arcs); weight = w +ℤ r .weight; end = r .end; exit = r .exit; few = omega arith
-        ; exit-is = r .exit-is
-        ; worth = omega (whole, plus-read (w +ℤ r .weight) (r .exit), plus-read w (r .weight), plus-read (r .weight) (r .exit), plus-read w u)
-        ; walk = step a (r .walk) }
+      record {
+        arcs = suc (r .arcs);
+        weight = w +ℤ r .weight;
+        end = r .end;
+        exit = r .exit;
+        few = omega arith;
+        exit-is = r .exit-is;
+        worth = omega (whole, plus-read (w +ℤ r .weight) (r .exit), plus-read w (r .weight), plus-read (r .weight) (r .exit), plus-read w u);
+        walk = step a (r .walk);
+      }
 
   -- What a whole value at least is, a walk is worth.
   pub value-way : (k j : ℕ) {v : ℤ} → fin v ⊑ valueAt W exits N k j → Way W exits N k j v
@@ -120,7 +144,7 @@ module _ (W : ℕ → ℕ → Trop) (exits : ℕ → Trop) (N : ℕ) where
           arc-way k j (a .place) (record { inside = a .inside; entry = p .first-is }) (p .worth)
           (shorter (a .place) (p .second) (⊑-of-eq (sym (p .second-is))))
 
-  -- What a walk is worth, the value at least is.
+  -- A walk and the exit at its end weigh at most the value.
   walk-value : {j end n : ℕ} {w : ℤ} (k : ℕ) → Walk (Entry W N) j end n w → n ≤ k → plus (fin w) (exits end) ⊑ valueAt W exits N k j
   walk-value {j} k stop h = rw zero-plus (exit-value k j)
   walk-value zero (step a r) h = absurd (omega arith)
@@ -130,6 +154,7 @@ module _ (W : ℕ → ℕ → Trop) (exits : ℕ → Trop) (N : ℕ) where
       (plus-mono (⊑-refl (fin w)) (walk-value k r (omega arith)))
       (rw (a .entry) at (arc-value k j l (a .inside))))
 
+  -- What a walk is worth, the value at least is.
   pub way-value : (k j : ℕ) {v : ℤ} → Way W exits N k j v → fin v ⊑ valueAt W exits N k j
   way-value k j {v} r = ⊑-trans (rw (r .exit-is, plus-fin) (whole-least (r .worth))) (walk-value k (r .walk) (r .few))
 
@@ -148,6 +173,15 @@ module _ (W : ℕ → ℕ → Trop) (exits : ℕ → Trop) (N : ℕ) where
   value-grows (suc k) j =
       round-least k j (exit-value (suc (suc k)) j)
       (λ l h. ⊑-trans (plus-mono (⊑-refl (W j l)) (value-grows k l)) (arc-value (suc k) j l h))
+
+  -- Nor do several.
+  pub value-later : (k m : ℕ) → k ≤ m → (j : ℕ) → valueAt W exits N k j ⊑ valueAt W exits N m j
+  value-later k zero b j = let e : k ≡ 0 = omega arith in rw e (⊑-refl _)
+  value-later k (suc m) b j =
+      ⊎-elim
+      (λ (le : k ≤ m). ⊑-trans (value-later k m le j) (value-grows m j))
+      (λ (lt : m < k). let e : k ≡ suc m = omega arith in rw e (⊑-refl _))
+      (nat-le-or-lt k m)
 
   -- A round without change stays so.
   pub value-still : (k : ℕ) → ((j : ℕ) → j < N → valueAt W exits N (suc k) j ≡ valueAt W exits N k j)
@@ -169,8 +203,10 @@ module _ (W : ℕ → ℕ → Trop) (exits : ℕ → Trop) (N : ℕ) where
 
   -- Stable numbers are a potential,
   pub stable-potential : {e : ℕ → Trop} → Stable W exits N e → Potential W N e
-  stable-potential {e} s = record { bounds = λ j l h i. subst (λ z. plus (W j l) (e l) ⊑ z) (s .stable j h)
-      (⊑-trans (largest-above (λ l. plus (W j l) (e l)) N l i) (larger-right _ _)) }
+  stable-potential {e} s = record {
+    bounds = λ j l h i. subst (λ z. plus (W j l) (e l) ⊑ z) (s .stable j h)
+        (⊑-trans (largest-above (λ l. plus (W j l) (e l)) N l i) (larger-right _ _));
+  }
 
   -- and at least the exits.
   pub stable-exit : {e : ℕ → Trop} → Stable W exits N e → (j : ℕ) → j < N → exits j ⊑ e j
@@ -189,19 +225,74 @@ module _ (W : ℕ → ℕ → Trop) (exits : ℕ → Trop) (N : ℕ) where
   entries-inside : Inside (Entry W N) N
   entries-inside = record { inside = λ j l w a. a .inside }
 
-  -- Where no closed walk gains, one arc fewer than variables suffices: further rounds change nothing.
+  -- Of N arcs a walk can spare one, or a closed walk on it gains.
+  fewer-or-gains : (k j : ℕ) {v : ℤ} → N ≤ suc k → j < N → Way W exits N (suc k) j v → Way W exits N k j v ⊎ Gain W N j
+  fewer-or-gains k j {v} b h r = ⊎-elim (λ (few : r .arcs ≤ k). inl (kept few)) (λ (l : k < r .arcs). cut l) (nat-le-or-lt (r .arcs) k)
+    where
+      kept : r .arcs ≤ k → Way W exits N k j v
+      kept few = record {
+        arcs = r .arcs;
+        weight = r .weight;
+        end = r .end;
+        exit = r .exit;
+        few = few;
+        exit-is = r .exit-is;
+        worth = r .worth;
+        walk = r .walk;
+      }
+
+      cut : k < r .arcs → Way W exits N k j v ⊎ Gain W N j
+      cut l = ⊎-elim (λ (c : q .loop-weight ≤ℤ pos 0). inl (spared c)) (λ c. inr (gain c)) (le-or-lt (q .loop-weight) (pos 0))
+        where
+          q : Looped (Entry W N) N j (r .end) (r .arcs) (r .weight)
+          q = looped entries-inside h (omega arith) (r .walk)
+
+          spared : q .loop-weight ≤ℤ pos 0 → Way W exits N k j v
+          spared c = record {
+            arcs = q .rest-arcs;
+            weight = q .rest-weight;
+            end = r .end;
+            exit = r .exit;
+            few = omega (arith, q .some, q .counts, r .few);
+            exit-is = r .exit-is;
+            worth = omega (whole, q .weights, plus-read (q .loop-weight) (q .rest-weight), plus-read (q .rest-weight) (r .exit), plus-read (r .weight) (r .exit), r .worth);
+            walk = q .rest;
+          }
+
+          gain : pos 0 <ℤ q .loop-weight → Gain W N j
+          gain c = record {
+            at = q .at;
+            way-arcs = q .way-arcs;
+            way-weight = q .way-weight;
+            way = q .way;
+            arcs = q .loop-arcs;
+            weight = q .loop-weight;
+            some = q .some;
+            most = q .most;
+            gains = c;
+            loop = q .loop;
+          }
+
+  -- From N − 1 rounds on a value is fixed, or a closed walk gains.
+  pub fixed-or-gains : (k : ℕ) → N ≤ suc k → (j : ℕ) → j < N
+      → (valueAt W exits N (suc k) j ≡ valueAt W exits N k j) ⊎ Gain W N j
+  fixed-or-gains k b j h = ⊎-elim blank at-whole (blank-or-finite (valueAt W exits N (suc k) j))
+    where
+      blank : valueAt W exits N (suc k) j ≡ bot → (valueAt W exits N (suc k) j ≡ valueAt W exits N k j) ⊎ Gain W N j
+      blank e = inl (e ∙ sym (below-bot (rw e at (value-grows k j))))
+
+      at-whole : Finite (valueAt W exits N (suc k) j) → (valueAt W exits N (suc k) j ≡ valueAt W exits N k j) ⊎ Gain W N j
+      at-whole f =
+          ⊎-elim (λ r. inl (⊑-antisym (rw (f .is) (way-value k j r)) (value-grows k j))) (λ g. inr g)
+          (fewer-or-gains k j b h (value-way (suc k) j (⊑-of-eq (sym (f .is)))))
+
+  -- Where no closed walk gains, further rounds change nothing.
   pub value-fixed : NoGain (Entry W N) N → (k : ℕ) → N ≤ suc k → (j : ℕ) → j < N
       → valueAt W exits N (suc k) j ≡ valueAt W exits N k j
-  value-fixed g k b j h = ⊑-antisym (⊑-by-wholes _ _ (λ v u. shorter v (value-way (suc k) j u))) (value-grows k j)
+  value-fixed n k b j h = ⊎-elim (λ e. e) (λ g. absurd (clash g)) (fixed-or-gains k b j h)
     where
-      shorter : (v : ℤ) → Way W exits N (suc k) j v → fin v ⊑ valueAt W exits N k j
-      shorter v r =
-          let q : Short (Entry W N) N j (r .end) (r .weight) = shorten entries-inside g j h (r .walk) in
-          way-value k j
-          (record
-            { arcs = q .arcs; weight = q .weight; end = r .end; exit = r .exit; few = omega arith; exit-is = r .exit-is
-            ; worth = omega (whole, plus-read (r .weight) (r .exit), plus-read (q .weight) (r .exit), r .worth, q .heavy)
-            ; walk = q .walk })
+      clash : Gain W N j → ⊥
+      clash g = let c : g .weight ≤ℤ pos 0 = n .no-gain (g .at) (g .arcs) (g .weight) (g .some) (g .most) (g .loop) in omega (whole, g .gains)
 
 -- Larger entries and exits have larger values.
 pub value-mono : (W W′ : ℕ → ℕ → Trop) (exits exits′ : ℕ → Trop) (N : ℕ)

@@ -1,21 +1,20 @@
 -- One step of the policy iteration. Along the arcs of the new strategy the old values are a potential, and where the pick
 -- is new every arc falls below it. So closed walks stay negative, values fall, and they fall strictly where the pick is
 -- new. Any set of variables may be switched, each to any row that fails there.
-use Prim.Native.Nat.{ℕ, zero, suc, _≤_, _<_}
-use mathlib.Core.Path.{_≡_, refl, ap, sym, subst, _∙_}
+use Prim.Native.Nat.{ℕ, zero, suc, _<_}
+use mathlib.Core.Path.{_≡_, ap, sym, subst, _∙_}
 use mathlib.Core.Logic.{_⊎_, inl, inr, ⊎-elim}
 use native.Mathlib.Omega.{arith}
-use lib.IntN.{ℤ, pos, _+ℤ_, _-ℤ_}
+use lib.IntN.{ℤ, pos, _+ℤ_}
 use lib.Signed.{_≤ℤ_, _<ℤ_}
 use Rattle.definitions.specs.Tropical.{Trop, bot, fin, plus, _⊑_, blank-least, whole-least, larger, largest, Finite}
-use Rattle.definitions.specs.Problem.{Problem}
-use Rattle.definitions.specs.Certificate.{Strategy, Walk, stop, step, Reachable, start, onward, Circuit}
-use Rattle.definitions.proofs.Whole.{whole, plus-read, minus-read, nat-le-or-lt, le-or-lt}
-use Rattle.definitions.proofs.Tropical.{bot-not-fin, not-finite-bot, blank-or-finite, ⊑-refl, ⊑-trans, ⊑-of-eq, ⊑-of-not, below-bot, zero-plus, bot-plus, plus-bot, plus-twice, plus-mono, plus-cancel-left, largest-above, largest-least, Attains, largest-attained}
-use Rattle.duality.specs.System.{System, sideOf, Solves, Solution, Leads, Arc, HasPick, Blocks, systemAt}
-use Rattle.duality.specs.Values.{valueAt, difference, weightBy, exitBy, weights, exits, valuesAfter, values, Policy, Fails, Switched, Switch}
-use Rattle.duality.proofs.Longest.{Entry, entries-end, Potential, potential-walk, Stable, exit-value, round-least, value-under, value-mono, stable-potential, stable-exit}
-use Rattle.duality.proofs.Weights.{difference-back, weight-picked, exit-picked, exit-terminal, entries-arcs, arcs-entries, values-stable}
+use Rattle.definitions.specs.Certificate.{Strategy, Walk, stop, step}
+use Rattle.definitions.proofs.Whole.{whole, le-or-lt}
+use Rattle.definitions.proofs.Tropical.{blank-or-finite, ⊑-refl, ⊑-trans, ⊑-of-not, zero-plus, plus-twice, plus-mono, plus-cancel-left, largest-above, Attains, largest-attained}
+use Rattle.duality.specs.System.{System, Arc}
+use Rattle.duality.specs.Values.{valueAt, weightBy, exitBy, weights, exits, values, Policy, Switched, Switch}
+use Rattle.duality.proofs.Longest.{Entry, entries-end, Potential, potential-walk, Stable, value-under, stable-potential, stable-exit}
+use Rattle.duality.proofs.Weights.{difference-back, weight-picked, exit-picked, entries-arcs, arcs-entries, values-stable}
 
 -- ---- over matrices
 
@@ -31,7 +30,6 @@ pub record Lowered (W′ : ℕ → ℕ → Trop) (exits′ : ℕ → Trop) (N : 
 
 module _ (W W′ : ℕ → ℕ → Trop) (exits exits′ : ℕ → Trop) (N : ℕ) (e : ℕ → Trop) (stable : Stable W exits N e)
     (change : (j : ℕ) → j < N → Same W W′ exits exits′ j ⊎ Lowered W′ exits′ N e j) where
-
   -- The old values are a potential of the new matrix,
   new-potential : Potential W′ N e
   new-potential = record { bounds = λ j l h i. ⊎-elim (kept j l h i) (λ c. ⊑-of-not (c .falls l i)) (change j h) }

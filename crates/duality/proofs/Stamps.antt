@@ -14,7 +14,7 @@ use borrow.Author.Tests.{eqb-true}
 use Rattle.definitions.specs.Tropical.{Trop, fin, plus, _⊑_, Finite}
 use Rattle.definitions.specs.Problem.{Problem}
 use Rattle.definitions.specs.Certificate.{Strategy, Walk, stop, step, raise}
-use Rattle.definitions.proofs.Whole.{up, down, whole, eq-read, plus-read, minus-read, abs-read}
+use Rattle.definitions.proofs.Whole.{up, down, whole, plus-read, minus-read, abs-read}
 use Rattle.definitions.proofs.Tropical.{fin-injective, fin-below, ⊑-of-eq, plus-fin, Parts, plus-above}
 use Rattle.duality.specs.System.{Arc, systemAt}
 use Rattle.duality.specs.Values.{valueAt, weights, exits, values, Policy}
@@ -47,12 +47,13 @@ record Once (W : ℕ → ℕ → Trop) (N D T : ℕ) (To : ℕ → Type 0) (j k 
   whole-walk : Light W N (n * D + T) j k n
 
 light-step : {W : ℕ → ℕ → Trop} {N c d j l k n : ℕ} → Jump W N c j l → Light W N d l k n → Light W N (c + d) j k (suc n)
-light-step a r = record
-  { arcs = suc (r .arcs)
-  ; weight = a .weight +ℤ r .weight
-  ; few = omega arith
-  ; floor = omega (arith, plus-read (a .weight) (r .weight), a .floor, r .floor)
-  ; walk = step (a .entry) (r .walk) }
+light-step a r = record {
+  arcs = suc (r .arcs);
+  weight = a .weight +ℤ r .weight;
+  few = omega arith;
+  floor = omega (arith, plus-read (a .weight) (r .weight), a .floor, r .floor);
+  walk = step (a .entry) (r .walk);
+}
 
 light-more : {W : ℕ → ℕ → Trop} {N c d j k n m : ℕ} → c ≤ d → n ≤ m → Light W N c j k n → Light W N d j k m
 light-more h b r = record { arcs = r .arcs; weight = r .weight; few = omega arith; floor = omega arith; walk = r .walk }
@@ -62,11 +63,13 @@ light-more h b r = record { arcs = r .arcs; weight = r .weight; few = omega arit
 module _ (W : ℕ → ℕ → Trop) (exits : ℕ → Trop) (N D T : ℕ) (From To : ℕ → Type 0)
     (kinds : (j l : ℕ) (w : ℤ) → j < N → Entry W N j l w → Jump W N D j l ⊎ (From j × To l))
     (jump : (j l : ℕ) → j < N → From j → To l → Jump W N (D + T) j l) where
-
   jumped : {j l k n : ℕ} → j < N → From j → To l → Light W N (n * D) l k n → Once W N D T To j k (suc n)
-  jumped {j} {l} {k} {n} h f t r = record
-    { to = l; target = t; rest = light-more (omega arith) (omega arith) r
-    ; whole-walk = light-more (omega arith) (omega arith) (light-step (jump j l h f t) r) }
+  jumped {j} {l} {k} {n} h f t r = record {
+    to = l;
+    target = t;
+    rest = light-more (omega arith) (omega arith) r;
+    whole-walk = light-more (omega arith) (omega arith) (light-step (jump j l h f t) r);
+  }
 
   -- A walk has one with the same ends, no longer, with at most one special arc.
   at-most-once : {j k n : ℕ} {w : ℤ} (b : ℕ) → j < N → n ≤ b → Walk (Entry W N) j k n w
@@ -78,9 +81,12 @@ module _ (W : ℕ → ℕ → Trop) (exits : ℕ → Trop) (N D T : ℕ) (From T
       go : Jump W N D j l ⊎ (From j × To l) → Light W N (b * D) l k b ⊎ Once W N D T To l k b
           → Light W N (suc b * D) j k (suc b) ⊎ Once W N D T To j k (suc b)
       go (inl e) (inl q) = inl (light-more (omega arith) (omega arith) (light-step e q))
-      go (inl e) (inr q) = inr (record
-        { to = q .to; target = q .target; rest = light-more (omega arith) (omega arith) (q .rest)
-        ; whole-walk = light-more (omega arith) (omega arith) (light-step e (q .whole-walk)) })
+      go (inl e) (inr q) = inr (record {
+        to = q .to;
+        target = q .target;
+        rest = light-more (omega arith) (omega arith) (q .rest);
+        whole-walk = light-more (omega arith) (omega arith) (light-step e (q .whole-walk));
+      })
       go (inr s) (inl q) = inr (jumped h (s .0) (s .1) q)
       go (inr s) (inr q) = inr (jumped h (s .0) (q .target) (q .rest))
 
@@ -92,10 +98,17 @@ module _ (W : ℕ → ℕ → Trop) (exits : ℕ → Trop) (N D T : ℕ) (From T
           → down v ≤ k * D + T + up v
       through v e r q =
           let g : fin (q .weight +ℤ r .exit) ⊑ valueAt W exits N k j =
-            way-value W exits N k j
-            (record
-              { arcs = q .arcs; weight = q .weight; end = r .end; exit = r .exit; few = q .few; exit-is = r .exit-is
-              ; worth = ≤ℤ-refl (q .weight +ℤ r .exit); walk = q .walk }) in
+          way-value W exits N k j
+          (record {
+            arcs = q .arcs;
+            weight = q .weight;
+            end = r .end;
+            exit = r .exit;
+            few = q .few;
+            exit-is = r .exit-is;
+            worth = ≤ℤ-refl (q .weight +ℤ r .exit);
+            walk = q .walk;
+          }) in
           let b : (q .weight +ℤ r .exit) ≤ℤ v = fin-below (rw e at g) in
           omega (whole, plus-read (q .weight) (r .exit), q .floor, x (r .end) .floor (r .exit) (r .exit-is))
 
@@ -146,18 +159,20 @@ module _ (p : Problem) (t : ℤ) (τ : Strategy) (L : ℕ) (within : Within p L)
       sum = fin-injective (sym (a .right-is) ∙ ap (λ z. plus z (fin (raise p t (τ j)))) (q .first-is) ∙ plus-fin _ _)
 
       special : τ j ≡ p .m → ((τ j ≡ p .m) × Finite (p .left (p .m) j)) × ((l ≤ p .n) × Finite (p .right (p .m) l))
-      special o =
-          ( (o, record { whole = a .a; is = subst (λ i. p .left i j ≡ fin (a .a)) o (a .left-is) })
-          , (omega (arith, e .inside), record { whole = q .first; is = subst (λ i. p .right i l ≡ fin (q .first)) o (q .first-is) }))
+      special o = (
+        (o, record { whole = a .a; is = subst (λ i. p .left i j ≡ fin (a .a)) o (a .left-is) }),
+        (omega (arith, e .inside), record { whole = q .first; is = subst (λ i. p .right i l ≡ fin (q .first)) o (q .first-is) }),
+      )
 
       plain : raise p t (τ j) ≡ pos 0 → Jump (weights (systemAt p t) τ) (suc (p .n)) (2 * L) j l
       plain z =
           let bl : natAbs (a .a) ≤ L = within .left (τ j) j (a .a) (omega (arith, a .picked)) (omega arith) (a .left-is) in
           let br : natAbs (q .first) ≤ L = within .right (τ j) l (q .first) (omega (arith, a .picked)) (omega (arith, e .inside)) (q .first-is) in
-          record
-            { weight = w
-            ; floor = omega (whole, a .weighs, sum, minus-read (a .b) (a .a), plus-read (q .first) (raise p t (τ j)), abs-read (a .a), abs-read (q .first))
-            ; entry = e }
+          record {
+            weight = w;
+            floor = omega (whole, a .weighs, sum, minus-read (a .b) (a .a), plus-read (q .first) (raise p t (τ j)), abs-read (a .a), abs-read (q .first));
+            entry = e;
+          }
 
   jump : (j l : ℕ) → j < suc (p .n) → ByObjective j → ToObjective l → Jump (weights (systemAt p t) τ) (suc (p .n)) (2 * L + natAbs t) j l
   unfolding systemAt ByObjective ToObjective
@@ -173,17 +188,29 @@ module _ (p : Problem) (t : ℤ) (τ : Strategy) (L : ℕ) (within : Within p L)
       w = (b +ℤ raise p t (p .m)) -ℤ a
 
       arc : Arc (systemAt p t) τ j l w
-      arc = record
-        { picked = omega (arith, f .0); inside = omega (arith, g .0); a = a; b = b +ℤ raise p t (p .m)
-        ; left-is = rw (f .0) (f .1 .is); right-is = rw (f .0, g .1 .is) (plus-fin b (raise p t (p .m))); weighs = refl }
+      arc = record {
+        picked = omega (arith, f .0);
+        inside = omega (arith, g .0);
+        a = a;
+        b = b +ℤ raise p t (p .m);
+        left-is = rw (f .0) (f .1 .is);
+        right-is = rw (f .0, g .1 .is) (plus-fin b (raise p t (p .m)));
+        weighs = refl;
+      }
 
       floor : down w ≤ 2 * L + natAbs t + up w
       floor =
           let bl : natAbs a ≤ L = within .left (p .m) j a (omega arith) (omega arith) (f .1 .is) in
           let br : natAbs b ≤ L = within .right (p .m) l b (omega arith) (omega (arith, g .0)) (g .1 .is) in
-          omega
-          ( whole, minus-read (b +ℤ raise p t (p .m)) a, plus-read b (raise p t (p .m)), abs-read a, abs-read b
-          , abs-read (raise p t (p .m)), raise-within p t (p .m))
+          omega (
+            whole,
+            minus-read (b +ℤ raise p t (p .m)) a,
+            plus-read b (raise p t (p .m)),
+            abs-read a,
+            abs-read b,
+            abs-read (raise p t (p .m)),
+            raise-within p t (p .m),
+          )
 
   -- Every value is blank or at least −((n + 1) · 2L + |t|).
   pub stamps-floor : (j : ℕ) → j ≤ p .n → Floored (suc (p .n) * (2 * L) + natAbs t) (values (systemAt p t) τ j)

@@ -2,19 +2,19 @@
 -- finds one of the two: from the strategy without picks, switch one variable to a row that fails there as long as there
 -- is one; the height bounds the number of steps. A finite table of coefficients has a bound, so nothing is assumed.
 use Prim.Native.Nat.{ℕ, zero, suc, _+_, _≤_, _<_}
-use mathlib.Core.Path.{_≡_, refl, ap, sym, subst, _∙_}
+use mathlib.Core.Path.{_≡_, refl, ap, sym, _∙_}
 use mathlib.Core.Bool.{Bool, true, false, cond, true≢false}
 use mathlib.Core.Logic.{_⊎_, inl, inr, ⊎-elim}
 use native.Mathlib.Omega.{arith}
 use lib.Dec.{eqb}
-use lib.IntN.{ℤ, natAbs}
-use borrow.Author.Tests.{eqb-true, eqb-false, eq-eqb, ne-eqb}
+use lib.IntN.{natAbs}
+use borrow.Author.Tests.{eqb-true, eq-eqb}
 use Rattle.definitions.specs.Tropical.{Trop, bot, fin, plus, _⊑_, Finite}
 use Rattle.definitions.specs.Problem.{Point}
 use Rattle.definitions.specs.Certificate.{Strategy, Anchor}
 use Rattle.definitions.proofs.Whole.{nat-le-or-lt}
 use Rattle.definitions.proofs.Tropical.{blank-or-finite, ⊑-or-above}
-use Rattle.duality.specs.System.{System, sideOf, Solves, Solution, Blocked}
+use Rattle.duality.specs.System.{System, sideOf, Solution, Blocked}
 use Rattle.duality.specs.Values.{values, Policy, Fails, Switched, Switch}
 use Rattle.duality.specs.Height.{Bounded, total, height}
 use Rattle.duality.proofs.Policy.{next-policy}
@@ -53,16 +53,19 @@ bound s = total (λ i. total (λ j. size (s .left i j) + size (s .right i j)) (s
 
 bound-above : (s : System) (i j : ℕ) → i < s .rows → j < s .variables → size (s .left i j) + size (s .right i j) ≤ bound s
 unfolding bound
-bound-above s i j h k = omega
-    ( arith, total-above (λ i. total (λ j. size (s .left i j) + size (s .right i j)) (s .variables)) (s .rows) i h
-    , total-above (λ j. size (s .left i j) + size (s .right i j)) (s .variables) j k)
+bound-above s i j h k = omega (
+  arith,
+  total-above (λ i. total (λ j. size (s .left i j) + size (s .right i j)) (s .variables)) (s .rows) i h,
+  total-above (λ j. size (s .left i j) + size (s .right i j)) (s .variables) j k,
+)
 
 -- Every system has a bound.
 pub bounded : (s : System) → Bounded s (bound s)
 unfolding size
-bounded s = record
-  { left = λ i j a h k e. omega (arith, bound-above s i j h k, ap size e)
-  ; right = λ i j b h k e. omega (arith, bound-above s i j h k, ap size e) }
+bounded s = record {
+  left = λ i j a h k e. omega (arith, bound-above s i j h k, ap size e);
+  right = λ i j b h k e. omega (arith, bound-above s i j h k, ap size e);
+}
 
 -- ---- the iteration
 
@@ -105,7 +108,7 @@ module _ (s : System) where
 
       found : Some (λ i. Some (λ j. Keeps i j → ⊥) (s .variables)) (s .rows) → Failing s τ
       found f = record
-        { row = f .place; at = f .holds .place; row-inside = f .inside; inside = f .holds .inside; fails = f .holds .holds }
+          { row = f .place; at = f .holds .place; row-inside = f .inside; inside = f .holds .inside; fails = f .holds .holds }
 
   -- To pick it switches the variable,
   picked-switched : (τ : Strategy) (f : Failing s τ) → Switched s τ (pick τ (f .at) (f .row)) (f .at)
@@ -129,7 +132,7 @@ module _ (s : System) where
       ⊎-elim
       (λ h. record { strategy = τ; policy = policy; stands = h })
       (λ f. settle fuel (pick τ (f .at) (f .row)) (next-policy s τ _ policy (picked-switch τ f))
-        (omega (arith, height-falls s (bound s) (bounded s) τ _ policy (picked-switch τ f) (f .at) (f .inside) (picked-switched τ f))))
+      (omega (arith, height-falls s (bound s) (bounded s) τ _ policy (picked-switch τ f) (f .at) (f .inside) (picked-switched τ f))))
       (failing τ)
 
   -- Every system has a kept strategy at which no row fails.
@@ -154,7 +157,7 @@ strong-start s Start decided inside = ⊎-elim (λ b. inr (blocked b)) (λ f. in
 
     blocked : ((j : ℕ) → j < s .variables → Start j → values s τ j ≡ bot) → Blocked s Start
     blocked h = record
-      { strategy = τ; blocks = blank-blocks s τ (settled s .policy) Start (λ j b. (inside j b, h j (inside j b) b)) }
+        { strategy = τ; blocks = blank-blocks s τ (settled s .policy) Start (λ j b. (inside j b, h j (inside j b) b)) }
 
     solution : Some (λ j. Start j × Finite (values s τ j)) (s .variables) → Solution s Start
     solution f =

@@ -1,18 +1,16 @@
 -- A kept strategy stays kept where right sides go down: arcs weigh less and values are lower. So the strategy of a trial
 -- at t is a start at every smaller t.
-use Prim.Native.Nat.{ℕ, zero, suc, _≤_, _<_}
-use mathlib.Core.Path.{_≡_, refl, ap, sym, subst, _∙_}
+use Prim.Native.Nat.{ℕ, suc, _<_}
+use mathlib.Core.Path.{_≡_, refl, sym, subst, _∙_}
 use mathlib.Core.Bool.{Bool, true, false, cond}
-use mathlib.Core.Logic.{_⊎_, inl, inr, ⊎-elim}
-use native.Mathlib.Omega.{arith}
 use lib.Dec.{ltb, eqb}
 use lib.IntN.{ℤ, pos, _+ℤ_, _-ℤ_}
 use lib.Signed.{_≤ℤ_, _<ℤ_, ≤ℤ-refl}
-use Rattle.definitions.specs.Tropical.{Trop, bot, fin, plus, _⊑_, blank-least, whole-least, Finite}
+use Rattle.definitions.specs.Tropical.{Trop, bot, fin, _⊑_, blank-least, whole-least, Finite}
 use Rattle.definitions.specs.Problem.{Problem}
 use Rattle.definitions.specs.Certificate.{Strategy, Walk, stop, step, raise}
 use Rattle.definitions.proofs.Whole.{whole, plus-read, minus-read}
-use Rattle.definitions.proofs.Tropical.{⊑-refl, ⊑-trans, ⊑-of-eq, finite-above, fin-below, plus-mono}
+use Rattle.definitions.proofs.Tropical.{⊑-refl, ⊑-trans, finite-above, fin-below, plus-mono}
 use Rattle.duality.specs.System.{System, Arc, systemAt}
 use Rattle.duality.specs.Values.{difference, weightBy, exitBy, weights, exits, values, Policy}
 use Rattle.duality.proofs.Longest.{value-mono}
@@ -46,14 +44,21 @@ module _ (s s′ : System) (lower : Lower s s′) where
       let b : fin (a .b) ⊑ s .right (τ j) l = subst (λ z. z ⊑ s .right (τ j) l) (a .right-is) (lower .right (τ j) l) in
       let f : Finite (s .right (τ j) l) = finite-above b in
       let g : a .b ≤ℤ f .whole = fin-below (rw (f .is) at b) in
-      record
-        { weight = (f .whole -ℤ a .a) +ℤ q .weight
-        ; heavy = omega (whole, plus-read w v, plus-read (f .whole -ℤ a .a) (q .weight), minus-read (a .b) (a .a), minus-read (f .whole) (a .a), a .weighs, q .heavy)
-        ; walk = step
-          (record
-            { picked = rw (lower .rows) at (a .picked); inside = rw (lower .variables) at (a .inside); a = a .a; b = f .whole
-            ; left-is = sym (lower .left (τ j) j) ∙ a .left-is; right-is = f .is; weighs = refl })
-          (q .walk) }
+      record {
+        weight = (f .whole -ℤ a .a) +ℤ q .weight;
+        heavy = omega (whole, plus-read w v, plus-read (f .whole -ℤ a .a) (q .weight), minus-read (a .b) (a .a), minus-read (f .whole) (a .a), a .weighs, q .heavy);
+        walk = step
+            (record {
+              picked = rw (lower .rows) at (a .picked);
+              inside = rw (lower .variables) at (a .inside);
+              a = a .a;
+              b = f .whole;
+              left-is = sym (lower .left (τ j) j) ∙ a .left-is;
+              right-is = f .is;
+              weighs = refl;
+            })
+            (q .walk);
+      }
 
   weight-lower : (i j l : ℕ) → weightBy s′ i j l ⊑ weightBy s i j l
   unfolding weightBy
@@ -77,10 +82,11 @@ module _ (s s′ : System) (lower : Lower s s′) where
 
   -- A kept strategy stays kept.
   pub stays-down : (τ : Strategy) → Policy s τ → Policy s′ τ
-  stays-down τ policy = record
-    { valid = λ j h p. rw (lower .left (τ j) j) (policy .valid j (rw (lower .variables) at h) (rw (lower .rows) at p))
-    ; negative = negative
-    ; below = λ j h. let i : j < s .variables = rw (lower .variables) at h in ⊑-trans (values-lower τ j i) (policy .below j i) }
+  stays-down τ policy = record {
+    valid = λ j h p. rw (lower .left (τ j) j) (policy .valid j (rw (lower .variables) at h) (rw (lower .rows) at p));
+    negative = negative;
+    below = λ j h. let i : j < s .variables = rw (lower .variables) at h in ⊑-trans (values-lower τ j i) (policy .below j i);
+  }
     where
       negative : (j n : ℕ) (w : ℤ) → Walk (Arc s′ τ) j j (suc n) w → w <ℤ pos 0
       negative j n w r =
@@ -100,9 +106,12 @@ raise-mono p {t′} {t} h i = go (eqb i (p .m))
 -- The system at a smaller t is lower.
 pub lower-at : (p : Problem) (t t′ : ℤ) → t′ ≤ℤ t → Lower (systemAt p t) (systemAt p t′)
 unfolding systemAt
-lower-at p t t′ h = record
-  { variables = refl; rows = refl; left = λ i j. refl
-  ; right = λ i l. plus-mono (⊑-refl (p .right i l)) (whole-least (raise-mono p h i)) }
+lower-at p t t′ h = record {
+  variables = refl;
+  rows = refl;
+  left = λ i j. refl;
+  right = λ i l. plus-mono (⊑-refl (p .right i l)) (whole-least (raise-mono p h i));
+}
 
 -- A strategy kept at t is kept at every smaller t.
 pub stays-down-at : (p : Problem) (t t′ : ℤ) → t′ ≤ℤ t → (τ : Strategy) → Policy (systemAt p t) τ → Policy (systemAt p t′) τ

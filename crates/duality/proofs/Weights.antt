@@ -1,30 +1,30 @@
 -- The matrix of a strategy: its entries are the strategy's arcs, a round is one difference a variable, and where every
 -- closed walk weighs below zero the values are stable.
 use Prim.Native.Nat.{ℕ, zero, suc, _≤_, _<_}
-use mathlib.Core.Path.{_≡_, refl, ap, ap₂, sym, subst, _∙_}
-use mathlib.Core.Bool.{Bool, true, false, cond}
-use mathlib.Core.Logic.{_⊎_, inl, inr, ⊎-elim}
+use mathlib.Core.Path.{_≡_, refl, ap, sym, subst, _∙_}
+use mathlib.Core.Logic.{⊎-elim}
 use native.Mathlib.Omega.{arith}
-use lib.Dec.{ltb}
 use lib.IntN.{ℤ, pos, negℤ, _+ℤ_, _-ℤ_}
 use lib.Signed.{_≤ℤ_, _<ℤ_}
-use borrow.Author.Tests.{lt-ltb, le-ltb, ltb-true}
-use Rattle.definitions.specs.Tropical.{Trop, bot, fin, plus, _⊑_, blank-least, larger, largest, Finite}
+use borrow.Author.Tests.{lt-ltb, le-ltb}
+use Rattle.definitions.specs.Tropical.{Trop, bot, fin, plus, _⊑_, blank-least, larger, largest}
 use Rattle.definitions.specs.Certificate.{Strategy, Walk}
 use Rattle.definitions.proofs.Whole.{whole, nat-le-or-lt, plus-read, minus-read}
-use Rattle.definitions.proofs.Tropical.{bot-not-fin, fin-injective, ⊑-refl, ⊑-of-eq, ⊑-antisym, below-bot, plus-comm, plus-assoc, bot-plus, largest-least, largest-ext, largest-plus}
+use Rattle.definitions.proofs.Tropical.{bot-not-fin, fin-injective, ⊑-of-eq, ⊑-antisym, below-bot, plus-comm, plus-assoc, bot-plus, largest-least, largest-ext, largest-plus}
 use Rattle.duality.specs.System.{System, sideOf, Arc}
 use Rattle.duality.specs.Values.{valueAt, difference, weightBy, exitBy, weights, exits, valuesAfter, values}
-use Rattle.duality.proofs.Walks.{NoGain, walk-map}
-use Rattle.duality.proofs.Longest.{Entry, Stable, exit-value, round-least, value-fixed, still-stable}
+use Rattle.duality.proofs.Walks.{walk-change}
+use Rattle.duality.proofs.Longest.{Entry, Stable, exit-value, round-least, value-still, value-fixed, still-stable}
 
 -- ---- differences
 
+-- Less blank is blank,
 pub difference-bot : (x : Trop) → difference x bot ≡ bot
 unfolding difference
 difference-bot bot = refl
 difference-bot (fin b) = refl
 
+-- and to take a whole number away is to add its opposite.
 pub difference-plus : (x : Trop) (a : ℤ) → difference x (fin a) ≡ plus x (fin (negℤ a))
 unfolding difference plus
 difference-plus bot a = refl
@@ -44,7 +44,7 @@ pub difference-largest : (f x : ℕ → Trop) (a : Trop) (k : ℕ)
     → largest (λ l. plus (difference (f l) a) (x l)) k ≡ difference (largest (λ l. plus (f l) (x l)) k) a
 difference-largest f x bot k =
     let none : largest (λ l. plus (difference (f l) bot) (x l)) k ⊑ bot =
-      largest-least _ k (λ j h. ⊑-of-eq (ap (λ z. plus z (x j)) (difference-bot (f j)) ∙ bot-plus (x j))) in
+    largest-least _ k (λ j h. ⊑-of-eq (ap (λ z. plus z (x j)) (difference-bot (f j)) ∙ bot-plus (x j))) in
     below-bot none ∙ sym (difference-bot _)
 difference-largest f x (fin a) k =
     largest-ext _ _ k (λ j h. rw difference-plus (moved (f j) (x j) (fin (negℤ a))))
@@ -54,7 +54,7 @@ difference-largest f x (fin a) k =
     moved : (u v c : Trop) → plus (plus u c) v ≡ plus (plus u v) c
     moved u v c = plus-assoc u c v ∙ ap (plus u) (plus-comm c v) ∙ sym (plus-assoc u v c)
 
--- Two parts of a difference that is whole.
+-- Two whole numbers whose difference is w.
 pub record Minus (x y : Trop) (w : ℤ) : Type 0 where
   pub b : ℤ
   pub a : ℤ
@@ -62,6 +62,7 @@ pub record Minus (x y : Trop) (w : ℤ) : Type 0 where
   pub second-is : y ≡ fin a
   pub weighs : w ≡ b -ℤ a
 
+-- A difference that is whole has whole parts.
 pub difference-parts : (x y : Trop) {w : ℤ} → difference x y ≡ fin w → Minus x y w
 unfolding difference
 difference-parts bot y e = absurd (bot-not-fin e)
@@ -71,18 +72,22 @@ difference-parts (fin b) (fin a) e = record { b = b; a = a; first-is = refl; sec
 -- ---- a row picked, or none
 
 module _ (s : System) where
+  -- By a row an arc weighs the difference of the coefficients,
   pub weight-picked : (i j l : ℕ) → i < s .rows → weightBy s i j l ≡ difference (s .right i l) (s .left i j)
   unfolding weightBy
   weight-picked i j l h = rw (lt-ltb i (s .rows) h)
 
+  -- and there is no exit.
   pub exit-picked : (i : ℕ) → i < s .rows → exitBy s i ≡ bot
   unfolding exitBy
   exit-picked i h = rw (lt-ltb i (s .rows) h)
 
+  -- By none there is no arc,
   pub weight-terminal : (i j l : ℕ) → s .rows ≤ i → weightBy s i j l ≡ bot
   unfolding weightBy
   weight-terminal i j l h = rw (le-ltb i (s .rows) h)
 
+  -- and the exit is zero.
   pub exit-terminal : (i : ℕ) → s .rows ≤ i → exitBy s i ≡ fin (pos 0)
   unfolding exitBy
   exit-terminal i h = rw (le-ltb i (s .rows) h)
@@ -114,28 +119,37 @@ module _ (s : System) (τ : Strategy) where
 
   -- ---- entries and arcs
 
+  -- An entry of the matrix is an arc of the strategy,
   pub entry-arc : {j l : ℕ} {w : ℤ} → Entry (weights s τ) (s .variables) j l w → Arc s τ j l w
   entry-arc {j} {l} {w} a =
       ⊎-elim
       (λ (h : s .rows ≤ τ j). absurd (bot-not-fin (sym (weight-terminal s (τ j) j l h) ∙ a .entry)))
       (λ (h : τ j < s .rows).
-        let d : Minus (s .right (τ j) l) (s .left (τ j) j) w = difference-parts _ _ (sym (weight-picked s (τ j) j l h) ∙ a .entry) in
-        record { picked = h; inside = a .inside; a = d .a; b = d .b; left-is = d .second-is; right-is = d .first-is; weighs = d .weighs })
+      let d : Minus (s .right (τ j) l) (s .left (τ j) j) w = difference-parts _ _ (sym (weight-picked s (τ j) j l h) ∙ a .entry) in
+      record { picked = h; inside = a .inside; a = d .a; b = d .b; left-is = d .second-is; right-is = d .first-is; weighs = d .weighs })
       (nat-le-or-lt (s .rows) (τ j))
 
+  -- and an arc is an entry.
   pub arc-entry : {j l : ℕ} {w : ℤ} → Arc s τ j l w → Entry (weights s τ) (s .variables) j l w
   unfolding difference
   arc-entry {j} {l} a =
       record { inside = a .inside; entry = weight-picked s (τ j) j l (a .picked) ∙ rw (a .left-is, a .right-is, a .weighs) }
 
-  -- Walks along the entries are walks along the arcs.
+  -- So walks along the entries are walks along the arcs,
   pub entries-arcs : {j k n : ℕ} {w : ℤ} → Walk (Entry (weights s τ) (s .variables)) j k n w → Walk (Arc s τ) j k n w
-  entries-arcs p = walk-map (λ w. w) refl (λ w v. refl) (λ j l w a. entry-arc a) p
+  entries-arcs p = walk-change (λ j l w a. entry-arc a) p
 
+  -- and back.
   pub arcs-entries : {j k n : ℕ} {w : ℤ} → Walk (Arc s τ) j k n w → Walk (Entry (weights s τ) (s .variables)) j k n w
-  arcs-entries p = walk-map (λ w. w) refl (λ w v. refl) (λ j l w a. arc-entry a) p
+  arcs-entries p = walk-change (λ j l w a. arc-entry a) p
 
   -- ---- stability
+
+  -- The values are those of any earlier round that a further one leaves as they are.
+  pub values-still : (k : ℕ) → k ≤ s .variables → ((j : ℕ) → j < s .variables → valuesAfter s τ (suc k) j ≡ valuesAfter s τ k j)
+      → (j : ℕ) → j < s .variables → values s τ j ≡ valuesAfter s τ k j
+  unfolding values
+  values-still k b h j i = value-still (weights s τ) (exits s τ) (s .variables) k h (s .variables) b j i
 
   -- Where every closed walk weighs below zero, the values are stable.
   pub values-stable : ((j n : ℕ) (w : ℤ) → Walk (Arc s τ) j j (suc n) w → w <ℤ pos 0)
