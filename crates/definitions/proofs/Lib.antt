@@ -1,3 +1,4 @@
 pub mod Whole
 pub mod Tropical
 pub mod Values
+pub mod Raise

@@ -13,8 +13,8 @@ use Rattle.definitions.specs.Problem.{Problem, Point, side, Keeps, Feasible, va
 use Rattle.definitions.specs.Certificate.{Anchor, raise}
 use Rattle.definitions.proofs.Tropical.{plus-comm, plus-assoc, plus-zero, plus-is, plus-mono, ⊑-refl, largest-ext, largest-plus}
 use Rattle.definitions.proofs.Values.{≼-trans, minus-raised, raised-minus}
+use Rattle.definitions.proofs.Raise.{raised, unraised}
 use Rattle.duality.specs.System.{System, sideOf, Solves, Solution, systemAt}
-use Rattle.duality.proofs.Numbers.{raised, unraised}
 
 -- ---- shifting
 
@@ -43,7 +43,7 @@ side-raised c x d k =
 -- ---- rows of the system and of the problem
 
 -- What a row of the system at t says: the left side is at most the right side raised.
-abbrev pub KeepsRaised : Problem → ℤ → Point → ℕ → Type 0
+abbrev KeepsRaised : Problem → ℤ → Point → ℕ → Type 0
 KeepsRaised p t x i = side (p .n) (p .left i) x ⊑ plus (side (p .n) (p .right i) x) (fin (raise p t i))
 
 solves-keeps : (p : Problem) (t : ℤ) (x : Point) → Solves (systemAt p t) x → (i : ℕ) → i < suc (p .m) → KeepsRaised p t x i

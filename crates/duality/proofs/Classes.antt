@@ -13,9 +13,9 @@ use Rattle.definitions.specs.Certificate.{Strategy, Anchor, PicksCount, BelowZe
 use Rattle.definitions.proofs.Whole.{up, down, whole, plus-read, minus-read, abs-read, abs-show, le-or-lt}
 use Rattle.definitions.proofs.Values.{≼-refl, ≼-trans, ≼-antisym, infinite-not-below, least-or-below, not-least-and-below, infinite-or-bounded, whole-below}
 use Rattle.duality.specs.System.{Solution, Blocked, Saved, systemAt}
-use Rattle.duality.specs.Picks.{picksFrom, NoneAbove, SomePicks, strategyOf}
+use Rattle.duality.specs.Picks.{picksFrom, NoneAbove, SomePicks, strategyOf, AtLeastZero}
 use Rattle.duality.specs.Within.{Within}
-use Rattle.duality.proofs.Picks.{AtLeastZero, picks-joined, picks-none-above, block-picks, save-picks, blocks-exactly, saves-exactly}
+use Rattle.duality.proofs.Picks.{picks-joined, picks-none-above, block-picks, save-picks, blocks-exactly, saves-exactly}
 use Rattle.duality.proofs.Numbers.{infeasible-below, below-infeasible, unbounded-above, above-unbounded}
 use Rattle.duality.proofs.Rows.{saved-exactly, blocked-exactly, solution-decided}
 use Rattle.duality.proofs.Attain.{attainable-solution, solution-attainable, attainable-above}

@@ -11,6 +11,7 @@ pub mod Height
 pub mod Strong
 pub mod Stamps
 pub mod Picks
+pub mod Objective
 pub mod Numbers
 pub mod Rows
 pub mod Attain

@@ -16,7 +16,7 @@ use Rattle.definitions.proofs.Whole.{whole, plus-read, minus-read}
 use Rattle.definitions.proofs.Tropical.{plus-is, plus-from}
 use Rattle.duality.specs.System as Theory
 use Rattle.duality.specs.System.{systemAt, Blocks, Saves}
-use Rattle.duality.specs.Picks.{unpick, strategyOf, picksFrom, NoneAbove, Joined}
+use Rattle.duality.specs.Picks.{unpick, strategyOf, picksFrom, NoneAbove, Joined, AtLeastZero}
 use Rattle.duality.proofs.Reach.{reach-keep, reach-map, circuit-keep, circuit-map}
 
 -- ---- the two forms
@@ -166,10 +166,6 @@ module _ (p : Problem) (t : ℤ) {picks τ : Strategy} (same : Joined picks τ (
   )
 
 -- ---- strategies of rows
-
--- Every reachable closed walk weighs zero or more when each arc by the objective weighs t more.
-abbrev pub AtLeastZero : Problem → Strategy → ℤ → Type 0
-AtLeastZero p picks t = (w : ℤ) → Circuit Anchor (RowLeads p picks) (RowArc p picks t) w → pos 0 ≤ℤ w
 
 module _ (p : Problem) (t : ℤ) {picks σ : Strategy} (same : Joined picks σ (suc (p .n)) (suc (p .m))) where
   row-leads-to : (j l : ℕ) → RowLeads p picks j l → Theory.RowLeads (systemAt p t) σ j l

@@ -16,7 +16,7 @@ use Rattle.definitions.proofs.Whole.{whole, plus-read, minus-read}
 use Rattle.definitions.proofs.Tropical.{Attains, largest-above, largest-attained, ⊑-trans, ⊑-of-eq, finite-above, finite-fin, fin-below, fin-injective, not-finite-bot, plus-is, plus-parts}
 use Rattle.duality.specs.System.{System, sideOf, Solves, Solution, Leads, Arc, HasPick, Blocks, Blocked, RowLeads, RowArc, RowHasPick, Saves}
 use Rattle.duality.proofs.Walks.{Inside, Looped, looped, Onward, Endless, endless, walk-keep, walk-change}
-use Rattle.duality.proofs.Reach.{reach-keep, reach-map, circuit-map, circuit, potential-walk}
+use Rattle.duality.proofs.Reach.{reach-keep, reach-map, circuit-map, circuit, lower-walk}
 
 -- ---- a solution saves
 
@@ -131,7 +131,7 @@ solution-saves s x Start h f = record { counts = counts; nonnegative = nonnegati
     nonnegative : (w : ℤ) → Circuit Start (RowLeads s (best s x)) (RowArc s (best s x)) w → pos 0 ≤ℤ w
     nonnegative w c =
         let p = walk-keep (Held s x) arc (held (c .reachable)) (c .walk) in
-        omega (whole, potential-walk (λ j. wholeOf (x j)) (p .0), plus-read w (wholeOf (x (c .at))))
+        omega (whole, lower-walk (λ j. wholeOf (x j)) (p .0), plus-read w (wholeOf (x (c .at))))
 
 -- ---- blocking and saving clash
 

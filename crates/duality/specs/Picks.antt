@@ -4,7 +4,10 @@ use Prim.Native.Nat.{ℕ, zero, suc, _≤_, _<_}
 use mathlib.Core.Path.{_≡_}
 use mathlib.Core.Bool.{cond}
 use lib.Dec.{ltb}
-use Rattle.definitions.specs.Certificate.{Strategy}
+use lib.IntN.{ℤ, pos}
+use lib.Signed.{_≤ℤ_}
+use Rattle.definitions.specs.Problem.{Problem}
+use Rattle.definitions.specs.Certificate.{Strategy, Anchor, Circuit, RowLeads, RowArc}
 
 -- One pick of the records as one of the theory; `none` stands for no pick.
 unfoldable pub unpick : ℕ → ℕ → ℕ
@@ -33,3 +36,7 @@ pub record SomePicks (many width : ℕ) (Accepted : Strategy → Type 0) : Type 
   pub picks : Strategy
   pub none-above : NoneAbove many width picks
   pub accepted : Accepted picks
+
+-- Every reachable closed walk weighs zero or more when each arc by the objective weighs t more.
+abbrev pub AtLeastZero : Problem → Strategy → ℤ → Type 0
+AtLeastZero p picks t = (w : ℤ) → Circuit Anchor (RowLeads p picks) (RowArc p picks t) w → pos 0 ≤ℤ w
