@@ -63,6 +63,10 @@ pub ⊑-or-above : (x y : Trop) → (x ⊑ y) ⊎ ((y ⊑ x) × ((x ⊑ y) → �
 ⊑-or-above (fin a) (fin b) =
     ⊎-elim (λ h. inl (whole-least h)) (λ (h : b <ℤ a). inr (whole-least (omega whole), λ k. let r : a ≤ℤ b = fin-below k in omega whole)) (le-or-lt a b)
 
+-- What is not at least x is at most x.
+pub ⊑-of-not : {x y : Trop} → ((y ⊑ x) → ⊥) → x ⊑ y
+⊑-of-not {x} {y} f = ⊎-elim (λ h. absurd (f h)) (λ h. h .0) (⊑-or-above y x)
+
 -- ---- the sum
 
 pub plus-bot : (x : Trop) → plus x bot ≡ bot
@@ -70,9 +74,26 @@ unfolding plus
 plus-bot bot = refl
 plus-bot (fin a) = refl
 
+pub bot-plus : (x : Trop) → plus bot x ≡ bot
+unfolding plus
+bot-plus x = refl
+
 pub plus-fin : (a b : ℤ) → plus (fin a) (fin b) ≡ fin (a +ℤ b)
 unfolding plus
 plus-fin a b = refl
+
+-- The sum of two numbers that are whole.
+pub plus-is : {x y : Trop} {a b : ℤ} → x ≡ fin a → y ≡ fin b → plus x y ≡ fin (a +ℤ b)
+plus-is e d = rw (e, d, plus-fin)
+
+-- What a whole sum with a whole number came from.
+pub plus-from : {x : Trop} (c : ℤ) {d : ℤ} → plus x (fin c) ≡ fin d → x ≡ fin (d -ℤ c)
+unfolding plus
+plus-from {x = bot} c e = absurd (bot-not-fin e)
+plus-from {x = fin a} c {d = d} e =
+    let f : a +ℤ c ≡ d = fin-injective e in
+    let g : a ≡ d -ℤ c = omega (whole, plus-read a c, minus-read d c) in
+    ap fin g
 
 pub plus-comm : (x y : Trop) → plus x y ≡ plus y x
 unfolding plus
@@ -93,12 +114,36 @@ unfolding plus
 plus-zero bot = refl
 plus-zero (fin a) = ap fin (+ℤ-idr a)
 
+pub zero-plus : (x : Trop) → plus (fin (pos 0)) x ≡ x
+unfolding plus
+zero-plus bot = refl
+zero-plus (fin a) = ap fin (+ℤ-idl a)
+
+-- Two whole numbers are added one after the other.
+pub plus-twice : (a b : ℤ) (x : Trop) → plus (fin (a +ℤ b)) x ≡ plus (fin a) (plus (fin b) x)
+plus-twice a b x = rw (← plus-fin a b) (plus-assoc (fin a) (fin b) x)
+
 -- A sum is whole exactly when both parts are.
 pub plus-parts : {x y : Trop} → Finite (plus x y) → Finite x × Finite y
 unfolding plus
 plus-parts {x = bot} {y} f = absurd (not-finite-bot f)
 plus-parts {x = fin a} {y = bot} f = absurd (not-finite-bot f)
 plus-parts {x = fin a} {y = fin b} f = (finite-fin a, finite-fin b)
+
+-- Two whole parts whose sum is at least v.
+pub record Parts (v : ℤ) (x y : Trop) : Type 0 where
+  pub first : ℤ
+  pub second : ℤ
+  pub first-is : x ≡ fin first
+  pub second-is : y ≡ fin second
+  pub worth : v ≤ℤ (first +ℤ second)
+
+-- What is at least a whole number has whole parts.
+pub plus-above : {v : ℤ} (x y : Trop) → fin v ⊑ plus x y → Parts v x y
+unfolding plus
+plus-above bot y h = absurd (not-finite-bot (finite-above h))
+plus-above (fin a) bot h = absurd (not-finite-bot (finite-above h))
+plus-above (fin a) (fin b) h = record { first = a; second = b; first-is = refl; second-is = refl; worth = fin-below h }
 
 pub plus-mono : {x x′ y y′ : Trop} → x ⊑ x′ → y ⊑ y′ → plus x y ⊑ plus x′ y′
 unfolding plus
@@ -116,6 +161,10 @@ plus-cancel c {x = fin a} {y = fin b} h =
     let k : (a +ℤ c) ≤ℤ (b +ℤ c) = fin-below h in
     let r : a ≤ℤ b = omega (whole, plus-read a c, plus-read b c) in
     whole-least r
+
+-- The same on the left.
+pub plus-cancel-left : (c : ℤ) {x y : Trop} → plus (fin c) x ⊑ plus (fin c) y → x ⊑ y
+plus-cancel-left c {x} {y} h = plus-cancel c (rw (plus-comm x (fin c), plus-comm y (fin c)) h)
 
 -- ---- the larger of two
 

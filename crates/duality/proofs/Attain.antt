@@ -1,0 +1,109 @@
+-- Attainable at t, in the words of the system at t: some feasible point has a value of at most t exactly when the system
+-- at t has a solution that is finite at variable 0. Such a solution is moved so that variable 0 stands at 0.
+use Prim.Native.Nat.{ℕ, zero, suc, _≤_, _<_}
+use mathlib.Core.Path.{_≡_, refl, sym, subst, ap, _∙_}
+use mathlib.Core.Logic.{_⊎_, inl, inr, ⊎-elim, _↔_}
+use native.Mathlib.Omega.{arith}
+use native.Mathlib.Decide.{ℕ-discrete}
+use lib.IntN.{ℤ, pos, negℤ, _+ℤ_, _-ℤ_, +ℤ-invr}
+use lib.Signed.{_≤ℤ_}
+use Rattle.definitions.specs.Tropical.{Trop, fin, plus, largest, _⊑_, Finite}
+use Rattle.definitions.specs.Problem as Problems
+use Rattle.definitions.specs.Problem.{Problem, Point, side, Keeps, Feasible, value, minus, Attainable, _≼_, between}
+use Rattle.definitions.specs.Certificate.{Anchor, raise}
+use Rattle.definitions.proofs.Tropical.{plus-comm, plus-assoc, plus-zero, plus-is, plus-mono, ⊑-refl, largest-ext, largest-plus}
+use Rattle.definitions.proofs.Values.{≼-trans, minus-raised, raised-minus}
+use Rattle.definitions.proofs.Raise.{raised, unraised}
+use Rattle.duality.specs.System.{System, sideOf, Solves, Solution, systemAt}
+
+-- ---- shifting
+
+-- A point moved by d moves each side by d.
+side-moved : (c : ℕ → Trop) (x : Point) (d : Trop) (k : ℕ)
+    → largest (λ j. plus (c j) (plus (x j) d)) k ≡ plus (largest (λ j. plus (c j) (x j)) k) d
+side-moved c x d k =
+    largest-ext (λ j. plus (c j) (plus (x j) d)) (λ j. plus (plus (c j) (x j)) d) k (λ j _. sym (plus-assoc (c j) (x j) d))
+    ∙ largest-plus (λ j. plus (c j) (x j)) d k
+
+-- A solution moved is a solution.
+pub solves-moved : (s : System) (x : Point) (d : Trop) → Solves s x → Solves s (λ j. plus (x j) d)
+solves-moved s x d h i r =
+    rw (side-moved (s .left i) x d (s .variables), side-moved (s .right i) x d (s .variables)) (plus-mono (h i r) (⊑-refl d))
+
+-- Coefficients raised by d raise the side by d.
+side-raised : (c : ℕ → Trop) (x : Point) (d : Trop) (k : ℕ)
+    → largest (λ j. plus (plus (c j) d) (x j)) k ≡ plus (largest (λ j. plus (c j) (x j)) k) d
+side-raised c x d k =
+    largest-ext (λ j. plus (plus (c j) d) (x j)) (λ j. plus (plus (c j) (x j)) d) k (λ j _. swap (c j) (x j))
+    ∙ largest-plus (λ j. plus (c j) (x j)) d k
+  where
+    swap : (a b : Trop) → plus (plus a d) b ≡ plus (plus a b) d
+    swap a b = plus-assoc a d b ∙ ap (plus a) (plus-comm d b) ∙ sym (plus-assoc a b d)
+
+-- ---- rows of the system and of the problem
+
+-- What a row of the system at t says: the left side is at most the right side raised.
+abbrev KeepsRaised : Problem → ℤ → Point → ℕ → Type 0
+KeepsRaised p t x i = side (p .n) (p .left i) x ⊑ plus (side (p .n) (p .right i) x) (fin (raise p t i))
+
+solves-keeps : (p : Problem) (t : ℤ) (x : Point) → Solves (systemAt p t) x → (i : ℕ) → i < suc (p .m) → KeepsRaised p t x i
+unfolding systemAt side
+solves-keeps p t x h i r = rw (← side-raised (p .right i) x (fin (raise p t i)) (suc (p .n))) (h i r)
+
+keeps-solves : (p : Problem) (t : ℤ) (x : Point) → ((i : ℕ) → i < suc (p .m) → KeepsRaised p t x i) → Solves (systemAt p t) x
+unfolding systemAt side
+keeps-solves p t x h i r = rw (side-raised (p .right i) x (fin (raise p t i)) (suc (p .n))) (h i r)
+
+-- A point that stands at 0 is feasible and has a value of at most t exactly when it solves the system at t.
+pub solves-attains : (p : Problem) (t : ℤ) (x : Point) → x 0 ≡ fin (pos 0) → Solves (systemAt p t) x → Attainable p t
+unfolding value
+solves-attains p t x e h = record {
+  point = x;
+  feasible = record { anchored = e; keeps = keeps };
+  within = raised-minus t _ _ objective;
+}
+  where
+    keeps : (i : ℕ) → i < p .m → Keeps p x i
+    keeps i r = rw (unraised p t i (λ e. omega arith), plus-zero) at (solves-keeps p t x h i (omega arith))
+
+    objective : side (p .n) (p .left (p .m)) x ⊑ plus (side (p .n) (p .right (p .m)) x) (fin t)
+    objective = rw raised at (solves-keeps p t x h (p .m) (omega arith))
+
+pub attains-solves : (p : Problem) (t : ℤ) (x : Point) → Feasible p x → value p x ≼ Problems.whole t → Solves (systemAt p t) x
+unfolding value
+attains-solves p t x f v = keeps-solves p t x (λ i r. go i r (ℕ-discrete i (p .m)))
+  where
+    go : (i : ℕ) → i < suc (p .m) → Dec (i ≡ p .m) → KeepsRaised p t x i
+    go i r (yes e) = rw (e, raised) (minus-raised t _ _ v)
+    go i r (no d) = rw (unraised p t i d, plus-zero) (f .keeps i (omega arith))
+
+-- ---- attainable
+
+pub attainable-solution : (p : Problem) (t : ℤ) → Attainable p t → Solution (systemAt p t) Anchor
+unfolding systemAt
+attainable-solution p t a = record {
+  point = a .point;
+  solves = attains-solves p t (a .point) (a .feasible) (a .within);
+  at = 0;
+  inside = omega arith;
+  started = refl;
+  finite = record { whole = pos 0; is = a .feasible .anchored };
+}
+
+pub solution-attainable : (p : Problem) (t : ℤ) → Solution (systemAt p t) Anchor → Attainable p t
+solution-attainable p t v =
+    solves-attains p t (λ j. plus (v .point j) (fin (negℤ u))) e (solves-moved (systemAt p t) (v .point) (fin (negℤ u)) (v .solves))
+  where
+    u : ℤ
+    u = v .finite .whole
+
+    e : plus (v .point 0) (fin (negℤ u)) ≡ fin (pos 0)
+    e = let d : v .point 0 ≡ fin u = cc in plus-is d refl ∙ ap fin (+ℤ-invr u)
+
+-- Attainable at t exactly when the system at t has a solution.
+pub attainable-exactly : (p : Problem) (t : ℤ) → Attainable p t ↔ Solution (systemAt p t) Anchor
+attainable-exactly p t = (attainable-solution p t, solution-attainable p t)
+
+-- Attainable at t, attainable above t.
+pub attainable-above : (p : Problem) {t u : ℤ} → t ≤ℤ u → Attainable p t → Attainable p u
+attainable-above p h a = record { point = a .point; feasible = a .feasible; within = ≼-trans (a .within) (between h) }

@@ -1,0 +1,252 @@
+-- Weak duality: a solution that is finite at a start variable and a strategy of variables that blocks from there
+-- exclude each other. A solution x induces a strategy of rows that saves: each row picks a right variable that attains
+-- its largest, so that along its arcs w + x l ≥ x j, and closed walks weigh zero or more. A blocking τ and a saving σ
+-- clash: from the start follow the row that τ picks and the variable that this row picks in σ; after as many steps as
+-- there are variables one repeats, and that closed walk would weigh both below zero and zero or more.
+use Prim.Native.Nat.{ℕ, suc, _+_, _≤_, _<_}
+use mathlib.Core.Path.{_≡_, refl, sym, subst}
+use mathlib.Core.Logic.{_⊎_, inl, inr, ⊎-elim}
+use native.Mathlib.Omega.{arith}
+use lib.IntN.{ℤ, pos, _+ℤ_, _-ℤ_}
+use lib.Signed.{_≤ℤ_, _<ℤ_}
+use Rattle.definitions.specs.Tropical.{Trop, bot, fin, plus, largest, _⊑_, Finite}
+use Rattle.definitions.specs.Problem.{Point}
+use Rattle.definitions.specs.Certificate.{Strategy, Reachable, start, onward, Walk, Circuit}
+use Rattle.definitions.proofs.Whole.{whole, plus-read, minus-read}
+use Rattle.definitions.proofs.Tropical.{Attains, largest-above, largest-attained, ⊑-trans, ⊑-of-eq, finite-above, finite-fin, fin-below, fin-injective, not-finite-bot, plus-is, plus-parts}
+use Rattle.duality.specs.System.{System, sideOf, Solves, Solution, Leads, Arc, HasPick, Blocks, Blocked, RowLeads, RowArc, RowHasPick, Saves}
+use Rattle.duality.proofs.Walks.{Inside, Looped, looped, Onward, Endless, endless, walk-keep, walk-change}
+use Rattle.duality.proofs.Reach.{reach-keep, reach-map, circuit-map, circuit, lower-walk}
+
+-- ---- a solution saves
+
+-- The strategy of rows that a point induces: a right variable that attains the row's largest, if that is not blank.
+unfoldable pub best : System → Point → Strategy
+best s x i = ⊎-elim (λ _. s .variables) (λ a. a .place) (largest-attained (λ l. plus (s .right i l) (x l)) (s .variables))
+
+-- A right variable that attains the row's largest.
+record Best (s : System) (x : Point) (i l : ℕ) : Type 0 where
+  inside : l < s .variables
+  same : sideOf s (s .right i) x ≡ plus (s .right i l) (x l)
+
+best-attains : (s : System) (x : Point) (i : ℕ) → Finite (sideOf s (s .right i) x) → Best s x i (best s x i)
+unfolding best
+best-attains s x i f = go (largest-attained (λ l. plus (s .right i l) (x l)) (s .variables))
+  where
+    go : (r : (sideOf s (s .right i) x ≡ bot) ⊎ Attains (λ l. plus (s .right i l) (x l)) (s .variables))
+        → Best s x i (⊎-elim (λ _. s .variables) (λ a. a .place) r)
+    go (inl b) = absurd (not-finite-bot (subst Finite b f))
+    go (inr a) = record { inside = a .inside; same = a .same }
+
+-- The whole number that a finite number is.
+wholeOf : Trop → ℤ
+wholeOf bot = pos 0
+wholeOf (fin a) = a
+
+whole-is : {x : Trop} → Finite x → x ≡ fin (wholeOf x)
+unfolding wholeOf
+whole-is {x = bot} f = absurd (not-finite-bot f)
+whole-is {x = fin a} f = refl
+
+-- A variable at which the point is finite.
+record Held (s : System) (x : Point) (j : ℕ) : Type 0 where
+  inside : j < s .variables
+  finite : Finite (x j)
+
+-- A row in use at a finite variable: its pick l is inside, both numbers there are finite, and it carries x on.
+record Carried (s : System) (x : Point) (i l : ℕ) (a u : ℤ) : Type 0 where
+  b : ℤ
+  right-is : s .right i l ≡ fin b
+  held : Held s x l
+  above : (a +ℤ u) ≤ℤ (b +ℤ wholeOf (x l))
+
+carries : (s : System) (x : Point) → Solves s x → (i j : ℕ) → i < s .rows → j < s .variables → (a u : ℤ)
+    → s .left i j ≡ fin a → x j ≡ fin u → Carried s x i (best s x i) a u
+carries s x h i j r k a u e d =
+    record {
+      b = right .whole;
+      right-is = right .is;
+      held = record { inside = b .inside; finite = parts .1 };
+      above = fin-below (⊑-trans up (⊑-of-eq sum));
+    }
+  where
+    first : fin (a +ℤ u) ⊑ sideOf s (s .right i) x
+    first = ⊑-trans (⊑-trans (⊑-of-eq (sym (plus-is e d))) (largest-above (λ j. plus (s .left i j) (x j)) (s .variables) j k)) (h i r)
+
+    b : Best s x i (best s x i)
+    b = best-attains s x i (finite-above first)
+
+    up : fin (a +ℤ u) ⊑ plus (s .right i (best s x i)) (x (best s x i))
+    up = ⊑-trans first (⊑-of-eq (b .same))
+
+    parts : Finite (s .right i (best s x i)) × Finite (x (best s x i))
+    parts = plus-parts (finite-above up)
+
+    right : Finite (s .right i (best s x i))
+    right = parts .0
+
+    sum : plus (s .right i (best s x i)) (x (best s x i)) ≡ fin (right .whole +ℤ wholeOf (x (best s x i)))
+    sum = plus-is (right .is) (whole-is (parts .1))
+
+-- The same of the variable that the row picks, under its own name.
+carries-to : (s : System) (x : Point) → Solves s x → (i j l : ℕ) → i < s .rows → (k : Held s x j) → (f : Finite (s .left i j))
+    → best s x i ≡ l → Carried s x i l (f .whole) (wholeOf (x j))
+carries-to s x h i j l r k f e =
+    subst (λ (l : ℕ). Carried s x i l (f .whole) (wholeOf (x j))) e
+    (carries s x h i j r (k .inside) (f .whole) (wholeOf (x j)) (f .is) (whole-is (k .finite)))
+
+-- A point that solves the system induces a strategy of rows that saves from every variable at which it is finite.
+pub solution-saves : (s : System) (x : Point) (Start : ℕ → Type 0) → Solves s x
+    → ((j : ℕ) → Start j → (j < s .variables) × Finite (x j)) → Saves s Start (best s x)
+solution-saves s x Start h f = record { counts = counts; nonnegative = nonnegative }
+  where
+    lead : (j l : ℕ) → Held s x j → RowLeads s (best s x) j l → RowLeads s (best s x) j l × Held s x l
+    lead j l k r = (r, carries-to s x h (r .row) j l (r .inside) k (r .left) (r .picked) .held)
+
+    held : {j : ℕ} → Reachable Start (RowLeads s (best s x)) j → Held s x j
+    held r = reach-keep (Held s x) (λ j h. (h, record { inside = f j h .0; finite = f j h .1 })) lead r .1
+
+    counts : (i j : ℕ) → i < s .rows → Reachable Start (RowLeads s (best s x)) j → Finite (s .left i j) → RowHasPick s (best s x) i
+    counts i j r q l =
+        let c = carries-to s x h i j (best s x i) r (held q) l refl in
+        record { picked = c .held .inside; right = record { whole = c .b; is = c .right-is } }
+
+    arc : (j l : ℕ) (w : ℤ) → Held s x j → RowArc s (best s x) j l w
+        → (wholeOf (x j) ≤ℤ (w +ℤ wholeOf (x l))) × Held s x l
+    arc j l w k r =
+        let c = carries-to s x h (r .row) j l (r .inside) k (record { whole = r .a; is = r .left-is }) (r .picked) in
+        let e : fin (r .b) ≡ fin (c .b) = cc in
+        let d : r .b ≡ c .b = fin-injective e in (
+          omega (
+            whole,
+            plus-read w (wholeOf (x l)),
+            minus-read (r .b) (r .a),
+            plus-read (r .a) (wholeOf (x j)),
+            plus-read (c .b) (wholeOf (x l)),
+            c .above,
+          ),
+          c .held,
+        )
+
+    nonnegative : (w : ℤ) → Circuit Start (RowLeads s (best s x)) (RowArc s (best s x)) w → pos 0 ≤ℤ w
+    nonnegative w c =
+        let p = walk-keep (Held s x) arc (held (c .reachable)) (c .walk) in
+        omega (whole, lower-walk (λ j. wholeOf (x j)) (p .0), plus-read w (wholeOf (x (c .at))))
+
+-- ---- blocking and saving clash
+
+-- Reachable for both players.
+record Met (s : System) (Start : ℕ → Type 0) (τ σ : Strategy) (j : ℕ) : Type 0 where
+  by-variables : Reachable Start (Leads s τ) j
+  by-rows : Reachable Start (RowLeads s σ) j
+
+-- The arcs of both players: by the row that τ picks to the variable that this row picks in σ.
+record Both (s : System) (τ σ : Strategy) (j l : ℕ) (w : ℤ) : Type 0 where
+  by-variable : Arc s τ j l w
+  by-row : RowArc s σ j l w
+
+both-inside : (s : System) (τ σ : Strategy) → Inside (Both s τ σ) (s .variables)
+both-inside s τ σ = record { inside = λ j l w a. a .by-variable .inside }
+
+-- Along an arc of both, what both reach leads to what both reach.
+both-met : (s : System) (Start : ℕ → Type 0) (τ σ : Strategy) (j l : ℕ) (w : ℤ) → Met s Start τ σ j → Both s τ σ j l w → Met s Start τ σ l
+both-met s Start τ σ j l w m a = record {
+  by-variables = onward (m .by-variables) (record {
+    picked = a .by-variable .picked;
+    inside = a .by-variable .inside;
+    right = record { whole = a .by-variable .b; is = a .by-variable .right-is };
+  });
+  by-rows = onward (m .by-rows) (record {
+    row = a .by-row .row;
+    inside = a .by-row .inside;
+    left = record { whole = a .by-row .a; is = a .by-row .left-is };
+    picked = a .by-row .picked;
+    target = a .by-row .target;
+  });
+}
+
+-- From no start variable can one strategy block and another save.
+pub clash : (s : System) (Start : ℕ → Type 0) (τ σ : Strategy) (j : ℕ) → Start j → j < s .variables
+    → Blocks s Start τ → Saves s Start σ → ⊥
+clash s Start τ σ j h k b v = closed (looped (both-inside s τ σ) k (omega arith) (walk .walk))
+  where
+    first : Met s Start τ σ j
+    first = record { by-variables = start h; by-rows = start h }
+
+    on : (i : ℕ) → Met s Start τ σ i → Onward (Both s τ σ) (Met s Start τ σ) i
+    on i m =
+        let c = b .counts i (m .by-variables) in
+        let r = v .counts (τ i) i (c .picked) (m .by-rows) (c .left) in
+        let w = r .right .whole -ℤ c .left .whole in
+        let a : Both s τ σ i (σ (τ i)) w = record {
+          by-variable = record {
+            picked = c .picked;
+            inside = r .picked;
+            a = c .left .whole;
+            b = r .right .whole;
+            left-is = c .left .is;
+            right-is = r .right .is;
+            weighs = refl;
+          };
+          by-row = record {
+            row = τ i;
+            inside = c .picked;
+            picked = refl;
+            target = r .picked;
+            a = c .left .whole;
+            b = r .right .whole;
+            left-is = c .left .is;
+            right-is = r .right .is;
+            weighs = refl;
+          };
+        } in
+        record { to = σ (τ i); weight = w; arc = a; kept = both-met s Start τ σ i (σ (τ i)) w m a }
+
+    walk : Endless (Both s τ σ) j (s .variables)
+    walk = endless (Met s Start τ σ) on (s .variables) j first
+
+    closed : Looped (Both s τ σ) (s .variables) j (walk .end) (s .variables) (walk .weight) → ⊥
+    closed l =
+        let m = walk-keep {B = Both s τ σ} (Met s Start τ σ) (λ j l w m a. (a, both-met s Start τ σ j l w m a)) first (l .way) .1 in
+        let p : Walk (Arc s τ) (l .at) (l .at) (l .loop-arcs) (l .loop-weight) =
+        walk-change (λ j l w a. a .by-variable) (l .loop) in
+        let q : Walk (RowArc s σ) (l .at) (l .at) (l .loop-arcs) (l .loop-weight) =
+        walk-change (λ j l w a. a .by-row) (l .loop) in
+        omega (
+          whole,
+          b .negative (l .loop-weight) (circuit (m .by-variables) (l .some) p),
+          v .nonnegative (l .loop-weight) (circuit (m .by-rows) (l .some) q),
+        )
+
+-- ---- weak duality
+
+-- A strategy that blocks from a start blocks from each of its variables alone.
+pub blocks-from : (s : System) (Start : ℕ → Type 0) (τ : Strategy) (j : ℕ) → Start j → Blocks s Start τ → Blocks s (λ i. i ≡ j) τ
+blocks-from s Start τ j h b = record {
+  counts = λ i r. b .counts i (reach-map wider (λ i l a. a) r);
+  negative = λ w c. b .negative w (circuit-map wider (λ i l a. a) (λ i l w a. a) c);
+}
+  where
+    wider : (i : ℕ) → i ≡ j → Start i
+    wider i e = rw e h
+
+-- The same of a strategy of rows that saves.
+pub saves-from : (s : System) (Start : ℕ → Type 0) (σ : Strategy) (j : ℕ) → Start j → Saves s Start σ → Saves s (λ i. i ≡ j) σ
+saves-from s Start σ j h v = record {
+  counts = λ i k b r l. v .counts i k b (reach-map wider (λ i l a. a) r) l;
+  nonnegative = λ w c. v .nonnegative w (circuit-map wider (λ i l a. a) (λ i l w a. a) c);
+}
+  where
+    wider : (i : ℕ) → i ≡ j → Start i
+    wider i e = rw e h
+
+-- A point that solves the system and is finite at a start variable excludes a strategy that blocks.
+pub weak : (s : System) (Start : ℕ → Type 0) (x : Point) (τ : Strategy) (j : ℕ) → Start j → j < s .variables → Finite (x j)
+    → Solves s x → Blocks s Start τ → ⊥
+weak s Start x τ j h k f v b = clash s (λ i. i ≡ j) τ (best s x) j refl k (blocks-from s Start τ j h b)
+    (solution-saves s x (λ i. i ≡ j) v (λ i e. (rw e k, rw e f)))
+
+-- No system has both a solution and a strategy that blocks.
+pub not-solved-and-blocked : (s : System) (Start : ℕ → Type 0) → Solution s Start → Blocked s Start → ⊥
+not-solved-and-blocked s Start v b =
+    weak s Start (v .point) (b .strategy) (v .at) (v .started) (v .inside) (v .finite) (v .solves) (b .blocks)

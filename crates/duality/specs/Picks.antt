@@ -1,0 +1,42 @@
+-- The two forms of a strategy. In the records 0 is no pick and i + 1 is row (or variable) i; in the theory a pick is
+-- the row (or variable) itself, and anything from their number on is no pick.
+use Prim.Native.Nat.{ℕ, zero, suc, _≤_, _<_}
+use mathlib.Core.Path.{_≡_}
+use mathlib.Core.Bool.{cond}
+use lib.Dec.{ltb}
+use lib.IntN.{ℤ, pos}
+use lib.Signed.{_≤ℤ_}
+use Rattle.definitions.specs.Problem.{Problem}
+use Rattle.definitions.specs.Certificate.{Strategy, Anchor, Circuit, RowLeads, RowArc}
+
+-- One pick of the records as one of the theory; `none` stands for no pick.
+unfoldable pub unpick : ℕ → ℕ → ℕ
+unpick none zero = none
+unpick none (suc i) = i
+
+-- The records' picks as a strategy of the theory, of `many` rows (or variables).
+unfoldable pub strategyOf : Strategy → ℕ → Strategy
+strategyOf picks many j = unpick many (picks j)
+
+-- A strategy of the theory as the records' picks.
+unfoldable pub picksFrom : Strategy → ℕ → Strategy
+picksFrom τ many j = cond (ltb (τ j) many) (suc (τ j)) 0
+
+-- The picks of the first `width` are none above `many`.
+abbrev pub NoneAbove : ℕ → ℕ → Strategy → Type 0
+NoneAbove many width picks = (j : ℕ) → j < width → picks j ≤ many
+
+-- The two forms say the same at the first `width`.
+pub record Joined (picks τ : Strategy) (many width : ℕ) : Type 0 where
+  pub read : (j i : ℕ) → j < width → picks j ≡ suc i → (τ j ≡ i) × (i < many)
+  pub show : (j : ℕ) → j < width → τ j < many → picks j ≡ suc (τ j)
+
+-- Some picks, none above `many`, that are accepted.
+pub record SomePicks (many width : ℕ) (Accepted : Strategy → Type 0) : Type 0 where
+  pub picks : Strategy
+  pub none-above : NoneAbove many width picks
+  pub accepted : Accepted picks
+
+-- Every reachable closed walk weighs zero or more when each arc by the objective weighs t more.
+abbrev pub AtLeastZero : Problem → Strategy → ℤ → Type 0
+AtLeastZero p picks t = (w : ℤ) → Circuit Anchor (RowLeads p picks) (RowArc p picks t) w → pos 0 ≤ℤ w
