@@ -4,3 +4,4 @@ pub mod Bytes
 pub mod Put
 pub mod Offset
 pub mod Refusals
+pub mod RoundTrip
