@@ -6,10 +6,7 @@ pub mod Bytes
 pub mod Put
 pub mod Offset
 pub mod Refusals
-<<<<<<< HEAD
+pub mod RoundTrip
 pub mod Bisection
 pub mod Examples
 pub mod Edges
-=======
-pub mod RoundTrip
->>>>>>> bytes
