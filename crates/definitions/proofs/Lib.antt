@@ -10,3 +10,4 @@ pub mod RoundTrip
 pub mod Bisection
 pub mod Examples
 pub mod Edges
+pub mod Programs
