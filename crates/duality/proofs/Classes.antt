@@ -5,6 +5,7 @@ use Prim.Native.Nat.{ℕ, zero, suc, _+_, _*_, _≤_, _<_}
 use mathlib.Core.Path.{_≡_, refl, sym, subst, ap, _∙_}
 use mathlib.Core.Logic.{_⊎_, inl, inr, ⊎-elim, _↔_}
 use native.Mathlib.Omega.{arith}
+use native.Mathlib.Nat.{le-refl}
 use lib.IntN.{ℤ, pos, negsuc, natAbs, _+ℤ_, _-ℤ_}
 use lib.Signed.{_≤ℤ_, _<ℤ_}
 use Rattle.definitions.specs.Problem as Problems
@@ -15,8 +16,10 @@ use Rattle.definitions.proofs.Values.{≼-refl, ≼-trans, ≼-antisym, infinit
 use Rattle.duality.specs.System.{Solution, Blocked, Saved, systemAt}
 use Rattle.duality.specs.Picks.{picksFrom, NoneAbove, SomePicks, strategyOf, AtLeastZero}
 use Rattle.duality.specs.Within.{Within}
+use Rattle.duality.specs.Classes.{HasOptimal}
+use Rattle.duality.proofs.Strong.{bound}
 use Rattle.duality.proofs.Picks.{picks-joined, picks-none-above, block-picks, save-picks, blocks-exactly, saves-exactly}
-use Rattle.duality.proofs.Numbers.{infeasible-below, below-infeasible, unbounded-above, above-unbounded}
+use Rattle.duality.proofs.Numbers.{infeasible-below, below-infeasible, unbounded-above, above-unbounded, within-some}
 use Rattle.duality.proofs.Rows.{saved-exactly, blocked-exactly, solution-decided}
 use Rattle.duality.proofs.Attain.{attainable-solution, solution-attainable, attainable-above}
 
@@ -106,11 +109,6 @@ optimal-accepted p s x f v = (
       { picks = c .picks; none-above = c .none-above; accepted = (c .accepted .picks-count, c .accepted .below-zero) })),
 )
 
--- An optimal value.
-pub record HasOptimal (p : Problem) : Type 0 where
-  pub at : ℤ
-  pub optimal : Optimal p at
-
 -- Attainable at t and not at t − k: some value between is optimal.
 descend : (p : Problem) (k : ℕ) (t : ℤ) → Attainable p t → (Attainable p (t -ℤ pos k) → ⊥) → HasOptimal p
 descend p zero t a d = let e : t -ℤ pos 0 ≡ t = omega (whole, minus-read t (pos 0)) in absurd (d (rw e a))
@@ -179,14 +177,6 @@ module _ (p : Problem) (L T : ℕ) (within : Within p L) (enough : 2 * (suc (p .
   pub unbounded-exactly : Unbounded p ↔ Attainable p (negsuc T)
   unbounded-exactly = (λ h. h (negsuc T), λ a. accepted-unbounded p (attainable-accepted a))
 
-  -- Infeasible exactly when class 3 accepts some picks.
-  pub infeasible-accepted : Infeasible p ↔ SomePicks (suc (p .m)) (suc (p .n)) (AcceptedInfeasible p)
-  infeasible-accepted = (λ h. unattainable-accepted (infeasible-exactly .0 h), accepted-infeasible p)
-
-  -- Unbounded exactly when class 2 accepts some row picks.
-  pub unbounded-accepted : Unbounded p ↔ SomePicks (suc (p .n)) (suc (p .m)) (AcceptedUnbounded p)
-  unbounded-accepted = (λ h. attainable-accepted (h (negsuc T)), accepted-unbounded p)
-
   -- An optimal value is at most T, and at least −T.
   optimal-not-above : (s : ℤ) → Optimal p s → pos T <ℤ s → ⊥
   optimal-not-above s o h =
@@ -209,17 +199,34 @@ module _ (p : Problem) (L T : ℕ) (within : Within p L) (enough : 2 * (suc (p .
       (λ (h : pos T <ℤ s). absurd (optimal-not-above s o h))
       (le-or-lt s (pos T))
 
-  -- One of the three classes holds.
-  pub classified : Infeasible p ⊎ (HasOptimal p ⊎ Unbounded p)
-  classified = go (attainable-decided p (pos T)) (attainable-decided p (negsuc T))
-    where
-      go : Attainable p (pos T) ⊎ (Attainable p (pos T) → ⊥) → Attainable p (negsuc T) ⊎ (Attainable p (negsuc T) → ⊥)
-          → Infeasible p ⊎ (HasOptimal p ⊎ Unbounded p)
-      go (inr d) r = inl (infeasible-exactly .1 d)
-      go (inl a) (inl b) = inr (inr (unbounded-exactly .1 b))
-      go (inl a) (inr d) =
-          let e : pos T -ℤ pos (suc (T + T)) ≡ negsuc T = omega (whole, minus-read (pos T) (pos (suc (T + T)))) in
-          inr (inl (descend p (suc (T + T)) (pos T) a (rw e d)))
+-- ---- for every problem, whatever its limit
+
+-- Infeasible exactly when class 3 accepts some picks.
+pub infeasible-accepted : (p : Problem) → Infeasible p ↔ SomePicks (suc (p .m)) (suc (p .n)) (AcceptedInfeasible p)
+infeasible-accepted p =
+    (λ h. unattainable-accepted p _ _ (within-some p) (le-refl _) (infeasible-never p .0 h _), accepted-infeasible p)
+
+-- Unbounded exactly when class 2 accepts some row picks.
+pub unbounded-accepted : (p : Problem) → Unbounded p ↔ SomePicks (suc (p .n)) (suc (p .m)) (AcceptedUnbounded p)
+unbounded-accepted p = (λ h. attainable-accepted p _ _ (within-some p) (le-refl _) (h _), accepted-unbounded p)
+
+-- One of the three classes holds.
+pub classified : (p : Problem) → Infeasible p ⊎ (HasOptimal p ⊎ Unbounded p)
+classified p = go (attainable-decided p (pos T)) (attainable-decided p (negsuc T))
+  where
+    L : ℕ
+    L = bound (systemAt p (pos 0))
+
+    T : ℕ
+    T = 2 * (suc (p .n) * L)
+
+    go : Attainable p (pos T) ⊎ (Attainable p (pos T) → ⊥) → Attainable p (negsuc T) ⊎ (Attainable p (negsuc T) → ⊥)
+        → Infeasible p ⊎ (HasOptimal p ⊎ Unbounded p)
+    go (inr d) r = inl (infeasible-exactly p L T (within-some p) (le-refl T) .1 d)
+    go (inl a) (inl b) = inr (inr (unbounded-exactly p L T (within-some p) (le-refl T) .1 b))
+    go (inl a) (inr d) =
+        let e : pos T -ℤ pos (suc (T + T)) ≡ negsuc T = omega (whole, minus-read (pos T) (pos (suc (T + T)))) in
+        inr (inl (descend p (suc (T + T)) (pos T) a (rw e d)))
 
 -- ---- no two of the classes hold
 

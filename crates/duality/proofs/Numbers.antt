@@ -14,12 +14,15 @@ use lib.Signed.{_≤ℤ_, _<ℤ_}
 use Rattle.definitions.specs.Problem.{Problem}
 use Rattle.definitions.specs.Certificate.{Strategy, Anchor, Reachable, Walk, stop, step, Circuit, UsesObjective, raise, ArcBy, Leads, Arc, ObjectiveArc, PicksCount, BelowZero, AcceptedInfeasible, RowLeads, RowArc, RowObjectiveArc, RowPicksCount, AcceptedUnbounded}
 use Rattle.definitions.proofs.Whole.{up, down, whole, plus-read, minus-read, neg-read, abs-read, abs-show}
-use Rattle.definitions.proofs.Raise.{raised, unraised}
+use Rattle.definitions.proofs.Tropical.{plus-zero}
+use Rattle.definitions.proofs.Raise.{raised, unraised, raise-zero}
 use Rattle.duality.specs.System.{systemAt, Blocks, Saves}
+use Rattle.duality.specs.Height.{Bounded}
 use Rattle.duality.specs.Picks.{strategyOf, NoneAbove, AtLeastZero}
 use Rattle.duality.specs.Within.{Within}
 use Rattle.duality.proofs.Walks.{Brief, brief}
 use Rattle.duality.proofs.Reach.{reach-keep, circuit-map, uses-map}
+use Rattle.duality.proofs.Strong.{bound, bounded}
 use Rattle.duality.proofs.Picks.{blocks-exactly, saves-exactly}
 use Rattle.duality.proofs.Objective.{By, ByObjective, weight-at, arc-at, Kind, circuit-moved, Picked, picked-kind, RowPicked, row-picked-kind}
 
@@ -228,3 +231,14 @@ unbounded-saves p L T picks within h above =
 -- With at most 32 variables T = 64 · L is enough.
 pub top-enough : (n L : ℕ) → suc n ≤ 32 → 2 * (suc n * L) ≤ 64 * L
 top-enough n L h = omega (arith, mul-le-mul-right L h)
+
+-- Every problem lies within some limit: its coefficients are finitely many.
+pub within-some : (p : Problem) → Within p (bound (systemAt p (pos 0)))
+unfolding systemAt
+within-some p = record {
+  left = λ i j a h k e. b .left i j a (omega arith) (omega arith) e;
+  right = λ i j a h k e. b .right i j a (omega arith) (omega arith) (rw (raise-zero, plus-zero) e);
+}
+  where
+    b : Bounded (systemAt p (pos 0)) (bound (systemAt p (pos 0)))
+    b = bounded (systemAt p (pos 0))

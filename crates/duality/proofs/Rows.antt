@@ -9,7 +9,7 @@ use native.Mathlib.Decide.{ℕ-discrete}
 use Rattle.definitions.specs.Tropical.{Finite}
 use Rattle.definitions.specs.Certificate.{Strategy, Anchor}
 use Rattle.duality.specs.System.{System, Solution, Blocked, Saves, Saved}
-use Rattle.duality.proofs.Weak.{best, solution-saves, clash, saves-from, not-solved-and-blocked}
+use Rattle.duality.proofs.Weak.{best, best-induced, solution-saves, clash, saves-from, not-solved-and-blocked}
 use Rattle.duality.proofs.Strong.{strong-start, strong-anchor}
 
 -- Where a strategy of rows saves from a start with a variable in it, there is a solution.
@@ -29,7 +29,7 @@ saves-solution s Start σ j h k v = ⊎-elim
 pub solution-saved : (s : System) → Solution s Anchor → Saved s Anchor
 solution-saved s v = record {
   strategy = best s (v .point);
-  saves = solution-saves s (v .point) Anchor (v .solves) (λ j e. let d : j ≡ v .at = cc in (rw d (v .inside), rw d (v .finite)));
+  saves = solution-saves s (v .point) (best s (v .point)) (v .solves) (best-induced s (v .point)) Anchor (λ j e. let d : j ≡ v .at = cc in (rw d (v .inside), rw d (v .finite)));
 }
 
 -- Exactly when some strategy of rows saves from variable 0, there is a solution that is finite there.
