@@ -1,20 +1,20 @@
 -- Attainable at t, in the words of the system at t: some feasible point has a value of at most t exactly when the system
 -- at t has a solution that is finite at variable 0. Such a solution is moved so that variable 0 stands at 0.
-use Prim.Native.Nat.{ℕ, zero, suc, _≤_, _<_}
-use mathlib.Core.Path.{_≡_, refl, sym, subst, ap, _∙_}
-use mathlib.Core.Logic.{_⊎_, inl, inr, ⊎-elim, _↔_}
+use Prim.Native.Nat.{ℕ, suc, _<_}
+use mathlib.Core.Path.{_≡_, refl, sym, ap, _∙_}
+use mathlib.Core.Logic.{_↔_}
 use native.Mathlib.Omega.{arith}
 use native.Mathlib.Decide.{ℕ-discrete}
-use lib.IntN.{ℤ, pos, negℤ, _+ℤ_, _-ℤ_, +ℤ-invr}
+use lib.IntN.{ℤ, pos, negℤ, +ℤ-invr}
 use lib.Signed.{_≤ℤ_}
-use Rattle.definitions.specs.Tropical.{Trop, fin, plus, largest, _⊑_, Finite}
+use Rattle.definitions.specs.Tropical.{Trop, fin, plus, largest, _⊑_}
 use Rattle.definitions.specs.Problem as Problems
-use Rattle.definitions.specs.Problem.{Problem, Point, side, Keeps, Feasible, value, minus, Attainable, _≼_, between}
+use Rattle.definitions.specs.Problem.{Problem, Point, side, Keeps, Feasible, value, Attainable, _≼_, between}
 use Rattle.definitions.specs.Certificate.{Anchor, raise}
 use Rattle.definitions.proofs.Tropical.{plus-comm, plus-assoc, plus-zero, plus-is, plus-mono, ⊑-refl, largest-ext, largest-plus}
 use Rattle.definitions.proofs.Values.{≼-trans, minus-raised, raised-minus}
 use Rattle.definitions.proofs.Raise.{raised, unraised}
-use Rattle.duality.specs.System.{System, sideOf, Solves, Solution, systemAt}
+use Rattle.duality.specs.System.{System, Solves, Solution, systemAt}
 
 -- ---- shifting
 

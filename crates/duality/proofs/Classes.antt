@@ -2,19 +2,19 @@
 -- attainable at no t, which the trial at T decides; unbounded is attainable at every t, which the trial at −T − 1
 -- decides. Exactly one of the three holds, and each is shown by some picks that the checker's list accepts.
 use Prim.Native.Nat.{ℕ, zero, suc, _+_, _*_, _≤_, _<_}
-use mathlib.Core.Path.{_≡_, refl, sym, subst, ap, _∙_}
+use mathlib.Core.Path.{_≡_}
 use mathlib.Core.Logic.{_⊎_, inl, inr, ⊎-elim, _↔_}
 use native.Mathlib.Omega.{arith}
 use native.Mathlib.Nat.{le-refl}
-use lib.IntN.{ℤ, pos, negsuc, natAbs, _+ℤ_, _-ℤ_}
+use lib.IntN.{ℤ, pos, negsuc, natAbs, _-ℤ_}
 use lib.Signed.{_≤ℤ_, _<ℤ_}
 use Rattle.definitions.specs.Problem as Problems
-use Rattle.definitions.specs.Problem.{Problem, Point, Feasible, value, plus-infinity, _≼_, Attainable, Optimal, Unbounded, Infeasible}
-use Rattle.definitions.specs.Certificate.{Strategy, Anchor, PicksCount, BelowZero, AcceptedOptimal, AcceptedInfeasible, RowPicksCount, AcceptedUnbounded}
-use Rattle.definitions.proofs.Whole.{up, down, whole, plus-read, minus-read, abs-read, abs-show, le-or-lt}
+use Rattle.definitions.specs.Problem.{Problem, Point, Feasible, value, _≼_, Attainable, Optimal, Unbounded, Infeasible}
+use Rattle.definitions.specs.Certificate.{PicksCount, BelowZero, AcceptedOptimal, AcceptedInfeasible, RowPicksCount, AcceptedUnbounded}
+use Rattle.definitions.proofs.Whole.{whole, minus-read, abs-show, le-or-lt}
 use Rattle.definitions.proofs.Values.{≼-refl, ≼-trans, ≼-antisym, infinite-not-below, least-or-below, not-least-and-below, infinite-or-bounded, whole-below}
-use Rattle.duality.specs.System.{Solution, Blocked, Saved, systemAt}
-use Rattle.duality.specs.Picks.{picksFrom, NoneAbove, SomePicks, strategyOf, AtLeastZero}
+use Rattle.duality.specs.System.{systemAt}
+use Rattle.duality.specs.Picks.{picksFrom, SomePicks, strategyOf, AtLeastZero}
 use Rattle.duality.specs.Within.{Within}
 use Rattle.duality.specs.Classes.{HasOptimal}
 use Rattle.duality.proofs.Strong.{bound}

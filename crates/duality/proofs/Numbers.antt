@@ -3,14 +3,13 @@
 -- at most n + 1 arcs that uses it; each arc weighs within ±2L, so that at T it weighs at least zero, and at −T − 1 below
 -- zero. A closed walk that does not use the objective weighs the same at every t (Objective.antt). Both ends are one
 -- argument: arcs by any choice of rows, and weights under a sign.
-use Prim.Native.Nat.{ℕ, zero, suc, _+_, _*_, _≤_, _<_}
+use Prim.Native.Nat.{ℕ, suc, _+_, _*_, _≤_, _<_}
 use mathlib.Core.Path.{_≡_, refl}
 use mathlib.Core.Logic.{_↔_}
 use native.Mathlib.Omega.{arith}
 use native.Mathlib.Decide.{ℕ-discrete}
 use native.Mathlib.Nat.{mul-le-mul-right}
 use lib.IntN.{ℤ, pos, negsuc, negℤ, natAbs, _+ℤ_, _-ℤ_, negℤ-+ℤ}
-use lib.Signed.{_≤ℤ_, _<ℤ_}
 use Rattle.definitions.specs.Problem.{Problem}
 use Rattle.definitions.specs.Certificate.{Strategy, Anchor, Reachable, Walk, stop, step, Circuit, UsesObjective, raise, ArcBy, Leads, Arc, ObjectiveArc, PicksCount, BelowZero, AcceptedInfeasible, RowLeads, RowArc, RowObjectiveArc, RowPicksCount, AcceptedUnbounded}
 use Rattle.definitions.proofs.Whole.{up, down, whole, plus-read, minus-read, neg-read, abs-read, abs-show}

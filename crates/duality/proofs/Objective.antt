@@ -1,7 +1,7 @@
 -- Arcs by the objective. A closed walk that uses it is an arc by the objective and a walk back; one that does not weighs
 -- the same at every t. Said once for both kinds of strategies: arcs by any choice C of rows, where C i j l says that row
 -- i may be used from variable j to variable l.
-use Prim.Native.Nat.{ℕ, zero, suc, _+_, _≤_, _<_}
+use Prim.Native.Nat.{ℕ, suc, _+_, _≤_}
 use mathlib.Core.Path.{_≡_, refl, subst}
 use mathlib.Core.Logic.{_⊎_, inl, inr, ⊎-elim}
 use native.Mathlib.Omega.{arith}

@@ -1,7 +1,7 @@
 -- Reachable variables and reachable closed walks: both are carried from one kind of arcs to another by a property of
 -- variables that arcs preserve, and what a walk leads to from a reachable variable is reachable.
-use Prim.Native.Nat.{ℕ, zero, suc, _+_, _-_, _≤_, _<_}
-use mathlib.Core.Path.{_≡_, refl, sym}
+use Prim.Native.Nat.{ℕ, suc, _-_, _<_}
+use mathlib.Core.Path.{_≡_, refl}
 use native.Mathlib.Omega.{arith}
 use lib.IntN.{ℤ, pos, _+ℤ_}
 use lib.Signed.{_≤ℤ_}

@@ -1,12 +1,10 @@
 -- Strategies of rows: a system has a solution exactly when some strategy of rows saves. A solution induces one
 -- (Weak.antt); and where one saves, nothing blocks, so that by strong duality there is a solution. With it the other
 -- corollaries of the two dualities: whether there is a solution is decided, and where there is none something blocks.
-use Prim.Native.Nat.{ℕ, zero, suc, _≤_, _<_}
-use mathlib.Core.Path.{_≡_, refl, sym, subst}
+use Prim.Native.Nat.{ℕ, _<_}
+use mathlib.Core.Path.{_≡_, refl}
 use mathlib.Core.Logic.{_⊎_, inl, inr, ⊎-elim, _↔_}
-use native.Mathlib.Omega.{arith}
 use native.Mathlib.Decide.{ℕ-discrete}
-use Rattle.definitions.specs.Tropical.{Finite}
 use Rattle.definitions.specs.Certificate.{Strategy, Anchor}
 use Rattle.duality.specs.System.{System, Solution, Blocked, Saves, Saved}
 use Rattle.duality.proofs.Weak.{best, best-induced, solution-saves, clash, saves-from, not-solved-and-blocked}

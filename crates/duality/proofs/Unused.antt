@@ -6,7 +6,7 @@ use native.Mathlib.Omega.{arith}
 use lib.IntN.{ℤ, pos}
 use Rattle.definitions.specs.Tropical.{Finite}
 use Rattle.definitions.specs.Problem.{Problem, Point}
-use Rattle.definitions.specs.Certificate.{Strategy, Anchor, Reachable, start, onward, Circuit, UsesObjective, Leads, Arc, ObjectiveArc, HasPick, PicksCount, BelowZero, AcceptedOptimal, AcceptedInfeasible, RowLeads, RowArc, RowObjectiveArc, RowHasPick, RowPicksCount, AcceptedUnbounded}
+use Rattle.definitions.specs.Certificate.{Strategy, Anchor, Reachable, start, onward, Leads, Arc, ObjectiveArc, PicksCount, BelowZero, AcceptedOptimal, AcceptedInfeasible, RowLeads, RowArc, RowObjectiveArc, RowPicksCount, AcceptedUnbounded}
 use Rattle.duality.specs.Picks.{AgreeReached, AgreeInUse}
 use Rattle.duality.proofs.Reach.{reach-keep, circuit-keep, uses-keep}
 
@@ -25,16 +25,18 @@ module _ {p : Problem} {picks picks′ : Strategy} (agree : AgreeReached p picks
   arc : (t : ℤ) (j l : ℕ) (w : ℤ) → Reachable Anchor (Leads p picks) j → Arc p picks′ t j l w
       → Arc p picks t j l w × Reachable Anchor (Leads p picks) l
   arc t j l w r a =
-      let d : picks j ≡ suc (a .row) = cc (agree j r) in
-      (record { row = a .row; picked = d; inside = a .inside; by = a .by }
-      , onward r (record { row = a .row; picked = d; inside = a .inside; right = record { whole = a .by .b; is = a .by .right-is } }))
+      let d : picks j ≡ suc (a .row) = cc (agree j r) in (
+        record { row = a .row; picked = d; inside = a .inside; by = a .by },
+        onward r (record { row = a .row; picked = d; inside = a .inside; right = record { whole = a .by .b; is = a .by .right-is } }),
+      )
 
   objective : (j l : ℕ) (w : ℤ) → Reachable Anchor (Leads p picks) j → ObjectiveArc p picks′ j l w
       → ObjectiveArc p picks j l w × Reachable Anchor (Leads p picks) l
   objective j l w r a =
-      let d : picks j ≡ suc (p .m) = cc (agree j r) in
-      (record { picked = d; inside = a .inside; by = a .by }
-      , onward r (record { row = p .m; picked = d; inside = a .inside; right = record { whole = a .by .b; is = a .by .right-is } }))
+      let d : picks j ≡ suc (p .m) = cc (agree j r) in (
+        record { picked = d; inside = a .inside; by = a .by },
+        onward r (record { row = p .m; picked = d; inside = a .inside; right = record { whole = a .by .b; is = a .by .right-is } }),
+      )
 
   -- Picks that count still do.
   pub count-unused : PicksCount p picks → PicksCount p picks′
@@ -82,9 +84,10 @@ module _ {p : Problem} {picks picks′ : Strategy} (agree : AgreeInUse p picks p
       → RowArc p picks t j l w × Reachable Anchor (RowLeads p picks) l
   row-arc t j l w r a =
       let f : Finite (p .left (a .row) j) = record { whole = a .by .a; is = a .by .left-is } in
-      let d : picks (a .row) ≡ suc l = cc (agree (a .row) j (a .inside) r f) in
-      (record { row = a .row; inside = a .inside; picked = d; by = a .by }
-      , onward r (record { row = a .row; inside = a .inside; left = f; picked = d }))
+      let d : picks (a .row) ≡ suc l = cc (agree (a .row) j (a .inside) r f) in (
+        record { row = a .row; inside = a .inside; picked = d; by = a .by },
+        onward r (record { row = a .row; inside = a .inside; left = f; picked = d }),
+      )
 
   row-objective : (j l : ℕ) (w : ℤ) → Reachable Anchor (RowLeads p picks) j → RowObjectiveArc p picks′ j l w
       → RowObjectiveArc p picks j l w × Reachable Anchor (RowLeads p picks) l

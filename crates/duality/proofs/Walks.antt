@@ -1,15 +1,15 @@
 -- Walks along any arcs: joined, mapped, folded, and made short. A walk of at least N arcs among N variables repeats
 -- one (pigeonhole), so it contains a closed walk of 1 to N arcs; taking it out leaves a walk with the same ends. Where
 -- closed walks gain nothing, every walk has one with the same ends, fewer than N arcs and at least its weight.
-use Prim.Native.Nat.{ℕ, zero, suc, _+_, _-_, _≤_, _<_}
-use mathlib.Core.Path.{_≡_, refl, sym, subst, ap}
-use mathlib.Core.Logic.{_⊎_, inl, inr, ⊎-elim}
+use Prim.Native.Nat.{ℕ, zero, suc, _+_, _≤_, _<_}
+use mathlib.Core.Path.{_≡_, refl, sym, subst}
+use mathlib.Core.Logic.{⊎-elim}
 use native.Mathlib.Omega.{arith}
-use lib.IntN.{ℤ, pos, negℤ, _+ℤ_, _-ℤ_, +ℤ-assoc, +ℤ-idl, negℤ-+ℤ}
-use lib.Signed.{_≤ℤ_, _<ℤ_, ≤ℤ-refl}
+use lib.IntN.{ℤ, pos, _+ℤ_, +ℤ-assoc, +ℤ-idl}
+use lib.Signed.{_≤ℤ_, ≤ℤ-refl}
 use Rattle.definitions.specs.Certificate.{Walk, stop, step}
-use Rattle.definitions.proofs.Whole.{up, down, whole, plus-read, nat-le-or-lt}
-use Rattle.duality.proofs.Pigeonhole.{Repeat, pigeonhole}
+use Rattle.definitions.proofs.Whole.{whole, plus-read, nat-le-or-lt}
+use Rattle.duality.proofs.Pigeonhole.{pigeonhole}
 
 -- Arcs lead to the variables below N.
 pub record Inside (A : ℕ → ℕ → ℤ → Type 0) (N : ℕ) : Type 0 where

@@ -3,18 +3,18 @@
 -- its largest, so that along its arcs w + x l ≥ x j, and closed walks weigh zero or more. A blocking τ and a saving σ
 -- clash: from the start follow the row that τ picks and the variable that this row picks in σ; after as many steps as
 -- there are variables one repeats, and that closed walk would weigh both below zero and zero or more.
-use Prim.Native.Nat.{ℕ, suc, _+_, _≤_, _<_}
+use Prim.Native.Nat.{ℕ, _<_}
 use mathlib.Core.Path.{_≡_, refl, sym, subst}
 use mathlib.Core.Logic.{_⊎_, inl, inr, ⊎-elim}
 use native.Mathlib.Omega.{arith}
 use lib.IntN.{ℤ, pos, _+ℤ_, _-ℤ_}
-use lib.Signed.{_≤ℤ_, _<ℤ_}
-use Rattle.definitions.specs.Tropical.{Trop, bot, fin, plus, largest, _⊑_, Finite}
+use lib.Signed.{_≤ℤ_}
+use Rattle.definitions.specs.Tropical.{Trop, bot, fin, plus, _⊑_, Finite}
 use Rattle.definitions.specs.Problem.{Point}
 use Rattle.definitions.specs.Certificate.{Strategy, Reachable, start, onward, Walk, Circuit}
 use Rattle.definitions.proofs.Whole.{whole, plus-read, minus-read}
-use Rattle.definitions.proofs.Tropical.{Attains, largest-above, largest-attained, ⊑-trans, ⊑-of-eq, finite-above, finite-fin, fin-below, fin-injective, not-finite-bot, plus-is, plus-parts}
-use Rattle.duality.specs.System.{System, sideOf, Solves, Solution, Leads, Arc, HasPick, Blocks, Blocked, RowLeads, RowArc, RowHasPick, Saves}
+use Rattle.definitions.proofs.Tropical.{Attains, largest-above, largest-attained, ⊑-trans, ⊑-of-eq, finite-above, fin-below, fin-injective, not-finite-bot, plus-is, plus-parts}
+use Rattle.duality.specs.System.{System, sideOf, Solves, Solution, Leads, Arc, Blocks, Blocked, RowLeads, RowArc, RowHasPick, Saves}
 use Rattle.duality.specs.Induced.{Attaining, Induced}
 use Rattle.duality.proofs.Walks.{Inside, Looped, looped, Onward, Endless, endless, walk-keep, walk-change}
 use Rattle.duality.proofs.Reach.{reach-keep, reach-map, circuit-map, circuit, lower-walk}
