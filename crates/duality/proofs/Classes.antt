@@ -3,7 +3,7 @@
 -- decides. Exactly one of the three holds, and each is shown by some picks that the checker's list accepts.
 use Prim.Native.Nat.{ℕ, zero, suc, _+_, _*_, _≤_, _<_}
 use mathlib.Core.Path.{_≡_}
-use mathlib.Core.Logic.{_⊎_, inl, inr, ⊎-elim, _↔_}
+use mathlib.Core.Logic.{_⊎_, inl, inr, ⊎-elim, _↔_, Iff·trans}
 use native.Mathlib.Omega.{arith}
 use native.Mathlib.Nat.{le-refl}
 use lib.IntN.{ℤ, pos, negsuc, natAbs, _-ℤ_}
@@ -81,6 +81,11 @@ least-exactly p s = (
   λ d y f. ⊎-elim (λ h. h) (λ h. absurd (d (record { point = y; feasible = f; within = h }))) (least-or-below s (value p y)),
 )
 
+-- A feasible point with a value of at most s, where s − 1 is not attainable, has value s.
+pub value-exactly : (p : Problem) (s : ℤ) (x : Point) → Feasible p x → value p x ≼ Problems.whole s
+    → (Attainable p (s -ℤ pos 1) → ⊥) → value p x ≡ Problems.whole s
+value-exactly p s x f v d = ≼-antisym v (least-exactly p s .1 d x f)
+
 -- Optimal s exactly when s is attainable and s − 1 is not.
 pub optimal-exactly : (p : Problem) (s : ℤ) → Optimal p s ↔ (Attainable p s × (Attainable p (s -ℤ pos 1) → ⊥))
 optimal-exactly p s = (
@@ -88,26 +93,40 @@ optimal-exactly p s = (
     record { point = o .point; feasible = o .feasible; within = rw (o .value-is) (≼-refl (Problems.whole s)) },
     least-exactly p s .0 (o .least),
   ),
-  λ c. let least = least-exactly p s .1 (c .1) in record {
+  λ c. record {
     point = c .0 .point;
     feasible = c .0 .feasible;
-    value-is = ≼-antisym (c .0 .within) (least (c .0 .point) (c .0 .feasible));
-    least = least;
+    value-is = value-exactly p s (c .0 .point) (c .0 .feasible) (c .0 .within) (c .1);
+    least = least-exactly p s .1 (c .1);
   },
 )
+
+-- Every feasible point has a value of at least s exactly when some picks count and leave closed walks below zero at s − 1.
+pub least-by-picks : (p : Problem) (s : ℤ) → ((y : Point) → Feasible p y → Problems.whole s ≼ value p y)
+    ↔ SomePicks (suc (p .m)) (suc (p .n)) (λ picks. PicksCount p picks × BelowZero p picks (s -ℤ pos 1))
+least-by-picks p s = Iff·trans (least-exactly p s) (unattainable-exactly p (s -ℤ pos 1))
 
 -- A feasible point of value s is least exactly when some picks make the list of class 1.
 pub optimal-accepted : (p : Problem) (s : ℤ) (x : Point) → Feasible p x → value p x ≡ Problems.whole s
     → ((y : Point) → Feasible p y → Problems.whole s ≼ value p y) ↔ SomePicks (suc (p .m)) (suc (p .n)) (AcceptedOptimal p s x)
 optimal-accepted p s x f v = (
-  λ least. let c = unattainable-exactly p (s -ℤ pos 1) .0 (least-exactly p s .0 least) in record {
+  λ least. let c = least-by-picks p s .0 least in record {
     picks = c .picks;
     none-above = c .none-above;
     accepted = record { feasible = f; value-is = v; picks-count = c .accepted .0; below-zero = c .accepted .1 };
   },
-  λ c. least-exactly p s .1 (unattainable-exactly p (s -ℤ pos 1) .1 (record
-      { picks = c .picks; none-above = c .none-above; accepted = (c .accepted .picks-count, c .accepted .below-zero) })),
+  λ c. least-by-picks p s .1 (record
+      { picks = c .picks; none-above = c .none-above; accepted = (c .accepted .picks-count, c .accepted .below-zero) }),
 )
+
+-- Where class 1 accepts, s is optimal.
+pub accepted-optimal : (p : Problem) (s : ℤ) (x : Point) → SomePicks (suc (p .m)) (suc (p .n)) (AcceptedOptimal p s x) → Optimal p s
+accepted-optimal p s x c = record {
+  point = x;
+  feasible = c .accepted .feasible;
+  value-is = c .accepted .value-is;
+  least = optimal-accepted p s x (c .accepted .feasible) (c .accepted .value-is) .1 c;
+}
 
 -- Attainable at t and not at t − k: some value between is optimal.
 descend : (p : Problem) (k : ℕ) (t : ℤ) → Attainable p t → (Attainable p (t -ℤ pos k) → ⊥) → HasOptimal p
