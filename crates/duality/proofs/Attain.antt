@@ -89,14 +89,16 @@ attainable-solution p t a = record {
   finite = record { whole = pos 0; is = a .feasible .anchored };
 }
 
--- A point moved so that variable 0 stands at 0.
+-- A point moved down by u.
 unfoldable pub moved : Point → ℤ → Point
 moved x u j = plus (x j) (fin (negℤ u))
 
+-- Moved by the number at variable 0, it stands at 0 there.
 pub moved-anchored : (x : Point) (u : ℤ) → x 0 ≡ fin u → moved x u 0 ≡ fin (pos 0)
 unfolding moved
 moved-anchored x u e = plus-is e refl ∙ ap fin (+ℤ-invr u)
 
+-- It solves what the point solved.
 pub moved-solves : (s : System) (x : Point) (u : ℤ) → Solves s x → Solves s (moved x u)
 unfolding moved
 moved-solves s x u h = solves-moved s x (fin (negℤ u)) h

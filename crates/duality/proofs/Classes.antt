@@ -249,13 +249,15 @@ classified p = go (attainable-decided p (pos T)) (attainable-decided p (negsuc T
 
 -- ---- no two of the classes hold
 
--- An infeasible problem is not unbounded, and no value of it is optimal; an unbounded one has no optimal value.
+-- An infeasible problem is not unbounded.
 pub infeasible-not-unbounded : (p : Problem) → Infeasible p → Unbounded p → ⊥
 infeasible-not-unbounded p h u = infeasible-never p .0 h (pos 0) (u (pos 0))
 
+-- An infeasible problem has no optimal value.
 pub infeasible-not-optimal : (p : Problem) → Infeasible p → HasOptimal p → ⊥
 infeasible-not-optimal p h o = infeasible-never p .0 h (o .at) (optimal-exactly p (o .at) .0 (o .optimal) .0)
 
+-- An unbounded problem has none either.
 pub unbounded-not-optimal : (p : Problem) → Unbounded p → HasOptimal p → ⊥
 unbounded-not-optimal p u o = optimal-exactly p (o .at) .0 (o .optimal) .1 (u (o .at -ℤ pos 1))
 

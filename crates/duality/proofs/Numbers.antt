@@ -152,7 +152,7 @@ picked-choice : (p : Problem) (picks : Strategy) → NoneAbove (suc (p .m)) (suc
 picked-choice p picks h = record { to = λ i j l c. c .1; row = λ i j l k c. omega (arith, h j (omega arith)) }
 
 -- Reachable variables are inside.
-reached-inside : (p : Problem) (picks : Strategy) (j : ℕ) → Reachable Anchor (Leads p picks) j → j ≤ p .n
+pub reached-inside : (p : Problem) (picks : Strategy) (j : ℕ) → Reachable Anchor (Leads p picks) j → j ≤ p .n
 reached-inside p picks j r =
     reach-keep {L′ = Leads p picks} (λ j. j ≤ p .n) (λ j e. (e, omega arith)) (λ j l _ a. (a, a .inside)) r .1
 
@@ -191,7 +191,8 @@ infeasible-blocks p L T picks within h above =
 row-picked-choice : (p : Problem) (picks : Strategy) → NoneAbove (suc (p .n)) (suc (p .m)) picks → Choice p (RowPicked p picks)
 row-picked-choice p picks h = record { to = λ i j l c. omega (arith, h i (omega arith)); row = λ i j l k c. c .0 }
 
-row-reached-inside : (p : Problem) (picks : Strategy) → NoneAbove (suc (p .n)) (suc (p .m)) picks
+-- The same by strategies of rows.
+pub row-reached-inside : (p : Problem) (picks : Strategy) → NoneAbove (suc (p .n)) (suc (p .m)) picks
     → (j : ℕ) → Reachable Anchor (RowLeads p picks) j → j ≤ p .n
 row-reached-inside p picks h j r = reach-keep {L′ = RowLeads p picks} (λ j. j ≤ p .n) (λ j e. (e, omega arith))
     (λ j l _ a. (a, omega (arith, h (a .row) (omega (arith, a .inside)), a .picked))) r .1
