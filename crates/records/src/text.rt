@@ -2,13 +2,13 @@
 ghost use mathlib.Core.Path.{_≡_};
 ghost use Prim.Native.Nat.{_+_, _≤_, _<_};
 ghost use lib.ListN.{length};
-ghost use Rattle.definitions.specs.Bytes.{put};
 ghost use Rattle.definitions.specs.Programs.{decimal};
+ghost use Rattle.records.specs.Text.{Putting};
 
 // Puts `text` from place `at` on, and gives the place after it.
 fn copy(buf: &mut [u8], at: usize, text: &[u8]) -> usize
     requires { ⌜ at + length (now text) ≤ length (now buf) ⌝ }
-    ensures { λ r. ⌜ (r ≡ at + length (now (text .entry))) × (now (buf .exit) ≡ put (now (buf .entry)) at (now (text .entry))) ⌝ }
+    ensures { λ r. ⌜ Putting (now (buf .entry)) at (now (text .entry)) (now (buf .exit)) r ⌝ }
 {
     let mut i = 0;
     let mut next = at;
@@ -23,7 +23,7 @@ fn copy(buf: &mut [u8], at: usize, text: &[u8]) -> usize
 // Puts a number in decimal from place `at` on, and gives the place after it.
 fn put_decimal(buf: &mut [u8], at: usize, number: u64) -> usize
     requires { ⌜ at + length (decimal number) ≤ length (now buf) ⌝ }
-    ensures { λ r. ⌜ (r ≡ at + length (decimal number)) × (now (buf .exit) ≡ put (now (buf .entry)) at (decimal number)) ⌝ }
+    ensures { λ r. ⌜ Putting (now (buf .entry)) at (decimal number) (now (buf .exit)) r ⌝ }
 {
     if number < 10 {
         buf[at] = digit(number);

@@ -10,7 +10,7 @@ use Rattle.records.proofs.text.+put_decimal.{statement}
 use Rattle.records.proofs.text.+put_decimal.Tie.{close}
 
 abbrev μ-put-decimal : Measures 1 put-decimal-kinds.ps ℕ
-μ-put-decimal κs a = ?
+μ-put-decimal κs a = a .1 .1 .0
 
 abbrev put-decimal-at : ℕ → In 1 put-decimal-kinds.ps
 put-decimal-at t =

@@ -1,18 +1,21 @@
 use borrow.Author.Needs.{needs}
+use Prim.Native.Nat.{_-_}
+use lib.ListN.{length}
+use Rattle.records.proofs.Copy.{Copied, copied-none, copied-more, copied-all}
 use Rattle.records.proofs.text.copy.Statement.{statement}
 use Rattle.records.proofs.text.copy.Tie as tie
 use Rattle.records.proofs.text.copy.Reads as reads
 use Rattle.records.proofs.text.copy.Lts as lts
 
 abbrev Inv-loop : tie.InvT-loop
-Inv-loop buf₀ at text i₀ next₀ buf i next = ?
+Inv-loop buf₀ at text i₀ next₀ buf i next = Copied buf₀ at text buf i next
 
 abbrev μ-loop : tie.MeasureT-loop
-μ-loop buf₀ at text i₀ next₀ buf i next = ?
+μ-loop buf₀ at text i₀ next₀ buf i next = length text - i
 
 -- src/text.rt:15:5
 loop-holds : tie.Need-loop-holds Inv-loop μ-loop
-loop-holds c = search needs
+loop-holds c = copied-none _ _ _
 
 -- src/text.rt:16:21
 shared-slice-read-buf : tie.Need-shared-slice-read-buf Inv-loop μ-loop
@@ -36,7 +39,7 @@ loop-less c = search needs
 
 -- src/text.rt:15:5
 loop-again : tie.Need-loop-again Inv-loop μ-loop
-loop-again c = search needs
+loop-again c = search copied-more
 
 -- src/text.rt:9:1
 same-length : tie.Need-same-length Inv-loop μ-loop
@@ -44,7 +47,7 @@ same-length c = search needs
 
 -- src/text.rt:9:1
 returns : tie.Need-returns Inv-loop μ-loop
-returns c = search needs
+returns c = search copied-all
 
 pub copy-spec : {M : Type 1} → statement M
 copy-spec =
