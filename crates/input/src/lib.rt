@@ -1,0 +1,50 @@
+// Standard input for both programs: the first 20,000 bytes are kept, all of them are counted.
+ghost use Prim.Native.Nat.{_≤_};
+ghost use lib.ListN.{length};
+use libc::STDIN_FILENO;
+
+// No outcome changes from here on: a length field is below 2³².
+const ENOUGH: u64 = 8589934592;
+
+// Copies the first `n` bytes of `buf` into `kept` from place `size` on, as far as they fit.
+fn keep(kept: &mut [u8; 20000], size: u64, buf: &[u8; 4096], n: usize)
+    requires { ⌜ n ≤ 4096 ⌝ }
+{
+    let mut i = 0;
+    let mut at = size;
+    while i < n {
+        if at >= 20000 {
+            return;
+        }
+        let place = at as usize;
+        kept[place] = buf[i];
+        at += 1;
+        i += 1;
+    }
+}
+
+// Reads once, keeps what fits, and gives how many bytes came; 0 at the end of the input, or where reading failed.
+fn read_some(kept: &mut [u8; 20000], size: u64) -> u64
+    ensures { λ r. ⌜ r ≤ 4096 ⌝ }
+{
+    let mut buf = [0u8; 4096];
+    let got = libc::read(STDIN_FILENO, &mut buf);
+    let n = io::count(got, &buf);
+    keep(kept, size, &buf, n);
+    n as u64
+}
+
+// Reads standard input to its end, keeps its first 20,000 bytes, and gives its size. A failed read counts as the end.
+pub fn read_all(kept: &mut [u8; 20000]) -> u64
+    ensures { λ r. ⌜ r ≤ 8589938688 ⌝ }
+{
+    let mut size = 0;
+    while size < ENOUGH {
+        let n = read_some(kept, size);
+        if n == 0 {
+            return size;
+        }
+        size += n;
+    }
+    size
+}
