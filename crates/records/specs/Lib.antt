@@ -1,0 +1,2 @@
+pub mod ProblemHeader
+pub mod Tables

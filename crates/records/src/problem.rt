@@ -1,0 +1,86 @@
+// The problem record: its header judged, its leads judged, and its leads read into two lent tables.
+ghost use mathlib.Core.Path.{_≡_};
+ghost use mathlib.Core.List.{map};
+ghost use Prim.Native.Nat.{_+_, _*_, _-_, _<_, _≤_};
+ghost use lib.ListN.{length};
+ghost use Rattle.definitions.specs.Limits.{lead-limit};
+ghost use Rattle.definitions.specs.Bytes.{tropField, numsAt, all, blank-or-within};
+ghost use Rattle.definitions.specs.Offset.{off};
+ghost use Rattle.definitions.specs.ProblemRecord.{problemSize};
+ghost use Rattle.records.specs.ProblemHeader.{headerBy, headerOf, judged, countsJudged};
+ghost use Rattle.records.specs.Tables.{leadAt, rowCell, Filled, Framed, Tabled, ProblemRead};
+
+use crate::bytes::{short_at, word_at, word_in};
+use crate::limits::{
+    FULL, LEAD_BYTES, LEAD_LIMIT, LENGTH_BYTES, MOST_INEQUALITIES, MOST_VARIABLES, OFFSET,
+    PROBLEM_HEADER, STRIDE, TABLE,
+};
+
+// What a header answers: n and m, or the number of the refusal.
+pub enum Header {
+    Fields(usize, usize),
+    Refused(usize),
+}
+
+// The size of a problem record, from n and m within their limits.
+fn problem_size(n: usize, m: usize) -> usize
+    requires { ⌜ (n ≤ 31) × (m ≤ 63) ⌝ }
+    ensures { λ r. ⌜ (r ≡ problemSize n m) × (r ≤ 16394) ⌝ }
+{
+    PROBLEM_HEADER + 2 * LEAD_BYTES * ((n + 1) * (m + 1))
+}
+
+// Refusals 4 and 5: n and m against their limits, then the size.
+fn judge_counts(size: usize, n: usize, m: usize) -> usize
+    ensures { λ r. ⌜ r ≡ countsJudged size n m ⌝ }
+{
+    if MOST_VARIABLES < n {
+        return 4;
+    }
+    if MOST_INEQUALITIES < m {
+        return 4;
+    }
+    if size != problem_size(n, m) {
+        return 5;
+    }
+    0
+}
+
+// Refusals 1 to 5 on the header's numbers: the first that applies, 0 where none does.
+fn judge(size: usize, length: usize, kind: u16, n: usize, m: usize) -> usize
+    requires { ⌜ length < 4294967296 ⌝ }
+    ensures { λ r. ⌜ r ≡ judged size length kind n m ⌝ }
+{
+    if size < PROBLEM_HEADER {
+        return 1;
+    }
+    if length + LENGTH_BYTES != size {
+        return 2;
+    }
+    match kind {
+        1 => judge_counts(size, n, m),
+        0 | 2..=65535 => 3,
+    }
+}
+
+// A refusal's number, 0 for none, with n and m as the answer of a header.
+fn answered(refusal: usize, n: usize, m: usize) -> Header
+    ensures { λ r. ⌜ r ≡ headerBy refusal n m ⌝ }
+{
+    if refusal == 0 {
+        return Header::Fields(n, m);
+    }
+    Header::Refused(refusal)
+}
+
+// The header of a problem from its first bytes and its size: n and m, or the first of refusals 1 to 5 that applies.
+// A program may hold only the first bytes of a longer input; a byte past the end counts as 0.
+pub fn read_header(bytes: &[u8], size: usize) -> Header
+    ensures { λ r. ⌜ r ≡ headerOf (now (bytes .entry)) size ⌝ }
+{
+    let length = word_at(bytes, 0) as usize;
+    let kind = short_at(bytes, 4) as u16;
+    let n = short_at(bytes, 6) as usize;
+    let m = short_at(bytes, 8) as usize;
+    answered(judge(size, length, kind, n, m), n, m)
+}
