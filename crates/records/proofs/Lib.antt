@@ -1,1 +1,4 @@
+pub mod Tests
 pub mod ProblemHeader
+pub mod Leads
+pub mod Tables

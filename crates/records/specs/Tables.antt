@@ -2,16 +2,20 @@
 -- m there is 0, which is blank.
 use Prim.Native.Nat.{ℕ, _+_, _*_, _/_, _%_, _≤_, _<_}
 use mathlib.Core.Path.{_≡_}
-use mathlib.Core.Bool.{cond, _&&_}
-use mathlib.Core.List.{List}
+use mathlib.Core.Bool.{Bool, cond, _&&_}
+use mathlib.Core.List.{List, map}
 use lib.Dec.{leb, ltb}
 use lib.ListN.{length, getD}
-use Rattle.definitions.specs.Limits.{highest-n, highest-m, signed-bytes, signed-half}
-use Rattle.definitions.specs.Bytes.{numAt}
+use Rattle.definitions.specs.Limits.{highest-n, highest-m, lead-limit, signed-bytes, signed-half}
+use Rattle.definitions.specs.Bytes.{numAt, numsAt, tropField, all, blank-or-within}
 use Rattle.definitions.specs.Offset.{off}
 use Rattle.definitions.specs.ProblemRecord.{nField, mField, leftPlace, rightPlace, listOf, problemSize, problemRefusal, WithinLayout}
 use Rattle.records.specs.declared.problem.Header.{Header}
 use Rattle.records.specs.ProblemHeader.{headerBy}
+
+-- Each of `count` leads from a place on is blank or within the limit.
+abbrev pub runFits : List ℕ → ℕ → ℕ → Bool
+runFits s count at = all (blank-or-within lead-limit) (map tropField (numsAt signed-bytes count s at))
 
 -- The columns of a row, and the elements of a table.
 abbrev pub stride : ℕ
@@ -48,11 +52,13 @@ pub record Near (d k : ℕ) : Type 0 where
   pub hi : k ≤ signed-half + d
   pub lo : 0 < k → signed-half ≤ k + d
 
--- A problem's bytes hold the leads of n + 1 variables in m + 1 rows, both within the limits.
-pub record Framed (s : List ℕ) (n m : ℕ) : Type 0 where
+-- A problem's bytes hold the leads of n + 1 variables in m + 1 rows, both within the limits, and the two tables have room.
+pub record Framed (s : List ℕ) (n m : ℕ) (left right : List ℕ) : Type 0 where
   pub n-most : n ≤ highest-n
   pub m-most : m ≤ highest-m
   pub holds : problemSize n m ≤ length s
+  pub left-room : length left ≡ table-size
+  pub right-room : length right ≡ table-size
 
 -- From `base` on, `count` elements are those of f; before it everything is as it was.
 pub record Filled (f : ℕ → ℕ) (base count : ℕ) (old new : List ℕ) : Type 0 where
