@@ -1,3 +1,4 @@
+use Rattle.records.proofs.Tables.{filled-row}
 use borrow.Author.Needs.{needs}
 use Rattle.records.proofs.problem.read_row.Statement.{statement}
 use Rattle.records.proofs.problem.read_row.Tie as tie
@@ -32,7 +33,7 @@ same-length c = search needs
 
 -- src/problem.rt:148:1
 returns : tie.Need-returns
-returns c = search needs
+returns c = filled-row _ _ (c .before .before .before .before .before .before .before .before .before .before .pre .0) (c .before .before .before .before .before .before .read-leads .ensures) (c .before .before .clear .ensures)
 
 pub read-row-spec : {M : Type 1} → statement M
 read-row-spec =
