@@ -2,3 +2,4 @@ pub mod Tests
 pub mod ProblemHeader
 pub mod Leads
 pub mod Tables
+pub mod ReadProblem

@@ -1,10 +1,12 @@
 -- Laws of a problem's header: its answer by the refusal's number, its refusals on plain numbers, its size.
 use Prim.Native.Nat.{ℕ, zero, suc, _+_, _*_, _≤_, _<_}
-use mathlib.Core.Path.{_≡_, refl, ap}
+use mathlib.Core.Path.{_≡_, refl, sym, _∙_}
 use mathlib.Core.List.{List}
 use native.Mathlib.Omega.{arith}
 use native.Mathlib.Nat.{mul-le-mul-left, mul-le-mul-right}
+use Rattle.definitions.specs.Limits.{highest-n, highest-m, length-bytes, problem-kind, problem-header}
 use Rattle.definitions.specs.ProblemRecord.{lengthField, kindField, nField, mField, headerRefusal, problemSize}
+use Rattle.definitions.proofs.Refusals.{enough-clause, equal-clause, limits-clause}
 use Rattle.records.specs.declared.problem.Header.{Header}
 use Rattle.records.specs.declared.problem.Header.the-variants.{Fields, Refused}
 use Rattle.records.specs.ProblemHeader.{headerBy, headerOf, judged}
@@ -30,3 +32,41 @@ header-judged s size a b c d e f = rw (f, e, a, b, c, d)
 -- The leads of a table within the limits are at most 2,048.
 pub product-most : (n m : ℕ) → n ≤ 31 → m ≤ 63 → (n + 1) * (m + 1) ≤ 2048
 product-most n m h k = omega (arith, mul-le-mul-right {m = n + 1} {n = 32} (m + 1) (omega arith), mul-le-mul-left {m = m + 1} {n = 64} 32 (omega arith))
+
+-- The facts of a header that nothing refuses, with n and m as it holds them.
+pub record HeaderFits (s : List ℕ) (size n m : ℕ) : Type 0 where
+  pub none : headerRefusal s size ≡ 0
+  pub n-is : n ≡ nField s
+  pub m-is : m ≡ mField s
+  pub n-most : n ≤ highest-n
+  pub m-most : m ≤ highest-m
+  pub size-is : size ≡ problemSize n m
+
+-- Nothing is refused where fields are the answer.
+fields-none : (refusal a b : ℕ) {n m : ℕ} → headerBy refusal a b ≡ Fields n m → (refusal ≡ 0) × (n ≡ a) × (m ≡ b)
+unfolding headerBy
+fields-none zero a b e = (refl, cc, cc)
+fields-none (suc k) a b e = let z : _≡_ {A = ℕ} 0 1 = cc in absurd (omega arith)
+
+-- Something is refused where a number is the answer.
+refused-some : (refusal a b : ℕ) {k : ℕ} → headerBy refusal a b ≡ Refused k → 0 < refusal
+unfolding headerBy
+refused-some zero a b e = let z : _≡_ {A = ℕ} 0 1 = cc in absurd (omega arith)
+refused-some (suc k) a b e = omega arith
+
+-- A header that gives fields fits.
+pub header-fits : (s : List ℕ) (size : ℕ) {r : Header} {n m : ℕ} → r ≡ headerOf s size → r ≡ Fields n m → HeaderFits s size n m
+unfolding headerOf headerRefusal
+header-fits s size {n = n} {m} e f =
+    let g = fields-none (headerRefusal s size) (nField s) (mField s) {n = n} {m = m} (sym e ∙ f) in
+    let a = enough-clause size problem-header _ _ .0 (g .0) in
+    let b = equal-clause (lengthField s + length-bytes) size _ _ .0 (a .1) in
+    let c = equal-clause (kindField s) problem-kind _ _ .0 (b .1) in
+    let d = limits-clause (nField s) (mField s) _ _ .0 (c .1) in
+    let h = equal-clause size (problemSize (nField s) (mField s)) _ _ .0 (d .1) in
+    record { none = g .0; n-is = g .1; m-is = g .2; n-most = rw (g .1) (d .0 .0); m-most = rw (g .2) (d .0 .1); size-is = rw (g .1, g .2) (h .0) }
+
+-- A header that gives a number is refused.
+pub header-refuses : (s : List ℕ) (size : ℕ) {r : Header} {k : ℕ} → r ≡ headerOf s size → r ≡ Refused k → 0 < headerRefusal s size
+unfolding headerOf
+header-refuses s size {k = k} e f = refused-some (headerRefusal s size) (nField s) (mField s) {k = k} (sym e ∙ f)

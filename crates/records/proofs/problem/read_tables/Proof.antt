@@ -1,3 +1,4 @@
+use Rattle.records.proofs.Tables.{tabled-past}
 use borrow.Author.Needs.{needs}
 use Rattle.records.proofs.problem.read_tables.Statement.{statement}
 use Rattle.records.proofs.problem.read_tables.Tie as tie
@@ -44,7 +45,7 @@ same-length-2 c = search needs
 
 -- src/problem.rt:173:1
 returns : tie.Need-returns
-returns c = search needs
+returns c = tabled-past (c .before .before .before .before .before .before .before .before .before .before .before .before .read-rows .ensures) (c .before .before .before .before .before .before .clear .ensures) (c .before .before .clear2 .ensures)
 
 pub read-tables-spec : {M : Type 1} → statement M
 read-tables-spec =
