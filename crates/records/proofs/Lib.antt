@@ -3,3 +3,4 @@ pub mod ProblemHeader
 pub mod Leads
 pub mod Tables
 pub mod ReadProblem
+pub mod LeadTables

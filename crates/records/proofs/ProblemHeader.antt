@@ -1,6 +1,6 @@
 -- Laws of a problem's header: its answer by the refusal's number, its refusals on plain numbers, its size.
 use Prim.Native.Nat.{ℕ, zero, suc, _+_, _*_, _≤_, _<_}
-use mathlib.Core.Path.{_≡_, refl, sym, _∙_}
+use mathlib.Core.Path.{_≡_, refl}
 use mathlib.Core.List.{List}
 use native.Mathlib.Omega.{arith}
 use native.Mathlib.Nat.{mul-le-mul-left, mul-le-mul-right}
@@ -42,23 +42,23 @@ pub record HeaderFits (s : List ℕ) (size n m : ℕ) : Type 0 where
   pub m-most : m ≤ highest-m
   pub size-is : size ≡ problemSize n m
 
--- Nothing is refused where fields are the answer.
-fields-none : (refusal a b : ℕ) {n m : ℕ} → headerBy refusal a b ≡ Fields n m → (refusal ≡ 0) × (n ≡ a) × (m ≡ b)
+-- Fields are the answer where nothing is refused.
+pub answer-fields : (refusal a b : ℕ) {r : Header} {n m : ℕ} → r ≡ headerBy refusal a b → r ≡ Fields n m → (refusal ≡ 0) × (n ≡ a) × (m ≡ b)
 unfolding headerBy
-fields-none zero a b e = (refl, cc, cc)
-fields-none (suc k) a b e = let z : _≡_ {A = ℕ} 0 1 = cc in absurd (omega arith)
+answer-fields zero a b e f = (refl, cc, cc)
+answer-fields (suc k) a b e f = let z : _≡_ {A = ℕ} 0 1 = cc in absurd (omega arith)
 
--- Something is refused where a number is the answer.
-refused-some : (refusal a b : ℕ) {k : ℕ} → headerBy refusal a b ≡ Refused k → 0 < refusal
+-- A number is the answer where it is the refusal.
+pub answer-refused : (refusal a b : ℕ) {r : Header} {k : ℕ} → r ≡ headerBy refusal a b → r ≡ Refused k → (refusal ≡ k) × (0 < k)
 unfolding headerBy
-refused-some zero a b e = let z : _≡_ {A = ℕ} 0 1 = cc in absurd (omega arith)
-refused-some (suc k) a b e = omega arith
+answer-refused zero a b e f = let z : _≡_ {A = ℕ} 0 1 = cc in absurd (omega arith)
+answer-refused (suc j) a b {k = k} e f = let same : suc j ≡ k = cc in (same, omega arith)
 
 -- A header that gives fields fits.
 pub header-fits : (s : List ℕ) (size : ℕ) {r : Header} {n m : ℕ} → r ≡ headerOf s size → r ≡ Fields n m → HeaderFits s size n m
 unfolding headerOf headerRefusal
 header-fits s size {n = n} {m} e f =
-    let g = fields-none (headerRefusal s size) (nField s) (mField s) {n = n} {m = m} (sym e ∙ f) in
+    let g = answer-fields (headerRefusal s size) (nField s) (mField s) e f in
     let a = enough-clause size problem-header _ _ .0 (g .0) in
     let b = equal-clause (lengthField s + length-bytes) size _ _ .0 (a .1) in
     let c = equal-clause (kindField s) problem-kind _ _ .0 (b .1) in
@@ -66,7 +66,7 @@ header-fits s size {n = n} {m} e f =
     let h = equal-clause size (problemSize (nField s) (mField s)) _ _ .0 (d .1) in
     record { none = g .0; n-is = g .1; m-is = g .2; n-most = rw (g .1) (d .0 .0); m-most = rw (g .2) (d .0 .1); size-is = rw (g .1, g .2) (h .0) }
 
--- A header that gives a number is refused.
-pub header-refuses : (s : List ℕ) (size : ℕ) {r : Header} {k : ℕ} → r ≡ headerOf s size → r ≡ Refused k → 0 < headerRefusal s size
+-- A header that gives a number is refused by it.
+pub header-refuses : (s : List ℕ) (size : ℕ) {r : Header} {k : ℕ} → r ≡ headerOf s size → r ≡ Refused k → (headerRefusal s size ≡ k) × (0 < k)
 unfolding headerOf
-header-refuses s size {k = k} e f = refused-some (headerRefusal s size) (nField s) (mField s) {k = k} (sym e ∙ f)
+header-refuses s size e f = answer-refused (headerRefusal s size) (nField s) (mField s) e f

@@ -19,8 +19,9 @@ use Rattle.records.proofs.Tables.{is-listOf}
 -- The header is refused.
 pub refused-header : (s : List ℕ) {r : Header} {k : ℕ} {left right : List ℕ} → r ≡ headerOf s (length s) → r ≡ Refused k → ProblemRead s left right r left right
 unfolding problemRefusal headerOf
-refused-header s {r} {k} e f =
-    let some : 0 < headerRefusal s (length s) = header-refuses s (length s) {r = r} {k = k} e f in
+refused-header s e f =
+    let g = header-refuses s (length s) e f in
+    let some : 0 < headerRefusal s (length s) = omega arith in
     let same : problemRefusal s ≡ headerRefusal s (length s) = or-else-suc (headerRefusal s (length s)) _ some in
     record {
       result = rw same e;

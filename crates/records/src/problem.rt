@@ -50,10 +50,11 @@ fn judge(size: usize, length: usize, kind: u16, n: usize, m: usize) -> usize
     requires { ⌜ length < 4294967296 ⌝ }
     ensures { λ r. ⌜ r ≡ judged size length kind n m ⌝ }
 {
+    let whole = length + LENGTH_BYTES;
     if size < PROBLEM_HEADER {
         return 1;
     }
-    if length + LENGTH_BYTES != size {
+    if whole != size {
         return 2;
     }
     match kind {

@@ -1,4 +1,4 @@
-use borrow.Author.Tests.{eq-eqb, ne-eqb, le-leb, lt-leb, lt-ltb, le-ltb}
+use Rattle.records.proofs.Tests.{tests}
 use Rattle.records.specs.ProblemHeader.{countsJudged}
 use borrow.Author.Needs.{needs}
 use Rattle.records.proofs.problem.judge_counts.Statement.{statement}
@@ -10,12 +10,12 @@ use Rattle.records.proofs.problem.problem_size.Reads as problem-size-re
 -- src/problem.rt:38:9
 returns : tie.Need-returns
 unfolding countsJudged
-returns c = search (eq-eqb, ne-eqb, le-leb, lt-leb, lt-ltb, le-ltb)
+returns c = search tests
 
 -- src/problem.rt:41:9
 returns-2 : tie.Need-returns-2
 unfolding countsJudged
-returns-2 c = search (eq-eqb, ne-eqb, le-leb, lt-leb, lt-ltb, le-ltb)
+returns-2 c = search tests
 
 -- src/problem.rt:43:16
 problem-size-requires : tie.Need-problem-size-requires
@@ -24,12 +24,12 @@ problem-size-requires c κs = search needs
 -- src/problem.rt:44:9
 returns-3 : tie.Need-returns-3
 unfolding countsJudged
-returns-3 c = search (eq-eqb, ne-eqb, le-leb, lt-leb, lt-ltb, le-ltb, ← c .before .problem-size .ensures .0)
+returns-3 c = search (tests, ← c .before .problem-size .ensures .0)
 
 -- src/problem.rt:34:1
 returns-4 : tie.Need-returns-4
 unfolding countsJudged
-returns-4 c = search (eq-eqb, ne-eqb, le-leb, lt-leb, lt-ltb, le-ltb, ← c .before .problem-size .ensures .0)
+returns-4 c = search (tests, ← c .before .problem-size .ensures .0)
 
 pub judge-counts-spec : {M : Type 1} → statement M
 judge-counts-spec =
