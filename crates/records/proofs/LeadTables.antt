@@ -103,16 +103,20 @@ module _ (s : List ℕ) (b : Bytes s) (w : WithinLayout s) where
   unfolding leftTable problemOf
   left-means i j h g =
       let f = fits in
-      rw (getD-listOf (cell (leftPlace (nField s)) s (nField s) (mField s)) 2048 (i * 32 + j) (omega (arith, f .n-most, f .m-most)),
-        cell-lead (leftPlace (nField s)) s (nField s) (mField s) i j h g (f .n-most))
+      rw (
+        getD-listOf (cell (leftPlace (nField s)) s (nField s) (mField s)) 2048 (i * 32 + j) (omega (arith, f .n-most, f .m-most)),
+        cell-lead (leftPlace (nField s)) s (nField s) (mField s) i j h g (f .n-most),
+      )
       (lead-means s (leftPlace (nField s) i j) b)
 
   pub right-means : (i j : ℕ) → i ≤ mField s → j ≤ nField s → tropOf (getD (rightTable s) (i * 32 + j) 0) ≡ problemOf s .right i j
   unfolding rightTable problemOf
   right-means i j h g =
       let f = fits in
-      rw (getD-listOf (cell (rightPlace (nField s)) s (nField s) (mField s)) 2048 (i * 32 + j) (omega (arith, f .n-most, f .m-most)),
-        cell-lead (rightPlace (nField s)) s (nField s) (mField s) i j h g (f .n-most))
+      rw (
+        getD-listOf (cell (rightPlace (nField s)) s (nField s) (mField s)) 2048 (i * 32 + j) (omega (arith, f .n-most, f .m-most)),
+        cell-lead (rightPlace (nField s)) s (nField s) (mField s) i j h g (f .n-most),
+      )
       (lead-means s (rightPlace (nField s) i j) b)
 
   -- Every element is blank or within the limit of leads, at every index.
@@ -120,13 +124,13 @@ module _ (s : List ℕ) (b : Bytes s) (w : WithinLayout s) where
   unfolding leftTable problemOf
   left-near = listOf-near lead-limit (cell (leftPlace (nField s)) s (nField s) (mField s)) 2048
       (cell-near (leftPlace (nField s)) s (nField s) (mField s) lead-limit (λ i j h g.
-        near-within lead-limit (leadAt s (leftPlace (nField s) i j)) (omega arith) (rw (lead-means s (leftPlace (nField s) i j) b) (left-within s w i j h g))))
+      near-within lead-limit (leadAt s (leftPlace (nField s) i j)) (omega arith) (rw (lead-means s (leftPlace (nField s) i j) b) (left-within s w i j h g))))
 
   pub right-near : (k : ℕ) → Near lead-limit (getD (rightTable s) k 0)
   unfolding rightTable problemOf
   right-near = listOf-near lead-limit (cell (rightPlace (nField s)) s (nField s) (mField s)) 2048
       (cell-near (rightPlace (nField s)) s (nField s) (mField s) lead-limit (λ i j h g.
-        near-within lead-limit (leadAt s (rightPlace (nField s) i j)) (omega arith) (rw (lead-means s (rightPlace (nField s) i j) b) (right-within s w i j h g))))
+      near-within lead-limit (leadAt s (rightPlace (nField s) i j)) (omega arith) (rw (lead-means s (rightPlace (nField s) i j) b) (right-within s w i j h g))))
 
 -- Past row m, and past column n, both tables are blank.
 pub left-blank : (s : List ℕ) (i j : ℕ) → i ≤ 63 → j < 32 → (mField s < i) ⊎ (nField s < j) → getD (leftTable s) (i * 32 + j) 0 ≡ 0

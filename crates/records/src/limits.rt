@@ -2,26 +2,34 @@
 
 // The highest n and m, and the widths of the lent tables: a row of 32 columns, 64 rows.
 pub const MOST_VARIABLES: usize = 31;
+
 pub const MOST_INEQUALITIES: usize = 63;
 
 // Sizes of the two headers, and of the largest answer record.
 pub const PROBLEM_HEADER: usize = 10;
+
 pub const ANSWER_HEADER: usize = 14;
+
 pub const ANSWER_MOST: usize = 206;
 
 // Limits of leads, spans and stamps.
 pub const LEAD_LIMIT: u64 = 10080;
+
 pub const SPAN_LIMIT: u64 = 645120;
+
 pub const STAMP_LIMIT: u64 = 2000000;
 
 // The offset number of 0, and the first number that 4 bytes do not hold.
 pub const OFFSET: u64 = 2147483648;
+
 pub const FULL: u64 = 4294967296;
 
 // The lent tables: rows of 32 columns, 64 of them.
 pub const STRIDE: usize = 32;
+
 pub const TABLE: usize = 2048;
 
 // The sizes of a length field and of a lead, stamp or span.
 pub const LENGTH_BYTES: usize = 4;
+
 pub const LEAD_BYTES: usize = 4;

@@ -8,12 +8,19 @@ ghost use Rattle.definitions.specs.Offset.{off};
 ghost use Rattle.definitions.specs.ProblemRecord.{problemSize};
 ghost use Rattle.records.specs.ProblemHeader.{headerBy, headerOf, judged, countsJudged};
 ghost use Rattle.records.specs.Tables.{runFits, leadAt, rowCell, Filled, Framed, Tabled, ProblemRead};
-
-use crate::bytes::{short_at, word_at, word_in};
-use crate::limits::{
-    FULL, LEAD_BYTES, LEAD_LIMIT, LENGTH_BYTES, MOST_INEQUALITIES, MOST_VARIABLES, OFFSET,
-    PROBLEM_HEADER, STRIDE, TABLE,
-};
+use crate::bytes::short_at;
+use crate::bytes::word_at;
+use crate::bytes::word_in;
+use crate::limits::FULL;
+use crate::limits::LEAD_BYTES;
+use crate::limits::LEAD_LIMIT;
+use crate::limits::LENGTH_BYTES;
+use crate::limits::MOST_INEQUALITIES;
+use crate::limits::MOST_VARIABLES;
+use crate::limits::OFFSET;
+use crate::limits::PROBLEM_HEADER;
+use crate::limits::STRIDE;
+use crate::limits::TABLE;
 
 // What a header answers: n and m, or the number of the refusal.
 pub enum Header {
