@@ -59,11 +59,11 @@ Program = List ℕ → ℕ → List ℕ
 -- a string is that it is one of bytes: no entry relies on somebody having looked beforehand.
 pub record EngineRefuses (engine : Engine) : Type 0 where
   pub first-refusal :
-      (p buffer : List ℕ) → Bytes p → Bytes buffer → (k : ℕ) → engineRefusal p (length buffer) ≡ suc k
-      → engine .result p buffer ≡ Solved.refused (suc k)
+    (p buffer : List ℕ) → Bytes p → Bytes buffer → (k : ℕ) → engineRefusal p (length buffer) ≡ suc k
+    → engine .result p buffer ≡ Solved.refused (suc k)
   pub untouched :
-      (p buffer : List ℕ) → Bytes p → Bytes buffer → (k : ℕ) → engineRefusal p (length buffer) ≡ suc k
-      → engine .buffer p buffer ≡ buffer
+    (p buffer : List ℕ) → Bytes p → Bytes buffer → (k : ℕ) → engineRefusal p (length buffer) ≡ suc k
+    → engine .buffer p buffer ≡ buffer
 
 abbrev pub CheckerRefuses : Checker → Type 0
 CheckerRefuses check =
@@ -78,18 +78,18 @@ ReaderRefuses read =
 
 pub record WriterRefuses (write : Writer) : Type 0 where
   pub number-is :
-      (a : Answer) (n m : ℕ) (buffer : List ℕ) → Bytes buffer
-      → write .number a n m buffer ≡ writerRefusal a n m (length buffer)
+    (a : Answer) (n m : ℕ) (buffer : List ℕ) → Bytes buffer
+    → write .number a n m buffer ≡ writerRefusal a n m (length buffer)
   pub untouched :
-      (a : Answer) (n m : ℕ) (buffer : List ℕ) → Bytes buffer → (k : ℕ) → writerRefusal a n m (length buffer) ≡ suc k
-      → write .buffer a n m buffer ≡ buffer
+    (a : Answer) (n m : ℕ) (buffer : List ℕ) → Bytes buffer → (k : ℕ) → writerRefusal a n m (length buffer) ≡ suc k
+    → write .buffer a n m buffer ≡ buffer
 
 -- The program as a whole takes every string of bytes, and puts out what document 01 says, though it keeps only the first
 -- 20,000 bytes.
 pub record ProgramsAnswer (span verdict : Program) : Type 0 where
   pub span-output : (input : List ℕ) → Bytes input → SpanOutput input (span (take kept-bytes input) (length input))
   pub verdict-output :
-      (input : List ℕ) → Bytes input → VerdictOutput input (verdict (take kept-bytes input) (length input))
+    (input : List ℕ) → Bytes input → VerdictOutput input (verdict (take kept-bytes input) (length input))
 
 -- ---- demand 2
 
