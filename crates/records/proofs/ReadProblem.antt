@@ -31,25 +31,25 @@ refused-header s e f =
       right-read = λ w. absurd (omega arith);
     }
 
-module _ (s : List ℕ) {n m : ℕ} (h : HeaderFits s (length s) n m) where
+module _ (s : List ℕ) {n m count : ℕ} (h : HeaderFits s (length s) n m) (c : count ≡ 2 * ((n + 1) * (m + 1))) where
   -- The run that is judged is all leads.
-  run-leads : runFits s (2 * ((n + 1) * (m + 1))) problem-header ≡ runFits s (2 * (suc (nField s) * suc (mField s))) problem-header
+  run-leads : runFits s count problem-header ≡ runFits s (2 * (suc (nField s) * suc (mField s))) problem-header
   run-leads =
-      let count : 2 * ((n + 1) * (m + 1)) ≡ 2 * (suc n * suc m) = omega arith in
-      rw (count, h .n-is, h .m-is)
+      let all-leads : count ≡ 2 * (suc n * suc m) = omega arith in
+      rw (all-leads, h .n-is, h .m-is)
 
   -- A lead does not fit: refusal 6.
-  refusal-six : false ≡ runFits s (2 * ((n + 1) * (m + 1))) problem-header → problemRefusal s ≡ 6
+  refusal-six : false ≡ runFits s count problem-header → problemRefusal s ≡ 6
   unfolding problemRefusal leadsOf
   refusal-six e = rw (h .none, ← run-leads, ← e)
 
   -- Every lead fits: no refusal.
-  refusal-none : true ≡ runFits s (2 * ((n + 1) * (m + 1))) problem-header → problemRefusal s ≡ 0
+  refusal-none : true ≡ runFits s count problem-header → problemRefusal s ≡ 0
   unfolding problemRefusal leadsOf
   refusal-none e = rw (h .none, ← run-leads, ← e)
 
   -- A lead is refused.
-  pub refused-lead : {left right : List ℕ} → false ≡ runFits s (2 * ((n + 1) * (m + 1))) problem-header → ProblemRead s left right (Refused 6) left right
+  pub refused-lead : {left right : List ℕ} → false ≡ runFits s count problem-header → ProblemRead s left right (Refused 6) left right
   unfolding headerBy
   refused-lead e =
       let six : problemRefusal s ≡ 6 = refusal-six e in
@@ -62,7 +62,7 @@ module _ (s : List ℕ) {n m : ℕ} (h : HeaderFits s (length s) n m) where
       }
 
   -- The problem is read.
-  pub problem-read : {left right left′ right′ : List ℕ} → true ≡ runFits s (2 * ((n + 1) * (m + 1))) problem-header
+  pub problem-read : {left right left′ right′ : List ℕ} → true ≡ runFits s count problem-header
       → Tabled s n m 2048 left′ right′ → ProblemRead s left right (Fields n m) left′ right′
   unfolding leftTable rightTable
   problem-read {left′ = left′} {right′} e t =

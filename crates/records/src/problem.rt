@@ -28,12 +28,20 @@ pub enum Header {
     Refused(usize),
 }
 
+// How many leads a problem has, from n and m within their limits.
+fn lead_count(n: usize, m: usize) -> usize
+    requires { ⌜ (n ≤ 31) × (m ≤ 63) ⌝ }
+    ensures { λ r. ⌜ (r ≡ 2 * ((n + 1) * (m + 1))) × (r ≤ 4096) ⌝ }
+{
+    2 * ((n + 1) * (m + 1))
+}
+
 // The size of a problem record, from n and m within their limits.
 fn problem_size(n: usize, m: usize) -> usize
     requires { ⌜ (n ≤ 31) × (m ≤ 63) ⌝ }
     ensures { λ r. ⌜ (r ≡ problemSize n m) × (r ≤ 16394) ⌝ }
 {
-    PROBLEM_HEADER + 2 * LEAD_BYTES * ((n + 1) * (m + 1))
+    PROBLEM_HEADER + LEAD_BYTES * lead_count(n, m)
 }
 
 // Refusals 4 and 5: n and m against their limits, then the size.
@@ -197,7 +205,7 @@ pub fn read_problem(bytes: &[u8], left: &mut [u64; TABLE], right: &mut [u64; TAB
     let Header::Fields(n, m) = header else {
         return header;
     };
-    if !leads_fit(bytes, 2 * ((n + 1) * (m + 1))) {
+    if !leads_fit(bytes, lead_count(n, m)) {
         return Header::Refused(6);
     }
     read_tables(bytes, n, m, left, right);
