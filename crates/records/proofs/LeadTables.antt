@@ -16,7 +16,8 @@ use Rattle.definitions.proofs.Whole.{nat-le-or-lt}
 use Rattle.definitions.proofs.Bytes.{numAt-bound}
 use Rattle.definitions.proofs.Offset.{trop-off, within-iff}
 use Rattle.definitions.proofs.Refusals.{ProblemFits, problem-fits, left-within, right-within}
-use Rattle.records.specs.Tables.{cell, leadAt, leftTable, rightTable, Near, table-size}
+use Rattle.records.specs.Tables.{cell, leadAt, leftTable, rightTable, table-size}
+use Rattle.records.specs.Decoded.{Near, Decoded}
 use Rattle.records.proofs.Tables.{length-listOf, getD-listOf}
 
 -- ---- one lead
@@ -131,6 +132,20 @@ module _ (s : List ℕ) (b : Bytes s) (w : WithinLayout s) where
   right-near = listOf-near lead-limit (cell (rightPlace (nField s)) s (nField s) (mField s)) 2048
       (cell-near (rightPlace (nField s)) s (nField s) (mField s) lead-limit (λ i j h g.
       near-within lead-limit (leadAt s (rightPlace (nField s) i j)) (omega arith) (rw (lead-means s (rightPlace (nField s) i j) b) (right-within s w i j h g))))
+
+  -- The tables hold the problem.
+  pub problem-decoded : Decoded (problemOf s) (leftTable s) (rightTable s)
+  unfolding problemOf
+  problem-decoded = record {
+    n-most = fits .n-most;
+    m-most = fits .m-most;
+    left-length = left-length s;
+    right-length = right-length s;
+    left-is = left-means;
+    right-is = right-means;
+    left-near = left-near;
+    right-near = right-near;
+  }
 
 -- Past row m, and past column n, both tables are blank.
 pub left-blank : (s : List ℕ) (i j : ℕ) → i ≤ 63 → j < 32 → (mField s < i) ⊎ (nField s < j) → getD (leftTable s) (i * 32 + j) 0 ≡ 0

@@ -6,7 +6,7 @@ use mathlib.Core.Bool.{Bool, cond, _&&_}
 use mathlib.Core.List.{List, map}
 use lib.Dec.{leb, ltb}
 use lib.ListN.{length, getD}
-use Rattle.definitions.specs.Limits.{highest-n, highest-m, lead-limit, signed-bytes, signed-half}
+use Rattle.definitions.specs.Limits.{highest-n, highest-m, lead-limit, signed-bytes}
 use Rattle.definitions.specs.Bytes.{numAt, numsAt, tropField, all, blank-or-within}
 use Rattle.definitions.specs.Offset.{off}
 use Rattle.definitions.specs.ProblemRecord.{nField, mField, leftPlace, rightPlace, listOf, problemSize, problemRefusal, WithinLayout}
@@ -46,11 +46,6 @@ pub record ProblemRead (s left right : List ℕ) (r : Header) (left′ right′ 
   pub right-kept : 0 < problemRefusal s → right′ ≡ right
   pub left-read : WithinLayout s → left′ ≡ leftTable s
   pub right-read : WithinLayout s → right′ ≡ rightTable s
-
--- An offset number that is blank or within d of 2³¹.
-pub record Near (d k : ℕ) : Type 0 where
-  pub hi : k ≤ signed-half + d
-  pub lo : 0 < k → signed-half ≤ k + d
 
 -- A problem's bytes hold the leads of n + 1 variables in m + 1 rows, both within the limits, and the two tables have room.
 pub record Framed (s : List ℕ) (n m : ℕ) (left right : List ℕ) : Type 0 where
