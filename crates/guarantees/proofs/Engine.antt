@@ -1,0 +1,86 @@
+-- What follows for any engine whose result and buffer are those that document 01 gives (`EngineSolves`): first refusals
+-- with the buffer untouched; else class and least span of the theory, in few trials, in a record that reads back and
+-- that any true checker accepts.
+use Prim.Native.Nat.{ℕ, zero, suc, _+_, _≤_}
+use mathlib.Core.Path.{_≡_, refl, ap, sym, subst, _∙_}
+use mathlib.Core.Bool.{true}
+use mathlib.Core.List.{List}
+use native.Mathlib.Omega.{arith}
+use lib.ListN.{length, take}
+use lib.IntN.{ℤ}
+use borrow.Author.Tests.{le-ltb, eqb-true}
+use Rattle.definitions.specs.Limits.{answer-most, most-trials, class-optimal, class-unbounded, class-infeasible, lead-limit, span-limit}
+use Rattle.definitions.specs.Tropical.{Trop}
+use Rattle.definitions.specs.Problem.{Problem}
+use Rattle.definitions.specs.Bytes.{Bytes, or-else}
+use Rattle.definitions.specs.ProblemRecord.{WithinLayout, problemRefusal, problemOf, nField, mField}
+use Rattle.definitions.specs.AnswerRecord.{Answer, answerRefusal, answerOf, answerSize, answerBytes, known-class, written, rightCounts, formRefusal}
+use Rattle.definitions.specs.Verdict.{Verdict, accepted, checkRefusal, answerFor, Judged, turned-away, certified, uncertified}
+use Rattle.definitions.specs.Solved as Results
+use Rattle.definitions.specs.Solved.{Solved, answered, Found, optimal, unbounded, infeasible, Answers, Solves, solved, engineRefusal}
+use Rattle.definitions.specs.Demands.{Engine, Reader, Reading, fields, Checker, EngineSolves, EngineRefuses, LeastSpans, FoundBy, ReadsFields, EngineReadsBack, ReadBy, CheckerJudges, OwnAnswers, OwnAnswer}
+use Rattle.definitions.proofs.Bisection.{few-trials}
+use Rattle.definitions.proofs.Refusals.{or-else-none, ProblemFits, problem-fits, left-size, right-size, WriterFits, form-fits}
+use Rattle.definitions.proofs.RoundTrip.{answer-length, answer-back, answer-accepted}
+use Rattle.definitions.proofs.Put.{take-put}
+use Rattle.duality.specs.Within.{Within}
+use Rattle.duality.proofs.Classes.{optimal-range}
+use Rattle.duality.proofs.Numbers.{top-enough}
+
+-- ---- refusals
+
+refused-by : {p before after : List ℕ} {r : Solved} {k : ℕ} → Solves p before r after → engineRefusal p (length before) ≡ suc k
+  → (r ≡ Solved.refused (suc k)) × (after ≡ before)
+refused-by (Results.turned-away e) h = (ap Solved.refused (sym e ∙ h), refl)
+refused-by (solved a e ans) h = absurd (let z : 0 ≡ suc _ = sym e ∙ h in omega arith)
+
+pub engine-refuses : (engine : Engine) → EngineSolves engine → EngineRefuses engine
+engine-refuses engine solves = record {
+  first-refusal = λ p buffer b c k e. refused-by (solves p buffer b c) e .0;
+  untouched = λ p buffer b c k e. refused-by (solves p buffer b c) e .1
+}
+
+-- ---- answers
+
+-- What the engine gives where nothing is refused.
+pub record EngineAnswer (engine : Engine) (p buffer : List ℕ) : Type 0 where
+  pub class : ℕ
+  pub span : Trop
+  pub trials : ℕ
+  pub answer : Answer
+  pub answers : Answers (problemOf p) class span trials answer
+  pub result-is : engine .result p buffer ≡ answered class span trials (answerSize class (nField p) (mField p))
+  pub buffer-is : engine .buffer p buffer ≡ written buffer (answerBytes (nField p) answer)
+
+nothing-refused : (p : List ℕ) (room : ℕ) → WithinLayout p → answer-most ≤ room → engineRefusal p room ≡ 0
+unfolding engineRefusal
+nothing-refused p room w h = or-else-none (problemRefusal p) _ .1 (w, rw (le-ltb room answer-most h))
+
+answered-by : (engine : Engine) (p buffer : List ℕ) {r : Solved} {after : List ℕ} → Solves p buffer r after → engineRefusal p (length buffer) ≡ 0
+  → engine .result p buffer ≡ r → engine .buffer p buffer ≡ after → EngineAnswer engine p buffer
+answered-by engine p buffer (Results.turned-away e) h r-is b-is = absurd (let z : suc _ ≡ 0 = sym e ∙ h in omega arith)
+answered-by engine p buffer (solved a e ans) h r-is b-is = record { class = _; span = _; trials = _; answer = a; answers = ans; result-is = r-is; buffer-is = b-is }
+
+module _ (engine : Engine) (solves : EngineSolves engine) (p buffer : List ℕ) (b : Bytes p) (c : Bytes buffer) (w : WithinLayout p) (long : answer-most ≤ length buffer) where
+  pub engine-answer : EngineAnswer engine p buffer
+  engine-answer = answered-by engine p buffer (solves p buffer b c) (nothing-refused p (length buffer) w long) refl refl
+
+-- The problem's leads are small, as duality asks.
+pub within-leads : (p : List ℕ) → WithinLayout p → Within (problemOf p) lead-limit
+unfolding problemOf
+within-leads p w = record {
+  left = λ i j a h g e. left-size p w i j h g e;
+  right = λ i j a h g e. right-size p w i j h g e
+}
+
+few : (p : List ℕ) → WithinLayout p → {class : ℕ} {span : Trop} {trials : ℕ} → Found (problemOf p) class span trials → trials ≤ most-trials
+unfolding problemOf
+few p w (optimal {s = s} o) =
+    few-trials s (optimal-range (problemOf p) lead-limit span-limit (within-leads p w) (top-enough (nField p) lead-limit (omega (arith, problem-fits p .0 w .n-most))) s o)
+few p w (unbounded u) = omega arith
+few p w (infeasible n) = omega arith
+
+pub least-spans : (engine : Engine) → EngineSolves engine → LeastSpans engine
+least-spans engine solves p buffer b c w long =
+    let e = engine-answer engine solves p buffer b c w long in
+    record { class = e .class; span = e .span; trials = e .trials; size = answerSize (e .class) (nField p) (mField p); result-is = e .result-is; found = e .answers .found; few = few p w (e .answers .found) }

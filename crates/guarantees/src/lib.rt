@@ -1,0 +1,1 @@
+// The demands as theorems: start reading at proofs/Demands.antt.
