@@ -1,2 +1,3 @@
 pub mod ProblemHeader
 pub mod Tables
+pub mod Filling
