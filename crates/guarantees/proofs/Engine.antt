@@ -30,14 +30,14 @@ use Rattle.duality.proofs.Numbers.{top-enough}
 -- ---- refusals
 
 refused-by : {p before after : List ℕ} {r : Solved} {k : ℕ} → Solves p before r after → engineRefusal p (length before) ≡ suc k
-  → (r ≡ Solved.refused (suc k)) × (after ≡ before)
+    → (r ≡ Solved.refused (suc k)) × (after ≡ before)
 refused-by (Results.turned-away e) h = (ap Solved.refused (sym e ∙ h), refl)
 refused-by (solved a e ans) h = absurd (let z : 0 ≡ suc _ = sym e ∙ h in omega arith)
 
 pub engine-refuses : (engine : Engine) → EngineSolves engine → EngineRefuses engine
 engine-refuses engine solves = record {
   first-refusal = λ p buffer b c k e. refused-by (solves p buffer b c) e .0;
-  untouched = λ p buffer b c k e. refused-by (solves p buffer b c) e .1
+  untouched = λ p buffer b c k e. refused-by (solves p buffer b c) e .1;
 }
 
 -- ---- answers
@@ -57,7 +57,7 @@ unfolding engineRefusal
 nothing-refused p room w h = or-else-none (problemRefusal p) _ .1 (w, rw (le-ltb room answer-most h))
 
 answered-by : (engine : Engine) (p buffer : List ℕ) {r : Solved} {after : List ℕ} → Solves p buffer r after → engineRefusal p (length buffer) ≡ 0
-  → engine .result p buffer ≡ r → engine .buffer p buffer ≡ after → EngineAnswer engine p buffer
+    → engine .result p buffer ≡ r → engine .buffer p buffer ≡ after → EngineAnswer engine p buffer
 answered-by engine p buffer (Results.turned-away e) h r-is b-is = absurd (let z : suc _ ≡ 0 = sym e ∙ h in omega arith)
 answered-by engine p buffer (solved a e ans) h r-is b-is = record { class = _; span = _; trials = _; answer = a; answers = ans; result-is = r-is; buffer-is = b-is }
 
@@ -70,7 +70,7 @@ pub within-leads : (p : List ℕ) → WithinLayout p → Within (problemOf p) le
 unfolding problemOf
 within-leads p w = record {
   left = λ i j a h g e. left-size p w i j h g e;
-  right = λ i j a h g e. right-size p w i j h g e
+  right = λ i j a h g e. right-size p w i j h g e;
 }
 
 few : (p : List ℕ) → WithinLayout p → {class : ℕ} {span : Trop} {trials : ℕ} → Found (problemOf p) class span trials → trials ≤ most-trials

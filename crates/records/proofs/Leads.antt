@@ -1,14 +1,13 @@
 -- Laws of judging leads: the test of one field on its offset number, and a run of fields judged one after the other.
-use Prim.Native.Nat.{ℕ, zero, suc, _+_, _*_, _-_, _≤_, _<_}
-use mathlib.Core.Path.{_≡_, refl, ap, sym, _∙_}
+use Prim.Native.Nat.{ℕ, suc, _+_, _*_, _-_, _≤_, _<_}
+use mathlib.Core.Path.{_≡_, ap, sym, _∙_}
 use mathlib.Core.Bool.{Bool, true, false, _&&_, _||_}
-use mathlib.Core.List.{List, map}
+use mathlib.Core.List.{List}
 use native.Mathlib.Omega.{arith}
-use native.Mathlib.Nat.{sub-self}
 use lib.Dec.{eqb, leb}
 use Rattle.definitions.specs.Limits.{lead-limit, signed-half, signed-full, problem-header}
 use Rattle.definitions.specs.Bytes.{numAt, numsAt, tropField, all, blank-or-within}
-use Rattle.definitions.specs.Offset.{off, tropOf}
+use Rattle.definitions.specs.Offset.{off}
 use Rattle.definitions.proofs.Offset.{trop-off, within-offset}
 use Rattle.records.specs.Tables.{runFits}
 

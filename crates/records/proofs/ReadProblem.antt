@@ -1,19 +1,19 @@
 -- What reading a problem leaves, on each of its three ways out: refused by its header, refused by a lead, read.
-use Prim.Native.Nat.{ℕ, zero, suc, _+_, _*_, _<_}
-use mathlib.Core.Path.{_≡_, refl, ap, sym, subst, _∙_}
-use mathlib.Core.Bool.{true, false, not, cond}
+use Prim.Native.Nat.{ℕ, suc, _+_, _*_, _<_}
+use mathlib.Core.Path.{_≡_, refl}
+use mathlib.Core.Bool.{true, false}
 use mathlib.Core.List.{List}
 use native.Mathlib.Omega.{arith}
 use lib.ListN.{length}
 use Rattle.definitions.specs.Limits.{problem-header}
-use Rattle.definitions.specs.Bytes.{all, or-else}
-use Rattle.definitions.specs.ProblemRecord.{nField, mField, leftPlace, rightPlace, leadsOf, headerRefusal, problemRefusal, WithinLayout}
+use Rattle.definitions.specs.ProblemRecord.{nField, mField, leftPlace, rightPlace, leadsOf, headerRefusal, problemRefusal}
 use Rattle.definitions.proofs.Refusals.{or-else-suc}
 use Rattle.records.specs.declared.problem.Header.{Header}
 use Rattle.records.specs.declared.problem.Header.the-variants.{Fields, Refused}
 use Rattle.records.specs.ProblemHeader.{headerBy, headerOf}
-use Rattle.records.specs.Tables.{runFits, cell, leftTable, rightTable, Tabled, ProblemRead}
-use Rattle.records.proofs.ProblemHeader.{HeaderFits, header-fits, header-refuses, header-fields}
+use Rattle.records.specs.Tables.{runFits, cell, leftTable, rightTable, ProblemRead}
+use Rattle.records.specs.Filling.{Tabled}
+use Rattle.records.proofs.ProblemHeader.{HeaderFits, header-refuses, header-fields}
 use Rattle.records.proofs.Tables.{is-listOf}
 
 -- The header is refused.

@@ -1,21 +1,19 @@
 -- Laws of the lent tables: elements filled one after the other, rows after rows, and what a filled table holds.
 use Prim.Native.Nat.{ℕ, zero, suc, _+_, _*_, _-_, _/_, _%_, _≤_, _<_}
-use mathlib.Core.Path.{_≡_, refl, ap, sym, subst, _∙_}
-use mathlib.Core.Bool.{Bool, true, false, cond, _&&_, and-eq-true-iff}
-use mathlib.Core.List.{List, [], _∷_, _++_}
-use mathlib.Core.Logic.{_⊎_, inl, inr, ⊎-elim}
+use mathlib.Core.Path.{_≡_, refl, sym, _∙_}
+use mathlib.Core.List.{List, [], _∷_}
+use mathlib.Core.Logic.{_⊎_, ⊎-elim}
 use native.Mathlib.Omega.{arith}
 use native.Mathlib.Nat.{mul-le-mul-right}
-use lib.Dec.{leb}
-use lib.ListN.{length, getD, set, length-append, length-set, List·getD-append, List·getD-eq-default}
+use lib.ListN.{length, getD, set, length-append, length-set, List·getD-append}
 use lib.Seq.{getD-at, getD-set-same, getD-set-other, ext-getD}
 use borrow.Author.Tests.{le-leb, lt-leb}
-use Rattle.definitions.specs.Limits.{highest-m, signed-bytes}
 use Rattle.definitions.specs.Bytes.{numAt}
 use Rattle.definitions.specs.Offset.{off}
 use Rattle.definitions.specs.ProblemRecord.{leftPlace, rightPlace, listOf}
 use Rattle.definitions.proofs.Whole.{nat-le-or-lt}
-use Rattle.records.specs.Tables.{cell, rowCell, leadAt, Filled, Framed, Tabled}
+use Rattle.records.specs.Tables.{cell, leadAt}
+use Rattle.records.specs.Filling.{rowCell, Filled, Framed, Tabled}
 
 -- ---- elements
 

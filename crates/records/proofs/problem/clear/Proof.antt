@@ -1,5 +1,5 @@
 use mathlib.Core.Path.{refl}
-use Rattle.records.specs.Tables.{Filled}
+use Rattle.records.specs.Filling.{Filled}
 use Rattle.records.proofs.Tables.{filled-none, filled-more, filled-end}
 use Prim.Native.Nat.{_-_, _≤_}
 use native.Mathlib.Omega.{arith}

@@ -1,5 +1,6 @@
 use Rattle.records.proofs.Tables.{lead-read}
-use Rattle.records.specs.Tables.{Filled, leadAt}
+use Rattle.records.specs.Tables.{leadAt}
+use Rattle.records.specs.Filling.{Filled}
 use Rattle.records.proofs.Tables.{filled-none, filled-more, filled-end}
 use mathlib.Core.Path.{_≡_}
 use Prim.Native.Nat.{_+_, _*_, _-_, _≤_}

@@ -1,5 +1,5 @@
 use Rattle.records.proofs.Tables.{row-ends, tabled-none, tabled-row, tabled-end}
-use Rattle.records.specs.Tables.{Tabled}
+use Rattle.records.specs.Filling.{Tabled}
 use mathlib.Core.Path.{_≡_}
 use Prim.Native.Nat.{_+_, _*_, _-_, _≤_}
 use native.Mathlib.Omega.{arith}
