@@ -7,8 +7,10 @@ use mathlib.Core.Logic.{⊎-elim, _↔_}
 use native.Mathlib.Omega.{arith}
 use native.Mathlib.Nat.{add-zero, add-assoc, mul-zero, pow-suc}
 use native.Mathlib.Numerals.{add-one}
+use lib.Dec.{ltb}
 use lib.ListN.{length, getD, take, drop, length-append, length-take, length-map, List·getD-append, List·getD-eq-default, List·getD-map}
 use lib.Seq.{drop-cons, append-snoc, getD-at, getD-append-add, getD-take, getD-drop, take-add, drop-drop}
+use borrow.Author.Tests.{ltb-true}
 use Rattle.definitions.specs.Bytes.{Bytes, numAt, le, numsAt, fields, put, all}
 use Rattle.definitions.proofs.Whole.{nat-le-or-lt}
 
@@ -229,3 +231,12 @@ bytes-fields k (x ∷ xs) = bytes-append (bytes-le k x) (bytes-fields k xs)
 pub bytes-put : {l : List ℕ} (at : ℕ) {vs : List ℕ} → Bytes l → Bytes vs → Bytes (put l at vs)
 unfolding put
 bytes-put at {vs} b c = bytes-append (bytes-take at b) (bytes-append c (bytes-drop (at + length vs) b))
+
+-- A list whose elements are tested one by one is a string of bytes.
+pub bytes-tested : (s : List ℕ) → all (λ x. ltb x 256) s ≡ true → Bytes s
+bytes-tested s e = record {
+  byte = λ i. ⊎-elim
+      (λ (h : length s ≤ i). rw (List·getD-eq-default s 0 h) (omega arith))
+      (λ (h : i < length s). ltb-true (getD s i 0) 256 (all-true (λ x. ltb x 256) 0 s .0 e i h))
+      (nat-le-or-lt (length s) i);
+}

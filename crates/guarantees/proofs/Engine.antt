@@ -2,10 +2,11 @@
 -- with the buffer untouched; else class and least span of the theory, in few trials, in a record that reads back and
 -- that any true checker accepts.
 use Prim.Native.Nat.{ℕ, zero, suc, _+_, _≤_}
-use mathlib.Core.Path.{_≡_, refl, ap, sym, subst, _∙_}
-use mathlib.Core.Bool.{true}
+use mathlib.Core.Path.{_≡_, refl, ap, ap₂, sym, subst, _∙_}
+use mathlib.Core.Bool.{true, and-eq-true-iff}
 use mathlib.Core.List.{List}
 use native.Mathlib.Omega.{arith}
+use native.Mathlib.Nat.{zero-add}
 use lib.ListN.{length, take}
 use lib.IntN.{ℤ}
 use borrow.Author.Tests.{le-ltb, eqb-true}
@@ -15,13 +16,13 @@ use Rattle.definitions.specs.Problem.{Problem}
 use Rattle.definitions.specs.Bytes.{Bytes, or-else}
 use Rattle.definitions.specs.ProblemRecord.{WithinLayout, problemRefusal, problemOf, nField, mField}
 use Rattle.definitions.specs.AnswerRecord.{Answer, answerRefusal, answerOf, answerSize, answerBytes, known-class, written, rightCounts, formRefusal}
-use Rattle.definitions.specs.Verdict.{Verdict, accepted, checkRefusal, answerFor, Judged, turned-away, certified, uncertified}
+use Rattle.definitions.specs.Verdict.{Verdict, accepted, checkRefusal, answerFor, Accepted, Judged, turned-away, certified, uncertified}
 use Rattle.definitions.specs.Solved as Results
 use Rattle.definitions.specs.Solved.{Solved, answered, Found, optimal, unbounded, infeasible, Answers, Solves, solved, engineRefusal}
 use Rattle.definitions.specs.Demands.{Engine, Reader, Reading, fields, Checker, EngineSolves, EngineRefuses, LeastSpans, FoundBy, ReadsFields, EngineReadsBack, ReadBy, CheckerJudges, OwnAnswers, OwnAnswer}
 use Rattle.definitions.proofs.Bisection.{few-trials}
 use Rattle.definitions.proofs.Refusals.{or-else-none, ProblemFits, problem-fits, left-size, right-size, WriterFits, form-fits}
-use Rattle.definitions.proofs.RoundTrip.{answer-length, answer-back, answer-accepted}
+use Rattle.definitions.proofs.RoundTrip.{answer-length, answer-back, answer-accepted, answer-bytes}
 use Rattle.definitions.proofs.Put.{take-put}
 use Rattle.duality.specs.Within.{Within}
 use Rattle.duality.proofs.Classes.{optimal-range}
@@ -84,3 +85,90 @@ pub least-spans : (engine : Engine) → EngineSolves engine → LeastSpans engin
 least-spans engine solves p buffer b c w long =
     let e = engine-answer engine solves p buffer b c w long in
     record { class = e .class; span = e .span; trials = e .trials; size = answerSize (e .class) (nField p) (mField p); result-is = e .result-is; found = e .answers .found; few = few p w (e .answers .found) }
+
+-- ---- the record that was written
+
+-- The answer's fields are such as the writer takes, so they read back from their bytes.
+answer-takes : (p : List ℕ) → WithinLayout p → {class : ℕ} {span : Trop} {trials : ℕ} (a : Answer) → Answers (problemOf p) class span trials a
+    → WriterFits a (nField p) (mField p) answer-most
+unfolding problemOf rightCounts
+answer-takes p w a ans =
+    let f = problem-fits p .0 w in
+    let counts = and-eq-true-iff _ _ .0 (ans .counts) in
+    record {
+      n-most = f .n-most;
+      m-most = f .m-most;
+      room-enough = omega arith;
+      class-known = rw (ans .class-is) (class-known (ans .found));
+      stamps-count = eqb-true _ _ (counts .0);
+      picks-count = eqb-true _ _ (counts .1);
+      form = form-fits a (nField p) (mField p) .0 (ans .form);
+    }
+  where
+    class-known : {q : Problem} {class : ℕ} {span : Trop} {trials : ℕ} → Found q class span trials → known-class class ≡ true
+    class-known (optimal o) = refl
+    class-known (unbounded u) = refl
+    class-known (infeasible n) = refl
+
+-- A record as long as its class asks stands at the buffer's start.
+record-stands : (p buffer : List ℕ) → WithinLayout p → {class : ℕ} {span : Trop} {trials : ℕ} (a : Answer) → Answers (problemOf p) class span trials a
+    → take (answerSize class (nField p) (mField p)) (written buffer (answerBytes (nField p) a)) ≡ answerBytes (nField p) a
+unfolding written
+record-stands p buffer w {class} a ans =
+    let f = answer-takes p w a ans in
+    let size : answerSize class (nField p) (mField p) ≡ 0 + length (answerBytes (nField p) a) =
+    ap (λ (k : ℕ). answerSize k (nField p) (mField p)) (sym (ans .class-is)) ∙ sym (answer-length a (nField p) (mField p) answer-most f) ∙ sym (zero-add _) in
+    rw size (take-put buffer 0 (answerBytes (nField p) a) (omega arith))
+
+-- It reads back as itself.
+reads-itself : (read : Reader) → ReadsFields read → (p : List ℕ) → WithinLayout p → {class : ℕ} {span : Trop} {trials : ℕ} (a : Answer)
+    → Answers (problemOf p) class span trials a → read (answerBytes (nField p) a) (nField p) (mField p) ≡ fields a
+reads-itself read reads p w a ans =
+    let f = answer-takes p w a ans in
+    reads (answerBytes (nField p) a) (answer-bytes (nField p) a) (nField p) (mField p) (answer-accepted a (nField p) (mField p) answer-most f)
+    ∙ ap fields (answer-back a (nField p) (mField p) answer-most f)
+
+pub engine-reads-back : (engine : Engine) → EngineSolves engine → (read : Reader) → ReadsFields read → EngineReadsBack engine read
+engine-reads-back engine solves read reads p buffer b c w long =
+    let e = engine-answer engine solves p buffer b c w long in
+    let ans = e .answers in
+    record {
+      trials = e .trials;
+      size = answerSize (e .class) (nField p) (mField p);
+      answer = e .answer;
+      result-is = rw (ans .class-is, ans .span-is) (e .result-is);
+      reads = rw (e .buffer-is, record-stands p buffer w (e .answer) ans) (reads-itself read reads p w (e .answer) ans);
+    }
+
+-- ---- the checker's own call on it
+
+-- A verdict on bytes of the right form that are accepted names their class and span.
+names-itself : (p s : List ℕ) (a : Answer) → checkRefusal p s ≡ 0 → answerFor p s ≡ a → Accepted (problemOf p) a → {v : Verdict} → Judged p s v
+    → v ≡ accepted (a .class) (a .span)
+names-itself p s a right back h (turned-away e) = absurd (let z : suc _ ≡ 0 = sym e ∙ right in omega arith)
+names-itself p s a right back h (certified e g) = ap (λ (x : Answer). accepted (x .class) (x .span)) back
+names-itself p s a right back h (uncertified e g) = absurd (g (subst (λ (x : Answer). Accepted (problemOf p) x) (sym back) h))
+
+-- A true checker accepts the bytes of an answer that is accepted.
+pub accepts-it : (check : Checker) → CheckerJudges check → (p : List ℕ) → Bytes p → WithinLayout p → {class : ℕ} {span : Trop} {trials : ℕ} (a : Answer)
+    → Answers (problemOf p) class span trials a → check p (answerBytes (nField p) a) ≡ accepted class span
+unfolding checkRefusal
+accepts-it check judges p b w a ans =
+    let f = answer-takes p w a ans in
+    let s = answerBytes (nField p) a in
+    let right : checkRefusal p s ≡ 0 = or-else-none (problemRefusal p) _ .1 (w, answer-accepted a (nField p) (mField p) answer-most f) in
+    names-itself p s a right (answer-back a (nField p) (mField p) answer-most f) (ans .accepted) (judges p s b (answer-bytes (nField p) a))
+    ∙ ap₂ accepted (ans .class-is) (ans .span-is)
+
+pub own-answers : (engine : Engine) → EngineSolves engine → (check : Checker) → CheckerJudges check → OwnAnswers engine check
+own-answers engine solves check judges p buffer b c w long =
+    let e = engine-answer engine solves p buffer b c w long in
+    let ans = e .answers in
+    record {
+      class = e .class;
+      span = e .span;
+      trials = e .trials;
+      size = answerSize (e .class) (nField p) (mField p);
+      result-is = e .result-is;
+      accepted-is = rw (e .buffer-is, record-stands p buffer w (e .answer) ans) (accepts-it check judges p b w (e .answer) ans);
+    }

@@ -1,0 +1,38 @@
+-- What follows for any reader and writer of answers whose results are those that document 01 gives: what is written reads
+-- back as itself, and what is read is written again to the same bytes.
+use Prim.Native.Nat.{ℕ, zero, suc, _+_, _≤_}
+use mathlib.Core.Path.{_≡_, refl, ap, sym, _∙_}
+use mathlib.Core.List.{List}
+use native.Mathlib.Omega.{arith}
+use native.Mathlib.Nat.{zero-add}
+use lib.ListN.{length, take}
+use Rattle.definitions.specs.Limits.{answer-most}
+use Rattle.definitions.specs.Bytes.{Bytes}
+use Rattle.definitions.specs.AnswerRecord.{Answer, answerRefusal, answerOf, answerSize, answerBytes, written, writerRefusal}
+use Rattle.definitions.specs.Demands.{Reader, Reading, refusal, fields, Writer, ReaderRefuses, ReadsFields, WriterRefuses, WritesRecord, ReadsBack, WritesBack}
+use Rattle.definitions.proofs.RoundTrip.{write-read, read-write, answer-bytes}
+use Rattle.definitions.proofs.Put.{take-put}
+
+pub reads-back : (read : Reader) (write : Writer) → ReadsFields read → WriterRefuses write → WritesRecord write → ReadsBack read write
+unfolding written
+reads-back read write reads refuses writes a n m buffer c e =
+    let taken : writerRefusal a n m (length buffer) ≡ 0 = sym (refuses .number-is a n m buffer c) ∙ e in
+    let back = write-read a n m (length buffer) taken in
+    let size : answerSize (a .class) n m ≡ 0 + length (answerBytes n a) = sym (back .2) ∙ sym (zero-add _) in
+    let stands : take (answerSize (a .class) n m) (written buffer (answerBytes n a)) ≡ answerBytes n a = rw size (take-put buffer 0 (answerBytes n a) (omega arith)) in
+    rw (writes a n m buffer c taken, stands) (reads (answerBytes n a) (answer-bytes n a) n m (back .0) ∙ ap fields (back .1))
+
+-- What a reader gives as fields was not refused.
+pub read-fields : (read : Reader) → ReaderRefuses read → ReadsFields read → (s : List ℕ) → Bytes s → (n m : ℕ) (a : Answer) → read s n m ≡ fields a
+    → (answerRefusal s n m ≡ 0) × (answerOf s n m ≡ a)
+read-fields read refuses reads s b n m a e = go (answerRefusal s n m) refl
+  where
+    go : (k : ℕ) → answerRefusal s n m ≡ k → (answerRefusal s n m ≡ 0) × (answerOf s n m ≡ a)
+    go zero h = let g : fields (answerOf s n m) ≡ fields a = sym (reads s b n m h) ∙ e in (h, cc)
+    go (suc k) h = let g : refusal (suc k) ≡ fields a = sym (refuses s b n m k h) ∙ e in absurd (let z : _≡_ {A = ℕ} 0 1 = cc in omega arith)
+
+pub writes-back : (read : Reader) (write : Writer) → ReaderRefuses read → ReadsFields read → WritesRecord write → WritesBack read write
+writes-back read write refuses reads writes s b n m a buffer c long e =
+    let f = read-fields read refuses reads s b n m a e in
+    let back = read-write n m (length buffer) b (f .0) long in
+    rw (← f .1) (writes (answerOf s n m) n m buffer c (back .1) ∙ ap (written buffer) (back .0))
