@@ -1,3 +1,5 @@
 pub mod ByClass
 pub mod Passing
 pub mod Reading
+pub mod Padding
+pub mod Judging

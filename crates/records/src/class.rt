@@ -2,9 +2,10 @@
 use crate::limits::{ANSWER_HEADER, SPAN_LIMIT};
 use crate::offset::whole_within;
 ghost use mathlib.Core.Path.{_≡_};
-ghost use Prim.Native.Nat.{_≤_, _<_, _+_};
+ghost use Prim.Native.Nat.{_≤_};
 ghost use mathlib.Core.Bool.{_&&_};
 ghost use lib.Dec.{eqb};
+ghost use Rattle.definitions.specs.Limits.{highest-n, highest-m};
 ghost use Rattle.definitions.specs.Offset.{tropOf};
 ghost use Rattle.definitions.specs.AnswerRecord.{known-class, stampCount, pickCount, highestPick, answerSize, spanFits};
 
@@ -20,8 +21,8 @@ pub fn known_class(class: u64) -> bool
 
 // How many stamps an answer of this class has: n + 1 for least, else none.
 pub fn stamp_count(class: u64, n: usize) -> usize
-    requires { ⌜ n < 4294967296 ⌝ }
-    ensures { λ r. ⌜ (r ≡ stampCount class n) × (r ≤ n + 1) ⌝ }
+    requires { ⌜ n ≤ highest-n ⌝ }
+    ensures { λ r. ⌜ (r ≡ stampCount class n) × (r ≤ 32) ⌝ }
 {
     match class {
         1 => n + 1,
@@ -31,8 +32,8 @@ pub fn stamp_count(class: u64, n: usize) -> usize
 
 // How many picks: one a row for bottomless, else one a moment.
 pub fn pick_count(class: u64, n: usize, m: usize) -> usize
-    requires { ⌜ (n < 4294967296) × (m < 4294967296) ⌝ }
-    ensures { λ r. ⌜ (r ≡ pickCount class n m) × (r ≤ n + m + 1) ⌝ }
+    requires { ⌜ (n ≤ highest-n) × (m ≤ highest-m) ⌝ }
+    ensures { λ r. ⌜ (r ≡ pickCount class n m) × (r ≤ 64) ⌝ }
 {
     match class {
         2 => m + 1,
@@ -42,7 +43,7 @@ pub fn pick_count(class: u64, n: usize, m: usize) -> usize
 
 // The highest pick: 1 + a moment's number for bottomless, else m + 1, the question.
 pub fn highest_pick(class: u64, n: usize, m: usize) -> u64
-    requires { ⌜ (n < 4294967296) × (m < 4294967296) ⌝ }
+    requires { ⌜ (n ≤ highest-n) × (m ≤ highest-m) ⌝ }
     ensures { λ r. ⌜ r ≡ highestPick class n m ⌝ }
 {
     match class {
@@ -63,8 +64,8 @@ pub fn span_fits(class: u64, span: u64) -> bool
 
 // The size of an answer record.
 pub fn answer_size(class: u64, n: usize, m: usize) -> usize
-    requires { ⌜ (n < 4294967296) × (m < 4294967296) ⌝ }
-    ensures { λ r. ⌜ r ≡ answerSize class n m ⌝ }
+    requires { ⌜ (n ≤ highest-n) × (m ≤ highest-m) ⌝ }
+    ensures { λ r. ⌜ (r ≡ answerSize class n m) × (r ≤ 270) ⌝ }
 {
     ANSWER_HEADER + 4 * stamp_count(class, n) + 2 * pick_count(class, n, m)
 }

@@ -1,3 +1,5 @@
+use Rattle.records.proofs.Judging.{form-span, form-stamps, form-picks, form-right}
+use borrow.Author.Tests.{not-true, not-false}
 use borrow.Author.Needs.{needs}
 use Rattle.records.proofs.answer.judge_body.Statement.{statement}
 use Rattle.records.proofs.answer.judge_body.Tie as tie
@@ -16,7 +18,7 @@ span-fits-requires c κs = search needs
 
 -- src/answer.rt:129:9
 returns : tie.Need-returns
-returns c = search needs
+returns c = form-span _ _ _ (c .before .span-fits .ensures) (not-true _ (c .if1 .taken))
 
 -- src/answer.rt:131:9
 stamp-count-requires : tie.Need-stamp-count-requires
@@ -28,7 +30,7 @@ stamps-fit-at-requires c κs = search needs
 
 -- src/answer.rt:133:9
 returns-2 : tie.Need-returns-2
-returns-2 c = search needs
+returns-2 c = form-stamps _ _ _ (c .before .before .before .before .span-fits .ensures) (not-false _ (c .before .before .before .if1 .left)) (rw (c .before .before .stamp-count .ensures .0) at (c .before .stamps-fit-at .ensures)) (not-true _ (c .if2 .taken))
 
 -- src/answer.rt:135:9
 pick-count-requires : tie.Need-pick-count-requires
@@ -44,11 +46,11 @@ picks-fit-at-requires c κs = search needs
 
 -- src/answer.rt:137:9
 returns-3 : tie.Need-returns-3
-returns-3 c = search needs
+returns-3 c = form-picks _ _ _ (c .before .before .before .before .before .before .before .before .span-fits .ensures) (not-false _ (c .before .before .before .before .before .before .before .if1 .left)) (rw (c .before .before .before .before .before .before .stamp-count .ensures .0) at (c .before .before .before .before .before .stamps-fit-at .ensures)) (not-false _ (c .before .before .before .before .if2 .left)) (rw (c .before .before .before .before .before .before .stamp-count .ensures .0, c .before .before .before .pick-count .ensures .0, c .before .before .highest-pick .ensures) at (c .before .picks-fit-at .ensures)) (not-true _ (c .if3 .taken))
 
 -- src/answer.rt:124:1
 returns-4 : tie.Need-returns-4
-returns-4 c = search needs
+returns-4 c = form-right _ _ _ (c .before .before .before .before .before .before .before .before .span-fits .ensures) (not-false _ (c .before .before .before .before .before .before .before .if1 .left)) (rw (c .before .before .before .before .before .before .stamp-count .ensures .0) at (c .before .before .before .before .before .stamps-fit-at .ensures)) (not-false _ (c .before .before .before .before .if2 .left)) (rw (c .before .before .before .before .before .before .stamp-count .ensures .0, c .before .before .before .pick-count .ensures .0, c .before .before .highest-pick .ensures) at (c .before .picks-fit-at .ensures)) (not-false _ (c .if3 .left))
 
 pub judge-body-spec : {M : Type 1} → statement M
 judge-body-spec =

@@ -52,11 +52,11 @@ answer-size-requires c κs = search needs
 
 -- src/answer.rt:45:9
 returns-7 : tie.Need-returns-7
-returns-7 c = judged-size _ _ _ _ _ _ _ (c .before .before .before .before .before .before .before .before .if1 .left) (c .before .before .before .before .before .before .before .if2 .left) (c .before .before .before .before .before .before .if3 .left) (c .before .before .before .before .before .if4 .left) (c .before .before .before .before .known-record .ensures) (not-false _ (c .before .before .before .if5 .left)) (c .before .before .if6 .left) (c .before .answer-size .ensures) (c .if7 .taken)
+returns-7 c = judged-size _ _ _ _ _ _ _ (c .before .before .before .before .before .before .before .before .if1 .left) (c .before .before .before .before .before .before .before .if2 .left) (c .before .before .before .before .before .before .if3 .left) (c .before .before .before .before .before .if4 .left) (c .before .before .before .before .known-record .ensures) (not-false _ (c .before .before .before .if5 .left)) (c .before .before .if6 .left) (c .before .answer-size .ensures .0) (c .if7 .taken)
 
 -- src/answer.rt:22:1
 returns-8 : tie.Need-returns-8
-returns-8 c = judged-none _ _ _ _ _ _ _ (c .before .before .before .before .before .before .before .before .if1 .left) (c .before .before .before .before .before .before .before .if2 .left) (c .before .before .before .before .before .before .if3 .left) (c .before .before .before .before .before .if4 .left) (c .before .before .before .before .known-record .ensures) (not-false _ (c .before .before .before .if5 .left)) (c .before .before .if6 .left) (c .before .answer-size .ensures) (c .if7 .left)
+returns-8 c = judged-none _ _ _ _ _ _ _ (c .before .before .before .before .before .before .before .before .if1 .left) (c .before .before .before .before .before .before .before .if2 .left) (c .before .before .before .before .before .before .if3 .left) (c .before .before .before .before .before .if4 .left) (c .before .before .before .before .known-record .ensures) (not-false _ (c .before .before .before .if5 .left)) (c .before .before .if6 .left) (c .before .answer-size .ensures .0) (c .if7 .left)
 
 pub judge-header-spec : {M : Type 1} → statement M
 judge-header-spec =

@@ -1,3 +1,9 @@
+use Rattle.records.proofs.Passing.{stampsAt-at, stampsAt-length, picksAt-at, picksAt-length}
+use Rattle.records.proofs.Padding.{Filling, padded-start, padded-turn, padded-end}
+use Rattle.records.specs.Fields.{stampsAt, picksAt}
+use Prim.Native.Nat.{_≤_, _-_}
+use mathlib.Core.Path.{_∙_}
+use native.Mathlib.Omega.{arith}
 use borrow.Author.Needs.{needs}
 use Rattle.records.proofs.answer.stamps_from.Statement.{statement}
 use Rattle.records.proofs.answer.stamps_from.Tie as tie
@@ -6,14 +12,14 @@ use Rattle.records.proofs.answer.stamps_from.Lts as lts
 use Rattle.records.proofs.answer.stamp_at.Reads as stamp-at-reads
 
 abbrev Inv-loop : tie.InvT-loop
-Inv-loop bytes count out₀ i₀ out i = ?
+Inv-loop bytes count out₀ i₀ out i = (i ≤ count) × Filling 32 (stampsAt bytes count) i out
 
 abbrev μ-loop : tie.MeasureT-loop
-μ-loop bytes count out₀ i₀ out i = ?
+μ-loop bytes count out₀ i₀ out i = count - i
 
 -- src/answer.rt:149:5
 loop-holds : tie.Need-loop-holds Inv-loop μ-loop
-loop-holds c = search needs
+loop-holds c = (omega arith, padded-start 32 _)
 
 -- src/answer.rt:150:18
 stamp-at-requires : tie.Need-stamp-at-requires Inv-loop μ-loop
@@ -37,11 +43,11 @@ loop-less c = search needs
 
 -- src/answer.rt:149:5
 loop-again : tie.Need-loop-again Inv-loop μ-loop
-loop-again c = search needs
+loop-again c = (omega arith, padded-turn (c .before .before .loop .inv .1) (omega arith) (c .stamp-at .ensures .0 ∙ stampsAt-at _ _ _ (omega arith)))
 
 -- src/answer.rt:143:1
 returns : tie.Need-returns Inv-loop μ-loop
-returns c = search needs
+returns c = padded-end (c .before .loop .inv .1) (rw stampsAt-length (omega arith))
 
 pub stamps-from-spec : {M : Type 1} → statement M
 stamps-from-spec =

@@ -1,0 +1,71 @@
+use borrow.Author.Needs.{needs}
+use Rattle.records.proofs.answer.read_answer.Statement.{statement}
+use Rattle.records.proofs.answer.read_answer.Tie as tie
+use Rattle.records.proofs.answer.read_answer.Reads as reads
+use Rattle.records.proofs.answer.read_answer.Lts as lts
+use Rattle.records.proofs.answer.judge_body.Reads as judge-body-reads
+use Rattle.records.proofs.answer.picks_from.Reads as picks-from-reads
+use Rattle.records.proofs.answer.read_answer_header.Reads as read-answer-header-reads
+use Rattle.records.proofs.answer.stamps_from.Reads as stamps-from-reads
+use Rattle.records.proofs.class.pick_count.Reads as pick-count-reads
+use Rattle.records.proofs.class.stamp_count.Reads as stamp-count-reads
+
+-- src/answer.rt:177:9
+read-answer-header-requires : tie.Need-read-answer-header-requires
+read-answer-header-requires c κs = search needs
+
+-- src/answer.rt:178:28
+enum-known-head : tie.Need-enum-known-head
+enum-known-head c = search needs
+
+-- src/answer.rt:179:9
+enum-told : tie.Need-enum-told
+enum-told c = search needs
+
+-- src/answer.rt:179:9
+returns : tie.Need-returns
+returns c = search needs
+
+-- src/answer.rt:181:9
+judge-body-requires : tie.Need-judge-body-requires
+judge-body-requires c κs = search needs
+
+-- src/answer.rt:183:9
+returns-2 : tie.Need-returns-2
+returns-2 c = search needs
+
+-- src/answer.rt:185:9
+stamp-count-requires : tie.Need-stamp-count-requires
+stamp-count-requires c κs = search needs
+
+-- src/answer.rt:186:15
+stamps-from-requires : tie.Need-stamps-from-requires
+stamps-from-requires c κs = search needs
+
+-- src/answer.rt:187:39
+pick-count-requires : tie.Need-pick-count-requires
+pick-count-requires c κs = search needs
+
+-- src/answer.rt:187:14
+picks-from-requires : tie.Need-picks-from-requires
+picks-from-requires c κs = search needs
+
+-- src/answer.rt:172:1
+returns-3 : tie.Need-returns-3
+returns-3 c = search needs
+
+pub read-answer-spec : {M : Type 1} → statement M
+read-answer-spec =
+    tie.close
+    (tie.spec
+    read-answer-header-requires
+    enum-known-head
+    enum-told
+    returns
+    judge-body-requires
+    returns-2
+    stamp-count-requires
+    stamps-from-requires
+    pick-count-requires
+    picks-from-requires
+    returns-3)
