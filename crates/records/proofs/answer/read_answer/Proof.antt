@@ -1,3 +1,6 @@
+use mathlib.Core.Path.{refl}
+use Rattle.records.proofs.Judging.{HeadRight, head-right, read-turned-away, read-refused, read-done}
+use native.Mathlib.Omega.{arith}
 use borrow.Author.Needs.{needs}
 use Rattle.records.proofs.answer.read_answer.Statement.{statement}
 use Rattle.records.proofs.answer.read_answer.Tie as tie
@@ -24,19 +27,19 @@ enum-told c = search needs
 
 -- src/answer.rt:179:9
 returns : tie.Need-returns
-returns c = search needs
+returns c = read-turned-away _ _ _ (c .before .before .read-answer-header .ensures) (c .enum-told .given .1)
 
 -- src/answer.rt:181:9
 judge-body-requires : tie.Need-judge-body-requires
-judge-body-requires c κs = search needs
+judge-body-requires c κs = let h = (head-right _ _ _ (c .before .before .before .read-answer-header .ensures) (c .before .head .given .1)) in (h .n-most, h .m-most)
 
 -- src/answer.rt:183:9
 returns-2 : tie.Need-returns-2
-returns-2 c = search needs
+returns-2 c = read-refused (record { byte = λ i. c .before .before .before .before .before .before .shared-slice-known .given i .fits }) (head-right _ _ _ (c .before .before .before .before .before .read-answer-header .ensures) (c .before .before .before .head .given .1)) (c .before .judge-body .ensures) (c .if1 .taken)
 
 -- src/answer.rt:185:9
 stamp-count-requires : tie.Need-stamp-count-requires
-stamp-count-requires c κs = search needs
+stamp-count-requires c κs = (head-right _ _ _ (c .before .before .before .before .before .read-answer-header .ensures) (c .before .before .before .head .given .1)) .n-most
 
 -- src/answer.rt:186:15
 stamps-from-requires : tie.Need-stamps-from-requires
@@ -44,7 +47,7 @@ stamps-from-requires c κs = search needs
 
 -- src/answer.rt:187:39
 pick-count-requires : tie.Need-pick-count-requires
-pick-count-requires c κs = search needs
+pick-count-requires c κs = let h = (head-right _ _ _ (c .before .before .before .before .before .before .before .read-answer-header .ensures) (c .before .before .before .before .before .head .given .1)) in (h .n-most, h .m-most)
 
 -- src/answer.rt:187:14
 picks-from-requires : tie.Need-picks-from-requires
@@ -52,7 +55,7 @@ picks-from-requires c κs = search needs
 
 -- src/answer.rt:172:1
 returns-3 : tie.Need-returns-3
-returns-3 c = search needs
+returns-3 c = read-done (record { byte = λ i. c .before .before .before .before .before .before .before .before .before .before .shared-slice-known .given i .fits }) (head-right _ _ _ (c .before .before .before .before .before .before .before .before .before .read-answer-header .ensures) (c .before .before .before .before .before .before .before .head .given .1)) refl (c .before .before .before .before .before .judge-body .ensures) (c .before .before .before .before .if1 .left) (rw (c .before .before .before .stamp-count .ensures .0) at (c .before .before .stamps-from .ensures)) (rw (c .before .before .before .stamp-count .ensures .0, c .before .pick-count .ensures .0) at (c .picks-from .ensures))
 
 pub read-answer-spec : {M : Type 1} → statement M
 read-answer-spec =
