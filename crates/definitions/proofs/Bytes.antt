@@ -1,14 +1,14 @@
 -- Laws of fields in lists of bytes, over any width: lengths, reading back what was written, writing back what was read.
 use Prim.Native.Nat.{ℕ, zero, suc, _+_, _*_, _-_, _/_, _%_, _^_, _≤_, _<_}
 use mathlib.Core.Path.{_≡_, refl, ap, ap₂, sym, subst, _∙_}
-use mathlib.Core.Bool.{Bool, true, false, _&&_, and-eq-true-iff}
+use mathlib.Core.Bool.{Bool, true, and-eq-true-iff}
 use mathlib.Core.List.{List, [], _∷_, _++_, map, append-assoc}
-use mathlib.Core.Logic.{_⊎_, inl, inr, ⊎-elim, _↔_}
+use mathlib.Core.Logic.{⊎-elim, _↔_}
 use native.Mathlib.Omega.{arith}
-use native.Mathlib.Nat.{add-zero, add-assoc, mul-zero, pow-suc, one-le-pow}
+use native.Mathlib.Nat.{add-zero, add-assoc, mul-zero, pow-suc}
 use native.Mathlib.Numerals.{add-one}
 use lib.ListN.{length, getD, take, drop, length-append, length-take, length-map, List·getD-append, List·getD-eq-default, List·getD-map}
-use lib.Seq.{drop-cons, append-snoc, getD-at, getD-append-add, getD-take, getD-drop, take-add, drop-drop, take-nil}
+use lib.Seq.{drop-cons, append-snoc, getD-at, getD-append-add, getD-take, getD-drop, take-add, drop-drop}
 use Rattle.definitions.specs.Bytes.{Bytes, numAt, le, numsAt, fields, put, all}
 use Rattle.definitions.proofs.Whole.{nat-le-or-lt}
 
@@ -68,7 +68,7 @@ num-le (suc k) x p q n e h =
     let low : getD (p ++ ((x % 256) ∷ (le k (x / 256) ++ q))) n 0 ≡ x % 256 = getD-at p (x % 256) (le k (x / 256) ++ q) 0 n e in
     let fits : x / 256 < 256 ^ k = omega (arith, pow-suc 256 k) in
     let high : numAt k (p ++ ((x % 256) ∷ (le k (x / 256) ++ q))) (n + 1) ≡ x / 256 =
-      rw append-snoc at (num-le k (x / 256) (p ++ b) q (n + 1) (rw length-append (omega arith)) fits) in
+    rw append-snoc at (num-le k (x / 256) (p ++ b) q (n + 1) (rw length-append (omega arith)) fits) in
     omega arith
 
 -- A number read from k bytes is below 256 to the k.
@@ -173,9 +173,10 @@ all-true test d (x ∷ xs) =
 -- A test passes for what a run means exactly when it passes for each of its fields.
 pub all-numsAt {ℓ} : {A : Type ℓ} (test : A → Bool) (f : ℕ → A) (k count : ℕ) (s : List ℕ) (at : ℕ)
     → (all test (map f (numsAt k count s at)) ≡ true) ↔ ((i : ℕ) → i < count → test (f (numAt k s (at + k * i))) ≡ true)
-all-numsAt test f k count s at =
-    (λ e i l. rw (element i l) at (places .0 e i (rw (length-map, length-numsAt) l)),
-    λ h. places .1 (λ i l. let r : i < count = rw (length-map, length-numsAt) at l in rw (element i r) (h i r)))
+all-numsAt test f k count s at = (
+  λ e i l. rw (element i l) at (places .0 e i (rw (length-map, length-numsAt) l)),
+  λ h. places .1 (λ i l. let r : i < count = rw (length-map, length-numsAt) at l in rw (element i r) (h i r)),
+)
   where
     element : (i : ℕ) → i < count → getD (map f (numsAt k count s at)) i (f 0) ≡ f (numAt k s (at + k * i))
     element i l = List·getD-map f (numsAt k count s at) i 0 ∙ ap f (getD-numsAt k count s at i l)

@@ -7,3 +7,4 @@ pub mod Refusals
 pub mod Bisection
 pub mod Examples
 pub mod Edges
+pub mod RoundTrip

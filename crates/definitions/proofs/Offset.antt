@@ -1,11 +1,11 @@
 -- Laws of offset numbers: what they stand for, their fields, the tests of form on them, and their arithmetic.
-use Prim.Native.Nat.{ℕ, zero, suc, _+_, _-_, _%_, _≤_, _<_}
+use Prim.Native.Nat.{ℕ, _+_, _-_, _≤_, _<_}
 use mathlib.Core.Path.{_≡_, refl, ap, ap₂, sym, subst, _∙_}
-use mathlib.Core.Bool.{Bool, true, false, not, cond, _&&_, _||_, and-eq-true-iff}
+use mathlib.Core.Bool.{Bool, true, false, cond, _&&_, _||_, and-eq-true-iff}
 use mathlib.Core.Logic.{_⊎_, inl, inr, ⊎-elim, _↔_}
 use native.Mathlib.Omega.{arith}
-use native.Mathlib.Nat.{eq-zero-or-pos, eq-or-lt-of-le}
-use lib.Dec.{eqb, ltb, leb}
+use native.Mathlib.Nat.{eq-zero-or-pos}
+use lib.Dec.{eqb, leb}
 use lib.IntN.{ℤ, pos, negsuc, subℕ, natAbs, _+ℤ_, _-ℤ_}
 use lib.Signed.{_≤ℤ_}
 use borrow.Author.Tests.{leb-true, leb-false, eqb-true, eqb-false, ne-eqb, eq-eqb, lt-ltb, le-ltb, le-leb, lt-leb}
@@ -14,7 +14,7 @@ use Rattle.definitions.specs.Tropical.{Trop, bot, fin, plus, _⊑_, blan
 use Rattle.definitions.specs.Bytes.{signed, tropField, fieldOf, whole-within, blank-or-within}
 use Rattle.definitions.specs.AnswerRecord.{is-zero, is-blank}
 use Rattle.definitions.specs.Offset.{tropOf, off}
-use Rattle.definitions.proofs.Whole.{up, down, whole, subℕ-read, plus-read, minus-read, abs-read, abs-show, parts, eq-read, eq-show, nat-le-or-lt}
+use Rattle.definitions.proofs.Whole.{up, down, whole, subℕ-read, plus-read, minus-read, abs-read, abs-show, nat-le-or-lt}
 use Rattle.definitions.proofs.Tropical.{fin-injective, bot-not-fin, fin-below, below-bot, ⊑-refl, ⊑-antisym, plus-bot, larger-left, larger-right, larger-least}
 
 -- ---- what an offset number stands for
@@ -142,9 +142,9 @@ pub tropField-fits : (w : ℕ) → w < signed-full → FitsField (tropField w)
 tropField-fits w h =
     record {
       size = λ z e.
-        let r = trop-read (off w) (trop-off w h ∙ e) in
-        let b : natAbs z ≤ signed-half - 1 = abs-show z (omega (arith, off-bound w)) (omega arith) in
-        omega arith;
+          let r = trop-read (off w) (trop-off w h ∙ e) in
+          let b : natAbs z ≤ signed-half - 1 = abs-show z (omega (arith, off-bound w)) (omega arith) in
+          omega arith;
     }
 
 -- What a field stands for has that field.
@@ -191,11 +191,13 @@ whole-offset limit k l = ⊎-elim at-blank at-whole (eq-zero-or-pos k)
         let both = and-eq-true-iff (leb signed-half (k + limit)) (leb k (signed-half + limit)) in
         rw (trop-fin k h)
         (same-test (leb (natAbs z) limit) (leb signed-half (k + limit) && leb k (signed-half + limit))
-        (λ e. both .1 (le-leb signed-half (k + limit) (omega (arith, leb-true (natAbs z) limit e, abs-read z, subℕ-read k signed-half)),
-          le-leb k (signed-half + limit) (omega (arith, leb-true (natAbs z) limit e, abs-read z, subℕ-read k signed-half))))
+        (λ e. both .1 (
+          le-leb signed-half (k + limit) (omega (arith, leb-true (natAbs z) limit e, abs-read z, subℕ-read k signed-half)),
+          le-leb k (signed-half + limit) (omega (arith, leb-true (natAbs z) limit e, abs-read z, subℕ-read k signed-half)),
+        ))
         (λ e. le-leb (natAbs z) limit (abs-show z
-          (omega (arith, leb-true k (signed-half + limit) (both .0 e .1), subℕ-read k signed-half))
-          (omega (arith, leb-true signed-half (k + limit) (both .0 e .0), subℕ-read k signed-half)))))
+        (omega (arith, leb-true k (signed-half + limit) (both .0 e .1), subℕ-read k signed-half))
+        (omega (arith, leb-true signed-half (k + limit) (both .0 e .0), subℕ-read k signed-half)))))
 
 -- Blank or within a limit below 2³¹, on the offset number.
 pub within-offset : (limit k : ℕ) → limit < signed-half
@@ -208,19 +210,20 @@ unfolding is-zero
 zero-offset k = ⊎-elim
     (λ (e : k ≡ 0). rw (e, trop-zero))
     (λ (h : 0 < k).
-      let z : ℤ = subℕ k signed-half in
-      rw (trop-fin k h)
-      (same-test (eqb (natAbs z) 0) (eqb k signed-half)
-      (λ e. eq-eqb k signed-half (omega (arith, eqb-true (natAbs z) 0 e, abs-read z, subℕ-read k signed-half)))
-      (λ e. eq-eqb (natAbs z) 0 (let b : natAbs z ≤ 0 = abs-show z (omega (arith, eqb-true k signed-half e, subℕ-read k signed-half)) (omega (arith, eqb-true k signed-half e, subℕ-read k signed-half)) in omega arith))))
+    let z : ℤ = subℕ k signed-half in
+    rw (trop-fin k h)
+    (same-test (eqb (natAbs z) 0) (eqb k signed-half)
+    (λ e. eq-eqb k signed-half (omega (arith, eqb-true (natAbs z) 0 e, abs-read z, subℕ-read k signed-half)))
+    (λ e. eq-eqb (natAbs z) 0 (let b : natAbs z ≤ 0 = abs-show z (omega (arith, eqb-true k signed-half e, subℕ-read k signed-half)) (omega (arith, eqb-true k signed-half e, subℕ-read k signed-half)) in omega arith))))
     (eq-zero-or-pos k)
 
 -- Blank or within a limit below 2³¹, as facts of the offset number.
 pub within-iff : (limit k : ℕ) → limit < signed-half
     → (blank-or-within limit (tropOf k) ≡ true) ↔ ((k ≡ 0) ⊎ ((signed-half ≤ k + limit) × (k ≤ signed-half + limit)))
-within-iff limit k l =
-    (λ e. ⊎-elim (λ (z : k ≡ 0). inl z) (λ (h : 0 < k). inr (between h e)) (eq-zero-or-pos k),
-    λ s. rw (within-offset limit k l) (⊎-elim (λ (z : k ≡ 0). rw z refl) (λ (b : (signed-half ≤ k + limit) × (k ≤ signed-half + limit)). inside b (eqb k 0)) s))
+within-iff limit k l = (
+  λ e. ⊎-elim (λ (z : k ≡ 0). inl z) (λ (h : 0 < k). inr (between h e)) (eq-zero-or-pos k),
+  λ s. rw (within-offset limit k l) (⊎-elim (λ (z : k ≡ 0). rw z refl) (λ (b : (signed-half ≤ k + limit) × (k ≤ signed-half + limit)). inside b (eqb k 0)) s),
+)
   where
     both : ((leb signed-half (k + limit) && leb k (signed-half + limit)) ≡ true) ↔ ((leb signed-half (k + limit) ≡ true) × (leb k (signed-half + limit) ≡ true))
     both = and-eq-true-iff (leb signed-half (k + limit)) (leb k (signed-half + limit))
@@ -244,17 +247,17 @@ trop-order a b = (below, above)
     below h = ⊎-elim
         (λ (e : a ≡ 0). omega arith)
         (λ (p : 0 < a). ⊎-elim
-          (λ (e : b ≡ 0). absurd (bot-not-fin (sym (below-bot (rw (trop-fin a p, e, trop-zero) at h)))))
-          (λ (q : 0 < b). omega (whole, fin-below (rw (trop-fin a p, trop-fin b q) at h), subℕ-read a signed-half, subℕ-read b signed-half))
-          (eq-zero-or-pos b))
+        (λ (e : b ≡ 0). absurd (bot-not-fin (sym (below-bot (rw (trop-fin a p, e, trop-zero) at h)))))
+        (λ (q : 0 < b). omega (whole, fin-below (rw (trop-fin a p, trop-fin b q) at h), subℕ-read a signed-half, subℕ-read b signed-half))
+        (eq-zero-or-pos b))
         (eq-zero-or-pos a)
 
     above : a ≤ b → tropOf a ⊑ tropOf b
     above h = ⊎-elim
         (λ (e : a ≡ 0). rw (e, trop-zero) blank-least)
         (λ (p : 0 < a).
-          let r : subℕ a signed-half ≤ℤ subℕ b signed-half = omega (whole, subℕ-read a signed-half, subℕ-read b signed-half) in
-          rw (trop-fin a p, trop-fin b (omega arith)) (whole-least r))
+        let r : subℕ a signed-half ≤ℤ subℕ b signed-half = omega (whole, subℕ-read a signed-half, subℕ-read b signed-half) in
+        rw (trop-fin a p, trop-fin b (omega arith)) (whole-least r))
         (eq-zero-or-pos a)
 
 -- The larger of two.

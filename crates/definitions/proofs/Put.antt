@@ -1,9 +1,9 @@
 -- Laws of `put`, the list with values put from a place on. Everything that is said of a written buffer goes through these.
-use Prim.Native.Nat.{ℕ, zero, suc, _+_, _-_, _≤_, _<_}
-use mathlib.Core.Path.{_≡_, refl, ap, sym, subst, _∙_}
+use Prim.Native.Nat.{ℕ, _+_, _-_, _≤_, _<_}
+use mathlib.Core.Path.{_≡_, sym, subst, _∙_}
 use mathlib.Core.List.{List, [], _∷_, _++_, append-assoc}
 use native.Mathlib.Omega.{arith}
-use native.Mathlib.Nat.{add-zero, zero-add, add-assoc}
+use native.Mathlib.Nat.{add-zero, zero-add}
 use native.Mathlib.Numerals.{add-one}
 use lib.ListN.{length, getD, set, take, drop, length-append, length-drop, take-append-drop, List·getD-append}
 use lib.Seq.{length-take-le, take-at, take-append-le, take-take, drop-append-add, drop-drop, set-split, getD-take, getD-drop, getD-append-add}
@@ -24,19 +24,21 @@ pub put-one : (l : List ℕ) (at x : ℕ) → at < length l → set l at x ≡ p
 unfolding put
 put-one l at x h = rw (set-split l at x h, add-one)
 
+-- The list is: what stood before, then the values, then the rest.
+pub put-split : (l : List ℕ) (at : ℕ) (vs : List ℕ) → put l at vs ≡ (take at l ++ vs) ++ drop (at + length vs) l
+unfolding put
+put-split l at vs = rw append-assoc
+
+-- What comes after n elements of two lists, where the first has m and ends before them.
 drop-past : (p q : List ℕ) (m n : ℕ) → length p ≡ m → m ≤ n → drop n (p ++ q) ≡ drop (n - m) q
 drop-past p q m n e h =
     let f : length p + (n - m) ≡ n = omega arith in
     subst (λ (k : ℕ). drop k (p ++ q) ≡ drop (n - m) q) f (drop-append-add p q (n - m))
 
 module _ (l : List ℕ) (at : ℕ) (vs : List ℕ) (inside : at ≤ length l) where
+  -- The length up to the end of the values.
   front-length : length (take at l ++ vs) ≡ at + length vs
   front-length = rw (length-append, length-take-le at l inside)
-
-  -- The list is: what stood before, then the values, then the rest.
-  pub put-split : put l at vs ≡ (take at l ++ vs) ++ drop (at + length vs) l
-  unfolding put
-  put-split = rw append-assoc
 
   -- What stands up to the end of the values.
   pub take-put : take (at + length vs) (put l at vs) ≡ take at l ++ vs

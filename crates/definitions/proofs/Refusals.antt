@@ -1,18 +1,18 @@
 -- What it means that nothing is refused: the refusals of problems, answers and the writer as records of facts.
-use Prim.Native.Nat.{ℕ, zero, suc, _+_, _*_, _-_, _≤_, _<_}
-use mathlib.Core.Path.{_≡_, refl, ap, sym, subst, _∙_}
+use Prim.Native.Nat.{ℕ, zero, suc, _+_, _*_, _≤_, _<_}
+use mathlib.Core.Path.{_≡_, refl, ap, sym}
 use mathlib.Core.Bool.{Bool, true, false, not, cond, _&&_, _||_, and-eq-true-iff, false≢true}
-use mathlib.Core.List.{List, [], _∷_}
-use mathlib.Core.Logic.{_⊎_, inl, inr, ⊎-elim, _↔_}
+use mathlib.Core.List.{List, []}
+use mathlib.Core.Logic.{_↔_}
 use native.Mathlib.Omega.{arith}
 use native.Mathlib.Nat.{mul-le-mul-right}
-use lib.Dec.{eqb, ltb, leb}
+use lib.Dec.{eqb, ltb}
 use lib.ListN.{length}
 use lib.IntN.{ℤ, natAbs}
-use borrow.Author.Tests.{ltb-true, ltb-false, eqb-true, not-false, le-ltb, eq-eqb}
+use borrow.Author.Tests.{ltb-false, eqb-true, not-false, le-ltb, eq-eqb}
 use Rattle.definitions.specs.Limits.{highest-n, highest-m, lead-limit, length-bytes, signed-bytes, problem-kind, answer-kind, problem-header, answer-header, answer-most}
-use Rattle.definitions.specs.Tropical.{Trop, fin}
-use Rattle.definitions.specs.Bytes.{tropField, tropAt, numAt, all, blank-or-within, or-else}
+use Rattle.definitions.specs.Tropical.{fin}
+use Rattle.definitions.specs.Bytes.{tropField, tropAt, all, blank-or-within, or-else}
 use Rattle.definitions.specs.ProblemRecord.{problemSize, lengthField, kindField, nField, mField, leadsOf, above-limits, headerRefusal, problemRefusal, WithinLayout, problemOf, leftPlace, rightPlace}
 use Rattle.definitions.specs.AnswerRecord.{Answer, known-class, stampCount, pickCount, highestPick, answerSize, spanFits, stampsFit, picksFit, formRefusal, rightCounts, classField, answerOf, answerHeaderRefusal, answerRefusal, writerRefusal}
 use Rattle.definitions.proofs.Bytes.{all-numsAt}
@@ -67,9 +67,10 @@ enough-clause a b n k = clause (ltb a b) (ltb-false a b, le-ltb a b) n k
 pub limits-clause : (n m c k : ℕ) → (cond (above-limits n m) (suc c) k ≡ 0) ↔ (((n ≤ highest-n) × (m ≤ highest-m)) × (k ≡ 0))
 limits-clause n m c k =
     let either = or-false (ltb highest-n n) (ltb highest-m m) in
-    clause (above-limits n m)
-    (λ e. (ltb-false highest-n n (either .0 e .0), ltb-false highest-m m (either .0 e .1)),
-    λ h. either .1 (le-ltb highest-n n (h .0), le-ltb highest-m m (h .1)))
+    clause (above-limits n m) (
+      λ e. (ltb-false highest-n n (either .0 e .0), ltb-false highest-m m (either .0 e .1)),
+      λ h. either .1 (le-ltb highest-n n (h .0), le-ltb highest-m m (h .1)),
+    )
     c
     k
   where
@@ -115,11 +116,16 @@ problem-fits s = (fits, within)
 
     within : ProblemFits s → WithinLayout s
     within f =
-        or-else-none (headerRefusal s (length s)) _ .1
-        (enough-clause (length s) problem-header _ _ .1 (f .size-enough,
-          equal-clause _ _ _ _ .1 (f .length-is,
-            equal-clause _ _ _ _ .1 (f .kind-is, limits-clause _ _ _ _ .1 ((f .n-most, f .m-most), equal-clause _ _ _ _ .1 (f .size-is, refl))))),
-        passes-clause _ _ _ .1 (f .leads-fit, refl))
+        or-else-none (headerRefusal s (length s)) _ .1 (
+          enough-clause (length s) problem-header _ _ .1 (
+            f .size-enough,
+            equal-clause _ _ _ _ .1 (
+              f .length-is,
+              equal-clause _ _ _ _ .1 (f .kind-is, limits-clause _ _ _ _ .1 ((f .n-most, f .m-most), equal-clause _ _ _ _ .1 (f .size-is, refl))),
+            ),
+          ),
+          passes-clause _ _ _ .1 (f .leads-fit, refl),
+        )
 
 -- ---- leads
 
@@ -173,12 +179,13 @@ pub record FormFits (a : Answer) (n m : ℕ) : Type 0 where
 -- Nothing is refused in the form exactly when these hold.
 pub form-fits : (a : Answer) (n m : ℕ) → (formRefusal a n m ≡ 0) ↔ FormFits a n m
 unfolding formRefusal
-form-fits a n m =
-    (λ e.
+form-fits a n m = (
+  λ e.
       let b = both-clause (spanFits (a .class) (a .span)) (stampsFit (a .stamps)) _ _ .0 e in
       let c = passes-clause (picksFit (highestPick (a .class) n m) (a .picks)) _ _ .0 (b .1) in
       record { span-fits = b .0 .0; stamps-fit = b .0 .1; picks-fit = c .0 },
-    λ f. both-clause _ _ _ _ .1 ((f .span-fits, f .stamps-fit), passes-clause _ _ _ .1 (f .picks-fit, refl)))
+  λ f. both-clause _ _ _ _ .1 ((f .span-fits, f .stamps-fit), passes-clause _ _ _ .1 (f .picks-fit, refl)),
+)
 
 -- The facts of an answer record that nothing refuses, read with the problem's n and m.
 pub record AnswerFits (s : List ℕ) (n m : ℕ) : Type 0 where
@@ -219,13 +226,22 @@ answer-fits s n m = (fits, within)
 
     within : AnswerFits s n m → answerRefusal s n m ≡ 0
     within f =
-        or-else-none (answerHeaderRefusal s (length s) n m) (formRefusal (answerOf s n m) n m) .1
-        (limits-clause n m _ _ .1 ((f .n-most, f .m-most),
-          enough-clause _ _ _ _ .1 (f .size-enough,
-            equal-clause _ _ _ _ .1 (f .length-is,
-              both-clause _ _ _ _ .1 ((eq-eqb _ _ (f .kind-is), f .class-known),
-                both-clause _ _ _ _ .1 ((eq-eqb _ _ (f .n-is), eq-eqb _ _ (f .size-is)), refl))))),
-        form-fits (answerOf s n m) n m .1 (f .form))
+        or-else-none (answerHeaderRefusal s (length s) n m) (formRefusal (answerOf s n m) n m) .1 (
+          limits-clause n m _ _ .1 (
+            (f .n-most, f .m-most),
+            enough-clause _ _ _ _ .1 (
+              f .size-enough,
+              equal-clause _ _ _ _ .1 (
+                f .length-is,
+                both-clause _ _ _ _ .1 (
+                  (eq-eqb _ _ (f .kind-is), f .class-known),
+                  both-clause _ _ _ _ .1 ((eq-eqb _ _ (f .n-is), eq-eqb _ _ (f .size-is)), refl),
+                ),
+              ),
+            ),
+          ),
+          form-fits (answerOf s n m) n m .1 (f .form),
+        )
 
 -- The facts of fields that the writer takes, with n, m and the size of the buffer.
 pub record WriterFits (a : Answer) (n m room : ℕ) : Type 0 where
@@ -261,9 +277,16 @@ writer-fits a n m room = (fits, within)
 
     within : WriterFits a n m room → writerRefusal a n m room ≡ 0
     within f =
-        or-else-none _ (formRefusal a n m) .1
-        (limits-clause n m _ _ .1 ((f .n-most, f .m-most),
-          enough-clause _ _ _ _ .1 (f .room-enough,
-            passes-clause _ _ _ .1 (f .class-known,
-              both-clause _ _ _ _ .1 ((eq-eqb _ _ (f .stamps-count), eq-eqb _ _ (f .picks-count)), refl)))),
-        form-fits a n m .1 (f .form))
+        or-else-none _ (formRefusal a n m) .1 (
+          limits-clause n m _ _ .1 (
+            (f .n-most, f .m-most),
+            enough-clause _ _ _ _ .1 (
+              f .room-enough,
+              passes-clause _ _ _ .1 (
+                f .class-known,
+                both-clause _ _ _ _ .1 ((eq-eqb _ _ (f .stamps-count), eq-eqb _ _ (f .picks-count)), refl),
+              ),
+            ),
+          ),
+          form-fits a n m .1 (f .form),
+        )
