@@ -3,3 +3,4 @@ pub mod Passing
 pub mod Reading
 pub mod Padding
 pub mod Judging
+pub mod Writing

@@ -4,3 +4,4 @@ pub mod bytes;
 pub mod class;
 pub mod limits;
 pub mod offset;
+pub mod writer;
