@@ -107,14 +107,14 @@ unfolding headerBytes
 length-header size n class span = simp (length-append, length-le)
 
 -- The record's three parts.
-pub record-put : (l : List ℕ) (size n class span : ℕ) (stamps picks : List ℕ) {l₁ l₂ l₃ : List ℕ} → 14 + 4 * length stamps + 2 * length picks ≤ length l
-    → l₁ ≡ put l 0 (headerBytes size n class span) → l₂ ≡ put l₁ 14 (fields 4 stamps) → l₃ ≡ put l₂ (14 + 4 * length stamps) (fields 2 picks)
+pub record-put : (l : List ℕ) (size n class span : ℕ) (stamps picks : List ℕ) {l₁ l₂ l₃ : List ℕ} {at : ℕ} → at + 2 * length picks ≤ length l
+    → at ≡ 14 + 4 * length stamps → l₁ ≡ put l 0 (headerBytes size n class span) → l₂ ≡ put l₁ 14 (fields 4 stamps) → l₃ ≡ put l₂ at (fields 2 picks)
     → l₃ ≡ put l 0 (recordBytes size n class span stamps picks)
 unfolding recordBytes
-record-put l size n class span stamps picks h a b c =
+record-put l size n class span stamps picks {at = at} h e a b c =
     let t₁ = trail-put (headerBytes size n class span) (trail-start l) a refl (rw length-header (omega arith)) in
     let t₂ = trail-put (fields 4 stamps) t₁ b (rw length-header refl) (rw length-fields (omega arith)) in
-    let t₃ = trail-put (fields 2 picks) t₂ c (simp (length-append, length-header, length-fields)) (rw length-fields (omega arith)) in
+    let t₃ = trail-put (fields 2 picks) t₂ c (simp (length-append, length-header, length-fields) e) (rw length-fields (omega arith)) in
     simp append-assoc at (t₃ .is)
 
 -- ---- refusals 4, 7, 10 and 11 in the code's order
