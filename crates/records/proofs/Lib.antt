@@ -4,3 +4,4 @@ pub mod Reading
 pub mod Padding
 pub mod Judging
 pub mod Writing
+pub mod Trips

@@ -4,4 +4,5 @@ pub mod bytes;
 pub mod class;
 pub mod limits;
 pub mod offset;
+pub mod roundtrip;
 pub mod writer;
