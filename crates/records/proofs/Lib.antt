@@ -5,3 +5,4 @@ pub mod Padding
 pub mod Judging
 pub mod Writing
 pub mod Trips
+pub mod Meaning

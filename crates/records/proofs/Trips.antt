@@ -167,14 +167,14 @@ module _ (class span : ℕ) (stamps picks : List ℕ) (n m : ℕ) where
 
 -- ---- read and written back
 
-stamps-most : (class n : ℕ) → n ≤ highest-n → stampCount class n ≤ 32
+pub stamps-most : (class n : ℕ) → n ≤ highest-n → stampCount class n ≤ 32
 stamps-most class n h = go (eqb class 1)
   where
     go : (t : Bool) → cond t (suc n) 0 ≤ 32
     go true = omega arith
     go false = omega arith
 
-picks-most : (class n m : ℕ) → n ≤ highest-n → m ≤ highest-m → pickCount class n m ≤ 64
+pub picks-most : (class n m : ℕ) → n ≤ highest-n → m ≤ highest-m → pickCount class n m ≤ 64
 picks-most class n m h k = go (eqb class 2)
   where
     go : (t : Bool) → cond t (suc m) (suc n) ≤ 64

@@ -1,3 +1,4 @@
+use mathlib.Core.Path.{sym}
 use Rattle.records.proofs.Trips.{read-right, again-refused, again-written}
 use native.Mathlib.Omega.{arith}
 use borrow.Author.Needs.{needs}
@@ -18,11 +19,11 @@ enum-known-head c = search needs
 
 -- src/roundtrip.rt:57:71
 slice-aggregate-write-counted : tie.Need-slice-aggregate-write-counted
-slice-aggregate-write-counted c = ?
+slice-aggregate-write-counted c = sym (read-right (c .before .before .before .before .read-answer .ensures) (c .before .before .head .given .1) .stamps-width)
 
 -- src/roundtrip.rt:57:80
 slice-aggregate-write-counted-2 : tie.Need-slice-aggregate-write-counted-2
-slice-aggregate-write-counted-2 c = ?
+slice-aggregate-write-counted-2 c = sym (read-right (c .before .before .before .before .before .read-answer .ensures) (c .before .before .before .head .given .1) .picks-width)
 
 -- src/roundtrip.rt:57:44
 write-counted-requires : tie.Need-write-counted-requires

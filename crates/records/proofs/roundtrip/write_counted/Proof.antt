@@ -1,3 +1,5 @@
+use lib.Seq.{length-take-le}
+use mathlib.Core.Path.{sym}
 use native.Mathlib.Omega.{arith}
 use borrow.Author.Needs.{needs}
 use Rattle.records.proofs.roundtrip.write_counted.Statement.{statement}
@@ -18,11 +20,11 @@ pick-count-requires c κs = search needs
 
 -- src/roundtrip.rt:46:31
 slice-aggregate-write-answer : tie.Need-slice-aggregate-write-answer
-slice-aggregate-write-answer c = ?
+slice-aggregate-write-answer c = sym (length-take-le _ _ (omega arith))
 
 -- src/roundtrip.rt:46:45
 slice-aggregate-write-answer-2 : tie.Need-slice-aggregate-write-answer-2
-slice-aggregate-write-answer-2 c = ?
+slice-aggregate-write-answer-2 c = sym (length-take-le _ _ (omega arith))
 
 -- src/roundtrip.rt:46:5
 write-answer-requires : tie.Need-write-answer-requires

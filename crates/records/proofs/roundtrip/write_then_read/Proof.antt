@@ -1,3 +1,5 @@
+use lib.Seq.{length-take-le}
+use mathlib.Core.Path.{sym}
 use Rattle.records.proofs.Trips.{front, back-refused, back-read}
 use native.Mathlib.Omega.{arith}
 use borrow.Author.Needs.{needs}
@@ -18,11 +20,11 @@ enum-known-result c = search needs
 
 -- src/roundtrip.rt:32:46
 slice-reshare-prefix-read-answer : tie.Need-slice-reshare-prefix-read-answer
-slice-reshare-prefix-read-answer c = ?
+slice-reshare-prefix-read-answer c = front _ _ (c .before .before .before .before .before .before .before .before .before .before .args .stamps .now) _ _ _ (c .before .before .before .before .before .write-answer .ensures) (c .before .result .given .1) .inside
 
 -- src/roundtrip.rt:32:46
 slice-aggregate-read-answer : tie.Need-slice-aggregate-read-answer
-slice-aggregate-read-answer c = ?
+slice-aggregate-read-answer c = sym (length-take-le _ _ (front _ _ (c .before .before .before .before .before .before .before .before .before .before .before .args .stamps .now) _ _ _ (c .before .before .before .before .before .before .write-answer .ensures) (c .before .before .result .given .1) .inside))
 
 -- src/roundtrip.rt:32:34
 read-answer-requires : tie.Need-read-answer-requires
