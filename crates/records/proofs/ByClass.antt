@@ -1,16 +1,14 @@
 -- What the code's tests of a class say of the definitions by class, and the tests of form on offset numbers.
 use Prim.Native.Nat.{ℕ, zero, suc, _+_, _-_, _≤_, _<_}
-use mathlib.Core.Path.{_≡_, refl, sym, _∙_}
-use mathlib.Core.Bool.{Bool, true, false, cond, _&&_, _||_}
+use mathlib.Core.Path.{_≡_, refl}
+use mathlib.Core.Bool.{true, false, _&&_}
 use native.Mathlib.Omega.{arith}
-use native.Mathlib.Numerals.{add-one}
 use lib.Dec.{eqb, leb}
 use borrow.Author.Tests.{eq-eqb, ne-eqb, le-leb, lt-leb}
 use Rattle.definitions.specs.Limits.{signed-half, span-limit, stamp-limit}
-use Rattle.definitions.specs.Tropical.{Trop}
 use Rattle.definitions.specs.Bytes.{whole-within, blank-or-within}
 use Rattle.definitions.specs.Offset.{tropOf}
-use Rattle.definitions.specs.AnswerRecord.{known-class, stampCount, pickCount, highestPick, spanFits, is-blank}
+use Rattle.definitions.specs.AnswerRecord.{known-class, stampCount, pickCount, highestPick, spanFits}
 use Rattle.definitions.proofs.Offset.{whole-offset, within-offset, blank-offset, zero-offset}
 use Rattle.records.specs.Fields.{stampFits}
 

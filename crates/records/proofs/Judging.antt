@@ -1,19 +1,18 @@
 -- The cascade of refusals 12 and 13, and the answer whose body the reader judges.
-use Prim.Native.Nat.{ℕ, zero, suc, _+_, _*_, _≤_, _<_}
-use mathlib.Core.Path.{_≡_, refl, ap, ap₂, sym, subst, _∙_}
-use mathlib.Core.Bool.{Bool, true, false, not, cond, _&&_}
+use Prim.Native.Nat.{ℕ, zero, suc, _≤_}
+use mathlib.Core.Path.{_≡_, refl, ap₂, sym, _∙_}
+use mathlib.Core.Bool.{Bool, true, false}
 use mathlib.Core.List.{List, [], _∷_, map}
 use native.Mathlib.Omega.{arith}
-use lib.ListN.{length, getD}
+use lib.ListN.{length}
 use Rattle.definitions.specs.Limits.{highest-n, highest-m, signed-bytes, signed-full, span-place, answer-header}
-use Rattle.definitions.specs.Tropical.{Trop}
-use Rattle.definitions.specs.Bytes.{Bytes, numAt, numsAt, tropField, tropAt, or-else}
+use Rattle.definitions.specs.Bytes.{Bytes, numAt, tropField, tropAt, or-else}
 use Rattle.definitions.specs.Offset.{tropOf, off}
 use Rattle.definitions.specs.AnswerRecord.{Answer, spanFits, stampsFit, picksFit, highestPick, formRefusal, stampCount, pickCount, classField, answerOf, answerHeaderRefusal, answerRefusal}
 use Rattle.definitions.proofs.Bytes.{numAt-bound, Below, numsAt-below}
 use Rattle.definitions.proofs.Offset.{trop-off}
-use Rattle.definitions.proofs.Refusals.{limits-clause, or-else-suc}
-use Rattle.records.specs.Fields.{Padded, fieldsOf, bodyOf, stampsAt, picksAt, stampsOf, picksOf}
+use Rattle.definitions.proofs.Refusals.{limits-clause}
+use Rattle.records.specs.Fields.{Padded, bodyOf, stampsAt, picksAt, stampsOf, picksOf}
 use Rattle.records.specs.AnswerReading.{spanNumber, headBy, answerHeadOf, answerReadOf, AnswerRead}
 use Rattle.records.specs.declared.answer.AnswerHead.{AnswerHead}
 use Rattle.records.specs.declared.answer.AnswerHead.the-variants.{Fields, Refused}

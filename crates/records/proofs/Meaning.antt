@@ -1,15 +1,14 @@
 -- What the arrays that the reader fills mean: the stamps and the picks of the answer in the bytes, at every index.
-use Prim.Native.Nat.{ℕ, zero, suc, _≤_}
-use mathlib.Core.Path.{_≡_, refl, ap, sym, _∙_}
+use Prim.Native.Nat.{ℕ}
+use mathlib.Core.Path.{_≡_, sym, _∙_}
 use mathlib.Core.List.{List, map}
-use lib.ListN.{length, getD, take}
-use Rattle.definitions.specs.Tropical.{Trop}
+use lib.ListN.{getD, take}
 use Rattle.definitions.specs.Bytes.{Bytes}
 use Rattle.definitions.specs.Offset.{tropOf}
 use Rattle.definitions.specs.AnswerRecord.{stampCount, pickCount, classField, answerOf, answerRefusal}
 use Rattle.definitions.specs.Verdict.{pointOf, strategyOf}
 use Rattle.definitions.proofs.Refusals.{answer-fits}
-use Rattle.records.specs.Fields.{Padded, stampsAt, picksAt, stampsOf, picksOf}
+use Rattle.records.specs.Fields.{stampsAt, picksAt, stampsOf, picksOf}
 use Rattle.records.specs.AnswerReading.{AnswerRead}
 use Rattle.records.specs.declared.answer.AnswerHead.{AnswerHead}
 use Rattle.records.proofs.Passing.{trop-at, stampsAt-length, picksAt-length}
@@ -25,7 +24,7 @@ module _ {s : List ℕ} {n m : ℕ} {head : AnswerHead} {stamps-before stamps pi
   stamps-taken b =
       let f = answer-fits s n m .0 accepted in
       let front : take (stampCount (classField s) n) stamps ≡ stampsAt s (stampCount (classField s) n) =
-        rw stampsAt-length at (padded-take (read .stamps-read accepted) (rw stampsAt-length (stamps-most (classField s) n (f .n-most)))) in
+      rw stampsAt-length at (padded-take (read .stamps-read accepted) (rw stampsAt-length (stamps-most (classField s) n (f .n-most)))) in
       rw front (stamps-meant b n m)
 
   -- The first picks of the array are the answer's.
@@ -34,7 +33,7 @@ module _ {s : List ℕ} {n m : ℕ} {head : AnswerHead} {stamps-before stamps pi
   picks-taken =
       let f = answer-fits s n m .0 accepted in
       let front : take (pickCount (classField s) n m) picks ≡ picksAt s (stampCount (classField s) n) (pickCount (classField s) n m) =
-        rw picksAt-length at (padded-take (read .picks-read accepted) (rw picksAt-length (picks-most (classField s) n m (f .n-most) (f .m-most)))) in
+      rw picksAt-length at (padded-take (read .picks-read accepted) (rw picksAt-length (picks-most (classField s) n m (f .n-most) (f .m-most)))) in
       front ∙ picks-meant s n m
 
   -- At every index the array of stamps is the answer's point: blank behind the last.

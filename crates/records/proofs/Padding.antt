@@ -1,8 +1,8 @@
 -- Arrays that hold a list and 0 behind it: filled one element after the other, and what they hold in the end.
 use Prim.Native.Nat.{ℕ, zero, suc, _+_, _≤_, _<_}
 use mathlib.Core.Path.{_≡_, refl, ap, sym, subst, _∙_}
-use mathlib.Core.List.{List, [], _∷_, map}
-use mathlib.Core.Logic.{_⊎_, inl, inr, ⊎-elim}
+use mathlib.Core.List.{List}
+use mathlib.Core.Logic.{⊎-elim}
 use native.Mathlib.Omega.{arith}
 use lib.ListN.{length, getD, set, take, replicate, length-set, length-replicate, length-take, List·getD-eq-default}
 use lib.Seq.{ext-getD, getD-take, getD-set-same, getD-set-other, length-take-le, take-all}
@@ -43,9 +43,9 @@ padded-turn {width} {i} {x} {xs} {array} f h e =
     up-to : (k : ℕ) → k < i + 1 → getD (set array i x) k 0 ≡ getD (take (i + 1) xs) k 0
     up-to k l = ⊎-elim
         (λ (d : i ≤ k).
-          let s : i ≡ k = omega arith in
-          subst (λ (j : ℕ). getD (set array i x) j 0 ≡ getD (take (i + 1) xs) j 0) s
-          (getD-set-same array i x 0 (rw (f .so-far .width-is) h) ∙ e ∙ sym (take-below (i + 1) xs i (omega arith))))
+        let s : i ≡ k = omega arith in
+        subst (λ (j : ℕ). getD (set array i x) j 0 ≡ getD (take (i + 1) xs) j 0) s
+        (getD-set-same array i x 0 (rw (f .so-far .width-is) h) ∙ e ∙ sym (take-below (i + 1) xs i (omega arith))))
         (λ (d : k < i). other k (omega arith) ∙ take-below i xs k d ∙ sym (take-below (i + 1) xs k (omega arith)))
         (nat-le-or-lt i k)
 

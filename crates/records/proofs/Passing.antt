@@ -1,11 +1,11 @@
 -- Loops that test the elements of a list one after the other, and what their outcome says of the tests of form.
 use Prim.Native.Nat.{ℕ, zero, suc, _+_, _*_, _≤_, _<_}
-use mathlib.Core.Path.{_≡_, refl, ap, sym, subst, _∙_}
-use mathlib.Core.Bool.{Bool, true, false, not, cond, _&&_, and-eq-true-iff, false≢true}
+use mathlib.Core.Path.{_≡_, refl, sym, _∙_}
+use mathlib.Core.Bool.{Bool, true, false, and-eq-true-iff, false≢true}
 use mathlib.Core.List.{List, [], _∷_, map}
-use mathlib.Core.Logic.{_⊎_, inl, inr, ⊎-elim, _↔_}
+use mathlib.Core.Logic.{_↔_}
 use native.Mathlib.Omega.{arith}
-use lib.Dec.{eqb, leb}
+use lib.Dec.{leb}
 use lib.ListN.{length, getD, length-map, List·getD-map}
 use borrow.Author.Count.{below-more}
 use borrow.Author.Tests.{le-leb, leb-true, ne-eqb}
@@ -51,9 +51,10 @@ unfolding stampsFit stampFits
 stamps-each [] = (λ e k h. absurd (omega arith), λ h. refl)
 stamps-each (x ∷ xs) =
     let both = and-eq-true-iff (is-zero (tropOf x)) (all (blank-or-within stamp-limit) (map tropOf xs)) in
-    let rest = all-true (blank-or-within stamp-limit) bot (map tropOf xs) in
-    (λ e k h. every (both .0 e .0) (rest .0 (both .0 e .1)) k h,
-    λ h. both .1 (h 0 (omega arith), rest .1 (λ k l. rw (trop-at, ← later-stamp k) (h (suc k) (let r : k < length xs = rw length-map at l in omega arith)))))
+    let rest = all-true (blank-or-within stamp-limit) bot (map tropOf xs) in (
+      λ e k h. every (both .0 e .0) (rest .0 (both .0 e .1)) k h,
+      λ h. both .1 (h 0 (omega arith), rest .1 (λ k l. rw (trop-at, ← later-stamp k) (h (suc k) (let r : k < length xs = rw length-map at l in omega arith)))),
+    )
   where
     every : is-zero (tropOf x) ≡ true
         → ((k : ℕ) → k < length (map tropOf xs) → blank-or-within stamp-limit (getD (map tropOf xs) k bot) ≡ true)

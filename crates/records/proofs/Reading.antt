@@ -1,19 +1,15 @@
 -- Laws of reading an answer: from the numbers that the code reads to what the definitions say of the bytes.
-use Prim.Native.Nat.{ℕ, zero, suc, _+_, _*_, _≤_, _<_}
-use mathlib.Core.Path.{_≡_, refl, ap, sym, subst, _∙_}
-use mathlib.Core.Bool.{Bool, true, false, not, cond, _&&_}
-use mathlib.Core.List.{List, [], _∷_, map}
-use native.Mathlib.Omega.{arith}
-use lib.ListN.{length, getD}
-use lib.Dec.{eqb, ltb}
+use Prim.Native.Nat.{ℕ, zero, suc, _+_, _≤_}
+use mathlib.Core.Path.{_≡_, refl}
+use mathlib.Core.Bool.{Bool, true, false, _&&_}
+use mathlib.Core.List.{List}
+use lib.ListN.{length}
+use lib.Dec.{eqb}
 use borrow.Author.Tests.{eq-eqb, ne-eqb, le-ltb}
-use Rattle.definitions.specs.Limits.{highest-n, highest-m, length-bytes, signed-bytes, span-place, answer-kind, answer-header}
-use Rattle.definitions.specs.Bytes.{numAt}
-use Rattle.definitions.specs.Offset.{off}
+use Rattle.definitions.specs.Limits.{highest-n, highest-m, length-bytes, answer-kind, answer-header}
 use Rattle.definitions.specs.ProblemRecord.{lengthField, kindField, nField}
-use Rattle.definitions.specs.AnswerRecord.{known-class, answerSize, classField, answerHeaderRefusal, answerRefusal}
-use Rattle.records.specs.AnswerReading.{headBy, headerJudged, spanNumber, answerHeadOf, answerReadOf}
-use Rattle.records.specs.declared.answer.AnswerHead.{AnswerHead}
+use Rattle.definitions.specs.AnswerRecord.{known-class, answerSize, classField, answerHeaderRefusal}
+use Rattle.records.specs.AnswerReading.{headBy, headerJudged}
 use Rattle.records.specs.declared.answer.AnswerHead.the-variants.{Fields, Refused}
 
 -- ---- the header
@@ -34,15 +30,33 @@ module _ (size length kind own class n m : ℕ) {known : Bool} (a : n ≤ highes
   pub judged-size : {most : ℕ} → known ≡ true → own ≡ n → most ≡ answerSize class n m → (size ≡ most → ⊥) → 11 ≡ headerJudged size length kind own class n m
   unfolding headerJudged
   judged-size f g h i =
-      rw (le-ltb highest-n n a, le-ltb highest-m m b, le-ltb size answer-header c, eq-eqb (length + length-bytes) size d, ← e, f, eq-eqb own n g, ← h,
-        ne-eqb size _ i)
+      rw (
+        le-ltb highest-n n a,
+        le-ltb highest-m m b,
+        le-ltb size answer-header c,
+        eq-eqb (length + length-bytes) size d,
+        ← e,
+        f,
+        eq-eqb own n g,
+        ← h,
+        ne-eqb size _ i,
+      )
 
   -- No refusal.
   pub judged-none : {most : ℕ} → known ≡ true → own ≡ n → most ≡ answerSize class n m → size ≡ most → 0 ≡ headerJudged size length kind own class n m
   unfolding headerJudged
   judged-none f g h i =
-      rw (le-ltb highest-n n a, le-ltb highest-m m b, le-ltb size answer-header c, eq-eqb (length + length-bytes) size d, ← e, f, eq-eqb own n g, ← h,
-        eq-eqb size _ i)
+      rw (
+        le-ltb highest-n n a,
+        le-ltb highest-m m b,
+        le-ltb size answer-header c,
+        eq-eqb (length + length-bytes) size d,
+        ← e,
+        f,
+        eq-eqb own n g,
+        ← h,
+        eq-eqb size _ i,
+      )
 
 -- The numbers of the header judged are the header judged.
 pub header-judged : (s : List ℕ) (size n m : ℕ) {length kind own class k : ℕ} → length ≡ lengthField s → kind ≡ kindField s → own ≡ nField s

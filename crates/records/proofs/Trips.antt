@@ -1,12 +1,12 @@
 -- Round trips: an answer written is read back as it was, an answer read is written back as it was.
-use Prim.Native.Nat.{ℕ, zero, suc, _+_, _*_, _≤_, _<_}
-use mathlib.Core.Path.{_≡_, refl, ap, ap₂, sym, subst, _∙_}
+use Prim.Native.Nat.{ℕ, zero, suc, _+_, _≤_, _<_}
+use mathlib.Core.Path.{_≡_, refl, ap, ap₂, sym, _∙_}
 use mathlib.Core.Bool.{Bool, true, false, cond}
-use mathlib.Core.List.{List, [], _∷_, _++_, map}
-use mathlib.Core.Logic.{_⊎_, inl, inr, ⊎-elim}
+use mathlib.Core.List.{List, [], _∷_, map}
+use mathlib.Core.Logic.{⊎-elim}
 use native.Mathlib.Omega.{arith}
-use lib.Dec.{eqb, ltb}
-use lib.ListN.{length, getD, take}
+use lib.Dec.{eqb}
+use lib.ListN.{length, take}
 use borrow.Author.Tests.{lt-ltb, le-ltb}
 use Rattle.definitions.specs.Limits.{highest-n, highest-m, answer-most}
 use Rattle.definitions.specs.Tropical.{Trop}
@@ -18,7 +18,7 @@ use Rattle.definitions.proofs.Offset.{tropOf-injective}
 use Rattle.definitions.proofs.Whole.{nat-le-or-lt}
 use Rattle.definitions.proofs.Refusals.{answer-fits}
 use Rattle.definitions.proofs.RoundTrip.{answer-bytes, write-read, read-write}
-use Rattle.records.specs.Fields.{fieldsOf, bodyOf, Padded, stampsAt, picksAt, stampsOf, picksOf}
+use Rattle.records.specs.Fields.{fieldsOf, stampsAt, picksAt, stampsOf, picksOf}
 use Rattle.records.specs.AnswerReading.{headBy, spanNumber, answerReadOf, AnswerRead}
 use Rattle.records.specs.AnswerWriting.{writtenBy, writtenOf, unlessRefused, AnswerWritten}
 use Rattle.records.specs.RoundTrips.{fieldsRefusal, WrittenThenRead, backRefusal, ReadThenWritten}
@@ -29,7 +29,7 @@ use Rattle.records.specs.declared.writer.Written.the-variants as result
 use Rattle.records.proofs.Passing.{stampsAt-length, picksAt-length}
 use Rattle.records.proofs.Padding.{padded-take}
 use Rattle.records.proofs.Judging.{stamps-meant, span-meant, picks-meant, body-meant}
-use Rattle.records.proofs.Writing.{Roomy, roomy}
+use Rattle.records.proofs.Writing.{roomy}
 
 -- ---- what an outcome says of its refusal
 
@@ -258,9 +258,9 @@ module _ {s : List ℕ} {n m : ℕ} {outcome : AnswerHead} {stamps-before stamps
     counted b =
         let h = read-right in
         let x : take (stampCount (classField s) n) stamps ≡ stampsAt s (stampCount (classField s) n) =
-          rw stampsAt-length at (padded-take (q .stamps-read (h .none)) (rw stampsAt-length (stamps-most (classField s) n (h .n-most)))) in
+        rw stampsAt-length at (padded-take (q .stamps-read (h .none)) (rw stampsAt-length (stamps-most (classField s) n (h .n-most)))) in
         let y : take (pickCount (classField s) n m) picks ≡ picksAt s (stampCount (classField s) n) (pickCount (classField s) n m) =
-          rw picksAt-length at (padded-take (q .picks-read (h .none)) (rw picksAt-length (picks-most (classField s) n m (h .n-most) (h .m-most)))) in
+        rw picksAt-length at (padded-take (q .picks-read (h .none)) (rw picksAt-length (picks-most (classField s) n m (h .n-most) (h .m-most)))) in
         rw (h .class-is, h .span-is, x, y) (body-meant b n m)
 
     -- What is written back.

@@ -1,24 +1,22 @@
 -- Laws of writing: numbers stored byte by byte, runs of fields put one after the other, the refusals in the code's order.
 use Prim.Native.Nat.{ℕ, zero, suc, _+_, _*_, _-_, _/_, _%_, _≤_, _<_}
-use mathlib.Core.Path.{_≡_, refl, ap, ap₂, sym, subst, _∙_}
-use mathlib.Core.Bool.{Bool, true, false, not, cond, _&&_, and-eq-true-iff}
-use mathlib.Core.Logic.{_⊎_, inl, inr, ⊎-elim}
-use mathlib.Core.List.{List, [], _∷_, _++_, map, append-assoc, append-nil}
+use mathlib.Core.Path.{_≡_, refl, ap, ap₂, sym, _∙_}
+use mathlib.Core.Bool.{Bool, true, false, and-eq-true-iff}
+use mathlib.Core.Logic.{⊎-elim}
+use mathlib.Core.List.{List, [], _∷_, _++_, map, append-assoc}
 use native.Mathlib.Omega.{arith}
 use native.Mathlib.Numerals.{add-one}
 use native.Mathlib.Nat.{mul-le-mul-left}
-use lib.Dec.{eqb, ltb}
-use lib.ListN.{length, getD, set, take, drop, length-set, length-append, length-map, drop-of-length-le}
+use lib.ListN.{length, getD, set, drop, length-set, length-append, length-map, drop-of-length-le}
 use lib.Seq.{drop-cons}
 use borrow.Author.Tests.{eq-eqb, ne-eqb, le-ltb}
 use Rattle.definitions.specs.Limits.{highest-n, highest-m, answer-most, signed-half, signed-full, span-limit, stamp-limit}
-use Rattle.definitions.specs.Tropical.{Trop}
 use Rattle.definitions.specs.Offset.{tropOf, off}
 use Rattle.definitions.specs.Bytes.{le, fields, put, fieldOf, tropField, all, blank-or-within, or-else}
-use Rattle.definitions.specs.AnswerRecord.{Answer, known-class, stampCount, pickCount, answerSize, stampsFit, formRefusal, rightCounts, writerRefusal, answerBytes, written}
+use Rattle.definitions.specs.AnswerRecord.{known-class, stampCount, pickCount, answerSize, formRefusal, rightCounts, writerRefusal, answerBytes, written}
 use Rattle.definitions.proofs.Bytes.{length-le, length-fields}
 use Rattle.definitions.proofs.Offset.{trop-off, off-off, off-bound, fieldOf-tropField, within-iff}
-use Rattle.definitions.proofs.Refusals.{WriterFits, writer-fits, limits-clause}
+use Rattle.definitions.proofs.Refusals.{writer-fits, limits-clause}
 use Rattle.definitions.proofs.RoundTrip.{span-within, stamps-within, size-most}
 use Rattle.definitions.proofs.Put.{put-nil, put-one, put-put, length-put}
 use Rattle.records.specs.AnswerWriting.{countsJudged, stored, headerBytes, recordBytes, writtenBy, writtenOf, unlessRefused, AnswerWritten}
@@ -55,7 +53,7 @@ remains-turn {k} {l} {at} {xs} {l₁} {l₂} {p} {i} {x} r h room e f =
     let more : k * suc i ≤ k * length xs = mul-le-mul-left k h in
     let fits : p + k ≤ length l₁ = omega (arith, r .place, r .same-length) in
     let step : put (put l₁ p (le k x)) (p + k) (fields k (drop (i + 1) xs)) ≡ put l₁ p (le k x ++ fields k (drop (i + 1) xs)) =
-      put-put l₁ p (le k x) (p + k) (fields k (drop (i + 1) xs)) (omega arith) (rw length-le refl) in
+    put-put l₁ p (le k x) (p + k) (fields k (drop (i + 1) xs)) (omega arith) (rw length-le refl) in
     let split : fields k (drop i xs) ≡ le k x ++ fields k (drop (i + 1) xs) = rw (drop-cons xs i 0 h, add-one, e) in
     record {
       inside = omega arith;

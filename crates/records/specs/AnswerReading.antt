@@ -1,12 +1,12 @@
 -- What reading an answer answers: class and span, or the number of the first refusal that applies.
 use Prim.Native.Nat.{ℕ, zero, suc, _+_}
 use mathlib.Core.Path.{_≡_}
-use mathlib.Core.Bool.{Bool, not, _&&_}
+use mathlib.Core.Bool.{not, _&&_}
 use mathlib.Core.List.{List, [], _∷_}
 use lib.Dec.{eqb, ltb}
 use lib.ListN.{length}
 use Rattle.definitions.specs.Limits.{length-bytes, signed-bytes, span-place, answer-kind, answer-header}
-use Rattle.definitions.specs.Bytes.{numAt, Clause, first}
+use Rattle.definitions.specs.Bytes.{numAt, first}
 use Rattle.definitions.specs.ProblemRecord.{above-limits}
 use Rattle.definitions.specs.Offset.{off}
 use Rattle.definitions.specs.AnswerRecord.{known-class, answerSize, classField, answerHeaderRefusal, answerRefusal}

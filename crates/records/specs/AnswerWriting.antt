@@ -1,12 +1,12 @@
 -- What writing an answer answers: the record's size, or the number of the first refusal that applies; and the buffer.
-use Prim.Native.Nat.{ℕ, zero, suc, _+_, _*_, _-_, _%_, _/_}
+use Prim.Native.Nat.{ℕ, zero, suc, _+_, _%_, _/_}
 use mathlib.Core.Path.{_≡_}
-use mathlib.Core.Bool.{Bool, not, _&&_}
-use mathlib.Core.List.{List, [], _∷_, _++_, map}
+use mathlib.Core.Bool.{not, _&&_}
+use mathlib.Core.List.{List, [], _∷_, _++_}
 use lib.Dec.{eqb, ltb}
 use lib.ListN.{length, set}
 use Rattle.definitions.specs.Limits.{byte-values, length-bytes, short-bytes, signed-bytes, answer-kind, answer-most}
-use Rattle.definitions.specs.Bytes.{le, fields, Clause, first}
+use Rattle.definitions.specs.Bytes.{le, fields, first}
 use Rattle.definitions.specs.ProblemRecord.{above-limits}
 use Rattle.definitions.specs.AnswerRecord.{Answer, known-class, stampCount, pickCount, answerSize, answerBytes, writerRefusal, written}
 use Rattle.records.specs.declared.writer.Written.{Written}

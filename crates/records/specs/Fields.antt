@@ -1,5 +1,5 @@
 -- An answer as the programs hold it: class and span as numbers, stamps as offset numbers, picks, and arrays padded with 0.
-use Prim.Native.Nat.{ℕ, zero, suc, _+_, _*_}
+use Prim.Native.Nat.{ℕ, _+_, _*_}
 use mathlib.Core.Path.{_≡_}
 use mathlib.Core.Bool.{Bool, cond}
 use mathlib.Core.List.{List, map}

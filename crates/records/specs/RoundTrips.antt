@@ -1,11 +1,11 @@
 -- What an answer written and read back is, and what an answer read and written back is.
-use Prim.Native.Nat.{ℕ, zero, suc}
+use Prim.Native.Nat.{ℕ}
 use mathlib.Core.Path.{_≡_}
 use mathlib.Core.List.{List, [], _∷_}
 use lib.Dec.{ltb}
 use lib.ListN.{length}
 use Rattle.definitions.specs.Limits.{answer-most}
-use Rattle.definitions.specs.Bytes.{Clause, first, or-else}
+use Rattle.definitions.specs.Bytes.{first, or-else}
 use Rattle.definitions.specs.AnswerRecord.{answerBytes, answerRefusal, writerRefusal, written}
 use Rattle.records.specs.Fields.{fieldsOf, Padded}
 use Rattle.records.specs.AnswerReading.{headBy}

@@ -1,8 +1,19 @@
 // The answer reader: bytes to class, span, stamps and picks. Document 01, "Records" and "What is turned away", 4 and 8 to 13.
-use crate::bytes::{short_at, word_at};
-use crate::class::{answer_size, highest_pick, known_record, pick_count, span_fits, stamp_count};
-use crate::limits::{ANSWER_HEADER, MOST_INEQUALITIES, MOST_VARIABLES, OFFSET, STAMP_LIMIT};
-use crate::offset::{blank_or_within, offset};
+use crate::bytes::short_at;
+use crate::bytes::word_at;
+use crate::class::answer_size;
+use crate::class::highest_pick;
+use crate::class::known_record;
+use crate::class::pick_count;
+use crate::class::span_fits;
+use crate::class::stamp_count;
+use crate::limits::ANSWER_HEADER;
+use crate::limits::MOST_INEQUALITIES;
+use crate::limits::MOST_VARIABLES;
+use crate::limits::OFFSET;
+use crate::limits::STAMP_LIMIT;
+use crate::offset::blank_or_within;
+use crate::offset::offset;
 ghost use mathlib.Core.Path.{_≡_};
 ghost use mathlib.Core.List.{map};
 ghost use Prim.Native.Nat.{_<_, _≤_, _+_, _*_};
@@ -19,7 +30,15 @@ pub enum AnswerHead {
 }
 
 // The first of refusals 4 and 8 to 11 that applies to the numbers of a header, 0 where none does.
-fn judge_header(size: usize, length: u64, kind: u64, own: u64, class: u64, n: usize, m: usize) -> usize
+fn judge_header(
+    size: usize,
+    length: u64,
+    kind: u64,
+    own: u64,
+    class: u64,
+    n: usize,
+    m: usize,
+) -> usize
     requires { ⌜ length < 4294967296 ⌝ }
     ensures { λ r. ⌜ r ≡ headerJudged size length kind own class n m ⌝ }
 {
@@ -169,10 +188,14 @@ fn picks_from(bytes: &[u8], stamps: usize, count: usize) -> [u64; 64]
 
 // An answer read with the problem's n and m: its class and span, its stamps and picks in the two arrays with 0 behind
 // them; or the first of refusals 4 and 8 to 13, and the arrays as they were.
-pub fn read_answer(bytes: &[u8], n: usize, m: usize, stamps: &mut [u64; 32], picks: &mut [u64; 64]) -> AnswerHead
-    ensures {
-        λ r. ⌜ AnswerRead (now (bytes .entry)) n m r (now (stamps .entry)) (now (stamps .exit)) (now (picks .entry)) (now (picks .exit)) ⌝
-    }
+pub fn read_answer(
+    bytes: &[u8],
+    n: usize,
+    m: usize,
+    stamps: &mut [u64; 32],
+    picks: &mut [u64; 64],
+) -> AnswerHead
+    ensures { λ r. ⌜ AnswerRead (now (bytes .entry)) n m r (now (stamps .entry)) (now (stamps .exit)) (now (picks .entry)) (now (picks .exit)) ⌝ }
 {
     let head = read_answer_header(bytes, bytes.len(), n, m);
     let AnswerHead::Fields(class, span) = head else {

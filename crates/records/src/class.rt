@@ -1,5 +1,6 @@
 // What depends on an answer's class: 1 least, 2 bottomless, 3 none. Document 01, "Records".
-use crate::limits::{ANSWER_HEADER, SPAN_LIMIT};
+use crate::limits::ANSWER_HEADER;
+use crate::limits::SPAN_LIMIT;
 use crate::offset::whole_within;
 ghost use mathlib.Core.Path.{_≡_};
 ghost use Prim.Native.Nat.{_≤_};

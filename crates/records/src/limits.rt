@@ -2,18 +2,24 @@
 
 // The highest n and m, and the widths of the lent tables: a row of 32 columns, 64 rows.
 pub const MOST_VARIABLES: usize = 31;
+
 pub const MOST_INEQUALITIES: usize = 63;
 
 // Sizes of the two headers, and of the largest answer record.
 pub const PROBLEM_HEADER: usize = 10;
+
 pub const ANSWER_HEADER: usize = 14;
+
 pub const ANSWER_MOST: usize = 206;
 
 // Limits of leads, spans and stamps.
 pub const LEAD_LIMIT: u64 = 10080;
+
 pub const SPAN_LIMIT: u64 = 645120;
+
 pub const STAMP_LIMIT: u64 = 2000000;
 
 // The offset number of 0, and the first number that 4 bytes do not hold.
 pub const OFFSET: u64 = 2147483648;
+
 pub const FULL: u64 = 4294967296;

@@ -1,5 +1,6 @@
 // Offset numbers: the form in which leads, stamps and spans are kept. 0 is blank, any other number k stands for k − 2³¹.
-use crate::limits::{FULL, OFFSET};
+use crate::limits::FULL;
+use crate::limits::OFFSET;
 ghost use mathlib.Core.Path.{_≡_};
 ghost use Prim.Native.Nat.{_<_};
 ghost use Rattle.definitions.specs.Limits.{signed-full};

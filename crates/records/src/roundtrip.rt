@@ -1,7 +1,10 @@
 // Round trips of answers: written and read back, read and written back.
-use crate::answer::{read_answer, AnswerHead};
-use crate::class::{pick_count, stamp_count};
-use crate::writer::{write_answer, Written};
+use crate::answer::AnswerHead;
+use crate::answer::read_answer;
+use crate::class::pick_count;
+use crate::class::stamp_count;
+use crate::writer::Written;
+use crate::writer::write_answer;
 ghost use mathlib.Core.Path.{_≡_};
 ghost use Prim.Native.Nat.{_≤_};
 ghost use lib.ListN.{length, take};
@@ -23,9 +26,7 @@ pub fn write_then_read(
     stamps_back: &mut [u64; 32],
     picks_back: &mut [u64; 64],
 ) -> AnswerHead
-    ensures {
-        λ r. ⌜ WrittenThenRead class span (now (stamps .entry)) (now (picks .entry)) n m r (now (buffer .entry)) (now (buffer .exit)) (now («stamps_back» .entry)) (now («stamps_back» .exit)) (now («picks_back» .entry)) (now («picks_back» .exit)) ⌝
-    }
+    ensures { λ r. ⌜ WrittenThenRead class span (now (stamps .entry)) (now (picks .entry)) n m r (now (buffer .entry)) (now (buffer .exit)) (now («stamps_back» .entry)) (now («stamps_back» .exit)) (now («picks_back» .entry)) (now («picks_back» .exit)) ⌝ }
 {
     let result = write_answer(class, span, stamps, picks, n, m, buffer);
     match result {
@@ -35,11 +36,17 @@ pub fn write_then_read(
 }
 
 // The first stamps and picks of two arrays, as many as the class has, written.
-fn write_counted(class: u64, span: u64, stamps: &[u64], picks: &[u64], n: usize, m: usize, buffer: &mut [u8]) -> Written
+fn write_counted(
+    class: u64,
+    span: u64,
+    stamps: &[u64],
+    picks: &[u64],
+    n: usize,
+    m: usize,
+    buffer: &mut [u8],
+) -> Written
     requires { ⌜ (n ≤ highest-n) × (m ≤ highest-m) × (length (now stamps) ≡ 32) × (length (now picks) ≡ 64) ⌝ }
-    ensures {
-        λ r. ⌜ AnswerWritten (fieldsOf class span (take (stampCount class n) (now (stamps .entry))) (take (pickCount class n m) (now (picks .entry)))) n m r (now (buffer .entry)) (now (buffer .exit)) ⌝
-    }
+    ensures { λ r. ⌜ AnswerWritten (fieldsOf class span (take (stampCount class n) (now (stamps .entry))) (take (pickCount class n m) (now (picks .entry)))) n m r (now (buffer .entry)) (now (buffer .exit)) ⌝ }
 {
     let s = stamp_count(class, n);
     let p = pick_count(class, n, m);
@@ -54,7 +61,15 @@ pub fn read_then_write(bytes: &[u8], n: usize, m: usize, buffer: &mut [u8]) -> W
     let mut picks = [0u64; 64];
     let head = read_answer(bytes, n, m, &mut stamps, &mut picks);
     match head {
-        AnswerHead::Fields(class, span) => write_counted(class, span, &stamps, &picks, n, m, buffer),
+        AnswerHead::Fields(class, span) => write_counted(
+            class,
+            span,
+            &stamps,
+            &picks,
+            n,
+            m,
+            buffer,
+        ),
         AnswerHead::Refused(k) => Written::Refused(k),
     }
 }

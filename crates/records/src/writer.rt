@@ -1,8 +1,16 @@
 // The answer writer: class, span, stamps and picks to bytes. Document 01, "Records" and "What is turned away", 4, 7 and
 // 10 to 13.
 use crate::answer::stamp_fits;
-use crate::class::{answer_size, highest_pick, known_class, pick_count, span_fits, stamp_count};
-use crate::limits::{ANSWER_HEADER, ANSWER_MOST, MOST_INEQUALITIES, MOST_VARIABLES};
+use crate::class::answer_size;
+use crate::class::highest_pick;
+use crate::class::known_class;
+use crate::class::pick_count;
+use crate::class::span_fits;
+use crate::class::stamp_count;
+use crate::limits::ANSWER_HEADER;
+use crate::limits::ANSWER_MOST;
+use crate::limits::MOST_INEQUALITIES;
+use crate::limits::MOST_VARIABLES;
 use crate::offset::offset;
 ghost use mathlib.Core.Path.{_≡_};
 ghost use mathlib.Core.List.{map};
@@ -93,12 +101,20 @@ fn judge_fields(class: u64, span: u64, stamps: &[u64], picks: &[u64], n: usize, 
 }
 
 // The first refusal that applies to the fields and a buffer of `room` bytes, 0 where none does.
-fn judge_writing(class: u64, span: u64, stamps: &[u64], picks: &[u64], n: usize, m: usize, room: usize) -> usize
+fn judge_writing(
+    class: u64,
+    span: u64,
+    stamps: &[u64],
+    picks: &[u64],
+    n: usize,
+    m: usize,
+    room: usize,
+) -> usize
     ensures { λ r. ⌜ r ≡ writerRefusal (fieldsOf class span (now (stamps .entry)) (now (picks .entry))) n m room ⌝ }
 {
-    let refusal = judge_counts(class, stamps.len(), picks.len(), n, m, room);
-    if refusal != 0 {
-        return refusal;
+    let early = judge_counts(class, stamps.len(), picks.len(), n, m, room);
+    if early != 0 {
+        return early;
     }
     judge_fields(class, span, stamps, picks, n, m)
 }
@@ -172,11 +188,17 @@ fn put_header(buffer: &mut [u8], size: u64, n: u64, class: u64, span: u64)
 }
 
 // The whole record put at the front of the buffer.
-fn put_record(size: usize, class: u64, span: u64, stamps: &[u64], picks: &[u64], n: usize, buffer: &mut [u8])
+fn put_record(
+    size: usize,
+    class: u64,
+    span: u64,
+    stamps: &[u64],
+    picks: &[u64],
+    n: usize,
+    buffer: &mut [u8],
+)
     requires { ⌜ (14 + 4 * length (now stamps) + 2 * length (now picks) ≡ size) × (size ≤ length (now buffer)) ⌝ }
-    ensures {
-        λ _. ⌜ now (buffer .exit) ≡ put (now (buffer .entry)) 0 (recordBytes (size - 4) n class (off span) (map off (now (stamps .entry))) (now (picks .entry))) ⌝
-    }
+    ensures { λ _. ⌜ now (buffer .exit) ≡ put (now (buffer .entry)) 0 (recordBytes (size - 4) n class (off span) (map off (now (stamps .entry))) (now (picks .entry))) ⌝ }
 {
     let at = ANSWER_HEADER + 4 * stamps.len();
     put_header(buffer, size as u64 - 4, n as u64, class, offset(span));
@@ -187,10 +209,16 @@ fn put_record(size: usize, class: u64, span: u64, stamps: &[u64], picks: &[u64],
 // An answer written for the problem's n and m: the record's size, with the record at the front of the buffer and every
 // byte after it as it was; or the first of refusals 4, 7 and 10 to 13, and the buffer as it was. Span and stamps are
 // offset numbers.
-pub fn write_answer(class: u64, span: u64, stamps: &[u64], picks: &[u64], n: usize, m: usize, buffer: &mut [u8]) -> Written
-    ensures {
-        λ r. ⌜ AnswerWritten (fieldsOf class span (now (stamps .entry)) (now (picks .entry))) n m r (now (buffer .entry)) (now (buffer .exit)) ⌝
-    }
+pub fn write_answer(
+    class: u64,
+    span: u64,
+    stamps: &[u64],
+    picks: &[u64],
+    n: usize,
+    m: usize,
+    buffer: &mut [u8],
+) -> Written
+    ensures { λ r. ⌜ AnswerWritten (fieldsOf class span (now (stamps .entry)) (now (picks .entry))) n m r (now (buffer .entry)) (now (buffer .exit)) ⌝ }
 {
     let refusal = judge_writing(class, span, stamps, picks, n, m, buffer.len());
     if refusal != 0 {
