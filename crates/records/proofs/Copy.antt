@@ -10,7 +10,7 @@ use Rattle.definitions.specs.Bytes.{put}
 use Rattle.records.specs.Text.{Putting}
 use Rattle.definitions.proofs.Put.{put-put, put-one, put-nil, length-put}
 use Rattle.definitions.specs.Programs.{decimal}
-use Rattle.definitions.proofs.Programs.{decimal-one, decimal-more}
+use Rattle.definitions.proofs.Programs.{decimal-one, decimal-more, decimal-few}
 
 -- The buffer l after the first i elements of text have been put from `at` on, up to `next`.
 pub record Copied (l : List ℕ) (at : ℕ) (text : List ℕ) (now : List ℕ) (i next : ℕ) : Type 0 where
@@ -42,6 +42,7 @@ pub copied-all : {l : List ℕ} {at : ℕ} {text now : List ℕ} {i next : ℕ} 
 copied-all {l} {at} {text} {now} {i} {next} c h =
     let e : i ≡ length text = omega (arith, c .inside) in
     record {
+      kept = c .same-length;
       next-is = omega (arith, c .place);
       after-is =
         sym (put-nil now next)
@@ -49,26 +50,44 @@ copied-all {l} {at} {text} {now} {i} {next} c h =
         ∙ c .whole
     }
 
+-- ---- putting one after the other
+
+-- Nothing.
+pub put-nothing : (l : List ℕ) (at : ℕ) → Putting l at [] l at
+put-nothing l at = record { kept = refl; next-is = omega arith; after-is = sym (put-nil l at) }
+
+-- One value.
+pub put-single : (l : List ℕ) (at x : ℕ) → at < length l → Putting l at (x ∷ []) (set l at x) (at + 1)
+put-single l at x room = record { kept = length-set l at x; next-is = omega arith; after-is = put-one l at x room }
+
+-- Values right after others are put with them.
+pub put-then : {l : List ℕ} {at : ℕ} {a mid : List ℕ} {next : ℕ} {b after : List ℕ} {end : ℕ} → Putting l at a mid next → Putting mid next b after end
+  → at ≤ length l → Putting l at (a ++ b) after end
+put-then {l} {at} {a} {mid} {next} {b} {after} {end} p q inside = record {
+  kept = q .kept ∙ p .kept;
+  next-is = rw length-append (omega (arith, p .next-is, q .next-is));
+  after-is = q .after-is ∙ ap (λ (s : List ℕ). put s next b) (p .after-is) ∙ put-put l at a next b inside (p .next-is)
+}
+
 -- ---- decimal numbers
 
 -- One digit.
-pub decimal-put : (l : List ℕ) (at number : ℕ) → number < 10 → at < length l → Putting l at (decimal number) (set l at (48 + number)) (at + 1)
-decimal-put l at number h room = record {
-  next-is = rw (decimal-one number h) (omega arith);
-  after-is = put-one l at (48 + number) room ∙ ap (λ (s : List ℕ). put l at s) (sym (decimal-one number h))
-}
+pub decimal-put : (l : List ℕ) (at number digit : ℕ) → digit ≡ 48 + number → number < 10 → at < length l → Putting l at (decimal number) (set l at digit) (at + 1)
+decimal-put l at number digit e h room = rw (e, decimal-one number h) (put-single l at (48 + number) room)
 
 -- One digit more than the tenth part.
-pub decimal-puts : {l : List ℕ} {at number : ℕ} {mid : List ℕ} {next : ℕ} → Putting l at (decimal (number / 10)) mid next → 10 ≤ number
-  → at + length (decimal number) ≤ length l → Putting l at (decimal number) (set mid next (48 + number % 10)) (next + 1)
-decimal-puts {l} {at} {number} {mid} {next} t h room =
-    let more : length (decimal number) ≡ length (decimal (number / 10)) + 1 = ap length (decimal-more number h) ∙ length-append (decimal (number / 10)) ((48 + number % 10) ∷ []) in
-    let same : length mid ≡ length l = ap length (t .after-is) ∙ length-put l at (decimal (number / 10)) (omega arith) (omega arith) in
-    record {
-      next-is = omega (arith, t .next-is, more);
-      after-is =
-        put-one mid next (48 + number % 10) (omega (arith, t .next-is))
-        ∙ ap (λ (s : List ℕ). put s next ((48 + number % 10) ∷ [])) (t .after-is)
-        ∙ put-put l at (decimal (number / 10)) next ((48 + number % 10) ∷ []) (omega arith) (t .next-is)
-        ∙ ap (λ (s : List ℕ). put l at s) (sym (decimal-more number h))
-    }
+pub decimal-puts : {l : List ℕ} {at number : ℕ} {mid : List ℕ} {next digit : ℕ} → Putting l at (decimal (number / 10)) mid next → digit ≡ 48 + number % 10
+  → 10 ≤ number → next < length l → Putting l at (decimal number) (set mid next digit) (next + 1)
+decimal-puts {l} {at} {number} {mid} {next} {digit} p e h room =
+    rw (e, decimal-more number h) (put-then p (put-single mid next (48 + number % 10) (omega (arith, p .kept))) (omega (arith, p .next-is)))
+
+-- A number has a digit, and one more than its tenth part where it is 10 or more.
+pub decimal-some : (number : ℕ) → number < 10 → length (decimal number) ≡ 1
+decimal-some number h = rw (decimal-one number h)
+
+pub decimal-longer : (number : ℕ) → 10 ≤ number → length (decimal number) ≡ length (decimal (number / 10)) + 1
+decimal-longer number h = ap length (decimal-more number h) ∙ length-append (decimal (number / 10)) ((48 + number % 10) ∷ [])
+
+-- A number of 64 bits has at most 20 digits.
+pub decimal-most : (number : ℕ) → number < 18446744073709551616 → length (decimal number) ≤ 20
+decimal-most number h = decimal-few 19 number (omega arith)
