@@ -4,10 +4,13 @@ use mathlib.Core.Path.{_≡_, refl, ap, sym, subst, _∙_}
 use mathlib.Core.List.{List, [], _∷_, _++_}
 use native.Mathlib.Omega.{arith}
 use native.Mathlib.Numerals.{add-one}
+use mathlib.Core.Bool.{Bool, true, false, cond}
+use lib.Dec.{leb}
+use borrow.Author.Tests.{le-leb, lt-leb, leb-true}
 use lib.ListN.{length, getD, drop, set, length-set, length-append}
 use lib.Seq.{drop-cons, drop-length}
 use Rattle.definitions.specs.Bytes.{put}
-use Rattle.records.specs.Text.{Putting}
+use Rattle.records.specs.Text.{Putting, Appended, appended, placeAfter}
 use Rattle.definitions.proofs.Put.{put-put, put-one, put-nil, length-put}
 use Rattle.definitions.specs.Programs.{decimal}
 use Rattle.definitions.proofs.Programs.{decimal-one, decimal-more, decimal-few}
@@ -81,13 +84,34 @@ pub decimal-puts : {l : List ℕ} {at number : ℕ} {mid : List ℕ} {next digit
 decimal-puts {l} {at} {number} {mid} {next} {digit} p e h room =
     rw (e, decimal-more number h) (put-then p (put-single mid next (48 + number % 10) (omega (arith, p .kept))) (omega (arith, p .next-is)))
 
--- A number has a digit, and one more than its tenth part where it is 10 or more.
-pub decimal-some : (number : ℕ) → number < 10 → length (decimal number) ≡ 1
-decimal-some number h = rw (decimal-one number h)
-
+-- A number from 10 on has one digit more than its tenth part.
 pub decimal-longer : (number : ℕ) → 10 ≤ number → length (decimal number) ≡ length (decimal (number / 10)) + 1
 decimal-longer number h = ap length (decimal-more number h) ∙ length-append (decimal (number / 10)) ((48 + number % 10) ∷ [])
 
 -- A number of 64 bits has at most 20 digits.
 pub decimal-most : (number : ℕ) → number < 18446744073709551616 → length (decimal number) ≤ 20
 decimal-most number h = decimal-few 19 number (omega arith)
+
+-- ---- appending
+
+-- Where the values fit, they are put.
+pub append-fits : {l : List ℕ} {at : ℕ} {text after : List ℕ} {next : ℕ} → Putting l at text after next → at + length text ≤ length l → Appended l at text after next
+unfolding appended placeAfter
+append-fits {l} {at} {text} p room = record {
+  next-is = rw (le-leb (at + length text) (length l) room) (p .next-is);
+  after-is = rw (le-leb (at + length text) (length l) room) (p .after-is)
+}
+
+-- Where there is no room, nothing is.
+pub append-none : (l : List ℕ) (at : ℕ) (text : List ℕ) → length l < at + length text → Appended l at text l at
+unfolding appended placeAfter
+append-none l at text full = record { next-is = rw (lt-leb (at + length text) (length l) full); after-is = rw (lt-leb (at + length text) (length l) full) }
+
+-- The length stays.
+pub length-appended : (l : List ℕ) (at : ℕ) (text : List ℕ) → length (appended l at text) ≡ length l
+unfolding appended
+length-appended l at text = go (leb (at + length text) (length l)) refl
+  where
+    go : (t : Bool) → leb (at + length text) (length l) ≡ t → length (cond t (put l at text) l) ≡ length l
+    go true e = let room : at + length text ≤ length l = leb-true (at + length text) (length l) e in length-put l at text (omega arith) room
+    go false e = refl

@@ -1,12 +1,12 @@
-// What the programs print: decimal numbers and lines, as bytes.
+// Bytes and decimal numbers put into a lent buffer.
 ghost use mathlib.Core.Path.{_≡_};
 ghost use Prim.Native.Nat.{_+_, _≤_, _<_};
 ghost use lib.ListN.{length};
 ghost use Rattle.definitions.specs.Programs.{decimal};
-ghost use Rattle.records.specs.Text.{Putting};
+ghost use Rattle.records.specs.Text.{Putting, Appended};
 
 // Puts `text` from place `at` on, and gives the place after it.
-fn copy(buf: &mut [u8], at: usize, text: &[u8]) -> usize
+pub fn copy(buf: &mut [u8], at: usize, text: &[u8]) -> usize
     requires { ⌜ at + length (now text) ≤ length (now buf) ⌝ }
     ensures { λ r. ⌜ Putting (now (buf .entry)) at (now (text .entry)) (now (buf .exit)) r ⌝ }
 {
@@ -20,10 +20,23 @@ fn copy(buf: &mut [u8], at: usize, text: &[u8]) -> usize
     next
 }
 
-// Puts a number in decimal from place `at` on, and gives the place after it.
-fn put_decimal(buf: &mut [u8], at: usize, number: u64) -> usize
-    requires { ⌜ at + length (decimal number) ≤ length (now buf) ⌝ }
-    ensures { λ r. ⌜ Putting (now (buf .entry)) at (decimal number) (now (buf .exit)) r ⌝ }
+// Appends `text` at place `at` and gives the next place. Where there is no room nothing is written, and the place stays.
+pub fn append(buf: &mut [u8], at: usize, text: &[u8]) -> usize
+    ensures { λ r. ⌜ Appended (now (buf .entry)) at (now (text .entry)) (now (buf .exit)) r ⌝ }
+{
+    if buf.len() < at {
+        return at;
+    }
+    if buf.len() - at < text.len() {
+        return at;
+    }
+    copy(buf, at, text)
+}
+
+// Puts a number in decimal, without leading zeros, from place `at` on, and gives the place after it.
+pub fn put_decimal(buf: &mut [u8], at: usize, number: u64) -> usize
+    requires { ⌜ at + 20 ≤ length (now buf) ⌝ }
+    ensures { λ r. ⌜ Putting (now (buf .entry)) at (decimal number) (now (buf .exit)) r × (r ≤ at + 20) ⌝ }
 {
     if number < 10 {
         buf[at] = digit(number);

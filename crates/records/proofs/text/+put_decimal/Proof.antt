@@ -1,6 +1,6 @@
 use borrow.Author.Needs.{needs}
 use native.Mathlib.Omega.{arith}
-use Rattle.records.proofs.Copy.{decimal-put, decimal-puts, decimal-some, decimal-longer}
+use Rattle.records.proofs.Copy.{decimal-put, decimal-puts, decimal-longer, decimal-most}
 use Prim.Native.Nat.{ℕ, _<_}
 use borrow.Fn.Kinds.{In}
 use borrow.Fn.PlainCycle.{Measures, is, falls, and}
@@ -38,7 +38,7 @@ put-decimal-slice-write-buf : (t : ℕ) → put-decimal-lts.Need-slice-write-buf
   put-decimal-below t,
   put-decimal.Post,
 ) (put-decimal-at t) put-decimal.Post
-put-decimal-slice-write-buf t c = omega (arith, decimal-some _ (c .before .if1 .taken))
+put-decimal-slice-write-buf t c = search needs
 
 -- src/text.rt:30:16
 put-decimal-add-result : (t : ℕ) → put-decimal-lts.Need-add-result (
@@ -65,7 +65,7 @@ put-decimal-returns : (t : ℕ) → put-decimal-lts.Need-returns (
   put-decimal-below t,
   put-decimal.Post,
 ) (put-decimal-at t) put-decimal.Post
-put-decimal-returns t c = decimal-put _ _ _ _ (c .digit .ensures) (c .before .if1 .taken) (omega (arith, decimal-some _ (c .before .if1 .taken)))
+put-decimal-returns t c = (decimal-put _ _ _ _ (c .digit .ensures) (c .before .if1 .taken) (omega arith), omega arith)
 
 -- src/text.rt:32:9
 put-decimal-put-decimal-requires : (t : ℕ) → put-decimal-lts.Need-put-decimal-requires (
@@ -74,7 +74,7 @@ put-decimal-put-decimal-requires : (t : ℕ) → put-decimal-lts.Need-put-decima
   put-decimal-below t,
   put-decimal.Post,
 ) (put-decimal-at t) put-decimal.Post
-put-decimal-put-decimal-requires t c κs = (omega arith, omega (arith, decimal-longer _ (c .before .if1 .left)))
+put-decimal-put-decimal-requires t c κs = (omega arith, omega arith)
 
 -- src/text.rt:33:17
 put-decimal-digit-requires-2 : (t : ℕ) → put-decimal-lts.Need-digit-requires-2 (
@@ -92,7 +92,7 @@ put-decimal-slice-write-buf-2 : (t : ℕ) → put-decimal-lts.Need-slice-write-b
   put-decimal-below t,
   put-decimal.Post,
 ) (put-decimal-at t) put-decimal.Post
-put-decimal-slice-write-buf-2 t c = omega (arith, decimal-longer _ (c .before .before .before .before .before .if1 .left))
+put-decimal-slice-write-buf-2 t c = omega (arith, decimal-longer _ (c .before .before .before .before .before .if1 .left), decimal-most (c .before .before .before .before .before .before .before .args .number) (omega arith))
 
 -- src/text.rt:34:5
 put-decimal-add-result-2 : (t : ℕ) → put-decimal-lts.Need-add-result-2 (
@@ -101,7 +101,7 @@ put-decimal-add-result-2 : (t : ℕ) → put-decimal-lts.Need-add-result-2 (
   put-decimal-below t,
   put-decimal.Post,
 ) (put-decimal-at t) put-decimal.Post
-put-decimal-add-result-2 t c = omega (arith, decimal-longer _ (c .before .before .before .before .before .if1 .left))
+put-decimal-add-result-2 t c = omega (arith, decimal-longer _ (c .before .before .before .before .before .if1 .left), decimal-most (c .before .before .before .before .before .before .before .args .number) (omega arith))
 
 -- src/text.rt:24:1
 put-decimal-same-length-2 : (t : ℕ) → put-decimal-lts.Need-same-length-2 (
@@ -119,7 +119,7 @@ put-decimal-returns-2 : (t : ℕ) → put-decimal-lts.Need-returns-2 (
   put-decimal-below t,
   put-decimal.Post,
 ) (put-decimal-at t) put-decimal.Post
-put-decimal-returns-2 t c = decimal-puts (c .before .before .before .put-decimal .ensures) (c .digit2 .ensures) (c .before .before .before .before .before .if1 .left) (omega (arith, decimal-longer _ (c .before .before .before .before .before .if1 .left)))
+put-decimal-returns-2 t c = (decimal-puts (c .before .before .before .put-decimal .ensures .0) (c .digit2 .ensures) (c .before .before .before .before .before .if1 .left) (omega (arith, decimal-longer _ (c .before .before .before .before .before .if1 .left), decimal-most (c .before .before .before .before .before .before .before .args .number) (omega arith))), omega (arith, decimal-longer _ (c .before .before .before .before .before .if1 .left), decimal-most (c .before .before .before .before .before .before .before .args .number) (omega arith)))
 
 pub +put-decimal-spec : {M : Type 1} → statement M
 +put-decimal-spec = close μ-put-decimal λ t. put-decimal-lts.spec (
