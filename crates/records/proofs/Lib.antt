@@ -1,2 +1,4 @@
+pub mod Again
 pub mod Copy
+pub mod Held
 pub mod Printing

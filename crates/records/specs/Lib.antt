@@ -1,2 +1,3 @@
 pub mod Decoded
 pub mod Text
+pub mod Written

@@ -2,4 +2,5 @@
 pub mod bytes;
 pub mod limits;
 pub mod lines;
+pub mod output;
 pub mod text;

@@ -1,0 +1,50 @@
+// What the programs put out: a record or a line, appended through a writer. The writer borrows a lent slice and holds the
+// next place in it. Each function over it takes it apart and leaves the work to `append`; `write`, with plain parameters,
+// stands above them.
+use crate::lines::{refused_line, verdict_line};
+use crate::text::append;
+ghost use mathlib.Core.Path.{_≡_};
+ghost use lib.ListN.{length};
+ghost use Rattle.definitions.specs.Programs.{refusedLine, verdictLine};
+ghost use Rattle.records.specs.Text.{Appended, verdictOf};
+ghost use Rattle.records.specs.Written.{written};
+
+pub struct Writer<'a> {
+    buf: &'a mut [u8],
+    at: usize,
+}
+
+// The writer on a slice, at a place of it.
+fn made<'a>(buf: &'a mut [u8], at: usize) -> Writer<'a>
+    ensures { λ r. ⌜ (r .buf ≡ buf .entry) × (r .at ≡ at) ⌝ }
+{
+    Writer { buf: buf, at: at }
+}
+
+// The writer after a record or a line was appended: the same slice, and the next place.
+fn added<'a, 'b>(w: Writer<'a>, text: &'b [u8]) -> Writer<'a>
+    ensures { λ r. ⌜ r ≡ written (w .entry) (now (text .entry)) ⌝ }
+{
+    let at = w.at;
+    let next = append(&mut *w.buf, at, text);
+    Writer {
+        buf: w.buf,
+        at: next,
+    }
+}
+
+// The next place. The slice goes back, as it is, to whom it was lent by.
+fn place<'a>(w: Writer<'a>) -> usize
+    ensures { λ r. ⌜ (r ≡ w .entry .at) × (now (w .exit .0) ≡ now (w .entry .buf)) ⌝ }
+{
+    w.at
+}
+
+// Writes a record or a line at place `at`, through a writer, and gives the next place. Where there is no room nothing is
+// written, and the place stays.
+pub fn write(buf: &mut [u8], at: usize, text: &[u8]) -> usize
+    ensures { λ r. ⌜ Appended (now (buf .entry)) at (now (text .entry)) (now (buf .exit)) r ⌝ }
+{
+    let w = added(made(buf, at), text);
+    place(w)
+}
