@@ -7,11 +7,11 @@ use native.Mathlib.Numerals.{add-one}
 use mathlib.Core.Bool.{Bool, true, false, cond}
 use lib.Dec.{leb}
 use borrow.Author.Tests.{le-leb, lt-leb, leb-true}
-use lib.ListN.{length, getD, drop, set, length-set, length-append}
+use lib.ListN.{length, getD, take, drop, set, length-set, length-append}
 use lib.Seq.{drop-cons, drop-length}
 use Rattle.definitions.specs.Bytes.{put}
-use Rattle.records.specs.Text.{Putting, Appended, appended, placeAfter}
-use Rattle.definitions.proofs.Put.{put-put, put-one, put-nil, length-put}
+use Rattle.records.specs.Text.{Putting, Appended, Output, appended, placeAfter}
+use Rattle.definitions.proofs.Put.{put-put, put-one, put-nil, put-zero, take-put, length-put}
 use Rattle.definitions.specs.Programs.{decimal}
 use Rattle.definitions.proofs.Programs.{decimal-one, decimal-more, decimal-few}
 
@@ -115,3 +115,33 @@ length-appended l at text = go (leb (at + length text) (length l)) refl
     go : (t : Bool) → leb (at + length text) (length l) ≡ t → length (cond t (put l at text) l) ≡ length l
     go true e = let room : at + length text ≤ length l = leb-true (at + length text) (length l) e in length-put l at text (omega arith) room
     go false e = refl
+
+-- ---- what is put out
+
+-- Appending at the front: the bytes where there is room, nothing where there is not.
+pub output-of : {l text after : List ℕ} {size : ℕ} → Appended l 0 text after size → Output l text after size
+unfolding appended placeAfter
+output-of {l} {text} {after} {size} a = record {
+  all = a;
+  shown = λ room.
+      let fits : leb (0 + length text) (length l) ≡ true = le-leb (0 + length text) (length l) (omega arith) in
+      let e : size ≡ 0 + length text = rw fits at (a .next-is) in
+      let f : after ≡ put l 0 text = rw fits at (a .after-is) in
+      (omega arith, rw (e, f) (take-put l 0 text (omega arith)));
+  none = λ full.
+      let fails : leb (0 + length text) (length l) ≡ false = lt-leb (0 + length text) (length l) (omega arith) in
+      (rw fails at (a .next-is), rw fails at (a .after-is))
+}
+
+-- What was put ends inside the buffer.
+pub put-inside : {l : List ℕ} {text after : List ℕ} {size : ℕ} → Putting l 0 text after size → size ≤ length l
+put-inside {l} {text} {after} {size} p =
+    let e : length after ≡ length text + length (drop (length text) l) = ap length (p .after-is ∙ put-zero l text) ∙ length-append text (drop (length text) l) in
+    omega (arith, p .next-is, p .kept)
+
+-- A line that was put at the front of a buffer, and the part of it up to its end appended: the line is put out.
+pub output-line : {line text written : List ℕ} {size : ℕ} {l after : List ℕ} {end : ℕ} → Putting line 0 text written size → Appended l 0 (take size written) after end
+  → Output l text after end
+output-line {line} {text} {written} {size} {l} {after} {end} p a =
+    let e : size ≡ 0 + length text = p .next-is in
+    output-of (rw (e, p .after-is, take-put line 0 text (omega arith)) at a)

@@ -1,10 +1,10 @@
 -- What putting bytes into a lent buffer leaves, and what a verdict is as three numbers.
-use Prim.Native.Nat.{ℕ, _+_}
+use Prim.Native.Nat.{ℕ, _+_, _≤_, _<_}
 use mathlib.Core.Path.{_≡_}
 use mathlib.Core.Bool.{cond}
 use mathlib.Core.List.{List}
 use lib.Dec.{eqb, leb}
-use lib.ListN.{length}
+use lib.ListN.{length, take}
 use Rattle.definitions.specs.Bytes.{put}
 use Rattle.definitions.specs.Offset.{tropOf}
 use Rattle.definitions.specs.Verdict.{Verdict, accepted, refused}
@@ -27,6 +27,13 @@ placeAfter before at values = cond (leb (at + length values) (length before)) (a
 pub record Appended (before : List ℕ) (at : ℕ) (values after : List ℕ) (next : ℕ) : Type 0 where
   pub next-is : next ≡ placeAfter before at values
   pub after-is : after ≡ appended before at values
+
+-- The buffer begins with `bytes` where there is room for them, and its first `size` bytes are then what is put out; every other
+-- byte is as it was. Where there is no room nothing is written, and the size is 0.
+pub record Output (before bytes after : List ℕ) (size : ℕ) : Type 0 where
+  pub all : Appended before 0 bytes after size
+  pub shown : length bytes ≤ length before → (size ≡ length bytes) × (take size after ≡ bytes)
+  pub none : length before < length bytes → (size ≡ 0) × (after ≡ before)
 
 -- The verdict that a refusal's number gives, 0 for none, with class and span where there is none. The span is an offset number.
 unfoldable pub verdictOf : ℕ → ℕ → ℕ → Verdict

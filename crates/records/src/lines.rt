@@ -52,7 +52,7 @@ fn put_class(line: &mut [u8], at: usize, class: u64, span: u64) -> usize
 // Puts the line of an accepted answer.
 fn accepted_line(line: &mut [u8], class: u64, span: u64) -> usize
     requires { ⌜ 64 ≤ length (now line) ⌝ }
-    ensures { λ r. ⌜ Putting (now (line .entry)) 0 (verdictLine (accepted class (tropOf span))) (now (line .exit)) r ⌝ }
+    ensures { λ r. ⌜ Putting (now (line .entry)) 0 (verdictLine (accepted class (tropOf span))) (now (line .exit)) r × (r ≤ 64) ⌝ }
 {
     let a = copy(line, 0, b"accepted ");
     let b = put_class(line, a, class, span);
@@ -62,7 +62,7 @@ fn accepted_line(line: &mut [u8], class: u64, span: u64) -> usize
 // Puts the line of a refusal.
 pub fn refused_line(line: &mut [u8], number: usize) -> usize
     requires { ⌜ 64 ≤ length (now line) ⌝ }
-    ensures { λ r. ⌜ Putting (now (line .entry)) 0 (refusedLine number) (now (line .exit)) r ⌝ }
+    ensures { λ r. ⌜ Putting (now (line .entry)) 0 (refusedLine number) (now (line .exit)) r × (r ≤ 64) ⌝ }
 {
     let a = copy(line, 0, b"refused ");
     let b = put_decimal(line, a, number as u64);
@@ -72,7 +72,7 @@ pub fn refused_line(line: &mut [u8], number: usize) -> usize
 // Puts the line of a verdict: that of refusal `refusal`, or of class and span where it is 0.
 pub fn verdict_line(line: &mut [u8], refusal: usize, class: u64, span: u64) -> usize
     requires { ⌜ 64 ≤ length (now line) ⌝ }
-    ensures { λ r. ⌜ Putting (now (line .entry)) 0 (verdictLine (verdictOf refusal class span)) (now (line .exit)) r ⌝ }
+    ensures { λ r. ⌜ Putting (now (line .entry)) 0 (verdictLine (verdictOf refusal class span)) (now (line .exit)) r × (r ≤ 64) ⌝ }
 {
     if refusal == 0 {
         return accepted_line(line, class, span);

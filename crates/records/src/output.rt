@@ -4,9 +4,10 @@
 use crate::lines::{refused_line, verdict_line};
 use crate::text::append;
 ghost use mathlib.Core.Path.{_≡_};
+ghost use Prim.Native.Nat.{_≤_};
 ghost use lib.ListN.{length};
 ghost use Rattle.definitions.specs.Programs.{refusedLine, verdictLine};
-ghost use Rattle.records.specs.Text.{Appended, verdictOf};
+ghost use Rattle.records.specs.Text.{Appended, Output, verdictOf};
 ghost use Rattle.records.specs.Written.{written};
 
 pub struct Writer<'a> {
@@ -47,4 +48,29 @@ pub fn write(buf: &mut [u8], at: usize, text: &[u8]) -> usize
 {
     let w = added(made(buf, at), text);
     place(w)
+}
+
+// What the span program puts out for a problem that is answered: the record.
+pub fn write_record(buf: &mut [u8], answer: &[u8]) -> usize
+    ensures { λ r. ⌜ Output (now (buf .entry)) (now (answer .entry)) (now (buf .exit)) r ⌝ }
+{
+    write(buf, 0, answer)
+}
+
+// What the span program puts out for a refusal: its line.
+pub fn write_refused(buf: &mut [u8], number: usize) -> usize
+    ensures { λ r. ⌜ Output (now (buf .entry)) (refusedLine number) (now (buf .exit)) r × (length (refusedLine number) ≤ 64) ⌝ }
+{
+    let mut line: [u8; 64] = [0; 64];
+    let size = refused_line(&mut line, number);
+    write(buf, 0, &line[..size])
+}
+
+// What the verdict program puts out: the line of refusal `refusal`, or of class and span where it is 0.
+pub fn write_verdict(buf: &mut [u8], refusal: usize, class: u64, span: u64) -> usize
+    ensures { λ r. ⌜ Output (now (buf .entry)) (verdictLine (verdictOf refusal class span)) (now (buf .exit)) r × (length (verdictLine (verdictOf refusal class span)) ≤ 64) ⌝ }
+{
+    let mut line: [u8; 64] = [0; 64];
+    let size = verdict_line(&mut line, refusal, class, span);
+    write(buf, 0, &line[..size])
 }

@@ -36,7 +36,7 @@ same-length c = search needs
 -- src/lines.rt:53:1
 returns : tie.Need-returns
 unfolding verdictLine text-accepted
-returns c = line-puts (c .before .before .before .before .before .before .before .before .before .before .before .copy .ensures) (c .before .before .before .before .before .before .before .put-class .ensures .0) (c .before .before .copy2 .ensures) (omega arith)
+returns c = (line-puts (c .before .before .before .before .before .before .before .before .before .before .before .copy .ensures) (c .before .before .before .before .before .before .before .put-class .ensures .0) (c .before .before .copy2 .ensures) (omega arith), omega arith)
 
 pub accepted-line-spec : {M : Type 1} → statement M
 accepted-line-spec =

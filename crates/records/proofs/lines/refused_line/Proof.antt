@@ -36,7 +36,7 @@ same-length c = search needs
 -- src/lines.rt:63:1
 returns : tie.Need-returns
 unfolding refusedLine text-refused
-returns c = line-puts (c .before .before .before .before .before .before .before .before .before .before .before .copy .ensures) (c .before .before .before .before .before .before .before .put-decimal .ensures .0) (c .before .before .copy2 .ensures) (omega arith)
+returns c = (line-puts (c .before .before .before .before .before .before .before .before .before .before .before .copy .ensures) (c .before .before .before .before .before .before .before .put-decimal .ensures .0) (c .before .before .copy2 .ensures) (omega arith), omega arith)
 
 pub refused-line-spec : {M : Type 1} → statement M
 refused-line-spec =

@@ -20,7 +20,7 @@ same-length c = search needs
 
 -- src/lines.rt:78:9
 returns : tie.Need-returns
-returns c = verdict-accepted _ _ _ (c .before .before .accepted-line .ensures) (c .before .before .before .before .if1 .taken)
+returns c = (verdict-accepted _ _ _ (c .before .before .accepted-line .ensures .0) (c .before .before .before .before .if1 .taken), omega arith)
 
 -- src/lines.rt:81:30
 slice-aggregate-copy : tie.Need-slice-aggregate-copy
@@ -37,7 +37,7 @@ same-length-2 c = search needs
 -- src/lines.rt:81:9
 returns-2 : tie.Need-returns-2
 unfolding text-not-certified
-returns-2 c = verdict-uncertified _ _ _ (c .before .before .copy .ensures) (c .before .before .before .before .before .if2 .taken)
+returns-2 c = (verdict-uncertified _ _ _ (c .before .before .copy .ensures) (c .before .before .before .before .before .if2 .taken), omega arith)
 
 -- src/lines.rt:83:5
 refused-line-requires : tie.Need-refused-line-requires
@@ -49,7 +49,7 @@ same-length-3 c = search needs
 
 -- src/lines.rt:73:1
 returns-3 : tie.Need-returns-3
-returns-3 c = verdict-refused _ _ _ (c .before .before .refused-line .ensures) (c .before .before .before .before .before .if1 .left) (c .before .before .before .before .if2 .left)
+returns-3 c = (verdict-refused _ _ _ (c .before .before .refused-line .ensures .0) (c .before .before .before .before .before .if1 .left) (c .before .before .before .before .if2 .left), omega arith)
 
 pub verdict-line-spec : {M : Type 1} → statement M
 verdict-line-spec =
