@@ -28,16 +28,16 @@ copied-none l at text = record { inside = omega arith; place = omega arith; same
 
 -- One more.
 pub copied-more : {l : List ℕ} {at : ℕ} {text now : List ℕ} {i next : ℕ} → Copied l at text now i next → i < length text → at + length text ≤ length l
-  → Copied l at text (set now next (getD text i 0)) (i + 1) (next + 1)
+    → Copied l at text (set now next (getD text i 0)) (i + 1) (next + 1)
 copied-more {l} {at} {text} {now} {i} {next} c h room = record {
   inside = omega arith;
   place = omega (arith, c .place);
   same-length = length-set now next (getD text i 0) ∙ c .same-length;
   whole =
-    ap (λ (s : List ℕ). put s (next + 1) (drop (i + 1) text)) (put-one now next (getD text i 0) (omega (arith, c .place, c .same-length)))
-    ∙ put-put now next (getD text i 0 ∷ []) (next + 1) (drop (i + 1) text) (omega (arith, c .place, c .same-length)) (omega arith)
-    ∙ ap (λ (s : List ℕ). put now next s) (ap (λ (k : ℕ). getD text i 0 ∷ drop k text) (add-one i) ∙ sym (drop-cons text i 0 h))
-    ∙ c .whole
+      ap (λ (s : List ℕ). put s (next + 1) (drop (i + 1) text)) (put-one now next (getD text i 0) (omega (arith, c .place, c .same-length)))
+      ∙ put-put now next (getD text i 0 ∷ []) (next + 1) (drop (i + 1) text) (omega (arith, c .place, c .same-length)) (omega arith)
+      ∙ ap (λ (s : List ℕ). put now next s) (ap (λ (k : ℕ). getD text i 0 ∷ drop k text) (add-one i) ∙ sym (drop-cons text i 0 h))
+      ∙ c .whole;
 }
 
 -- All.
@@ -48,9 +48,9 @@ copied-all {l} {at} {text} {now} {i} {next} c h =
       kept = c .same-length;
       next-is = omega (arith, c .place);
       after-is =
-        sym (put-nil now next)
-        ∙ ap (λ (s : List ℕ). put now next s) (sym (ap (λ (k : ℕ). drop k text) e ∙ drop-length text))
-        ∙ c .whole
+          sym (put-nil now next)
+          ∙ ap (λ (s : List ℕ). put now next s) (sym (ap (λ (k : ℕ). drop k text) e ∙ drop-length text))
+          ∙ c .whole;
     }
 
 -- ---- putting one after the other
@@ -65,11 +65,11 @@ put-single l at x room = record { kept = length-set l at x; next-is = omega arit
 
 -- Values right after others are put with them.
 pub put-then : {l : List ℕ} {at : ℕ} {a mid : List ℕ} {next : ℕ} {b after : List ℕ} {end : ℕ} → Putting l at a mid next → Putting mid next b after end
-  → at ≤ length l → Putting l at (a ++ b) after end
+    → at ≤ length l → Putting l at (a ++ b) after end
 put-then {l} {at} {a} {mid} {next} {b} {after} {end} p q inside = record {
   kept = q .kept ∙ p .kept;
   next-is = rw length-append (omega (arith, p .next-is, q .next-is));
-  after-is = q .after-is ∙ ap (λ (s : List ℕ). put s next b) (p .after-is) ∙ put-put l at a next b inside (p .next-is)
+  after-is = q .after-is ∙ ap (λ (s : List ℕ). put s next b) (p .after-is) ∙ put-put l at a next b inside (p .next-is);
 }
 
 -- ---- decimal numbers
@@ -80,7 +80,7 @@ decimal-put l at number digit e h room = rw (e, decimal-one number h) (put-singl
 
 -- One digit more than the tenth part.
 pub decimal-puts : {l : List ℕ} {at number : ℕ} {mid : List ℕ} {next digit : ℕ} → Putting l at (decimal (number / 10)) mid next → digit ≡ 48 + number % 10
-  → 10 ≤ number → next < length l → Putting l at (decimal number) (set mid next digit) (next + 1)
+    → 10 ≤ number → next < length l → Putting l at (decimal number) (set mid next digit) (next + 1)
 decimal-puts {l} {at} {number} {mid} {next} {digit} p e h room =
     rw (e, decimal-more number h) (put-then p (put-single mid next (48 + number % 10) (omega (arith, p .kept))) (omega (arith, p .next-is)))
 
@@ -99,7 +99,7 @@ pub append-fits : {l : List ℕ} {at : ℕ} {text after : List ℕ} {next : ℕ}
 unfolding appended placeAfter
 append-fits {l} {at} {text} p room = record {
   next-is = rw (le-leb (at + length text) (length l) room) (p .next-is);
-  after-is = rw (le-leb (at + length text) (length l) room) (p .after-is)
+  after-is = rw (le-leb (at + length text) (length l) room) (p .after-is);
 }
 
 -- Where there is no room, nothing is.
@@ -130,7 +130,7 @@ output-of {l} {text} {after} {size} a = record {
       (omega arith, rw (e, f) (take-put l 0 text (omega arith)));
   none = λ full.
       let fails : leb (0 + length text) (length l) ≡ false = lt-leb (0 + length text) (length l) (omega arith) in
-      (rw fails at (a .next-is), rw fails at (a .after-is))
+      (rw fails at (a .next-is), rw fails at (a .after-is));
 }
 
 -- What was put ends inside the buffer.
@@ -141,7 +141,7 @@ put-inside {l} {text} {after} {size} p =
 
 -- A line that was put at the front of a buffer, and the part of it up to its end appended: the line is put out.
 pub output-line : {line text written : List ℕ} {size : ℕ} {l after : List ℕ} {end : ℕ} → Putting line 0 text written size → Appended l 0 (take size written) after end
-  → Output l text after end
+    → Output l text after end
 output-line {line} {text} {written} {size} {l} {after} {end} p a =
     let e : size ≡ 0 + length text = p .next-is in
     output-of (rw (e, p .after-is, take-put line 0 text (omega arith)) at a)

@@ -24,13 +24,13 @@ span-blank l at span e = rw (e, trop-zero) (put-nothing l at)
 
 -- A span of 0 or more is its number.
 pub span-up : {l : List ℕ} {at span : ℕ} {after : List ℕ} {next : ℕ} → Putting l at (decimal (span - signed-half)) after next → signed-half ≤ span
-  → Putting l at (spanDecimal (tropOf span)) after next
+    → Putting l at (spanDecimal (tropOf span)) after next
 unfolding spanDecimal wholeDecimal
 span-up {span = span} p h = rw (trop-show span (pos (span - signed-half)) (omega arith) (omega arith)) p
 
 -- A negative span is a minus and its number.
 pub span-down : {l : List ℕ} {at span : ℕ} {mid : List ℕ} {next : ℕ} {after : List ℕ} {end : ℕ} → Putting l at (45 ∷ []) mid next
-  → Putting mid next (decimal (signed-half - span)) after end → (span ≡ 0 → ⊥) → span < signed-half → at ≤ length l → Putting l at (spanDecimal (tropOf span)) after end
+    → Putting mid next (decimal (signed-half - span)) after end → (span ≡ 0 → ⊥) → span < signed-half → at ≤ length l → Putting l at (spanDecimal (tropOf span)) after end
 unfolding spanDecimal wholeDecimal
 span-down {span = span} p q n h inside =
     let e : suc (signed-half - span - 1) ≡ signed-half - span = omega arith in
@@ -58,23 +58,23 @@ module _ {l : List ℕ} {at : ℕ} (class : ℕ) (span : Trop) {after : List ℕ
 
 -- Words, then a part, then the newline.
 pub line-puts : {l a one : List ℕ} {i : ℕ} {b two : List ℕ} {j : ℕ} {after : List ℕ} {next : ℕ} → Putting l 0 a one i → Putting one i b two j → Putting two j newline after next
-  → i ≤ length one → Putting l 0 (a ++ (b ++ newline)) after next
+    → i ≤ length one → Putting l 0 (a ++ (b ++ newline)) after next
 line-puts p q r inside = put-then p (put-then q r inside) (omega arith)
 
 -- Refusal 0 is none: the line of class and span.
 pub verdict-accepted : {l : List ℕ} (refusal class span : ℕ) {after : List ℕ} {next : ℕ} → Putting l 0 (verdictLine (accepted class (tropOf span))) after next → refusal ≡ 0
-  → Putting l 0 (verdictLine (verdictOf refusal class span)) after next
+    → Putting l 0 (verdictLine (verdictOf refusal class span)) after next
 unfolding verdictOf
 verdict-accepted refusal class span p e = rw (eq-eqb refusal 0 e) p
 
 -- Refusal 14 is printed in words.
 pub verdict-uncertified : {l : List ℕ} (refusal class span : ℕ) {after : List ℕ} {next : ℕ} → Putting l 0 (text-not-certified ++ newline) after next → refusal ≡ 14
-  → Putting l 0 (verdictLine (verdictOf refusal class span)) after next
+    → Putting l 0 (verdictLine (verdictOf refusal class span)) after next
 unfolding verdictOf verdictLine
 verdict-uncertified refusal class span p e = rw (ne-eqb refusal 0 (omega arith), eq-eqb refusal 14 e) p
 
 -- Any other by its number.
 pub verdict-refused : {l : List ℕ} (refusal class span : ℕ) {after : List ℕ} {next : ℕ} → Putting l 0 (refusedLine refusal) after next → (refusal ≡ 0 → ⊥) → (refusal ≡ 14 → ⊥)
-  → Putting l 0 (verdictLine (verdictOf refusal class span)) after next
+    → Putting l 0 (verdictLine (verdictOf refusal class span)) after next
 unfolding verdictOf verdictLine
 verdict-refused refusal class span p m n = rw (ne-eqb refusal 0 m, ne-eqb refusal 14 n) p

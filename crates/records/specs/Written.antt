@@ -10,5 +10,5 @@ use Rattle.records.specs.Text.{appended, placeAfter}
 abbrev pub written : Writer → List ℕ → Writer
 written w text = record {
   buf = at-last (w .buf) (appended (now (w .buf)) (w .at) text);
-  at = placeAfter (now (w .buf)) (w .at) text
+  at = placeAfter (now (w .buf)) (w .at) text;
 }

@@ -1,6 +1,7 @@
 // The lines that the programs print, as bytes. Document 01, "Two programs". Each ends with one newline.
 use crate::limits::OFFSET;
-use crate::text::{copy, put_decimal};
+use crate::text::copy;
+use crate::text::put_decimal;
 ghost use mathlib.Core.Path.{_≡_};
 ghost use Prim.Native.Nat.{_+_, _≤_, _<_};
 ghost use mathlib.Core.List.{_++_};

@@ -1,7 +1,8 @@
 // What the programs put out: a record or a line, appended through a writer. The writer borrows a lent slice and holds the
 // next place in it. Each function over it takes it apart and leaves the work to `append`; `write`, with plain parameters,
 // stands above them.
-use crate::lines::{refused_line, verdict_line};
+use crate::lines::refused_line;
+use crate::lines::verdict_line;
 use crate::text::append;
 ghost use mathlib.Core.Path.{_≡_};
 ghost use Prim.Native.Nat.{_≤_};
