@@ -12,3 +12,7 @@ pub mod Judging
 pub mod Writing
 pub mod Trips
 pub mod Meaning
+pub mod Again
+pub mod Copy
+pub mod Held
+pub mod Printing

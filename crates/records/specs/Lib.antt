@@ -6,3 +6,5 @@ pub mod Fields
 pub mod AnswerReading
 pub mod AnswerWriting
 pub mod RoundTrips
+pub mod Text
+pub mod Written

@@ -7,3 +7,6 @@ pub mod offset;
 pub mod problem;
 pub mod roundtrip;
 pub mod writer;
+pub mod lines;
+pub mod output;
+pub mod text;

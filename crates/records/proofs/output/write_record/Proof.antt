@@ -1,0 +1,10 @@
+use borrow.Author.Needs.{needs}
+use Rattle.records.proofs.Copy.{output-of}
+use Rattle.records.proofs.output.write_record.Statement.{statement}
+use Rattle.records.proofs.output.write_record.Tie as tie
+
+pub write-record-spec : {M : Type 1} → statement M
+write-record-spec = tie.close (tie.spec
+    (λ c κs. search needs)
+    (λ c. search needs)
+    (λ c. output-of (c .before .before .write .ensures)))
