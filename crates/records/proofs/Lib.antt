@@ -13,6 +13,8 @@ pub mod Writing
 pub mod Trips
 pub mod Meaning
 pub mod Again
+pub mod Appending
 pub mod Copy
+pub mod Decimals
 pub mod Held
 pub mod Printing

@@ -1,19 +1,19 @@
 -- The lines that the programs print, by the cases of the code that puts them.
-use Prim.Native.Nat.{ℕ, suc, _+_, _-_, _≤_, _<_}
-use mathlib.Core.Path.{_≡_, refl, ap, sym, _∙_}
+use Prim.Native.Nat.{ℕ, zero, suc, _-_, _≤_, _<_}
+use mathlib.Core.Path.{_≡_, refl}
 use mathlib.Core.List.{List, [], _∷_, _++_}
 use native.Mathlib.Omega.{arith}
-use lib.ListN.{length, set}
+use lib.ListN.{length}
 use lib.IntN.{pos, negsuc}
 use borrow.Author.Tests.{eq-eqb, ne-eqb}
 use Rattle.definitions.specs.Limits.{signed-half}
-use Rattle.definitions.specs.Tropical.{Trop, fin}
+use Rattle.definitions.specs.Tropical.{Trop}
 use Rattle.definitions.specs.Offset.{tropOf}
-use Rattle.definitions.specs.Verdict.{accepted, refused}
-use Rattle.definitions.specs.Programs.{decimal, wholeDecimal, spanDecimal, text-least, text-bottomless, text-none, text-accepted, text-refused, text-not-certified, newline, classWords, refusedLine, verdictLine}
+use Rattle.definitions.specs.Verdict.{accepted, refused, not-certified}
+use Rattle.definitions.specs.Programs.{decimal, wholeDecimal, spanDecimal, text-least, text-bottomless, text-none, text-not-certified, newline, classWords, refusedLine, verdictLine}
 use Rattle.definitions.proofs.Offset.{trop-zero, trop-show}
 use Rattle.records.specs.Text.{Putting, verdictOf}
-use Rattle.records.proofs.Copy.{put-nothing, put-single, put-then}
+use Rattle.records.proofs.Copy.{put-nothing, put-then}
 
 -- ---- a span
 
@@ -61,6 +61,16 @@ pub line-puts : {l a one : List ℕ} {i : ℕ} {b two : List ℕ} {j : ℕ} {aft
     → i ≤ length one → Putting l 0 (a ++ (b ++ newline)) after next
 line-puts p q r inside = put-then p (put-then q r inside) (omega arith)
 
+-- The verdict of refusal 0 accepts, with class and span.
+pub verdict-none : (class span : ℕ) → verdictOf zero class span ≡ accepted class (tropOf span)
+unfolding verdictOf
+verdict-none class span = refl
+
+-- The verdict of any other refusal is that refusal.
+pub verdict-some : (k class span : ℕ) → verdictOf (suc k) class span ≡ refused (suc k)
+unfolding verdictOf
+verdict-some k class span = rw (ne-eqb (suc k) 0 (omega arith))
+
 -- Refusal 0 is none: the line of class and span.
 pub verdict-accepted : {l : List ℕ} (refusal class span : ℕ) {after : List ℕ} {next : ℕ} → Putting l 0 (verdictLine (accepted class (tropOf span))) after next → refusal ≡ 0
     → Putting l 0 (verdictLine (verdictOf refusal class span)) after next
@@ -68,13 +78,13 @@ unfolding verdictOf
 verdict-accepted refusal class span p e = rw (eq-eqb refusal 0 e) p
 
 -- Refusal 14 is printed in words.
-pub verdict-uncertified : {l : List ℕ} (refusal class span : ℕ) {after : List ℕ} {next : ℕ} → Putting l 0 (text-not-certified ++ newline) after next → refusal ≡ 14
+pub verdict-uncertified : {l : List ℕ} (refusal class span : ℕ) {after : List ℕ} {next : ℕ} → Putting l 0 (text-not-certified ++ newline) after next → refusal ≡ not-certified
     → Putting l 0 (verdictLine (verdictOf refusal class span)) after next
 unfolding verdictOf verdictLine
-verdict-uncertified refusal class span p e = rw (ne-eqb refusal 0 (omega arith), eq-eqb refusal 14 e) p
+verdict-uncertified refusal class span p e = rw (ne-eqb refusal 0 (omega arith), eq-eqb refusal not-certified e) p
 
 -- Any other by its number.
-pub verdict-refused : {l : List ℕ} (refusal class span : ℕ) {after : List ℕ} {next : ℕ} → Putting l 0 (refusedLine refusal) after next → (refusal ≡ 0 → ⊥) → (refusal ≡ 14 → ⊥)
+pub verdict-refused : {l : List ℕ} (refusal class span : ℕ) {after : List ℕ} {next : ℕ} → Putting l 0 (refusedLine refusal) after next → (refusal ≡ 0 → ⊥) → (refusal ≡ not-certified → ⊥)
     → Putting l 0 (verdictLine (verdictOf refusal class span)) after next
 unfolding verdictOf verdictLine
-verdict-refused refusal class span p m n = rw (ne-eqb refusal 0 m, ne-eqb refusal 14 n) p
+verdict-refused refusal class span p m n = rw (ne-eqb refusal 0 m, ne-eqb refusal not-certified n) p

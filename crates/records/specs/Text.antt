@@ -35,6 +35,10 @@ pub record Output (before bytes after : List ℕ) (size : ℕ) : Type 0 where
   pub shown : length bytes ≤ length before → (size ≡ length bytes) × (take size after ≡ bytes)
   pub none : length before < length bytes → (size ≡ 0) × (after ≡ before)
 
+-- No line that a program prints is longer.
+abbrev pub line-most : ℕ
+line-most = 64
+
 -- The verdict that a refusal's number gives, 0 for none, with class and span where there is none. The span is an offset number.
 unfoldable pub verdictOf : ℕ → ℕ → ℕ → Verdict
 verdictOf refusal class span = cond (eqb refusal 0) (accepted class (tropOf span)) (refused refusal)

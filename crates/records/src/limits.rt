@@ -19,6 +19,9 @@ pub const SPAN_LIMIT: u64 = 645120;
 
 pub const STAMP_LIMIT: u64 = 2000000;
 
+// The refusal that is printed in words: the form is right and the answer is not accepted.
+pub const NOT_CERTIFIED: usize = 14;
+
 // The offset number of 0, and the first number that 4 bytes do not hold.
 pub const OFFSET: u64 = 2147483648;
 

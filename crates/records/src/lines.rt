@@ -1,4 +1,5 @@
 // The lines that the programs print, as bytes. Document 01, "Two programs". Each ends with one newline.
+use crate::limits::NOT_CERTIFIED;
 use crate::limits::OFFSET;
 use crate::text::copy;
 use crate::text::put_decimal;
@@ -9,10 +10,10 @@ ghost use lib.ListN.{length};
 ghost use Rattle.definitions.specs.Offset.{tropOf};
 ghost use Rattle.definitions.specs.Verdict.{accepted};
 ghost use Rattle.definitions.specs.Programs.{text-least, spanDecimal, classWords, refusedLine, verdictLine};
-ghost use Rattle.records.specs.Text.{Putting, verdictOf};
+ghost use Rattle.records.specs.Text.{Putting, line-most, verdictOf};
 
-// The number of the refusal that is printed in words.
-const NOT_CERTIFIED: usize = 14;
+// Room enough for every line.
+pub const LINE_MOST: usize = 64;
 
 // Puts a span, an offset number, in decimal, a negative one with a minus; a blank one has no digits.
 fn put_span(line: &mut [u8], at: usize, span: u64) -> usize
@@ -52,8 +53,8 @@ fn put_class(line: &mut [u8], at: usize, class: u64, span: u64) -> usize
 
 // Puts the line of an accepted answer.
 fn accepted_line(line: &mut [u8], class: u64, span: u64) -> usize
-    requires { ⌜ 64 ≤ length (now line) ⌝ }
-    ensures { λ r. ⌜ Putting (now (line .entry)) 0 (verdictLine (accepted class (tropOf span))) (now (line .exit)) r × (r ≤ 64) ⌝ }
+    requires { ⌜ line-most ≤ length (now line) ⌝ }
+    ensures { λ r. ⌜ Putting (now (line .entry)) 0 (verdictLine (accepted class (tropOf span))) (now (line .exit)) r × (r ≤ line-most) ⌝ }
 {
     let a = copy(line, 0, b"accepted ");
     let b = put_class(line, a, class, span);
@@ -62,8 +63,8 @@ fn accepted_line(line: &mut [u8], class: u64, span: u64) -> usize
 
 // Puts the line of a refusal.
 pub fn refused_line(line: &mut [u8], number: usize) -> usize
-    requires { ⌜ 64 ≤ length (now line) ⌝ }
-    ensures { λ r. ⌜ Putting (now (line .entry)) 0 (refusedLine number) (now (line .exit)) r × (r ≤ 64) ⌝ }
+    requires { ⌜ line-most ≤ length (now line) ⌝ }
+    ensures { λ r. ⌜ Putting (now (line .entry)) 0 (refusedLine number) (now (line .exit)) r × (r ≤ line-most) ⌝ }
 {
     let a = copy(line, 0, b"refused ");
     let b = put_decimal(line, a, number as u64);
@@ -72,8 +73,8 @@ pub fn refused_line(line: &mut [u8], number: usize) -> usize
 
 // Puts the line of a verdict: that of refusal `refusal`, or of class and span where it is 0.
 pub fn verdict_line(line: &mut [u8], refusal: usize, class: u64, span: u64) -> usize
-    requires { ⌜ 64 ≤ length (now line) ⌝ }
-    ensures { λ r. ⌜ Putting (now (line .entry)) 0 (verdictLine (verdictOf refusal class span)) (now (line .exit)) r × (r ≤ 64) ⌝ }
+    requires { ⌜ line-most ≤ length (now line) ⌝ }
+    ensures { λ r. ⌜ Putting (now (line .entry)) 0 (verdictLine (verdictOf refusal class span)) (now (line .exit)) r × (r ≤ line-most) ⌝ }
 {
     if refusal == 0 {
         return accepted_line(line, class, span);

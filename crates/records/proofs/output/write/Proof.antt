@@ -42,7 +42,7 @@ use denote.Signature.{plain}
 use Rattle.records.specs.declared.output.Writer.{Writer}
 use Rattle.records.specs.Text.{Appended, appended, placeAfter}
 use Rattle.records.specs.Written.{written}
-use Rattle.records.proofs.Copy.{length-appended}
+use Rattle.records.proofs.Appending.{length-appended}
 use Rattle.records.proofs.output.Writer as T
 use Rattle.records.proofs.output.Writer.Laws as T′
 use Rattle.records.proofs.output.made as fresh

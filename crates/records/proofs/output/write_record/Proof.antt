@@ -1,5 +1,5 @@
 use borrow.Author.Needs.{needs}
-use Rattle.records.proofs.Copy.{output-of}
+use Rattle.records.proofs.Appending.{output-of}
 use Rattle.records.proofs.output.write_record.Statement.{statement}
 use Rattle.records.proofs.output.write_record.Tie as tie
 

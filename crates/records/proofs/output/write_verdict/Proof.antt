@@ -2,7 +2,7 @@ use borrow.Author.Needs.{needs}
 use mathlib.Core.Path.{sym}
 use native.Mathlib.Omega.{arith}
 use lib.Seq.{length-take-le}
-use Rattle.records.proofs.Copy.{output-line}
+use Rattle.records.proofs.Appending.{output-line}
 use Rattle.records.proofs.output.write_verdict.Statement.{statement}
 use Rattle.records.proofs.output.write_verdict.Tie as tie
 

@@ -4,7 +4,7 @@ use native.Mathlib.Omega.{arith}
 use Prim.Native.Nat.{ℕ, _<_}
 use borrow.Fn.Kinds.{In}
 use borrow.Fn.PlainCycle.{Measures, is, falls, and}
-use Rattle.records.proofs.Copy.{decimal-put, decimal-puts, decimal-longer, decimal-most}
+use Rattle.records.proofs.Decimals.{decimal-put, decimal-puts, decimal-longer, decimal-most}
 use Rattle.records.proofs.text.put_decimal.Reads as put-decimal
 use Rattle.records.proofs.text.put_decimal.Kinds as put-decimal-kinds
 use Rattle.records.proofs.text.+put_decimal.Lts-put_decimal as put-decimal-lts

@@ -1,6 +1,6 @@
 use borrow.Author.Needs.{needs}
 use native.Mathlib.Omega.{arith}
-use Rattle.records.proofs.Copy.{append-fits, append-none}
+use Rattle.records.proofs.Appending.{append-fits, append-none}
 use Rattle.records.proofs.text.append.Statement.{statement}
 use Rattle.records.proofs.text.append.Tie as tie
 
