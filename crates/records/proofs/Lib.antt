@@ -12,9 +12,3 @@ pub mod Judging
 pub mod Writing
 pub mod Trips
 pub mod Meaning
-pub mod Again
-pub mod Appending
-pub mod Copy
-pub mod Decimals
-pub mod Held
-pub mod Printing

@@ -6,5 +6,3 @@ pub mod Fields
 pub mod AnswerReading
 pub mod AnswerWriting
 pub mod RoundTrips
-pub mod Text
-pub mod Written

@@ -7,6 +7,3 @@ pub mod offset;
 pub mod problem;
 pub mod roundtrip;
 pub mod writer;
-pub mod lines;
-pub mod output;
-pub mod text;

@@ -1,0 +1,4 @@
+// What the two programs put out: records and lines, byte for byte. Document 01, "Two programs".
+pub mod lines;
+pub mod text;
+pub mod writer;
