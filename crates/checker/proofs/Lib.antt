@@ -1,0 +1,6 @@
+pub mod Decides
+pub mod Lists
+pub mod Marks
+pub mod ArcTables
+pub mod Sides
+pub mod ClosedWalks

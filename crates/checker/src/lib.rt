@@ -1,0 +1,6 @@
+// The checker: it judges an answer and trusts no engine. Document 01, "The checker".
+pub mod sums;
+pub mod point;
+pub mod arcs;
+pub mod reach;
+pub mod gains;
