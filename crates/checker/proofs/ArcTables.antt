@@ -133,19 +133,19 @@ module _ (left right : List ℕ) (m t : ℕ) (picks : List ℕ) where
           go : (b : Bool) → eqb (getD picks k 0) (suc l′) ≡ b → cond b (cond (eqb (getD right (k * 32 + l′) 0) 0) 0 (fallen (fall (getD right (k * 32 + l′) 0) (raisedBy t m k)) (getD left (k * 32 + j) 0))) 0 ≡ 0
           go false q = refl
           go true q =
-              let d : l ≡ l′ = omega (arith, eqb-true _ _ q) in
+              let d : l ≡ l′ = omega (arith, eqb-true (getD picks k 0) (suc l′) q) in
               let y : getD right (k * 32 + l′) 0 ≡ 0 = rw (← d) z in
               rw (eq-eqb (getD right (k * 32 + l′) 0) 0 y)
 
   -- The entries by a row: to the variable that it picks, and to no other.
-  row-here : {k l : ℕ} (j : ℕ) → getD picks k 0 ≡ suc l → (getD right (k * 32 + l) 0 ≡ 0 → ⊥)
+  row-here : (k l j : ℕ) → getD picks k 0 ≡ suc l → (getD right (k * 32 + l) 0 ≡ 0 → ⊥)
       → rowArc left right m t picks k j l ≡ fallen (fall (getD right (k * 32 + l) 0) (raisedBy t m k)) (getD left (k * 32 + j) 0)
   unfolding rowArc looseArc
-  row-here {k} {l} j e z = rw (eq-eqb (getD picks k 0) (suc l) e, ne-eqb _ _ z)
+  row-here k l j e z = rw (eq-eqb (getD picks k 0) (suc l) e, ne-eqb (getD right (k * 32 + l) 0) 0 z)
 
-  row-there : {k l : ℕ} (j l′ : ℕ) → getD picks k 0 ≡ suc l → (l′ ≡ l → ⊥) → rowArc left right m t picks k j l′ ≡ 0
+  row-there : (k l j l′ : ℕ) → getD picks k 0 ≡ suc l → (l′ ≡ l → ⊥) → rowArc left right m t picks k j l′ ≡ 0
   unfolding rowArc
-  row-there {k} j l′ e d = rw (ne-eqb (getD picks k 0) (suc l′) (λ q. d (omega arith)))
+  row-there k l j l′ e d = rw (ne-eqb (getD picks k 0) (suc l′) (λ q. d (omega arith)))
 
   -- The row's arcs go to the variable that it picks.
   pub rows-column : {width k l : ℕ} {arcs new : List ℕ} → width ≤ 32 → RowArcs left right m t picks width k arcs → getD picks k 0 ≡ suc l → l < width
@@ -161,7 +161,7 @@ module _ (left right : List ℕ) (m t : ℕ) (picks : List ℕ) where
       cell j l′ q r true s =
           let d : l′ ≡ l = eqb-true l′ l s in
           subst (λ (i : ℕ). getD new (j * 32 + i) 0 ≡ heaviest left right m t picks (suc k) j i) (sym d)
-          (c .cells j q ∙ sym (heaviest-more k j l ∙ cc (row-here j e z, h .cells j l q b, ap (λ x. fallen x (getD left (k * 32 + j) 0)) d′)))
+          (c .cells j q ∙ sym (heaviest-more k j l ∙ cc (row-here k l j e z, h .cells j l q b, ap (λ x. fallen x (getD left (k * 32 + j) 0)) d′)))
       cell j l′ q r false s =
           let d : l′ ≡ l → ⊥ = eqb-false l′ l s in
-          c .others j l′ (omega arith) (λ _. d) ∙ h .cells j l′ q r ∙ sym (heaviest-more k j l′ ∙ ap (most (heaviest left right m t picks k j l′)) (row-there j l′ e d) ∙ most-zero _)
+          c .others j l′ (omega arith) (λ _. d) ∙ h .cells j l′ q r ∙ sym (heaviest-more k j l′ ∙ ap (most (heaviest left right m t picks k j l′)) (row-there k l j l′ e d) ∙ most-zero _)

@@ -2,5 +2,6 @@ pub mod Decides
 pub mod Lists
 pub mod Marks
 pub mod ArcTables
+pub mod Certified
 pub mod Sides
 pub mod ClosedWalks

@@ -42,6 +42,10 @@ side-cases b h = ⊎-elim
     (λ (l : side-floor < b). inr (l, side-some (λ e. omega arith)))
     (Whole.nat-le-or-lt b side-floor)
 
+trop-most : (a b : ℕ) → larger (tropOf a) (tropOf b) ≡ tropOf (most a b)
+unfolding most
+trop-most a b = trop-larger a b
+
 -- One more term: a coefficient and a stamp, either of which may be blank.
 term-more : (b c e : ℕ) → side-floor ≤ b → Near lead-limit c → Near stamp-limit e
     → larger (tropOf (sideBy b)) (plus (tropOf c) (tropOf e)) ≡ tropOf (sideBy (most b (c + e)))
@@ -49,7 +53,7 @@ term-more b c e h near near′ = ⊎-elim
     (λ (z : c ≡ 0). blank (rw (z, trop-zero) (bot-plus _)) (omega (arith, near′ .hi)))
     (λ (z : 0 < c). ⊎-elim
     (λ (y : e ≡ 0). blank (rw (y, trop-zero) (plus-bot _)) (omega (arith, near .hi)))
-    (λ (y : 0 < e). rw (plus-trop c e z y (omega (arith, near .lo z, near′ .lo y))) (trop-larger _ _ ∙ ap tropOf (both (omega (arith, near .lo z, near′ .lo y)))))
+    (λ (y : 0 < e). rw (plus-trop c e z y (omega (arith, near .lo z, near′ .lo y))) (trop-most _ _ ∙ ap tropOf (both (omega (arith, near .lo z, near′ .lo y)))))
     (eq-zero-or-pos e))
     (eq-zero-or-pos c)
   where
@@ -137,18 +141,19 @@ module _ {p : Problem} {left right : List ℕ} {n m : ℕ} (holds : Holds p left
       differ q = let d : _≡_ {A = ℕ} 0 1 = cc in omega arith
 
   -- Both whole: the value is their difference.
-  pub value-read : {s : ℕ} {z : ℤ} → (sideOf left (m * 32) x (n + 1) ≡ 0 → ⊥) → (sideOf right (m * 32) x (n + 1) ≡ 0 → ⊥) → tropOf s ≡ fin z
+  pub value-read : (s : ℕ) {z : ℤ} → (sideOf left (m * 32) x (n + 1) ≡ 0 → ⊥) → (sideOf right (m * 32) x (n + 1) ≡ 0 → ⊥) → tropOf s ≡ fin z
       → (value p (stampsPoint x) ≡ whole z) ↔ (sideOf left (m * 32) x (n + 1) + signed-half ≡ sideOf right (m * 32) x (n + 1) + s)
   unfolding minus
-  value-read {s} {z} d d′ e = (
-    λ v. let q : Whole.up a + Whole.down b ≡ Whole.up a + Whole.down b = refl in
-        let k : a -ℤ b ≡ z = same (sym is ∙ v) in
+  value-read s {z} d d′ e = (
+    λ v. let k : a -ℤ b ≡ z = same (sym is ∙ v) in
         omega (Whole.whole, read, read′, trop-read s e, minus-read a b),
     λ q. is ∙ ap whole (let k : a -ℤ b ≡ z = omega (Whole.whole, read, read′, trop-read s e, minus-read a b) in k),
   )
     where
-      first second : ℕ
+      first : ℕ
       first = sideOf left (m * 32) x (n + 1)
+
+      second : ℕ
       second = sideOf right (m * 32) x (n + 1)
 
       pos-first : 0 < first
@@ -157,8 +162,10 @@ module _ {p : Problem} {left right : List ℕ} {n m : ℕ} (holds : Holds p left
       pos-second : 0 < second
       pos-second = ⊎-elim (λ k. absurd (d′ k)) (λ k. k) (eq-zero-or-pos second)
 
-      a b : ℤ
+      a : ℤ
       a = lib.IntN.subℕ first signed-half
+
+      b : ℤ
       b = lib.IntN.subℕ second signed-half
 
       read : Whole.up a + signed-half ≡ first + Whole.down a

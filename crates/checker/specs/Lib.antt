@@ -6,3 +6,4 @@ pub mod Marks
 pub mod Gains
 pub mod GainRound
 pub mod Arcs
+pub mod Counts

@@ -4,3 +4,4 @@ pub mod point;
 pub mod arcs;
 pub mod reach;
 pub mod gains;
+pub mod certify;

@@ -42,7 +42,7 @@ pub fn keeps_rules(left: &[u64; 2048], right: &[u64; 2048], n: usize, m: usize, 
 
 // The point's objective value is the span s.
 pub fn value_is(left: &[u64; 2048], right: &[u64; 2048], n: usize, m: usize, x: &[u64; 32], s: u64) -> bool
-    requires { ⌜ Sized (now left) (now right) n m × Stamped (now x) ⌝ }
+    requires { ⌜ Sized (now left) (now right) n m × Stamped (now x) × (s ≤ 4294967296) ⌝ }
     ensures { λ r. ⌜ ((p : Problem) (z : ℤ) → Holds p (now (left .entry)) (now (right .entry)) n m → tropOf s ≡ fin z → Decides (value p (stampsPoint (now (x .entry))) ≡ whole z) r) ⌝ }
 {
     let width = n + 1;

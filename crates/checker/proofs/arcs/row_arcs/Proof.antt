@@ -32,11 +32,12 @@ add-i-end c = search needs
 
 -- src/arcs.rt:159:5
 loop-holds : tie.Need-loop-holds Inv-loop μ-loop
-loop-holds c = (omega arith, omega arith, ?)
+loop-holds c = (omega arith, omega arith, rows-none _ _ _ _ _ _ _ (c .clear-arcs .ensures .0) (c .clear-arcs .ensures .1))
 
 -- src/arcs.rt:160:9
 fill-row-requires : tie.Need-fill-row-requires Inv-loop μ-loop
-fill-row-requires c κs = ?
+fill-row-requires c κs = let start = c .before .before .before .before .before in
+    (start .pre .0, start .pre .1, c .before .before .loop .inv .2, start .pre .3, omega arith)
 
 -- src/arcs.rt:159:9
 add-i : tie.Need-add-i Inv-loop μ-loop
