@@ -2,6 +2,9 @@ pub mod Decides
 pub mod Lists
 pub mod Marks
 pub mod ArcTables
+pub mod Counting
 pub mod Certified
+pub mod Variables
+pub mod RowStrategy
 pub mod Sides
 pub mod ClosedWalks
