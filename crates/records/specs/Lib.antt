@@ -1,1 +1,4 @@
 pub mod Decoded
+pub mod ProblemHeader
+pub mod Tables
+pub mod Filling

@@ -1,6 +1,6 @@
 // Fields of 2 and 4 bytes at a place of a string of bytes.
 ghost use mathlib.Core.Path.{_≡_};
-ghost use Prim.Native.Nat.{_<_};
+ghost use Prim.Native.Nat.{_+_, _<_, _≤_};
 ghost use lib.ListN.{length, getD};
 ghost use Rattle.definitions.specs.Bytes.{numAt};
 
@@ -36,4 +36,15 @@ pub fn word_at(s: &[u8], at: usize) -> u64
     let c = b + 1;
     let d = c + 1;
     byte_at(s, at) + 256 * (byte_at(s, b) + 256 * (byte_at(s, c) + 256 * byte_at(s, d)))
+}
+
+// A field of 4 bytes that lies inside the string.
+pub fn word_in(s: &[u8], at: usize) -> u64
+    requires { ⌜ at + 4 ≤ length (now s) ⌝ }
+    ensures { λ r. ⌜ (r ≡ numAt 4 (now (s .entry)) at) × (r < 4294967296) ⌝ }
+{
+    let b = at + 1;
+    let c = b + 1;
+    let d = c + 1;
+    wide(s[at]) + 256 * (wide(s[b]) + 256 * (wide(s[c]) + 256 * wide(s[d])))
 }

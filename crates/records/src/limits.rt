@@ -23,3 +23,13 @@ pub const STAMP_LIMIT: u64 = 2000000;
 pub const OFFSET: u64 = 2147483648;
 
 pub const FULL: u64 = 4294967296;
+
+// The lent tables: rows of 32 columns, 64 of them.
+pub const STRIDE: usize = 32;
+
+pub const TABLE: usize = 2048;
+
+// The sizes of a length field and of a lead, stamp or span.
+pub const LENGTH_BYTES: usize = 4;
+
+pub const LEAD_BYTES: usize = 4;

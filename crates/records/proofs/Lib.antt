@@ -1,0 +1,6 @@
+pub mod Tests
+pub mod ProblemHeader
+pub mod Leads
+pub mod Tables
+pub mod ReadProblem
+pub mod LeadTables

@@ -1,0 +1,15 @@
+use Rattle.records.proofs.Tests.{tests}
+use Rattle.records.proofs.Leads.{lead-offset}
+use borrow.Author.Needs.{needs}
+use Rattle.records.proofs.problem.lead_fits.Statement.{statement}
+use Rattle.records.proofs.problem.lead_fits.Tie as tie
+
+pub lead-fits-spec : {M : Type 1} → statement M
+lead-fits-spec =
+    tie.close (tie.spec
+    (λ c κs. search needs)
+    (λ c. search (tests, lead-offset _ _ (c .before .before .pre) (c .before .offset .ensures .0)))
+    (λ c. search needs)
+    (λ c. search (tests, lead-offset _ _ (c .before .before .before .pre) (c .before .before .offset .ensures .0)))
+    (λ c. search needs)
+    (λ c. search (tests, lead-offset _ _ (c .before .before .before .pre) (c .before .before .offset .ensures .0))))
