@@ -1,0 +1,37 @@
+// Offset numbers: the form in which leads, stamps and spans are kept. 0 is blank, any other number k stands for k − 2³¹.
+use crate::limits::FULL;
+use crate::limits::OFFSET;
+ghost use mathlib.Core.Path.{_≡_};
+ghost use Prim.Native.Nat.{_<_};
+ghost use Rattle.definitions.specs.Limits.{signed-full};
+ghost use Rattle.definitions.specs.Bytes.{whole-within, blank-or-within};
+ghost use Rattle.definitions.specs.Offset.{tropOf, off};
+
+// The offset number of a 4-byte field, and the field of an offset number.
+pub fn offset(w: u64) -> u64
+    ensures { λ r. ⌜ (r ≡ off w) × (r < signed-full) ⌝ }
+{
+    (w % FULL + OFFSET) % FULL
+}
+
+// The number is whole and within ±limit.
+pub fn whole_within(limit: u64, k: u64) -> bool
+    requires { ⌜ limit < 2147483648 ⌝ }
+    ensures { λ r. ⌜ r ≡ whole-within limit (tropOf k) ⌝ }
+{
+    if k < OFFSET - limit {
+        return false;
+    }
+    k <= OFFSET + limit
+}
+
+// The number is blank, or within ±limit.
+pub fn blank_or_within(limit: u64, k: u64) -> bool
+    requires { ⌜ limit < 2147483648 ⌝ }
+    ensures { λ r. ⌜ r ≡ blank-or-within limit (tropOf k) ⌝ }
+{
+    match k {
+        0 => true,
+        _ => whole_within(limit, k),
+    }
+}
