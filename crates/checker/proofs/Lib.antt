@@ -6,5 +6,8 @@ pub mod Counting
 pub mod Certified
 pub mod Variables
 pub mod RowStrategy
+pub mod Acceptance
+pub mod Answers
+pub mod Verdicts
 pub mod Sides
 pub mod ClosedWalks

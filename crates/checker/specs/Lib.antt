@@ -7,3 +7,4 @@ pub mod Gains
 pub mod GainRound
 pub mod Arcs
 pub mod Counts
+pub mod Outcome

@@ -5,3 +5,4 @@ pub mod arcs;
 pub mod reach;
 pub mod gains;
 pub mod certify;
+pub mod check;
