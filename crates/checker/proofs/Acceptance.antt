@@ -1,0 +1,186 @@
+-- What the tests of each class say of an answer: all that document 01 lists for the class, or not.
+use Prim.Native.Nat.{ℕ, zero, suc, _+_, _*_, _-_, _≤_, _<_}
+use mathlib.Core.Path.{_≡_, refl, ap, sym, subst, _∙_, fun-ext}
+use mathlib.Core.Bool.{Bool, true, false, cond, _||_, false≢true}
+use mathlib.Core.List.{List}
+use mathlib.Core.Logic.{_⊎_, inl, inr, ⊎-elim}
+use native.Mathlib.Omega.{arith}
+use lib.Dec.{eqb}
+use lib.ListN.{getD}
+use lib.IntN.{ℤ, pos, negsuc, subℕ, natAbs, _-ℤ_}
+use borrow.Author.Tests.{ne-eqb, eq-eqb}
+use Rattle.definitions.specs.Limits.{signed-half, lead-limit, span-limit}
+use Rattle.definitions.specs.Tropical.{Trop, fin}
+use Rattle.definitions.specs.Offset.{tropOf}
+use Rattle.definitions.specs.Problem.{Problem, Point, Keeps, value, whole}
+use Rattle.definitions.specs.Certificate.{Strategy, PicksCount, BelowZero, RowPicksCount, AcceptedOptimal, AcceptedUnbounded, AcceptedInfeasible}
+use Rattle.definitions.specs.AnswerRecord.{Answer, known-class, highestPick}
+use Rattle.definitions.specs.Verdict.{Accepted, optimal, unbounded, infeasible, pointOf, strategyOf}
+use Rattle.definitions.proofs.Whole as Whole
+use Rattle.definitions.proofs.Whole.{up, down, minus-read, abs-show}
+use Rattle.definitions.proofs.Tropical.{fin-injective}
+use Rattle.definitions.proofs.Offset.{trop-fin, trop-read, trop-show}
+use Rattle.duality.specs.Picks.{NoneAbove, AtLeastZero}
+use Rattle.duality.specs.Within.{Within}
+use Rattle.duality.proofs.Numbers.{infeasible-below, below-infeasible, unbounded-above, above-unbounded, top-enough}
+use Rattle.records.specs.Decoded.{Near}
+use Rattle.checker.specs.Decides.{Decides}
+use Rattle.checker.specs.Tables.{Sized, Holds, Stamped, Picked, Trial, stampsPoint}
+use Rattle.checker.specs.Outcome.{Span, Meant, Formed}
+use Rattle.checker.proofs.Decides.{said-no, decides-as}
+
+-- ---- problems in the tables are small
+
+-- A number near that of 0 stands for a small one.
+near-size : {d : ℕ} (k : ℕ) {x : Trop} {z : ℤ} → Near d k → tropOf k ≡ x → x ≡ fin z → natAbs z ≤ d
+near-size k {z = z} h e f = let r = trop-read k (e ∙ f) in abs-show z (omega (arith, h .hi)) (omega (arith, h .lo (r .0)))
+
+pub holds-within : {p : Problem} {left right : List ℕ} {n m : ℕ} → Holds p left right n m → Within p lead-limit
+holds-within {left = left} {right = right} h = record {
+  left = λ i j a b c e. near-size (getD left (i * 32 + j) 0) (h .decoded .left-near (i * 32 + j)) (h .decoded .left-is i j b c) e;
+  right = λ i j a b c e. near-size (getD right (i * 32 + j) 0) (h .decoded .right-near (i * 32 + j)) (h .decoded .right-is i j b c) e;
+}
+
+pub holds-enough : {p : Problem} {left right : List ℕ} {n m : ℕ} → Holds p left right n m → 2 * (suc (p .n) * lead-limit) ≤ span-limit
+holds-enough {p} h = top-enough (p .n) lead-limit (omega (arith, h .decoded .n-most))
+
+-- ---- class 1
+
+-- The trial of class 1: the span less 1.
+pub trial-below : {span : ℕ} → Span span → Trial (span - 1)
+trial-below s = record {
+  some = omega (arith, s .near .lo (s .some));
+  near = record { hi = omega (arith, s .near .hi); lo = λ h. omega (arith, s .near .lo (s .some)) };
+}
+
+trial-below-is : (span : ℕ) {z : ℤ} → Span span → tropOf span ≡ fin z → tropOf (span - 1) ≡ fin (z -ℤ pos 1)
+trial-below-is span {z} s e =
+    let r = trop-read span e in
+    trop-show (span - 1) (z -ℤ pos 1) (omega (arith, s .near .lo (s .some))) (omega (arith, minus-read z (pos 1), s .near .lo (s .some)))
+
+module _ {p : Problem} {left right : List ℕ} {n m : ℕ} (holds : Holds p left right n m) (stamps : List ℕ) {picks : Strategy} {z : ℤ} where
+  -- The rules are broken.
+  pub optimal-broken : {c : Bool} → Decides ((i : ℕ) → i < m → Keeps p (stampsPoint stamps) i) c → c ≡ false
+      → Decides (AcceptedOptimal p z (stampsPoint stamps) picks) false
+  optimal-broken d e = said-no (λ a. d .no e (λ i h. a .feasible .keeps i (rw (holds .m-is) h)))
+
+  -- The value is another.
+  pub optimal-other : {c : Bool} → Decides (value p (stampsPoint stamps) ≡ whole z) c → c ≡ false
+      → Decides (AcceptedOptimal p z (stampsPoint stamps) picks) false
+  optimal-other d e = said-no (λ a. d .no e (a .value-is))
+
+  -- Both are right: the picks decide.
+  pub optimal-picks : {c d r : Bool} → getD stamps 0 0 ≡ signed-half → Decides ((i : ℕ) → i < m → Keeps p (stampsPoint stamps) i) c → c ≡ true
+      → Decides (value p (stampsPoint stamps) ≡ whole z) d → d ≡ true
+      → Decides (PicksCount p picks × BelowZero p picks (z -ℤ pos 1)) r → Decides (AcceptedOptimal p z (stampsPoint stamps) picks) r
+  unfolding stampsPoint
+  optimal-picks zero-is rules c is v walks = decides-as
+      (λ h. record {
+        feasible = record {
+          anchored = ap tropOf zero-is ∙ trop-show signed-half (pos 0) (omega arith) (omega arith);
+          keeps = λ i b. rules .yes c i (rw (holds .m-is) at b);
+        };
+        value-is = is .yes v;
+        picks-count = h .0;
+        below-zero = h .1;
+      })
+      (λ a. (a .picks-count, a .below-zero))
+      walks
+
+-- The same with the trial as an offset number.
+pub optimal-at : {p : Problem} {picks : Strategy} {span : ℕ} {z : ℤ} {r : Bool} → Span span → tropOf span ≡ fin z
+    → ((y : ℤ) → tropOf (span - 1) ≡ fin y → Decides (PicksCount p picks × BelowZero p picks y) r)
+    → Decides (PicksCount p picks × BelowZero p picks (z -ℤ pos 1)) r
+optimal-at {span = span} {z = z} s e f = f (z -ℤ pos 1) (trial-below-is span s e)
+
+-- ---- classes 2 and 3
+
+-- The two outer trials.
+pub top-trial : Trial (signed-half + span-limit)
+top-trial = record { some = omega arith; near = record { hi = omega arith; lo = λ _. omega arith } }
+
+pub top-trial-is : tropOf (signed-half + span-limit) ≡ fin (pos span-limit)
+top-trial-is = trop-show (signed-half + span-limit) (pos span-limit) (omega arith) (omega arith)
+
+pub lowest-trial : Trial (signed-half - span-limit - 1)
+lowest-trial = record { some = omega arith; near = record { hi = omega arith; lo = λ _. omega arith } }
+
+pub lowest-trial-is : tropOf (signed-half - span-limit - 1) ≡ fin (negsuc span-limit)
+lowest-trial-is = trop-show (signed-half - span-limit - 1) (negsuc span-limit) (omega arith) (omega arith)
+
+-- Picks of the reader, none above the highest.
+none-above : {many width : ℕ} {picks : List ℕ} → Picked picks many → NoneAbove many width (strategyOf picks)
+unfolding strategyOf
+none-above h j b = h .none-above j
+
+module _ {p : Problem} {left right : List ℕ} {n m : ℕ} (holds : Holds p left right n m) {picks : List ℕ} {r : Bool} where
+  pub infeasible-at : Picked picks (m + 1) → Decides (PicksCount p (strategyOf picks) × BelowZero p (strategyOf picks) (pos span-limit)) r
+      → Decides (AcceptedInfeasible p (strategyOf picks)) r
+  infeasible-at picked d =
+      let e : m + 1 ≡ suc (p .m) = omega (arith, holds .m-is) in
+      decides-as
+      (λ h. below-infeasible p lead-limit span-limit (strategyOf picks) (holds-within holds) (holds-enough holds) (none-above (rw e at picked)) (h .0) (h .1))
+      (λ a. (a .picks-count, infeasible-below p (strategyOf picks) (pos span-limit) a))
+      d
+
+  pub unbounded-at : Picked picks (n + 1) → Decides (RowPicksCount p (strategyOf picks) × AtLeastZero p (strategyOf picks) (negsuc span-limit)) r
+      → Decides (AcceptedUnbounded p (strategyOf picks)) r
+  unbounded-at picked d =
+      let e : n + 1 ≡ suc (p .n) = omega (arith, holds .n-is) in
+      decides-as
+      (λ h. above-unbounded p lead-limit span-limit (strategyOf picks) (holds-within holds) (holds-enough holds) (none-above (rw e at picked)) (h .0) (h .1))
+      (λ a. (a .picks-count, unbounded-above p (strategyOf picks) (negsuc span-limit) a))
+      d
+
+-- ---- by class
+
+point-same : {a : Answer} {class span : ℕ} {stamps picks : List ℕ} → Meant a class span stamps picks → stampsPoint stamps ≡ pointOf (a .stamps)
+unfolding stampsPoint
+point-same meant = fun-ext (meant .point-is)
+
+strategy-same : {a : Answer} {class span : ℕ} {stamps picks : List ℕ} → Meant a class span stamps picks → strategyOf picks ≡ strategyOf (a .picks)
+unfolding strategyOf
+strategy-same meant = fun-ext (meant .strategy-is)
+
+module _ {p : Problem} {a : Answer} {class span : ℕ} {stamps picks : List ℕ} (meant : Meant a class span stamps picks) {r : Bool} where
+  pub by-optimal : class ≡ 1 → Span span → ((z : ℤ) → tropOf span ≡ fin z → Decides (AcceptedOptimal p z (stampsPoint stamps) (strategyOf picks)) r) → Decides (Accepted p a) r
+  by-optimal e s d =
+      let is : tropOf span ≡ fin (subℕ span signed-half) = trop-fin span (s .some) in
+      decides-as
+      (λ h. optimal (meant .class-is ∙ e) (meant .span-is ∙ is) (rw (← point-same meant, ← strategy-same meant) h))
+      (λ h. back is h)
+      (d (subℕ span signed-half) is)
+    where
+      back : tropOf span ≡ fin (subℕ span signed-half) → Accepted p a → AcceptedOptimal p (subℕ span signed-half) (stampsPoint stamps) (strategyOf picks)
+      back is (optimal {s = y} c f h) =
+          let q : y ≡ subℕ span signed-half = fin-injective (sym f ∙ meant .span-is ∙ is) in
+          rw (point-same meant, strategy-same meant, ← q) h
+      back is (unbounded c h) = absurd (omega (arith, meant .class-is))
+      back is (infeasible c h) = absurd (omega (arith, meant .class-is))
+
+  pub by-unbounded : class ≡ 2 → Decides (AcceptedUnbounded p (strategyOf picks)) r → Decides (Accepted p a) r
+  by-unbounded e d = decides-as (λ h. unbounded (meant .class-is ∙ e) (rw (← strategy-same meant) h)) back d
+    where
+      back : Accepted p a → AcceptedUnbounded p (strategyOf picks)
+      back (optimal c f h) = absurd (omega (arith, meant .class-is))
+      back (unbounded c h) = rw (strategy-same meant) h
+      back (infeasible c h) = absurd (omega (arith, meant .class-is))
+
+  pub by-infeasible : class ≡ 3 → Decides (AcceptedInfeasible p (strategyOf picks)) r → Decides (Accepted p a) r
+  by-infeasible e d = decides-as (λ h. infeasible (meant .class-is ∙ e) (rw (← strategy-same meant) h)) back d
+    where
+      back : Accepted p a → AcceptedInfeasible p (strategyOf picks)
+      back (optimal c f h) = absurd (omega (arith, meant .class-is))
+      back (unbounded c h) = absurd (omega (arith, meant .class-is))
+      back (infeasible c h) = rw (strategy-same meant) h
+
+-- The highest pick of each class.
+pub highest-row : (n m class : ℕ) → (class ≡ 2 → ⊥) → highestPick class n m ≡ m + 1
+highest-row n m class d = rw (ne-eqb class 2 d) (omega arith)
+
+pub highest-variable : (n m class : ℕ) → class ≡ 2 → highestPick class n m ≡ n + 1
+highest-variable n m class e = rw (eq-eqb class 2 e) (omega arith)
+
+-- There is no other class.
+pub class-other : {class : ℕ} → known-class class ≡ true → (class ≡ 1 → ⊥) → (class ≡ 2 → ⊥) → (class ≡ 3 → ⊥) → ⊥
+class-other {class} k a b c = false≢true (rw (ne-eqb class 1 a, ne-eqb class 2 b, ne-eqb class 3 c) at k)

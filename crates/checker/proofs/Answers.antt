@@ -1,0 +1,128 @@
+-- What the reader gives has the form of its class and means the answer in the bytes.
+use Prim.Native.Nat.{ℕ, zero, suc, _+_, _*_, _-_, _≤_, _<_}
+use mathlib.Core.Path.{_≡_, refl, ap, sym, subst, _∙_}
+use mathlib.Core.Bool.{Bool, true, false, cond, _&&_, and-eq-true-iff, false≢true}
+use mathlib.Core.List.{List, [], _∷_}
+use mathlib.Core.Logic.{_⊎_, inl, inr, ⊎-elim}
+use native.Mathlib.Omega.{arith}
+use lib.Dec.{eqb, leb}
+use lib.ListN.{length, getD, length-map, List·getD-eq-default}
+use borrow.Author.Tests.{leb-true, eqb-true, eq-eqb}
+use Rattle.definitions.specs.Limits.{signed-half, stamp-limit, span-limit, class-optimal}
+use Rattle.definitions.specs.Tropical.{Trop, bot}
+use Rattle.definitions.specs.Bytes.{Bytes, all, blank-or-within, whole-within}
+use Rattle.definitions.specs.Offset.{tropOf}
+use Rattle.definitions.specs.AnswerRecord.{Answer, is-zero, stampsFit, picksFit, spanFits, stampCount, highestPick, classField, answerOf, answerRefusal}
+use Rattle.definitions.specs.Verdict.{pointOf, strategyOf}
+use Rattle.definitions.proofs.Whole.{nat-le-or-lt}
+use Rattle.definitions.proofs.Bytes.{all-true, length-numsAt}
+use Rattle.definitions.proofs.Offset.{zero-offset, whole-offset}
+use Rattle.definitions.proofs.Refusals.{AnswerFits, answer-fits}
+use Rattle.definitions.proofs.RoundTrip.{stamps-within}
+use Rattle.records.specs.declared.answer.AnswerHead.{AnswerHead}
+use Rattle.records.specs.declared.answer.AnswerHead.the-variants as Heads
+use Rattle.records.specs.Decoded.{Near}
+use Rattle.records.specs.Tables as Tabled
+use Rattle.records.specs.AnswerReading.{headBy, spanNumber, answerReadOf, AnswerRead}
+use Rattle.records.proofs.LeadTables.{near-within}
+use Rattle.records.proofs.Judging.{span-meant}
+use Rattle.records.proofs.Meaning.{stamps-point, picks-strategy}
+use Rattle.checker.specs.Tables.{Stamped, Picked}
+use Rattle.checker.specs.Outcome.{answerRefused, Span, Meant, Formed}
+
+-- ---- what the reader answers
+
+pub record HeadRead (s : List ℕ) (n m class span : ℕ) : Type 0 where
+  pub none : answerRefusal s n m ≡ 0
+  pub class-is : class ≡ classField s
+  pub span-is : span ≡ spanNumber s
+
+head-fields : (k a b : ℕ) {class span : ℕ} → headBy k a b ≡ Heads.Fields class span → (k ≡ 0) × (class ≡ a) × (span ≡ b)
+unfolding headBy
+head-fields zero a b e = (refl, (cc), (cc))
+head-fields (suc k) a b e = absurd (let z : _≡_ {A = ℕ} 0 1 = cc in omega arith)
+
+pub head-read : (s : List ℕ) (n m : ℕ) {head : AnswerHead} {class span : ℕ} → head ≡ answerReadOf s n m → head ≡ Heads.Fields class span → HeadRead s n m class span
+unfolding answerReadOf
+head-read s n m e f =
+    let r = head-fields (answerRefusal s n m) (classField s) (spanNumber s) (sym e ∙ f) in
+    record { none = r .0; class-is = r .1; span-is = r .2 }
+
+-- ---- stamps and picks
+
+-- An empty place is blank.
+within-at : (limit : ℕ) (xs : List Trop) → all (blank-or-within limit) xs ≡ true → (j : ℕ) → blank-or-within limit (getD xs j bot) ≡ true
+unfolding blank-or-within
+within-at limit xs e j = ⊎-elim
+    (λ (h : length xs ≤ j). rw (List·getD-eq-default xs bot h))
+    (λ (h : j < length xs). all-true (blank-or-within limit) bot xs .0 e j h)
+    (nat-le-or-lt (length xs) j)
+
+picks-at : (highest : ℕ) (xs : List ℕ) → picksFit highest xs ≡ true → (j : ℕ) → getD xs j 0 ≤ highest
+unfolding picksFit
+picks-at highest xs e j = ⊎-elim
+    (λ (h : length xs ≤ j). rw (List·getD-eq-default xs 0 h) (omega arith))
+    (λ (h : j < length xs). leb-true (getD xs j 0) highest (all-true (λ pick. leb pick highest) 0 xs .0 e j h))
+    (nat-le-or-lt (length xs) j)
+
+first-zero : (xs : List Trop) → 0 < length xs → stampsFit xs ≡ true → is-zero (getD xs 0 bot) ≡ true
+unfolding stampsFit
+first-zero [] h e = absurd (omega arith)
+first-zero (x ∷ xs) h e = and-eq-true-iff _ _ .0 e .0
+
+near-as : {d k : ℕ} → Tabled.Near d k → Near d k
+near-as h = record { hi = h .hi; lo = h .lo }
+
+span-near : (k : ℕ) → whole-within span-limit (tropOf k) ≡ true → Span k
+span-near k e =
+    let both = and-eq-true-iff (leb signed-half (k + span-limit)) (leb k (signed-half + span-limit)) .0 (rw (whole-offset span-limit k (omega arith)) at e) in
+    let lo : signed-half ≤ k + span-limit = leb-true _ _ (both .0) in
+    let hi : k ≤ signed-half + span-limit = leb-true _ _ (both .1) in
+    record { some = omega arith; near = record { hi = hi; lo = λ _. lo } }
+
+module _ {s : List ℕ} {n m : ℕ} {head : AnswerHead} {stamps-before stamps picks-before picks : List ℕ} (bytes : Bytes s)
+    (read : AnswerRead s n m head stamps-before stamps picks-before picks) {class span : ℕ} (right : HeadRead s n m class span) where
+  fits : AnswerFits s n m
+  fits = answer-fits s n m .0 (right .none)
+
+  pub read-means : Meant (answerOf s n m) class span stamps picks
+  unfolding answerOf
+  read-means = record {
+    class-is = sym (right .class-is);
+    span-is = rw (right .span-is) (sym (span-meant bytes n m));
+    point-is = stamps-point read (right .none) bytes;
+    strategy-is = picks-strategy read (right .none);
+  }
+
+  stamp-near : (j : ℕ) → Near stamp-limit (getD stamps j 0)
+  unfolding pointOf
+  stamp-near j = near-as (near-within stamp-limit (getD stamps j 0) (omega arith)
+      (rw (stamps-point read (right .none) bytes j) (within-at stamp-limit (answerOf s n m .stamps) (stamps-within (answerOf s n m .stamps) (fits .form .stamps-fit)) j)))
+
+  first-stamp : class ≡ 1 → getD stamps 0 0 ≡ signed-half
+  unfolding pointOf answerOf
+  first-stamp e =
+      let c : classField s ≡ 1 = sym (right .class-is) ∙ e in
+      let count : stampCount (classField s) n ≡ suc n = rw c in
+      let some : 0 < length (answerOf s n m .stamps) = rw (length-map, length-numsAt, count) (omega arith) in
+      let z : is-zero (tropOf (getD stamps 0 0)) ≡ true = rw (stamps-point read (right .none) bytes 0) (first-zero (answerOf s n m .stamps) some (fits .form .stamps-fit)) in
+      eqb-true (getD stamps 0 0) signed-half (sym (zero-offset (getD stamps 0 0)) ∙ z)
+
+  whole-span : class ≡ 1 → Span span
+  unfolding answerOf spanFits
+  whole-span e =
+      let c : classField s ≡ 1 = sym (right .class-is) ∙ e in
+      span-near span (rw (right .span-is, span-meant bytes n m) (rw c at (fits .form .span-fits)))
+
+  pub read-formed : Formed n m class span stamps picks
+  unfolding strategyOf answerOf
+  read-formed = record {
+    class-known = rw (right .class-is) (fits .class-known);
+    stamped = record { length-is = read .stamps-read (right .none) .width-is; near = stamp-near };
+    picked = record {
+      length-is = read .picks-read (right .none) .width-is;
+      none-above = λ j. rw (picks-strategy read (right .none) j, right .class-is) (picks-at (highestPick (classField s) n m) (answerOf s n m .picks) (fits .form .picks-fit) j);
+    };
+    anchored = first-stamp;
+    whole-span = whole-span;
+  }

@@ -1,0 +1,13 @@
+pub mod Decides
+pub mod Lists
+pub mod Marks
+pub mod ArcTables
+pub mod Counting
+pub mod Certified
+pub mod Variables
+pub mod RowStrategy
+pub mod Acceptance
+pub mod Answers
+pub mod Verdicts
+pub mod Sides
+pub mod ClosedWalks

@@ -1,0 +1,181 @@
+-- The sides of a row on offset numbers are the sides of the definitions.
+use Prim.Native.Nat.{ℕ, zero, suc, _+_, _*_, _-_, _≤_, _<_}
+use mathlib.Core.Path.{_≡_, refl, ap, sym, subst, _∙_}
+use mathlib.Core.Bool.{Bool, true, false, cond}
+use mathlib.Core.List.{List}
+use mathlib.Core.Logic.{_⊎_, inl, inr, ⊎-elim, _↔_}
+use native.Mathlib.Omega.{arith}
+use native.Mathlib.Numerals.{add-one}
+use native.Mathlib.Nat.{eq-zero-or-pos}
+use lib.Dec.{eqb}
+use lib.ListN.{length, getD}
+use lib.IntN.{ℤ, _-ℤ_}
+use borrow.Author.Tests.{eq-eqb, ne-eqb}
+use Rattle.definitions.specs.Limits.{signed-half, lead-limit, stamp-limit}
+use Rattle.definitions.specs.Tropical.{Trop, bot, fin, plus, _⊑_, blank-least, larger, largest}
+use Rattle.definitions.specs.Problem.{Problem, Point, Keeps, side, value, minus, minus-infinity, plus-infinity, whole}
+use Rattle.definitions.specs.Offset.{tropOf}
+use Rattle.definitions.proofs.Whole as Whole
+use Rattle.definitions.proofs.Whole.{minus-read}
+use Rattle.definitions.proofs.Tropical.{fin-injective, ⊑-refl, ⊑-antisym, larger-left, larger-least, largest-ext, bot-plus, plus-bot}
+use Rattle.definitions.proofs.Offset.{trop-zero, trop-fin, trop-read, trop-order, trop-larger, plus-trop, plus-trop-zero}
+use Rattle.records.specs.Decoded.{Near}
+use Rattle.checker.specs.Lists.{most, bestSum}
+use Rattle.checker.specs.Sides.{side-floor, sideBy, sideOf}
+use Rattle.checker.specs.Tables.{Holds, Stamped, stampsPoint, Sized}
+use Rattle.checker.proofs.Lists.{most-one, best-floor, best-under}
+
+larger-blank : (x : Trop) → larger x bot ≡ x
+larger-blank x = ⊑-antisym (larger-least (⊑-refl x) blank-least) (larger-left x bot)
+
+-- What a best sum stands for: blank at the floor, else the sum.
+pub side-none : {b : ℕ} → b ≡ side-floor → sideBy b ≡ 0
+side-none {b} e = rw (eq-eqb b side-floor e)
+
+pub side-some : {b : ℕ} → (b ≡ side-floor → ⊥) → sideBy b ≡ b - signed-half
+side-some {b} d = rw (ne-eqb b side-floor d)
+
+-- A side is blank, or its best sum is above the floor.
+side-cases : (b : ℕ) → side-floor ≤ b → ((b ≡ side-floor) × (sideBy b ≡ 0)) ⊎ ((side-floor < b) × (sideBy b ≡ b - signed-half))
+side-cases b h = ⊎-elim
+    (λ (l : b ≤ side-floor). let e : b ≡ side-floor = omega arith in inl (e, side-none e))
+    (λ (l : side-floor < b). inr (l, side-some (λ e. omega arith)))
+    (Whole.nat-le-or-lt b side-floor)
+
+trop-most : (a b : ℕ) → larger (tropOf a) (tropOf b) ≡ tropOf (most a b)
+unfolding most
+trop-most a b = trop-larger a b
+
+-- One more term: a coefficient and a stamp, either of which may be blank.
+term-more : (b c e : ℕ) → side-floor ≤ b → Near lead-limit c → Near stamp-limit e
+    → larger (tropOf (sideBy b)) (plus (tropOf c) (tropOf e)) ≡ tropOf (sideBy (most b (c + e)))
+term-more b c e h near near′ = ⊎-elim
+    (λ (z : c ≡ 0). blank (rw (z, trop-zero) (bot-plus _)) (omega (arith, near′ .hi)))
+    (λ (z : 0 < c). ⊎-elim
+    (λ (y : e ≡ 0). blank (rw (y, trop-zero) (plus-bot _)) (omega (arith, near .hi)))
+    (λ (y : 0 < e). rw (plus-trop c e z y (omega (arith, near .lo z, near′ .lo y))) (trop-most _ _ ∙ ap tropOf (both (omega (arith, near .lo z, near′ .lo y)))))
+    (eq-zero-or-pos e))
+    (eq-zero-or-pos c)
+  where
+    blank : plus (tropOf c) (tropOf e) ≡ bot → c + e < side-floor
+        → larger (tropOf (sideBy b)) (plus (tropOf c) (tropOf e)) ≡ tropOf (sideBy (most b (c + e)))
+    blank q l =
+        let d : most b (c + e) ≡ b = ⊎-elim (λ r. omega arith) (λ r. omega arith) (most-one b (c + e)) in
+        rw (q, d) (larger-blank _)
+
+    both : side-floor < c + e → most (sideBy b) (c + e - signed-half) ≡ sideBy (most b (c + e))
+    both l = ⊎-elim
+        (λ r. ⊎-elim
+        (λ s. let d : sideBy (most b (c + e)) ≡ most b (c + e) - signed-half = side-some (λ k. omega arith) in
+        ⊎-elim (λ t. omega arith) (λ t. omega arith) (most-one (sideBy b) (c + e - signed-half)))
+        (λ s. let d : sideBy (most b (c + e)) ≡ most b (c + e) - signed-half = side-some (λ k. omega arith) in
+        ⊎-elim (λ t. omega arith) (λ t. omega arith) (most-one (sideBy b) (c + e - signed-half)))
+        (side-cases b h))
+        (λ r. ⊎-elim
+        (λ s. absurd (omega arith))
+        (λ s. let d : sideBy (most b (c + e)) ≡ most b (c + e) - signed-half = side-some (λ k. omega arith) in
+        ⊎-elim (λ t. omega arith) (λ t. omega arith) (most-one (sideBy b) (c + e - signed-half)))
+        (side-cases b h))
+        (most-one b (c + e))
+
+-- The largest of the terms.
+terms-value : (table : List ℕ) (base : ℕ) (x : List ℕ) (k : ℕ) → ((l : ℕ) → Near lead-limit (getD table l 0)) → ((l : ℕ) → Near stamp-limit (getD x l 0))
+    → tropOf (sideBy (bestSum table base x side-floor k)) ≡ largest (λ l. plus (tropOf (getD table (base + l) 0)) (tropOf (getD x l 0))) k
+unfolding largest bestSum
+terms-value table base x zero f g = trop-zero
+terms-value table base x (suc k) f g =
+    sym (ap (λ z. larger z (plus (tropOf (getD table (base + k) 0)) (tropOf (getD x k 0)))) (sym (terms-value table base x k f g))
+    ∙ term-more (bestSum table base x side-floor k) (getD table (base + k) 0) (getD x k 0) (best-floor table base x side-floor k) (f (base + k)) (g k))
+
+-- A side in range: below 2³³.
+pub side-small : (table : List ℕ) (base : ℕ) (x : List ℕ) (k : ℕ) → ((l : ℕ) → Near lead-limit (getD table l 0)) → ((l : ℕ) → Near stamp-limit (getD x l 0))
+    → sideOf table base x k ≤ 8589934592
+unfolding sideOf
+side-small table base x k f g =
+    let q : bestSum table base x side-floor k ≤ 8589934592 =
+    best-under table base x side-floor k 8589934592 (omega arith) (λ l b. omega (arith, f (base + l) .hi, g l .hi)) in
+    ⊎-elim (λ s. omega arith) (λ s. omega arith) (side-cases (bestSum table base x side-floor k) (best-floor table base x side-floor k))
+
+module _ {p : Problem} {left right : List ℕ} {n m : ℕ} (holds : Holds p left right n m) {x : List ℕ} (stamped : Stamped x) where
+  one-side : (table : List ℕ) (coefficients : ℕ → ℕ → Trop) → ((l : ℕ) → Near lead-limit (getD table l 0))
+      → ((i j : ℕ) → i ≤ p .m → j ≤ p .n → tropOf (getD table (i * 32 + j) 0) ≡ coefficients i j)
+      → (i : ℕ) → i ≤ m → tropOf (sideOf table (i * 32) x (n + 1)) ≡ side (p .n) (coefficients i) (stampsPoint x)
+  unfolding side sideOf stampsPoint
+  one-side table coefficients near is i h =
+      terms-value table (i * 32) x (n + 1) near (stamped .near)
+      ∙ largest-ext _ _ (n + 1) (λ j b. ap (λ z. plus z (tropOf (getD x j 0))) (is i j (omega (arith, holds .m-is)) (omega (arith, holds .n-is))))
+      ∙ (let e : n + 1 ≡ suc (p .n) = omega (arith, holds .n-is) in ap (largest (λ j. plus (coefficients i j) (tropOf (getD x j 0)))) e)
+
+  -- The left side of a row, and the right side.
+  pub left-side : (i : ℕ) → i ≤ m → tropOf (sideOf left (i * 32) x (n + 1)) ≡ side (p .n) (p .left i) (stampsPoint x)
+  left-side = one-side left (p .left) (holds .decoded .left-near) (holds .decoded .left-is)
+
+  pub right-side : (i : ℕ) → i ≤ m → tropOf (sideOf right (i * 32) x (n + 1)) ≡ side (p .n) (p .right i) (stampsPoint x)
+  right-side = one-side right (p .right) (holds .decoded .right-near) (holds .decoded .right-is)
+
+  -- A row is kept exactly when its left side is at most its right side.
+  pub row-kept : (i : ℕ) → i ≤ m → sideOf left (i * 32) x (n + 1) ≤ sideOf right (i * 32) x (n + 1) → Keeps p (stampsPoint x) i
+  row-kept i h b = rw (← left-side i h, ← right-side i h) (trop-order _ _ .1 b)
+
+  pub row-broken : (i : ℕ) → i ≤ m → sideOf right (i * 32) x (n + 1) < sideOf left (i * 32) x (n + 1) → Keeps p (stampsPoint x) i → ⊥
+  row-broken i h b k = omega (arith, trop-order (sideOf left (i * 32) x (n + 1)) (sideOf right (i * 32) x (n + 1)) .0 (rw (left-side i h, right-side i h) k))
+
+  -- The value: first side less second side, where both are whole.
+  value-sides : value p (stampsPoint x) ≡ minus (tropOf (sideOf left (m * 32) x (n + 1))) (tropOf (sideOf right (m * 32) x (n + 1)))
+  unfolding value
+  value-sides = rw (left-side m (omega arith), right-side m (omega arith), holds .m-is)
+
+  pub first-blank : {z : ℤ} → sideOf left (m * 32) x (n + 1) ≡ 0 → value p (stampsPoint x) ≡ whole z → ⊥
+  unfolding minus
+  first-blank {z} e v = let q : minus-infinity ≡ whole z = sym (value-sides ∙ rw (e, trop-zero)) ∙ v in differ q
+    where
+      differ : minus-infinity ≡ whole z → ⊥
+      differ q = let d : _≡_ {A = ℕ} 0 1 = cc in omega arith
+
+  pub second-blank : {z : ℤ} → (sideOf left (m * 32) x (n + 1) ≡ 0 → ⊥) → sideOf right (m * 32) x (n + 1) ≡ 0 → value p (stampsPoint x) ≡ whole z → ⊥
+  unfolding minus
+  second-blank {z} d e v =
+      let q : plus-infinity ≡ whole z = sym (value-sides ∙ rw (trop-fin (sideOf left (m * 32) x (n + 1)) (⊎-elim (λ k. absurd (d k)) (λ k. k) (eq-zero-or-pos _)), e, trop-zero)) ∙ v in differ q
+    where
+      differ : plus-infinity ≡ whole z → ⊥
+      differ q = let d : _≡_ {A = ℕ} 0 1 = cc in omega arith
+
+  -- Both whole: the value is their difference.
+  pub value-read : (s : ℕ) {z : ℤ} → (sideOf left (m * 32) x (n + 1) ≡ 0 → ⊥) → (sideOf right (m * 32) x (n + 1) ≡ 0 → ⊥) → tropOf s ≡ fin z
+      → (value p (stampsPoint x) ≡ whole z) ↔ (sideOf left (m * 32) x (n + 1) + signed-half ≡ sideOf right (m * 32) x (n + 1) + s)
+  unfolding minus
+  value-read s {z} d d′ e = (
+    λ v. let k : a -ℤ b ≡ z = same (sym is ∙ v) in
+        omega (Whole.whole, read, read′, trop-read s e, minus-read a b),
+    λ q. is ∙ ap whole (let k : a -ℤ b ≡ z = omega (Whole.whole, read, read′, trop-read s e, minus-read a b) in k),
+  )
+    where
+      first : ℕ
+      first = sideOf left (m * 32) x (n + 1)
+
+      second : ℕ
+      second = sideOf right (m * 32) x (n + 1)
+
+      pos-first : 0 < first
+      pos-first = ⊎-elim (λ k. absurd (d k)) (λ k. k) (eq-zero-or-pos first)
+
+      pos-second : 0 < second
+      pos-second = ⊎-elim (λ k. absurd (d′ k)) (λ k. k) (eq-zero-or-pos second)
+
+      a : ℤ
+      a = lib.IntN.subℕ first signed-half
+
+      b : ℤ
+      b = lib.IntN.subℕ second signed-half
+
+      read : Whole.up a + signed-half ≡ first + Whole.down a
+      read = Whole.subℕ-read first signed-half
+
+      read′ : Whole.up b + signed-half ≡ second + Whole.down b
+      read′ = Whole.subℕ-read second signed-half
+
+      is : value p (stampsPoint x) ≡ whole (a -ℤ b)
+      is = value-sides ∙ rw (trop-fin first pos-first, trop-fin second pos-second)
+
+      same : {u v : ℤ} → whole u ≡ whole v → u ≡ v
+      same q = cc

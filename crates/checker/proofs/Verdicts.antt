@@ -1,0 +1,148 @@
+-- From what reading and judging answer to the verdict of the definitions; for all bytes there is one verdict, and only one.
+use Prim.Native.Nat.{ℕ, zero, suc, _+_, _*_, _≤_, _<_}
+use mathlib.Core.Path.{_≡_, refl, ap, sym, subst, _∙_}
+use mathlib.Core.Bool.{Bool, true, false}
+use mathlib.Core.List.{List}
+use native.Mathlib.Omega.{arith}
+use lib.ListN.{length, getD}
+use Rattle.definitions.specs.Limits.{lead-limit, highest-n, highest-m}
+use Rattle.definitions.specs.Bytes.{Bytes, or-else}
+use Rattle.definitions.specs.Offset.{tropOf}
+use Rattle.definitions.specs.Problem.{Problem}
+use Rattle.definitions.specs.ProblemRecord.{nField, mField, problemRefusal, WithinLayout, problemOf}
+use Rattle.definitions.specs.AnswerRecord.{Answer, classField, answerRefusal, answerOf}
+use Rattle.definitions.specs.Verdict.{Verdict, accepted, refused, Accepted, checkRefusal, answerFor, not-certified, Judged, turned-away, certified, uncertified}
+use Rattle.definitions.proofs.Refusals.{ProblemFits, problem-fits}
+use Rattle.records.specs.declared.problem.Header.{Header}
+use Rattle.records.specs.declared.problem.Header.the-variants as Headers
+use Rattle.records.specs.declared.answer.AnswerHead.{AnswerHead}
+use Rattle.records.specs.declared.answer.AnswerHead.the-variants as Heads
+use Rattle.records.specs.Decoded.{Near, Decoded}
+use Rattle.records.specs.Tables as Tabled
+use Rattle.records.specs.Tables.{leftTable, rightTable, ProblemRead}
+use Rattle.records.specs.ProblemHeader.{headerBy}
+use Rattle.records.specs.AnswerReading.{headBy, spanNumber, answerReadOf}
+use Rattle.records.proofs.LeadTables as Leads
+use Rattle.checker.specs.Tables.{Sized, Holds}
+use Rattle.checker.specs.Outcome as Outcome
+use Rattle.checker.specs.Decides.{Decides}
+use Rattle.checker.specs.Outcome.{problemRefused, answerRefused, Meant, Answered}
+use Rattle.checker.proofs.Answers.{HeadRead}
+
+-- ---- problems
+
+near-as : {d k : ℕ} → Tabled.Near d k → Near d k
+near-as h = record { hi = h .hi; lo = h .lo }
+
+-- The tables that the reader fills hold the problem in the bytes.
+pub tables-decoded : (s : List ℕ) → Bytes s → WithinLayout s → Decoded (problemOf s) (leftTable s) (rightTable s)
+unfolding problemOf
+tables-decoded s b w =
+    let f = problem-fits s .0 w in
+    record {
+      n-most = f .n-most;
+      m-most = f .m-most;
+      left-length = Leads.left-length s;
+      right-length = Leads.right-length s;
+      left-is = Leads.left-means s b w;
+      right-is = Leads.right-means s b w;
+      left-near = λ k. near-as (Leads.left-near s b w k);
+      right-near = λ k. near-as (Leads.right-near s b w k);
+    }
+
+-- Tables that hold a problem are sized for it.
+pub holds-sized : {p : Problem} {left right : List ℕ} {n m : ℕ} → Holds p left right n m → Sized left right n m
+holds-sized h =
+    record {
+      n-most = omega (arith, h .n-is, h .decoded .n-most);
+      m-most = omega (arith, h .m-is, h .decoded .m-most);
+      left-length = h .decoded .left-length;
+      right-length = h .decoded .right-length;
+      left-near = h .decoded .left-near;
+      right-near = h .decoded .right-near;
+    }
+
+-- What reading a problem that is not refused leaves.
+pub record HeaderRead (s : List ℕ) (n m : ℕ) : Type 0 where
+  pub none : WithinLayout s
+  pub n-is : n ≡ nField s
+  pub m-is : m ≡ mField s
+
+header-fields : (k a b : ℕ) {n m : ℕ} → headerBy k a b ≡ Headers.Fields n m → (k ≡ 0) × (n ≡ a) × (m ≡ b)
+unfolding headerBy
+header-fields zero a b e = (refl, (cc), (cc))
+header-fields (suc k) a b e = absurd (let z : _≡_ {A = ℕ} 0 1 = cc in omega arith)
+
+pub header-read : (s : List ℕ) {header : Header} {n m : ℕ} → header ≡ headerBy (problemRefusal s) (nField s) (mField s) → header ≡ Headers.Fields n m → HeaderRead s n m
+header-read s e f =
+    let r = header-fields (problemRefusal s) (nField s) (mField s) (sym e ∙ f) in
+    record { none = r .0; n-is = r .1; m-is = r .2 }
+
+pub problem-held : {s left right : List ℕ} {header : Header} {left′ right′ : List ℕ} {n m : ℕ} → Bytes s → ProblemRead s left right header left′ right′
+    → HeaderRead s n m → Holds (problemOf s) left′ right′ n m
+unfolding problemOf
+problem-held {s = s} b r h = record {
+  n-is = sym (h .n-is);
+  m-is = sym (h .m-is);
+  decoded = rw (r .left-read (h .none), r .right-read (h .none)) (tables-decoded s b (h .none));
+}
+
+-- ---- verdicts
+
+header-refused : (k a b : ℕ) {j : ℕ} {header : Header} → header ≡ headerBy k a b → header ≡ Headers.Refused j → {r : ℕ} → r ≡ problemRefused header → (k ≡ r) × (0 < r)
+unfolding headerBy problemRefused
+header-refused zero a b e f g = absurd (let z : _≡_ {A = ℕ} 0 1 = cc in omega arith)
+header-refused (suc k) a b e f {r} g = let q : r ≡ suc k = g ∙ ap problemRefused e in (sym q, omega arith)
+
+head-refused : (k a b : ℕ) {j : ℕ} {head : AnswerHead} → head ≡ headBy k a b → head ≡ Heads.Refused j → {r : ℕ} → r ≡ answerRefused head → (k ≡ r) × (0 < r)
+unfolding headBy answerRefused
+head-refused zero a b e f g = absurd (let z : _≡_ {A = ℕ} 0 1 = cc in omega arith)
+head-refused (suc k) a b e f {r} g = let q : r ≡ suc k = g ∙ ap answerRefused e in (sym q, omega arith)
+
+-- A refusal that is not 0, as a verdict.
+turned : (p a : List ℕ) (k : ℕ) → checkRefusal p a ≡ k → 0 < k → Judged p a (refused k)
+turned p a zero e h = absurd (omega arith)
+turned p a (suc k) e h = turned-away e
+
+answer-turned : (p : Problem) (n m : ℕ) (a : List ℕ) (k : ℕ) → answerRefusal a n m ≡ k → 0 < k → Answered p n m a (refused k)
+answer-turned p n m a zero e h = absurd (omega arith)
+answer-turned p n m a (suc k) e h = Outcome.turned-away e
+
+-- The problem is refused.
+pub judged-problem : (p a : List ℕ) {j r : ℕ} {header : Header} → header ≡ headerBy (problemRefusal p) (nField p) (mField p) → header ≡ Headers.Refused j
+    → r ≡ problemRefused header → Judged p a (refused r)
+unfolding checkRefusal
+judged-problem p a {r = r} e f g =
+    let q = header-refused (problemRefusal p) (nField p) (mField p) e f g in
+    turned p a r (first-counts (problemRefusal p) r (q .0) (q .1)) (q .1)
+  where
+    first-counts : (k r : ℕ) → k ≡ r → 0 < r → or-else k (answerRefusal a (nField p) (mField p)) ≡ r
+    first-counts zero r e h = absurd (omega arith)
+    first-counts (suc k) r e h = e
+
+-- The answer is refused.
+pub answered-refused : (p : Problem) (n m : ℕ) (a : List ℕ) {j r : ℕ} {head : AnswerHead} → head ≡ answerReadOf a n m → head ≡ Heads.Refused j
+    → r ≡ answerRefused head → Answered p n m a (refused r)
+unfolding answerReadOf
+answered-refused p n m a {r = r} e f g =
+    let q = head-refused (answerRefusal a n m) (classField a) (spanNumber a) e f g in
+    answer-turned p n m a r (q .0) (q .1)
+
+-- The answer is of the right form, and judged.
+pub answered-certified : {p : Problem} {n m : ℕ} {a : List ℕ} {class span : ℕ} {stamps picks : List ℕ} {r : Bool} → HeadRead a n m class span
+    → Meant (answerOf a n m) class span stamps picks → Decides (Accepted p (answerOf a n m)) r → r ≡ true → Answered p n m a (accepted class (tropOf span))
+answered-certified h e d t = rw (← e .class-is, ← e .span-is) (Outcome.certified (h .none) (d .yes t))
+
+pub answered-uncertified : {p : Problem} {n m : ℕ} {a : List ℕ} {class span : ℕ} {r : Bool} → HeadRead a n m class span
+    → Decides (Accepted p (answerOf a n m)) r → r ≡ false → Answered p n m a (refused not-certified)
+answered-uncertified h d t = Outcome.uncertified (h .none) (d .no t)
+
+-- With the problem not refused, the verdict on the answer is the verdict.
+pub judged-answer : (p a : List ℕ) {n m : ℕ} {v : Verdict} → HeaderRead p n m → Answered (problemOf p) n m a v → Judged p a v
+unfolding checkRefusal
+judged-answer p a {n} {m} {v} h d = go (rw (h .n-is, h .m-is) at d)
+  where
+    go : {v : Verdict} → Answered (problemOf p) (nField p) (mField p) a v → Judged p a v
+    go (Outcome.turned-away {k = k} e) = turned-away {k = k} (rw (h .none) e)
+    go (Outcome.certified e c) = certified (rw (h .none) e) c
+    go (Outcome.uncertified e c) = uncertified (rw (h .none) e) c

@@ -1,0 +1,40 @@
+-- Picks that count, on the tables.
+use Prim.Native.Nat.{ℕ, zero, suc, _+_, _*_, _≤_, _<_}
+use mathlib.Core.Path.{_≡_}
+use mathlib.Core.List.{List}
+use lib.ListN.{length, getD}
+use Rattle.checker.specs.Marks.{Marked, Flags}
+
+-- Variable j's pick is a row whose left coefficient for j is not blank.
+pub record PickCounts (left : List ℕ) (pick j : ℕ) : Type 0 where
+  pub row : ℕ
+  pub picked : pick ≡ suc row
+  pub some : 0 < getD left (row * 32 + j) 0
+
+-- Row i's pick, whose right coefficients start at `base`, is a variable with a coefficient that is not blank.
+pub record RowPickCounts (right : List ℕ) (pick base : ℕ) : Type 0 where
+  pub variable : ℕ
+  pub picked : pick ≡ suc variable
+  pub some : 0 < getD right (base + variable) 0
+
+-- Each marked variable below k has a pick that counts.
+abbrev pub VariablesCount : List ℕ → List ℕ → List ℕ → ℕ → Type 0
+VariablesCount left picks marks k = (j : ℕ) → j < k → Marked marks j → PickCounts left (getD picks j 0) j
+
+-- The row that starts at `base` has no left coefficient of a marked variable below k.
+abbrev pub Idle : List ℕ → List ℕ → ℕ → ℕ → Type 0
+Idle left marks base k = (j : ℕ) → j < k → Marked marks j → getD left (base + j) 0 ≡ 0
+
+-- If the row is in use, its pick counts.
+abbrev pub Stands : List ℕ → List ℕ → List ℕ → ℕ → ℕ → ℕ → Type 0
+Stands left right marks width base pick = (j : ℕ) → j < width → Marked marks j → 0 < getD left (base + j) 0 → RowPickCounts right pick base
+
+-- Each row below k stands.
+abbrev pub RowsCount : List ℕ → List ℕ → List ℕ → List ℕ → ℕ → ℕ → Type 0
+RowsCount left right picks marks width k = (i : ℕ) → i < k → Stands left right marks width (i * 32) (getD picks i 0)
+
+-- Only variable 0 is marked.
+pub record Anchored (start : List ℕ) : Type 0 where
+  pub flags : Flags start
+  pub anchor : Marked start 0
+  pub only : (j : ℕ) → Marked start j → j ≡ 0

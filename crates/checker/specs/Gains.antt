@@ -1,0 +1,65 @@
+-- Closed walks over a table of arcs. An arc of weight w stands in the table as w + 2⁴⁰, 0 is no arc. The values of the
+-- rounds start at 0 and never fall, so they are plain numbers.
+use Prim.Native.Nat.{ℕ, zero, suc, _+_, _*_, _-_, _≤_, _<_}
+use mathlib.Core.Path.{_≡_}
+use mathlib.Core.Bool.{Bool, true, false, cond}
+use mathlib.Core.List.{List}
+use lib.Dec.{eqb}
+use lib.ListN.{length, getD}
+use lib.IntN.{ℤ, pos, subℕ}
+use lib.Signed.{_≤ℤ_}
+use Rattle.definitions.specs.Limits.{lead-limit, span-limit}
+use Rattle.definitions.specs.Tropical.{Trop, bot, fin}
+use Rattle.definitions.specs.Certificate.{Walk}
+use Rattle.duality.specs.Values.{valueAt}
+use Rattle.duality.proofs.Longest.{Entry, Gain}
+
+-- The number in the table of an arc that weighs 0.
+abbrev pub arc-zero : ℕ
+arc-zero = 1099511627776
+
+-- No arc weighs more: 32 times two leads and a trial, and one.
+abbrev pub arc-most : ℕ
+arc-most = 32 * (2 * lead-limit + suc span-limit) + 1
+
+-- What a number in the table stands for.
+unfoldable pub weightOf : ℕ → Trop
+weightOf k = cond (eqb k 0) bot (fin (subℕ k arc-zero))
+
+-- The arcs of the table that start from a marked variable.
+unfoldable pub matrix : List ℕ → List ℕ → ℕ → ℕ → Trop
+matrix arcs marks j l = cond (eqb (getD marks j 0) 0) bot (weightOf (getD arcs (j * 32 + l) 0))
+
+-- Walks may end anywhere, at 0.
+unfoldable pub anywhere : ℕ → Trop
+anywhere j = fin (pos 0)
+
+-- The table has its entries in range.
+pub record Table (arcs : List ℕ) (width : ℕ) : Type 0 where
+  pub width-most : width ≤ 32
+  pub length-is : length arcs ≡ 1024
+  pub cells : (j l : ℕ) → j < width → l < width → getD arcs (j * 32 + l) 0 ≤ arc-zero + arc-most
+
+-- The values after i rounds, and that the last of these rounds changed something.
+pub record Rounds (arcs marks : List ℕ) (width i : ℕ) (e : List ℕ) : Type 0 where
+  pub length-is : length e ≡ 32
+  pub level : (j : ℕ) → j < width → valueAt (matrix arcs marks) anywhere width i j ≡ fin (pos (getD e j 0))
+  pub small : (j : ℕ) → j < width → getD e j 0 ≤ i * arc-most
+  pub moved :
+      (k : ℕ) → suc k ≡ i
+      → ((j : ℕ) → j < width → valueAt (matrix arcs marks) anywhere width (suc k) j ≡ valueAt (matrix arcs marks) anywhere width k j)
+      → ⊥
+
+-- No closed walk weighs above zero.
+abbrev pub NoneGains : List ℕ → List ℕ → ℕ → Type 0
+NoneGains arcs marks width = (j n : ℕ) (w : ℤ) → j < width → Walk (Entry (matrix arcs marks) width) j j n w → w ≤ℤ pos 0
+
+-- A closed walk of at most `width` arcs weighs above zero.
+pub record SomeGains (arcs marks : List ℕ) (width : ℕ) : Type 0 where
+  pub from : ℕ
+  pub gain : Gain (matrix arcs marks) width from
+
+-- What the test of closed walks says. The two answers are no opposites: yes speaks of all closed walks, no of a short one.
+pub record Tested (arcs marks : List ℕ) (width : ℕ) (r : Bool) : Type 0 where
+  pub yes : r ≡ true → NoneGains arcs marks width
+  pub no : r ≡ false → SomeGains arcs marks width

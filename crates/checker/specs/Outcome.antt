@@ -1,0 +1,64 @@
+-- What the checker's functions answer, in the words of the definitions.
+use Prim.Native.Nat.{ℕ, zero, suc, _+_, _≤_, _<_}
+use mathlib.Core.Path.{_≡_}
+use mathlib.Core.Bool.{true}
+use mathlib.Core.List.{List}
+use lib.ListN.{length, getD}
+use lib.IntN.{ℤ}
+use Rattle.definitions.specs.Limits.{signed-half, span-limit}
+use Rattle.definitions.specs.Tropical.{Trop}
+use Rattle.definitions.specs.Offset.{tropOf}
+use Rattle.definitions.specs.Problem.{Problem}
+use Rattle.definitions.specs.AnswerRecord.{Answer, known-class, highestPick, answerRefusal, answerOf}
+use Rattle.definitions.specs.Verdict as Verdicts
+use Rattle.definitions.specs.Verdict.{Accepted, not-certified, pointOf, strategyOf}
+use Rattle.records.specs.declared.problem.Header.{Header}
+use Rattle.records.specs.declared.problem.Header.the-variants as Headers
+use Rattle.records.specs.declared.answer.AnswerHead.{AnswerHead}
+use Rattle.records.specs.declared.answer.AnswerHead.the-variants as Heads
+use Rattle.records.specs.Decoded.{Near}
+use Rattle.checker.specs.declared.check.Verdict.{Verdict}
+use Rattle.checker.specs.declared.check.Verdict.the-variants.{Accepted as Certified, Refused}
+use Rattle.checker.specs.Tables.{Stamped, Picked}
+
+-- Document 01's verdict for each case: accepted with class and span, or refused with the number.
+unfoldable pub verdictOf : Verdict → Verdicts.Verdict
+verdictOf (Certified class span) = Verdicts.accepted class (tropOf span)
+verdictOf (Refused k) = Verdicts.refused k
+
+-- The number with which reading refused, 0 where it did not.
+unfoldable pub problemRefused : Header → ℕ
+problemRefused (Headers.Fields n m) = 0
+problemRefused (Headers.Refused k) = k
+
+unfoldable pub answerRefused : AnswerHead → ℕ
+answerRefused (Heads.Fields class span) = 0
+answerRefused (Heads.Refused k) = k
+
+-- The offset number of a whole span within its limit.
+pub record Span (span : ℕ) : Type 0 where
+  pub some : 0 < span
+  pub near : Near span-limit span
+
+-- Class, span, stamps and picks, as the reader gives them, have the form of the class.
+pub record Formed (n m class span : ℕ) (stamps picks : List ℕ) : Type 0 where
+  pub class-known : known-class class ≡ true
+  pub stamped : Stamped stamps
+  pub picked : Picked picks (highestPick class n m)
+  pub anchored : class ≡ 1 → getD stamps 0 0 ≡ signed-half
+  pub whole-span : class ≡ 1 → Span span
+
+-- They mean this answer.
+pub record Meant (a : Answer) (class span : ℕ) (stamps picks : List ℕ) : Type 0 where
+  pub class-is : a .class ≡ class
+  pub span-is : a .span ≡ tropOf span
+  pub point-is : (j : ℕ) → tropOf (getD stamps j 0) ≡ pointOf (a .stamps) j
+  pub strategy-is : (j : ℕ) → getD picks j 0 ≡ strategyOf (a .picks) j
+
+-- The verdict on an answer for a problem that is not refused: as `Judged`, with the problem at hand.
+pub data Answered (p : Problem) (n m : ℕ) (a : List ℕ) : Verdicts.Verdict → Type 0 where
+  turned-away : {k : ℕ} → answerRefusal a n m ≡ suc k → Answered p n m a (Verdicts.refused (suc k))
+  certified :
+      answerRefusal a n m ≡ 0 → Accepted p (answerOf a n m)
+      → Answered p n m a (Verdicts.accepted (answerOf a n m .class) (answerOf a n m .span))
+  uncertified : answerRefusal a n m ≡ 0 → (Accepted p (answerOf a n m) → ⊥) → Answered p n m a (Verdicts.refused not-certified)

@@ -1,0 +1,139 @@
+// A strategy judged: picks that count, and closed walks at a trial t. Document 01 asks of classes 1 and 3 that every reached
+// variable has a pick that counts and every reached closed walk weighs below zero, of class 2 that every row in use picks
+// and every reached closed walk weighs zero or more.
+ghost use mathlib.Core.Path.{_≡_};
+ghost use Prim.Native.Nat.{ℕ, suc, _+_, _*_, _≤_, _<_};
+ghost use lib.IntN.{ℤ};
+ghost use lib.ListN.{length, getD};
+ghost use Rattle.definitions.specs.Tropical.{fin};
+ghost use Rattle.definitions.specs.Offset.{tropOf};
+ghost use Rattle.definitions.specs.Problem.{Problem};
+ghost use Rattle.definitions.specs.Certificate.{PicksCount, BelowZero, RowPicksCount};
+ghost use Rattle.definitions.specs.Verdict.{strategyOf};
+ghost use Rattle.duality.specs.Picks.{AtLeastZero};
+ghost use Rattle.checker.specs.Decides.{Decides};
+ghost use Rattle.checker.specs.Marks.{Marked, Flags};
+ghost use Rattle.checker.specs.Tables.{Sized, Holds, Picked, Trial};
+ghost use Rattle.checker.specs.Counts.{PickCounts, RowPickCounts, VariablesCount, Idle, Stands, RowsCount, Anchored};
+
+use crate::arcs::{row_arcs, variable_arcs};
+use crate::gains::none_gains;
+use crate::reach::reach;
+
+// The start of document 01: variable 0, the anchor, alone.
+pub fn anchor() -> [u8; 32]
+    ensures { λ r. ⌜ Anchored r ⌝ }
+{
+    let mut start = [0u8; 32];
+    start[0] = 1;
+    start
+}
+
+// A variable that is not marked, or whose pick counts.
+fn variable_counts(left: &[u64; 2048], mark: u8, pick: usize, j: usize) -> bool
+    requires { ⌜ (pick ≤ 64) × (j < 32) ⌝ }
+    ensures { λ r. ⌜ Decides (0 < mark → PickCounts (now (left .entry)) pick j) r ⌝ }
+{
+    if mark == 0 {
+        return true;
+    }
+    if pick == 0 {
+        return false;
+    }
+    let base = (pick - 1) * 32;
+    left[base + j] != 0
+}
+
+// Every marked variable has a pick that counts.
+fn variables_count(left: &[u64; 2048], picks: &[u64; 64], marks: &[u8; 32], width: usize) -> bool
+    requires { ⌜ Picked (now picks) 64 × (width ≤ 32) ⌝ }
+    ensures { λ r. ⌜ Decides (VariablesCount (now (left .entry)) (now (picks .entry)) (now (marks .entry)) width) r ⌝ }
+{
+    for j in 0..width {
+        if !variable_counts(left, marks[j], picks[j] as usize, j) {
+            return false;
+        }
+    }
+    true
+}
+
+// A strategy of variables, judged at t.
+pub fn certify_variables(left: &[u64; 2048], right: &[u64; 2048], n: usize, m: usize, picks: &[u64; 64], t: u64) -> bool
+    requires { ⌜ Sized (now left) (now right) n m × Trial t × Picked (now picks) (m + 1) ⌝ }
+    ensures { λ r. ⌜ ((p : Problem) (z : ℤ) → Holds p (now (left .entry)) (now (right .entry)) n m → tropOf t ≡ fin z → Decides (PicksCount p (strategyOf (now (picks .entry))) × BelowZero p (strategyOf (now (picks .entry))) z) r) ⌝ }
+{
+    let width = n + 1;
+    let mut arcs = [0u64; 1024];
+    variable_arcs(&mut arcs, left, right, n, m, picks, t);
+    let marks = reach(&arcs, width, anchor());
+    if !variables_count(left, picks, &marks, width) {
+        return false;
+    }
+    none_gains(&arcs, &marks, width)
+}
+
+// The row that starts at `base` has no left coefficient of a marked variable.
+fn row_idle(left: &[u64; 2048], marks: &[u8; 32], base: usize, width: usize) -> bool
+    requires { ⌜ (base + width ≤ 2048) × (width ≤ 32) ⌝ }
+    ensures { λ r. ⌜ Decides (Idle (now (left .entry)) (now (marks .entry)) base width) r ⌝ }
+{
+    for j in 0..width {
+        if marks[j] != 0 {
+            if left[base + j] != 0 {
+                return false;
+            }
+        }
+    }
+    true
+}
+
+// The row's pick counts.
+fn row_picks(right: &[u64; 2048], base: usize, pick: usize) -> bool
+    requires { ⌜ (base + 32 ≤ 2048) × (pick ≤ 32) ⌝ }
+    ensures { λ r. ⌜ Decides (RowPickCounts (now (right .entry)) pick base) r ⌝ }
+{
+    if pick == 0 {
+        return false;
+    }
+    let at = base + (pick - 1);
+    right[at] != 0
+}
+
+// A row that is idle, or whose pick counts.
+fn row_stands(left: &[u64; 2048], right: &[u64; 2048], marks: &[u8; 32], width: usize, base: usize, pick: usize) -> bool
+    requires { ⌜ (base + 32 ≤ 2048) × (width ≤ 32) × (pick ≤ 32) ⌝ }
+    ensures { λ r. ⌜ Decides (Stands (now (left .entry)) (now (right .entry)) (now (marks .entry)) width base pick) r ⌝ }
+{
+    if row_idle(left, marks, base, width) {
+        return true;
+    }
+    row_picks(right, base, pick)
+}
+
+// Every row in use has a pick that counts.
+fn rows_count(left: &[u64; 2048], right: &[u64; 2048], picks: &[u64; 64], marks: &[u8; 32], width: usize, rows: usize) -> bool
+    requires { ⌜ Picked (now picks) 32 × (width ≤ 32) × (rows ≤ 64) ⌝ }
+    ensures { λ r. ⌜ Decides (RowsCount (now (left .entry)) (now (right .entry)) (now (picks .entry)) (now (marks .entry)) width rows) r ⌝ }
+{
+    for i in 0..rows {
+        if !row_stands(left, right, marks, width, i * 32, picks[i] as usize) {
+            return false;
+        }
+    }
+    true
+}
+
+// A strategy of rows, judged at t.
+pub fn certify_rows(left: &[u64; 2048], right: &[u64; 2048], n: usize, m: usize, picks: &[u64; 64], t: u64) -> bool
+    requires { ⌜ Sized (now left) (now right) n m × Trial t × Picked (now picks) (n + 1) ⌝ }
+    ensures { λ r. ⌜ ((p : Problem) (z : ℤ) → Holds p (now (left .entry)) (now (right .entry)) n m → tropOf t ≡ fin z → Decides (RowPicksCount p (strategyOf (now (picks .entry))) × AtLeastZero p (strategyOf (now (picks .entry))) z) r) ⌝ }
+{
+    let width = n + 1;
+    let mut arcs = [0u64; 1024];
+    row_arcs(&mut arcs, left, right, n, m, picks, t);
+    let marks = reach(&arcs, width, anchor());
+    if !rows_count(left, right, picks, &marks, width, m + 1) {
+        return false;
+    }
+    none_gains(&arcs, &marks, width)
+}

@@ -1,0 +1,51 @@
+// The test of closed walks, over a table of arcs: rounds of e ↦ the largest of 0 and (arc + e there).
+ghost use mathlib.Core.Path.{_≡_};
+ghost use Prim.Native.Nat.{ℕ, _+_, _*_, _≤_, _<_};
+ghost use lib.ListN.{length, getD};
+ghost use Rattle.checker.specs.Gains.{arc-zero, arc-most, Table, Tested};
+ghost use Rattle.checker.specs.Marks.{Flags};
+ghost use Rattle.checker.specs.GainRound.{Values, gainedBy, Rounded};
+
+use crate::sums::{best_sum, values_agree};
+
+// The number in the table of an arc that weighs 0.
+const ARC_ZERO: u64 = 1099511627776;
+
+// The value of variable j after a round, 0 where it is not marked.
+fn gain_of(arcs: &[u64; 1024], mark: u8, width: usize, e: &[u64; 32], j: usize) -> u64
+    requires { ⌜ Table (now arcs) width × Values width (now e) × (j < width) ⌝ }
+    ensures { λ r. ⌜ r ≡ gainedBy (now (arcs .entry)) mark width (now (e .entry)) j ⌝ }
+{
+    if mark == 0 {
+        return 0;
+    }
+    best_sum(arcs, j * 32, e, width, ARC_ZERO) - ARC_ZERO
+}
+
+// A round: the values of all variables from those before.
+fn gain_round(arcs: &[u64; 1024], marks: &[u8; 32], width: usize, e: &[u64; 32]) -> [u64; 32]
+    requires { ⌜ Table (now arcs) width × Flags (now marks) × Values width (now e) ⌝ }
+    ensures { λ r. ⌜ Rounded (now (arcs .entry)) (now (marks .entry)) width (now (e .entry)) width r ⌝ }
+{
+    let mut new = [0u64; 32];
+    for j in 0..width {
+        new[j] = gain_of(arcs, marks[j], width, e, j);
+    }
+    new
+}
+
+// No closed walk from a marked variable weighs above zero: rounds until one changes nothing, at most as many as variables.
+pub fn none_gains(arcs: &[u64; 1024], marks: &[u8; 32], width: usize) -> bool
+    requires { ⌜ Table (now arcs) width × Flags (now marks) × (0 < width) ⌝ }
+    ensures { λ r. ⌜ Tested (now (arcs .entry)) (now (marks .entry)) width r ⌝ }
+{
+    let mut e = [0u64; 32];
+    for _ in 0..width {
+        let new = gain_round(arcs, marks, width, &e);
+        if values_agree(&e, &new, width) {
+            return true;
+        }
+        e = new;
+    }
+    false
+}

@@ -1,0 +1,58 @@
+// A point at the rows of a problem: the sides of a row, the rules, the value.
+ghost use mathlib.Core.Path.{_≡_};
+ghost use Prim.Native.Nat.{ℕ, suc, _+_, _*_, _≤_, _<_};
+ghost use lib.ListN.{length};
+ghost use lib.IntN.{ℤ};
+ghost use Rattle.definitions.specs.Limits.{signed-half};
+ghost use Rattle.definitions.specs.Tropical.{fin};
+ghost use Rattle.definitions.specs.Problem.{Problem, Keeps, value, whole};
+ghost use Rattle.definitions.specs.Offset.{tropOf};
+ghost use Rattle.checker.specs.Decides.{Decides};
+ghost use Rattle.checker.specs.Tables.{Sized, Holds, Stamped, stampsPoint};
+ghost use Rattle.checker.specs.Sides.{side-floor, sideOf, RowSized};
+
+use crate::sums::best_sum;
+use records::limits::OFFSET;
+
+// Two whole numbers in range have a sum above this, a whole number and blank one below it.
+const SIDE_FLOOR: u64 = 3221225472;
+
+// One side of a row at a point: the row's coefficients stand in the table from `base` on.
+pub fn side(table: &[u64; 2048], base: usize, x: &[u64; 32], width: usize) -> u64
+    requires { ⌜ RowSized (now table) base (now x) width ⌝ }
+    ensures { λ r. ⌜ r ≡ sideOf (now (table .entry)) base (now (x .entry)) width ⌝ }
+{
+    let best = best_sum(table, base, x, width, SIDE_FLOOR);
+    if best == SIDE_FLOOR { 0 } else { best - OFFSET }
+}
+
+// The point keeps every inequality.
+pub fn keeps_rules(left: &[u64; 2048], right: &[u64; 2048], n: usize, m: usize, x: &[u64; 32]) -> bool
+    requires { ⌜ Sized (now left) (now right) n m × Stamped (now x) ⌝ }
+    ensures { λ r. ⌜ ((p : Problem) → Holds p (now (left .entry)) (now (right .entry)) n m → Decides ((i : ℕ) → i < m → Keeps p (stampsPoint (now (x .entry))) i) r) ⌝ }
+{
+    let width = n + 1;
+    for i in 0..m {
+        if side(right, i * 32, x, width) < side(left, i * 32, x, width) {
+            return false;
+        }
+    }
+    true
+}
+
+// The point's objective value is the span s.
+pub fn value_is(left: &[u64; 2048], right: &[u64; 2048], n: usize, m: usize, x: &[u64; 32], s: u64) -> bool
+    requires { ⌜ Sized (now left) (now right) n m × Stamped (now x) × (s ≤ 4294967296) ⌝ }
+    ensures { λ r. ⌜ ((p : Problem) (z : ℤ) → Holds p (now (left .entry)) (now (right .entry)) n m → tropOf s ≡ fin z → Decides (value p (stampsPoint (now (x .entry))) ≡ whole z) r) ⌝ }
+{
+    let width = n + 1;
+    let first = side(left, m * 32, x, width);
+    if first == 0 {
+        return false;
+    }
+    let second = side(right, m * 32, x, width);
+    if second == 0 {
+        return false;
+    }
+    first + OFFSET == second + s
+}

@@ -1,0 +1,71 @@
+// Which variables a start reaches, over a table of arcs.
+ghost use mathlib.Core.Path.{_≡_};
+ghost use Prim.Native.Nat.{ℕ, _+_, _*_, _≤_, _<_};
+ghost use lib.ListN.{length};
+ghost use Rattle.checker.specs.Decides.{Decides};
+ghost use Rattle.checker.specs.Lists.{Agree};
+ghost use Rattle.checker.specs.Marks.{Flags, Reached, markOf, RowMarked, Marking};
+
+// Two lists of marks agree in their first `width` elements: a round has marked nothing new.
+pub fn marks_agree(before: &[u8; 32], after: &[u8; 32], width: usize) -> bool
+    requires { ⌜ width ≤ 32 ⌝ }
+    ensures { λ r. ⌜ Decides (Agree (now (before .entry)) (now (after .entry)) width) r ⌝ }
+{
+    for j in 0..width {
+        if before[j] != after[j] {
+            return false;
+        }
+    }
+    true
+}
+
+// A place's mark once an arc leads there, or none does.
+fn mark_of(mark: u8, arc: u64) -> u8
+    ensures { λ r. ⌜ r ≡ markOf mark arc ⌝ }
+{
+    if arc == 0 { mark } else { 1 }
+}
+
+// The marks, with all to which the arcs from `base` on lead.
+fn mark_row(arcs: &[u64; 1024], base: usize, width: usize, marks: [u8; 32]) -> [u8; 32]
+    requires { ⌜ (base + width ≤ 1024) × (width ≤ 32) × (length marks ≡ 32) ⌝ }
+    ensures { λ r. ⌜ RowMarked (now (arcs .entry)) base width marks r ⌝ }
+{
+    let mut new = marks;
+    for l in 0..width {
+        new[l] = mark_of(new[l], arcs[base + l]);
+    }
+    new
+}
+
+// A round: the marks, with all to which a marked variable leads.
+fn mark_round(arcs: &[u64; 1024], width: usize, marks: [u8; 32]) -> [u8; 32]
+    requires { ⌜ (width ≤ 32) × Flags marks ⌝ }
+    ensures { λ r. ⌜ Marking (now (arcs .entry)) width marks width r ⌝ }
+{
+    let mut new = marks;
+    for j in 0..width {
+        if marks[j] != 0 {
+            let more = mark_row(arcs, j * 32, width, new);
+            new = more;
+        }
+    }
+    new
+}
+
+// Marks of the variables that are reachable from the start, by rounds until one marks nothing new. Each round but the
+// last marks a variable, so there are at most as many as variables. (The engine, too, uses it: picks of variables that are
+// not reached play no part, and it writes 0 for them.)
+pub fn reach(arcs: &[u64; 1024], width: usize, start: [u8; 32]) -> [u8; 32]
+    requires { ⌜ (width ≤ 32) × Flags start ⌝ }
+    ensures { λ r. ⌜ Reached (now (arcs .entry)) width start r ⌝ }
+{
+    let mut marks = start;
+    loop {
+        let new = mark_round(arcs, width, marks);
+        if marks_agree(&marks, &new, width) {
+            return marks;
+        }
+        marks = new;
+    }
+}
