@@ -22,7 +22,6 @@ use Rattle.definitions.proofs.RoundTrip.{stamps-within}
 use Rattle.records.specs.declared.answer.AnswerHead.{AnswerHead}
 use Rattle.records.specs.declared.answer.AnswerHead.the-variants as Heads
 use Rattle.records.specs.Decoded.{Near}
-use Rattle.records.specs.Tables as Tabled
 use Rattle.records.specs.AnswerReading.{headBy, spanNumber, answerReadOf, AnswerRead}
 use Rattle.records.proofs.LeadTables.{near-within}
 use Rattle.records.proofs.Judging.{span-meant}
@@ -70,9 +69,6 @@ unfolding stampsFit
 first-zero [] h e = absurd (omega arith)
 first-zero (x ∷ xs) h e = and-eq-true-iff _ _ .0 e .0
 
-near-as : {d k : ℕ} → Tabled.Near d k → Near d k
-near-as h = record { hi = h .hi; lo = h .lo }
-
 span-near : (k : ℕ) → whole-within span-limit (tropOf k) ≡ true → Span k
 span-near k e =
     let both = and-eq-true-iff (leb signed-half (k + span-limit)) (leb k (signed-half + span-limit)) .0 (rw (whole-offset span-limit k (omega arith)) at e) in
@@ -96,8 +92,8 @@ module _ {s : List ℕ} {n m : ℕ} {head : AnswerHead} {stamps-before stamps pi
 
   stamp-near : (j : ℕ) → Near stamp-limit (getD stamps j 0)
   unfolding pointOf
-  stamp-near j = near-as (near-within stamp-limit (getD stamps j 0) (omega arith)
-      (rw (stamps-point read (right .none) bytes j) (within-at stamp-limit (answerOf s n m .stamps) (stamps-within (answerOf s n m .stamps) (fits .form .stamps-fit)) j)))
+  stamp-near j = near-within stamp-limit (getD stamps j 0) (omega arith)
+      (rw (stamps-point read (right .none) bytes j) (within-at stamp-limit (answerOf s n m .stamps) (stamps-within (answerOf s n m .stamps) (fits .form .stamps-fit)) j))
 
   first-stamp : class ≡ 1 → getD stamps 0 0 ≡ signed-half
   unfolding pointOf answerOf

@@ -12,17 +12,14 @@ use Rattle.definitions.specs.Problem.{Problem}
 use Rattle.definitions.specs.ProblemRecord.{nField, mField, problemRefusal, WithinLayout, problemOf}
 use Rattle.definitions.specs.AnswerRecord.{Answer, classField, answerRefusal, answerOf}
 use Rattle.definitions.specs.Verdict.{Verdict, accepted, refused, Accepted, checkRefusal, answerFor, not-certified, Judged, turned-away, certified, uncertified}
-use Rattle.definitions.proofs.Refusals.{ProblemFits, problem-fits}
 use Rattle.records.specs.declared.problem.Header.{Header}
 use Rattle.records.specs.declared.problem.Header.the-variants as Headers
 use Rattle.records.specs.declared.answer.AnswerHead.{AnswerHead}
 use Rattle.records.specs.declared.answer.AnswerHead.the-variants as Heads
-use Rattle.records.specs.Decoded.{Near, Decoded}
-use Rattle.records.specs.Tables as Tabled
 use Rattle.records.specs.Tables.{leftTable, rightTable, ProblemRead}
 use Rattle.records.specs.ProblemHeader.{headerBy}
 use Rattle.records.specs.AnswerReading.{headBy, spanNumber, answerReadOf}
-use Rattle.records.proofs.LeadTables as Leads
+use Rattle.records.proofs.LeadTables.{problem-decoded}
 use Rattle.checker.specs.Tables.{Sized, Holds}
 use Rattle.checker.specs.Outcome as Outcome
 use Rattle.checker.specs.Decides.{Decides}
@@ -30,25 +27,6 @@ use Rattle.checker.specs.Outcome.{problemRefused, answerRefused, Meant, 
 use Rattle.checker.proofs.Answers.{HeadRead}
 
 -- ---- problems
-
-near-as : {d k : ℕ} → Tabled.Near d k → Near d k
-near-as h = record { hi = h .hi; lo = h .lo }
-
--- The tables that the reader fills hold the problem in the bytes.
-pub tables-decoded : (s : List ℕ) → Bytes s → WithinLayout s → Decoded (problemOf s) (leftTable s) (rightTable s)
-unfolding problemOf
-tables-decoded s b w =
-    let f = problem-fits s .0 w in
-    record {
-      n-most = f .n-most;
-      m-most = f .m-most;
-      left-length = Leads.left-length s;
-      right-length = Leads.right-length s;
-      left-is = Leads.left-means s b w;
-      right-is = Leads.right-means s b w;
-      left-near = λ k. near-as (Leads.left-near s b w k);
-      right-near = λ k. near-as (Leads.right-near s b w k);
-    }
 
 -- Tables that hold a problem are sized for it.
 pub holds-sized : {p : Problem} {left right : List ℕ} {n m : ℕ} → Holds p left right n m → Sized left right n m
@@ -84,7 +62,7 @@ unfolding problemOf
 problem-held {s = s} b r h = record {
   n-is = sym (h .n-is);
   m-is = sym (h .m-is);
-  decoded = rw (r .left-read (h .none), r .right-read (h .none)) (tables-decoded s b (h .none));
+  decoded = rw (r .left-read (h .none), r .right-read (h .none)) (problem-decoded s b (h .none));
 }
 
 -- ---- verdicts

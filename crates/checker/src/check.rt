@@ -58,8 +58,8 @@ pub fn certify(left: &[u64; 2048], right: &[u64; 2048], n: usize, m: usize, clas
     }
 }
 
-// The number with which a problem was refused.
-fn problem_refusal(header: Header) -> usize
+// The number with which a problem was refused. Public for `input`.
+pub fn problem_refusal(header: Header) -> usize
     ensures { λ r. ⌜ r ≡ problemRefused header ⌝ }
 {
     match header {
@@ -68,8 +68,8 @@ fn problem_refusal(header: Header) -> usize
     }
 }
 
-// The number with which an answer was refused.
-fn answer_refusal(head: AnswerHead) -> usize
+// The number with which an answer was refused. Public for `input`.
+pub fn answer_refusal(head: AnswerHead) -> usize
     ensures { λ r. ⌜ r ≡ answerRefused head ⌝ }
 {
     match head {

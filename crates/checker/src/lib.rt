@@ -6,3 +6,4 @@ pub mod reach;
 pub mod gains;
 pub mod certify;
 pub mod check;
+pub mod input;
