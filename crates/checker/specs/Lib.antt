@@ -8,4 +8,3 @@ pub mod GainRound
 pub mod Arcs
 pub mod Counts
 pub mod Outcome
-pub mod Cut

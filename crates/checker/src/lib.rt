@@ -6,4 +6,3 @@ pub mod reach;
 pub mod gains;
 pub mod certify;
 pub mod check;
-pub mod input;
