@@ -1,15 +1,15 @@
 //! What is measured, under one form: bytes in, class, span and trials out.
 
-use unproved::{solve_by, Answered, Dense, Lists, Search};
+use unproved::{solve_by, Answered, InFull, InLists, Search};
 
 pub type Solve = fn(&[u8], &mut [u8]) -> Answered;
 
 /// The unproved engines, by name.
 pub const UNPROVED: [(&str, Solve); 4] = [
-    ("dense, halving", |problem, answer| good(solve_by::<Dense>(Search::Halving, problem, answer))),
-    ("lists, halving", |problem, answer| good(solve_by::<Lists>(Search::Halving, problem, answer))),
-    ("dense, Newton", |problem, answer| good(solve_by::<Dense>(Search::Newton, problem, answer))),
-    ("lists, Newton", |problem, answer| good(solve_by::<Lists>(Search::Newton, problem, answer))),
+    ("dense, halving", |problem, answer| good(solve_by::<InFull>(Search::Halving, problem, answer))),
+    ("lists, halving", |problem, answer| good(solve_by::<InLists>(Search::Halving, problem, answer))),
+    ("dense, Newton", |problem, answer| good(solve_by::<InFull>(Search::Newton, problem, answer))),
+    ("lists, Newton", |problem, answer| good(solve_by::<InLists>(Search::Newton, problem, answer))),
 ];
 
 fn good(result: Result<Answered, u8>) -> Answered {

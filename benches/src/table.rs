@@ -6,7 +6,7 @@ use crate::agree;
 use crate::engines::{library, library_accepts, unproved_accepts, Solve, UNPROVED};
 use crate::families::{Family, FAMILIES};
 use crate::random::Random;
-use crate::timing::{microseconds, Effort};
+use crate::timing::{microseconds, Call, Effort};
 
 const SEED: u64 = 4_202;
 
@@ -34,61 +34,80 @@ fn set(effort: Effort, family: Family, n: usize, m: usize) -> Set {
     set
 }
 
-fn solving(effort: Effort, set: &Set, solve: Solve) -> f64 {
+/// The library's `solve` through its plain boundary.
+fn library_solves(set: &Set) -> Call<'_> {
     let mut buffer = [0; span::ANSWER_SIZE];
-    microseconds(effort, set.problems.len(), |number| {
+    Box::new(move |number| {
+        black_box(span::raw::solve(&set.problems[number], &mut buffer));
+    })
+}
+
+fn solves(set: &Set, solve: Solve) -> Call<'_> {
+    let mut buffer = [0; span::ANSWER_SIZE];
+    Box::new(move |number| {
         black_box(solve(&set.problems[number], &mut buffer));
     })
 }
 
-fn checking(effort: Effort, set: &Set, accepts: fn(&[u8], &[u8]) -> bool) -> f64 {
-    microseconds(effort, set.problems.len(), |number| {
+fn checks(set: &Set, accepts: fn(&[u8], &[u8]) -> bool) -> Call<'_> {
+    Box::new(move |number| {
         assert!(black_box(accepts(&set.problems[number], &set.answers[number])));
-    })
-}
-
-/// The library through its plain boundary, so that nothing of the wrapper's is measured but the call.
-fn library_solving(effort: Effort, set: &Set) -> f64 {
-    let mut buffer = [0; span::ANSWER_SIZE];
-    microseconds(effort, set.problems.len(), |number| {
-        black_box(span::raw::solve(&set.problems[number], &mut buffer));
     })
 }
 
 pub fn print(effort: Effort) {
     println!("measured: {}; n = 31, m = 63; seed {SEED}; {} problems a family", span::raw::BEHIND, effort.problems);
-    println!("microseconds a call, the best of {} passes; answer buffers are lent once and not cleared before a call;", effort.passes);
-    println!("problems stay in the cache. All engines agreed on class, span and trials, and both checkers accepted.");
+    println!("Microseconds a call, in the best of many rounds, turn about. Buffers were not cleared before a call: each");
+    println!("engine has one answer buffer of 206 bytes for all its calls, and problems stay in the cache.");
+    println!("All engines agreed on class, span and trials, and both checkers accepted every answer.");
     println!();
+    let sets: Vec<(Family, Set)> = FAMILIES.into_iter().map(|family| (family, set(effort, family, 31, 63))).collect();
+    let solve_times = solving(effort, &sets);
+    checking(effort, &sets, &solve_times);
+    growth(effort);
+}
+
+/// A line a family; the library's times.
+fn solving(effort: Effort, sets: &[(Family, Set)]) -> Vec<f64> {
     println!("solve                        trials  library  {}  ratio", UNPROVED.map(|(name, _)| name).join("  "));
-    let mut sets = Vec::new();
-    for family in FAMILIES {
-        let set = set(effort, family, 31, 63);
-        let time = library_solving(effort, &set);
-        let others = UNPROVED.map(|(_, solve)| solving(effort, &set, solve));
+    let mut times = Vec::new();
+    for (family, set) in sets {
+        let [(_, a), (_, b), (_, c), (_, d)] = UNPROVED;
+        let calls = [library_solves(set), solves(set, a), solves(set, b), solves(set, c), solves(set, d)];
+        let [time, others @ ..] = microseconds(effort, set.problems.len(), calls);
         let best = others.iter().copied().fold(f64::INFINITY, f64::min);
         let columns: Vec<String> =
             others.iter().zip(UNPROVED).map(|(time, (name, _))| format!("{time:>width$.1}", width = name.len())).collect();
         println!("{:<28} {:>6.1} {time:>8.1}  {}  {:>5.2}", family.name(), set.trials, columns.join("  "), time / best);
-        sets.push((family, set, time));
+        times.push(time);
     }
-    println!("ratio: the library's time by the fastest unproved engine's of the line");
+    println!("ratio: the library's time by that of the fastest unproved engine in the line");
     println!();
-    println!("check                        library  unproved  ratio  of solve");
-    for (family, set, solve_time) in &sets {
-        let time = checking(effort, set, library_accepts);
-        let other = checking(effort, set, unproved_accepts);
-        println!("{:<28} {time:>7.1} {other:>9.1} {:>6.2} {:>9.3}", family.name(), time / other, time / solve_time);
+    times
+}
+
+fn checking(effort: Effort, sets: &[(Family, Set)], solve_times: &[f64]) {
+    println!("check                        library  unproved  ratio  part of solve");
+    for ((family, set), solve_time) in sets.iter().zip(solve_times) {
+        let calls = [checks(set, library_accepts), checks(set, unproved_accepts)];
+        let [time, other] = microseconds(effort, set.problems.len(), calls);
+        let (ratio, part) = (time / other, time / solve_time);
+        println!("{:<28} {time:>7.1} {other:>9.1} {ratio:>6.2} {part:>14.3}", family.name());
     }
+    println!("part of solve: the library's check by the library's solve of the same problem");
     println!();
-    println!("growth                           n   m   bytes  solve  check  solve, nanoseconds a byte");
+}
+
+fn growth(effort: Effort) {
+    println!("growth                           n   m   bytes   solve   check  solve, nanoseconds a byte");
     for family in FAMILIES {
         for (n, m) in [(31, 63), (15, 31), (7, 15), (31, 31), (31, 15), (15, 63), (7, 63)] {
             let set = set(effort, family, n, m);
             let bytes = set.problems[0].len();
-            let time = library_solving(effort, &set);
-            let check = checking(effort, &set, library_accepts);
-            println!("{:<30} {n:>4} {m:>3} {bytes:>7} {time:>6.1} {check:>6.1} {:>8.2}", family.name(), 1e3 * time / bytes as f64);
+            let calls = [library_solves(&set), checks(&set, library_accepts)];
+            let [time, check] = microseconds(effort, set.problems.len(), calls);
+            let each = 1e3 * time / bytes as f64;
+            println!("{:<30} {n:>4} {m:>3} {bytes:>7} {time:>7.1} {check:>7.1} {each:>8.2}", family.name());
         }
     }
 }

@@ -1,4 +1,4 @@
-//! Measuring: the mean time of a call over a set of problems, the best of several passes.
+//! Measuring: the mean time of a call over a set of problems, in the best of many rounds.
 
 use std::hint::black_box;
 use std::time::Instant;
@@ -10,36 +10,36 @@ pub struct Effort {
     pub problems: usize,
     /// Seconds for each number.
     pub seconds: f64,
-    pub passes: usize,
 }
 
 impl Effort {
     pub fn full() -> Effort {
-        Effort { problems: 24, seconds: 0.25, passes: 7 }
+        Effort { problems: 24, seconds: 0.3 }
     }
 
     pub fn short() -> Effort {
-        Effort { problems: 3, seconds: 0.004, passes: 2 }
+        Effort { problems: 3, seconds: 0.002 }
     }
 }
 
-/// Microseconds a call: as many rounds a pass as fit, and the best pass counts. `call` is given a problem's number.
-pub fn microseconds(effort: Effort, count: usize, mut call: impl FnMut(usize)) -> f64 {
+/// Something to measure: it is given a problem's number.
+pub type Call<'a> = Box<dyn FnMut(usize) + 'a>;
+
+/// Microseconds a call, for each of several: rounds over all problems, turn about, so that what else the machine does
+/// falls on all of them; the best round counts.
+pub fn microseconds<const N: usize>(effort: Effort, count: usize, mut calls: [Call; N]) -> [f64; N] {
+    let mut best = [f64::INFINITY; N];
     let start = Instant::now();
-    for number in 0..count {
-        call(black_box(number));
-    }
-    let once = start.elapsed().as_secs_f64().max(1e-7);
-    let rounds = ((effort.seconds / effort.passes as f64 / once) as usize).max(1);
-    let mut best = f64::INFINITY;
-    for _ in 0..effort.passes {
-        let start = Instant::now();
-        for _ in 0..rounds {
+    loop {
+        for (call, best) in calls.iter_mut().zip(&mut best) {
+            let start = Instant::now();
             for number in 0..count {
                 call(black_box(number));
             }
+            *best = best.min(start.elapsed().as_secs_f64() * 1e6 / count as f64);
         }
-        best = best.min(start.elapsed().as_secs_f64() / (rounds * count) as f64);
+        if start.elapsed().as_secs_f64() > effort.seconds * N as f64 {
+            return best;
+        }
     }
-    best * 1e6
 }

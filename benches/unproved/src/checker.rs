@@ -21,12 +21,14 @@ const SCALE: i64 = 64;
 
 /// Judges an answer; refusals 1 to 6 and 8 to 14.
 pub fn check(problem: &[u8], answer: &[u8]) -> Result<Accepted, u8> {
-    let problem = record::problem(problem)?;
+    let mut table = Problem::new();
+    record::read(problem, &mut table)?;
+    let problem = &table;
     let answer = record::answer(answer, problem.variables, problem.rows)?;
     let accepted = match answer.class {
-        1 => keeps(&problem, &answer) && blocks(&problem, &answer.picks, answer.span as i64 - 1),
-        2 => saves(&problem, &answer.picks),
-        _ => blocks(&problem, &answer.picks, TOP as i64),
+        1 => keeps(problem, &answer) && blocks(problem, &answer.picks, answer.span as i64 - 1),
+        2 => saves(problem, &answer.picks),
+        _ => blocks(problem, &answer.picks, TOP as i64),
     };
     if accepted {
         Ok(Accepted { class: answer.class, span: answer.span })

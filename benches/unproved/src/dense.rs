@@ -61,10 +61,10 @@ fn join(lanes: [f32; LANES]) -> f32 {
     larger(larger(four[0], four[1]), larger(four[2], four[3]))
 }
 
-impl Rows for Dense {
+impl<'a> Rows<'a> for Dense {
     type Value = f32;
 
-    fn of(problem: &Problem) -> Dense {
+    fn of(problem: &'a Problem) -> Dense {
         let mut left = [[f32::NEG_INFINITY; VARIABLES]; ROWS];
         let mut right = [[f32::NEG_INFINITY; VARIABLES]; ROWS];
         for row in 0..problem.rows {
@@ -127,23 +127,9 @@ impl Rows for Dense {
         changed
     }
 
-    fn shorten(&self, targets: &[u8; ROWS], distances: &mut Values<f32>, objective: bool) -> bool {
-        let mut changed = false;
-        let rows = if objective { self.rows } else { self.rows - 1 };
-        for row in 0..rows {
-            let target = targets[row];
-            if target == NO_PICK {
-                continue;
-            }
-            let target = target as usize % VARIABLES;
-            // Nothing reached on the left: minus infinity, and the distance is plus infinity.
-            let distance = self.right[row][target] - largest_difference(&self.left[row], distances);
-            if distance < distances[target] {
-                distances[target] = distance;
-                changed = true;
-            }
-        }
-        changed
+    fn meets(&self, row: usize, variables: u32) -> bool {
+        let left = &self.left[row];
+        (0..VARIABLES).any(|place| variables >> place & 1 == 1 && left[place] > f32::NEG_INFINITY)
     }
 
     fn attain(&self, values: &Values<f32>, targets: &mut [u8; ROWS]) {

@@ -8,7 +8,9 @@ use crate::number::Number;
 use crate::policy::{possible, Picks, Rows, State};
 use crate::record::{self, Answer, Problem, BLANK, BUFFER};
 use crate::saver::{self, Targets};
-use crate::{Dense, Lists, NO_PICK, ROWS, TOP, VARIABLES};
+use crate::dense::Dense;
+use crate::lists::Lists;
+use crate::{NO_PICK, ROWS, TOP, VARIABLES};
 
 /// How the least span is looked for.
 #[derive(Clone, Copy, Debug, PartialEq, Eq)]
@@ -34,30 +36,54 @@ enum Found {
 }
 
 /// Answers a problem with rows kept in one way and one search; refusals 1 to 7.
-pub fn solve_by<R: Rows>(search: Search, problem: &[u8], buffer: &mut [u8]) -> Result<Answered, u8> {
-    let problem = record::problem(problem)?;
+pub fn solve_by<K: Kind>(search: Search, problem: &[u8], buffer: &mut [u8]) -> Result<Answered, u8> {
+    let mut table = Problem::new();
+    record::read(problem, &mut table)?;
     if buffer.len() < BUFFER {
         return Err(7);
     }
-    Ok(solve_table::<R>(search, &problem, buffer))
+    Ok(K::solve(search, &table, buffer))
+}
+
+/// A way to keep rows, by name.
+pub trait Kind {
+    fn solve(search: Search, problem: &Problem, buffer: &mut [u8]) -> Answered;
+}
+
+/// Rows as lists of their finite coefficients.
+pub struct InLists;
+/// Dense rows.
+pub struct InFull;
+
+impl Kind for InLists {
+    fn solve(search: Search, problem: &Problem, buffer: &mut [u8]) -> Answered {
+        solve_table::<Lists>(search, problem, buffer)
+    }
+}
+
+impl Kind for InFull {
+    fn solve(search: Search, problem: &Problem, buffer: &mut [u8]) -> Answered {
+        solve_table::<Dense>(search, problem, buffer)
+    }
 }
 
 /// Answers a problem: lists where few coefficients are finite, dense rows else.
 pub fn solve_with(search: Search, problem: &[u8], buffer: &mut [u8]) -> Result<Answered, u8> {
-    let problem = record::problem(problem)?;
+    let mut table = Problem::new();
+    record::read(problem, &mut table)?;
     if buffer.len() < BUFFER {
         return Err(7);
     }
     let finite = |table: &[i32]| table.iter().filter(|&&coefficient| coefficient != BLANK).count();
-    let all = finite(&problem.left) + finite(&problem.right);
-    if 4 * all < problem.rows * problem.variables {
-        Ok(solve_table::<Lists>(search, &problem, buffer))
+    let all = finite(&table.left) + finite(&table.right);
+    if 4 * all < table.rows * table.variables {
+        Ok(InLists::solve(search, &table, buffer))
     } else {
-        Ok(solve_table::<Dense>(search, &problem, buffer))
+        Ok(InFull::solve(search, &table, buffer))
     }
 }
 
-fn solve_table<R: Rows>(search: Search, problem: &Problem, buffer: &mut [u8]) -> Answered {
+fn solve_table<'a, R: Rows<'a>>(search: Search, problem: &'a Problem, buffer: &mut [u8]) -> Answered {
     let mut table = R::of(problem);
     let found = match search {
         Search::Halving => by_halving(&mut table),
@@ -77,7 +103,7 @@ fn moved<V: Number>(values: &[V; VARIABLES]) -> [i32; VARIABLES] {
     stamps
 }
 
-fn by_halving<R: Rows>(table: &mut R) -> Found {
+fn by_halving<'a, R: Rows<'a>>(table: &mut R) -> Found {
     let mut state = State::new();
     table.raise(TOP);
     if !possible(table, &mut state) {
@@ -117,7 +143,7 @@ fn by_halving<R: Rows>(table: &mut R) -> Found {
 }
 
 /// The objective value of a point, the objective being raised by t; far below where it is minus infinity.
-fn own_span<R: Rows>(table: &R, objective: usize, values: &[R::Value; VARIABLES], t: i32) -> i32 {
+fn own_span<'a, R: Rows<'a>>(table: &R, objective: usize, values: &[R::Value; VARIABLES], t: i32) -> i32 {
     let mut negated = [R::Value::TOP; VARIABLES];
     for (distance, value) in negated.iter_mut().zip(values) {
         if !value.is_bot() {
@@ -132,7 +158,7 @@ fn own_span<R: Rows>(table: &R, objective: usize, values: &[R::Value; VARIABLES]
     first.minus(second).whole() + t
 }
 
-fn by_newton<R: Rows>(table: &mut R) -> Found {
+fn by_newton<'a, R: Rows<'a>>(table: &mut R) -> Found {
     let mut state = State::new();
     table.raise(TOP);
     if !possible(table, &mut state) {

@@ -17,10 +17,7 @@ pub mod programs;
 pub mod record;
 mod saver;
 
-pub use dense::Dense;
-pub use engine::{solve_by, solve_with, Answered, Search};
-pub use lists::Lists;
-pub use policy::Rows;
+pub use engine::{solve_by, solve_with, Answered, InFull, InLists, Kind, Search};
 
 /// The largest number of variables, the anchor among them.
 pub const VARIABLES: usize = 32;

@@ -14,8 +14,6 @@ pub trait Number: Copy + PartialOrd {
     fn of(coefficient: i32) -> Self;
     fn whole(self) -> i32;
     fn is_bot(self) -> bool;
-    /// A sum; minus infinity where one of the two is.
-    fn plus(self, other: Self) -> Self;
     /// A difference; `other` is finite.
     fn minus(self, other: Self) -> Self;
 }
@@ -45,11 +43,6 @@ impl Number for i32 {
     #[inline(always)]
     fn is_bot(self) -> bool {
         self < HALF
-    }
-
-    #[inline(always)]
-    fn plus(self, other: i32) -> i32 {
-        self + other
     }
 
     #[inline(always)]
@@ -84,11 +77,6 @@ impl Number for f32 {
     #[inline(always)]
     fn is_bot(self) -> bool {
         self == Self::BOT
-    }
-
-    #[inline(always)]
-    fn plus(self, other: f32) -> f32 {
-        self + other
     }
 
     #[inline(always)]

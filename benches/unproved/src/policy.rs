@@ -12,10 +12,10 @@ pub type Values<V> = [V; VARIABLES];
 pub type Picks = [u8; VARIABLES];
 
 /// A table of rows, and what the search asks of it.
-pub trait Rows {
+pub trait Rows<'a> {
     type Value: Number;
 
-    fn of(problem: &Problem) -> Self;
+    fn of(problem: &'a Problem) -> Self;
     fn variables(&self) -> usize;
     fn rows(&self) -> usize;
     /// Makes the objective's right coefficients those of the record plus t.
@@ -26,8 +26,8 @@ pub trait Rows {
     fn left(&self, row: usize, variable: usize) -> Self::Value;
     /// Picks, for each variable that some row gives a lower value, the row that gives the lowest; true where any did.
     fn improve(&self, values: &Values<Self::Value>, picks: &mut Picks) -> bool;
-    /// Lowers distances by one pass over the rows that a row strategy covers (see `saver`); true where any fell.
-    fn shorten(&self, targets: &[u8; ROWS], distances: &mut Values<Self::Value>, objective: bool) -> bool;
+    /// Whether a row has a finite left coefficient of one of these variables, given as bits.
+    fn meets(&self, row: usize, variables: u32) -> bool;
     /// For each row a variable that attains its right side, or `NO_PICK` where that is minus infinity.
     fn attain(&self, values: &Values<Self::Value>, targets: &mut [u8; ROWS]);
     /// The largest of left coefficient − distance over a row, for distances where TOP is 'not reached'.
@@ -50,7 +50,7 @@ impl<V: Number> State<V> {
 }
 
 /// Decides the trial to which the objective was raised, from a state that is good there.
-pub fn possible<R: Rows>(table: &R, state: &mut State<R::Value>) -> bool {
+pub fn possible<'a, R: Rows<'a>>(table: &R, state: &mut State<R::Value>) -> bool {
     let objective = (table.rows() - 1) as u8;
     if state.picks[..table.variables()].contains(&objective) {
         evaluate(table, state);
@@ -64,8 +64,9 @@ pub fn possible<R: Rows>(table: &R, state: &mut State<R::Value>) -> bool {
     false
 }
 
-/// The values of a strategy: longest walks, in rounds from below. Variables that pick one row share its right side.
-fn evaluate<R: Rows>(table: &R, state: &mut State<R::Value>) {
+/// The values of a strategy: longest walks, in rounds from below, forwards and backwards in turn. Variables that pick one
+/// row share its right side.
+fn evaluate<'a, R: Rows<'a>>(table: &R, state: &mut State<R::Value>) {
     let mut first = [NO_PICK; ROWS];
     let mut next = [NO_PICK; VARIABLES];
     let mut used = [0u8; VARIABLES];
@@ -88,21 +89,38 @@ fn evaluate<R: Rows>(table: &R, state: &mut State<R::Value>) {
     while changed {
         changed = false;
         for &row in &used[..count] {
-            let row = row as usize;
-            let side = table.right_side(row, &state.values);
-            if side.is_bot() {
-                continue;
-            }
-            let mut variable = first[row];
-            while variable != NO_PICK {
-                let place = variable as usize % VARIABLES;
-                let value = side.minus(table.left(row, place));
-                if value > state.values[place] {
-                    state.values[place] = value;
-                    changed = true;
-                }
-                variable = next[place];
-            }
+            changed |= raise_picked(table, &mut state.values, row as usize, &first, &next);
+        }
+        if !changed {
+            return;
+        }
+        changed = false;
+        for &row in used[..count].iter().rev() {
+            changed |= raise_picked(table, &mut state.values, row as usize, &first, &next);
         }
     }
+}
+
+/// Raises the values of the variables that pick a row to what its right side gives them; true where one rose.
+#[inline(always)]
+fn raise_picked<'a, R: Rows<'a>>(
+    table: &R,
+    values: &mut Values<R::Value>,
+    row: usize,
+    first: &[u8; ROWS],
+    next: &[u8; VARIABLES],
+) -> bool {
+    let side = table.right_side(row, values);
+    let mut changed = false;
+    let mut variable = first[row % ROWS];
+    while variable != NO_PICK {
+        let place = variable as usize % VARIABLES;
+        let value = side.minus(table.left(row, place));
+        if value > values[place] {
+            values[place] = value;
+            changed = true;
+        }
+        variable = next[place];
+    }
+    changed
 }

@@ -59,15 +59,24 @@ fn copy(bytes: &[u8], coefficients: &mut [i32]) -> bool {
     outside == 0
 }
 
-/// Reads a problem; refusals 1 to 6.
-pub fn problem(bytes: &[u8]) -> Result<Problem, u8> {
+impl Problem {
+    /// Room for a problem, all of it blank.
+    pub fn new() -> Problem {
+        Problem { variables: 0, rows: 0, left: [BLANK; ROWS * VARIABLES], right: [BLANK; ROWS * VARIABLES] }
+    }
+}
+
+impl Default for Problem {
+    fn default() -> Problem {
+        Problem::new()
+    }
+}
+
+/// Reads a problem into room that is blank; refusals 1 to 6.
+pub fn read(bytes: &[u8], problem: &mut Problem) -> Result<(), u8> {
     let (variables, rows) = header(bytes)?;
-    let mut problem = Problem {
-        variables,
-        rows,
-        left: [BLANK; ROWS * VARIABLES],
-        right: [BLANK; ROWS * VARIABLES],
-    };
+    problem.variables = variables;
+    problem.rows = rows;
     let size = 4 * variables;
     let mut good = true;
     for (row, part) in bytes[10..].chunks_exact(2 * size).enumerate() {
@@ -76,7 +85,7 @@ pub fn problem(bytes: &[u8]) -> Result<Problem, u8> {
         good &= copy(&part[size..], &mut problem.right[at..at + variables]);
     }
     if good {
-        Ok(problem)
+        Ok(())
     } else {
         Err(6)
     }

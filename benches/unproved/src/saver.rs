@@ -8,25 +8,77 @@ use crate::{NO_PICK, ROWS, VARIABLES};
 
 pub type Targets = [u8; ROWS];
 
+/// The rows that walks from one variable use, as bits; in use are rows that have a target.
+fn rows_in_use<'a, R: Rows<'a>>(table: &R, targets: &Targets, from: usize, objective: bool) -> u64 {
+    let rows = if objective { table.rows() } else { table.rows() - 1 };
+    let mut reached = 1u32 << (from % VARIABLES);
+    let mut used = 0u64;
+    loop {
+        let before = used;
+        for row in 0..rows {
+            if used >> row & 1 == 0 && targets[row] != NO_PICK && table.meets(row, reached) {
+                used |= 1 << row;
+                reached |= 1 << (targets[row] as usize % VARIABLES);
+            }
+        }
+        if used == before {
+            return used;
+        }
+    }
+}
+
 /// Shortest walks from one variable; TOP where there is none. Closed walks must not be negative.
-fn distances<R: Rows>(table: &R, targets: &Targets, from: usize, objective: bool) -> Values<R::Value> {
+fn distances<'a, R: Rows<'a>>(table: &R, targets: &Targets, from: usize, objective: bool) -> Values<R::Value> {
     let mut distances = [R::Value::TOP; VARIABLES];
     distances[from % VARIABLES] = R::Value::ZERO;
-    while table.shorten(targets, &mut distances, objective) {}
-    distances
+    let rows = if objective { table.rows() } else { table.rows() - 1 };
+    loop {
+        let mut changed = false;
+        for row in 0..rows {
+            changed |= shorten(table, targets, row, &mut distances);
+        }
+        if !changed {
+            return distances;
+        }
+        changed = false;
+        for row in (0..rows).rev() {
+            changed |= shorten(table, targets, row, &mut distances);
+        }
+        if !changed {
+            return distances;
+        }
+    }
+}
+
+/// Lowers the distance of a row's target to what the row gives it; true where it fell.
+#[inline(always)]
+fn shorten<'a, R: Rows<'a>>(table: &R, targets: &Targets, row: usize, distances: &mut Values<R::Value>) -> bool {
+    if targets[row] == NO_PICK {
+        return false;
+    }
+    let target = targets[row] as usize % VARIABLES;
+    let farthest = table.farthest(row, distances);
+    if farthest.is_bot() {
+        return false;
+    }
+    let distance = table.right(row, target).minus(farthest);
+    let shorter = distance < distances[target];
+    if shorter {
+        distances[target] = distance;
+    }
+    shorter
 }
 
 /// The least trial that is possible with these targets, the objective being raised by nothing; `None` where every
 /// trial is.
-pub fn least<R: Rows>(table: &R, targets: &Targets) -> Option<i32> {
+pub fn least<'a, R: Rows<'a>>(table: &R, targets: &Targets) -> Option<i32> {
     let objective = table.rows() - 1;
-    let from_anchor = distances(table, targets, 0, false);
-    if table.farthest(objective, &from_anchor).is_bot() {
+    if rows_in_use(table, targets, 0, true) >> objective & 1 == 0 {
         return None;
     }
     let target = targets[objective] as usize;
-    let from_target = distances(table, targets, target, false);
-    let farthest = table.farthest(objective, &from_target);
+    let distances = distances(table, targets, target, false);
+    let farthest = table.farthest(objective, &distances);
     if farthest.is_bot() {
         return None;
     }
@@ -34,7 +86,7 @@ pub fn least<R: Rows>(table: &R, targets: &Targets) -> Option<i32> {
 }
 
 /// The point that these targets give at the trial to which the objective was raised.
-pub fn point<R: Rows>(table: &R, targets: &Targets) -> [i32; VARIABLES] {
+pub fn point<'a, R: Rows<'a>>(table: &R, targets: &Targets) -> [i32; VARIABLES] {
     let distances = distances(table, targets, 0, true);
     let mut stamps = [BLANK; VARIABLES];
     for (stamp, distance) in stamps.iter_mut().zip(distances) {
@@ -46,20 +98,13 @@ pub fn point<R: Rows>(table: &R, targets: &Targets) -> [i32; VARIABLES] {
 }
 
 /// The targets of rows in use, and none for the others.
-pub fn in_use<R: Rows>(table: &R, targets: &Targets) -> Targets {
-    let mut reached = [R::Value::TOP; VARIABLES];
-    reached[0] = R::Value::ZERO;
-    let mut used = [NO_PICK; ROWS];
-    let mut changed = true;
-    while changed {
-        changed = false;
-        for row in 0..table.rows() {
-            if used[row] == NO_PICK && !table.farthest(row, &reached).is_bot() {
-                used[row] = targets[row];
-                reached[targets[row] as usize % VARIABLES] = R::Value::ZERO;
-                changed = true;
-            }
+pub fn in_use<'a, R: Rows<'a>>(table: &R, targets: &Targets) -> Targets {
+    let used = rows_in_use(table, targets, 0, true);
+    let mut played = [NO_PICK; ROWS];
+    for row in 0..table.rows() {
+        if used >> row & 1 == 1 {
+            played[row] = targets[row];
         }
     }
-    used
+    played
 }
