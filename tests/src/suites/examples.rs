@@ -2,7 +2,7 @@
 
 use super::{answered, checked, expected_check};
 use crate::exhaustive;
-use crate::paper::{Answer, Outcome, Problem, Row};
+use crate::paper::{read_problem, Answer, Outcome, Problem, Row};
 use crate::random::Random;
 use crate::tally::{hex, Tally};
 
@@ -71,6 +71,7 @@ pub fn run(tally: &mut Tally) {
         tally.count("examples");
     }
     bytes_of_a(tally);
+    stored(tally, &mut random);
     m(tally);
     limits(tally, &mut random);
 }
@@ -87,6 +88,34 @@ fn bytes_of_a(tally: &mut Tally) {
     let words = span::check(&problem, record).map(|certified| certified.to_string());
     tally.same("A's verdict", words, Ok("accepted least 3".into()), &problem, record);
     tally.count("examples by bytes");
+}
+
+/// The problems of examples/, stored as bytes, with the outcome that their text expects.
+fn stored(tally: &mut Tally, random: &mut Random) {
+    let folder = concat!(env!("CARGO_MANIFEST_DIR"), "/../examples/problems");
+    let Ok(files) = std::fs::read_dir(folder) else {
+        return tally.fail("the folder examples/problems is not there".into(), &[], &[]);
+    };
+    for path in files.flatten().map(|file| file.path()).filter(|path| path.extension().is_some_and(|end| end == "hex")) {
+        let digits = std::fs::read_to_string(&path).unwrap_or_default();
+        let pairs = digits.trim_end().as_bytes().chunks(2);
+        let bytes: Option<Vec<u8>> =
+            pairs.map(|pair| u8::from_str_radix(std::str::from_utf8(pair).ok()?, 16).ok()).collect();
+        let text = std::fs::read_to_string(path.with_extension("txt")).unwrap_or_default();
+        let expected = text.lines().find_map(|line| line.strip_prefix("expect: "));
+        let problem = bytes.and_then(|bytes| read_problem(&bytes).ok());
+        let (Some(problem), Some(expected)) = (problem, expected) else {
+            tally.fail(format!("{} cannot be read", path.display()), &[], &[]);
+            continue;
+        };
+        let (_, record) = answered(tally, random, &problem);
+        let found = span::check(&problem.bytes(), &record).map(|certified| certified.to_string());
+        tally.same("a stored example", found, Ok(format!("accepted {expected}")), &problem.bytes(), &record);
+        tally.count("stored examples");
+    }
+    if tally.counted("stored examples") == 0 {
+        tally.fail("no stored example was found".into(), &[], &[]);
+    }
 }
 
 /// M, and its neighbours: E's own table is accepted.

@@ -44,7 +44,7 @@ pub fn random_problems(tally: &mut Tally) {
     const SEED: u64 = 11_013_431;
     tally.seed(SEED);
     let mut random = Random::new(SEED);
-    for round in 0..100_000 {
+    for round in 0..200_000 {
         let (n, m, w) = match round % 50 {
             0 => (3, random.below(4), 1),
             _ => (random.below(3), random.below(4), 1 + random.below(2) as i64),
