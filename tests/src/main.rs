@@ -23,7 +23,7 @@ fn main() {
         return;
     }
     println!("tests from outside, on {}", span::raw::BEHIND);
-    let all: [(&str, fn(&mut Tally)); 8] = [
+    let all: [(&str, fn(&mut Tally)); 9] = [
         ("examples", suites::examples::run),
         ("all-small", suites::small::every_small_problem),
         ("random-small", suites::small::random_problems),
@@ -32,6 +32,7 @@ fn main() {
         ("bytes", suites::bytes::run),
         ("fields", suites::fields::run),
         ("programs", suites::pipes::run),
+        ("unproved", suites::unproved::run),
     ];
     let mut failures = 0;
     let mut run = 0;

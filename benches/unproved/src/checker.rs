@@ -17,7 +17,12 @@ const HALF: i32 = -500_000_000;
 
 /// An arc's weight is multiplied by this, and 1 is added where closed walks must be below zero: a closed walk of up to
 /// 32 arcs is then at most zero exactly when it was below zero.
-const SCALE: i64 = 64;
+const SCALE: i32 = 32;
+/// A walk that visits no variable twice has at most 31 arcs of at most 32 × 665,280 + 1: one that weighs more contains a
+/// closed walk above zero.
+const HEAVIEST: i32 = 31 * (SCALE * 665_280 + 1);
+/// The weight of an arc that is not there: below zero also with the longest walk added.
+const NO_ARC: i32 = -2_000_000_000;
 
 /// Judges an answer; refusals 1 to 6 and 8 to 14.
 pub fn check(problem: &[u8], answer: &[u8]) -> Result<Accepted, u8> {
@@ -104,21 +109,14 @@ fn blocks(problem: &Problem, picks: &[u16; ROWS], t: i64) -> bool {
             }
         }
     }
-    let mut longest = [0i64; VARIABLES];
+    let weights = weights(problem, picks, &order[..count], t);
+    let mut longest = [0i32; VARIABLES];
     for _ in 0..=count {
         let mut changed = false;
-        for &variable in order[..count].iter().rev() {
-            let row = picks[variable] as usize - 1;
-            let part = row * VARIABLES;
-            let extra = if row + 1 == problem.rows { t } else { 0 };
-            let base = extra - problem.left[part + variable] as i64;
-            let mut best = longest[variable];
-            for place in 0..problem.variables {
-                let coefficient = problem.right[part + place];
-                if coefficient != BLANK {
-                    let walk = SCALE * (base + coefficient as i64) + 1 + longest[place];
-                    best = best.max(walk);
-                }
+        for (&variable, row) in order[..count].iter().zip(&weights).rev() {
+            let best = largest_walk(row, &longest);
+            if best > HEAVIEST {
+                return false;
             }
             if best > longest[variable] {
                 longest[variable] = best;
@@ -130,6 +128,34 @@ fn blocks(problem: &Problem, picks: &[u16; ROWS], t: i64) -> bool {
         }
     }
     false
+}
+
+/// The weights of the arcs from each of these variables, scaled; `NO_ARC` where there is none.
+fn weights(problem: &Problem, picks: &[u16; ROWS], order: &[usize], t: i64) -> [[i32; VARIABLES]; VARIABLES] {
+    let mut weights = [[NO_ARC; VARIABLES]; VARIABLES];
+    for (row, &variable) in weights.iter_mut().zip(order) {
+        let number = picks[variable] as usize - 1;
+        let extra = if number + 1 == problem.rows { t as i32 } else { 0 };
+        let base = SCALE * (extra - problem.left[number * VARIABLES + variable]) + 1;
+        let right: &[i32; VARIABLES] = problem.right[number * VARIABLES..].first_chunk().expect("a whole row");
+        for (weight, &coefficient) in row.iter_mut().zip(right) {
+            *weight = if coefficient == BLANK { NO_ARC } else { SCALE * coefficient + base };
+        }
+    }
+    weights
+}
+
+/// The largest of weight + longest walk; `longest` is never below 0, so arcs that are not there lose.
+#[inline(always)]
+fn largest_walk(weights: &[i32; VARIABLES], longest: &[i32; VARIABLES]) -> i32 {
+    let mut lanes = [0; 8];
+    for block in (0..VARIABLES).step_by(8) {
+        for lane in 0..8 {
+            let walk = weights[block + lane] + longest[block + lane];
+            lanes[lane] = if walk > lanes[lane] { walk } else { lanes[lane] };
+        }
+    }
+    lanes.into_iter().max().unwrap_or(0)
 }
 
 /// Every row in use picks a variable that counts, no reached closed walk uses the objective, and each weighs zero or

@@ -6,7 +6,7 @@
 //! What these functions return is proved of the code behind them, which the archive `libcapi.a` holds; this thin layer
 //! and the compiler that builds it are not part of the proofs.
 //!
-//! ```no_run
+//! ```
 //! let problem = [0x0E, 0, 0, 0, 1, 0, 0, 0, 0, 0, 5, 0, 0, 0, 2, 0, 0, 0];
 //! let mut answer = [0; span::ANSWER_SIZE];
 //! let solved = span::solve(&problem, &mut answer).unwrap();

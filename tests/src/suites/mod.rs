@@ -7,6 +7,7 @@ pub mod fields;
 pub mod pipes;
 pub mod small;
 pub mod tables;
+pub mod unproved;
 
 use crate::paper::{self, Outcome, Problem};
 use crate::random::Random;

@@ -2,8 +2,7 @@
 
 use super::examples::{a, all, e};
 use super::{expected_check, outcome_of};
-use crate::generate::{any, changed, Shape};
-use crate::generate;
+use crate::generate::{self, any, changed, Shape};
 use crate::paper::{self, mend_length, Outcome, Problem};
 use crate::programs;
 use crate::random::Random;
@@ -89,6 +88,7 @@ pub fn run(tally: &mut Tally) {
     verdict(tally, &both);
     short_inputs(tally, &mut random, &both);
     long_inputs(tally, &mut random);
+    longest_inputs(tally, &mut random);
 }
 
 /// Every cut of A's bytes, problems of all sizes, answers changed in one place, damage.
@@ -144,6 +144,23 @@ fn long_inputs(tally: &mut Tally, random: &mut Random) {
             }
         }
     }
+}
+
+/// A few inputs of millions of bytes.
+fn longest_inputs(tally: &mut Tally, random: &mut Random) {
+    let size = 3_000_001;
+    let mut input = vec![0; size];
+    random.fill(&mut input);
+    let good = sized(random, 31, 63).bytes();
+    for (field, start) in [(0, &[][..]), (14, &[]), (19_996, &[1, 0, 31, 0, 63, 0]), (size - 4, &[1, 0, 31, 0, 63, 0]), (size - 3, &[])] {
+        input[..4].copy_from_slice(&(field as u32).to_le_bytes());
+        input[4..4 + start.len()].copy_from_slice(start);
+        verdict(tally, &input);
+        span_program(tally, &input);
+    }
+    input[..good.len()].copy_from_slice(&good);
+    verdict(tally, &input);
+    span_program(tally, &input);
 }
 
 /// A good problem, or one with a lead out of range, followed by bytes up to a size: noise, an answer header that is right
