@@ -69,19 +69,25 @@ pub fn print(effort: Effort) {
 
 /// A line a family; the library's times.
 fn solving(effort: Effort, sets: &[(Family, Set)]) -> Vec<f64> {
-    println!("solve                        trials  library  {}  ratio", UNPROVED.map(|(name, _)| name).join("  "));
+    let names = UNPROVED.map(|(name, _)| name).join("  ");
+    println!("solve                        trials  library  {names}  ratio  to halving");
     let mut times = Vec::new();
     for (family, set) in sets {
         let [(_, a), (_, b), (_, c), (_, d)] = UNPROVED;
         let calls = [library_solves(set), solves(set, a), solves(set, b), solves(set, c), solves(set, d)];
         let [time, others @ ..] = microseconds(effort, set.problems.len(), calls);
-        let best = others.iter().copied().fold(f64::INFINITY, f64::min);
+        let fastest = |wanted: &str| {
+            let times = others.iter().zip(UNPROVED).filter(|(_, (name, _))| name.contains(wanted));
+            times.map(|(time, _)| *time).fold(f64::INFINITY, f64::min)
+        };
+        let (ratio, to_halving) = (time / fastest(""), time / fastest("halving"));
         let columns: Vec<String> =
             others.iter().zip(UNPROVED).map(|(time, (name, _))| format!("{time:>width$.1}", width = name.len())).collect();
-        println!("{:<28} {:>6.1} {time:>8.1}  {}  {:>5.2}", family.name(), set.trials, columns.join("  "), time / best);
+        let (name, trials, columns) = (family.name(), set.trials, columns.join("  "));
+        println!("{name:<28} {trials:>6.1} {time:>8.1}  {columns}  {ratio:>5.2} {to_halving:>11.2}");
         times.push(time);
     }
-    println!("ratio: the library's time by that of the fastest unproved engine in the line");
+    println!("ratio: the library's time by that of the fastest unproved engine in the line, and of the faster by halving");
     println!();
     times
 }
