@@ -57,7 +57,9 @@ fn checks(set: &Set, accepts: fn(&[u8], &[u8]) -> bool) -> Call<'_> {
 
 pub fn print(effort: Effort) {
     println!("measured: {}; n = 31, m = 63; seed {SEED}; {} problems a family", span::raw::BEHIND, effort.problems);
-    println!("Microseconds a call, in the best of many rounds, turn about. Buffers were not cleared before a call: each");
+    println!(
+        "Microseconds a call, in the best of many rounds, turn about. Buffers were not cleared before a call: each"
+    );
     println!("engine has one answer buffer of 206 bytes for all its calls, and problems stay in the cache.");
     println!("All engines agreed on class, span and trials, and both checkers accepted every answer.");
     println!();
@@ -81,13 +83,18 @@ fn solving(effort: Effort, sets: &[(Family, Set)]) -> Vec<f64> {
             times.map(|(time, _)| *time).fold(f64::INFINITY, f64::min)
         };
         let (ratio, to_halving) = (time / fastest(""), time / fastest("halving"));
-        let columns: Vec<String> =
-            others.iter().zip(UNPROVED).map(|(time, (name, _))| format!("{time:>width$.1}", width = name.len())).collect();
+        let columns: Vec<String> = others
+            .iter()
+            .zip(UNPROVED)
+            .map(|(time, (name, _))| format!("{time:>width$.1}", width = name.len()))
+            .collect();
         let (name, trials, columns) = (family.name(), set.trials, columns.join("  "));
         println!("{name:<28} {trials:>6.1} {time:>8.1}  {columns}  {ratio:>5.2} {to_halving:>11.2}");
         times.push(time);
     }
-    println!("ratio: the library's time by that of the fastest unproved engine in the line, and of the faster by halving");
+    println!(
+        "ratio: the library's time by that of the fastest unproved engine in the line, and of the faster by halving"
+    );
     println!();
     times
 }

@@ -18,7 +18,10 @@ fn main() {
     let archive = folder.join("libcapi.a");
     println!("cargo:rerun-if-changed={}", archive.display());
     if !archive.exists() {
-        eprintln!("there is no {}: run `rt staticlib capi` first, or build with the feature stand-in", archive.display());
+        eprintln!(
+            "there is no {}: run `rt staticlib capi` first, or build with the feature stand-in",
+            archive.display()
+        );
         std::process::exit(1);
     }
     println!("cargo:rustc-link-search=native={}", folder.display());

@@ -157,10 +157,8 @@ pub fn read_problem(bytes: &[u8]) -> Result<Problem, u64> {
         return Err(6);
     }
     let width = n as usize + 1;
-    let mut rows: Vec<Row> = leads
-        .chunks(2 * width)
-        .map(|row| Row { left: row[..width].to_vec(), right: row[width..].to_vec() })
-        .collect();
+    let mut rows: Vec<Row> =
+        leads.chunks(2 * width).map(|row| Row { left: row[..width].to_vec(), right: row[width..].to_vec() }).collect();
     let question = rows.pop().expect("the question's row");
     Ok(Problem { rules: rows, question })
 }
@@ -232,7 +230,15 @@ pub fn reader(bytes: &[u8], n: u64, m: u64) -> Result<Answer, u64> {
 }
 
 /// The writer: 4, then 7, then 10 to 13; else the record.
-pub fn writer(class: u64, span: Minute, stamps: &[Minute], picks: &[u64], n: u64, m: u64, buffer: usize) -> Result<Vec<u8>, u64> {
+pub fn writer(
+    class: u64,
+    span: Minute,
+    stamps: &[Minute],
+    picks: &[u64],
+    n: u64,
+    m: u64,
+    buffer: usize,
+) -> Result<Vec<u8>, u64> {
     if n > 31 || m > 63 {
         return Err(4);
     }

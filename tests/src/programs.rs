@@ -28,7 +28,12 @@ fn run(mut command: Command, input: &[u8]) -> Result<Vec<u8>, String> {
     let _ = pipe.write_all(input);
     drop(pipe);
     let mut output = Vec::new();
-    child.stdout.take().expect("a pipe from the program").read_to_end(&mut output).map_err(|error| error.to_string())?;
+    child
+        .stdout
+        .take()
+        .expect("a pipe from the program")
+        .read_to_end(&mut output)
+        .map_err(|error| error.to_string())?;
     let status = child.wait().map_err(|error| error.to_string())?;
     if status.success() {
         Ok(output)
@@ -54,7 +59,8 @@ pub fn acted_as_a_program(words: &[String]) -> bool {
     }
     let mut input = Vec::new();
     std::io::stdin().read_to_end(&mut input).expect("standard input");
-    let output = if name == "act-as-span" { unproved::programs::span(&input) } else { unproved::programs::verdict(&input) };
+    let output =
+        if name == "act-as-span" { unproved::programs::span(&input) } else { unproved::programs::verdict(&input) };
     std::io::stdout().write_all(&output).expect("standard output");
     true
 }

@@ -4,12 +4,12 @@
 //! until this is not possible. The trials of document 01 then need no work, as each one's outcome is known, and they
 //! are counted as document 01 counts them.
 
+use crate::dense::Dense;
+use crate::lists::Lists;
 use crate::number::Number;
 use crate::policy::{possible, Picks, Rows, State};
 use crate::record::{self, Answer, Problem, BLANK, BUFFER};
 use crate::saver::{self, Targets};
-use crate::dense::Dense;
-use crate::lists::Lists;
 use crate::{NO_PICK, ROWS, TOP, VARIABLES};
 
 /// How the least span is looked for.

@@ -63,9 +63,10 @@ impl<'a> Rows<'a> for Lists<'a> {
                     finite &= finite - 1;
                     let second = if finite == 0 { first } else { finite.trailing_zeros() };
                     finite &= finite.saturating_sub(1);
-                    entries.push([first, second].map(|variable| {
-                        Entry { variable, coefficient: part[variable as usize % VARIABLES] }
-                    }));
+                    entries.push(
+                        [first, second]
+                            .map(|variable| Entry { variable, coefficient: part[variable as usize % VARIABLES] }),
+                    );
                 }
                 starts[2 * row + side + 1] = entries.len() as u32;
             }

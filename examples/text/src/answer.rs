@@ -52,7 +52,10 @@ pub fn words(problem: &Problem, record: &[u8]) -> Result<String, String> {
     let mut line = |words: String| text += &(words + "\n");
     match class {
         1 => {
-            line(format!("The least span is {}. No plan that keeps the rules has a smaller one.", minutes(four(record, 10))));
+            line(format!(
+                "The least span is {}. No plan that keeps the rules has a smaller one.",
+                minutes(four(record, 10))
+            ));
             line(format!("  span: {}", problem.question.text));
             line("A plan that shows it:".into());
             let width = problem.names.iter().map(|name| name.chars().count()).max().unwrap_or(0);
@@ -62,7 +65,10 @@ pub fn words(problem: &Problem, record: &[u8]) -> Result<String, String> {
         }
         2 => line("Bottomless: whatever span you name, some plan that keeps the rules has a smaller one.".into()),
         _ => {
-            line("None: no plan that keeps the rules has a span. The rules contradict each other, or they leave the".into());
+            line(
+                "None: no plan that keeps the rules has a span. The rules contradict each other, or they leave the"
+                    .into(),
+            );
             line("span's second group blank whatever the plan.".into());
         }
     }

@@ -37,12 +37,11 @@ pub fn all() -> Vec<(&'static str, Problem, Outcome)> {
         problem.rules.push(rule);
         problem
     };
-    let question = |left: &[(usize, i64)], right: &[(usize, i64)]| Problem { rules: vec![], question: row(0, left, right) };
+    let question =
+        |left: &[(usize, i64)], right: &[(usize, i64)]| Problem { rules: vec![], question: row(0, left, right) };
     let f = Problem { question: row(1, &[(A, 0)], &[(1, 0)]), ..e() };
-    let i = Problem {
-        rules: vec![row(2, &[(A, 60)], &[(1, 0), (2, 15)])],
-        question: row(2, &[(1, 0), (2, 0)], &[(A, 0)]),
-    };
+    let i =
+        Problem { rules: vec![row(2, &[(A, 60)], &[(1, 0), (2, 15)])], question: row(2, &[(1, 0), (2, 0)], &[(A, 0)]) };
     let j = Problem { rules: vec![row(2, &[(2, -10)], &[(1, 0)])], question: row(2, &[(1, 0)], &[(2, 0)]) };
     vec![
         ("A", a(), Outcome::Least(3)),
@@ -96,7 +95,8 @@ fn stored(tally: &mut Tally, random: &mut Random) {
     let Ok(files) = std::fs::read_dir(folder) else {
         return tally.fail("the folder examples/problems is not there".into(), &[], &[]);
     };
-    for path in files.flatten().map(|file| file.path()).filter(|path| path.extension().is_some_and(|end| end == "hex")) {
+    for path in files.flatten().map(|file| file.path()).filter(|path| path.extension().is_some_and(|end| end == "hex"))
+    {
         let digits = std::fs::read_to_string(&path).unwrap_or_default();
         let pairs = digits.trim_end().as_bytes().chunks(2);
         let bytes: Option<Vec<u8>> =
@@ -130,19 +130,25 @@ fn m(tally: &mut Tally) {
         (30, [2, 2], Err(14)),
     ] {
         let answer =
-            Answer { class: 1, span: Some(minute), stamps: vec![Some(0), Some(minute)], picks: picks.to_vec() }.bytes(1);
+            Answer { class: 1, span: Some(minute), stamps: vec![Some(0), Some(minute)], picks: picks.to_vec() }
+                .bytes(1);
         tally.same("M and its neighbours", checked(&problem, &answer), expected, &problem, &answer);
         tally.same("M by the second checker", expected_check(&problem, &answer), expected, &problem, &answer);
         tally.count("tables of E");
     }
-    let words = span::check(&problem, &Answer { class: 1, span: Some(31), stamps: vec![Some(0), Some(31)], picks: vec![1, 2] }.bytes(1));
+    let words = span::check(
+        &problem,
+        &Answer { class: 1, span: Some(31), stamps: vec![Some(0), Some(31)], picks: vec![1, 2] }.bytes(1),
+    );
     tally.same("M's verdict", words.map_err(|refusal| refusal.to_string()), Err("not certified".into()), &problem, &[]);
 }
 
 /// Lead 10,080 accepted, 10,081 refused by 6; n 31 accepted, 32 refused by 4; m 63 and 64 likewise.
 fn limits(tally: &mut Tally, random: &mut Random) {
     let mut buffer = [0; 206];
-    for (lead, refusal) in [(10_080, 0), (10_081, 6), (-10_080, 0), (-10_081, 6), (i32::MIN as i64 + 1, 6), (i32::MAX as i64, 6)] {
+    for (lead, refusal) in
+        [(10_080, 0), (10_081, 6), (-10_080, 0), (-10_081, 6), (i32::MIN as i64 + 1, 6), (i32::MAX as i64, 6)]
+    {
         for place in 0..2 {
             let mut question = row(0, &[(A, 1)], &[(A, 1)]);
             if place == 0 {

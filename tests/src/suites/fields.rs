@@ -55,7 +55,17 @@ fn read(tally: &mut Tally, random: &mut Random, record: &[u8], n: u64, m: u64) {
 
 /// The writer on any fields.
 #[allow(clippy::too_many_arguments)]
-fn write(tally: &mut Tally, random: &mut Random, class: u64, span: u64, stamps: &[u64], picks: &[u64], n: u64, m: u64, length: usize) {
+fn write(
+    tally: &mut Tally,
+    random: &mut Random,
+    class: u64,
+    span: u64,
+    stamps: &[u64],
+    picks: &[u64],
+    n: u64,
+    m: u64,
+    length: usize,
+) {
     let mut buffer = vec![0; length];
     random.fill(&mut buffer);
     let noise = buffer.clone();
@@ -113,8 +123,21 @@ pub fn run(tally: &mut Tally) {
 /// Spans and stamps at the edges of their forms, as offset numbers, and numbers that no record holds.
 fn edges() -> Vec<u64> {
     let minutes = [
-        0, 1, -1, 645_119, 645_120, 645_121, -645_120, -645_121, 1_999_999, 2_000_000, 2_000_001, -2_000_000, -2_000_001,
-        OFFSET - 1, 1 - OFFSET,
+        0,
+        1,
+        -1,
+        645_119,
+        645_120,
+        645_121,
+        -645_120,
+        -645_121,
+        1_999_999,
+        2_000_000,
+        2_000_001,
+        -2_000_000,
+        -2_000_001,
+        OFFSET - 1,
+        1 - OFFSET,
     ];
     let mut numbers: Vec<u64> = minutes.iter().map(|&value| offset(Some(value))).collect();
     numbers.extend([0, 1, 1 << 32, (1 << 32) + (1 << 31), (1 << 63) + (1 << 31), u64::MAX]);
@@ -178,7 +201,8 @@ fn random_fields(tally: &mut Tally, random: &mut Random) {
             _ => (random.below(6) as u64, random.below(6) as u64),
         };
         let class = if random.chance(1, 10) { random.below(6) as u64 } else { 1 + random.below(3) as u64 };
-        let (mut stamps, mut picks) = if n < 32 && m < 64 { paper::counts(class, n as usize, m as usize) } else { (1, 1) };
+        let (mut stamps, mut picks) =
+            if n < 32 && m < 64 { paper::counts(class, n as usize, m as usize) } else { (1, 1) };
         if random.chance(1, 10) {
             stamps = random.below(8);
         }

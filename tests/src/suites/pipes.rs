@@ -58,7 +58,13 @@ fn span_program(tally: &mut Tally, input: &[u8]) {
             let mut buffer = [0; 206];
             let outcome = span::solve(input, &mut buffer).map(|solved| outcome_of(solved.outcome));
             let accepted = expected_check(input, &found);
-            tally.same("the span program's answer", accepted, outcome.map_err(|refusal| refusal.number as u64), input, &found);
+            tally.same(
+                "the span program's answer",
+                accepted,
+                outcome.map_err(|refusal| refusal.number as u64),
+                input,
+                &found,
+            );
             tally.count("span answered");
             let mut both = input.to_vec();
             both.extend(&found);
@@ -152,7 +158,9 @@ fn longest_inputs(tally: &mut Tally, random: &mut Random) {
     let mut input = vec![0; size];
     random.fill(&mut input);
     let good = sized(random, 31, 63).bytes();
-    for (field, start) in [(0, &[][..]), (14, &[]), (19_996, &[1, 0, 31, 0, 63, 0]), (size - 4, &[1, 0, 31, 0, 63, 0]), (size - 3, &[])] {
+    for (field, start) in
+        [(0, &[][..]), (14, &[]), (19_996, &[1, 0, 31, 0, 63, 0]), (size - 4, &[1, 0, 31, 0, 63, 0]), (size - 3, &[])]
+    {
         input[..4].copy_from_slice(&(field as u32).to_le_bytes());
         input[4..4 + start.len()].copy_from_slice(start);
         verdict(tally, &input);

@@ -21,7 +21,14 @@ fn every_table(n: usize, m: usize, class: u64, mut visit: impl FnMut(&[u64])) {
 }
 
 /// Whether the checker accepts an answer of this class, with this plan, with some table.
-fn accepted_with_some(tally: &mut Tally, problem: &Problem, bytes: &[u8], class: u64, span: Minute, plan: &[Minute]) -> bool {
+fn accepted_with_some(
+    tally: &mut Tally,
+    problem: &Problem,
+    bytes: &[u8],
+    class: u64,
+    span: Minute,
+    plan: &[Minute],
+) -> bool {
     let mut some = false;
     every_table(problem.n(), problem.m(), class, |picks| {
         let answer = Answer { class, span, stamps: plan.to_vec(), picks: picks.to_vec() };

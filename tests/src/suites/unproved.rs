@@ -71,11 +71,8 @@ pub fn run(tally: &mut Tally) {
     for _ in 0..20_000 {
         let w = 1 + random.below(2) as i64;
         let shape = Shape { n: random.below(3), m: random.below(4), w, filled: [3, 5, 7, 10][random.below(4)] };
-        let problem = if random.chance(1, 2) {
-            generate::kept(&mut random, shape)
-        } else {
-            generate::sparse(&mut random, shape)
-        };
+        let problem =
+            if random.chance(1, 2) { generate::kept(&mut random, shape) } else { generate::sparse(&mut random, shape) };
         let expected = exhaustive::solve(&problem, w);
         judge(tally, &mut random, &problem, Some(expected));
         tally.count("small problems");
