@@ -58,9 +58,9 @@ fn checks(set: &Set, accepts: fn(&[u8], &[u8]) -> bool) -> Call<'_> {
 pub fn print(effort: Effort) {
     println!("measured: {}; n = 31, m = 63; seed {SEED}; {} problems a family", span::raw::BEHIND, effort.problems);
     println!(
-        "Microseconds a call, in the best of many rounds, turn about. Buffers were not cleared before a call: each"
+        "Microseconds: the shortest of many calls, turn about, as a mean over the problems. Buffers were not cleared"
     );
-    println!("engine has one answer buffer of 206 bytes for all its calls, and problems stay in the cache.");
+    println!("before a call: each engine has one answer buffer of 206 bytes for all its calls.");
     println!("All engines agreed on class, span and trials, and both checkers accepted every answer.");
     println!();
     let sets: Vec<(Family, Set)> = FAMILIES.into_iter().map(|family| (family, set(effort, family, 31, 63))).collect();
