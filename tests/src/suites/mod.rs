@@ -50,6 +50,15 @@ pub fn answered(tally: &mut Tally, random: &mut Random, problem: &Problem) -> (O
     let mut buffer = vec![0; 206 + random.below(20)];
     random.fill(&mut buffer);
     let noise = buffer.clone();
+    // The plain boundary first: the wrapper relies on a record being there.
+    let mut plain = noise.clone();
+    if span::raw::solve(&bytes, &mut plain) & 255 == 0 {
+        let size = paper::number(&plain[..4]) as usize + 4;
+        if plain.get(..size).is_none_or(|record| paper::read_answer(record, n, m).is_err()) {
+            tally.fail("the engine answered, and no record of the right form is there".into(), &bytes, &plain);
+            return (Outcome::None, Vec::new());
+        }
+    }
     let solved = match span::solve(&bytes, &mut buffer) {
         Ok(solved) => solved,
         Err(refusal) => {
@@ -63,6 +72,7 @@ pub fn answered(tally: &mut Tally, random: &mut Random, problem: &Problem) -> (O
         return (outcome, Vec::new());
     }
     let record = buffer[..solved.size].to_vec();
+    tally.same("the same call again", &buffer, &plain, &bytes, &record);
     tally.same("bytes after the record", &buffer[solved.size..], &noise[solved.size..], &bytes, &record);
     tally.same("trials", solved.trials as u64, paper::trials_for(outcome), &bytes, &record);
     match paper::read_answer(&record, n, m) {
