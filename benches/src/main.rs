@@ -1,0 +1,27 @@
+//! Times of `solve` and `check` against an engine and a checker without proofs, in one run.
+//!
+//!     cargo run --release --offline --manifest-path benches/Cargo.toml
+//!     … -- --short            a short run that judges no times
+//!     … -- --worst SECONDS    looks for the problem that takes `solve` longest, by hill climbing
+
+mod agree;
+mod engines;
+mod families;
+mod random;
+mod table;
+mod timing;
+mod worst;
+
+fn main() {
+    let words: Vec<String> = std::env::args().skip(1).collect();
+    let words: Vec<&str> = words.iter().map(String::as_str).collect();
+    match words[..] {
+        [] => table::print(timing::Effort::full()),
+        ["--short"] => table::print(timing::Effort::short()),
+        ["--worst", seconds] if seconds.parse::<f64>().is_ok() => worst::search(seconds.parse().unwrap_or(1.0)),
+        _ => {
+            eprintln!("words: none, --short, or --worst SECONDS");
+            std::process::exit(2);
+        }
+    }
+}

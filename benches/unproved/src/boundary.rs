@@ -1,0 +1,87 @@
+//! The four functions of `capi/span.h` over slices, answered by the unproved engine and checker. They stand in for the
+//! archive in the outside tests.
+
+use crate::checker;
+use crate::engine::{solve_with, Search};
+use crate::record::{self, Answer, BLANK, BUFFER};
+use crate::{ROWS, VARIABLES};
+
+const OFFSET: i64 = 1 << 31;
+
+/// The result for a class and a span of a record.
+fn class_and_span(class: u16, span: i32) -> u64 {
+    256 * class as u64 + ((span as i64 + OFFSET) as u64) * (1 << 32)
+}
+
+/// 256 × trials + refusal.
+pub fn solve(problem: &[u8], answer: &mut [u8]) -> u64 {
+    match solve_with(Search::Newton, problem, answer) {
+        Ok(answered) => 256 * answered.trials as u64,
+        Err(number) => number as u64,
+    }
+}
+
+/// The refusal, or 256 × class + 2³² × the span's offset number.
+pub fn check(problem: &[u8], answer: &[u8]) -> u64 {
+    match checker::check(problem, answer) {
+        Ok(accepted) => class_and_span(accepted.class, accepted.span),
+        Err(number) => number as u64,
+    }
+}
+
+/// The refusal, or 256 × class + 2³² × the span's offset number, with stamps and picks in the first places.
+pub fn read(bytes: &[u8], n: u64, m: u64, stamps: &mut [u64; VARIABLES], picks: &mut [u64; ROWS]) -> u64 {
+    if n >= VARIABLES as u64 || m >= ROWS as u64 {
+        return 4;
+    }
+    let (variables, rows) = (n as usize + 1, m as usize + 1);
+    match record::answer(bytes, variables, rows) {
+        Err(number) => number as u64,
+        Ok(answer) => {
+            let (first, second) = record::counts(answer.class, variables, rows);
+            for place in 0..first {
+                stamps[place] = (answer.stamps[place] as i64 + OFFSET) as u64;
+            }
+            for place in 0..second {
+                picks[place] = answer.picks[place] as u64;
+            }
+            class_and_span(answer.class, answer.span)
+        }
+    }
+}
+
+/// The refusal, or 256 × the record's size.
+pub fn write(class: u64, span: u64, stamps: &[u64], picks: &[u64], n: u64, m: u64, buffer: &mut [u8]) -> u64 {
+    if n >= VARIABLES as u64 || m >= ROWS as u64 {
+        return 4;
+    }
+    if buffer.len() < BUFFER {
+        return 7;
+    }
+    if !(1..=3).contains(&class) {
+        return 10;
+    }
+    let (class, variables, rows) = (class as u16, n as usize + 1, m as usize + 1);
+    if (stamps.len(), picks.len()) != record::counts(class, variables, rows) {
+        return 11;
+    }
+    let minute = |offset: u64| i64::try_from(offset).map_or(i64::MAX, |number| number - OFFSET);
+    let mut answer = Answer { class, span: BLANK, stamps: [BLANK; VARIABLES], picks: [0; ROWS] };
+    if !record::span_in_form(class, minute(span)) {
+        return 12;
+    }
+    answer.span = minute(span) as i32;
+    for (place, &stamp) in stamps.iter().enumerate() {
+        if !record::stamp_in_form(place, minute(stamp)) {
+            return 12;
+        }
+        answer.stamps[place] = minute(stamp) as i32;
+    }
+    for (place, &pick) in picks.iter().enumerate() {
+        if pick > record::highest(class, variables, rows) as u64 {
+            return 13;
+        }
+        answer.picks[place] = pick as u16;
+    }
+    256 * record::put(&answer, variables, rows, buffer) as u64
+}

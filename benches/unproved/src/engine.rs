@@ -1,0 +1,243 @@
+//! The engine: class, least span, and the answer record, by halving or by Newton's method.
+//!
+//! Newton's method goes from a point to the least trial that its row strategy makes possible, and tries one below that,
+//! until this is not possible. The trials of document 01 then need no work, as each one's outcome is known, and they
+//! are counted as document 01 counts them.
+
+use crate::dense::Dense;
+use crate::lists::Lists;
+use crate::number::Number;
+use crate::policy::{possible, Picks, Rows, State};
+use crate::record::{self, Answer, Problem, BLANK, BUFFER};
+use crate::saver::{self, Targets};
+use crate::{NO_PICK, ROWS, TOP, VARIABLES};
+
+/// How the least span is looked for.
+#[derive(Clone, Copy, Debug, PartialEq, Eq)]
+pub enum Search {
+    Halving,
+    Newton,
+}
+
+/// What was written.
+#[derive(Clone, Copy, Debug, PartialEq, Eq)]
+pub struct Answered {
+    pub class: u16,
+    pub span: i32,
+    pub trials: u32,
+    pub size: usize,
+}
+
+/// What a search ends with.
+enum Found {
+    Least { span: i32, stamps: [i32; VARIABLES], picks: Picks, trials: u32 },
+    Bottomless { targets: Targets },
+    None { picks: Picks },
+}
+
+/// Answers a problem with rows kept in one way and one search; refusals 1 to 7.
+pub fn solve_by<K: Kind>(search: Search, problem: &[u8], buffer: &mut [u8]) -> Result<Answered, u8> {
+    let mut table = Problem::new();
+    record::read(problem, &mut table)?;
+    if buffer.len() < BUFFER {
+        return Err(7);
+    }
+    Ok(K::solve(search, &table, buffer))
+}
+
+/// A way to keep rows, by name.
+pub trait Kind {
+    fn solve(search: Search, problem: &Problem, buffer: &mut [u8]) -> Answered;
+}
+
+/// Rows as lists of their finite coefficients.
+pub struct InLists;
+/// Dense rows.
+pub struct InFull;
+
+impl Kind for InLists {
+    fn solve(search: Search, problem: &Problem, buffer: &mut [u8]) -> Answered {
+        solve_table::<Lists>(search, problem, buffer)
+    }
+}
+
+impl Kind for InFull {
+    fn solve(search: Search, problem: &Problem, buffer: &mut [u8]) -> Answered {
+        solve_table::<Dense>(search, problem, buffer)
+    }
+}
+
+/// Answers a problem: lists where few coefficients are finite, dense rows else.
+pub fn solve_with(search: Search, problem: &[u8], buffer: &mut [u8]) -> Result<Answered, u8> {
+    let mut table = Problem::new();
+    record::read(problem, &mut table)?;
+    if buffer.len() < BUFFER {
+        return Err(7);
+    }
+    let finite = |table: &[i32]| table.iter().filter(|&&coefficient| coefficient != BLANK).count();
+    let all = finite(&table.left) + finite(&table.right);
+    if 4 * all < table.rows * table.variables {
+        Ok(InLists::solve(search, &table, buffer))
+    } else {
+        Ok(InFull::solve(search, &table, buffer))
+    }
+}
+
+fn solve_table<'a, R: Rows<'a>>(search: Search, problem: &'a Problem, buffer: &mut [u8]) -> Answered {
+    let mut table = R::of(problem);
+    let found = match search {
+        Search::Halving => by_halving(&mut table),
+        Search::Newton => by_newton(&mut table),
+    };
+    write(problem, found, buffer)
+}
+
+/// A point from the values of a possible trial: moved so that variable 0 is at 0.
+fn moved<V: Number>(values: &[V; VARIABLES]) -> [i32; VARIABLES] {
+    let mut stamps = [BLANK; VARIABLES];
+    for (stamp, value) in stamps.iter_mut().zip(values) {
+        if !value.is_bot() {
+            *stamp = value.whole() - values[0].whole();
+        }
+    }
+    stamps
+}
+
+fn by_halving<'a, R: Rows<'a>>(table: &mut R) -> Found {
+    let mut state = State::new();
+    table.raise(TOP);
+    if !possible(table, &mut state) {
+        return Found::None { picks: state.picks };
+    }
+    let objective = table.rows() - 1;
+    let mut point = state.clone();
+    let mut picks;
+    table.raise(-TOP - 1);
+    if possible(table, &mut state) {
+        let mut targets = [NO_PICK; ROWS];
+        table.attain(&state.values, &mut targets);
+        return Found::Bottomless { targets };
+    }
+    picks = state.picks;
+    let (mut low, mut high, mut trials) = (-TOP - 1, TOP, 2);
+    let mut known = own_span(table, objective, &point.values, -TOP - 1);
+    while high - low > 1 {
+        let middle = (high + low + 1) >> 1;
+        trials += 1;
+        if middle >= known {
+            high = middle;
+            continue;
+        }
+        table.raise(middle);
+        state = point.clone();
+        if possible(table, &mut state) {
+            high = middle;
+            point = state.clone();
+            known = own_span(table, objective, &point.values, middle);
+        } else {
+            low = middle;
+            picks = state.picks;
+        }
+    }
+    Found::Least { span: high, stamps: moved(&point.values), picks, trials }
+}
+
+/// The objective value of a point, the objective being raised by t; far below where it is minus infinity.
+fn own_span<'a, R: Rows<'a>>(table: &R, objective: usize, values: &[R::Value; VARIABLES], t: i32) -> i32 {
+    let mut negated = [R::Value::TOP; VARIABLES];
+    for (distance, value) in negated.iter_mut().zip(values) {
+        if !value.is_bot() {
+            *distance = R::Value::ZERO.minus(*value);
+        }
+    }
+    let first = table.farthest(objective, &negated);
+    let second = table.right_side(objective, values);
+    if first.is_bot() {
+        return -TOP - 1;
+    }
+    first.minus(second).whole() + t
+}
+
+fn by_newton<'a, R: Rows<'a>>(table: &mut R) -> Found {
+    let mut state = State::new();
+    table.raise(TOP);
+    if !possible(table, &mut state) {
+        return Found::None { picks: state.picks };
+    }
+    let mut targets = [NO_PICK; ROWS];
+    loop {
+        table.attain(&state.values, &mut targets);
+        table.raise(0);
+        let Some(span) = saver::least(table, &targets) else {
+            return Found::Bottomless { targets };
+        };
+        table.raise(span - 1);
+        if !possible(table, &mut state) {
+            table.raise(span);
+            let stamps = saver::point(table, &targets);
+            return Found::Least { span, stamps, picks: state.picks, trials: trials(span) };
+        }
+    }
+}
+
+/// The trials that document 01's halving makes where the least span is `span`.
+fn trials(span: i32) -> u32 {
+    let (mut low, mut high, mut trials) = (-TOP - 1, TOP, 2);
+    while high - low > 1 {
+        let middle = (high + low + 1) >> 1;
+        trials += 1;
+        if middle >= span {
+            high = middle;
+        } else {
+            low = middle;
+        }
+    }
+    trials
+}
+
+/// The picks of reached variables as a record has them, and 0 for the others.
+fn played(problem: &Problem, picks: &Picks) -> [u16; ROWS] {
+    let mut out = [0; ROWS];
+    let mut waiting = 1u32;
+    let mut reached = 1u32;
+    while waiting != 0 {
+        let variable = waiting.trailing_zeros() as usize;
+        waiting &= waiting - 1;
+        let row = picks[variable] as usize;
+        out[variable] = row as u16 + 1;
+        for place in 0..problem.variables {
+            let bit = 1u32 << place;
+            if problem.right[row * VARIABLES + place] != BLANK && reached & bit == 0 {
+                reached |= bit;
+                waiting |= bit;
+            }
+        }
+    }
+    out
+}
+
+fn write(problem: &Problem, found: Found, buffer: &mut [u8]) -> Answered {
+    let (variables, rows) = (problem.variables, problem.rows);
+    let mut answer = Answer { class: 3, span: BLANK, stamps: [BLANK; VARIABLES], picks: [0; ROWS] };
+    let mut made = 1;
+    match found {
+        Found::None { picks } => answer.picks = played(problem, &picks),
+        Found::Bottomless { targets } => {
+            made = 2;
+            answer.class = 2;
+            let used = saver::in_use(&Lists::of(problem), &targets);
+            for row in 0..rows {
+                answer.picks[row] = if used[row] == NO_PICK { 0 } else { used[row] as u16 + 1 };
+            }
+        }
+        Found::Least { span, stamps, picks, trials } => {
+            made = trials;
+            answer.class = 1;
+            answer.span = span;
+            answer.stamps = stamps;
+            answer.picks = played(problem, &picks);
+        }
+    }
+    let size = record::put(&answer, variables, rows, buffer);
+    Answered { class: answer.class, span: answer.span, trials: made, size }
+}

@@ -1,0 +1,31 @@
+//! What the span and the verdict program write for an input, without proofs.
+
+use crate::checker;
+use crate::engine::{solve_with, Search};
+use crate::record::BUFFER;
+
+/// The answer record, or a line with the refusal.
+pub fn span(input: &[u8]) -> Vec<u8> {
+    let mut buffer = [0; BUFFER];
+    match solve_with(Search::Newton, input, &mut buffer) {
+        Ok(answered) => buffer[..answered.size].to_vec(),
+        Err(number) => format!("refused {number}\n").into_bytes(),
+    }
+}
+
+/// One line: the checker's verdict on a problem followed by an answer.
+pub fn verdict(input: &[u8]) -> Vec<u8> {
+    let size = match input.first_chunk::<4>() {
+        Some(field) => u32::from_le_bytes(*field) as usize + 4,
+        None => usize::MAX,
+    };
+    let (problem, answer) = if size <= input.len() { input.split_at(size) } else { (input, &[][..]) };
+    let line = match checker::check(problem, answer) {
+        Ok(accepted) if accepted.class == 1 => format!("accepted least {}", accepted.span),
+        Ok(accepted) if accepted.class == 2 => "accepted bottomless".into(),
+        Ok(_) => "accepted none".into(),
+        Err(14) => "not certified".into(),
+        Err(number) => format!("refused {number}"),
+    };
+    (line + "\n").into_bytes()
+}

@@ -1,0 +1,194 @@
+//! Records as bytes: reading a problem, reading and writing an answer, and the refusals of each.
+
+use crate::{LARGEST, ROWS, TOP, VARIABLES};
+
+/// Blank as it stands in a record.
+pub const BLANK: i32 = i32::MIN;
+/// The size that every answer buffer must have.
+pub const BUFFER: usize = 206;
+/// The largest size of a stamp.
+const STAMP: i32 = 2_000_000;
+
+/// A problem's coefficients: row i's left ones from `i * VARIABLES` on, so that every row starts at a fixed place.
+/// Places beyond the problem's own hold blank.
+pub struct Problem {
+    pub variables: usize,
+    pub rows: usize,
+    pub left: [i32; ROWS * VARIABLES],
+    pub right: [i32; ROWS * VARIABLES],
+}
+
+fn two(bytes: &[u8], at: usize) -> usize {
+    u16::from_le_bytes([bytes[at], bytes[at + 1]]) as usize
+}
+
+fn four(bytes: &[u8], at: usize) -> i32 {
+    i32::from_le_bytes([bytes[at], bytes[at + 1], bytes[at + 2], bytes[at + 3]])
+}
+
+/// Refusals 1 to 5, which the header decides; else n + 1 and m + 1.
+fn header(bytes: &[u8]) -> Result<(usize, usize), u8> {
+    if bytes.len() < 10 {
+        return Err(1);
+    }
+    if four(bytes, 0) as u32 as usize != bytes.len() - 4 {
+        return Err(2);
+    }
+    if two(bytes, 4) != 1 {
+        return Err(3);
+    }
+    let (n, m) = (two(bytes, 6), two(bytes, 8));
+    if n >= VARIABLES || m >= ROWS {
+        return Err(4);
+    }
+    if bytes.len() != 10 + 8 * (n + 1) * (m + 1) {
+        return Err(5);
+    }
+    Ok((n + 1, m + 1))
+}
+
+/// Copies coefficients from bytes; true where all are within the limits.
+fn copy(bytes: &[u8], coefficients: &mut [i32]) -> bool {
+    let mut outside = 0u32;
+    for (coefficient, four) in coefficients.iter_mut().zip(bytes.chunks_exact(4)) {
+        let value = i32::from_le_bytes([four[0], four[1], four[2], four[3]]);
+        let far = (value > LARGEST) as u32 | (value < -LARGEST) as u32;
+        outside |= far & (value != BLANK) as u32;
+        *coefficient = value;
+    }
+    outside == 0
+}
+
+impl Problem {
+    /// Room for a problem, all of it blank.
+    pub fn new() -> Problem {
+        Problem { variables: 0, rows: 0, left: [BLANK; ROWS * VARIABLES], right: [BLANK; ROWS * VARIABLES] }
+    }
+}
+
+impl Default for Problem {
+    fn default() -> Problem {
+        Problem::new()
+    }
+}
+
+/// Reads a problem into room that is blank; refusals 1 to 6.
+pub fn read(bytes: &[u8], problem: &mut Problem) -> Result<(), u8> {
+    let (variables, rows) = header(bytes)?;
+    problem.variables = variables;
+    problem.rows = rows;
+    let size = 4 * variables;
+    let mut good = true;
+    for (row, part) in bytes[10..].chunks_exact(2 * size).enumerate() {
+        let at = row * VARIABLES;
+        good &= copy(&part[..size], &mut problem.left[at..at + variables]);
+        good &= copy(&part[size..], &mut problem.right[at..at + variables]);
+    }
+    if good {
+        Ok(())
+    } else {
+        Err(6)
+    }
+}
+
+/// The fields of an answer of class 1 to 3. Only the first places are used: as many as the class has.
+pub struct Answer {
+    pub class: u16,
+    pub span: i32,
+    pub stamps: [i32; VARIABLES],
+    pub picks: [u16; ROWS],
+}
+
+/// How many stamps and picks an answer of a class has.
+pub fn counts(class: u16, variables: usize, rows: usize) -> (usize, usize) {
+    match class {
+        1 => (variables, variables),
+        2 => (0, rows),
+        _ => (0, variables),
+    }
+}
+
+/// The highest pick of a class.
+pub fn highest(class: u16, variables: usize, rows: usize) -> usize {
+    if class == 2 {
+        variables
+    } else {
+        rows
+    }
+}
+
+/// Whether a span has the form of its class.
+pub fn span_in_form(class: u16, span: i64) -> bool {
+    if class == 1 {
+        -(TOP as i64) <= span && span <= TOP as i64
+    } else {
+        span == BLANK as i64
+    }
+}
+
+/// Whether stamp number `place` has its form.
+pub fn stamp_in_form(place: usize, stamp: i64) -> bool {
+    if place == 0 {
+        stamp == 0
+    } else {
+        stamp == BLANK as i64 || (-(STAMP as i64) <= stamp && stamp <= STAMP as i64)
+    }
+}
+
+/// Reads an answer; refusals 8 to 13.
+pub fn answer(bytes: &[u8], variables: usize, rows: usize) -> Result<Answer, u8> {
+    if bytes.len() < 14 {
+        return Err(8);
+    }
+    if four(bytes, 0) as u32 as usize != bytes.len() - 4 {
+        return Err(9);
+    }
+    let class = two(bytes, 8) as u16;
+    if two(bytes, 4) != 2 || !(1..=3).contains(&class) {
+        return Err(10);
+    }
+    let (stamps, picks) = counts(class, variables, rows);
+    if two(bytes, 6) + 1 != variables || bytes.len() != 14 + 4 * stamps + 2 * picks {
+        return Err(11);
+    }
+    let mut answer = Answer { class, span: four(bytes, 10), stamps: [BLANK; VARIABLES], picks: [0; ROWS] };
+    if !span_in_form(class, answer.span as i64) {
+        return Err(12);
+    }
+    for place in 0..stamps {
+        let stamp = four(bytes, 14 + 4 * place);
+        if !stamp_in_form(place, stamp as i64) {
+            return Err(12);
+        }
+        answer.stamps[place] = stamp;
+    }
+    let limit = highest(class, variables, rows);
+    for place in 0..picks {
+        let pick = two(bytes, 14 + 4 * stamps + 2 * place);
+        if pick > limit {
+            return Err(13);
+        }
+        answer.picks[place] = pick as u16;
+    }
+    Ok(answer)
+}
+
+/// Writes an answer whose form is right at the start of a buffer that is long enough; its size.
+pub fn put(answer: &Answer, variables: usize, rows: usize, buffer: &mut [u8]) -> usize {
+    let (stamps, picks) = counts(answer.class, variables, rows);
+    let size = 14 + 4 * stamps + 2 * picks;
+    let record = &mut buffer[..size];
+    record[..4].copy_from_slice(&(size as u32 - 4).to_le_bytes());
+    record[4..6].copy_from_slice(&2u16.to_le_bytes());
+    record[6..8].copy_from_slice(&(variables as u16 - 1).to_le_bytes());
+    record[8..10].copy_from_slice(&answer.class.to_le_bytes());
+    record[10..14].copy_from_slice(&answer.span.to_le_bytes());
+    let (first, second) = record[14..].split_at_mut(4 * stamps);
+    for (bytes, stamp) in first.chunks_exact_mut(4).zip(&answer.stamps) {
+        bytes.copy_from_slice(&stamp.to_le_bytes());
+    }
+    for (bytes, pick) in second.chunks_exact_mut(2).zip(&answer.picks) {
+        bytes.copy_from_slice(&pick.to_le_bytes());
+    }
+    size
+}

@@ -1,0 +1,101 @@
+//! The four functions of `capi/span.h` over slices, with their results as the header describes them.
+//!
+//! This is the only file with `unsafe`. The archive's functions take every string of bytes and every number; what
+//! they ask is that buffers do not overlap, which Rust's borrows ensure here, and room for 32 stamps and 64 picks,
+//! which the types of [`read`] ensure.
+
+/// Places that the reader is lent for stamps.
+pub const STAMPS: usize = 32;
+/// Places that the reader is lent for picks.
+pub const PICKS: usize = 64;
+
+#[cfg(not(feature = "stand-in"))]
+mod archive {
+    extern "C" {
+        pub fn span_solve(problem: *const u8, problem_size: usize, answer: *mut u8, answer_size: usize) -> u64;
+        pub fn span_check(problem: *const u8, problem_size: usize, answer: *const u8, answer_size: usize) -> u64;
+        pub fn span_read(
+            record: *const u8,
+            record_size: usize,
+            n: u64,
+            m: u64,
+            stamps: *mut u64,
+            stamps_count: usize,
+            picks: *mut u64,
+            picks_count: usize,
+        ) -> u64;
+        pub fn span_write(
+            class: u64,
+            span: u64,
+            stamps: *const u64,
+            stamps_count: usize,
+            picks: *const u64,
+            picks_count: usize,
+            n: u64,
+            m: u64,
+            buffer: *mut u8,
+            buffer_size: usize,
+        ) -> u64;
+    }
+}
+
+/// What stands behind this package: the proved archive, or the unproved engine in its place.
+#[cfg(not(feature = "stand-in"))]
+pub const BEHIND: &str = "the proved archive";
+#[cfg(feature = "stand-in")]
+pub const BEHIND: &str = "the unproved stand-in";
+
+/// Answers a problem: 256 × trials + refusal.
+#[cfg(not(feature = "stand-in"))]
+pub fn solve(problem: &[u8], answer: &mut [u8]) -> u64 {
+    // SAFETY: both parts are valid for their lengths, and a `&mut` overlaps nothing.
+    unsafe { archive::span_solve(problem.as_ptr(), problem.len(), answer.as_mut_ptr(), answer.len()) }
+}
+
+/// Judges an answer: the refusal, or 256 × class + 2³² × the span's offset number.
+#[cfg(not(feature = "stand-in"))]
+pub fn check(problem: &[u8], answer: &[u8]) -> u64 {
+    // SAFETY: both parts are valid for their lengths and are only read.
+    unsafe { archive::span_check(problem.as_ptr(), problem.len(), answer.as_ptr(), answer.len()) }
+}
+
+/// Reads an answer record: the refusal, or 256 × class + 2³² × the span's offset number.
+#[cfg(not(feature = "stand-in"))]
+pub fn read(record: &[u8], n: u64, m: u64, stamps: &mut [u64; STAMPS], picks: &mut [u64; PICKS]) -> u64 {
+    // SAFETY: all parts are valid for their lengths, and each `&mut` overlaps nothing.
+    unsafe {
+        archive::span_read(
+            record.as_ptr(),
+            record.len(),
+            n,
+            m,
+            stamps.as_mut_ptr(),
+            stamps.len(),
+            picks.as_mut_ptr(),
+            picks.len(),
+        )
+    }
+}
+
+/// Writes an answer record: the refusal, or 256 × the record's size.
+#[cfg(not(feature = "stand-in"))]
+pub fn write(class: u64, span: u64, stamps: &[u64], picks: &[u64], n: u64, m: u64, buffer: &mut [u8]) -> u64 {
+    // SAFETY: all parts are valid for their lengths, and the `&mut` overlaps nothing.
+    unsafe {
+        archive::span_write(
+            class,
+            span,
+            stamps.as_ptr(),
+            stamps.len(),
+            picks.as_ptr(),
+            picks.len(),
+            n,
+            m,
+            buffer.as_mut_ptr(),
+            buffer.len(),
+        )
+    }
+}
+
+#[cfg(feature = "stand-in")]
+pub use unproved::boundary::{check, read, solve, write};

@@ -1,0 +1,198 @@
+//! The words of document 01 as types.
+
+use std::fmt;
+
+/// The class of an answer.
+#[derive(Clone, Copy, Debug, PartialEq, Eq)]
+pub enum Class {
+    /// Class 1: some plan that keeps the rules has this whole span, and none has a smaller one.
+    Least,
+    /// Class 2: for every whole number some plan that keeps the rules has a span at or under it.
+    Bottomless,
+    /// Class 3: no plan that keeps the rules has a span below plus infinity.
+    None,
+}
+
+impl Class {
+    /// The class's number in a record.
+    pub fn number(self) -> u64 {
+        match self {
+            Class::Least => 1,
+            Class::Bottomless => 2,
+            Class::None => 3,
+        }
+    }
+
+    /// The class of a number that the library returned, which is 1 to 3.
+    pub(crate) fn of(number: u64) -> Class {
+        match number {
+            1 => Class::Least,
+            2 => Class::Bottomless,
+            3 => Class::None,
+            other => unreachable!("the library gave class {other}"),
+        }
+    }
+}
+
+/// A class, with the span for least.
+#[derive(Clone, Copy, Debug, PartialEq, Eq)]
+pub enum Outcome {
+    /// The least span, in minutes.
+    Least(i32),
+    /// Spans have no lower end.
+    Bottomless,
+    /// No plan has a span.
+    None,
+}
+
+impl Outcome {
+    /// The outcome's class.
+    pub fn class(self) -> Class {
+        match self {
+            Outcome::Least(_) => Class::Least,
+            Outcome::Bottomless => Class::Bottomless,
+            Outcome::None => Class::None,
+        }
+    }
+}
+
+impl fmt::Display for Outcome {
+    fn fmt(&self, out: &mut fmt::Formatter) -> fmt::Result {
+        match self {
+            Outcome::Least(span) => write!(out, "least {span}"),
+            Outcome::Bottomless => write!(out, "bottomless"),
+            Outcome::None => write!(out, "none"),
+        }
+    }
+}
+
+/// What the engine found.
+#[derive(Clone, Copy, Debug, PartialEq, Eq)]
+pub struct Solved {
+    /// The class, and the span for least.
+    pub outcome: Outcome,
+    /// The trials made: 1 for none, 2 for bottomless, else 2 plus the halvings, never above 23.
+    pub trials: u32,
+    /// The size of the record written, at most 206.
+    pub size: usize,
+}
+
+impl fmt::Display for Solved {
+    fn fmt(&self, out: &mut fmt::Formatter) -> fmt::Result {
+        self.outcome.fmt(out)
+    }
+}
+
+/// An answer that the checker accepted.
+#[derive(Clone, Copy, Debug, PartialEq, Eq)]
+pub struct Certified {
+    /// The class, and the span for least.
+    pub outcome: Outcome,
+}
+
+impl fmt::Display for Certified {
+    fn fmt(&self, out: &mut fmt::Formatter) -> fmt::Result {
+        write!(out, "accepted {}", self.outcome)
+    }
+}
+
+/// A refusal of document 01, "What is turned away".
+#[derive(Clone, Copy, Debug, PartialEq, Eq)]
+pub struct Refusal {
+    /// Its number, 1 to 14.
+    pub number: u8,
+}
+
+impl Refusal {
+    /// The refusal's sentence in document 01.
+    pub fn reason(self) -> &'static str {
+        match self.number {
+            1 => "The problem has fewer than 10 bytes.",
+            2 => "Its length field is not its size − 4.",
+            3 => "Its kind is not 1.",
+            4 => "n is above 31 or m above 63.",
+            5 => "Its size does not fit n and m.",
+            6 => "A lead is neither blank nor within ±10,080.",
+            7 => "The answer buffer is shorter than 206 bytes, whichever class is due.",
+            8 => "The answer has fewer than 14 bytes.",
+            9 => "Its length field is not its size − 4.",
+            10 => "Its kind is not 2 or its class not 1 to 3.",
+            11 => "Its n is not the problem's, or its size does not fit its class.",
+            12 => "Its span or a stamp is outside the form of its class.",
+            13 => "A pick is above its highest value.",
+            14 => "The form is right and the answer is not accepted: not certified.",
+            _ => "No refusal of document 01.",
+        }
+    }
+}
+
+impl fmt::Display for Refusal {
+    fn fmt(&self, out: &mut fmt::Formatter) -> fmt::Result {
+        match self.number {
+            14 => write!(out, "not certified"),
+            number => write!(out, "refused {number}"),
+        }
+    }
+}
+
+impl std::error::Error for Refusal {}
+
+/// The fields of an answer record.
+#[derive(Clone, Debug, PartialEq, Eq)]
+pub enum Answer {
+    /// Class 1: a span, a plan of n + 1 stamps (`None` is blank, the anchor's is 0), and a pick for each moment.
+    Least {
+        /// The span field, within ±645,120.
+        span: i32,
+        /// One stamp a moment, blank or within ±2,000,000.
+        stamps: Vec<Option<i32>>,
+        /// One pick a moment: 0, a rule number, or m + 1 for the question.
+        picks: Vec<u16>,
+    },
+    /// Class 2: a pick for each of the m + 1 rows.
+    Bottomless {
+        /// One pick a row: 0, or 1 + a moment's number.
+        picks: Vec<u16>,
+    },
+    /// Class 3: a pick for each moment.
+    None {
+        /// One pick a moment: 0, a rule number, or m + 1 for the question.
+        picks: Vec<u16>,
+    },
+}
+
+impl Answer {
+    /// The answer's class.
+    pub fn class(&self) -> Class {
+        match self {
+            Answer::Least { .. } => Class::Least,
+            Answer::Bottomless { .. } => Class::Bottomless,
+            Answer::None { .. } => Class::None,
+        }
+    }
+
+    /// The stamps: none in classes 2 and 3.
+    pub fn stamps(&self) -> &[Option<i32>] {
+        match self {
+            Answer::Least { stamps, .. } => stamps,
+            _ => &[],
+        }
+    }
+
+    /// The pick table.
+    pub fn picks(&self) -> &[u16] {
+        match self {
+            Answer::Least { picks, .. } | Answer::Bottomless { picks } | Answer::None { picks } => picks,
+        }
+    }
+}
+
+impl fmt::Display for Answer {
+    fn fmt(&self, out: &mut fmt::Formatter) -> fmt::Result {
+        match self {
+            Answer::Least { span, .. } => write!(out, "least {span}"),
+            Answer::Bottomless { .. } => write!(out, "bottomless"),
+            Answer::None { .. } => write!(out, "none"),
+        }
+    }
+}

@@ -1,0 +1,78 @@
+/* The span engine, release 4.2: its boundary to C.
+ *
+ * Link with target/staticlib/libcapi.a, which `rt staticlib capi` writes (x86-64, Linux).
+ *
+ * The words are those of document 01. Records are bytes, little-endian. A function is handed a pointer and then a
+ * number of bytes or places; a pointer must not be null, also where that number is 0. It reads and writes only there.
+ * Every string of bytes is taken; no function relies on the caller having looked at it beforehand.
+ *
+ * BUFFERS MUST NOT OVERLAP: what a function writes must share no byte with what it reads.
+ *
+ * Nothing is kept between calls. Calls from several threads are fine, each with buffers of its own.
+ *
+ * An offset number stands for a stamp or a span: 0 is blank, and v + 2147483648 is the minute v.
+ *
+ * Refusals: 1 the problem has fewer than 10 bytes; 2 its length field is not its size - 4; 3 its kind is not 1; 4 n is
+ * above 31 or m above 63; 5 its size does not fit n and m; 6 a lead is neither blank nor within 10,080 of 0; 7 the
+ * answer buffer is shorter than 206 bytes; 8 the answer has fewer than 14 bytes; 9 its length field is not its
+ * size - 4; 10 its kind is not 2 or its class not 1 to 3; 11 its n is not the problem's, or its size does not fit its
+ * class; 12 its span or a stamp is outside the form of its class; 13 a pick is above its highest value; 14 not
+ * certified. The first that applies is returned, and a refusal writes nothing.
+ */
+#ifndef SPAN_H
+#define SPAN_H
+
+#include <stddef.h>
+#include <stdint.h>
+
+#ifdef __cplusplus
+extern "C" {
+#endif
+
+#define SPAN_ANSWER_SIZE 206      /* an answer buffer of this many bytes is long enough for every answer */
+#define SPAN_PROBLEM_SIZE 16394   /* the longest problem */
+#define SPAN_STAMPS 32            /* places to lend to span_read for stamps */
+#define SPAN_PICKS 64             /* places to lend to span_read for picks */
+
+#define SPAN_LEAST 1
+#define SPAN_BOTTOMLESS 2
+#define SPAN_NONE 3
+#define SPAN_NOT_CERTIFIED 14
+
+/* Answers a problem: writes the answer record at the start of `answer`; the bytes after it stay.
+ * Result: 256 * trials + refusal. Answered: refusal 0, trials 1 to 23. Refused: 1 to 7, trials 0. */
+uint64_t span_solve(const uint8_t *problem, size_t problem_size, uint8_t *answer, size_t answer_size);
+
+/* Judges an answer to a problem.
+ * Result: accepted: 256 * class + 4294967296 * the span's offset number (0 where blank), so the low byte is 0;
+ * else the refusal, 1 to 6 or 8 to 14, where 14 is 'not certified'. */
+uint64_t span_check(const uint8_t *problem, size_t problem_size, const uint8_t *answer, size_t answer_size);
+
+/* Reads an answer record for a problem of n and m. Lend at least 32 stamps and 64 picks.
+ * Result: read: 256 * class + 4294967296 * the span's offset number (0 where blank), and the first places hold
+ * class 1: n + 1 stamps as offset numbers, and n + 1 picks; class 2: m + 1 picks; class 3: n + 1 picks.
+ * Else the refusal: 4 (n or m above its limit), 8 to 13. */
+uint64_t span_read(const uint8_t *record, size_t record_size, uint64_t n, uint64_t m,
+                   uint64_t *stamps, size_t stamps_count, uint64_t *picks, size_t picks_count);
+
+/* Writes an answer record for a problem of n and m at the start of `buffer`; the bytes after it stay.
+ * `span` and `stamps` are offset numbers. Class 1: n + 1 stamps and n + 1 picks; class 2: no stamps, m + 1 picks;
+ * class 3: no stamps, n + 1 picks.
+ * Result: written: 256 * the record's size. Else the refusal: 4, 7, 10 to 13. */
+uint64_t span_write(uint64_t class_number, uint64_t span, const uint64_t *stamps, size_t stamps_count,
+                    const uint64_t *picks, size_t picks_count, uint64_t n, uint64_t m,
+                    uint8_t *buffer, size_t buffer_size);
+
+/* What a result holds. */
+static inline unsigned span_refusal(uint64_t result) { return (unsigned)(result & 255); }
+static inline unsigned span_trials(uint64_t result) { return (unsigned)(result >> 8); }           /* span_solve */
+static inline unsigned span_class(uint64_t result) { return (unsigned)((result >> 8) & 255); }    /* span_check, span_read */
+static inline int32_t span_minutes(uint64_t result) {                                             /* class 1 only */
+    return (int32_t)((int64_t)(result >> 32) - 2147483648LL);
+}
+
+#ifdef __cplusplus
+}
+#endif
+
+#endif

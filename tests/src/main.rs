@@ -1,0 +1,56 @@
+//! Tests from outside the proofs.
+//!
+//! The definitions that the proofs rest on could be wrong, and no proof shows that. Everything here that says what is
+//! right (`paper`, `exhaustive`, `second`) was written from document 01 alone, in its words, plainly and slowly.
+//!
+//! `cargo run --release --offline --manifest-path tests/Cargo.toml` runs all of it; a word after `--` runs one suite.
+//! A disagreement prints the bytes it was found on, and the status is then not 0.
+
+mod exhaustive;
+mod generate;
+mod paper;
+mod programs;
+mod random;
+mod second;
+mod suites;
+mod tally;
+
+use tally::Tally;
+
+fn main() {
+    let words: Vec<String> = std::env::args().skip(1).collect();
+    if programs::acted_as_a_program(&words) {
+        return;
+    }
+    println!("tests from outside, on {}", span::raw::BEHIND);
+    let all: [(&str, fn(&mut Tally)); 9] = [
+        ("examples", suites::examples::run),
+        ("all-small", suites::small::every_small_problem),
+        ("random-small", suites::small::random_problems),
+        ("all-tables", suites::tables::run),
+        ("checker", suites::checker::run),
+        ("bytes", suites::bytes::run),
+        ("fields", suites::fields::run),
+        ("programs", suites::pipes::run),
+        ("unproved", suites::unproved::run),
+    ];
+    let mut failures = 0;
+    let mut run = 0;
+    for (name, suite) in all {
+        if words.is_empty() || words.iter().any(|word| word == name) {
+            let mut tally = Tally::new(name);
+            suite(&mut tally);
+            failures += tally.close();
+            run += 1;
+        }
+    }
+    if run == 0 {
+        println!("no such suite; there are: {}", all.map(|(name, _)| name).join(", "));
+        std::process::exit(2);
+    }
+    if failures > 0 {
+        println!("outside tests: {failures} disagreements");
+        std::process::exit(1);
+    }
+    println!("outside tests: all agree");
+}

@@ -1,0 +1,290 @@
+//! Document 01 in Rust, as plainly as it can be said: problems, plans, spans, records, refusals, trials.
+
+/// A lead, stamp or whole minute; `None` is blank.
+pub type Minute = Option<i64>;
+
+#[derive(Clone, Debug, PartialEq, Eq)]
+pub struct Row {
+    pub left: Vec<Minute>,
+    pub right: Vec<Minute>,
+}
+
+/// Rules 1 to m, then the question. Each list has n + 1 leads.
+#[derive(Clone, Debug, PartialEq, Eq)]
+pub struct Problem {
+    pub rules: Vec<Row>,
+    pub question: Row,
+}
+
+/// The span of a plan; the order is document 01's.
+#[derive(Clone, Copy, Debug, PartialEq, Eq, PartialOrd, Ord)]
+pub enum Span {
+    MinusInfinity,
+    Whole(i64),
+    PlusInfinity,
+}
+
+#[derive(Clone, Copy, Debug, PartialEq, Eq)]
+pub enum Outcome {
+    Least(i64),
+    Bottomless,
+    None,
+}
+
+#[derive(Clone, Debug, PartialEq, Eq)]
+pub struct Answer {
+    pub class: u64,
+    pub span: Minute,
+    pub stamps: Vec<Minute>,
+    pub picks: Vec<u64>,
+}
+
+pub const BLANK: i64 = -2_147_483_648;
+pub const LONGEST_LEAD: i64 = 10_080;
+pub const LONGEST_SPAN: i64 = 645_120;
+pub const LONGEST_STAMP: i64 = 2_000_000;
+
+/// The largest of (lead + moment); blank is below every minute, and so is `None` in Rust's order.
+pub fn largest(leads: &[Minute], plan: &[Minute]) -> Minute {
+    let sums = leads.iter().zip(plan).map(|(lead, moment)| Some((*lead)? + (*moment)?));
+    sums.max().flatten()
+}
+
+impl Problem {
+    pub fn n(&self) -> usize {
+        self.question.left.len() - 1
+    }
+
+    pub fn m(&self) -> usize {
+        self.rules.len()
+    }
+
+    /// Row i of 0 to m: the rules, then the question.
+    pub fn row(&self, number: usize) -> &Row {
+        self.rules.get(number).unwrap_or(&self.question)
+    }
+
+    pub fn keeps_the_rules(&self, plan: &[Minute]) -> bool {
+        self.rules.iter().all(|rule| largest(&rule.left, plan) <= largest(&rule.right, plan))
+    }
+
+    pub fn span(&self, plan: &[Minute]) -> Span {
+        match (largest(&self.question.left, plan), largest(&self.question.right, plan)) {
+            (None, _) => Span::MinusInfinity,
+            (Some(_), None) => Span::PlusInfinity,
+            (Some(first), Some(second)) => Span::Whole(first - second),
+        }
+    }
+
+    /// The record.
+    pub fn bytes(&self) -> Vec<u8> {
+        let mut bytes = vec![0, 0, 0, 0, 1, 0, self.n() as u8, 0, self.m() as u8, 0];
+        for number in 0..=self.m() {
+            let row = self.row(number);
+            for lead in row.left.iter().chain(&row.right) {
+                bytes.extend((lead.unwrap_or(BLANK) as i32).to_le_bytes());
+            }
+        }
+        mend_length(&mut bytes);
+        bytes
+    }
+}
+
+impl Answer {
+    pub fn bytes(&self, n: usize) -> Vec<u8> {
+        let mut bytes = vec![0, 0, 0, 0, 2, 0, n as u8, 0, self.class as u8, 0];
+        for minute in std::iter::once(&self.span).chain(&self.stamps) {
+            bytes.extend((minute.unwrap_or(BLANK) as i32).to_le_bytes());
+        }
+        for pick in &self.picks {
+            bytes.extend((*pick as u16).to_le_bytes());
+        }
+        mend_length(&mut bytes);
+        bytes
+    }
+
+    pub fn outcome(&self) -> Outcome {
+        match (self.class, self.span) {
+            (1, Some(span)) => Outcome::Least(span),
+            (2, _) => Outcome::Bottomless,
+            _ => Outcome::None,
+        }
+    }
+}
+
+/// Makes the length field the size − 4.
+pub fn mend_length(bytes: &mut [u8]) {
+    let length = bytes.len() as u32 - 4;
+    bytes[..4].copy_from_slice(&length.to_le_bytes());
+}
+
+/// A number of up to four bytes, unsigned.
+pub fn number(bytes: &[u8]) -> u64 {
+    bytes.iter().rev().fold(0, |sum, byte| 256 * sum + *byte as u64)
+}
+
+/// A lead, stamp or span.
+fn minute(bytes: &[u8]) -> Minute {
+    let unsigned = number(bytes) as i64;
+    let signed = if unsigned >= 1 << 31 { unsigned - (1 << 32) } else { unsigned };
+    (signed != BLANK).then_some(signed)
+}
+
+fn within(minute: Minute, limit: i64) -> bool {
+    minute.is_none_or(|value| -limit <= value && value <= limit)
+}
+
+/// Refusals 1 to 6; else the problem.
+pub fn read_problem(bytes: &[u8]) -> Result<Problem, u64> {
+    if bytes.len() < 10 {
+        return Err(1);
+    }
+    if number(&bytes[0..4]) != bytes.len() as u64 - 4 {
+        return Err(2);
+    }
+    if number(&bytes[4..6]) != 1 {
+        return Err(3);
+    }
+    let (n, m) = (number(&bytes[6..8]), number(&bytes[8..10]));
+    if n > 31 || m > 63 {
+        return Err(4);
+    }
+    if bytes.len() as u64 != 10 + 8 * (n + 1) * (m + 1) {
+        return Err(5);
+    }
+    let leads: Vec<Minute> = bytes[10..].chunks(4).map(minute).collect();
+    if !leads.iter().all(|lead| within(*lead, LONGEST_LEAD)) {
+        return Err(6);
+    }
+    let width = n as usize + 1;
+    let mut rows: Vec<Row> =
+        leads.chunks(2 * width).map(|row| Row { left: row[..width].to_vec(), right: row[width..].to_vec() }).collect();
+    let question = rows.pop().expect("the question's row");
+    Ok(Problem { rules: rows, question })
+}
+
+/// The number of stamps and of picks that a class has.
+pub fn counts(class: u64, n: usize, m: usize) -> (usize, usize) {
+    match class {
+        1 => (n + 1, n + 1),
+        2 => (0, m + 1),
+        _ => (0, n + 1),
+    }
+}
+
+/// The highest value of a pick.
+pub fn highest_pick(class: u64, n: usize, m: usize) -> u64 {
+    if class == 2 {
+        n as u64 + 1
+    } else {
+        m as u64 + 1
+    }
+}
+
+/// Refusal 12 or 13 for fields whose counts are right.
+fn fields_out_of_form(class: u64, span: Minute, stamps: &[Minute], picks: &[u64], highest: u64) -> Option<u64> {
+    let span_good = if class == 1 { span.is_some() && within(span, LONGEST_SPAN) } else { span.is_none() };
+    let anchor_good = stamps.first().is_none_or(|stamp| *stamp == Some(0));
+    if !span_good || !anchor_good || !stamps.iter().all(|stamp| within(*stamp, LONGEST_STAMP)) {
+        return Some(12);
+    }
+    picks.iter().any(|pick| *pick > highest).then_some(13)
+}
+
+/// Refusals 8 to 13; else the answer.
+pub fn read_answer(bytes: &[u8], n: usize, m: usize) -> Result<Answer, u64> {
+    if bytes.len() < 14 {
+        return Err(8);
+    }
+    if number(&bytes[0..4]) != bytes.len() as u64 - 4 {
+        return Err(9);
+    }
+    let class = number(&bytes[8..10]);
+    if number(&bytes[4..6]) != 2 || class == 0 || class > 3 {
+        return Err(10);
+    }
+    let (stamps, picks) = counts(class, n, m);
+    if number(&bytes[6..8]) != n as u64 || bytes.len() != 14 + 4 * stamps + 2 * picks {
+        return Err(11);
+    }
+    let (first, second) = bytes[14..].split_at(4 * stamps);
+    let answer = Answer {
+        class,
+        span: minute(&bytes[10..14]),
+        stamps: first.chunks(4).map(minute).collect(),
+        picks: second.chunks(2).map(number).collect(),
+    };
+    let highest = highest_pick(class, n, m);
+    match fields_out_of_form(class, answer.span, &answer.stamps, &answer.picks, highest) {
+        Some(refusal) => Err(refusal),
+        None => Ok(answer),
+    }
+}
+
+/// The reader's refusals: 4 first.
+pub fn reader(bytes: &[u8], n: u64, m: u64) -> Result<Answer, u64> {
+    if n > 31 || m > 63 {
+        return Err(4);
+    }
+    read_answer(bytes, n as usize, m as usize)
+}
+
+/// The writer: 4, then 7, then 10 to 13; else the record.
+pub fn writer(
+    class: u64,
+    span: Minute,
+    stamps: &[Minute],
+    picks: &[u64],
+    n: u64,
+    m: u64,
+    buffer: usize,
+) -> Result<Vec<u8>, u64> {
+    if n > 31 || m > 63 {
+        return Err(4);
+    }
+    if buffer < 206 {
+        return Err(7);
+    }
+    if class == 0 || class > 3 {
+        return Err(10);
+    }
+    let (n, m) = (n as usize, m as usize);
+    if (stamps.len(), picks.len()) != counts(class, n, m) {
+        return Err(11);
+    }
+    match fields_out_of_form(class, span, stamps, picks, highest_pick(class, n, m)) {
+        Some(refusal) => Err(refusal),
+        None => Ok(Answer { class, span, stamps: stamps.to_vec(), picks: picks.to_vec() }.bytes(n)),
+    }
+}
+
+/// The trials that the engine makes where exactly these spans are possible.
+pub fn trials(possible: impl Fn(i64) -> bool) -> u64 {
+    if !possible(645_120) {
+        return 1;
+    }
+    if possible(-645_121) {
+        return 2;
+    }
+    let (mut high, mut low, mut halvings) = (645_120, -645_121, 0);
+    while high - low != 1 {
+        let sum: i64 = high + low;
+        let middle = sum.div_euclid(2) + sum.rem_euclid(2);
+        halvings += 1;
+        if possible(middle) {
+            high = middle;
+        } else {
+            low = middle;
+        }
+    }
+    2 + halvings
+}
+
+/// The trials for an outcome: a span is possible from the least on, always, or never.
+pub fn trials_for(outcome: Outcome) -> u64 {
+    match outcome {
+        Outcome::Least(span) => trials(|t| t >= span),
+        Outcome::Bottomless => trials(|_| true),
+        Outcome::None => trials(|_| false),
+    }
+}

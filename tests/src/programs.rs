@@ -1,0 +1,71 @@
+//! The two programs, run on standard input. SPAN_PROGRAM and VERDICT_PROGRAM name them; else they are
+//! target/bin/span and target/bin/verdict of the repository. On the stand-in this test program acts as both.
+
+use std::io::{Read, Write};
+use std::path::PathBuf;
+use std::process::{Command, Stdio};
+
+/// The command of a program: its name is `span` or `verdict`.
+fn command(name: &str, variable: &str) -> Command {
+    if let Some(path) = std::env::var_os(variable) {
+        return Command::new(path);
+    }
+    if cfg!(feature = "stand-in") {
+        let mut command = Command::new(std::env::current_exe().expect("this program's own path"));
+        command.arg(format!("act-as-{name}"));
+        return command;
+    }
+    Command::new(PathBuf::from(env!("CARGO_MANIFEST_DIR")).join("../target/bin").join(name))
+}
+
+/// What a program writes on an input; a message where it cannot be run or ends badly.
+fn run(mut command: Command, input: &[u8]) -> Result<Vec<u8>, String> {
+    let started = command.stdin(Stdio::piped()).stdout(Stdio::piped()).spawn();
+    let mut child = started.map_err(|error| format!("{command:?} cannot be run: {error}"))?;
+    let mut pipe = child.stdin.take().expect("a pipe to the program");
+    // Output is short and comes after the input was read, so one after the other is enough. A program that leaves its
+    // input unread breaks the pipe; what it wrote is compared all the same.
+    let _ = pipe.write_all(input);
+    drop(pipe);
+    let mut output = Vec::new();
+    child
+        .stdout
+        .take()
+        .expect("a pipe from the program")
+        .read_to_end(&mut output)
+        .map_err(|error| error.to_string())?;
+    let status = child.wait().map_err(|error| error.to_string())?;
+    if status.success() {
+        Ok(output)
+    } else {
+        Err(format!("{command:?} ended with {status}"))
+    }
+}
+
+pub fn span(input: &[u8]) -> Result<Vec<u8>, String> {
+    run(command("span", "SPAN_PROGRAM"), input)
+}
+
+pub fn verdict(input: &[u8]) -> Result<Vec<u8>, String> {
+    run(command("verdict", "VERDICT_PROGRAM"), input)
+}
+
+/// Acts as one of the programs where the words say so and the stand-in is built in; true where it did.
+#[cfg(feature = "stand-in")]
+pub fn acted_as_a_program(words: &[String]) -> bool {
+    let name = words.first().map_or("", |word| word.as_str());
+    if name != "act-as-span" && name != "act-as-verdict" {
+        return false;
+    }
+    let mut input = Vec::new();
+    std::io::stdin().read_to_end(&mut input).expect("standard input");
+    let output =
+        if name == "act-as-span" { unproved::programs::span(&input) } else { unproved::programs::verdict(&input) };
+    std::io::stdout().write_all(&output).expect("standard output");
+    true
+}
+
+#[cfg(not(feature = "stand-in"))]
+pub fn acted_as_a_program(_words: &[String]) -> bool {
+    false
+}

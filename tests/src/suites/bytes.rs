@@ -1,0 +1,167 @@
+//! Every refusal, on damaged, cut, lengthened and random bytes, in buffers of every length, filled with noise before
+//! and compared after.
+
+use super::{checked, expected_check};
+use crate::generate::any;
+use crate::paper::{self, mend_length};
+use crate::random::Random;
+use crate::tally::Tally;
+
+/// The engine on any bytes and a buffer of any length: the refusal that document 01 says and nothing written, or an
+/// answer and nothing written after it.
+pub fn engine(tally: &mut Tally, random: &mut Random, problem: &[u8], length: usize) {
+    let mut buffer = vec![0; length];
+    random.fill(&mut buffer);
+    let noise = buffer.clone();
+    let expected = match paper::read_problem(problem) {
+        Err(refusal) => refusal,
+        Ok(_) if length < 206 => 7,
+        Ok(_) => 0,
+    };
+    let result = span::raw::solve(problem, &mut buffer);
+    tally.same("the engine's refusal", result & 255, expected, problem, &[]);
+    if expected == 0 {
+        let size = paper::number(&buffer[..4]) as usize + 4;
+        tally.same("bytes after the record", buffer.get(size..), noise.get(size..), problem, &buffer);
+    } else {
+        tally.same("trials where refused", result >> 8, 0, problem, &[]);
+        tally.same("the buffer where refused", &buffer, &noise, problem, &buffer);
+    }
+    tally.count(&format!("engine {expected}"));
+}
+
+/// The checker on any bytes.
+fn checker(tally: &mut Tally, problem: &[u8], answer: &[u8]) {
+    let expected = expected_check(problem, answer);
+    tally.same("the checker", checked(problem, answer), expected, problem, answer);
+    match expected {
+        Ok(_) => tally.count("checker accepted"),
+        Err(refusal) => tally.count(&format!("checker {refusal}")),
+    }
+}
+
+/// Bytes with some harm done to them.
+pub fn harmed(random: &mut Random, good: &[u8]) -> Vec<u8> {
+    let mut bytes = good.to_vec();
+    let mend = random.chance(1, 2);
+    match random.below(7) {
+        0 => bytes.truncate(random.below(good.len() + 1)),
+        1 => {
+            let more = 1 + random.below(40);
+            let from = bytes.len();
+            bytes.resize(from + more, 0);
+            random.fill(&mut bytes[from..]);
+        }
+        2 => {
+            // A header field set to something near an edge.
+            let place = [0, 4, 6, 8][random.below(4)];
+            let value = [0, 1, 2, 3, 4, 31, 32, 63, 64, 255, 256, 65_535][random.below(12)] as u16;
+            bytes[place..place + 2].copy_from_slice(&value.to_le_bytes());
+        }
+        3 => {
+            // Four bytes set to a number near an edge.
+            let place = 10 + 4 * random.below((bytes.len() - 10) / 4);
+            let edges = [0, 10_080, 10_081, 645_120, 645_121, 2_000_000, 2_000_001, i32::MAX, i32::MIN, i32::MIN + 1];
+            let sign = if random.chance(1, 2) { 1 } else { -1 };
+            let value = edges[random.below(edges.len())].wrapping_mul(sign);
+            if place + 4 <= bytes.len() {
+                bytes[place..place + 4].copy_from_slice(&value.to_le_bytes());
+            }
+        }
+        4 => {
+            let place = random.below(bytes.len());
+            bytes[place] ^= 1 << random.below(8);
+        }
+        5 => {
+            let places = 1 + random.below(4);
+            for _ in 0..places {
+                let place = random.below(bytes.len());
+                bytes[place] = random.next() as u8;
+            }
+        }
+        _ => {
+            let length = random.below(260);
+            bytes = vec![0; length];
+            random.fill(&mut bytes);
+        }
+    }
+    if mend && bytes.len() >= 4 {
+        mend_length(&mut bytes);
+    }
+    bytes
+}
+
+pub fn run(tally: &mut Tally) {
+    const SEED: u64 = 645_121;
+    tally.seed(SEED);
+    let mut random = Random::new(SEED);
+    // Every buffer length, with a good problem of each kind and with bad ones.
+    for length in 0..=210 {
+        for _ in 0..8 {
+            let good = any(&mut random, 6, 8).bytes();
+            engine(tally, &mut random, &good, length);
+            let bad = harmed(&mut random, &good);
+            engine(tally, &mut random, &bad, length);
+        }
+    }
+    // Every cut of a problem and of an answer, and every byte of the headers with every value.
+    let good = any(&mut random, 3, 3).bytes();
+    let mut buffer = [0; 206];
+    let size = span::solve(&good, &mut buffer).map_or(0, |solved| solved.size);
+    let answer = buffer[..size].to_vec();
+    for cut in 0..good.len() {
+        let mut part = good[..cut].to_vec();
+        engine(tally, &mut random, &part, 206);
+        checker(tally, &part, &answer);
+        if cut >= 4 {
+            mend_length(&mut part);
+            engine(tally, &mut random, &part, 206);
+        }
+    }
+    for cut in 0..answer.len() {
+        let mut part = answer[..cut].to_vec();
+        checker(tally, &good, &part);
+        if cut >= 4 {
+            mend_length(&mut part);
+            checker(tally, &good, &part);
+        }
+    }
+    for place in 0..14 {
+        for value in 0..=255 {
+            let mut other = good.clone();
+            other[place] = value;
+            engine(tally, &mut random, &other, 206);
+            checker(tally, &other, &answer);
+            let mut other = answer.clone();
+            other[place] = value;
+            checker(tally, &good, &other);
+        }
+    }
+    // Damage of all sorts, to the problem, to the answer, to both.
+    for round in 0..60_000 {
+        let (n, m) = if round % 100 == 0 { (31, 63) } else { (5, 6) };
+        let problem = any(&mut random, n, m).bytes();
+        let size = span::solve(&problem, &mut buffer).map_or(0, |solved| solved.size);
+        let answer = buffer[..size].to_vec();
+        let bad = harmed(&mut random, &problem);
+        let length = if random.chance(1, 2) { 206 } else { random.below(300) };
+        engine(tally, &mut random, &bad, length);
+        checker(tally, &bad, &answer);
+        let worse = harmed(&mut random, &answer);
+        checker(tally, &problem, &worse);
+        checker(tally, &bad, &worse);
+    }
+    for refusal in 1..=7 {
+        seen(tally, &format!("engine {refusal}"));
+    }
+    for refusal in [1, 2, 3, 4, 5, 6, 8, 9, 10, 11, 12, 13, 14] {
+        seen(tally, &format!("checker {refusal}"));
+    }
+}
+
+/// A refusal that was never met says nothing.
+pub fn seen(tally: &mut Tally, what: &str) {
+    if tally.counted(what) == 0 {
+        tally.fail(format!("never met: {what}"), &[], &[]);
+    }
+}

@@ -1,0 +1,176 @@
+//! Document 01's examples, A to K and M, and the unstarred ones.
+
+use super::{answered, checked, expected_check};
+use crate::exhaustive;
+use crate::paper::{read_problem, Answer, Outcome, Problem, Row};
+use crate::random::Random;
+use crate::tally::{hex, Tally};
+
+/// A list of n + 1 leads with some that are not blank.
+fn list(n: usize, leads: &[(usize, i64)]) -> Vec<Option<i64>> {
+    let mut list = vec![None; n + 1];
+    for (moment, lead) in leads {
+        list[*moment] = Some(*lead);
+    }
+    list
+}
+
+fn row(n: usize, left: &[(usize, i64)], right: &[(usize, i64)]) -> Row {
+    Row { left: list(n, left), right: list(n, right) }
+}
+
+/// The anchor.
+const A: usize = 0;
+
+pub fn a() -> Problem {
+    Problem { rules: vec![], question: row(0, &[(A, 5)], &[(A, 2)]) }
+}
+
+pub fn e() -> Problem {
+    Problem { rules: vec![row(1, &[(A, 30)], &[(1, 0)])], question: row(1, &[(1, 0)], &[(A, 0)]) }
+}
+
+/// Each example with its outcome.
+pub fn all() -> Vec<(&'static str, Problem, Outcome)> {
+    let with = |rule: Row| {
+        let mut problem = e();
+        problem.rules.push(rule);
+        problem
+    };
+    let question =
+        |left: &[(usize, i64)], right: &[(usize, i64)]| Problem { rules: vec![], question: row(0, left, right) };
+    let f = Problem { question: row(1, &[(A, 0)], &[(1, 0)]), ..e() };
+    let i =
+        Problem { rules: vec![row(2, &[(A, 60)], &[(1, 0), (2, 15)])], question: row(2, &[(1, 0), (2, 0)], &[(A, 0)]) };
+    let j = Problem { rules: vec![row(2, &[(2, -10)], &[(1, 0)])], question: row(2, &[(1, 0)], &[(2, 0)]) };
+    vec![
+        ("A", a(), Outcome::Least(3)),
+        ("B", question(&[], &[(A, 2)]), Outcome::Bottomless),
+        ("C", question(&[(A, 5)], &[]), Outcome::None),
+        ("D", question(&[], &[]), Outcome::Bottomless),
+        ("E", e(), Outcome::Least(30)),
+        ("F", f, Outcome::Bottomless),
+        ("G", with(row(1, &[(1, 0)], &[(A, 20)])), Outcome::None),
+        ("H", with(row(1, &[(1, 0)], &[(A, 30)])), Outcome::Least(30)),
+        ("I", i, Outcome::Least(45)),
+        ("J", j, Outcome::Bottomless),
+        ("K", with(row(1, &[(1, 0)], &[])), Outcome::None),
+    ]
+}
+
+pub fn run(tally: &mut Tally) {
+    let mut random = Random::new(1);
+    for (name, problem, expected) in all() {
+        let (found, record) = answered(tally, &mut random, &problem);
+        tally.same(&format!("example {name}"), found, expected, &problem.bytes(), &record);
+        if ["A", "B", "C", "D"].contains(&name) {
+            let tried = exhaustive::solve(&problem, 5);
+            tally.same(&format!("example {name} by every plan"), tried, expected, &problem.bytes(), &record);
+        }
+        tally.count("examples");
+    }
+    bytes_of_a(tally);
+    stored(tally, &mut random);
+    m(tally);
+    limits(tally, &mut random);
+}
+
+/// A's bytes are printed in document 01, and nothing in its answer is free.
+fn bytes_of_a(tally: &mut Tally) {
+    let problem = a().bytes();
+    tally.same("A's problem", hex(&problem).as_str(), "0E0000000100000000000500000002000000", &problem, &[]);
+    let mut buffer = [0; 206];
+    let size = span::solve(&problem, &mut buffer).map_or(0, |solved| solved.size);
+    let record = &buffer[..size];
+    tally.same("A's answer", hex(record).as_str(), "1000000002000000010003000000000000000100", &problem, record);
+    tally.same("A's bytes together", problem.len() + record.len(), 38, &problem, record);
+    let words = span::check(&problem, record).map(|certified| certified.to_string());
+    tally.same("A's verdict", words, Ok("accepted least 3".into()), &problem, record);
+    tally.count("examples by bytes");
+}
+
+/// The problems of examples/, stored as bytes, with the outcome that their text expects.
+fn stored(tally: &mut Tally, random: &mut Random) {
+    let folder = concat!(env!("CARGO_MANIFEST_DIR"), "/../examples/problems");
+    let Ok(files) = std::fs::read_dir(folder) else {
+        return tally.fail("the folder examples/problems is not there".into(), &[], &[]);
+    };
+    for path in files.flatten().map(|file| file.path()).filter(|path| path.extension().is_some_and(|end| end == "hex"))
+    {
+        let digits = std::fs::read_to_string(&path).unwrap_or_default();
+        let pairs = digits.trim_end().as_bytes().chunks(2);
+        let bytes: Option<Vec<u8>> =
+            pairs.map(|pair| u8::from_str_radix(std::str::from_utf8(pair).ok()?, 16).ok()).collect();
+        let text = std::fs::read_to_string(path.with_extension("txt")).unwrap_or_default();
+        let expected = text.lines().find_map(|line| line.strip_prefix("expect: "));
+        let problem = bytes.and_then(|bytes| read_problem(&bytes).ok());
+        let (Some(problem), Some(expected)) = (problem, expected) else {
+            tally.fail(format!("{} cannot be read", path.display()), &[], &[]);
+            continue;
+        };
+        let (_, record) = answered(tally, random, &problem);
+        let found = span::check(&problem.bytes(), &record).map(|certified| certified.to_string());
+        tally.same("a stored example", found, Ok(format!("accepted {expected}")), &problem.bytes(), &record);
+        tally.count("stored examples");
+    }
+    if tally.counted("stored examples") == 0 {
+        tally.fail("no stored example was found".into(), &[], &[]);
+    }
+}
+
+/// M, and its neighbours: E's own table is accepted.
+fn m(tally: &mut Tally) {
+    let problem = e().bytes();
+    for (minute, picks, expected) in [
+        (31, [1, 2], Err(14)),
+        (30, [1, 2], Ok(Outcome::Least(30))),
+        (29, [1, 2], Err(14)),
+        (30, [1, 1], Err(14)),
+        (30, [1, 0], Err(14)),
+        (30, [2, 2], Err(14)),
+    ] {
+        let answer =
+            Answer { class: 1, span: Some(minute), stamps: vec![Some(0), Some(minute)], picks: picks.to_vec() }
+                .bytes(1);
+        tally.same("M and its neighbours", checked(&problem, &answer), expected, &problem, &answer);
+        tally.same("M by the second checker", expected_check(&problem, &answer), expected, &problem, &answer);
+        tally.count("tables of E");
+    }
+    let words = span::check(
+        &problem,
+        &Answer { class: 1, span: Some(31), stamps: vec![Some(0), Some(31)], picks: vec![1, 2] }.bytes(1),
+    );
+    tally.same("M's verdict", words.map_err(|refusal| refusal.to_string()), Err("not certified".into()), &problem, &[]);
+}
+
+/// Lead 10,080 accepted, 10,081 refused by 6; n 31 accepted, 32 refused by 4; m 63 and 64 likewise.
+fn limits(tally: &mut Tally, random: &mut Random) {
+    let mut buffer = [0; 206];
+    for (lead, refusal) in
+        [(10_080, 0), (10_081, 6), (-10_080, 0), (-10_081, 6), (i32::MIN as i64 + 1, 6), (i32::MAX as i64, 6)]
+    {
+        for place in 0..2 {
+            let mut question = row(0, &[(A, 1)], &[(A, 1)]);
+            if place == 0 {
+                question.left[0] = Some(lead);
+            } else {
+                question.right[0] = Some(lead);
+            }
+            let problem = Problem { rules: vec![], question }.bytes();
+            let found = span::solve(&problem, &mut buffer).map_or_else(|refusal| refusal.number, |_| 0);
+            tally.same("a lead at its limit", found, refusal, &problem, &[]);
+            tally.count("leads at their limits");
+        }
+    }
+    for (n, m, refusal) in [(31, 0, 0), (32, 0, 4), (0, 63, 0), (0, 64, 4), (31, 63, 0), (32, 63, 4), (31, 64, 4)] {
+        let line = row(n, &[(A, 1)], &[(n, 0)]);
+        let problem = Problem { rules: vec![line; m], question: row(n, &[(n, 0)], &[(A, 0)]) };
+        let bytes = problem.bytes();
+        let found = span::solve(&bytes, &mut buffer).map_or_else(|refusal| refusal.number, |_| 0);
+        tally.same("n or m at its limit", found, refusal, &bytes, &[]);
+        if refusal == 0 {
+            answered(tally, random, &problem);
+        }
+        tally.count("sizes at their limits");
+    }
+}

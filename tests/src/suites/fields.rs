@@ -1,0 +1,232 @@
+//! The answer reader and the answer writer: their own refusals, and there and back again.
+
+use super::bytes::{harmed, seen};
+use crate::generate::any;
+use crate::paper::{self, Minute};
+use crate::random::Random;
+use crate::tally::Tally;
+
+const OFFSET: i64 = 1 << 31;
+
+fn offset(minute: Minute) -> u64 {
+    minute.map_or(0, |value| (value + OFFSET) as u64)
+}
+
+/// The minute that an offset number stands for, also where no record holds it.
+fn minute(offset: u64) -> Minute {
+    (offset != 0).then(|| i64::try_from(offset).map_or(i64::MAX, |number| number - OFFSET))
+}
+
+/// The reader on any bytes and any n and m.
+fn read(tally: &mut Tally, random: &mut Random, record: &[u8], n: u64, m: u64) {
+    let mut stamps = [0; 32];
+    let mut picks = [0; 64];
+    for place in stamps.iter_mut().chain(&mut picks) {
+        *place = random.next();
+    }
+    let (stamps_before, picks_before) = (stamps, picks);
+    let result = span::raw::read(record, n, m, &mut stamps, &mut picks);
+    let what = format!("n {n} m {m}");
+    match paper::reader(record, n, m) {
+        Err(refusal) => {
+            tally.same(&format!("the reader's refusal, {what}"), result, refusal, &[], record);
+            tally.same("stamps where refused", stamps, stamps_before, &[], record);
+            tally.same("picks where refused", picks, picks_before, &[], record);
+            tally.count(&format!("reader {refusal}"));
+        }
+        Ok(answer) => {
+            let expected = 256 * answer.class + (offset(answer.span) << 32);
+            tally.same(&format!("the reader's result, {what}"), result, expected, &[], record);
+            let found: Vec<Minute> = stamps[..answer.stamps.len()].iter().map(|&stamp| minute(stamp)).collect();
+            tally.same("the reader's stamps", &found, &answer.stamps, &[], record);
+            tally.same("the reader's picks", &picks[..answer.picks.len()], &answer.picks[..], &[], record);
+            tally.count("reader read");
+            // What was read is written to the same bytes.
+            let mut buffer = [0xA5; 206];
+            let span = result >> 32;
+            let class = (result >> 8) & 255;
+            let (stamps, picks) = (&stamps[..answer.stamps.len()], &picks[..answer.picks.len()]);
+            let written = span::raw::write(class, span, stamps, picks, n, m, &mut buffer);
+            tally.same("the size written again", written, 256 * record.len() as u64, &[], record);
+            tally.same("the record written again", &buffer[..record.len()], record, &[], record);
+        }
+    }
+}
+
+/// The writer on any fields.
+#[allow(clippy::too_many_arguments)]
+fn write(
+    tally: &mut Tally,
+    random: &mut Random,
+    class: u64,
+    span: u64,
+    stamps: &[u64],
+    picks: &[u64],
+    n: u64,
+    m: u64,
+    length: usize,
+) {
+    let mut buffer = vec![0; length];
+    random.fill(&mut buffer);
+    let noise = buffer.clone();
+    let result = span::raw::write(class, span, stamps, picks, n, m, &mut buffer);
+    let minutes: Vec<Minute> = stamps.iter().map(|&stamp| minute(stamp)).collect();
+    let what = format!("class {class} span {span} stamps {stamps:?} picks {picks:?} n {n} m {m} buffer {length}");
+    match paper::writer(class, minute(span), &minutes, picks, n, m, length) {
+        Err(refusal) => {
+            tally.same(&format!("the writer's refusal, {what}"), result, refusal, &[], &[]);
+            tally.same(&format!("the buffer where refused, {what}"), &buffer, &noise, &[], &[]);
+            tally.count(&format!("writer {refusal}"));
+        }
+        Ok(record) => {
+            tally.same(&format!("the writer's result, {what}"), result, 256 * record.len() as u64, &[], &record);
+            tally.same(&format!("the record, {what}"), &buffer[..record.len()], &record[..], &[], &record);
+            tally.same("bytes after the record", &buffer[record.len()..], &noise[record.len()..], &[], &record);
+            tally.count("writer written");
+            read(tally, random, &record, n, m);
+        }
+    }
+}
+
+/// Numbers at the edges of n and m.
+const SIZES: [u64; 12] = [0, 1, 30, 31, 32, 62, 63, 64, 65_535, 65_536, 1 << 32, u64::MAX];
+
+pub fn run(tally: &mut Tally) {
+    const SEED: u64 = 2_000_001;
+    tally.seed(SEED);
+    let mut random = Random::new(SEED);
+    let mut buffer = [0; 206];
+    for round in 0..40_000 {
+        let (n, m) = if round % 20 == 0 { (31, 63) } else { (4, 4) };
+        let problem = any(&mut random, n, m);
+        let (n, m) = (problem.n() as u64, problem.m() as u64);
+        let size = span::solve(&problem.bytes(), &mut buffer).map_or(0, |solved| solved.size);
+        let record = buffer[..size].to_vec();
+        read(tally, &mut random, &record, n, m);
+        let bad = harmed(&mut random, &record);
+        read(tally, &mut random, &bad, n, m);
+        let (other_n, other_m) = (SIZES[random.below(SIZES.len())], SIZES[random.below(SIZES.len())]);
+        read(tally, &mut random, &record, other_n, m);
+        read(tally, &mut random, &record, n, other_m);
+        read(tally, &mut random, &bad, other_n, other_m);
+    }
+    every_edge_of_the_writer(tally, &mut random);
+    random_fields(tally, &mut random);
+    for refusal in [4, 8, 9, 10, 11, 12, 13] {
+        seen(tally, &format!("reader {refusal}"));
+    }
+    for refusal in [4, 7, 10, 11, 12, 13] {
+        seen(tally, &format!("writer {refusal}"));
+    }
+}
+
+/// Spans and stamps at the edges of their forms, as offset numbers, and numbers that no record holds.
+fn edges() -> Vec<u64> {
+    let minutes = [
+        0,
+        1,
+        -1,
+        645_119,
+        645_120,
+        645_121,
+        -645_120,
+        -645_121,
+        1_999_999,
+        2_000_000,
+        2_000_001,
+        -2_000_000,
+        -2_000_001,
+        OFFSET - 1,
+        1 - OFFSET,
+    ];
+    let mut numbers: Vec<u64> = minutes.iter().map(|&value| offset(Some(value))).collect();
+    numbers.extend([0, 1, 1 << 32, (1 << 32) + (1 << 31), (1 << 63) + (1 << 31), u64::MAX]);
+    numbers
+}
+
+/// One field at a time over its edges, the others being right, for every class and some sizes.
+fn every_edge_of_the_writer(tally: &mut Tally, random: &mut Random) {
+    for (n, m) in [(0u64, 0u64), (1, 0), (0, 1), (3, 5), (31, 63)] {
+        for class in 1..=3u64 {
+            let (stamps, picks) = paper::counts(class, n as usize, m as usize);
+            let good_span = if class == 1 { offset(Some(3)) } else { 0 };
+            let good_stamps = vec![offset(Some(0)); stamps];
+            let good_picks = vec![0; picks];
+            let highest = paper::highest_pick(class, n as usize, m as usize);
+            for length in 0..=207 {
+                write(tally, random, class, good_span, &good_stamps, &good_picks, n, m, length);
+            }
+            for other in [0, 1, 2, 3, 4, 255, 256, 257, 65_535, 65_536, 65_537, (1 << 32) + 1, u64::MAX] {
+                write(tally, random, other, good_span, &good_stamps, &good_picks, n, m, 206);
+            }
+            for other_n in SIZES {
+                for other_m in SIZES {
+                    write(tally, random, class, good_span, &good_stamps, &good_picks, other_n, other_m, 206);
+                    write(tally, random, class, good_span, &good_stamps, &good_picks, other_n, other_m, 205);
+                }
+            }
+            for first in 0..=stamps + 2 {
+                for second in [0, 1, picks.saturating_sub(1), picks, picks + 1, 32, 64, 65] {
+                    let (some_stamps, some_picks) = (vec![offset(Some(0)); first], vec![0; second]);
+                    write(tally, random, class, good_span, &some_stamps, &some_picks, n, m, 206);
+                }
+            }
+            for span in edges() {
+                write(tally, random, class, span, &good_stamps, &good_picks, n, m, 206);
+            }
+            for place in 0..stamps {
+                for stamp in edges() {
+                    let mut other = good_stamps.clone();
+                    other[place] = stamp;
+                    write(tally, random, class, good_span, &other, &good_picks, n, m, 206);
+                }
+            }
+            for place in 0..picks {
+                for pick in [1, highest - 1, highest, highest + 1, 65_535, 65_536, 65_537, 1 << 32, u64::MAX] {
+                    let mut other = good_picks.clone();
+                    other[place] = pick;
+                    write(tally, random, class, good_span, &good_stamps, &other, n, m, 206);
+                }
+            }
+        }
+    }
+}
+
+/// Fields drawn at random, several of them wrong at once: the first refusal counts.
+fn random_fields(tally: &mut Tally, random: &mut Random) {
+    let edges = edges();
+    for _ in 0..60_000 {
+        let (n, m) = match random.below(10) {
+            0 => (SIZES[random.below(SIZES.len())], SIZES[random.below(SIZES.len())]),
+            _ => (random.below(6) as u64, random.below(6) as u64),
+        };
+        let class = if random.chance(1, 10) { random.below(6) as u64 } else { 1 + random.below(3) as u64 };
+        let (mut stamps, mut picks) =
+            if n < 32 && m < 64 { paper::counts(class, n as usize, m as usize) } else { (1, 1) };
+        if random.chance(1, 10) {
+            stamps = random.below(8);
+        }
+        if random.chance(1, 10) {
+            picks = random.below(8);
+        }
+        let mut stamp = |place: usize| match random.below(12) {
+            0 => edges[random.below(edges.len())],
+            _ if place == 0 => offset(Some(0)),
+            1 | 2 => 0,
+            _ => offset(Some(random.within(-2_000_000, 2_000_000))),
+        };
+        let stamps: Vec<u64> = (0..stamps).map(&mut stamp).collect();
+        let mut pick = || {
+            let limit = if random.chance(1, 12) { 70 } else { 2 };
+            random.below(limit) as u64
+        };
+        let picks: Vec<u64> = (0..picks).map(|_| pick()).collect();
+        let span = match (class, random.below(8)) {
+            (_, 0) => edges[random.below(edges.len())],
+            (1, _) => offset(Some(random.within(-645_120, 645_120))),
+            _ => 0,
+        };
+        let length = if random.chance(1, 10) { random.below(206) } else { 206 };
+        write(tally, random, class, span, &stamps, &picks, n, m, length);
+    }
+}
