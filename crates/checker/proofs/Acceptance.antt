@@ -53,7 +53,7 @@ trial-below s = record {
   near = record { hi = omega (arith, s .near .hi); lo = λ h. omega (arith, s .near .lo (s .some)) };
 }
 
-trial-below-is : (span : ℕ) {z : ℤ} → Span span → tropOf span ≡ fin z → tropOf (span - 1) ≡ fin (z -ℤ pos 1)
+pub trial-below-is : (span : ℕ) {z : ℤ} → Span span → tropOf span ≡ fin z → tropOf (span - 1) ≡ fin (z -ℤ pos 1)
 trial-below-is span {z} s e =
     let r = trop-read span e in
     trop-show (span - 1) (z -ℤ pos 1) (omega (arith, s .near .lo (s .some))) (omega (arith, minus-read z (pos 1), s .near .lo (s .some)))

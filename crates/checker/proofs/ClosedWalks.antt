@@ -161,7 +161,7 @@ module _ (arcs marks : List ℕ) (width : ℕ) (table : Table arcs width) where
       (record { whole = pos (getD e j 0); is = r .level j b }) p
 
   -- Below k every value is fixed, or a closed walk gains.
-  all-or-gain : (i k : ℕ) → k ≤ width → width ≤ suc i
+  pub all-or-gain : (i k : ℕ) → k ≤ width → width ≤ suc i
       → ((j : ℕ) → j < k → valueAt (matrix arcs marks) anywhere width (suc i) j ≡ valueAt (matrix arcs marks) anywhere width i j) ⊎ SomeGains arcs marks width
   all-or-gain i zero b h = inl (λ j c. absurd (omega arith))
   all-or-gain i (suc k) b h = go (all-or-gain i k (omega arith) h) (fixed-or-gains (matrix arcs marks) anywhere width i h k (omega arith))

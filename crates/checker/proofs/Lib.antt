@@ -9,5 +9,12 @@ pub mod RowStrategy
 pub mod Acceptance
 pub mod Answers
 pub mod Verdicts
+pub mod Decided
+pub mod Judgement
+pub mod Agreeing
+pub mod Accepting
+pub mod Soundness
+pub mod Completeness
+pub mod Demand3
 pub mod Sides
 pub mod ClosedWalks

@@ -1,0 +1,83 @@
+-- What a checker that judges as document 01 says accepts. For any function with `CheckerJudges`.
+use Prim.Native.Nat.{ℕ, zero, suc, _+_, _*_, _≤_, _<_}
+use mathlib.Core.Path.{_≡_, refl, ap, sym, subst, _∙_}
+use mathlib.Core.Bool.{Bool, true, false, false≢true}
+use mathlib.Core.List.{List}
+use mathlib.Core.Logic.{_↔_}
+use native.Mathlib.Omega.{arith}
+use lib.ListN.{length}
+use lib.IntN.{ℤ}
+use Rattle.definitions.specs.Limits.{lead-limit, span-limit, answer-most}
+use Rattle.definitions.specs.Bytes.{Bytes}
+use Rattle.definitions.specs.Problem.{Problem}
+use Rattle.definitions.specs.ProblemRecord.{nField, mField, problemRefusal, WithinLayout, problemOf}
+use Rattle.definitions.specs.AnswerRecord.{Answer, answerRefusal, answerBytes, answerOf}
+use Rattle.definitions.specs.Verdict.{Verdict, accepted, refused, accepts, Accepted, optimal, unbounded, infeasible, checkRefusal, answerFor, not-certified, Judged, turned-away, certified, uncertified}
+use Rattle.definitions.specs.Demands.{Checker, Accepts, CheckerJudges, CheckerRefuses, AcceptsExactly, PlanHolds, NeverBroken}
+use Rattle.definitions.proofs.Refusals.{problem-fits, or-else-none, left-size, right-size, WriterFits}
+use Rattle.definitions.proofs.RoundTrip.{answer-bytes, answer-back, answer-accepted}
+use Rattle.duality.specs.Within.{Within}
+use Rattle.duality.proofs.Numbers.{top-enough}
+use Rattle.checker.proofs.Judgement.{judged-unique}
+
+-- ---- verdicts that accept
+
+-- A verdict that gives no refusal: none applies, and all that is listed holds.
+accepts-judged : {p a : List ℕ} {v : Verdict} → Judged p a v → accepts v ≡ true → (checkRefusal p a ≡ 0) × Accepted (problemOf p) (answerFor p a)
+unfolding accepts
+accepts-judged (turned-away e) t = absurd (false≢true t)
+accepts-judged (certified e h) t = (e, h)
+accepts-judged (uncertified e h) t = absurd (false≢true t)
+
+module _ (check : Checker) (judges : CheckerJudges check) where
+  -- Bytes outside the layouts get the first refusal that applies.
+  pub checker-refuses : CheckerRefuses check
+  checker-refuses p a b c k e = judged-unique (judges p a b c) (turned-away e)
+
+  -- What is accepted is of the right form, and all that is listed holds,
+  pub accepts-only : (p a : List ℕ) → Bytes p → Bytes a → Accepts check p a
+      → (answerRefusal a (nField p) (mField p) ≡ 0) × Accepted (problemOf p) (answerFor p a)
+  unfolding checkRefusal
+  accepts-only p a b c t =
+      let h = accepts-judged (judges p a b c) t in
+      (or-else-none (problemRefusal p) (answerRefusal a (nField p) (mField p)) .0 (h .0) .1, h .1)
+
+  -- and the other way round.
+  pub accepts-all : (p a : List ℕ) → Bytes p → Bytes a → WithinLayout p → answerRefusal a (nField p) (mField p) ≡ 0 → Accepted (problemOf p) (answerFor p a)
+      → Accepts check p a
+  unfolding checkRefusal accepts
+  accepts-all p a b c w e h = ap accepts (judged-unique (judges p a b c) (certified (or-else-none (problemRefusal p) (answerRefusal a (nField p) (mField p)) .1 (w, e)) h))
+
+  pub accepts-exactly : AcceptsExactly check
+  accepts-exactly p a b c w = (accepts-only p a b c, λ h. accepts-all p a b c w (h .0) (h .1))
+
+  -- So never one whose plan breaks a rule or has another span than its field.
+  pub never-broken : NeverBroken check
+  never-broken p a b c t e = go (accepts-only p a b c t .1)
+    where
+      go : Accepted (problemOf p) (answerFor p a) → PlanHolds p a
+      go (optimal {s = s} d f h) = record { keeps-rules = h .feasible; s = s; span-is = f; value-is = h .value-is }
+      go (unbounded d h) = absurd (omega (arith, e, d))
+      go (infeasible d h) = absurd (omega (arith, e, d))
+
+  -- ---- answers that were written
+
+  -- The record of an answer of the right form is accepted exactly when all that is listed for the answer holds.
+  pub record-accepted : (p : List ℕ) (a : Answer) → Bytes p → WithinLayout p → WriterFits a (nField p) (mField p) answer-most
+      → Accepts check p (answerBytes (nField p) a) ↔ Accepted (problemOf p) a
+  record-accepted p a b w f =
+      let back : answerFor p (answerBytes (nField p) a) ≡ a = answer-back a (nField p) (mField p) answer-most f in
+      (
+        λ t. rw back at (accepts-only p (answerBytes (nField p) a) b (answer-bytes (nField p) a) t .1),
+        λ h. accepts-all p (answerBytes (nField p) a) b (answer-bytes (nField p) a) w (answer-accepted a (nField p) (mField p) answer-most f) (rw back h),
+      )
+
+-- ---- problems within the layout are small
+
+pub layout-within : (p : List ℕ) → WithinLayout p → Within (problemOf p) lead-limit
+unfolding problemOf
+layout-within p w = record { left = λ i j a h k e. left-size p w i j h k e; right = λ i j a h k e. right-size p w i j h k e }
+
+pub layout-enough : (p : List ℕ) → WithinLayout p → 2 * (suc (problemOf p .n) * lead-limit) ≤ span-limit
+unfolding problemOf
+layout-enough p w = top-enough (nField p) lead-limit (omega (arith, problem-fits p .0 w .n-most))

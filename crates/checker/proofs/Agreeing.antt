@@ -1,0 +1,137 @@
+-- Lists that hold a point or picks: what is accepted is read within the counts alone.
+use Prim.Native.Nat.{ℕ, zero, suc, _+_, _≤_, _<_}
+use mathlib.Core.Path.{_≡_, refl, ap, sym, subst, _∙_}
+use mathlib.Core.Bool.{Bool, true, false}
+use mathlib.Core.List.{List, [], _∷_, _++_}
+use mathlib.Core.Logic.{_⊎_, inl, inr, ⊎-elim}
+use native.Mathlib.Omega.{arith}
+use lib.Dec.{leb}
+use lib.ListN.{length, getD, length-append, List·getD-append}
+use lib.Seq.{getD-at}
+use lib.IntN.{ℤ, pos}
+use borrow.Author.Tests.{leb-true, le-leb}
+use Rattle.definitions.specs.Tropical.{Trop, bot, fin, plus}
+use Rattle.definitions.specs.Bytes.{all}
+use Rattle.definitions.specs.Problem.{Problem, Point, Keeps, Feasible, side, value}
+use Rattle.definitions.specs.Certificate.{Strategy, Anchor, Reachable, Leads, Arc, ObjectiveArc, HasPick, PicksCount, BelowZero, RowLeads, RowArc, RowObjectiveArc, RowHasPick, RowPicksCount, AcceptedOptimal, AcceptedInfeasible, AcceptedUnbounded}
+use Rattle.definitions.specs.ProblemRecord.{listOf}
+use Rattle.definitions.specs.AnswerRecord.{picksFit}
+use Rattle.definitions.specs.Verdict.{pointOf, strategyOf}
+use Rattle.definitions.proofs.Whole.{nat-le-or-lt}
+use Rattle.definitions.proofs.Tropical.{largest-ext}
+use Rattle.definitions.proofs.Bytes.{all-true}
+use Rattle.duality.specs.Picks.{NoneAbove, AtLeastZero}
+use Rattle.duality.proofs.Reach.{reach-keep, reach-map, circuit-keep, circuit-map, uses-keep, uses-map}
+
+-- ---- f 0, …, f (k − 1) as a list
+
+pub listed-length {ℓ} : {A : Type ℓ} (f : ℕ → A) (k : ℕ) → length (listOf f k) ≡ k
+unfolding listOf
+listed-length f zero = refl
+listed-length f (suc k) = rw (length-append, listed-length f k) (omega arith)
+
+pub listed-at {ℓ} : {A : Type ℓ} (f : ℕ → A) (d : A) (k i : ℕ) → i < k → getD (listOf f k) i d ≡ f i
+unfolding listOf
+listed-at f d zero i h = absurd (omega arith)
+listed-at f d (suc k) i h = ⊎-elim
+    (λ (q : k ≤ i). let e : i ≡ k = omega arith in rw e (getD-at (listOf f k) (f k) [] d k (listed-length f k)))
+    (λ (q : i < k). let l : i < length (listOf f k) = rw listed-length q in List·getD-append (listOf f k) (f k ∷ []) d i l ∙ listed-at f d k i q)
+    (nat-le-or-lt k i)
+
+-- The point and the strategy that a list of them gives agree with it below k.
+pub listed-point : (x : Point) (k j : ℕ) → j < k → x j ≡ pointOf (listOf x k) j
+unfolding pointOf
+listed-point x k j h = sym (listed-at x bot k j h)
+
+pub listed-strategy : (picks : Strategy) (k j : ℕ) → j < k → picks j ≡ strategyOf (listOf picks k) j
+unfolding strategyOf
+listed-strategy picks k j h = sym (listed-at picks 0 k j h)
+
+-- No pick above the highest: of the list, and of the strategy that it gives.
+pub listed-fit : (highest : ℕ) (picks : Strategy) (k : ℕ) → NoneAbove highest k picks → picksFit highest (listOf picks k) ≡ true
+unfolding picksFit
+listed-fit highest picks k h = all-true (λ pick. leb pick highest) 0 (listOf picks k) .1
+    (λ i l. let b : i < k = rw listed-length at l in le-leb (getD (listOf picks k) i 0) highest (rw (listed-at picks 0 k i b) (h i b)))
+
+pub fit-above : (highest : ℕ) (picks : List ℕ) (k : ℕ) → length picks ≡ k → picksFit highest picks ≡ true → NoneAbove highest k (strategyOf picks)
+unfolding picksFit strategyOf
+fit-above highest picks k e h j l = leb-true (getD picks j 0) highest (all-true (λ pick. leb pick highest) 0 picks .0 h j (omega arith))
+
+-- ---- points that agree
+
+module _ (p : Problem) {x y : Point} (same : (j : ℕ) → j < suc (p .n) → x j ≡ y j) where
+  side-agrees : (coefficients : ℕ → Trop) → side (p .n) coefficients x ≡ side (p .n) coefficients y
+  unfolding side
+  side-agrees c = largest-ext _ _ (suc (p .n)) (λ j h. ap (plus (c j)) (same j h))
+
+  pub feasible-agrees : Feasible p x → Feasible p y
+  feasible-agrees f = record {
+    anchored = sym (same 0 (omega arith)) ∙ f .anchored;
+    keeps = λ i h. rw (← side-agrees (p .left i), ← side-agrees (p .right i)) (f .keeps i h);
+  }
+
+  pub value-agrees : value p x ≡ value p y
+  unfolding value
+  value-agrees = rw (side-agrees (p .left (p .m)), side-agrees (p .right (p .m)))
+
+-- ---- picks that agree
+
+module _ (p : Problem) {a b : Strategy} (same : (j : ℕ) → j < suc (p .n) → a j ≡ b j) where
+  anchored : (j : ℕ) → j ≡ 0 → (j ≡ 0) × (j ≤ p .n)
+  anchored j e = (e, omega arith)
+
+  -- What b leads to, a leads to, and the arcs are the same.
+  leads-back : (j l : ℕ) → j ≤ p .n → Leads p b j l → Leads p a j l × (l ≤ p .n)
+  leads-back j l h r = (record { row = r .row; picked = same j (omega arith) ∙ r .picked; inside = r .inside; right = r .right }, r .inside)
+
+  arc-back : (t : ℤ) (j l : ℕ) (w : ℤ) → j ≤ p .n → Arc p b t j l w → Arc p a t j l w × (l ≤ p .n)
+  arc-back t j l w h r = (record { row = r .row; picked = same j (omega arith) ∙ r .picked; inside = r .inside; by = r .by }, r .inside)
+
+  objective-back : (j l : ℕ) (w : ℤ) → j ≤ p .n → ObjectiveArc p b j l w → ObjectiveArc p a j l w × (l ≤ p .n)
+  objective-back j l w h r = (record { picked = same j (omega arith) ∙ r .picked; inside = r .inside; by = r .by }, r .inside)
+
+  pub picks-agree : PicksCount p a → PicksCount p b
+  picks-agree c j r =
+      let q = reach-keep (λ j. j ≤ p .n) anchored leads-back r in
+      let h = c j (q .0) in
+      record { row = h .row; picked = sym (same j (omega (arith, q .1))) ∙ h .picked; left = h .left }
+
+  pub below-agrees : (t : ℤ) → BelowZero p a t → BelowZero p b t
+  below-agrees t c w k = c w (circuit-keep (λ j. j ≤ p .n) anchored leads-back (arc-back t) k)
+
+  pub infeasible-agrees : AcceptedInfeasible p a → AcceptedInfeasible p b
+  infeasible-agrees c = record {
+    picks-count = picks-agree (c .picks-count);
+    no-objective = λ u. c .no-objective (uses-keep (λ j. j ≤ p .n) anchored leads-back objective-back (arc-back (pos 0)) u);
+    below-zero = below-agrees (pos 0) (c .below-zero);
+  }
+
+pub optimal-agrees : (p : Problem) (s : ℤ) {x y : Point} {a b : Strategy} → ((j : ℕ) → j < suc (p .n) → x j ≡ y j) → ((j : ℕ) → j < suc (p .n) → a j ≡ b j)
+    → AcceptedOptimal p s x a → AcceptedOptimal p s y b
+optimal-agrees p s e f c = record {
+  feasible = feasible-agrees p e (c .feasible);
+  value-is = sym (value-agrees p e) ∙ c .value-is;
+  picks-count = picks-agree p f (c .picks-count);
+  below-zero = below-agrees p f _ (c .below-zero);
+}
+
+-- ---- row picks that agree
+
+module _ (p : Problem) {a b : Strategy} (same : (i : ℕ) → i < suc (p .m) → a i ≡ b i) where
+  row-leads-back : (j l : ℕ) → RowLeads p b j l → RowLeads p a j l
+  row-leads-back j l r = record { row = r .row; inside = r .inside; left = r .left; picked = same (r .row) (omega (arith, r .inside)) ∙ r .picked }
+
+  row-arc-back : (t : ℤ) (j l : ℕ) (w : ℤ) → RowArc p b t j l w → RowArc p a t j l w
+  row-arc-back t j l w r = record { row = r .row; inside = r .inside; picked = same (r .row) (omega (arith, r .inside)) ∙ r .picked; by = r .by }
+
+  row-objective-back : (j l : ℕ) (w : ℤ) → RowObjectiveArc p b j l w → RowObjectiveArc p a j l w
+  row-objective-back j l w r = record { picked = same (p .m) (omega arith) ∙ r .picked; by = r .by }
+
+  pub unbounded-agrees : AcceptedUnbounded p a → AcceptedUnbounded p b
+  unbounded-agrees c = record {
+    picks-count = λ i j h r l.
+        let q = c .picks-count i j h (reach-map (λ j e. e) row-leads-back r) l in
+        record { variable = q .variable; picked = sym (same i (omega arith)) ∙ q .picked; right = q .right };
+    no-objective = λ u. c .no-objective (uses-keep {O′ = RowObjectiveArc p a} {A′ = RowArc p a (pos 0)} (λ _. Unit) (λ j e. (e, tt)) (λ j l _ r. (row-leads-back j l r, tt)) (λ j l w _ r. (row-objective-back j l w r, tt)) (λ j l w _ r. (row-arc-back (pos 0) j l w r, tt)) u);
+    zero-or-more = λ w k. c .zero-or-more w (circuit-map (λ j e. e) row-leads-back (row-arc-back (pos 0)) k);
+  }

@@ -1,0 +1,67 @@
+-- Demand 3, the other direction: where the class holds, some table is accepted.
+use Prim.Native.Nat.{ℕ, suc, _≤_}
+use mathlib.Core.Path.{_≡_, refl, ap, sym, subst, _∙_}
+use mathlib.Core.List.{List, []}
+use native.Mathlib.Omega.{arith}
+use lib.IntN.{ℤ}
+use Rattle.definitions.specs.Limits.{lead-limit, span-limit, class-optimal, class-unbounded, class-infeasible}
+use Rattle.definitions.specs.Bytes.{Bytes}
+use Rattle.definitions.specs.Problem.{Problem, Point, Feasible, value, whole, _≼_, Infeasible, Unbounded}
+use Rattle.definitions.specs.ProblemRecord.{nField, mField, WithinLayout, problemOf, listOf}
+use Rattle.definitions.specs.Verdict.{Accepted, optimal, unbounded, infeasible, pointOf, strategyOf}
+use Rattle.definitions.specs.Demands.{Checker, CheckerJudges, SomeTable, Fits, leastAnswer, blankAnswer}
+use Rattle.duality.specs.Picks.{SomePicks}
+use Rattle.duality.proofs.Classes.{optimal-accepted, infeasible-accepted, unbounded-accepted}
+use Rattle.checker.proofs.Agreeing.{listed-length, listed-point, listed-strategy, listed-fit, optimal-agrees, infeasible-agrees, unbounded-agrees}
+use Rattle.checker.proofs.Accepting.{record-accepted, layout-within, layout-enough}
+use Rattle.checker.proofs.Soundness.{least-fits, infeasible-fits, unbounded-fits}
+
+module _ (check : Checker) (judges : CheckerJudges check) (p : List ℕ) (b : Bytes p) (w : WithinLayout p) where
+  -- A least plan is accepted with some table.
+  pub least-complete : (x : Point) (s : ℤ) → Fits (nField p) s x → Feasible (problemOf p) x → value (problemOf p) x ≡ whole s
+      → ((y : Point) → Feasible (problemOf p) y → whole s ≼ value (problemOf p) y) → SomeTable check p class-optimal (leastAnswer (nField p) s x)
+  unfolding problemOf
+  least-complete x s f feasible v least =
+      let c = optimal-accepted (problemOf p) s x feasible v .0 least in
+      let picks : List ℕ = listOf (c .picks) (suc (nField p)) in
+      let count = listed-length (c .picks) (suc (nField p)) in
+      let fit = listed-fit (suc (mField p)) (c .picks) (suc (nField p)) (c .none-above) in
+      record {
+        picks = picks;
+        count = count;
+        none-above = fit;
+        accepted-with = record-accepted check judges p (leastAnswer (nField p) s x picks) b w (least-fits p w x s f picks count fit) .1
+            (optimal refl refl (optimal-agrees (problemOf p) s (listed-point x (suc (nField p))) (listed-strategy (c .picks) (suc (nField p))) (c .accepted)));
+      }
+
+  -- Where no plan has a span below plus infinity, some table is accepted for none.
+  pub none-complete : Infeasible (problemOf p) → SomeTable check p class-infeasible (blankAnswer class-infeasible)
+  unfolding problemOf
+  none-complete h =
+      let c = infeasible-accepted (problemOf p) lead-limit span-limit (layout-within p w) (layout-enough p w) .0 h in
+      let picks : List ℕ = listOf (c .picks) (suc (nField p)) in
+      let count = listed-length (c .picks) (suc (nField p)) in
+      let fit = listed-fit (suc (mField p)) (c .picks) (suc (nField p)) (c .none-above) in
+      record {
+        picks = picks;
+        count = count;
+        none-above = fit;
+        accepted-with = record-accepted check judges p (blankAnswer class-infeasible picks) b w (infeasible-fits p w picks count fit) .1
+            (infeasible refl (infeasible-agrees (problemOf p) (listed-strategy (c .picks) (suc (nField p))) (c .accepted)));
+      }
+
+  -- Where spans fall below every whole number, some table is accepted for bottomless.
+  pub bottomless-complete : Unbounded (problemOf p) → SomeTable check p class-unbounded (blankAnswer class-unbounded)
+  unfolding problemOf
+  bottomless-complete h =
+      let c = unbounded-accepted (problemOf p) lead-limit span-limit (layout-within p w) (layout-enough p w) .0 h in
+      let picks : List ℕ = listOf (c .picks) (suc (mField p)) in
+      let count = listed-length (c .picks) (suc (mField p)) in
+      let fit = listed-fit (suc (nField p)) (c .picks) (suc (mField p)) (c .none-above) in
+      record {
+        picks = picks;
+        count = count;
+        none-above = fit;
+        accepted-with = record-accepted check judges p (blankAnswer class-unbounded picks) b w (unbounded-fits p w picks count fit) .1
+            (unbounded refl (unbounded-agrees (problemOf p) (listed-strategy (c .picks) (suc (mField p))) (c .accepted)));
+      }

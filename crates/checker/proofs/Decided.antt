@@ -1,0 +1,387 @@
+-- Whether an answer is accepted is decided: reach and closed walks by finitely many rounds, the rest by finitely many
+-- tests. The tests of the code are put to use here without the code, on tables written down as lists.
+use Prim.Native.Nat.{ℕ, zero, suc, _+_, _*_, _-_, _/_, _%_, _≤_, _<_}
+use mathlib.Core.Path.{_≡_, refl, ap, sym, subst, _∙_}
+use mathlib.Core.Bool.{Bool, true, false, cond, _||_, false≢true}
+use mathlib.Core.List.{List, [], _∷_}
+use mathlib.Core.Logic.{_⊎_, inl, inr, ⊎-elim}
+use native.Mathlib.Omega.{arith}
+use native.Mathlib.Numerals.{add-one}
+use native.Mathlib.Nat.{eq-zero-or-pos}
+use lib.Dec.{eqb}
+use lib.ListN.{length, getD, set, replicate, List·getD-eq-default}
+use lib.IntN.{ℤ, pos, negsuc, subℕ, _-ℤ_}
+use borrow.Author.Tests.{eq-eqb, ne-eqb, eqb-true, eqb-false}
+use Rattle.definitions.specs.Limits.{signed-half, span-limit, highest-n, highest-m}
+use Rattle.definitions.specs.Tropical.{Trop, bot, fin, Finite}
+use Rattle.definitions.specs.Bytes.{Bytes}
+use Rattle.definitions.specs.Offset.{tropOf}
+use Rattle.definitions.specs.Problem as Problems
+use Rattle.definitions.specs.Problem.{Problem, Point, Value, minus-infinity, plus-infinity, Keeps, value}
+use Rattle.definitions.specs.Certificate.{PicksCount, BelowZero, RowPicksCount, AcceptedOptimal}
+use Rattle.definitions.specs.ProblemRecord.{listOf, WithinLayout, problemOf, nField, mField}
+use Rattle.definitions.specs.AnswerRecord.{Answer, known-class, classField, stampCount, pickCount, answerOf, answerRefusal}
+use Rattle.definitions.specs.Verdict.{Accepted, strategyOf}
+use Rattle.definitions.proofs.Whole as Whole
+use Rattle.definitions.proofs.Whole.{nat-le-or-lt, le-or-lt}
+use Rattle.definitions.proofs.Tropical.{bot-not-fin, fin-injective, blank-or-finite, ⊑-or-above, finite-above}
+use Rattle.definitions.proofs.Offset.{trop-fin}
+use Rattle.definitions.proofs.Refusals.{answer-fits}
+use Rattle.duality.specs.Picks.{AtLeastZero}
+use Rattle.duality.specs.Values.{valueAt}
+use Rattle.duality.proofs.Longest.{exit-value, stable-potential, still-stable, potential-closed}
+use Rattle.records.specs.Tables.{leftTable, rightTable}
+use Rattle.records.specs.Fields.{Padded, stampsOf, picksOf, stampsAt, picksAt}
+use Rattle.records.specs.AnswerReading.{spanNumber, answerReadOf, AnswerRead}
+use Rattle.records.proofs.Tables.{length-listOf, getD-listOf}
+use Rattle.records.proofs.Passing.{stampsAt-length, picksAt-length}
+use Rattle.records.proofs.Trips.{stamps-most, picks-most}
+use Rattle.checker.specs.Decides.{Decides}
+use Rattle.checker.specs.Marks.{Marked, Flags, Reached, markOf, RowMarked, Marking, Reaching, unmarked}
+use Rattle.checker.specs.Gains.{matrix, anywhere, Table, NoneGains, SomeGains, Tested}
+use Rattle.checker.specs.Tables.{Sized, Holds, Stamped, Picked, Trial, stampsPoint}
+use Rattle.checker.specs.Arcs.{variableArc, VariableArcs, heaviest, RowArcs}
+use Rattle.checker.specs.Counts.{PickCounts, RowPickCounts, VariablesCount, Stands, RowsCount, Idle, Anchored}
+use Rattle.checker.specs.Outcome.{Span, Meant, Formed}
+use Rattle.checker.proofs.Decides.{said-yes, said-no}
+use Rattle.checker.proofs.Counting.{anchor-marked}
+use Rattle.checker.proofs.Marks.{row-none, row-more, marking-none, marking-skip, marking-row, reaching-start, reaching-round, reached-done, round-falls}
+use Rattle.checker.proofs.ClosedWalks.{all-or-gain}
+use Rattle.checker.proofs.Variables.{variables-table, variables-not, variables-both}
+use Rattle.checker.proofs.RowStrategy.{rows-table, rows-not, rows-both}
+use Rattle.checker.proofs.Acceptance.{trial-below, optimal-broken, optimal-other, optimal-picks, trial-below-is, top-trial, top-trial-is, lowest-trial, lowest-trial-is, infeasible-at, unbounded-at, by-optimal, by-unbounded, by-infeasible, highest-row, highest-variable, class-other}
+use Rattle.checker.proofs.Answers.{HeadRead, read-means, read-formed}
+use Rattle.checker.proofs.Verdicts.{tables-decoded, holds-sized}
+
+-- P holds or not, with the answer as a Boolean.
+pub record Decided (P : Type 0) : Type 0 where
+  pub answer : Bool
+  pub decides : Decides P answer
+
+yes : {P : Type 0} → P → Decided P
+yes h = record { answer = true; decides = said-yes h }
+
+no : {P : Type 0} → (P → ⊥) → Decided P
+no h = record { answer = false; decides = said-no h }
+
+-- What is decided holds or does not.
+pub known : {P : Type 0} → Decided P → P ⊎ (P → ⊥)
+known {P} d = go (d .answer) refl
+  where
+    go : (b : Bool) → d .answer ≡ b → P ⊎ (P → ⊥)
+    go true e = inl (d .decides .yes e)
+    go false e = inr (d .decides .no e)
+
+-- All of finitely many are decided.
+all-decided : {P : ℕ → Type 0} → ((i : ℕ) → Decided (P i)) → (k : ℕ) → Decided ((i : ℕ) → i < k → P i)
+all-decided f zero = yes (λ i h. absurd (omega arith))
+all-decided {P} f (suc k) = ⊎-elim
+    (λ h. ⊎-elim (λ e. yes (λ i b. last i b h e)) (λ d. no (λ g. d (g k (omega arith)))) (known (f k)))
+    (λ d. no (λ g. d (λ i b. g i (omega arith))))
+    (known (all-decided f k))
+  where
+    last : (i : ℕ) → i < suc k → ((i : ℕ) → i < k → P i) → P k → P i
+    last i b h e = ⊎-elim (λ (l : k ≤ i). let q : k ≡ i = omega arith in subst P q e) (λ (l : i < k). h i l) (nat-le-or-lt k i)
+
+-- A premise that is decided, and what it is asked for.
+under : {P Q : Type 0} → Decided P → Decided Q → Decided (P → Q)
+under p q = ⊎-elim (λ h. ⊎-elim (λ g. yes (λ _. g)) (λ d. no (λ f. d (f h))) (known q)) (λ d. yes (λ h. absurd (d h))) (known p)
+
+nonzero : (k : ℕ) → Decided (0 < k)
+nonzero k = ⊎-elim (λ (e : k ≡ 0). no (λ h. omega arith)) (λ h. yes h) (eq-zero-or-pos k)
+
+-- ---- reach
+
+record RowOf (arcs : List ℕ) (base k : ℕ) (old : List ℕ) : Type 0 where
+  marks : List ℕ
+  row : RowMarked arcs base k old marks
+
+row-exists : (arcs : List ℕ) (base : ℕ) (old : List ℕ) → length old ≡ 32 → (k : ℕ) → k ≤ 32 → RowOf arcs base k old
+row-exists arcs base old e zero h = record { marks = old; row = row-none arcs base old }
+row-exists arcs base old e (suc k) h =
+    let r = row-exists arcs base old e k (omega arith) in
+    record { marks = set (r .marks) k (markOf (getD (r .marks) k 0) (getD arcs (base + k) 0)); row = rw (← add-one k) (row-more (r .row) (omega (arith, r .row .same)) refl) }
+
+record RoundOf (arcs : List ℕ) (width : ℕ) (old : List ℕ) (k : ℕ) : Type 0 where
+  marks : List ℕ
+  marking : Marking arcs width old k marks
+
+round-step : (arcs : List ℕ) (width : ℕ) (old : List ℕ) (k : ℕ) → width ≤ 32 → k < width → RoundOf arcs width old k → RoundOf arcs width old (suc k)
+round-step arcs width old k w h before = ⊎-elim
+    (λ (z : getD old k 0 ≡ 0). record { marks = before .marks; marking = rw (← add-one k) (marking-skip (before .marking) z) })
+    (λ (z : 0 < getD old k 0).
+    let r = row-exists arcs (k * 32) (before .marks) (before .marking .flags .length-is) width w in
+    record { marks = r .marks; marking = rw (← add-one k) (marking-row (before .marking) w h (λ e. omega arith) (r .row)) })
+    (eq-zero-or-pos (getD old k 0))
+
+round-exists : (arcs : List ℕ) (width : ℕ) (old : List ℕ) → width ≤ 32 → Flags old → (k : ℕ) → k ≤ width → RoundOf arcs width old k
+round-exists arcs width old w f zero h = record { marks = old; marking = marking-none arcs width old f }
+round-exists arcs width old w f (suc k) h = round-step arcs width old k w (omega arith) (round-exists arcs width old w f k (omega arith))
+
+same-or-not : (a b : ℕ) → Decided (a ≡ b)
+same-or-not a b = go (eqb a b) refl
+  where
+    go : (t : Bool) → eqb a b ≡ t → Decided (a ≡ b)
+    go true e = yes (eqb-true a b e)
+    go false e = no (eqb-false a b e)
+
+-- Marks of the variables that are reachable from the start.
+pub record MarksOf (arcs : List ℕ) (width : ℕ) (begin : List ℕ) : Type 0 where
+  pub marks : List ℕ
+  pub reached : Reached arcs width begin marks
+
+-- One round more, unless it marks nothing new.
+reach-step : {arcs : List ℕ} {width : ℕ} {begin : List ℕ} (marks : List ℕ) → width ≤ 32 → Reaching arcs width begin marks
+    → ((new : List ℕ) → unmarked new width < unmarked marks width → Reaching arcs width begin new → MarksOf arcs width begin)
+    → MarksOf arcs width begin
+reach-step {arcs} {width} {begin} marks w r further = ⊎-elim
+    (λ agree. record { marks = marks; reached = reached-done r (new .marking) agree })
+    (λ d. further (new .marks) (round-falls r (new .marking) d) (reaching-round r (new .marking)))
+    (known (all-decided (λ j. same-or-not (getD marks j 0) (getD (new .marks) j 0)) width))
+  where
+    new : RoundOf arcs width marks width
+    new = round-exists arcs width marks w (r .flags) width (omega arith)
+
+reach-on : (arcs : List ℕ) (width : ℕ) (begin : List ℕ) → width ≤ 32 → (fuel : ℕ) (marks : List ℕ) → unmarked marks width ≤ fuel
+    → Reaching arcs width begin marks → MarksOf arcs width begin
+reach-on arcs width begin w zero marks h r = reach-step marks w r (λ new l q. absurd (omega arith))
+reach-on arcs width begin w (suc fuel) marks h r = reach-step marks w r (λ new l q. reach-on arcs width begin w fuel new (omega arith) q)
+
+pub reach-exists : (arcs : List ℕ) (width : ℕ) (begin : List ℕ) → width ≤ 32 → Flags begin → MarksOf arcs width begin
+reach-exists arcs width begin w f = reach-on arcs width begin w (unmarked begin width) begin (omega arith) (reaching-start arcs width begin f)
+
+-- ---- closed walks
+
+pub record TestOf (arcs marks : List ℕ) (width : ℕ) : Type 0 where
+  pub answer : Bool
+  pub tested : Tested arcs marks width answer
+
+pub test-exists : (arcs marks : List ℕ) (width : ℕ) → Table arcs width → 0 < width → TestOf arcs marks width
+unfolding anywhere
+test-exists arcs marks width table h = ⊎-elim
+    (λ still. record { answer = true; tested = record { yes = λ _. none still; no = λ e. absurd (false≢true (sym e)) } })
+    (λ some. record { answer = false; tested = record { yes = λ e. absurd (false≢true e); no = λ _. some } })
+    (all-or-gain arcs marks width table (width - 1) width (omega arith) (omega arith))
+  where
+    none : ((j : ℕ) → j < width → valueAt (matrix arcs marks) anywhere width (suc (width - 1)) j ≡ valueAt (matrix arcs marks) anywhere width (width - 1) j)
+        → NoneGains arcs marks width
+    none still j n w b p =
+        potential-closed (stable-potential (matrix arcs marks) anywhere width (still-stable (matrix arcs marks) anywhere width (width - 1) still)) b
+        (finite-above (exit-value (matrix arcs marks) anywhere width (width - 1) j)) p
+
+-- ---- picks that count
+
+pick-decided : (left : List ℕ) (pick j : ℕ) → Decided (PickCounts left pick j)
+pick-decided left zero j = no (λ c. omega (arith, c .picked))
+pick-decided left (suc i) j = ⊎-elim
+    (λ (h : 0 < getD left (i * 32 + j) 0). yes (record { row = i; picked = refl; some = h }))
+    (λ d. no (λ c. d (let e : c .row ≡ i = omega (arith, c .picked) in rw (← e) (c .some))))
+    (known (nonzero (getD left (i * 32 + j) 0)))
+
+row-pick-decided : (right : List ℕ) (pick base : ℕ) → Decided (RowPickCounts right pick base)
+row-pick-decided right zero base = no (λ c. omega (arith, c .picked))
+row-pick-decided right (suc l) base = ⊎-elim
+    (λ (h : 0 < getD right (base + l) 0). yes (record { variable = l; picked = refl; some = h }))
+    (λ d. no (λ c. d (let e : c .variable ≡ l = omega (arith, c .picked) in rw (← e) (c .some))))
+    (known (nonzero (getD right (base + l) 0)))
+
+variables-decided : (left picks marks : List ℕ) (k : ℕ) → Decided (VariablesCount left picks marks k)
+variables-decided left picks marks k = all-decided (λ j. under (nonzero (getD marks j 0)) (pick-decided left (getD picks j 0) j)) k
+
+rows-decided : (left right picks marks : List ℕ) (width k : ℕ) → Decided (RowsCount left right picks marks width k)
+rows-decided left right picks marks width k =
+    all-decided (λ i. all-decided (λ j. under (nonzero (getD marks j 0)) (under (nonzero (getD left (i * 32 + j) 0)) (row-pick-decided right (getD picks i 0) (i * 32)))) width) k
+
+-- ---- strategies
+
+-- The table of a strategy of variables, and that of a strategy of rows.
+variable-table : List ℕ → List ℕ → ℕ → ℕ → List ℕ → List ℕ
+variable-table left right m t picks = listOf (λ k. variableArc left right m t (getD picks (k / 32) 0) (k / 32) (k % 32)) 1024
+
+row-table : List ℕ → List ℕ → ℕ → ℕ → List ℕ → List ℕ
+row-table left right m t picks = listOf (λ k. heaviest left right m t picks (m + 1) (k / 32) (k % 32)) 1024
+
+-- An entry of a table that is written down so.
+cell-at : (f : ℕ → ℕ → ℕ) (n j l : ℕ) → n ≤ highest-n → j < n + 1 → l < n + 1 → getD (listOf (λ k. f (k / 32) (k % 32)) 1024) (j * 32 + l) 0 ≡ f j l
+cell-at f n j l w h k =
+    let a : (j * 32 + l) / 32 ≡ j = omega arith in
+    let b : (j * 32 + l) % 32 ≡ l = omega arith in
+    getD-listOf (λ k. f (k / 32) (k % 32)) 1024 (j * 32 + l) (omega arith) ∙ rw (a, b)
+
+variable-cells : (left right : List ℕ) (n m t : ℕ) (picks : List ℕ) → n ≤ highest-n
+    → VariableArcs left right m t picks (n + 1) (n + 1) (variable-table left right m t picks)
+unfolding variable-table
+variable-cells left right n m t picks w = record {
+  length-is = length-listOf _ 1024;
+  cells = λ j l h k. cell-at (λ j l. variableArc left right m t (getD picks j 0) j l) n j l w h k;
+}
+
+row-cells : (left right : List ℕ) (n m t : ℕ) (picks : List ℕ) → n ≤ highest-n
+    → RowArcs left right m t picks (n + 1) (m + 1) (row-table left right m t picks)
+unfolding row-table
+row-cells left right n m t picks w = record {
+  length-is = length-listOf _ 1024;
+  cells = λ j l h k. cell-at (heaviest left right m t picks (m + 1)) n j l w h k;
+}
+
+module _ {p : Problem} {left right : List ℕ} {n m : ℕ} (t : ℕ) {picks : List ℕ} {z : ℤ} (holds : Holds p left right n m) (trial : Trial t) (trial-is : tropOf t ≡ fin z) where
+  pub strategy-decided : Picked picks (m + 1) → Decided (PicksCount p (strategyOf picks) × BelowZero p (strategyOf picks) z)
+  strategy-decided picked = go (counts .answer) refl
+    where
+      sized : Sized left right n m
+      sized = holds-sized holds
+
+      arcs : List ℕ
+      arcs = variable-table left right m t picks
+
+      shown : VariableArcs left right m t picks (n + 1) (n + 1) arcs
+      shown = variable-cells left right n m t picks (sized .n-most)
+
+      marked : MarksOf arcs (n + 1) (1 ∷ replicate 31 0)
+      marked = reach-exists arcs (n + 1) (1 ∷ replicate 31 0) (omega (arith, sized .n-most)) (anchor-marked .flags)
+
+      counts : Decided (VariablesCount left picks (marked .marks) (n + 1))
+      counts = variables-decided left picks (marked .marks) (n + 1)
+
+      test : TestOf arcs (marked .marks) (n + 1)
+      test = test-exists arcs (marked .marks) (n + 1) (variables-table sized trial picked shown) (omega arith)
+
+      go : (b : Bool) → counts .answer ≡ b → Decided (PicksCount p (strategyOf picks) × BelowZero p (strategyOf picks) z)
+      go false e = record { answer = false; decides = variables-not sized trial picked shown holds trial-is anchor-marked (marked .reached) (counts .decides) e }
+      go true e = record { answer = test .answer; decides = variables-both sized trial picked shown holds trial-is anchor-marked (marked .reached) (counts .decides) e (test .tested) }
+
+  pub row-strategy-decided : Picked picks (n + 1) → Decided (RowPicksCount p (strategyOf picks) × AtLeastZero p (strategyOf picks) z)
+  row-strategy-decided picked = go (counts .answer) refl
+    where
+      sized : Sized left right n m
+      sized = holds-sized holds
+
+      arcs : List ℕ
+      arcs = row-table left right m t picks
+
+      shown : RowArcs left right m t picks (n + 1) (m + 1) arcs
+      shown = row-cells left right n m t picks (sized .n-most)
+
+      marked : MarksOf arcs (n + 1) (1 ∷ replicate 31 0)
+      marked = reach-exists arcs (n + 1) (1 ∷ replicate 31 0) (omega (arith, sized .n-most)) (anchor-marked .flags)
+
+      counts : Decided (RowsCount left right picks (marked .marks) (n + 1) (m + 1))
+      counts = rows-decided left right picks (marked .marks) (n + 1) (m + 1)
+
+      test : TestOf arcs (marked .marks) (n + 1)
+      test = test-exists arcs (marked .marks) (n + 1) (rows-table sized trial picked shown) (omega arith)
+
+      go : (b : Bool) → counts .answer ≡ b → Decided (RowPicksCount p (strategyOf picks) × AtLeastZero p (strategyOf picks) z)
+      go false e = record { answer = false; decides = rows-not sized trial picked shown holds trial-is anchor-marked (marked .reached) (counts .decides) e }
+      go true e = record { answer = test .answer; decides = rows-both sized trial picked shown holds trial-is anchor-marked (marked .reached) (counts .decides) e (test .tested) }
+
+-- ---- points
+
+keeps-decided : (p : Problem) (x : Point) (m : ℕ) → Decided ((i : ℕ) → i < m → Keeps p x i)
+keeps-decided p x m = all-decided (λ i. ⊎-elim (λ h. yes h) (λ h. no (h .1)) (⊑-or-above _ _)) m
+
+value-decided : (v : Value) (z : ℤ) → Decided (v ≡ Problems.whole z)
+value-decided minus-infinity z = no (λ e. let q : _≡_ {A = ℕ} 0 1 = cc in omega arith)
+value-decided plus-infinity z = no (λ e. let q : _≡_ {A = ℕ} 0 1 = cc in omega arith)
+value-decided (Problems.whole y) z = ⊎-elim
+    (λ h. ⊎-elim (λ k. let e : y ≡ z = omega Whole.whole in yes (ap Problems.whole e)) (λ k. no (λ e. let q : y ≡ z = cc in omega (Whole.whole, q))) (le-or-lt z y))
+    (λ h. no (λ e. let q : y ≡ z = cc in omega (Whole.whole, q)))
+    (le-or-lt y z)
+
+-- ---- answers
+
+module _ {p : Problem} {left right : List ℕ} {n m class span : ℕ} {stamps picks : List ℕ} (holds : Holds p left right n m)
+    (formed : Formed n m class span stamps picks) where
+  pub optimal-decided : class ≡ 1 → {z : ℤ} → tropOf span ≡ fin z → Decided (AcceptedOptimal p z (stampsPoint stamps) (strategyOf picks))
+  optimal-decided e {z} f = go (rules .answer) refl (is .answer) refl
+    where
+      rules : Decided ((i : ℕ) → i < m → Keeps p (stampsPoint stamps) i)
+      rules = keeps-decided p (stampsPoint stamps) m
+
+      is : Decided (value p (stampsPoint stamps) ≡ Problems.whole z)
+      is = value-decided (value p (stampsPoint stamps)) z
+
+      walks : Decided (PicksCount p (strategyOf picks) × BelowZero p (strategyOf picks) (z -ℤ pos 1))
+      walks = strategy-decided (span - 1) holds (trial-below (formed .whole-span e)) (trial-below-is span (formed .whole-span e) f)
+          (rw (highest-row n m class (λ q. omega arith)) at (formed .picked))
+
+      go : (a : Bool) → rules .answer ≡ a → (b : Bool) → is .answer ≡ b → Decided (AcceptedOptimal p z (stampsPoint stamps) (strategyOf picks))
+      go false a b c = record { answer = false; decides = optimal-broken holds stamps (rules .decides) a }
+      go true a false c = record { answer = false; decides = optimal-other holds stamps (is .decides) c }
+      go true a true c = record { answer = walks .answer; decides = optimal-picks holds stamps (formed .anchored e) (rules .decides) a (is .decides) c (walks .decides) }
+
+  -- Whether the answer that these mean is accepted.
+  pub accepted-decided : {a : Answer} → Meant a class span stamps picks → Decided (Accepted p a)
+  accepted-decided {a} meant = by-class (eqb class 1) refl (eqb class 2) refl (eqb class 3) refl
+    where
+      by-class : (b : Bool) → eqb class 1 ≡ b → (c : Bool) → eqb class 2 ≡ c → (d : Bool) → eqb class 3 ≡ d → Decided (Accepted p a)
+      by-class true e c f d g =
+          let one : class ≡ 1 = eqb-true class 1 e in
+          let whole-span = formed .whole-span one in
+          let is : tropOf span ≡ fin (subℕ span signed-half) = trop-fin span (whole-span .some) in
+          let d = optimal-decided one is in
+          record {
+            answer = d .answer;
+            decides = by-optimal meant one whole-span
+                (λ z h. subst (λ (y : ℤ). Decides (AcceptedOptimal p y (stampsPoint stamps) (strategyOf picks)) (d .answer)) (fin-injective (sym is ∙ h)) (d .decides));
+          }
+      by-class false e true f d g =
+          let two : class ≡ 2 = eqb-true class 2 f in
+          let picked = rw (highest-variable n m class two) at (formed .picked) in
+          let d = row-strategy-decided (signed-half - span-limit - 1) holds lowest-trial lowest-trial-is picked in
+          record { answer = d .answer; decides = by-unbounded meant two (unbounded-at holds picked (d .decides)) }
+      by-class false e false f true g =
+          let three : class ≡ 3 = eqb-true class 3 g in
+          let picked = rw (highest-row n m class (eqb-false class 2 f)) at (formed .picked) in
+          let d = strategy-decided (signed-half + span-limit) holds top-trial top-trial-is picked in
+          record { answer = d .answer; decides = by-infeasible meant three (infeasible-at holds picked (d .decides)) }
+      by-class false e false f false g = absurd (class-other (formed .class-known) (eqb-false class 1 e) (eqb-false class 2 f) (eqb-false class 3 g))
+
+-- ---- bytes
+
+-- A list as an array, with 0 behind it.
+pad : ℕ → List ℕ → List ℕ
+pad width xs = listOf (λ k. getD xs k 0) width
+
+padded : (width : ℕ) (xs : List ℕ) → length xs ≤ width → Padded width xs (pad width xs)
+unfolding pad
+padded width xs h = record {
+  width-is = length-listOf _ width;
+  element = λ k. ⊎-elim
+      (λ (l : width ≤ k).
+      let long : length (listOf (λ k. getD xs k 0) width) ≤ k = rw length-listOf l in
+      let none : length xs ≤ k = omega arith in
+      List·getD-eq-default (listOf (λ k. getD xs k 0) width) 0 long ∙ sym (List·getD-eq-default xs 0 none))
+      (λ (l : k < width). getD-listOf (λ k. getD xs k 0) width k l)
+      (nat-le-or-lt width k);
+}
+
+held-by : (p : List ℕ) → Bytes p → WithinLayout p → Holds (problemOf p) (leftTable p) (rightTable p) (nField p) (mField p)
+unfolding problemOf
+held-by p b w = record { n-is = refl; m-is = refl; decoded = tables-decoded p b w }
+
+read-by : (a : List ℕ) (n m : ℕ) → answerRefusal a n m ≡ 0
+    → AnswerRead a n m (answerReadOf a n m) [] (pad 32 (stampsOf a n)) [] (pad 64 (picksOf a n m))
+unfolding stampsOf picksOf
+read-by a n m none =
+    let f = answer-fits a n m .0 none in
+    record {
+      answered = refl;
+      kept = λ d. absurd (d none);
+      stamps-read = λ _. padded 32 _ (rw stampsAt-length (stamps-most (classField a) n (f .n-most)));
+      picks-read = λ _. padded 64 _ (rw picksAt-length (picks-most (classField a) n m (f .n-most) (f .m-most)));
+    }
+
+-- Whether bytes of the right form are accepted.
+pub bytes-decided : (p a : List ℕ) → Bytes p → Bytes a → WithinLayout p → answerRefusal a (nField p) (mField p) ≡ 0
+    → Decided (Accepted (problemOf p) (answerOf a (nField p) (mField p)))
+bytes-decided p a b c w none = accepted-decided held (read-formed c read right) (read-means c read right)
+  where
+    held : Holds (problemOf p) (leftTable p) (rightTable p) (nField p) (mField p)
+    held = held-by p b w
+
+    right : HeadRead a (nField p) (mField p) (classField a) (spanNumber a)
+    right = record { none = none; class-is = refl; span-is = refl }
+
+    read : AnswerRead a (nField p) (mField p) (answerReadOf a (nField p) (mField p)) [] (pad 32 (stampsOf a (nField p))) [] (pad 64 (picksOf a (nField p) (mField p)))
+    read = read-by a (nField p) (mField p) none
