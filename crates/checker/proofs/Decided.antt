@@ -51,7 +51,8 @@ use Rattle.checker.proofs.Variables.{variables-table, variables-not, va
 use Rattle.checker.proofs.RowStrategy.{rows-table, rows-not, rows-both}
 use Rattle.checker.proofs.Acceptance.{trial-below, optimal-broken, optimal-other, optimal-picks, trial-below-is, top-trial, top-trial-is, lowest-trial, lowest-trial-is, infeasible-at, unbounded-at, by-optimal, by-unbounded, by-infeasible, highest-row, highest-variable, class-other}
 use Rattle.checker.proofs.Answers.{HeadRead, read-means, read-formed}
-use Rattle.checker.proofs.Verdicts.{tables-decoded, holds-sized}
+use Rattle.checker.proofs.Verdicts.{holds-sized}
+use Rattle.records.proofs.LeadTables.{problem-decoded}
 
 -- P holds or not, with the answer as a Boolean.
 pub record Decided (P : Type 0) : Type 0 where
@@ -358,7 +359,7 @@ padded width xs h = record {
 
 held-by : (p : List ℕ) → Bytes p → WithinLayout p → Holds (problemOf p) (leftTable p) (rightTable p) (nField p) (mField p)
 unfolding problemOf
-held-by p b w = record { n-is = refl; m-is = refl; decoded = tables-decoded p b w }
+held-by p b w = record { n-is = refl; m-is = refl; decoded = problem-decoded p b w }
 
 read-by : (a : List ℕ) (n m : ℕ) → answerRefusal a n m ≡ 0
     → AnswerRead a n m (answerReadOf a n m) [] (pad 32 (stampsOf a n)) [] (pad 64 (picksOf a n m))
