@@ -38,7 +38,7 @@ module _ (check : Checker) (judges : CheckerJudges check) (p : List ℕ) (b : By
   pub none-complete : Infeasible (problemOf p) → SomeTable check p class-infeasible (blankAnswer class-infeasible)
   unfolding problemOf
   none-complete h =
-      let c = infeasible-accepted (problemOf p) lead-limit span-limit (layout-within p w) (layout-enough p w) .0 h in
+      let c = infeasible-accepted (problemOf p) .0 h in
       let picks : List ℕ = listOf (c .picks) (suc (nField p)) in
       let count = listed-length (c .picks) (suc (nField p)) in
       let fit = listed-fit (suc (mField p)) (c .picks) (suc (nField p)) (c .none-above) in
@@ -54,7 +54,7 @@ module _ (check : Checker) (judges : CheckerJudges check) (p : List ℕ) (b : By
   pub bottomless-complete : Unbounded (problemOf p) → SomeTable check p class-unbounded (blankAnswer class-unbounded)
   unfolding problemOf
   bottomless-complete h =
-      let c = unbounded-accepted (problemOf p) lead-limit span-limit (layout-within p w) (layout-enough p w) .0 h in
+      let c = unbounded-accepted (problemOf p) .0 h in
       let picks : List ℕ = listOf (c .picks) (suc (mField p)) in
       let count = listed-length (c .picks) (suc (mField p)) in
       let fit = listed-fit (suc (nField p)) (c .picks) (suc (mField p)) (c .none-above) in

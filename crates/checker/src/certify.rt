@@ -15,8 +15,8 @@ ghost use Rattle.checker.specs.Decides.{Decides};
 ghost use Rattle.checker.specs.Marks.{Marked, Flags};
 ghost use Rattle.checker.specs.Tables.{Sized, Holds, Picked, Trial};
 ghost use Rattle.checker.specs.Counts.{PickCounts, RowPickCounts, VariablesCount, Idle, Stands, RowsCount, Anchored};
-
-use crate::arcs::{row_arcs, variable_arcs};
+use crate::arcs::row_arcs;
+use crate::arcs::variable_arcs;
 use crate::gains::none_gains;
 use crate::reach::reach;
 
@@ -58,7 +58,14 @@ fn variables_count(left: &[u64; 2048], picks: &[u64; 64], marks: &[u8; 32], widt
 }
 
 // A strategy of variables, judged at t.
-pub fn certify_variables(left: &[u64; 2048], right: &[u64; 2048], n: usize, m: usize, picks: &[u64; 64], t: u64) -> bool
+pub fn certify_variables(
+    left: &[u64; 2048],
+    right: &[u64; 2048],
+    n: usize,
+    m: usize,
+    picks: &[u64; 64],
+    t: u64,
+) -> bool
     requires { ⌜ Sized (now left) (now right) n m × Trial t × Picked (now picks) (m + 1) ⌝ }
     ensures { λ r. ⌜ ((p : Problem) (z : ℤ) → Holds p (now (left .entry)) (now (right .entry)) n m → tropOf t ≡ fin z → Decides (PicksCount p (strategyOf (now (picks .entry))) × BelowZero p (strategyOf (now (picks .entry))) z) r) ⌝ }
 {
@@ -100,7 +107,14 @@ fn row_picks(right: &[u64; 2048], base: usize, pick: usize) -> bool
 }
 
 // A row that is idle, or whose pick counts.
-fn row_stands(left: &[u64; 2048], right: &[u64; 2048], marks: &[u8; 32], width: usize, base: usize, pick: usize) -> bool
+fn row_stands(
+    left: &[u64; 2048],
+    right: &[u64; 2048],
+    marks: &[u8; 32],
+    width: usize,
+    base: usize,
+    pick: usize,
+) -> bool
     requires { ⌜ (base + 32 ≤ 2048) × (width ≤ 32) × (pick ≤ 32) ⌝ }
     ensures { λ r. ⌜ Decides (Stands (now (left .entry)) (now (right .entry)) (now (marks .entry)) width base pick) r ⌝ }
 {
@@ -111,7 +125,14 @@ fn row_stands(left: &[u64; 2048], right: &[u64; 2048], marks: &[u8; 32], width: 
 }
 
 // Every row in use has a pick that counts.
-fn rows_count(left: &[u64; 2048], right: &[u64; 2048], picks: &[u64; 64], marks: &[u8; 32], width: usize, rows: usize) -> bool
+fn rows_count(
+    left: &[u64; 2048],
+    right: &[u64; 2048],
+    picks: &[u64; 64],
+    marks: &[u8; 32],
+    width: usize,
+    rows: usize,
+) -> bool
     requires { ⌜ Picked (now picks) 32 × (width ≤ 32) × (rows ≤ 64) ⌝ }
     ensures { λ r. ⌜ Decides (RowsCount (now (left .entry)) (now (right .entry)) (now (picks .entry)) (now (marks .entry)) width rows) r ⌝ }
 {
@@ -124,7 +145,14 @@ fn rows_count(left: &[u64; 2048], right: &[u64; 2048], picks: &[u64; 64], marks:
 }
 
 // A strategy of rows, judged at t.
-pub fn certify_rows(left: &[u64; 2048], right: &[u64; 2048], n: usize, m: usize, picks: &[u64; 64], t: u64) -> bool
+pub fn certify_rows(
+    left: &[u64; 2048],
+    right: &[u64; 2048],
+    n: usize,
+    m: usize,
+    picks: &[u64; 64],
+    t: u64,
+) -> bool
     requires { ⌜ Sized (now left) (now right) n m × Trial t × Picked (now picks) (n + 1) ⌝ }
     ensures { λ r. ⌜ ((p : Problem) (z : ℤ) → Holds p (now (left .entry)) (now (right .entry)) n m → tropOf t ≡ fin z → Decides (RowPicksCount p (strategyOf (now (picks .entry))) × AtLeastZero p (strategyOf (now (picks .entry))) z) r) ⌝ }
 {

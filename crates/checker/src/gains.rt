@@ -5,8 +5,8 @@ ghost use lib.ListN.{length, getD};
 ghost use Rattle.checker.specs.Gains.{arc-zero, arc-most, Table, Tested};
 ghost use Rattle.checker.specs.Marks.{Flags};
 ghost use Rattle.checker.specs.GainRound.{Values, gainedBy, Rounded};
-
-use crate::sums::{best_sum, values_agree};
+use crate::sums::best_sum;
+use crate::sums::values_agree;
 
 // The number in the table of an arc that weighs 0.
 const ARC_ZERO: u64 = 1099511627776;

@@ -10,7 +10,6 @@ ghost use Rattle.definitions.specs.Offset.{tropOf};
 ghost use Rattle.checker.specs.Decides.{Decides};
 ghost use Rattle.checker.specs.Tables.{Sized, Holds, Stamped, stampsPoint};
 ghost use Rattle.checker.specs.Sides.{side-floor, sideOf, RowSized};
-
 use crate::sums::best_sum;
 use records::limits::OFFSET;
 
@@ -27,7 +26,13 @@ pub fn side(table: &[u64; 2048], base: usize, x: &[u64; 32], width: usize) -> u6
 }
 
 // The point keeps every inequality.
-pub fn keeps_rules(left: &[u64; 2048], right: &[u64; 2048], n: usize, m: usize, x: &[u64; 32]) -> bool
+pub fn keeps_rules(
+    left: &[u64; 2048],
+    right: &[u64; 2048],
+    n: usize,
+    m: usize,
+    x: &[u64; 32],
+) -> bool
     requires { ⌜ Sized (now left) (now right) n m × Stamped (now x) ⌝ }
     ensures { λ r. ⌜ ((p : Problem) → Holds p (now (left .entry)) (now (right .entry)) n m → Decides ((i : ℕ) → i < m → Keeps p (stampsPoint (now (x .entry))) i) r) ⌝ }
 {
@@ -41,7 +46,14 @@ pub fn keeps_rules(left: &[u64; 2048], right: &[u64; 2048], n: usize, m: usize, 
 }
 
 // The point's objective value is the span s.
-pub fn value_is(left: &[u64; 2048], right: &[u64; 2048], n: usize, m: usize, x: &[u64; 32], s: u64) -> bool
+pub fn value_is(
+    left: &[u64; 2048],
+    right: &[u64; 2048],
+    n: usize,
+    m: usize,
+    x: &[u64; 32],
+    s: u64,
+) -> bool
     requires { ⌜ Sized (now left) (now right) n m × Stamped (now x) × (s ≤ 4294967296) ⌝ }
     ensures { λ r. ⌜ ((p : Problem) (z : ℤ) → Holds p (now (left .entry)) (now (right .entry)) n m → tropOf s ≡ fin z → Decides (value p (stampsPoint (now (x .entry))) ≡ whole z) r) ⌝ }
 {
