@@ -2,7 +2,7 @@
 -- with the buffer untouched; else class and least span of the theory, in few trials, in a record that reads back and
 -- that any true checker accepts.
 use Prim.Native.Nat.{ℕ, zero, suc, _+_, _≤_}
-use mathlib.Core.Path.{_≡_, refl, ap, ap₂, sym, subst, _∙_}
+use mathlib.Core.Path.{_≡_, refl, ap, ap₂, sym, subst, subst₃, _∙_}
 use mathlib.Core.Bool.{true, and-eq-true-iff}
 use mathlib.Core.List.{List}
 use native.Mathlib.Omega.{arith}
@@ -11,8 +11,8 @@ use lib.ListN.{length, take}
 use lib.IntN.{ℤ}
 use borrow.Author.Tests.{le-ltb, eqb-true}
 use Rattle.definitions.specs.Limits.{answer-most, most-trials, class-optimal, class-unbounded, class-infeasible, lead-limit, span-limit}
-use Rattle.definitions.specs.Tropical.{Trop}
-use Rattle.definitions.specs.Problem.{Problem}
+use Rattle.definitions.specs.Tropical.{Trop, fin}
+use Rattle.definitions.specs.Problem.{Problem, Optimal}
 use Rattle.definitions.specs.Bytes.{Bytes, or-else}
 use Rattle.definitions.specs.ProblemRecord.{WithinLayout, problemRefusal, problemOf, nField, mField}
 use Rattle.definitions.specs.AnswerRecord.{Answer, answerRefusal, answerOf, answerSize, answerBytes, known-class, written, rightCounts, formRefusal}
@@ -20,6 +20,7 @@ use Rattle.definitions.specs.Verdict.{Verdict, accepted, checkRefusal, answerFo
 use Rattle.definitions.specs.Solved as Results
 use Rattle.definitions.specs.Solved.{Solved, answered, Found, optimal, unbounded, infeasible, Answers, Solves, solved, engineRefusal}
 use Rattle.definitions.specs.Demands.{Engine, Reader, Reading, fields, Checker, EngineSolves, EngineRefuses, LeastSpans, FoundBy, ReadsFields, EngineReadsBack, ReadBy, CheckerJudges, OwnAnswers, OwnAnswer}
+use Rattle.definitions.proofs.Tropical.{fin-injective}
 use Rattle.definitions.proofs.Bisection.{few-trials}
 use Rattle.definitions.proofs.Refusals.{or-else-none, ProblemFits, problem-fits, left-size, right-size, WriterFits, form-fits}
 use Rattle.definitions.proofs.RoundTrip.{answer-length, answer-back, answer-accepted, answer-bytes}
@@ -85,6 +86,27 @@ pub least-spans : (engine : Engine) → EngineSolves engine → LeastSpans engin
 least-spans engine solves p buffer b c w long =
     let e = engine-answer engine solves p buffer b c w long in
     record { class = e .class; span = e .span; trials = e .trials; size = answerSize (e .class) (nField p) (mField p); result-is = e .result-is; found = e .answers .found; few = few p w (e .answers .found) }
+
+-- What an engine finds, with class, span and trials as its result says them.
+result-parts : {c c′ : ℕ} {s s′ : Trop} {t t′ z z′ : ℕ} → answered c s t z ≡ answered c′ s′ t′ z′ → (c ≡ c′) × (s ≡ s′) × (t ≡ t′)
+result-parts e = (cc, cc, cc)
+
+pub found-as : (engine : Engine) (p buffer : List ℕ) (c : ℕ) (s : Trop) (t z : ℕ) → FoundBy engine p buffer → engine .result p buffer ≡ answered c s t z
+    → Found (problemOf p) c s t
+found-as engine p buffer c s t z f e =
+    let same = result-parts (sym (f .result-is) ∙ e) in
+    subst₃ (Found (problemOf p)) (same .0) (same .1) (same .2) (f .found)
+
+-- A quoted span is the smallest there is.
+quoted : {p : Problem} {c : ℕ} {x : Trop} {t : ℕ} → Found p c x t → (s : ℤ) → c ≡ class-optimal → x ≡ fin s → Optimal p s
+quoted {p} (optimal {s = z} o) s e f = subst (Optimal p) (fin-injective f) o
+quoted (unbounded u) s e f = absurd (omega (arith, e))
+quoted (infeasible n) s e f = absurd (omega (arith, e))
+
+pub quoted-is-smallest : (engine : Engine) → EngineSolves engine → (p buffer : List ℕ) → Bytes p → Bytes buffer → WithinLayout p → answer-most ≤ length buffer
+    → (s : ℤ) (trials size : ℕ) → engine .result p buffer ≡ answered class-optimal (fin s) trials size → Optimal (problemOf p) s
+quoted-is-smallest engine solves p buffer b c w long s trials size e =
+    quoted (found-as engine p buffer class-optimal (fin s) trials size (least-spans engine solves p buffer b c w long) e) s refl refl
 
 -- ---- the record that was written
 

@@ -1,3 +1,4 @@
 pub mod Engine
 pub mod Records
 pub mod WrongPrograms
+pub mod Demands

@@ -1,7 +1,7 @@
 -- Six wrong programs, from document 01's last section, do not meet the demands. Each theorem says what the program does and
 -- which statement it breaks; the examples are those that document 01 names in brackets.
 use Prim.Native.Nat.{ℕ, zero, suc, _+_, _≤_, _<_}
-use mathlib.Core.Path.{_≡_, refl, ap, sym, subst₃, _∙_}
+use mathlib.Core.Path.{_≡_, refl, ap, sym, _∙_}
 use mathlib.Core.Bool.{Bool, true, false, true≢false}
 use mathlib.Core.List.{List, [], _∷_}
 use native.Mathlib.Omega.{arith}
@@ -22,6 +22,7 @@ use Rattle.definitions.proofs.Bytes.{bytes-tested, bytes-take}
 use Rattle.definitions.proofs.Values.{infinite-not-below}
 use Rattle.definitions.proofs.Refusals.{answer-fits}
 use Rattle.definitions.proofs.Examples.{anchor-only, not-accepted-M}
+use Rattle.guarantees.proofs.Engine.{found-as}
 use Rattle.guarantees.proofs.Records.{read-fields}
 
 -- ---- the examples' bytes, and a buffer of 206 zeros
@@ -95,16 +96,6 @@ unfolding example-M answerRefusal answerHeaderRefusal answerOf formRefusal spanF
 form-M = refl
 
 -- ---- the wrong programs
-
--- What an engine finds, with class, span and trials as its result says them.
-result-parts : {c c′ : ℕ} {s s′ : Trop} {t t′ z z′ : ℕ} → answered c s t z ≡ answered c′ s′ t′ z′ → (c ≡ c′) × (s ≡ s′) × (t ≡ t′)
-result-parts e = (cc, cc, cc)
-
-found-as : (engine : Engine) (p buffer : List ℕ) (c : ℕ) (s : Trop) (t z : ℕ) → FoundBy engine p buffer → engine .result p buffer ≡ answered c s t z
-    → Found (problemOf p) c s t
-found-as engine p buffer c s t z f e =
-    let same = result-parts (sym (f .result-is) ∙ e) in
-    subst₃ (Found (problemOf p)) (same .0) (same .1) (same .2) (f .found)
 
 -- The engine that says none to every problem, without a trial or with one (demand 2, A).
 pub none-to-every-problem :
