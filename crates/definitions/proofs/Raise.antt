@@ -25,3 +25,12 @@ unraised p t i d = go (eqb i (p .m)) refl
     go : (b : Bool) → eqb i (p .m) ≡ b → cond b t (pos 0) ≡ pos 0
     go true e = absurd (d (eqb-true i (p .m) e))
     go false e = refl
+
+-- At zero no row is raised.
+pub raise-zero : (p : Problem) (i : ℕ) → raise p (pos 0) i ≡ pos 0
+unfolding raise
+raise-zero p i = go (eqb i (p .m))
+  where
+    go : (b : Bool) → cond b (pos 0) (pos 0) ≡ pos 0
+    go true = refl
+    go false = refl

@@ -10,22 +10,26 @@ use Rattle.definitions.specs.Problem.{Value, minus-infinity, plus-infini
 use Rattle.definitions.proofs.Whole.{whole, plus-read, minus-read, le-or-lt}
 use Rattle.definitions.proofs.Tropical.{fin-below, below-bot, bot-not-fin}
 
+-- The order is reflexive,
 pub ≼-refl : (v : Value) → v ≼ v
 ≼-refl minus-infinity = lowest
 ≼-refl (Problems.whole a) = between (≤ℤ-refl a)
 ≼-refl plus-infinity = highest
 
+-- transitive,
 pub ≼-trans : {u v w : Value} → u ≼ v → v ≼ w → u ≼ w
 ≼-trans lowest k = lowest
 ≼-trans (between {a = a} h) (between {b = c} k) = let r : a ≤ℤ c = omega whole in between r
 ≼-trans (between h) highest = highest
 ≼-trans highest highest = highest
 
+-- and antisymmetric.
 pub ≼-antisym : {u v : Value} → u ≼ v → v ≼ u → u ≡ v
 ≼-antisym lowest lowest = refl
 ≼-antisym (between {a = a} {b = b} h) (between k) = let e : a ≡ b = omega whole in ap Problems.whole e
 ≼-antisym highest highest = refl
 
+-- Whole numbers are ordered as they are.
 pub whole-below : {a b : ℤ} → Problems.whole a ≼ Problems.whole b → a ≤ℤ b
 whole-below (between h) = h
 
@@ -63,7 +67,7 @@ infinite-or-bounded minus-infinity = inr (record { bound = pos 0; below = lowest
 infinite-or-bounded (Problems.whole a) = inr (record { bound = a; below = ≼-refl (Problems.whole a) })
 infinite-or-bounded plus-infinity = inl highest
 
--- A difference is at most t exactly when the first number is at most the second raised by t.
+-- Where a difference is at most t, the first number is at most the second raised by t.
 pub minus-raised : (t : ℤ) (x y : Trop) → minus x y ≼ Problems.whole t → x ⊑ plus y (fin t)
 unfolding minus plus
 minus-raised t bot y h = blank-least
@@ -73,6 +77,7 @@ minus-raised t (fin a) (fin b) h =
     let r : a ≤ℤ (b +ℤ t) = omega (whole, minus-read a b, plus-read b t) in
     whole-least r
 
+-- And the converse.
 pub raised-minus : (t : ℤ) (x y : Trop) → x ⊑ plus y (fin t) → minus x y ≼ Problems.whole t
 unfolding minus plus
 raised-minus t bot y h = lowest

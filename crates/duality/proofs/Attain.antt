@@ -1,20 +1,20 @@
 -- Attainable at t, in the words of the system at t: some feasible point has a value of at most t exactly when the system
 -- at t has a solution that is finite at variable 0. Such a solution is moved so that variable 0 stands at 0.
-use Prim.Native.Nat.{ℕ, zero, suc, _≤_, _<_}
-use mathlib.Core.Path.{_≡_, refl, sym, subst, ap, _∙_}
-use mathlib.Core.Logic.{_⊎_, inl, inr, ⊎-elim, _↔_}
+use Prim.Native.Nat.{ℕ, suc, _<_}
+use mathlib.Core.Path.{_≡_, refl, sym, ap, _∙_}
+use mathlib.Core.Logic.{_↔_}
 use native.Mathlib.Omega.{arith}
 use native.Mathlib.Decide.{ℕ-discrete}
-use lib.IntN.{ℤ, pos, negℤ, _+ℤ_, _-ℤ_, +ℤ-invr}
+use lib.IntN.{ℤ, pos, negℤ, +ℤ-invr}
 use lib.Signed.{_≤ℤ_}
-use Rattle.definitions.specs.Tropical.{Trop, fin, plus, largest, _⊑_, Finite}
+use Rattle.definitions.specs.Tropical.{Trop, fin, plus, largest, _⊑_}
 use Rattle.definitions.specs.Problem as Problems
-use Rattle.definitions.specs.Problem.{Problem, Point, side, Keeps, Feasible, value, minus, Attainable, _≼_, between}
+use Rattle.definitions.specs.Problem.{Problem, Point, side, Keeps, Feasible, value, Attainable, _≼_, between}
 use Rattle.definitions.specs.Certificate.{Anchor, raise}
 use Rattle.definitions.proofs.Tropical.{plus-comm, plus-assoc, plus-zero, plus-is, plus-mono, ⊑-refl, largest-ext, largest-plus}
 use Rattle.definitions.proofs.Values.{≼-trans, minus-raised, raised-minus}
 use Rattle.definitions.proofs.Raise.{raised, unraised}
-use Rattle.duality.specs.System.{System, sideOf, Solves, Solution, systemAt}
+use Rattle.duality.specs.System.{System, Solves, Solution, systemAt}
 
 -- ---- shifting
 
@@ -54,21 +54,19 @@ keeps-solves : (p : Problem) (t : ℤ) (x : Point) → ((i : ℕ) → i < suc (p
 unfolding systemAt side
 keeps-solves p t x h i r = rw (side-raised (p .right i) x (fin (raise p t i)) (suc (p .n))) (h i r)
 
--- A point that stands at 0 is feasible and has a value of at most t exactly when it solves the system at t.
-pub solves-attains : (p : Problem) (t : ℤ) (x : Point) → x 0 ≡ fin (pos 0) → Solves (systemAt p t) x → Attainable p t
-unfolding value
-solves-attains p t x e h = record {
-  point = x;
-  feasible = record { anchored = e; keeps = keeps };
-  within = raised-minus t _ _ objective;
-}
+-- A point that stands at 0 and solves the system at t is feasible,
+pub solves-feasible : (p : Problem) (t : ℤ) (x : Point) → x 0 ≡ fin (pos 0) → Solves (systemAt p t) x → Feasible p x
+solves-feasible p t x e h = record { anchored = e; keeps = keeps }
   where
     keeps : (i : ℕ) → i < p .m → Keeps p x i
     keeps i r = rw (unraised p t i (λ e. omega arith), plus-zero) at (solves-keeps p t x h i (omega arith))
 
-    objective : side (p .n) (p .left (p .m)) x ⊑ plus (side (p .n) (p .right (p .m)) x) (fin t)
-    objective = rw raised at (solves-keeps p t x h (p .m) (omega arith))
+-- and has a value of at most t.
+pub solves-within : (p : Problem) (t : ℤ) (x : Point) → Solves (systemAt p t) x → value p x ≼ Problems.whole t
+unfolding value
+solves-within p t x h = raised-minus t _ _ (rw raised at (solves-keeps p t x h (p .m) (omega arith)))
 
+-- A feasible point with a value of at most t solves the system at t.
 pub attains-solves : (p : Problem) (t : ℤ) (x : Point) → Feasible p x → value p x ≼ Problems.whole t → Solves (systemAt p t) x
 unfolding value
 attains-solves p t x f v = keeps-solves p t x (λ i r. go i r (ℕ-discrete i (p .m)))
@@ -79,6 +77,7 @@ attains-solves p t x f v = keeps-solves p t x (λ i r. go i r (ℕ-discrete i (p
 
 -- ---- attainable
 
+-- Attainable at t, solved at t.
 pub attainable-solution : (p : Problem) (t : ℤ) → Attainable p t → Solution (systemAt p t) Anchor
 unfolding systemAt
 attainable-solution p t a = record {
@@ -90,15 +89,31 @@ attainable-solution p t a = record {
   finite = record { whole = pos 0; is = a .feasible .anchored };
 }
 
+-- A point moved down by u.
+unfoldable pub moved : Point → ℤ → Point
+moved x u j = plus (x j) (fin (negℤ u))
+
+-- Moved by the number at variable 0, it stands at 0 there.
+pub moved-anchored : (x : Point) (u : ℤ) → x 0 ≡ fin u → moved x u 0 ≡ fin (pos 0)
+unfolding moved
+moved-anchored x u e = plus-is e refl ∙ ap fin (+ℤ-invr u)
+
+-- It solves what the point solved.
+pub moved-solves : (s : System) (x : Point) (u : ℤ) → Solves s x → Solves s (moved x u)
+unfolding moved
+moved-solves s x u h = solves-moved s x (fin (negℤ u)) h
+
+-- Solved at t, attainable at t: by the solution moved.
 pub solution-attainable : (p : Problem) (t : ℤ) → Solution (systemAt p t) Anchor → Attainable p t
 solution-attainable p t v =
-    solves-attains p t (λ j. plus (v .point j) (fin (negℤ u))) e (solves-moved (systemAt p t) (v .point) (fin (negℤ u)) (v .solves))
-  where
-    u : ℤ
-    u = v .finite .whole
-
-    e : plus (v .point 0) (fin (negℤ u)) ≡ fin (pos 0)
-    e = let d : v .point 0 ≡ fin u = cc in plus-is d refl ∙ ap fin (+ℤ-invr u)
+    let x = moved (v .point) (v .finite .whole) in
+    let d : v .point 0 ≡ fin (v .finite .whole) = cc in
+    let h = moved-solves (systemAt p t) (v .point) (v .finite .whole) (v .solves) in
+    record {
+      point = x;
+      feasible = solves-feasible p t x (moved-anchored (v .point) (v .finite .whole) d) h;
+      within = solves-within p t x h;
+    }
 
 -- Attainable at t exactly when the system at t has a solution.
 pub attainable-exactly : (p : Problem) (t : ℤ) → Attainable p t ↔ Solution (systemAt p t) Anchor

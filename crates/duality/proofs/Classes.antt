@@ -2,21 +2,24 @@
 -- attainable at no t, which the trial at T decides; unbounded is attainable at every t, which the trial at −T − 1
 -- decides. Exactly one of the three holds, and each is shown by some picks that the checker's list accepts.
 use Prim.Native.Nat.{ℕ, zero, suc, _+_, _*_, _≤_, _<_}
-use mathlib.Core.Path.{_≡_, refl, sym, subst, ap, _∙_}
-use mathlib.Core.Logic.{_⊎_, inl, inr, ⊎-elim, _↔_}
+use mathlib.Core.Path.{_≡_}
+use mathlib.Core.Logic.{_⊎_, inl, inr, ⊎-elim, _↔_, Iff·trans}
 use native.Mathlib.Omega.{arith}
-use lib.IntN.{ℤ, pos, negsuc, natAbs, _+ℤ_, _-ℤ_}
+use native.Mathlib.Nat.{le-refl}
+use lib.IntN.{ℤ, pos, negsuc, natAbs, _-ℤ_}
 use lib.Signed.{_≤ℤ_, _<ℤ_}
 use Rattle.definitions.specs.Problem as Problems
-use Rattle.definitions.specs.Problem.{Problem, Point, Feasible, value, plus-infinity, _≼_, Attainable, Optimal, Unbounded, Infeasible}
-use Rattle.definitions.specs.Certificate.{Strategy, Anchor, PicksCount, BelowZero, AcceptedOptimal, AcceptedInfeasible, RowPicksCount, AcceptedUnbounded}
-use Rattle.definitions.proofs.Whole.{up, down, whole, plus-read, minus-read, abs-read, abs-show, le-or-lt}
+use Rattle.definitions.specs.Problem.{Problem, Point, Feasible, value, _≼_, Attainable, Optimal, Unbounded, Infeasible}
+use Rattle.definitions.specs.Certificate.{PicksCount, BelowZero, AcceptedOptimal, AcceptedInfeasible, RowPicksCount, AcceptedUnbounded}
+use Rattle.definitions.proofs.Whole.{whole, minus-read, abs-show, le-or-lt}
 use Rattle.definitions.proofs.Values.{≼-refl, ≼-trans, ≼-antisym, infinite-not-below, least-or-below, not-least-and-below, infinite-or-bounded, whole-below}
-use Rattle.duality.specs.System.{Solution, Blocked, Saved, systemAt}
-use Rattle.duality.specs.Picks.{picksFrom, NoneAbove, SomePicks, strategyOf, AtLeastZero}
+use Rattle.duality.specs.System.{systemAt}
+use Rattle.duality.specs.Picks.{picksFrom, SomePicks, strategyOf, AtLeastZero}
 use Rattle.duality.specs.Within.{Within}
+use Rattle.duality.specs.Classes.{HasOptimal}
+use Rattle.duality.proofs.Strong.{bound}
 use Rattle.duality.proofs.Picks.{picks-joined, picks-none-above, block-picks, save-picks, blocks-exactly, saves-exactly}
-use Rattle.duality.proofs.Numbers.{infeasible-below, below-infeasible, unbounded-above, above-unbounded}
+use Rattle.duality.proofs.Numbers.{infeasible-below, below-infeasible, unbounded-above, above-unbounded, within-some}
 use Rattle.duality.proofs.Rows.{saved-exactly, blocked-exactly, solution-decided}
 use Rattle.duality.proofs.Attain.{attainable-solution, solution-attainable, attainable-above}
 
@@ -78,6 +81,11 @@ least-exactly p s = (
   λ d y f. ⊎-elim (λ h. h) (λ h. absurd (d (record { point = y; feasible = f; within = h }))) (least-or-below s (value p y)),
 )
 
+-- A feasible point with a value of at most s, where s − 1 is not attainable, has value s.
+pub value-exactly : (p : Problem) (s : ℤ) (x : Point) → Feasible p x → value p x ≼ Problems.whole s
+    → (Attainable p (s -ℤ pos 1) → ⊥) → value p x ≡ Problems.whole s
+value-exactly p s x f v d = ≼-antisym v (least-exactly p s .1 d x f)
+
 -- Optimal s exactly when s is attainable and s − 1 is not.
 pub optimal-exactly : (p : Problem) (s : ℤ) → Optimal p s ↔ (Attainable p s × (Attainable p (s -ℤ pos 1) → ⊥))
 optimal-exactly p s = (
@@ -85,31 +93,40 @@ optimal-exactly p s = (
     record { point = o .point; feasible = o .feasible; within = rw (o .value-is) (≼-refl (Problems.whole s)) },
     least-exactly p s .0 (o .least),
   ),
-  λ c. let least = least-exactly p s .1 (c .1) in record {
+  λ c. record {
     point = c .0 .point;
     feasible = c .0 .feasible;
-    value-is = ≼-antisym (c .0 .within) (least (c .0 .point) (c .0 .feasible));
-    least = least;
+    value-is = value-exactly p s (c .0 .point) (c .0 .feasible) (c .0 .within) (c .1);
+    least = least-exactly p s .1 (c .1);
   },
 )
+
+-- Every feasible point has a value of at least s exactly when some picks count and leave closed walks below zero at s − 1.
+pub least-by-picks : (p : Problem) (s : ℤ) → ((y : Point) → Feasible p y → Problems.whole s ≼ value p y)
+    ↔ SomePicks (suc (p .m)) (suc (p .n)) (λ picks. PicksCount p picks × BelowZero p picks (s -ℤ pos 1))
+least-by-picks p s = Iff·trans (least-exactly p s) (unattainable-exactly p (s -ℤ pos 1))
 
 -- A feasible point of value s is least exactly when some picks make the list of class 1.
 pub optimal-accepted : (p : Problem) (s : ℤ) (x : Point) → Feasible p x → value p x ≡ Problems.whole s
     → ((y : Point) → Feasible p y → Problems.whole s ≼ value p y) ↔ SomePicks (suc (p .m)) (suc (p .n)) (AcceptedOptimal p s x)
 optimal-accepted p s x f v = (
-  λ least. let c = unattainable-exactly p (s -ℤ pos 1) .0 (least-exactly p s .0 least) in record {
+  λ least. let c = least-by-picks p s .0 least in record {
     picks = c .picks;
     none-above = c .none-above;
     accepted = record { feasible = f; value-is = v; picks-count = c .accepted .0; below-zero = c .accepted .1 };
   },
-  λ c. least-exactly p s .1 (unattainable-exactly p (s -ℤ pos 1) .1 (record
-      { picks = c .picks; none-above = c .none-above; accepted = (c .accepted .picks-count, c .accepted .below-zero) })),
+  λ c. least-by-picks p s .1 (record
+      { picks = c .picks; none-above = c .none-above; accepted = (c .accepted .picks-count, c .accepted .below-zero) }),
 )
 
--- An optimal value.
-pub record HasOptimal (p : Problem) : Type 0 where
-  pub at : ℤ
-  pub optimal : Optimal p at
+-- Where class 1 accepts, s is optimal.
+pub accepted-optimal : (p : Problem) (s : ℤ) (x : Point) → SomePicks (suc (p .m)) (suc (p .n)) (AcceptedOptimal p s x) → Optimal p s
+accepted-optimal p s x c = record {
+  point = x;
+  feasible = c .accepted .feasible;
+  value-is = c .accepted .value-is;
+  least = optimal-accepted p s x (c .accepted .feasible) (c .accepted .value-is) .1 c;
+}
 
 -- Attainable at t and not at t − k: some value between is optimal.
 descend : (p : Problem) (k : ℕ) (t : ℤ) → Attainable p t → (Attainable p (t -ℤ pos k) → ⊥) → HasOptimal p
@@ -179,14 +196,6 @@ module _ (p : Problem) (L T : ℕ) (within : Within p L) (enough : 2 * (suc (p .
   pub unbounded-exactly : Unbounded p ↔ Attainable p (negsuc T)
   unbounded-exactly = (λ h. h (negsuc T), λ a. accepted-unbounded p (attainable-accepted a))
 
-  -- Infeasible exactly when class 3 accepts some picks.
-  pub infeasible-accepted : Infeasible p ↔ SomePicks (suc (p .m)) (suc (p .n)) (AcceptedInfeasible p)
-  infeasible-accepted = (λ h. unattainable-accepted (infeasible-exactly .0 h), accepted-infeasible p)
-
-  -- Unbounded exactly when class 2 accepts some row picks.
-  pub unbounded-accepted : Unbounded p ↔ SomePicks (suc (p .n)) (suc (p .m)) (AcceptedUnbounded p)
-  unbounded-accepted = (λ h. attainable-accepted (h (negsuc T)), accepted-unbounded p)
-
   -- An optimal value is at most T, and at least −T.
   optimal-not-above : (s : ℤ) → Optimal p s → pos T <ℤ s → ⊥
   optimal-not-above s o h =
@@ -209,27 +218,46 @@ module _ (p : Problem) (L T : ℕ) (within : Within p L) (enough : 2 * (suc (p .
       (λ (h : pos T <ℤ s). absurd (optimal-not-above s o h))
       (le-or-lt s (pos T))
 
-  -- One of the three classes holds.
-  pub classified : Infeasible p ⊎ (HasOptimal p ⊎ Unbounded p)
-  classified = go (attainable-decided p (pos T)) (attainable-decided p (negsuc T))
-    where
-      go : Attainable p (pos T) ⊎ (Attainable p (pos T) → ⊥) → Attainable p (negsuc T) ⊎ (Attainable p (negsuc T) → ⊥)
-          → Infeasible p ⊎ (HasOptimal p ⊎ Unbounded p)
-      go (inr d) r = inl (infeasible-exactly .1 d)
-      go (inl a) (inl b) = inr (inr (unbounded-exactly .1 b))
-      go (inl a) (inr d) =
-          let e : pos T -ℤ pos (suc (T + T)) ≡ negsuc T = omega (whole, minus-read (pos T) (pos (suc (T + T)))) in
-          inr (inl (descend p (suc (T + T)) (pos T) a (rw e d)))
+-- ---- for every problem, whatever its limit
+
+-- Infeasible exactly when class 3 accepts some picks.
+pub infeasible-accepted : (p : Problem) → Infeasible p ↔ SomePicks (suc (p .m)) (suc (p .n)) (AcceptedInfeasible p)
+infeasible-accepted p =
+    (λ h. unattainable-accepted p _ _ (within-some p) (le-refl _) (infeasible-never p .0 h _), accepted-infeasible p)
+
+-- Unbounded exactly when class 2 accepts some row picks.
+pub unbounded-accepted : (p : Problem) → Unbounded p ↔ SomePicks (suc (p .n)) (suc (p .m)) (AcceptedUnbounded p)
+unbounded-accepted p = (λ h. attainable-accepted p _ _ (within-some p) (le-refl _) (h _), accepted-unbounded p)
+
+-- One of the three classes holds.
+pub classified : (p : Problem) → Infeasible p ⊎ (HasOptimal p ⊎ Unbounded p)
+classified p = go (attainable-decided p (pos T)) (attainable-decided p (negsuc T))
+  where
+    L : ℕ
+    L = bound (systemAt p (pos 0))
+
+    T : ℕ
+    T = 2 * (suc (p .n) * L)
+
+    go : Attainable p (pos T) ⊎ (Attainable p (pos T) → ⊥) → Attainable p (negsuc T) ⊎ (Attainable p (negsuc T) → ⊥)
+        → Infeasible p ⊎ (HasOptimal p ⊎ Unbounded p)
+    go (inr d) r = inl (infeasible-exactly p L T (within-some p) (le-refl T) .1 d)
+    go (inl a) (inl b) = inr (inr (unbounded-exactly p L T (within-some p) (le-refl T) .1 b))
+    go (inl a) (inr d) =
+        let e : pos T -ℤ pos (suc (T + T)) ≡ negsuc T = omega (whole, minus-read (pos T) (pos (suc (T + T)))) in
+        inr (inl (descend p (suc (T + T)) (pos T) a (rw e d)))
 
 -- ---- no two of the classes hold
 
--- An infeasible problem is not unbounded, and no value of it is optimal; an unbounded one has no optimal value.
+-- An infeasible problem is not unbounded.
 pub infeasible-not-unbounded : (p : Problem) → Infeasible p → Unbounded p → ⊥
 infeasible-not-unbounded p h u = infeasible-never p .0 h (pos 0) (u (pos 0))
 
+-- An infeasible problem has no optimal value.
 pub infeasible-not-optimal : (p : Problem) → Infeasible p → HasOptimal p → ⊥
 infeasible-not-optimal p h o = infeasible-never p .0 h (o .at) (optimal-exactly p (o .at) .0 (o .optimal) .0)
 
+-- An unbounded problem has none either.
 pub unbounded-not-optimal : (p : Problem) → Unbounded p → HasOptimal p → ⊥
 unbounded-not-optimal p u o = optimal-exactly p (o .at) .0 (o .optimal) .1 (u (o .at -ℤ pos 1))
 

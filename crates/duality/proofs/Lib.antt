@@ -16,3 +16,4 @@ pub mod Numbers
 pub mod Rows
 pub mod Attain
 pub mod Classes
+pub mod Unused

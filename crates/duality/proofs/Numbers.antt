@@ -3,23 +3,25 @@
 -- at most n + 1 arcs that uses it; each arc weighs within ±2L, so that at T it weighs at least zero, and at −T − 1 below
 -- zero. A closed walk that does not use the objective weighs the same at every t (Objective.antt). Both ends are one
 -- argument: arcs by any choice of rows, and weights under a sign.
-use Prim.Native.Nat.{ℕ, zero, suc, _+_, _*_, _≤_, _<_}
+use Prim.Native.Nat.{ℕ, suc, _+_, _*_, _≤_, _<_}
 use mathlib.Core.Path.{_≡_, refl}
 use mathlib.Core.Logic.{_↔_}
 use native.Mathlib.Omega.{arith}
 use native.Mathlib.Decide.{ℕ-discrete}
 use native.Mathlib.Nat.{mul-le-mul-right}
 use lib.IntN.{ℤ, pos, negsuc, negℤ, natAbs, _+ℤ_, _-ℤ_, negℤ-+ℤ}
-use lib.Signed.{_≤ℤ_, _<ℤ_}
 use Rattle.definitions.specs.Problem.{Problem}
 use Rattle.definitions.specs.Certificate.{Strategy, Anchor, Reachable, Walk, stop, step, Circuit, UsesObjective, raise, ArcBy, Leads, Arc, ObjectiveArc, PicksCount, BelowZero, AcceptedInfeasible, RowLeads, RowArc, RowObjectiveArc, RowPicksCount, AcceptedUnbounded}
 use Rattle.definitions.proofs.Whole.{up, down, whole, plus-read, minus-read, neg-read, abs-read, abs-show}
-use Rattle.definitions.proofs.Raise.{raised, unraised}
+use Rattle.definitions.proofs.Tropical.{plus-zero}
+use Rattle.definitions.proofs.Raise.{raised, unraised, raise-zero}
 use Rattle.duality.specs.System.{systemAt, Blocks, Saves}
+use Rattle.duality.specs.Height.{Bounded}
 use Rattle.duality.specs.Picks.{strategyOf, NoneAbove, AtLeastZero}
 use Rattle.duality.specs.Within.{Within}
 use Rattle.duality.proofs.Walks.{Brief, brief}
 use Rattle.duality.proofs.Reach.{reach-keep, circuit-map, uses-map}
+use Rattle.duality.proofs.Strong.{bound, bounded}
 use Rattle.duality.proofs.Picks.{blocks-exactly, saves-exactly}
 use Rattle.duality.proofs.Objective.{By, ByObjective, weight-at, arc-at, Kind, circuit-moved, Picked, picked-kind, RowPicked, row-picked-kind}
 
@@ -150,7 +152,7 @@ picked-choice : (p : Problem) (picks : Strategy) → NoneAbove (suc (p .m)) (suc
 picked-choice p picks h = record { to = λ i j l c. c .1; row = λ i j l k c. omega (arith, h j (omega arith)) }
 
 -- Reachable variables are inside.
-reached-inside : (p : Problem) (picks : Strategy) (j : ℕ) → Reachable Anchor (Leads p picks) j → j ≤ p .n
+pub reached-inside : (p : Problem) (picks : Strategy) (j : ℕ) → Reachable Anchor (Leads p picks) j → j ≤ p .n
 reached-inside p picks j r =
     reach-keep {L′ = Leads p picks} (λ j. j ≤ p .n) (λ j e. (e, omega arith)) (λ j l _ a. (a, a .inside)) r .1
 
@@ -189,7 +191,8 @@ infeasible-blocks p L T picks within h above =
 row-picked-choice : (p : Problem) (picks : Strategy) → NoneAbove (suc (p .n)) (suc (p .m)) picks → Choice p (RowPicked p picks)
 row-picked-choice p picks h = record { to = λ i j l c. omega (arith, h i (omega arith)); row = λ i j l k c. c .0 }
 
-row-reached-inside : (p : Problem) (picks : Strategy) → NoneAbove (suc (p .n)) (suc (p .m)) picks
+-- The same by strategies of rows.
+pub row-reached-inside : (p : Problem) (picks : Strategy) → NoneAbove (suc (p .n)) (suc (p .m)) picks
     → (j : ℕ) → Reachable Anchor (RowLeads p picks) j → j ≤ p .n
 row-reached-inside p picks h j r = reach-keep {L′ = RowLeads p picks} (λ j. j ≤ p .n) (λ j e. (e, omega arith))
     (λ j l _ a. (a, omega (arith, h (a .row) (omega (arith, a .inside)), a .picked))) r .1
@@ -228,3 +231,14 @@ unbounded-saves p L T picks within h above =
 -- With at most 32 variables T = 64 · L is enough.
 pub top-enough : (n L : ℕ) → suc n ≤ 32 → 2 * (suc n * L) ≤ 64 * L
 top-enough n L h = omega (arith, mul-le-mul-right L h)
+
+-- Every problem lies within some limit: its coefficients are finitely many.
+pub within-some : (p : Problem) → Within p (bound (systemAt p (pos 0)))
+unfolding systemAt
+within-some p = record {
+  left = λ i j a h k e. b .left i j a (omega arith) (omega arith) e;
+  right = λ i j a h k e. b .right i j a (omega arith) (omega arith) (rw (raise-zero, plus-zero) e);
+}
+  where
+    b : Bounded (systemAt p (pos 0)) (bound (systemAt p (pos 0)))
+    b = bounded (systemAt p (pos 0))

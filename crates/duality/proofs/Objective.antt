@@ -1,7 +1,7 @@
 -- Arcs by the objective. A closed walk that uses it is an arc by the objective and a walk back; one that does not weighs
 -- the same at every t. Said once for both kinds of strategies: arcs by any choice C of rows, where C i j l says that row
 -- i may be used from variable j to variable l.
-use Prim.Native.Nat.{ℕ, zero, suc, _+_, _≤_, _<_}
+use Prim.Native.Nat.{ℕ, suc, _+_, _≤_}
 use mathlib.Core.Path.{_≡_, refl, subst}
 use mathlib.Core.Logic.{_⊎_, inl, inr, ⊎-elim}
 use native.Mathlib.Omega.{arith}
@@ -136,7 +136,8 @@ circuit-at p C {Start} {L} t u leads d {w} c = ⊎-elim
 -- ---- a kind of arcs, given by a choice
 
 -- The arcs A at each t, of which O by the objective, are those by the choice C, and they lead.
-pub record Kind (p : Problem) (C : ℕ → ℕ → ℕ → Type 0) (A : ℤ → ℕ → ℕ → ℤ → Type 0) (O : ℕ → ℕ → ℤ → Type 0) (Leads : ℕ → ℕ → Type 0) : Type 0 where
+pub record Kind (p : Problem) (C : ℕ → ℕ → ℕ → Type 0) (A : ℤ → ℕ → ℕ → ℤ → Type 0) (O : ℕ → ℕ → ℤ → Type 0)
+    (Leads : ℕ → ℕ → Type 0) : Type 0 where
   pub by : (t : ℤ) (j l : ℕ) (w : ℤ) → A t j l w → By p C t j l w
   pub arc : (t : ℤ) (j l : ℕ) (w : ℤ) → By p C t j l w → A t j l w
   pub by-objective : (j l : ℕ) (w : ℤ) → O j l w → ByObjective p C j l w

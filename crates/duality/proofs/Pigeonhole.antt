@@ -1,8 +1,8 @@
 -- The pigeonhole principle: of n + 1 numbers below n two are the same.
 -- By induction: where the last number v stands among the others, that is the repetition; else v is taken out of the
 -- range, and one number fewer is left below n − 1.
-use Prim.Native.Nat.{ℕ, zero, suc, _+_, _-_, _≤_, _<_, min}
-use mathlib.Core.Path.{_≡_, refl}
+use Prim.Native.Nat.{ℕ, zero, suc, _-_, _≤_, _<_, min}
+use mathlib.Core.Path.{_≡_}
 use mathlib.Core.Logic.{_⊎_, inl, inr, ⊎-elim}
 use native.Mathlib.Omega.{arith}
 use native.Mathlib.Decide.{ℕ-discrete}

@@ -1,7 +1,7 @@
 -- Reachable variables and reachable closed walks: both are carried from one kind of arcs to another by a property of
 -- variables that arcs preserve, and what a walk leads to from a reachable variable is reachable.
-use Prim.Native.Nat.{ℕ, zero, suc, _+_, _-_, _≤_, _<_}
-use mathlib.Core.Path.{_≡_, refl, sym}
+use Prim.Native.Nat.{ℕ, suc, _-_, _<_}
+use mathlib.Core.Path.{_≡_, refl}
 use native.Mathlib.Omega.{arith}
 use lib.IntN.{ℤ, pos, _+ℤ_}
 use lib.Signed.{_≤ℤ_}
@@ -46,17 +46,19 @@ uses-keep P f g o h u =
       back = walk-keep P h (a .1) (u .back) .0;
     }
 
--- The three without such a property.
+-- What is reachable by some leads is reachable by others.
 pub reach-map : {Start Start′ : ℕ → Type 0} {L L′ : ℕ → ℕ → Type 0}
     → ((j : ℕ) → Start j → Start′ j) → ((j l : ℕ) → L j l → L′ j l) → {j : ℕ} → Reachable Start L j → Reachable Start′ L′ j
 reach-map f g r = reach-keep (λ _. Unit) (λ j h. (f j h, tt)) (λ j l _ h. (g j l h, tt)) r .0
 
+-- Reachable closed walks along some arcs are such along others.
 pub circuit-map : {Start Start′ : ℕ → Type 0} {L L′ : ℕ → ℕ → Type 0} {A A′ : ℕ → ℕ → ℤ → Type 0}
     → ((j : ℕ) → Start j → Start′ j) → ((j l : ℕ) → L j l → L′ j l) → ((j l : ℕ) (w : ℤ) → A j l w → A′ j l w)
     → {w : ℤ} → Circuit Start L A w → Circuit Start′ L′ A′ w
 circuit-map f g h c =
     record { at = c .at; arcs = c .arcs; reachable = reach-map f g (c .reachable); walk = walk-change h (c .walk) }
 
+-- Closed walks along some arcs that use the objective are such along others.
 pub uses-map : {Start : ℕ → Type 0} {L : ℕ → ℕ → Type 0} {O O′ A A′ : ℕ → ℕ → ℤ → Type 0}
     → ((j l : ℕ) (w : ℤ) → O j l w → O′ j l w) → ((j l : ℕ) (w : ℤ) → A j l w → A′ j l w)
     → UsesObjective Start L O A → UsesObjective Start L O′ A′

@@ -1,15 +1,14 @@
 -- Strategies of rows: a system has a solution exactly when some strategy of rows saves. A solution induces one
 -- (Weak.antt); and where one saves, nothing blocks, so that by strong duality there is a solution. With it the other
 -- corollaries of the two dualities: whether there is a solution is decided, and where there is none something blocks.
-use Prim.Native.Nat.{ℕ, zero, suc, _≤_, _<_}
-use mathlib.Core.Path.{_≡_, refl, sym, subst}
+use Prim.Native.Nat.{ℕ, _<_}
+use mathlib.Core.Path.{_≡_, refl}
 use mathlib.Core.Logic.{_⊎_, inl, inr, ⊎-elim, _↔_}
-use native.Mathlib.Omega.{arith}
 use native.Mathlib.Decide.{ℕ-discrete}
 use Rattle.definitions.specs.Tropical.{Finite}
 use Rattle.definitions.specs.Certificate.{Strategy, Anchor}
 use Rattle.duality.specs.System.{System, Solution, Blocked, Saves, Saved}
-use Rattle.duality.proofs.Weak.{best, solution-saves, clash, saves-from, not-solved-and-blocked}
+use Rattle.duality.proofs.Weak.{best, best-induced, solution-saves, clash, saves-from, not-solved-and-blocked}
 use Rattle.duality.proofs.Strong.{strong-start, strong-anchor}
 
 -- Where a strategy of rows saves from a start with a variable in it, there is a solution.
@@ -29,8 +28,11 @@ saves-solution s Start σ j h k v = ⊎-elim
 pub solution-saved : (s : System) → Solution s Anchor → Saved s Anchor
 solution-saved s v = record {
   strategy = best s (v .point);
-  saves = solution-saves s (v .point) Anchor (v .solves) (λ j e. let d : j ≡ v .at = cc in (rw d (v .inside), rw d (v .finite)));
+  saves = solution-saves s (v .point) (best s (v .point)) (v .solves) (best-induced s (v .point)) Anchor finite;
 }
+  where
+    finite : (j : ℕ) → j ≡ 0 → (j < s .variables) × Finite (v .point j)
+    finite j e = let d : j ≡ v .at = cc in (rw d (v .inside), rw d (v .finite))
 
 -- Exactly when some strategy of rows saves from variable 0, there is a solution that is finite there.
 pub saved-exactly : (s : System) → 0 < s .variables → Solution s Anchor ↔ Saved s Anchor

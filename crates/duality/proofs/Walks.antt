@@ -1,15 +1,15 @@
 -- Walks along any arcs: joined, mapped, folded, and made short. A walk of at least N arcs among N variables repeats
 -- one (pigeonhole), so it contains a closed walk of 1 to N arcs; taking it out leaves a walk with the same ends. Where
 -- closed walks gain nothing, every walk has one with the same ends, fewer than N arcs and at least its weight.
-use Prim.Native.Nat.{ℕ, zero, suc, _+_, _-_, _≤_, _<_}
-use mathlib.Core.Path.{_≡_, refl, sym, subst, ap}
-use mathlib.Core.Logic.{_⊎_, inl, inr, ⊎-elim}
+use Prim.Native.Nat.{ℕ, zero, suc, _+_, _≤_, _<_}
+use mathlib.Core.Path.{_≡_, refl, sym, subst}
+use mathlib.Core.Logic.{⊎-elim}
 use native.Mathlib.Omega.{arith}
-use lib.IntN.{ℤ, pos, negℤ, _+ℤ_, _-ℤ_, +ℤ-assoc, +ℤ-idl, negℤ-+ℤ}
-use lib.Signed.{_≤ℤ_, _<ℤ_, ≤ℤ-refl}
+use lib.IntN.{ℤ, pos, _+ℤ_, +ℤ-assoc, +ℤ-idl}
+use lib.Signed.{_≤ℤ_, ≤ℤ-refl}
 use Rattle.definitions.specs.Certificate.{Walk, stop, step}
-use Rattle.definitions.proofs.Whole.{up, down, whole, plus-read, nat-le-or-lt}
-use Rattle.duality.proofs.Pigeonhole.{Repeat, pigeonhole}
+use Rattle.definitions.proofs.Whole.{whole, plus-read, nat-le-or-lt}
+use Rattle.duality.proofs.Pigeonhole.{pigeonhole}
 
 -- Arcs lead to the variables below N.
 pub record Inside (A : ℕ → ℕ → ℤ → Type 0) (N : ℕ) : Type 0 where
@@ -95,13 +95,6 @@ walk-keep P f h (step {j = j} {l = l} {w = w} a p) =
 pub walk-change : {A B : ℕ → ℕ → ℤ → Type 0} → ((j l : ℕ) (w : ℤ) → A j l w → B j l w)
     → {j k n : ℕ} {w : ℤ} → Walk A j k n w → Walk B j k n w
 walk-change f p = walk-keep (λ _. Unit) (λ j l w _ a. (f j l w a, tt)) tt p .0
-
--- A map of weights that respects zero and sums takes walks to walks.
-pub walk-map : {A B : ℕ → ℕ → ℤ → Type 0} (f : ℤ → ℤ) → f (pos 0) ≡ pos 0 → ((w v : ℤ) → f (w +ℤ v) ≡ f w +ℤ f v)
-    → ((j l : ℕ) (w : ℤ) → A j l w → B j l (f w)) → {j k n : ℕ} {w : ℤ} → Walk A j k n w → Walk B j k n (f w)
-walk-map f z s g stop = walk-as refl (sym z) stop
-walk-map f z s g (step {j = j} {l = l} {w = w} {v = v} a p) =
-    walk-as refl (sym (s w v)) (step (g j l w a) (walk-map f z s g p))
 
 -- ---- the variables of a walk
 
@@ -251,7 +244,7 @@ brief {A} {N} {j} {k} {n} s h p =
     let t : Trimmed A (λ _. Unit) N j k = trim (λ _. Unit) s (λ i m u v o b q l. tt) n (omega arith) h tt p in
     record { arcs = t .arcs; weight = t .weight; few = t .few; walk = t .walk }
 
--- Where arcs lead on from every variable with the property P, walks are as long as one likes.
+-- A walk of n arcs from j.
 pub record Endless (A : ℕ → ℕ → ℤ → Type 0) (j n : ℕ) : Type 0 where
   pub end : ℕ
   pub weight : ℤ
@@ -264,6 +257,7 @@ pub record Onward (A : ℕ → ℕ → ℤ → Type 0) (P : ℕ → Type 0) (j :
   pub arc : A j to weight
   pub kept : P to
 
+-- Where arcs lead on from every variable with the property P, walks are as long as one likes.
 pub endless : {A : ℕ → ℕ → ℤ → Type 0} (P : ℕ → Type 0) → ((j : ℕ) → P j → Onward A P j)
     → (n j : ℕ) → P j → Endless A j n
 endless P f zero j h = record { end = j; weight = pos 0; walk = stop }

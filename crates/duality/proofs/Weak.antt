@@ -3,40 +3,37 @@
 -- its largest, so that along its arcs w + x l ≥ x j, and closed walks weigh zero or more. A blocking τ and a saving σ
 -- clash: from the start follow the row that τ picks and the variable that this row picks in σ; after as many steps as
 -- there are variables one repeats, and that closed walk would weigh both below zero and zero or more.
-use Prim.Native.Nat.{ℕ, suc, _+_, _≤_, _<_}
+use Prim.Native.Nat.{ℕ, _<_}
 use mathlib.Core.Path.{_≡_, refl, sym, subst}
 use mathlib.Core.Logic.{_⊎_, inl, inr, ⊎-elim}
 use native.Mathlib.Omega.{arith}
 use lib.IntN.{ℤ, pos, _+ℤ_, _-ℤ_}
-use lib.Signed.{_≤ℤ_, _<ℤ_}
-use Rattle.definitions.specs.Tropical.{Trop, bot, fin, plus, largest, _⊑_, Finite}
+use lib.Signed.{_≤ℤ_}
+use Rattle.definitions.specs.Tropical.{Trop, bot, fin, plus, _⊑_, Finite}
 use Rattle.definitions.specs.Problem.{Point}
 use Rattle.definitions.specs.Certificate.{Strategy, Reachable, start, onward, Walk, Circuit}
 use Rattle.definitions.proofs.Whole.{whole, plus-read, minus-read}
-use Rattle.definitions.proofs.Tropical.{Attains, largest-above, largest-attained, ⊑-trans, ⊑-of-eq, finite-above, finite-fin, fin-below, fin-injective, not-finite-bot, plus-is, plus-parts}
-use Rattle.duality.specs.System.{System, sideOf, Solves, Solution, Leads, Arc, HasPick, Blocks, Blocked, RowLeads, RowArc, RowHasPick, Saves}
+use Rattle.definitions.proofs.Tropical.{Attains, largest-above, largest-attained, ⊑-trans, ⊑-of-eq, finite-above, fin-below, fin-injective, not-finite-bot, plus-is, plus-parts}
+use Rattle.duality.specs.System.{System, sideOf, Solves, Solution, Leads, Arc, Blocks, Blocked, RowLeads, RowArc, RowHasPick, Saves}
+use Rattle.duality.specs.Induced.{Attaining, Induced}
 use Rattle.duality.proofs.Walks.{Inside, Looped, looped, Onward, Endless, endless, walk-keep, walk-change}
 use Rattle.duality.proofs.Reach.{reach-keep, reach-map, circuit-map, circuit, lower-walk}
 
 -- ---- a solution saves
 
--- The strategy of rows that a point induces: a right variable that attains the row's largest, if that is not blank.
+-- A strategy of rows that a point induces: a right variable that attains the row's largest, if that is not blank.
 unfoldable pub best : System → Point → Strategy
 best s x i = ⊎-elim (λ _. s .variables) (λ a. a .place) (largest-attained (λ l. plus (s .right i l) (x l)) (s .variables))
 
--- A right variable that attains the row's largest.
-record Best (s : System) (x : Point) (i l : ℕ) : Type 0 where
-  inside : l < s .variables
-  same : sideOf s (s .right i) x ≡ plus (s .right i l) (x l)
-
-best-attains : (s : System) (x : Point) (i : ℕ) → Finite (sideOf s (s .right i) x) → Best s x i (best s x i)
+-- It is induced.
+pub best-induced : (s : System) (x : Point) → Induced s x (best s x)
 unfolding best
-best-attains s x i f = go (largest-attained (λ l. plus (s .right i l) (x l)) (s .variables))
+best-induced s x i h f = go (largest-attained (λ l. plus (s .right i l) (x l)) (s .variables)) refl
   where
     go : (r : (sideOf s (s .right i) x ≡ bot) ⊎ Attains (λ l. plus (s .right i l) (x l)) (s .variables))
-        → Best s x i (⊎-elim (λ _. s .variables) (λ a. a .place) r)
-    go (inl b) = absurd (not-finite-bot (subst Finite b f))
-    go (inr a) = record { inside = a .inside; same = a .same }
+        → best s x i ≡ ⊎-elim (λ _. s .variables) (λ a. a .place) r → Attaining s x (best s x) i
+    go (inl b) e = absurd (not-finite-bot (subst Finite b f))
+    go (inr a) e = record { inside = rw e (a .inside); attains = rw e (⊑-of-eq (a .same)) }
 
 -- The whole number that a finite number is.
 wholeOf : Trop → ℤ
@@ -60,78 +57,70 @@ record Carried (s : System) (x : Point) (i l : ℕ) (a u : ℤ) : Type 0 where
   held : Held s x l
   above : (a +ℤ u) ≤ℤ (b +ℤ wholeOf (x l))
 
-carries : (s : System) (x : Point) → Solves s x → (i j : ℕ) → i < s .rows → j < s .variables → (a u : ℤ)
-    → s .left i j ≡ fin a → x j ≡ fin u → Carried s x i (best s x i) a u
-carries s x h i j r k a u e d =
-    record {
-      b = right .whole;
-      right-is = right .is;
-      held = record { inside = b .inside; finite = parts .1 };
-      above = fin-below (⊑-trans up (⊑-of-eq sum));
-    }
-  where
-    first : fin (a +ℤ u) ⊑ sideOf s (s .right i) x
-    first = ⊑-trans (⊑-trans (⊑-of-eq (sym (plus-is e d))) (largest-above (λ j. plus (s .left i j) (x j)) (s .variables) j k)) (h i r)
+module _ (s : System) (x : Point) (σ : Strategy) (solves : Solves s x) (induced : Induced s x σ) where
+  carries : (i j : ℕ) → i < s .rows → j < s .variables → (a u : ℤ) → s .left i j ≡ fin a → x j ≡ fin u → Carried s x i (σ i) a u
+  carries i j r k a u e d =
+      record {
+        b = parts .0 .whole;
+        right-is = parts .0 .is;
+        held = record { inside = b .inside; finite = parts .1 };
+        above = fin-below (⊑-trans above (⊑-of-eq (plus-is (parts .0 .is) (whole-is (parts .1)))));
+      }
+    where
+      first : fin (a +ℤ u) ⊑ sideOf s (s .right i) x
+      first = ⊑-trans (⊑-trans (⊑-of-eq (sym (plus-is e d))) (largest-above (λ j. plus (s .left i j) (x j)) (s .variables) j k)) (solves i r)
 
-    b : Best s x i (best s x i)
-    b = best-attains s x i (finite-above first)
+      b : Attaining s x σ i
+      b = induced i r (finite-above first)
 
-    up : fin (a +ℤ u) ⊑ plus (s .right i (best s x i)) (x (best s x i))
-    up = ⊑-trans first (⊑-of-eq (b .same))
+      above : fin (a +ℤ u) ⊑ plus (s .right i (σ i)) (x (σ i))
+      above = ⊑-trans first (b .attains)
 
-    parts : Finite (s .right i (best s x i)) × Finite (x (best s x i))
-    parts = plus-parts (finite-above up)
+      parts : Finite (s .right i (σ i)) × Finite (x (σ i))
+      parts = plus-parts (finite-above above)
 
-    right : Finite (s .right i (best s x i))
-    right = parts .0
+  -- The same of the variable that the row picks, under its own name.
+  carries-to : (i j l : ℕ) → i < s .rows → Held s x j → (f : Finite (s .left i j)) → σ i ≡ l → Carried s x i l (f .whole) (wholeOf (x j))
+  carries-to i j l r k f e =
+      subst (λ (l : ℕ). Carried s x i l (f .whole) (wholeOf (x j))) e
+      (carries i j r (k .inside) (f .whole) (wholeOf (x j)) (f .is) (whole-is (k .finite)))
 
-    sum : plus (s .right i (best s x i)) (x (best s x i)) ≡ fin (right .whole +ℤ wholeOf (x (best s x i)))
-    sum = plus-is (right .is) (whole-is (parts .1))
+  -- An arc leads from a finite variable to a finite one, and weighs at least what the point falls by.
+  row-lead : (j l : ℕ) → Held s x j → RowLeads s σ j l → RowLeads s σ j l × Held s x l
+  row-lead j l k r = (r, carries-to (r .row) j l (r .inside) k (r .left) (r .picked) .held)
 
--- The same of the variable that the row picks, under its own name.
-carries-to : (s : System) (x : Point) → Solves s x → (i j l : ℕ) → i < s .rows → (k : Held s x j) → (f : Finite (s .left i j))
-    → best s x i ≡ l → Carried s x i l (f .whole) (wholeOf (x j))
-carries-to s x h i j l r k f e =
-    subst (λ (l : ℕ). Carried s x i l (f .whole) (wholeOf (x j))) e
-    (carries s x h i j r (k .inside) (f .whole) (wholeOf (x j)) (f .is) (whole-is (k .finite)))
+  row-arc : (j l : ℕ) (w : ℤ) → Held s x j → RowArc s σ j l w → (wholeOf (x j) ≤ℤ (w +ℤ wholeOf (x l))) × Held s x l
+  row-arc j l w k r =
+      let c = carries-to (r .row) j l (r .inside) k (record { whole = r .a; is = r .left-is }) (r .picked) in
+      let e : fin (r .b) ≡ fin (c .b) = cc in
+      let d : r .b ≡ c .b = fin-injective e in (
+        omega (
+          whole,
+          plus-read w (wholeOf (x l)),
+          minus-read (r .b) (r .a),
+          plus-read (r .a) (wholeOf (x j)),
+          plus-read (c .b) (wholeOf (x l)),
+          c .above,
+        ),
+        c .held,
+      )
 
--- A point that solves the system induces a strategy of rows that saves from every variable at which it is finite.
-pub solution-saves : (s : System) (x : Point) (Start : ℕ → Type 0) → Solves s x
-    → ((j : ℕ) → Start j → (j < s .variables) × Finite (x j)) → Saves s Start (best s x)
-solution-saves s x Start h f = record { counts = counts; nonnegative = nonnegative }
-  where
-    lead : (j l : ℕ) → Held s x j → RowLeads s (best s x) j l → RowLeads s (best s x) j l × Held s x l
-    lead j l k r = (r, carries-to s x h (r .row) j l (r .inside) k (r .left) (r .picked) .held)
+  -- A strategy of rows that a solution induces saves from every variable at which the solution is finite.
+  pub solution-saves : (Start : ℕ → Type 0) → ((j : ℕ) → Start j → (j < s .variables) × Finite (x j)) → Saves s Start σ
+  solution-saves Start f = record { counts = counts; nonnegative = nonnegative }
+    where
+      held : {j : ℕ} → Reachable Start (RowLeads s σ) j → Held s x j
+      held r = reach-keep (Held s x) (λ j h. (h, record { inside = f j h .0; finite = f j h .1 })) row-lead r .1
 
-    held : {j : ℕ} → Reachable Start (RowLeads s (best s x)) j → Held s x j
-    held r = reach-keep (Held s x) (λ j h. (h, record { inside = f j h .0; finite = f j h .1 })) lead r .1
+      counts : (i j : ℕ) → i < s .rows → Reachable Start (RowLeads s σ) j → Finite (s .left i j) → RowHasPick s σ i
+      counts i j r q l =
+          let c = carries-to i j (σ i) r (held q) l refl in
+          record { picked = c .held .inside; right = record { whole = c .b; is = c .right-is } }
 
-    counts : (i j : ℕ) → i < s .rows → Reachable Start (RowLeads s (best s x)) j → Finite (s .left i j) → RowHasPick s (best s x) i
-    counts i j r q l =
-        let c = carries-to s x h i j (best s x i) r (held q) l refl in
-        record { picked = c .held .inside; right = record { whole = c .b; is = c .right-is } }
-
-    arc : (j l : ℕ) (w : ℤ) → Held s x j → RowArc s (best s x) j l w
-        → (wholeOf (x j) ≤ℤ (w +ℤ wholeOf (x l))) × Held s x l
-    arc j l w k r =
-        let c = carries-to s x h (r .row) j l (r .inside) k (record { whole = r .a; is = r .left-is }) (r .picked) in
-        let e : fin (r .b) ≡ fin (c .b) = cc in
-        let d : r .b ≡ c .b = fin-injective e in (
-          omega (
-            whole,
-            plus-read w (wholeOf (x l)),
-            minus-read (r .b) (r .a),
-            plus-read (r .a) (wholeOf (x j)),
-            plus-read (c .b) (wholeOf (x l)),
-            c .above,
-          ),
-          c .held,
-        )
-
-    nonnegative : (w : ℤ) → Circuit Start (RowLeads s (best s x)) (RowArc s (best s x)) w → pos 0 ≤ℤ w
-    nonnegative w c =
-        let p = walk-keep (Held s x) arc (held (c .reachable)) (c .walk) in
-        omega (whole, lower-walk (λ j. wholeOf (x j)) (p .0), plus-read w (wholeOf (x (c .at))))
+      nonnegative : (w : ℤ) → Circuit Start (RowLeads s σ) (RowArc s σ) w → pos 0 ≤ℤ w
+      nonnegative w c =
+          let p = walk-keep (Held s x) row-arc (held (c .reachable)) (c .walk) in
+          omega (whole, lower-walk (λ j. wholeOf (x j)) (p .0), plus-read w (wholeOf (x (c .at))))
 
 -- ---- blocking and saving clash
 
@@ -244,7 +233,7 @@ saves-from s Start σ j h v = record {
 pub weak : (s : System) (Start : ℕ → Type 0) (x : Point) (τ : Strategy) (j : ℕ) → Start j → j < s .variables → Finite (x j)
     → Solves s x → Blocks s Start τ → ⊥
 weak s Start x τ j h k f v b = clash s (λ i. i ≡ j) τ (best s x) j refl k (blocks-from s Start τ j h b)
-    (solution-saves s x (λ i. i ≡ j) v (λ i e. (rw e k, rw e f)))
+    (solution-saves s x (best s x) v (best-induced s x) (λ i. i ≡ j) (λ i e. (rw e k, rw e f)))
 
 -- No system has both a solution and a strategy that blocks.
 pub not-solved-and-blocked : (s : System) (Start : ℕ → Type 0) → Solution s Start → Blocked s Start → ⊥

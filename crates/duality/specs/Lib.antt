@@ -3,3 +3,5 @@ pub mod Values
 pub mod Height
 pub mod Picks
 pub mod Within
+pub mod Induced
+pub mod Classes

@@ -6,8 +6,9 @@ use mathlib.Core.Bool.{cond}
 use lib.Dec.{ltb}
 use lib.IntN.{ℤ, pos}
 use lib.Signed.{_≤ℤ_}
+use Rattle.definitions.specs.Tropical.{Finite}
 use Rattle.definitions.specs.Problem.{Problem}
-use Rattle.definitions.specs.Certificate.{Strategy, Anchor, Circuit, RowLeads, RowArc}
+use Rattle.definitions.specs.Certificate.{Strategy, Anchor, Reachable, Circuit, Leads, RowLeads, RowArc}
 
 -- One pick of the records as one of the theory; `none` stands for no pick.
 unfoldable pub unpick : ℕ → ℕ → ℕ
@@ -40,3 +41,11 @@ pub record SomePicks (many width : ℕ) (Accepted : Strategy → Type 0) : Type 
 -- Every reachable closed walk weighs zero or more when each arc by the objective weighs t more.
 abbrev pub AtLeastZero : Problem → Strategy → ℤ → Type 0
 AtLeastZero p picks t = (w : ℤ) → Circuit Anchor (RowLeads p picks) (RowArc p picks t) w → pos 0 ≤ℤ w
+
+-- Two strategies of variables agree at every variable that the first reaches.
+abbrev pub AgreeReached : Problem → Strategy → Strategy → Type 0
+AgreeReached p picks picks′ = (j : ℕ) → Reachable Anchor (Leads p picks) j → picks′ j ≡ picks j
+
+-- Two strategies of rows agree at every row with a non-blank left coefficient of a variable that the first reaches.
+abbrev pub AgreeInUse : Problem → Strategy → Strategy → Type 0
+AgreeInUse p picks picks′ = (i j : ℕ) → i ≤ p .m → Reachable Anchor (RowLeads p picks) j → Finite (p .left i j) → picks′ i ≡ picks i
