@@ -15,7 +15,7 @@ use Rattle.definitions.proofs.Whole.{whole, minus-read, abs-show, le-or-lt}
 use Rattle.definitions.proofs.Values.{≼-refl, ≼-trans, ≼-antisym, infinite-not-below, least-or-below, not-least-and-below, infinite-or-bounded, whole-below}
 use Rattle.duality.specs.System.{systemAt}
 use Rattle.duality.specs.Picks.{picksFrom, SomePicks, strategyOf, AtLeastZero}
-use Rattle.duality.specs.Within.{Within}
+use Rattle.duality.specs.Within.{Within, Enough, upper, lower}
 use Rattle.duality.specs.Classes.{HasOptimal}
 use Rattle.duality.proofs.Strong.{bound}
 use Rattle.duality.proofs.Picks.{picks-joined, picks-none-above, block-picks, save-picks, blocks-exactly, saves-exactly}
@@ -167,11 +167,11 @@ accepted-unbounded p c t = attainable-by-rows p t .1 (record {
 
 -- ---- the numbers that decide
 
-module _ (p : Problem) (L T : ℕ) (within : Within p L) (enough : 2 * (suc (p .n) * L) ≤ T) where
+module _ (p : Problem) (L T : ℕ) (within : Within p L) (enough : Enough (p .n) L T) where
   -- What is not attainable at T has picks that class 3 accepts.
-  unattainable-accepted : (Attainable p (pos T) → ⊥) → SomePicks (suc (p .m)) (suc (p .n)) (AcceptedInfeasible p)
+  unattainable-accepted : (Attainable p (upper T) → ⊥) → SomePicks (suc (p .m)) (suc (p .n)) (AcceptedInfeasible p)
   unattainable-accepted d =
-      let c = unattainable-exactly p (pos T) .0 d in
+      let c = unattainable-exactly p (upper T) .0 d in
       record {
         picks = c .picks;
         none-above = c .none-above;
@@ -179,9 +179,9 @@ module _ (p : Problem) (L T : ℕ) (within : Within p L) (enough : 2 * (suc (p .
       }
 
   -- What is attainable at −T − 1 has row picks that class 2 accepts.
-  attainable-accepted : Attainable p (negsuc T) → SomePicks (suc (p .n)) (suc (p .m)) (AcceptedUnbounded p)
+  attainable-accepted : Attainable p (lower T) → SomePicks (suc (p .n)) (suc (p .m)) (AcceptedUnbounded p)
   attainable-accepted a =
-      let c = attainable-by-rows p (negsuc T) .0 a in
+      let c = attainable-by-rows p (lower T) .0 a in
       record {
         picks = c .picks;
         none-above = c .none-above;
@@ -189,21 +189,21 @@ module _ (p : Problem) (L T : ℕ) (within : Within p L) (enough : 2 * (suc (p .
       }
 
   -- Infeasible exactly when T is not attainable.
-  pub infeasible-exactly : Infeasible p ↔ (Attainable p (pos T) → ⊥)
-  infeasible-exactly = (λ h. infeasible-never p .0 h (pos T), λ d. accepted-infeasible p (unattainable-accepted d))
+  pub infeasible-exactly : Infeasible p ↔ (Attainable p (upper T) → ⊥)
+  infeasible-exactly = (λ h. infeasible-never p .0 h (upper T), λ d. accepted-infeasible p (unattainable-accepted d))
 
   -- Unbounded exactly when −T − 1 is attainable.
-  pub unbounded-exactly : Unbounded p ↔ Attainable p (negsuc T)
-  unbounded-exactly = (λ h. h (negsuc T), λ a. accepted-unbounded p (attainable-accepted a))
+  pub unbounded-exactly : Unbounded p ↔ Attainable p (lower T)
+  unbounded-exactly = (λ h. h (lower T), λ a. accepted-unbounded p (attainable-accepted a))
 
   -- An optimal value is at most T, and at least −T.
-  optimal-not-above : (s : ℤ) → Optimal p s → pos T <ℤ s → ⊥
+  optimal-not-above : (s : ℤ) → Optimal p s → upper T <ℤ s → ⊥
   optimal-not-above s o h =
       let c = optimal-exactly p s .0 o in
-      let k : pos T ≤ℤ (s -ℤ pos 1) = omega (whole, minus-read s (pos 1)) in
+      let k : upper T ≤ℤ (s -ℤ pos 1) = omega (whole, minus-read s (pos 1)) in
       infeasible-never p .0 (infeasible-exactly .1 (λ a. c .1 (attainable-above p k a))) s (c .0)
 
-  optimal-not-below : (s : ℤ) → Optimal p s → s ≤ℤ negsuc T → ⊥
+  optimal-not-below : (s : ℤ) → Optimal p s → s ≤ℤ lower T → ⊥
   optimal-not-below s o h =
       let c = optimal-exactly p s .0 o in
       c .1 (unbounded-exactly .1 (attainable-above p h (c .0)) (s -ℤ pos 1))
@@ -211,12 +211,12 @@ module _ (p : Problem) (L T : ℕ) (within : Within p L) (enough : 2 * (suc (p .
   -- So it lies within ±T.
   pub optimal-range : (s : ℤ) → Optimal p s → natAbs s ≤ T
   optimal-range s o = ⊎-elim
-      (λ (h : s ≤ℤ pos T). ⊎-elim
-      (λ (k : s ≤ℤ negsuc T). absurd (optimal-not-below s o k))
-      (λ (k : negsuc T <ℤ s). abs-show s (omega whole) (omega whole))
-      (le-or-lt s (negsuc T)))
-      (λ (h : pos T <ℤ s). absurd (optimal-not-above s o h))
-      (le-or-lt s (pos T))
+      (λ (h : s ≤ℤ upper T). ⊎-elim
+      (λ (k : s ≤ℤ lower T). absurd (optimal-not-below s o k))
+      (λ (k : lower T <ℤ s). abs-show s (omega whole) (omega whole))
+      (le-or-lt s (lower T)))
+      (λ (h : upper T <ℤ s). absurd (optimal-not-above s o h))
+      (le-or-lt s (upper T))
 
 -- ---- for every problem, whatever its limit
 
@@ -231,7 +231,7 @@ unbounded-accepted p = (λ h. attainable-accepted p _ _ (within-some p) (le-refl
 
 -- One of the three classes holds.
 pub classified : (p : Problem) → Infeasible p ⊎ (HasOptimal p ⊎ Unbounded p)
-classified p = go (attainable-decided p (pos T)) (attainable-decided p (negsuc T))
+classified p = go (attainable-decided p (upper T)) (attainable-decided p (lower T))
   where
     L : ℕ
     L = bound (systemAt p (pos 0))
@@ -239,13 +239,13 @@ classified p = go (attainable-decided p (pos T)) (attainable-decided p (negsuc T
     T : ℕ
     T = 2 * (suc (p .n) * L)
 
-    go : Attainable p (pos T) ⊎ (Attainable p (pos T) → ⊥) → Attainable p (negsuc T) ⊎ (Attainable p (negsuc T) → ⊥)
+    go : Attainable p (upper T) ⊎ (Attainable p (upper T) → ⊥) → Attainable p (lower T) ⊎ (Attainable p (lower T) → ⊥)
         → Infeasible p ⊎ (HasOptimal p ⊎ Unbounded p)
     go (inr d) r = inl (infeasible-exactly p L T (within-some p) (le-refl T) .1 d)
     go (inl a) (inl b) = inr (inr (unbounded-exactly p L T (within-some p) (le-refl T) .1 b))
     go (inl a) (inr d) =
-        let e : pos T -ℤ pos (suc (T + T)) ≡ negsuc T = omega (whole, minus-read (pos T) (pos (suc (T + T)))) in
-        inr (inl (descend p (suc (T + T)) (pos T) a (rw e d)))
+        let e : pos T -ℤ pos (suc (T + T)) ≡ negsuc T = omega (whole, minus-read (upper T) (pos (suc (T + T)))) in
+        inr (inl (descend p (suc (T + T)) (upper T) a (rw e d)))
 
 -- ---- no two of the classes hold
 

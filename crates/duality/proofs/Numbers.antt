@@ -18,7 +18,7 @@ use Rattle.definitions.proofs.Raise.{raised, unraised, raise-zero}
 use Rattle.duality.specs.System.{systemAt, Blocks, Saves}
 use Rattle.duality.specs.Height.{Bounded}
 use Rattle.duality.specs.Picks.{strategyOf, NoneAbove, AtLeastZero}
-use Rattle.duality.specs.Within.{Within}
+use Rattle.duality.specs.Within.{Within, Enough, upper, lower}
 use Rattle.duality.proofs.Walks.{Brief, brief}
 use Rattle.duality.proofs.Reach.{reach-keep, circuit-map, uses-map}
 use Rattle.duality.proofs.Strong.{bound, bounded}
@@ -161,27 +161,27 @@ pub infeasible-below : (p : Problem) (picks : Strategy) (t : ℤ) → AcceptedIn
 infeasible-below p picks t c w q = c .below-zero w (circuit-moved (picked-kind p picks) t (pos 0) (c .no-objective) q)
 
 -- Where the picks count and reachable closed walks weigh below zero at T, class 3 accepts.
-pub below-infeasible : (p : Problem) (L T : ℕ) (picks : Strategy) → Within p L → 2 * (suc (p .n) * L) ≤ T
-    → NoneAbove (suc (p .m)) (suc (p .n)) picks → PicksCount p picks → BelowZero p picks (pos T) → AcceptedInfeasible p picks
+pub below-infeasible : (p : Problem) (L T : ℕ) (picks : Strategy) → Within p L → Enough (p .n) L T
+    → NoneAbove (suc (p .m)) (suc (p .n)) picks → PicksCount p picks → BelowZero p picks (upper T) → AcceptedInfeasible p picks
 below-infeasible p L T picks within h above count below = record {
   picks-count = count;
   no-objective = none;
-  below-zero = λ w c. below w (circuit-moved (picked-kind p picks) (pos 0) (pos T) none c);
+  below-zero = λ w c. below w (circuit-moved (picked-kind p picks) (pos 0) (upper T) none c);
 }
   where
     none : UsesObjective Anchor (Leads p picks) (ObjectiveArc p picks) (Arc p picks (pos 0)) → ⊥
     none q =
-        let r = outweighs (picked-kind p picks) L within (picked-choice p picks above) as-is (pos T) (omega arith)
+        let r = outweighs (picked-kind p picks) L within (picked-choice p picks above) as-is (upper T) (omega arith)
         (reached-inside p picks) q in
         omega (whole, below (r .weight) (r .circuit), r .heavy)
 
 -- Class 3 accepts exactly the picks that block the system at T.
-pub infeasible-blocks : (p : Problem) (L T : ℕ) (picks : Strategy) → Within p L → 2 * (suc (p .n) * L) ≤ T
+pub infeasible-blocks : (p : Problem) (L T : ℕ) (picks : Strategy) → Within p L → Enough (p .n) L T
     → NoneAbove (suc (p .m)) (suc (p .n)) picks
-    → AcceptedInfeasible p picks ↔ Blocks (systemAt p (pos T)) Anchor (strategyOf picks (suc (p .m)))
+    → AcceptedInfeasible p picks ↔ Blocks (systemAt p (upper T)) Anchor (strategyOf picks (suc (p .m)))
 infeasible-blocks p L T picks within h above =
-    let e = blocks-exactly p (pos T) picks above in (
-      λ c. e .0 (c .picks-count, infeasible-below p picks (pos T) c),
+    let e = blocks-exactly p (upper T) picks above in (
+      λ c. e .0 (c .picks-count, infeasible-below p picks (upper T) c),
       λ b. below-infeasible p L T picks within h above (e .1 b .0) (e .1 b .1),
     )
 
@@ -202,27 +202,27 @@ pub unbounded-above : (p : Problem) (picks : Strategy) (t : ℤ) → AcceptedUnb
 unbounded-above p picks t c w q = c .zero-or-more w (circuit-moved (row-picked-kind p picks) t (pos 0) (c .no-objective) q)
 
 -- Where the rows in use pick and reachable closed walks weigh zero or more at −T − 1, class 2 accepts.
-pub above-unbounded : (p : Problem) (L T : ℕ) (picks : Strategy) → Within p L → 2 * (suc (p .n) * L) ≤ T
-    → NoneAbove (suc (p .n)) (suc (p .m)) picks → RowPicksCount p picks → AtLeastZero p picks (negsuc T) → AcceptedUnbounded p picks
+pub above-unbounded : (p : Problem) (L T : ℕ) (picks : Strategy) → Within p L → Enough (p .n) L T
+    → NoneAbove (suc (p .n)) (suc (p .m)) picks → RowPicksCount p picks → AtLeastZero p picks (lower T) → AcceptedUnbounded p picks
 above-unbounded p L T picks within h above count more = record {
   picks-count = count;
   no-objective = none;
-  zero-or-more = λ w c. more w (circuit-moved (row-picked-kind p picks) (pos 0) (negsuc T) none c);
+  zero-or-more = λ w c. more w (circuit-moved (row-picked-kind p picks) (pos 0) (lower T) none c);
 }
   where
     none : UsesObjective Anchor (RowLeads p picks) (RowObjectiveArc p picks) (RowArc p picks (pos 0)) → ⊥
     none q =
-        let r = outweighs (row-picked-kind p picks) L within (row-picked-choice p picks above) negated (negsuc T) (omega arith)
+        let r = outweighs (row-picked-kind p picks) L within (row-picked-choice p picks above) negated (lower T) (omega arith)
         (row-reached-inside p picks above) q in
         omega (whole, more (r .weight) (r .circuit), r .heavy, neg-read (r .weight))
 
 -- Class 2 accepts exactly the row picks that save the system at −T − 1.
-pub unbounded-saves : (p : Problem) (L T : ℕ) (picks : Strategy) → Within p L → 2 * (suc (p .n) * L) ≤ T
+pub unbounded-saves : (p : Problem) (L T : ℕ) (picks : Strategy) → Within p L → Enough (p .n) L T
     → NoneAbove (suc (p .n)) (suc (p .m)) picks
-    → AcceptedUnbounded p picks ↔ Saves (systemAt p (negsuc T)) Anchor (strategyOf picks (suc (p .n)))
+    → AcceptedUnbounded p picks ↔ Saves (systemAt p (lower T)) Anchor (strategyOf picks (suc (p .n)))
 unbounded-saves p L T picks within h above =
-    let e = saves-exactly p (negsuc T) picks above in (
-      λ c. e .0 (c .picks-count, unbounded-above p picks (negsuc T) c),
+    let e = saves-exactly p (lower T) picks above in (
+      λ c. e .0 (c .picks-count, unbounded-above p picks (lower T) c),
       λ b. above-unbounded p L T picks within h above (e .1 b .0) (e .1 b .1),
     )
 
