@@ -1,0 +1,4 @@
+pub mod Filled
+pub mod Fold
+pub mod Small
+pub mod Rounds

@@ -1,0 +1,3 @@
+// The engine: the least span of a problem in two tables, by bisection over trials, each decided by policy iteration.
+// Document 01, "The engine".
+pub mod values;
