@@ -7,10 +7,10 @@ use mathlib.Core.List.{List, []}
 use native.Mathlib.Omega.{arith}
 use native.Mathlib.Nat.{eq-zero-or-pos, mul-le-mul-right}
 use native.Mathlib.Numerals.{add-one}
-use lib.Dec.{ltb, eqb}
+use lib.Dec.{ltb}
 use lib.ListN.{length, getD}
 use lib.IntN.{ℤ, pos, subℕ}
-use borrow.Author.Tests.{lt-ltb, le-ltb, eqb-true, eqb-false}
+use borrow.Author.Tests.{lt-ltb, le-ltb}
 use Rattle.definitions.specs.Limits.{signed-half, lead-limit}
 use Rattle.definitions.specs.Tropical.{Trop, bot, fin, plus, largest}
 use Rattle.definitions.specs.Problem.{Point}
@@ -131,14 +131,3 @@ level-last left right picks x width rows i h k f = let e : i ≡ width = omega a
 
 pub false-not-true : false ≡ true → ⊥
 false-not-true e = let z : _≡_ {A = ℕ} 0 1 = cc in omega arith
-
-pub same-end : (n w : ℕ) (x y : List ℕ) → SameUpTo n x y → w ≤ n → SameUpTo w x y
-same-end n w x y s h j b = s j (omega arith)
-
--- What is not other is the same.
-pub not-other : (a b : ℕ) → ((a ≡ b → ⊥) → ⊥) → a ≡ b
-not-other a b h = go (eqb a b) refl
-  where
-    go : (t : Bool) → eqb a b ≡ t → a ≡ b
-    go true e = eqb-true a b e
-    go false e = absurd (h (eqb-false a b e))

@@ -1,3 +1,4 @@
+use Rattle.duality.specs.Values.{exitBy}
 use Prim.Native.Nat.{ℕ, _≤_, _<_, _-_}
 use mathlib.Core.Path.{_≡_}
 use native.Mathlib.Omega.{arith}
@@ -53,6 +54,7 @@ loop-less c = search needs
 
 -- src/values.rt:116:5
 loop-again : tie.Need-loop-again Inv-loop μ-loop
+unfolding exitBy
 loop-again c = (omega arith, filled-more (c .before .before .before .loop .inv .1) (omega arith) (c .exit .ensures))
 
 -- src/values.rt:110:1

@@ -1,3 +1,4 @@
+use Rattle.engine.proofs.Rounds.{false-not-true}
 use Prim.Native.Nat.{ℕ, _≤_, _<_, _-_}
 use mathlib.Core.Path.{_≡_}
 use native.Mathlib.Omega.{arith}
@@ -39,7 +40,7 @@ element-copy-out-if1-2 c = search needs
 
 -- src/values.rt:131:13
 returns : tie.Need-returns Inv-loop μ-loop
-returns c = ?
+returns c = λ e. absurd (false-not-true e)
 
 -- src/values.rt:133:9
 add-j : tie.Need-add-j Inv-loop μ-loop
@@ -51,11 +52,11 @@ loop-less c = search needs
 
 -- src/values.rt:129:5
 loop-again : tie.Need-loop-again Inv-loop μ-loop
-loop-again c = (omega arith, below-more _ _ (c .before .before .before .before .loop .inv .1) ?)
+loop-again c = (omega arith, below-more _ _ (c .before .before .before .before .loop .inv .1) (c .if1 .left))
 
 -- src/values.rt:124:1
 returns-2 : tie.Need-returns-2 Inv-loop μ-loop
-returns-2 c = ?
+returns-2 c = λ e j b. c .before .loop .inv .1 j (omega arith)
 
 pub same-spec : {M : Type 1} → statement M
 same-spec =
