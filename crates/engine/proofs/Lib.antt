@@ -2,3 +2,4 @@ pub mod Filled
 pub mod Fold
 pub mod Small
 pub mod Rounds
+pub mod Steps

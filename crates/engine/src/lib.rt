@@ -1,3 +1,4 @@
 // The engine: the least span of a problem in two tables, by bisection over trials, each decided by policy iteration.
 // Document 01, "The engine".
 pub mod values;
+pub mod policy;
