@@ -2,3 +2,5 @@ pub mod Tables
 pub mod Filled
 pub mod Rounds
 pub mod Steps
+pub mod Trials
+pub mod Halving
