@@ -5,4 +5,4 @@ pub mod Rounds
 pub mod Steps
 pub mod Agree
 pub mod Trials
-pub mod Halving
+pub mod Halves

@@ -97,8 +97,13 @@ raised-more before objective after row t n v r h b e = record {
     earlier : (l : ℕ) → l < n → getD (set after (row * 32 + n) v) (row * 32 + l) 0 ≡ shifted (getD objective l 0) t
     earlier l c = getD-set-other after (row * 32 + n) (row * 32 + l) v 0 (λ d. omega arith) ∙ r .raised l c
 
+pub raised-end : (before objective after : List ℕ) (row t n : ℕ) → n ≤ 32 → 32 ≤ n → Raised before objective row t n after
+    → Raised before objective row t 32 after
+raised-end before objective after row t n h k r =
+    let e : n ≡ 32 = omega arith in subst (λ (i : ℕ). Raised before objective row t i after) e r
+
 -- Every row but the objective's is as it was.
-pub raised-steady : (right objective right′ : List ℕ) (m t : ℕ) → Raised right objective m t 32 right′ → Steady m right right′
+raised-steady : (right objective right′ : List ℕ) (m t : ℕ) → Raised right objective m t 32 right′ → Steady m right right′
 raised-steady right objective right′ m t r = record { above = r .above }
 
 -- The tables stay in range.
@@ -224,7 +229,7 @@ tried-agree s s′ x picks a t = record {
 }
 
 -- What a trial ends with, of the problem at t.
-pub trial-found : (n m t : ℕ) (left right objective right′ x picks : List ℕ) → Ready n m left right objective → Trialled t
+trial-found : (n m t : ℕ) (left right objective right′ x picks : List ℕ) → Ready n m left right objective → Trialled t
     → Raised right objective m t 32 right′ → Tried (systemOf left right′ (n + 1) (m + 1)) x picks
     → TriedAt n m left right objective t x picks
 trial-found n m t left right objective right′ x picks y b r f = record {
@@ -285,3 +290,14 @@ tried-solution p t x picks f h = record {
   started = refl;
   finite = record { whole = wholeOf (getD x 0 0); is = trop-fin (getD x 0 0) h };
 }
+
+-- What an attempt ensures, of the tables as it leaves them.
+pub attempt-found : (n m t : ℕ) (left right objective right′ x picks : List ℕ) → Ready n m left right objective → Trialled t
+    → Raised right objective m t 32 right′ → Tried (systemOf left right′ (n + 1) (m + 1)) x picks
+    → TriedAt n m left right′ objective t x picks × Steady m right right′ × Ready n m left right′ objective
+attempt-found n m t left right objective right′ x picks y b r f =
+    let s = raised-steady right objective right′ m t r in (
+      tried-steady n m t left right right′ objective x picks (y .n-most) s (trial-found n m t left right objective right′ x picks y b r f),
+      s,
+      raised-ready n m t left right objective right′ y b r,
+    )

@@ -1,6 +1,6 @@
 -- The state of a search for the least span: the bracket, the trials made, the point and the strategy of the last
 -- possible trial, and the strategy of the last impossible one.
-use Prim.Native.Nat.{ℕ, _+_, _-_, _≤_, _<_}
+use Prim.Native.Nat.{ℕ, _+_, _-_, _/_, _≤_, _<_}
 use mathlib.Core.Path.{_≡_}
 use mathlib.Core.List.{List}
 use lib.ListN.{length, getD}
@@ -36,3 +36,18 @@ pub record Searching (n m : ℕ) (left right objective : List ℕ) (low high tri
   pub impossible : BlocksAt n m left right objective low blocking
   pub blocking-size : length blocking ≡ 32
   pub counted : Counted low high trials
+
+-- The middle of a bracket of offset numbers.
+pub record Between (low high r : ℕ) : Type 0 where
+  pub is : r ≡ (low + high + 1) / 2
+
+-- The end of a search: the least span with a point and the strategy whose values it holds, and a strategy that blocks one
+-- below it; the trials are those of the bisection.
+pub record LeastFound (n m : ℕ) (left right objective : List ℕ) (span trials : ℕ) (point blocking : List ℕ) : Type 0 where
+  pub span-trialled : Trialled span
+  pub kept : List ℕ
+  pub possible : TriedAt n m left right objective span point kept
+  pub finite : 0 < getD point 0 0
+  pub impossible : BlocksAt n m left right objective (span - 1) blocking
+  pub blocking-size : length blocking ≡ 32
+  pub count : trials-optimal (wholeOf span) ≡ trials

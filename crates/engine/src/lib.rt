@@ -2,3 +2,5 @@
 // Document 01, "The engine".
 pub mod values;
 pub mod policy;
+pub mod bracket;
+pub mod halving;
