@@ -14,7 +14,7 @@ use Rattle.definitions.specs.Limits.{signed-half, span-limit}
 use Rattle.definitions.specs.Problem.{Problem, Attainable, Optimal}
 use Rattle.definitions.specs.Certificate.{Anchor}
 use Rattle.definitions.specs.Bisection.{Bracket, opening, half-up, middle, next, width, Halved, counted, halved, trials-optimal}
-use Rattle.definitions.proofs.Whole.{up, down, whole, plus-read, minus-read, subℕ-read, abs-read, le-or-lt, lt-read, le-read}
+use Rattle.definitions.proofs.Whole.{up, down, whole, plus-read, minus-read, subℕ-read, abs-read, nat-le-or-lt}
 use Rattle.definitions.proofs.Bisection.{Half, half-up-is, width-is, Brackets, Inside, middle-inside, halved-stop, halved-on, following}
 use Rattle.engine.specs.Trials.{wholeOf, Trialled, Steady, KeptAt, TriedAt}
 use Rattle.engine.specs.Halving.{bracketOf, BlocksAt, Counted, Searching, LeastFound}
@@ -173,6 +173,10 @@ searching-impossible n m left right right′ objective low high trials half low�
       blocking-size = f .picks-size;
       counted = c;
     }
+
+-- A bracket that is not 1 wide is wider.
+pub wider : (low high : ℕ) → low < high → (high - low ≡ 1 → ⊥) → low + 1 < high
+wider low high h d = ⊎-elim (λ (l : high ≤ low + 1). absurd (d (omega arith))) (λ l. l) (nat-le-or-lt high (low + 1))
 
 -- The bracket becomes narrower.
 pub narrower : (low high low′ high′ : ℕ) (t : Bool) → low + 1 < high → bracketOf low′ high′ ≡ next (bracketOf low high) t → high′ - low′ < high - low

@@ -143,6 +143,9 @@ question-steady p n m left right right′ objective b s q = record {
   objective-is = q .objective-is;
 }
 
+pub steady-refl : {m : ℕ} {right : List ℕ} → Steady m right right
+steady-refl = record { above = λ k h. refl }
+
 pub steady-sym : {m : ℕ} {right right′ : List ℕ} → Steady m right right′ → Steady m right′ right
 steady-sym s = record { above = λ k h. sym (s .above k h) }
 
