@@ -31,7 +31,7 @@ pub folded-high : (k : ℕ) → fold-limit ≤ k → folded k ≡ k - signed-hal
 unfolding folded
 folded-high k h = rw (le-ltb k fold-limit h)
 
-folded-mono : (a b : ℕ) → a ≤ b → folded a ≤ folded b
+pub folded-mono : (a b : ℕ) → a ≤ b → folded a ≤ folded b
 folded-mono a b h = ⊎-elim
     (λ (l : fold-limit ≤ a). omega (arith, folded-high a l, folded-high b (omega arith)))
     (λ (l : a < fold-limit). omega (arith, folded-low a l))

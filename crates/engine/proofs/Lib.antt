@@ -6,3 +6,5 @@ pub mod Steps
 pub mod Agree
 pub mod Trials
 pub mod Halves
+pub mod Marks
+pub mod Shown

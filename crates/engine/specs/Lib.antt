@@ -4,3 +4,5 @@ pub mod Rounds
 pub mod Steps
 pub mod Trials
 pub mod Halving
+pub mod Marks
+pub mod Shown

@@ -4,3 +4,5 @@ pub mod values;
 pub mod policy;
 pub mod bracket;
 pub mod halving;
+pub mod reach;
+pub mod picks;
