@@ -1,3 +1,8 @@
+use Prim.Native.Nat.{ℕ, _≤_, _<_, _-_, _+_, _*_}
+use mathlib.Core.Path.{_≡_}
+use native.Mathlib.Omega.{arith}
+use Rattle.engine.proofs.Filled.{filled-none, filled-more, filled-end}
+use Rattle.engine.specs.Shown.{RowArcs}
 use borrow.Author.Needs.{needs}
 use Rattle.engine.proofs.picks.row_arcs.Statement.{statement}
 use Rattle.engine.proofs.picks.row_arcs.Tie as tie
@@ -6,10 +11,10 @@ use Rattle.engine.proofs.picks.row_arcs.Lts as lts
 use Rattle.engine.proofs.picks.row_arc.Reads as row-arc-reads
 
 abbrev Inv-loop : tie.InvT-loop
-Inv-loop left picks width rows end out₀ k₀ out k = ?
+Inv-loop left picks width rows end out₀ k₀ out k = (k ≤ end) × RowArcs left picks rows k out
 
 abbrev μ-loop : tie.MeasureT-loop
-μ-loop left picks width rows end out₀ k₀ out k = ?
+μ-loop left picks width rows end out₀ k₀ out k = end - k
 
 -- src/picks.rt:102:15
 mul-end : tie.Need-mul-end Inv-loop μ-loop
@@ -17,7 +22,7 @@ mul-end c = search needs
 
 -- src/picks.rt:105:5
 loop-holds : tie.Need-loop-holds Inv-loop μ-loop
-loop-holds c = search needs
+loop-holds c = (omega arith, filled-none 1024)
 
 -- src/picks.rt:106:18
 row-arc-requires : tie.Need-row-arc-requires Inv-loop μ-loop
@@ -41,11 +46,11 @@ loop-less c = search needs
 
 -- src/picks.rt:105:5
 loop-again : tie.Need-loop-again Inv-loop μ-loop
-loop-again c = search needs
+loop-again c = (omega arith, filled-more (c .before .before .loop .inv .1) (omega arith) (c .row-arc .ensures))
 
 -- src/picks.rt:98:1
 returns : tie.Need-returns Inv-loop μ-loop
-returns c = search needs
+returns c = filled-end (c .before .loop .inv .1) (c .before .loop .inv .0) (c .loop-test .left)
 
 pub row-arcs-spec : {M : Type 1} → statement M
 row-arcs-spec =
