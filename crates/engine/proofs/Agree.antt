@@ -33,15 +33,18 @@ agree-sym a = record {
   right = λ i j h k. sym (a .right i j (rw (a .rows) h) (rw (a .variables) k));
 }
 
+-- The right sides of their rows are the same.
+pub agree-side : {s s′ : System} (x : Point) (i : ℕ) → Agree s s′ → i < s .rows → sideOf s (s .right i) x ≡ sideOf s′ (s′ .right i) x
+agree-side {s} {s′} x i a q =
+    largest-ext _ _ (s .variables) (λ j b. ap (λ (z : Trop). plus z (x j)) (a .right i j q b)) ∙ ap (largest (λ j. plus (s′ .right i j) (x j))) (a .variables)
+
 -- A point that solves the one solves the other.
 pub agree-solves : {s s′ : System} (x : Point) → Agree s s′ → Solves s x → Solves s′ x
 agree-solves {s} {s′} x a h i r =
     let q : i < s .rows = rw (a .rows) r in
     let l : sideOf s (s .left i) x ≡ sideOf s′ (s′ .left i) x =
     largest-ext _ _ (s .variables) (λ j b. ap (λ (z : Trop). plus z (x j)) (a .left i j q b)) ∙ ap (largest (λ j. plus (s′ .left i j) (x j))) (a .variables) in
-    let g : sideOf s (s .right i) x ≡ sideOf s′ (s′ .right i) x =
-    largest-ext _ _ (s .variables) (λ j b. ap (λ (z : Trop). plus z (x j)) (a .right i j q b)) ∙ ap (largest (λ j. plus (s′ .right i j) (x j))) (a .variables) in
-    ⊑-trans (⊑-of-eq (sym l)) (⊑-trans (h i q) (⊑-of-eq g))
+    ⊑-trans (⊑-of-eq (sym l)) (⊑-trans (h i q) (⊑-of-eq (agree-side x i a q)))
 
 module _ (s s′ : System) (τ τ′ : Strategy) (a : Agree s s′) (same : (j : ℕ) → j < s .variables → τ j ≡ τ′ j) where
   weight-agree : (j l : ℕ) → j < s .variables → l < s .variables → weights s τ j l ≡ weights s′ τ′ j l

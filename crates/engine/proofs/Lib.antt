@@ -8,3 +8,7 @@ pub mod Trials
 pub mod Halves
 pub mod Marks
 pub mod Shown
+pub mod Variables
+pub mod RowsOf
+pub mod Form
+pub mod Final

@@ -20,8 +20,8 @@ use Rattle.definitions.specs.Certificate.{Strategy, Anchor, raise}
 use Rattle.definitions.specs.Offset.{tropOf}
 use Rattle.definitions.proofs.Whole.{up, down, whole, nat-le-or-lt, subℕ-read}
 use Rattle.definitions.proofs.Tropical.{plus-zero}
-use Rattle.definitions.proofs.Offset.{trop-zero, trop-fin, plus-trop, plus-trop-zero}
-use Rattle.definitions.proofs.Raise.{raised, unraised}
+use Rattle.definitions.proofs.Offset.{trop-zero, trop-fin, trop-order, plus-trop, plus-trop-zero}
+use Rattle.definitions.proofs.Raise.{raised, unraised, raise-zero}
 use Rattle.duality.specs.System.{System, Solves, Solution, Blocks, Blocked, systemAt}
 use Rattle.duality.specs.Values.{values, Policy}
 use Rattle.duality.proofs.Ends.{idle, empty-policy, blank-blocks}
@@ -31,8 +31,10 @@ use Rattle.engine.specs.Tables.{entryOf, systemOf, pointOf, pickOf, rais
 use Rattle.engine.specs.Filled.{Filled}
 use Rattle.engine.specs.Rounds.{ValuesIs}
 use Rattle.engine.specs.Steps.{Tried}
-use Rattle.engine.specs.Trials.{wholeOf, Trialled, shifted, Raised, Steady, Question, Ready, At, KeptAt, TriedAt}
+use Rattle.engine.specs.Trials.{wholeOf, Trialled, shifted, Raised, Steady, Question, Ready, At, KeptAt, TriedAt, Held}
 use Rattle.engine.proofs.Filled.{filled-map, filled-end}
+use Rattle.engine.proofs.Rounds.{zero-is}
+use Rattle.engine.proofs.Steps.{values-ranged}
 use Rattle.engine.proofs.Agree.{Agree, agree-sym, agree-solves, agree-values, agree-policy}
 
 -- ---- one coefficient raised
@@ -207,7 +209,7 @@ problem-in n m left right objective = record {
 
 -- ---- a trial
 
-agree-raised : (p : Problem) (n m t : ℕ) (left right objective right′ : List ℕ) → Question p n m left right objective
+pub agree-raised : (p : Problem) (n m t : ℕ) (left right objective right′ : List ℕ) → Question p n m left right objective
     → Ready n m left right objective → Trialled t → Raised right objective m t 32 right′
     → Agree (systemOf left right′ (n + 1) (m + 1)) (systemAt p (wholeOf t))
 agree-raised p n m t left right objective right′ q y b r =
@@ -231,6 +233,10 @@ tried-agree s s′ x picks a t = record {
   solves = agree-solves (pointOf x) a (t .solves);
 }
 
+-- The value of variable 0 is at most zero.
+value-top : (s : System) (x picks : List ℕ) → 0 < s .variables → Tried s x picks → getD x 0 0 ≤ 2147483648
+value-top s x picks h t = trop-order (getD x 0 0) 2147483648 .0 (rw (t .values-are .each 0 h, zero-is) (t .policy .below 0 h))
+
 -- What a trial ends with, of the problem at t.
 trial-found : (n m t : ℕ) (left right objective right′ x picks : List ℕ) → Ready n m left right objective → Trialled t
     → Raised right objective m t 32 right′ → Tried (systemOf left right′ (n + 1) (m + 1)) x picks
@@ -238,7 +244,8 @@ trial-found : (n m t : ℕ) (left right objective right′ x picks : List ℕ) �
 trial-found n m t left right objective right′ x picks y b r f = record {
   tried = λ p q. tried-agree _ _ x picks (agree-raised p n m t left right objective right′ q y b r) f;
   picks-size = f .size;
-  values-size = f .values-are .size-is;
+  ranged = values-ranged left right′ picks x (n + 1) (m + 1) (raised-ready n m t left right objective right′ y b r .tables) (f .values-are);
+  top = value-top (systemOf left right′ (n + 1) (m + 1)) x picks (omega arith) f;
 }
 
 pub tried-steady : (n m t : ℕ) (left right right′ objective x picks : List ℕ) → n ≤ 31 → Steady m right right′
@@ -246,7 +253,8 @@ pub tried-steady : (n m t : ℕ) (left right right′ objective x picks : List �
 tried-steady n m t left right right′ objective x picks b s f = record {
   tried = λ p q. f .tried p (question-steady p n m left right′ right objective b (steady-sym s) q);
   picks-size = f .picks-size;
-  values-size = f .values-size;
+  ranged = f .ranged;
+  top = f .top;
 }
 
 -- ---- where a trial starts
@@ -304,3 +312,17 @@ attempt-found n m t left right objective right′ x picks y b r f =
       s,
       raised-ready n m t left right objective right′ y b r,
     )
+
+-- ---- the objective's row as it is
+
+-- Raised by 0 the tables hold the problem.
+pub raised-held : (p : Problem) (n m : ℕ) (left right objective right′ : List ℕ) → Question p n m left right objective
+    → Ready n m left right objective → Raised right objective m 2147483648 32 right′ → Held p n m left right′
+raised-held p n m left right objective right′ q y r =
+    let a = raised-at p n m 2147483648 left right objective right′ q y (record { lowest = omega arith; highest = omega arith }) r in
+    record {
+      n-is = q .n-is;
+      m-is = q .m-is;
+      left-is = q .left-is;
+      right-is = λ i j h k. a .right-is i j (rw (q .m-is) h) (rw (q .n-is) k) ∙ rw (raise-zero, plus-zero);
+    }

@@ -6,3 +6,4 @@ pub mod Trials
 pub mod Halving
 pub mod Marks
 pub mod Shown
+pub mod Answered

@@ -16,7 +16,7 @@ use Rattle.definitions.specs.Certificate.{raise}
 use Rattle.duality.specs.System.{systemAt}
 use Rattle.duality.specs.Values.{Policy}
 use Rattle.records.specs.Decoded.{Near}
-use Rattle.engine.specs.Tables.{entryOf, pointOf, pickOf, Tables}
+use Rattle.engine.specs.Tables.{entryOf, pointOf, pickOf, Tables, Ranged}
 use Rattle.engine.specs.Steps.{Tried}
 
 -- The whole number that an offset number above 0 stands for.
@@ -72,4 +72,12 @@ pub record KeptAt (n m : ℕ) (left right objective : List ℕ) (t : ℕ) (picks
 pub record TriedAt (n m : ℕ) (left right objective : List ℕ) (t : ℕ) (x picks : List ℕ) : Type 0 where
   pub tried : (p : Problem) → Question p n m left right objective → Tried (systemAt p (wholeOf t)) x picks
   pub picks-size : length picks ≡ 32
-  pub values-size : length x ≡ 32
+  pub ranged : Ranged x
+  pub top : getD x 0 0 ≤ 2147483648
+
+-- The tables hold the problem, every row as it is.
+pub record Held (p : Problem) (n m : ℕ) (left right : List ℕ) : Type 0 where
+  pub n-is : p .n ≡ n
+  pub m-is : p .m ≡ m
+  pub left-is : (i j : ℕ) → i ≤ m → j ≤ n → entryOf left i j ≡ p .left i j
+  pub right-is : (i j : ℕ) → i ≤ m → j ≤ n → entryOf right i j ≡ p .right i j

@@ -1,0 +1,185 @@
+-- The three classes: what the trials found is an answer that the checker's list accepts, with its class, span and trials.
+use Prim.Native.Nat.{ℕ, zero, suc, _+_, _*_, _-_, _≤_, _<_}
+use mathlib.Core.Path.{_≡_, refl, sym, ap, ap₂, subst, fun-ext, _∙_}
+use mathlib.Core.Bool.{Bool, true, false, cond, and-eq-true-iff}
+use mathlib.Core.Logic.{_⊎_, inl, inr, ⊎-elim}
+use mathlib.Core.List.{List, [], map}
+use native.Mathlib.Omega.{arith}
+use native.Mathlib.Numerals.{add-one}
+use lib.Dec.{eqb, leb}
+use lib.ListN.{length, getD, take}
+use lib.IntN.{ℤ, pos, negsuc, negℤ, subℕ, natAbs, _+ℤ_, _-ℤ_}
+use lib.Signed.{_≤ℤ_}
+use borrow.Author.Tests.{le-leb}
+use Rattle.definitions.specs.Limits.{signed-half, lead-limit, span-limit, stamp-limit}
+use Rattle.definitions.specs.Tropical.{Trop, bot, fin, plus, _⊑_, Finite}
+use Rattle.definitions.specs.Problem.{Problem, Point, Feasible, value, Attainable, Optimal, Unbounded, Infeasible}
+use Rattle.definitions.specs.Certificate.{Strategy, Anchor, PicksCount, BelowZero, AcceptedOptimal, AcceptedInfeasible, AcceptedUnbounded, RowPicksCount}
+use Rattle.definitions.specs.Bisection.{trials-optimal}
+use Rattle.definitions.specs.Offset.{tropOf}
+use Rattle.definitions.specs.Bytes.{whole-within, blank-or-within}
+use Rattle.definitions.specs.AnswerRecord.{Answer, stampCount, pickCount, highestPick, is-zero, is-blank, spanFits, stampsFit, picksFit, rightCounts, formRefusal}
+use Rattle.definitions.specs.Verdict as Verdict
+use Rattle.definitions.specs.Verdict.{Accepted, strategyOf}
+use Rattle.definitions.specs.Solved as Solved
+use Rattle.definitions.specs.Solved.{Found, Answers, IdleVariables, IdleRows}
+use Rattle.definitions.proofs.Whole.{up, down, whole, plus-read, minus-read, neg-read, abs-read, abs-show, subℕ-read, nat-le-or-lt}
+use Rattle.definitions.proofs.Tropical.{blank-or-finite, bot-not-fin, fin-injective, plus-is, bot-plus, ⊑-trans, ⊑-of-eq}
+use Rattle.definitions.proofs.Offset.{trop-zero, trop-fin}
+use Rattle.definitions.proofs.Refusals.{FormFits, form-fits}
+use Rattle.duality.specs.System.{System, sideOf, Solves, Blocks, Blocked, Saves, systemAt}
+use Rattle.duality.specs.Values.{difference, values, Policy}
+use Rattle.duality.specs.Within.{Within, Enough, upper, lower}
+use Rattle.duality.specs.Induced.{Attaining, Induced}
+use Rattle.duality.specs.Picks.{picksFrom, NoneAbove, AtLeastZero}
+use Rattle.duality.proofs.Weights.{difference-plus}
+use Rattle.duality.proofs.Weak.{solution-saves, not-solved-and-blocked}
+use Rattle.duality.proofs.Attain.{moved, moved-anchored, moved-solves, solves-feasible, solves-within, attainable-solution, solution-attainable}
+use Rattle.duality.proofs.Picks.{picks-joined, picks-none-above, block-picks, save-picks}
+use Rattle.duality.proofs.Numbers.{below-infeasible, above-unbounded, top-enough}
+use Rattle.duality.proofs.Classes.{value-exactly, optimal-exactly, infeasible-exactly, unbounded-exactly, optimal-range}
+use Rattle.duality.proofs.Stamps.{stamps-at-most-32}
+use Rattle.duality.proofs.Unused.{optimal-unused, infeasible-unused, unbounded-unused}
+use Rattle.engine.specs.Tables.{entryOf, systemOf, pointOf, pickOf}
+use Rattle.engine.specs.Filled.{Filled}
+use Rattle.engine.specs.Steps.{Tried}
+use Rattle.engine.specs.Trials.{wholeOf, Trialled, Raised, Question, Ready, TriedAt, Held}
+use Rattle.engine.specs.Halving.{LeastFound}
+use Rattle.engine.specs.Shown.{VariablePicks, RowPicks, BestIs, InducedRows}
+use Rattle.engine.specs.Answered.{Stamps, answerIn, Settled}
+use Rattle.engine.proofs.Agree.{Agree, agree-sym, agree-side}
+use Rattle.engine.proofs.Trials.{agree-raised, raised-held, tried-blocks, tried-solution}
+use Rattle.engine.proofs.Variables.{variables-agree, variables-idle, variables-most}
+use Rattle.engine.proofs.RowsOf.{rows-agree, rows-idle, rows-most}
+use Rattle.engine.proofs.Form.{cut-at, cut-strategy, cut-point, picks-fit, stamps-fit, no-stamps-fit, cut-count, cut-count-map}
+
+-- ---- what the three share
+
+enough : (p : Problem) (n : ℕ) → p .n ≡ n → n ≤ 31 → Enough (p .n) lead-limit span-limit
+enough p n e h = top-enough (p .n) lead-limit (omega (arith, e))
+
+first-inside : (p : Problem) (t : ℤ) → 0 < systemAt p t .variables
+unfolding systemAt
+first-inside p t = omega arith
+
+-- Where a strategy blocks, nothing is attainable.
+blocked-unattainable : (p : Problem) (t : ℤ) (τ : Strategy) → Blocks (systemAt p t) Anchor τ → Attainable p t → ⊥
+blocked-unattainable p t τ b a = not-solved-and-blocked (systemAt p t) Anchor (attainable-solution p t a) (record { strategy = τ; blocks = b })
+
+-- The number of rows, or of variables, in both forms.
+same-count : (k n : ℕ) → k ≡ n → n + 1 ≡ suc k
+same-count k n e = rw (add-one, e)
+
+-- The strategy of a cut array of 64.
+cut-64 : {P : ℕ → ℕ → Type 0} (n : ℕ) (out : List ℕ) → n ≤ 63 → Filled P 64 (n + 1) out → strategyOf (take (suc n) out) ≡ pickOf out
+cut-64 n out h f = cut-strategy (suc n) out (omega (arith, f .size-is)) (λ j k. f .rest j (omega arith))
+
+fits-64 : {P : ℕ → ℕ → Type 0} (highest n : ℕ) (out : List ℕ) → n ≤ 63 → Filled P 64 (n + 1) out → ((j : ℕ) → getD out j 0 ≤ highest)
+    → picksFit highest (take (suc n) out) ≡ true
+fits-64 highest n out h f b =
+    picks-fit highest (take (suc n) out) (λ j. rw (cut-at (suc n) out (omega (arith, f .size-is)) (λ j k. f .rest j (omega arith)) j) (b j))
+
+-- ---- class 3
+
+none-form : (n m : ℕ) (stamps out : List ℕ) → n ≤ 31 → length out ≡ 64 → picksFit (suc m) (take (suc n) out) ≡ true
+    → (rightCounts (answerIn n m 3 0 stamps out) n m ≡ true) × (formRefusal (answerIn n m 3 0 stamps out) n m ≡ 0)
+unfolding rightCounts spanFits is-blank
+none-form n m stamps out h l f = (
+  cut-count (suc n) out (omega arith),
+  form-fits (answerIn n m 3 0 stamps out) n m .1 (record { span-fits = rw trop-zero refl; stamps-fit = no-stamps-fit; picks-fit = f }),
+)
+
+-- The trial at 645,120 is not possible: none.
+pub infeasible-settled : (n m : ℕ) (left right right′ objective x picks out stamps : List ℕ) → Ready n m left right objective
+    → TriedAt n m left right objective 2148128768 x picks → getD x 0 0 ≡ 0
+    → Raised right objective m 2147483648 32 right′ → VariablePicks right′ picks (n + 1) (m + 1) out
+    → Settled n m left right objective 3 0 1 stamps out
+infeasible-settled n m left right right′ objective x picks out stamps y f z r v = record { answers = answers }
+  where
+    answers : (p : Problem) → Question p n m left right objective → Within p lead-limit → Answers p 3 (tropOf 0) 1 (answerIn n m 3 0 stamps out)
+    answers p q w =
+        let held = raised-held p n m left right objective right′ q y r in
+        let b : Blocks (systemAt p (upper span-limit)) Anchor (pickOf picks) = tried-blocks p (wholeOf 2148128768) x picks (f .tried p q) z in
+        let c = block-picks p (upper span-limit) (picks-joined (pickOf picks) (suc (p .m)) (suc (p .n))) b in
+        let g = below-infeasible p lead-limit span-limit (picksFrom (pickOf picks) (suc (p .m))) w (enough p n (q .n-is) (y .n-most))
+        (picks-none-above (pickOf picks) (suc (p .m)) (suc (p .n))) (c .0) (c .1) in
+        let k : AcceptedInfeasible p (picksFrom (pickOf picks) (m + 1)) =
+        subst (λ (i : ℕ). AcceptedInfeasible p (picksFrom (pickOf picks) i)) (sym (same-count (p .m) m (q .m-is))) g in
+        let a = infeasible-unused (variables-agree p n m left right′ picks out held (y .n-most) v) k in
+        let i : Infeasible p = infeasible-exactly p lead-limit span-limit w (enough p n (q .n-is) (y .n-most)) .1
+        (blocked-unattainable p (upper span-limit) (pickOf picks) b) in
+        let cut = cut-64 n out (omega (arith, y .n-most)) (v .shown) in
+        let form = none-form n m stamps out (y .n-most) (v .shown .size-is)
+        (fits-64 (suc m) n out (omega (arith, y .n-most)) (v .shown) (λ j. omega (arith, variables-most p n m left right′ picks out held (y .n-most) v j))) in
+        record {
+          found = rw trop-zero (Solved.infeasible i);
+          class-is = refl;
+          span-is = refl;
+          counts = rw (q .n-is, q .m-is) (form .0);
+          form = rw (q .n-is, q .m-is) (form .1);
+          idle-variables = λ _. subst (λ (s : Strategy). IdleVariables p s) (sym cut) (variables-idle p n m left right′ picks out held (y .n-most) v);
+          idle-rows = λ e. absurd (omega arith);
+          accepted = Verdict.infeasible refl (subst (AcceptedInfeasible p) (sym cut) a);
+        }
+
+-- ---- class 2
+
+-- A point's row strategy in the tables is one of the system at t.
+rows-induced : (left right x rows : List ℕ) (n m : ℕ) (s : System) → Agree (systemOf left right (n + 1) (m + 1)) s
+    → InducedRows right x (n + 1) (m + 1) rows → Induced s (pointOf x) (pickOf rows)
+rows-induced left right x rows n m s a f i h g =
+    let k : i < m + 1 = rw (a .rows) h in
+    let e = agree-side (pointOf x) i a k in
+    let b = f .each i k .best (subst Finite (sym e) g) in
+    record {
+      inside = rw (← a .variables) (b .0);
+      attains = ⊑-trans (⊑-of-eq (sym e)) (⊑-trans (b .1) (⊑-of-eq (ap (λ (z : Trop). plus z (pointOf x (getD rows i 0))) (a .right i (getD rows i 0) k (b .0)))));
+    }
+
+unbounded-form : (n m : ℕ) (stamps out : List ℕ) → m ≤ 63 → length out ≡ 64 → picksFit (suc n) (take (suc m) out) ≡ true
+    → (rightCounts (answerIn n m 2 0 stamps out) n m ≡ true) × (formRefusal (answerIn n m 2 0 stamps out) n m ≡ 0)
+unfolding rightCounts spanFits is-blank
+unbounded-form n m stamps out h l f = (
+  cut-count (suc m) out (omega arith),
+  form-fits (answerIn n m 2 0 stamps out) n m .1 (record { span-fits = rw trop-zero refl; stamps-fit = no-stamps-fit; picks-fit = f }),
+)
+
+-- The trial at −645,121 is possible: bottomless.
+pub unbounded-settled : (n m : ℕ) (left right lowered right′ objective x kept rows out stamps : List ℕ) → Ready n m left right objective
+    → TriedAt n m left right objective 2146838527 x kept → 0 < getD x 0 0
+    → Raised right objective m 2146838527 32 lowered → InducedRows lowered x (n + 1) (m + 1) rows
+    → Raised lowered objective m 2147483648 32 right′ → Ready n m left lowered objective → RowPicks left rows (n + 1) (m + 1) out
+    → ((p : Problem) → Question p n m left right objective → Question p n m left lowered objective)
+    → Settled n m left right objective 2 0 2 stamps out
+unbounded-settled n m left right lowered right′ objective x kept rows out stamps y f z r d r′ y′ v same = record { answers = answers }
+  where
+    answers : (p : Problem) → Question p n m left right objective → Within p lead-limit → Answers p 2 (tropOf 0) 2 (answerIn n m 2 0 stamps out)
+    answers p q w =
+        let held = raised-held p n m left lowered objective right′ (same p q) y′ r′ in
+        let t = f .tried p q in
+        let s = systemAt p (lower span-limit) in
+        let g = agree-raised p n m 2146838527 left right objective lowered q y (record { lowest = omega arith; highest = omega arith }) r in
+        let i = rows-induced left lowered x rows n m s g d in
+        let b : Saves s Anchor (pickOf rows) = solution-saves s (pointOf x) (pickOf rows) (t .solves) i Anchor
+        (λ j e. (rw e (first-inside p (lower span-limit)), rw e (record { whole = wholeOf (getD x 0 0); is = trop-fin (getD x 0 0) z }))) in
+        let c = save-picks p (lower span-limit) (picks-joined (pickOf rows) (suc (p .n)) (suc (p .m))) b in
+        let h = above-unbounded p lead-limit span-limit (picksFrom (pickOf rows) (suc (p .n))) w (enough p n (q .n-is) (y .n-most))
+        (picks-none-above (pickOf rows) (suc (p .n)) (suc (p .m))) (c .0) (c .1) in
+        let k : AcceptedUnbounded p (picksFrom (pickOf rows) (n + 1)) =
+        subst (λ (i : ℕ). AcceptedUnbounded p (picksFrom (pickOf rows) i)) (sym (same-count (p .n) n (q .n-is))) h in
+        let a = unbounded-unused (rows-agree p n m left right′ rows out held (y .n-most) v) k in
+        let u : Unbounded p = unbounded-exactly p lead-limit span-limit w (enough p n (q .n-is) (y .n-most)) .1
+        (solution-attainable p (lower span-limit) (tried-solution p (lower span-limit) x kept t z)) in
+        let cut = cut-64 m out (y .m-most) (v .shown) in
+        let form = unbounded-form n m stamps out (y .m-most) (v .shown .size-is)
+        (fits-64 (suc n) m out (y .m-most) (v .shown) (λ j. omega (arith, rows-most p n m left right′ rows out held (y .n-most) v j))) in
+        record {
+          found = rw trop-zero (Solved.unbounded u);
+          class-is = refl;
+          span-is = refl;
+          counts = rw (q .n-is, q .m-is) (form .0);
+          form = rw (q .n-is, q .m-is) (form .1);
+          idle-variables = λ e. absurd (e refl);
+          idle-rows = λ _. subst (λ (s : Strategy). IdleRows p s) (sym cut) (rows-idle p n m left right′ rows out held (y .n-most) v);
+          accepted = Verdict.unbounded refl (subst (AcceptedUnbounded p) (sym cut) a);
+        }
