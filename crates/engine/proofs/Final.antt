@@ -40,15 +40,17 @@ use Rattle.duality.proofs.Numbers.{below-infeasible, above-unbounded, top-enoug
 use Rattle.duality.proofs.Classes.{value-exactly, optimal-exactly, infeasible-exactly, unbounded-exactly, optimal-range}
 use Rattle.duality.proofs.Stamps.{stamps-at-most-32}
 use Rattle.duality.proofs.Unused.{optimal-unused, infeasible-unused, unbounded-unused}
-use Rattle.engine.specs.Tables.{entryOf, systemOf, pointOf, pickOf}
+use Rattle.records.specs.Decoded.{Near, Decoded}
+use Rattle.engine.specs.Tables.{entryOf, systemOf, pointOf, pickOf, raised-limit}
 use Rattle.engine.specs.Filled.{Filled}
 use Rattle.engine.specs.Steps.{Tried}
-use Rattle.engine.specs.Trials.{wholeOf, Trialled, Raised, Question, Ready, TriedAt, Held}
+use Rattle.engine.specs.Trials.{wholeOf, Trialled, Raised, Steady, Question, Ready, TriedAt, Held}
 use Rattle.engine.specs.Halving.{LeastFound}
 use Rattle.engine.specs.Shown.{VariablePicks, RowPicks, BestIs, InducedRows}
-use Rattle.engine.specs.Answered.{Stamps, answerIn, Settled}
+use Rattle.engine.specs.Answered.{Coefficients, Copied, Stamps, answerIn, Settled, Answered}
+use Rattle.engine.proofs.Small.{near-small}
 use Rattle.engine.proofs.Agree.{Agree, agree-sym, agree-side}
-use Rattle.engine.proofs.Trials.{agree-raised, raised-held, tried-blocks, tried-solution}
+use Rattle.engine.proofs.Trials.{agree-raised, raised-ready, raised-held, question-steady, tried-blocks, tried-solution}
 use Rattle.engine.proofs.Variables.{variables-agree, variables-idle, variables-most}
 use Rattle.engine.proofs.RowsOf.{rows-agree, rows-idle, rows-most}
 use Rattle.engine.proofs.Form.{cut-at, cut-strategy, cut-point, picks-fit, stamps-fit, no-stamps-fit, cut-count, cut-count-map}
@@ -144,21 +146,35 @@ unbounded-form n m stamps out h l f = (
   form-fits (answerIn n m 2 0 stamps out) n m .1 (record { span-fits = rw trop-zero refl; stamps-fit = no-stamps-fit; picks-fit = f }),
 )
 
+-- The tables raised by −645,121 are in range.
+pub lowest-ready : (n m : ℕ) (left right objective lowered : List ℕ) → Ready n m left right objective → Raised right objective m 2146838527 32 lowered
+    → Ready n m left lowered objective
+lowest-ready n m left right objective lowered y r =
+    raised-ready n m 2146838527 left right objective lowered y (record { lowest = omega arith; highest = omega arith }) r
+
 -- The trial at −645,121 is possible: bottomless.
 pub unbounded-settled : (n m : ℕ) (left right lowered right′ objective x kept rows out stamps : List ℕ) → Ready n m left right objective
     → TriedAt n m left right objective 2146838527 x kept → 0 < getD x 0 0
     → Raised right objective m 2146838527 32 lowered → InducedRows lowered x (n + 1) (m + 1) rows
-    → Raised lowered objective m 2147483648 32 right′ → Ready n m left lowered objective → RowPicks left rows (n + 1) (m + 1) out
-    → ((p : Problem) → Question p n m left right objective → Question p n m left lowered objective)
+    → Raised lowered objective m 2147483648 32 right′ → RowPicks left rows (n + 1) (m + 1) out
     → Settled n m left right objective 2 0 2 stamps out
-unbounded-settled n m left right lowered right′ objective x kept rows out stamps y f z r d r′ y′ v same = record { answers = answers }
+unbounded-settled n m left right lowered right′ objective x kept rows out stamps y f z r d r′ v = record { answers = answers }
   where
+    lowest : Trialled 2146838527
+    lowest = record { lowest = omega arith; highest = omega arith }
+
+    y′ : Ready n m left lowered objective
+    y′ = lowest-ready n m left right objective lowered y r
+
+    same : (p : Problem) → Question p n m left right objective → Question p n m left lowered objective
+    same p q = question-steady p n m left right lowered objective (y .n-most) (record { above = r .above }) q
+
     answers : (p : Problem) → Question p n m left right objective → Within p lead-limit → Answers p 2 (tropOf 0) 2 (answerIn n m 2 0 stamps out)
     answers p q w =
         let held = raised-held p n m left lowered objective right′ (same p q) y′ r′ in
         let t = f .tried p q in
         let s = systemAt p (lower span-limit) in
-        let g = agree-raised p n m 2146838527 left right objective lowered q y (record { lowest = omega arith; highest = omega arith }) r in
+        let g = agree-raised p n m 2146838527 left right objective lowered q y lowest r in
         let i = rows-induced left lowered x rows n m s g d in
         let b : Saves s Anchor (pickOf rows) = solution-saves s (pointOf x) (pickOf rows) (t .solves) i Anchor
         (λ j e. (rw e (first-inside p (lower span-limit)), rw e (record { whole = wholeOf (getD x 0 0); is = trop-fin (getD x 0 0) z }))) in
@@ -325,3 +341,72 @@ optimal-settled n m left right right′ objective span trials point blocking out
               (subst (AcceptedOptimal p (wholeOf span) (Verdict.pointOf (map tropOf (take (suc n) stamps)))) (sym cut)
               (subst (λ (z : Point). AcceptedOptimal p (wholeOf span) z (pickOf out)) (sym (stamps-point p q)) (accepted p q)));
         }
+
+-- ---- the whole
+
+-- An answer of the problem in tables that differ in the objective's row alone.
+pub settled-steady : (n m : ℕ) (left right right′ objective : List ℕ) (class span trials : ℕ) (stamps picks : List ℕ) → n ≤ 31 → Steady m right right′
+    → Settled n m left right′ objective class span trials stamps picks → Settled n m left right objective class span trials stamps picks
+settled-steady n m left right right′ objective class span trials stamps picks b s f =
+    record { answers = λ p q w. f .answers p (question-steady p n m left right right′ objective b s q) w }
+
+-- Tables within the leads' limit are ready for the first trial.
+pub coefficients-ready : (n m : ℕ) (left right objective : List ℕ) → Coefficients n m left right → Copied right m 32 objective → Ready n m left right objective
+coefficients-ready n m left right objective c o = record {
+  n-most = c .n-most;
+  m-most = c .m-most;
+  tables = record {
+    width-most = omega (arith, c .n-most);
+    rows-most = omega (arith, c .m-most);
+    lefts = c .lefts;
+    rights = record { size = c .rights .size; near = λ k. wider (c .rights .near k) };
+  };
+  objective-size = o .size-is;
+  objective-near = λ k. ⊎-elim
+      (λ (h : 32 ≤ k). rw (o .rest k h) (record { hi = omega arith; lo = λ p. absurd (omega arith) }))
+      (λ (h : k < 32). rw (o .each k h) (c .rights .near (m * 32 + k)))
+      (nat-le-or-lt 32 k);
+}
+  where
+    wider : {k : ℕ} → Near lead-limit k → Near raised-limit k
+    wider n = record { hi = omega (arith, n .hi); lo = λ h. let l = n .lo h in omega arith }
+
+-- The problem in the tables.
+decoded-question : (p : Problem) (n m : ℕ) (left right objective : List ℕ) → Decoded p left right → p .n ≡ n → p .m ≡ m → Copied right m 32 objective
+    → Question p n m left right objective
+decoded-question p n m left right objective d e f o = record {
+  n-is = e;
+  m-is = f;
+  left-is = λ i j h k. d .left-is i j (omega arith) (omega arith);
+  right-is = λ i j h k. d .right-is i j (omega arith) (omega arith);
+  objective-is = λ j k. ap tropOf (o .each j (omega (arith, d .n-most))) ∙ d .right-is m j (omega arith) (omega arith);
+}
+
+decoded-within : (p : Problem) (left right : List ℕ) → Decoded p left right → Within p lead-limit
+decoded-within p left right d = record {
+  left = λ i j a h k e. near-small lead-limit _ (d .left-near (i * 32 + j)) .size a (d .left-is i j h k ∙ e);
+  right = λ i j a h k e. near-small lead-limit _ (d .right-near (i * 32 + j)) .size a (d .right-is i j h k ∙ e);
+}
+
+-- What the trials settled, of every problem that the tables hold.
+settled-answered : (n m : ℕ) (left right objective : List ℕ) (class span trials : ℕ) (stamps picks : List ℕ) → Copied right m 32 objective
+    → Settled n m left right objective class span trials stamps picks → Answered n m left right class span trials stamps picks
+settled-answered n m left right objective class span trials stamps picks o s =
+    record { answers = λ p d e f. s .answers p (decoded-question p n m left right objective d e f o) (decoded-within p left right d) }
+
+-- The requirement can be met: a decoded problem's tables are such.
+pub decoded-coefficients : (p : Problem) (left right : List ℕ) → Decoded p left right → Coefficients (p .n) (p .m) left right
+decoded-coefficients p left right d = record {
+  n-most = d .n-most;
+  m-most = d .m-most;
+  lefts = record { size = d .left-length; near = d .left-near };
+  rights = record { size = d .right-length; near = d .right-near };
+}
+
+-- The same where the objective's row was rewritten meanwhile.
+pub answered-by : {n m : ℕ} {left right right′ objective : List ℕ} {class span trials : ℕ} {stamps picks : List ℕ} → Coefficients n m left right
+    → Copied right m 32 objective → Steady m right right′ → Settled n m left right′ objective class span trials stamps picks
+    → Answered n m left right class span trials stamps picks
+answered-by {n} {m} {left} {right} {right′} {objective} {class} {span} {trials} {stamps} {picks} c o s f =
+    settled-answered n m left right objective class span trials stamps picks o
+    (settled-steady n m left right right′ objective class span trials stamps picks (c .n-most) s f)

@@ -21,7 +21,7 @@ fn shift(k: u64, t: u64) -> u64
 }
 
 // The objective's row of the right table, raised by t.
-fn raise(right: &mut [u64; 2048], objective: &[u64; 32], row: usize, t: u64)
+pub fn raise(right: &mut [u64; 2048], objective: &[u64; 32], row: usize, t: u64)
     requires { ⌜ (length (now right) ≡ 2048) × (length (now objective) ≡ 32) × (row < 64) × Trialled t × ((k : ℕ) → Near lead-limit (getD (now objective) k 0)) ⌝ }
     ensures { λ _. ⌜ Raised (now (right .entry)) (now (objective .entry)) row t 32 (now (right .exit)) ⌝ }
 {
@@ -117,7 +117,7 @@ pub fn halve(
     start: Search,
 ) -> Least
     requires { ⌜ Ready n m (now left) (now right) (now objective) × Searching n m (now left) (now right) (now objective) (start .bracket .low) (start .bracket .high) (start .trials) (start .point) (start .kept) (start .blocking) ⌝ }
-    ensures { λ r. ⌜ LeastFound n m (now (left .entry)) (now (right .exit)) (now (objective .entry)) (r .span) (r .trials) (r .point) (r .blocking) × Steady m (now (right .entry)) (now (right .exit)) ⌝ }
+    ensures { λ r. ⌜ LeastFound n m (now (left .entry)) (now (right .exit)) (now (objective .entry)) (r .span) (r .trials) (r .point) (r .blocking) × Steady m (now (right .entry)) (now (right .exit)) × Ready n m (now (left .entry)) (now (right .exit)) (now (objective .entry)) ⌝ }
 {
     let mut search = start;
     'halving: loop {

@@ -6,3 +6,4 @@ pub mod bracket;
 pub mod halving;
 pub mod reach;
 pub mod picks;
+pub mod answer;

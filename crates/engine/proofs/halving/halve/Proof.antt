@@ -41,7 +41,7 @@ halving-again c = let e = c .step .ensures in (e .2, e .0, steady-trans (c .befo
 -- src/halving.rt:111:1
 returns : tie.Need-returns Inv-halving μ-halving
 returns c = let a = c .before .before .before .before .before .before .args in let v = c .before .before .before .before .before .halving .inv in let s = c .before .before .before .before .before .halving .search in
-    (searching-end (a .n) (a .m) (a .left .now) (c .before .before .before .before .before .halving .right) (a .objective .now) (s .bracket .low) (s .bracket .high) (s .trials) (s .point) (s .kept) (s .blocking) (v .1) (c .before .before .if1 .taken), v .2)
+    (searching-end (a .n) (a .m) (a .left .now) (c .before .before .before .before .before .halving .right) (a .objective .now) (s .bracket .low) (s .bracket .high) (s .trials) (s .point) (s .kept) (s .blocking) (v .1) (c .before .before .if1 .taken), v .2, v .0)
 
 pub halve-spec : {M : Type 1} → statement M
 halve-spec =
