@@ -1,0 +1,14 @@
+pub mod Filled
+pub mod Fold
+pub mod Small
+pub mod Rounds
+pub mod Steps
+pub mod Agree
+pub mod Trials
+pub mod Halves
+pub mod Marks
+pub mod Shown
+pub mod Variables
+pub mod RowsOf
+pub mod Form
+pub mod Final

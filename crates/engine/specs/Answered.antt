@@ -1,0 +1,50 @@
+-- The engine's answer, on tables.
+use Prim.Native.Nat.{ℕ, suc, _+_, _*_, _≤_, _<_}
+use mathlib.Core.Path.{_≡_}
+use mathlib.Core.List.{List, map}
+use lib.ListN.{length, getD, take}
+use Rattle.definitions.specs.Limits.{highest-n, highest-m, lead-limit}
+use Rattle.definitions.specs.Problem.{Problem}
+use Rattle.definitions.specs.Offset.{tropOf}
+use Rattle.definitions.specs.AnswerRecord.{Answer, stampCount, pickCount}
+use Rattle.definitions.specs.Solved.{Answers}
+use Rattle.duality.specs.Values.{difference}
+use Rattle.duality.specs.Within.{Within}
+use Rattle.records.specs.Decoded.{Near, Decoded}
+use Rattle.engine.specs.Tables.{Table}
+use Rattle.engine.specs.Filled.{Filled}
+use Rattle.engine.specs.Trials.{Question}
+
+-- Tables of n + 1 variables and m + 1 rows within the leads' limit.
+pub record Coefficients (n m : ℕ) (left right : List ℕ) : Type 0 where
+  pub n-most : n ≤ highest-n
+  pub m-most : m ≤ highest-m
+  pub lefts : Table lead-limit left
+  pub rights : Table lead-limit right
+
+-- The row of the objective, copied.
+abbrev pub Copied : List ℕ → ℕ → ℕ → List ℕ → Type 0
+Copied right row n out = Filled (λ l v. v ≡ getD right (row * 32 + l) 0) 32 n out
+
+-- Stamps: each value less that of variable 0.
+abbrev pub Stamps : List ℕ → ℕ → List ℕ → Type 0
+Stamps point n out = Filled (λ j v. tropOf v ≡ difference (tropOf (getD point j 0)) (tropOf (getD point 0 0))) 32 n out
+
+-- The answer in these fields: stamps and picks are cut to the counts of the class.
+abbrev pub answerIn : ℕ → ℕ → ℕ → ℕ → List ℕ → List ℕ → Answer
+answerIn n m class span stamps picks = record {
+  class = class;
+  span = tropOf span;
+  stamps = map tropOf (take (stampCount class n) stamps);
+  picks = take (pickCount class n m) picks;
+}
+
+-- An answer of the problem that stands in the tables and the objective's array.
+pub record Settled (n m : ℕ) (left right objective : List ℕ) (class span trials : ℕ) (stamps picks : List ℕ) : Type 0 where
+  pub answers : (p : Problem) → Question p n m left right objective → Within p lead-limit
+      → Answers p class (tropOf span) trials (answerIn n m class span stamps picks)
+
+-- An answer of the problem in the tables.
+pub record Answered (n m : ℕ) (left right : List ℕ) (class span trials : ℕ) (stamps picks : List ℕ) : Type 0 where
+  pub answers : (p : Problem) → Decoded p left right → p .n ≡ n → p .m ≡ m
+      → Answers p class (tropOf span) trials (answerIn n m class span stamps picks)

@@ -1,0 +1,64 @@
+-- Marks of the variables that variable 0 reaches along a table of arcs.
+use Prim.Native.Nat.{ℕ, _+_, _*_, _≤_, _<_}
+use mathlib.Core.Path.{_≡_}
+use mathlib.Core.Bool.{Bool, true, false, cond}
+use mathlib.Core.List.{List}
+use lib.Dec.{eqb}
+use lib.ListN.{length, getD}
+use Rattle.definitions.specs.Certificate.{Reachable, Anchor}
+use Rattle.duality.specs.Height.{total}
+
+-- A variable is marked: its mark is not 0.
+abbrev pub Marked : List ℕ → ℕ → Type 0
+Marked marks l = getD marks l 0 ≡ 0 → ⊥
+
+-- The arc from variable j to variable l, in a table of 32 rows of 32.
+pub record ArcIn (arcs : List ℕ) (width j l : ℕ) : Type 0 where
+  pub from : j < width
+  pub to : l < width
+  pub arc : getD arcs (j * 32 + l) 0 ≡ 0 → ⊥
+
+-- A test of two numbers: both are above 0.
+pub record BothAre (a b : ℕ) (r : Bool) : Type 0 where
+  pub yes : r ≡ true → (a ≡ 0 → ⊥) × (b ≡ 0 → ⊥)
+  pub no : r ≡ false → (a ≡ 0 → ⊥) → b ≡ 0
+
+-- An arc from a marked variable leads to l.
+pub record FromMarked (arcs marks : List ℕ) (width l : ℕ) : Type 0 where
+  pub at : ℕ
+  pub marked : Marked marks at
+  pub arc : ArcIn arcs width at l
+
+-- The test for such an arc.
+pub record LedTo (arcs marks : List ℕ) (width l : ℕ) (r : Bool) : Type 0 where
+  pub yes : r ≡ true → FromMarked arcs marks width l
+  pub no : r ≡ false → (j : ℕ) → Marked marks j → ArcIn arcs width j l → ⊥
+
+-- The test for a variable that is to be marked.
+pub record Fresh (arcs marks : List ℕ) (width l : ℕ) (r : Bool) : Type 0 where
+  pub blank : r ≡ true → getD marks l 0 ≡ 0
+  pub yes : r ≡ true → FromMarked arcs marks width l
+  pub no : r ≡ false → getD marks l 0 ≡ 0 → (j : ℕ) → Marked marks j → ArcIn arcs width j l → ⊥
+
+-- What is marked is reachable, and variable 0 is marked.
+pub record Sound (arcs : List ℕ) (width : ℕ) (marks : List ℕ) : Type 0 where
+  pub size : length marks ≡ 32
+  pub anchor : Marked marks 0
+  pub reachable : (l : ℕ) → Marked marks l → Reachable Anchor (ArcIn arcs width) l
+
+-- How many variables are not marked.
+unfoldable pub unmarked : ℕ → List ℕ → ℕ
+unmarked width marks = total (λ l. cond (eqb (getD marks l 0) 0) 1 0) width
+
+-- A round, made for the variables below n.
+pub record Spreading (arcs : List ℕ) (width : ℕ) (before marks : List ℕ) (moved : Bool) (n : ℕ) : Type 0 where
+  pub sound : Sound arcs width marks
+  pub most : unmarked width marks ≤ unmarked width before
+  pub fewer : moved ≡ true → unmarked width marks < unmarked width before
+  pub closed : moved ≡ false → (l : ℕ) → l < n → getD marks l 0 ≡ 0 → (j : ℕ) → Marked marks j → ArcIn arcs width j l → ⊥
+
+-- Exactly the reachable variables are marked.
+pub record Reached (arcs : List ℕ) (width : ℕ) (marks : List ℕ) : Type 0 where
+  pub size : length marks ≡ 32
+  pub reachable : (l : ℕ) → Marked marks l → Reachable Anchor (ArcIn arcs width) l
+  pub marked : (l : ℕ) → Reachable Anchor (ArcIn arcs width) l → Marked marks l

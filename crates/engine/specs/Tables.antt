@@ -1,0 +1,56 @@
+-- Two tables of offset numbers as a system of inequalities, 64 rows of 32 columns, and arrays as points and strategies.
+use Prim.Native.Nat.{ℕ, _+_, _*_, _≤_, _<_}
+use mathlib.Core.Path.{_≡_}
+use mathlib.Core.List.{List}
+use lib.ListN.{length, getD}
+use Rattle.definitions.specs.Limits.{lead-limit, span-limit}
+use Rattle.definitions.specs.Tropical.{Trop}
+use Rattle.definitions.specs.Problem.{Point}
+use Rattle.definitions.specs.Certificate.{Strategy}
+use Rattle.definitions.specs.Offset.{tropOf}
+use Rattle.duality.specs.System.{System}
+use Rattle.records.specs.Decoded.{Near}
+
+-- The coefficient of row i and variable j in a table.
+abbrev pub entryOf : List ℕ → ℕ → ℕ → Trop
+entryOf table i j = tropOf (getD table (i * 32 + j) 0)
+
+-- The system that two tables hold in their first `rows` rows and `width` columns.
+abbrev pub systemOf : List ℕ → List ℕ → ℕ → ℕ → System
+systemOf left right width rows = record { variables = width; rows = rows; left = entryOf left; right = entryOf right }
+
+-- An array of offset numbers as a point, an array of rows as a strategy.
+abbrev pub pointOf : List ℕ → Point
+pointOf x j = tropOf (getD x j 0)
+
+abbrev pub pickOf : List ℕ → Strategy
+pickOf picks j = getD picks j 0
+
+-- A right coefficient that was raised lies within this of 0.
+abbrev pub raised-limit : ℕ
+raised-limit = lead-limit + span-limit + 1
+
+-- Values of a strategy lie within this of 0, 2 to the 25th: 32 rounds of two coefficients.
+abbrev pub value-limit : ℕ
+value-limit = 33554432
+
+-- The sum of two offset numbers of at most these sizes is above this if both are whole, and below it if one is blank.
+abbrev pub fold-limit : ℕ
+fold-limit = 3221225472
+
+-- A table of 64 rows of 32 entries within d of 0.
+pub record Table (d : ℕ) (table : List ℕ) : Type 0 where
+  pub size : length table ≡ 2048
+  pub near : (k : ℕ) → Near d (getD table k 0)
+
+-- An array of 32 values.
+pub record Ranged (x : List ℕ) : Type 0 where
+  pub size : length x ≡ 32
+  pub near : (k : ℕ) → Near value-limit (getD x k 0)
+
+-- The two tables of a system of at most 32 variables and 64 rows.
+pub record Tables (left right : List ℕ) (width rows : ℕ) : Type 0 where
+  pub width-most : width ≤ 32
+  pub rows-most : rows ≤ 64
+  pub lefts : Table lead-limit left
+  pub rights : Table raised-limit right

@@ -1,0 +1,175 @@
+// The engine on tables: the two outer trials, the halving, and the answer of each class. Document 01, "The engine".
+ghost use mathlib.Core.Path.{_≡_};
+ghost use Prim.Native.Nat.{ℕ, _+_, _*_, _<_, _≤_};
+ghost use lib.ListN.{length, getD};
+ghost use Rattle.engine.specs.Tables.{Ranged};
+ghost use Rattle.engine.specs.Trials.{Ready, TriedAt};
+ghost use Rattle.engine.specs.Halving.{Searching};
+ghost use Rattle.engine.specs.Answered.{Coefficients, Copied, Stamps, Settled, Answered};
+use records::limits::OFFSET;
+use crate::values::gap;
+use crate::policy::Outcome;
+use crate::bracket::Bracket;
+use crate::halving::raise;
+use crate::halving::attempt;
+use crate::halving::halve;
+use crate::halving::Search;
+use crate::picks::variable_picks;
+use crate::picks::row_picks;
+use crate::picks::induced;
+
+// The two outer trials as offset numbers: 645,120 and −645,121.
+const TOP: u64 = 2148128768;
+
+const LOWEST: u64 = 2146838527;
+
+// Class (1 least, 2 bottomless, 3 none), span and stamps as offset numbers, trials made, and picks. Stamps and picks past
+// the counts of the class are 0.
+pub struct Answer {
+    pub class: u64,
+    pub span: u64,
+    pub trials: u64,
+    pub stamps: [u64; 32],
+    pub picks: [u64; 64],
+}
+
+// The right coefficients of the objective's row.
+fn objective_of(right: &[u64; 2048], row: usize) -> [u64; 32]
+    requires { ⌜ (length (now right) ≡ 2048) × (row < 64) ⌝ }
+    ensures { λ r. ⌜ Copied (now (right .entry)) row 32 r ⌝ }
+{
+    let base = row * 32;
+    let mut out = [0u64; 32];
+    let mut l = 0;
+    while l < 32 {
+        out[l] = right[base + l];
+        l += 1;
+    }
+    out
+}
+
+// The stamps of a point: each value less that of variable 0.
+fn stamps(point: &[u64; 32], width: usize) -> [u64; 32]
+    requires { ⌜ Ranged (now point) × (getD (now point) 0 0 ≤ 2147483648) × (width ≤ 32) ⌝ }
+    ensures { λ r. ⌜ Stamps (now (point .entry)) width r ⌝ }
+{
+    let first = point[0];
+    let mut out = [0u64; 32];
+    let mut j = 0;
+    while j < width {
+        out[j] = gap(point[j], first);
+        j += 1;
+    }
+    out
+}
+
+// Class 3: the trial at 645,120 is not possible.
+fn infeasible(
+    left: &[u64; 2048],
+    right: &mut [u64; 2048],
+    objective: &[u64; 32],
+    n: usize,
+    m: usize,
+    tried: Outcome,
+) -> Answer
+    requires { ⌜ Ready n m (now left) (now right) (now objective) × TriedAt n m (now left) (now right) (now objective) 2148128768 (tried .values) (tried .picks) × (getD (tried .values) 0 0 ≡ 0) ⌝ }
+    ensures { λ r. ⌜ Settled n m (now (left .entry)) (now (right .entry)) (now (objective .entry)) (r .class) (r .span) (r .trials) (r .stamps) (r .picks) ⌝ }
+{
+    raise(right, objective, m, OFFSET);
+    let picks = tried.picks;
+    let shown = variable_picks(right, &picks, n + 1, m + 1);
+    Answer {
+        class: 3,
+        span: 0,
+        trials: 1,
+        stamps: [0; 32],
+        picks: shown,
+    }
+}
+
+// Class 2: the trial at −645,121 is possible; each row picks a variable that attains its largest there.
+fn unbounded(
+    left: &[u64; 2048],
+    right: &mut [u64; 2048],
+    objective: &[u64; 32],
+    n: usize,
+    m: usize,
+    tried: Outcome,
+) -> Answer
+    requires { ⌜ Ready n m (now left) (now right) (now objective) × TriedAt n m (now left) (now right) (now objective) 2146838527 (tried .values) (tried .picks) × (0 < getD (tried .values) 0 0) ⌝ }
+    ensures { λ r. ⌜ Settled n m (now (left .entry)) (now (right .entry)) (now (objective .entry)) (r .class) (r .span) (r .trials) (r .stamps) (r .picks) ⌝ }
+{
+    raise(right, objective, m, LOWEST);
+    let values = tried.values;
+    let rows = induced(right, &values, n + 1, m + 1);
+    raise(right, objective, m, OFFSET);
+    let shown = row_picks(left, &rows, n + 1, m + 1);
+    Answer {
+        class: 2,
+        span: 0,
+        trials: 2,
+        stamps: [0; 32],
+        picks: shown,
+    }
+}
+
+// Class 1: the halving ends at the least span.
+fn optimal(
+    left: &[u64; 2048],
+    right: &mut [u64; 2048],
+    objective: &[u64; 32],
+    n: usize,
+    m: usize,
+    search: Search,
+) -> Answer
+    requires { ⌜ Ready n m (now left) (now right) (now objective) × Searching n m (now left) (now right) (now objective) (search .bracket .low) (search .bracket .high) (search .trials) (search .point) (search .kept) (search .blocking) ⌝ }
+    ensures { λ r. ⌜ Settled n m (now (left .entry)) (now (right .entry)) (now (objective .entry)) (r .class) (r .span) (r .trials) (r .stamps) (r .picks) ⌝ }
+{
+    let least = halve(left, right, objective, n, m, search);
+    raise(right, objective, m, OFFSET);
+    let point = least.point;
+    let blocking = least.blocking;
+    let shown = variable_picks(right, &blocking, n + 1, m + 1);
+    let plan = stamps(&point, n + 1);
+    Answer {
+        class: 1,
+        span: least.span,
+        trials: least.trials,
+        stamps: plan,
+        picks: shown,
+    }
+}
+
+// The answer of the problem in two tables. The right table's row of the objective is rewritten on the way.
+pub fn solve_tables(left: &[u64; 2048], right: &mut [u64; 2048], n: usize, m: usize) -> Answer
+    requires { ⌜ Coefficients n m (now left) (now right) ⌝ }
+    ensures { λ r. ⌜ Answered n m (now (left .entry)) (now (right .entry)) (r .class) (r .span) (r .trials) (r .stamps) (r .picks) ⌝ }
+{
+    let objective = objective_of(right, m);
+    let rows = m + 1;
+    let empty = [rows; 32];
+    let top = attempt(left, right, &objective, n, m, TOP, empty);
+    let point = top.values;
+    let kept = top.picks;
+    if point[0] == 0 {
+        return infeasible(left, right, &objective, n, m, top);
+    }
+    let lowest = attempt(left, right, &objective, n, m, LOWEST, kept);
+    let values = lowest.values;
+    let blocking = lowest.picks;
+    if values[0] != 0 {
+        return unbounded(left, right, &objective, n, m, lowest);
+    }
+    let bracket = Bracket {
+        low: LOWEST,
+        high: TOP,
+    };
+    let search = Search {
+        bracket,
+        trials: 2,
+        point,
+        kept,
+        blocking,
+    };
+    optimal(left, right, &objective, n, m, search)
+}

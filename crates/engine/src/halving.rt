@@ -1,0 +1,137 @@
+// The search for the least span: trials at the middles of a bracket. Document 01, "The engine" (Algorithm 1).
+ghost use mathlib.Core.Path.{_≡_};
+ghost use Prim.Native.Nat.{ℕ, _+_, _*_, _-_, _<_, _≤_};
+ghost use lib.ListN.{length, getD};
+ghost use Rattle.definitions.specs.Limits.{lead-limit};
+ghost use Rattle.records.specs.Decoded.{Near};
+ghost use Rattle.engine.specs.Tables.{systemOf, pickOf};
+ghost use Rattle.engine.specs.Trials.{wholeOf, Trialled, shifted, Raised, Steady, Ready, KeptAt, TriedAt};
+ghost use Rattle.engine.specs.Halving.{Searching, LeastFound};
+use records::limits::OFFSET;
+use crate::policy::Outcome;
+use crate::policy::trial;
+use crate::bracket::Bracket;
+
+// A coefficient raised by t: blank stays blank.
+fn shift(k: u64, t: u64) -> u64
+    requires { ⌜ Trialled t × Near lead-limit k ⌝ }
+    ensures { λ r. ⌜ r ≡ shifted k t ⌝ }
+{
+    if k == 0 { 0 } else { k + t - OFFSET }
+}
+
+// The objective's row of the right table, raised by t.
+pub fn raise(right: &mut [u64; 2048], objective: &[u64; 32], row: usize, t: u64)
+    requires { ⌜ (length (now right) ≡ 2048) × (length (now objective) ≡ 32) × (row < 64) × Trialled t × ((k : ℕ) → Near lead-limit (getD (now objective) k 0)) ⌝ }
+    ensures { λ _. ⌜ Raised (now (right .entry)) (now (objective .entry)) row t 32 (now (right .exit)) ⌝ }
+{
+    let base = row * 32;
+    let mut l = 0;
+    while l < 32 {
+        right[base + l] = shift(objective[l], t);
+        l += 1;
+    }
+}
+
+// One trial at t, from a strategy that is kept there.
+pub fn attempt(
+    left: &[u64; 2048],
+    right: &mut [u64; 2048],
+    objective: &[u64; 32],
+    n: usize,
+    m: usize,
+    t: u64,
+    picks: [usize; 32],
+) -> Outcome
+    requires { ⌜ Ready n m (now left) (now right) (now objective) × Trialled t × KeptAt n m (now left) (now right) (now objective) t picks ⌝ }
+    ensures { λ r. ⌜ TriedAt n m (now (left .entry)) (now (right .exit)) (now (objective .entry)) t (r .values) (r .picks) × Steady m (now (right .entry)) (now (right .exit)) × Ready n m (now (left .entry)) (now (right .exit)) (now (objective .entry)) ⌝ }
+{
+    raise(right, objective, m, t);
+    trial(left, right, picks, n + 1, m + 1)
+}
+
+// The state of a search: the bracket, the trials made, the point and the strategy of the last possible trial, and the
+// strategy of the last impossible one.
+pub struct Search {
+    pub bracket: Bracket,
+    pub trials: u64,
+    pub point: [u64; 32],
+    pub kept: [usize; 32],
+    pub blocking: [usize; 32],
+}
+
+// One trial at the middle of a search's bracket, which is wider than 1.
+pub fn step(
+    left: &[u64; 2048],
+    right: &mut [u64; 2048],
+    objective: &[u64; 32],
+    n: usize,
+    m: usize,
+    search: Search,
+) -> Search
+    requires { ⌜ Ready n m (now left) (now right) (now objective) × Searching n m (now left) (now right) (now objective) (search .bracket .low) (search .bracket .high) (search .trials) (search .point) (search .kept) (search .blocking) × (search .bracket .low + 1 < search .bracket .high) ⌝ }
+    ensures { λ r. ⌜ Searching n m (now (left .entry)) (now (right .exit)) (now (objective .entry)) (r .bracket .low) (r .bracket .high) (r .trials) (r .point) (r .kept) (r .blocking) × (r .bracket .high - r .bracket .low < search .bracket .high - search .bracket .low) × Ready n m (now (left .entry)) (now (right .exit)) (now (objective .entry)) × Steady m (now (right .entry)) (now (right .exit)) ⌝ }
+{
+    let bracket = search.bracket;
+    let kept = search.kept;
+    let point = search.point;
+    let blocking = search.blocking;
+    let trials = search.trials + 1;
+    let tried = attempt(left, right, objective, n, m, bracket.middle(), kept);
+    let values = tried.values;
+    let picks = tried.picks;
+    if values[0] == 0 {
+        Search {
+            bracket: bracket.next(false),
+            trials,
+            point,
+            kept,
+            blocking: picks,
+        }
+    } else {
+        Search {
+            bracket: bracket.next(true),
+            trials,
+            point: values,
+            kept: picks,
+            blocking,
+        }
+    }
+}
+
+// The least span with the trials made, its point, and a strategy that blocks one below it.
+pub struct Least {
+    pub span: u64,
+    pub trials: u64,
+    pub point: [u64; 32],
+    pub blocking: [usize; 32],
+}
+
+// Halvings until the bracket is 1 wide; its high is the least span.
+pub fn halve(
+    left: &[u64; 2048],
+    right: &mut [u64; 2048],
+    objective: &[u64; 32],
+    n: usize,
+    m: usize,
+    start: Search,
+) -> Least
+    requires { ⌜ Ready n m (now left) (now right) (now objective) × Searching n m (now left) (now right) (now objective) (start .bracket .low) (start .bracket .high) (start .trials) (start .point) (start .kept) (start .blocking) ⌝ }
+    ensures { λ r. ⌜ LeastFound n m (now (left .entry)) (now (right .exit)) (now (objective .entry)) (r .span) (r .trials) (r .point) (r .blocking) × Steady m (now (right .entry)) (now (right .exit)) × Ready n m (now (left .entry)) (now (right .exit)) (now (objective .entry)) ⌝ }
+{
+    let mut search = start;
+    'halving: loop {
+        let bracket = search.bracket;
+        if bracket.high - bracket.low == 1 {
+            let point = search.point;
+            let blocking = search.blocking;
+            break 'halving Least {
+                span: bracket.high,
+                trials: search.trials,
+                point,
+                blocking,
+            };
+        }
+        search = step(left, right, objective, n, m, search);
+    }
+}

@@ -1,0 +1,183 @@
+// The picks of an answer: in the record's form (0 none, i + 1), and 0 where they play no part.
+ghost use mathlib.Core.Path.{_≡_};
+ghost use Prim.Native.Nat.{ℕ, _+_, _*_, _/_, _%_, _<_, _≤_};
+ghost use lib.ListN.{length, getD};
+ghost use Rattle.engine.specs.Tables.{raised-limit, Table, Ranged, Tables};
+ghost use Rattle.engine.specs.Marks.{Reached};
+ghost use Rattle.engine.specs.Shown.{shownPick, arcBy, VariableArcs, ShownVariables, VariablePicks, HitsIs, RowArcIs, RowArcs, UsedIs, ShownRows, RowPicks, BestIs, InducedRows};
+use crate::reach::both;
+use crate::reach::reach;
+
+// One less than three quarters of 2³²: a sum of two offset numbers is above it exactly if both are whole.
+const BLANK_MOST: u64 = 3221225471;
+
+// The record's form of a pick below `many`.
+fn shown(many: usize, mark: u64, pick: usize) -> u64
+    requires { ⌜ many ≤ 64 ⌝ }
+    ensures { λ r. ⌜ r ≡ shownPick many mark pick ⌝ }
+{
+    if mark == 0 {
+        return 0;
+    }
+    if pick < many { (pick + 1) as u64 } else { 0 }
+}
+
+// The arc by the row that a variable picks.
+fn arc_by(right: &[u64; 2048], rows: usize, pick: usize, l: usize) -> u64
+    requires { ⌜ (length (now right) ≡ 2048) × (rows ≤ 64) × (l < 32) ⌝ }
+    ensures { λ r. ⌜ r ≡ arcBy (now (right .entry)) rows pick l ⌝ }
+{
+    if pick < rows { right[pick * 32 + l] } else { 0 }
+}
+
+// The arcs of a strategy of variables.
+fn variable_arcs(right: &[u64; 2048], picks: &[usize; 32], width: usize, rows: usize) -> [u64; 1024]
+    requires { ⌜ (length (now right) ≡ 2048) × (length (now picks) ≡ 32) × (width ≤ 32) × (rows ≤ 64) ⌝ }
+    ensures { λ r. ⌜ VariableArcs (now (right .entry)) (now (picks .entry)) rows (width * 32) r ⌝ }
+{
+    let end = width * 32;
+    let mut out = [0u64; 1024];
+    let mut k = 0;
+    while k < end {
+        out[k] = arc_by(right, rows, picks[k / 32], k % 32);
+        k += 1;
+    }
+    out
+}
+
+// The picks of a strategy of variables, by marks.
+fn shown_variables(picks: &[usize; 32], marks: &[u64; 32], width: usize, rows: usize) -> [u64; 64]
+    requires { ⌜ (length (now picks) ≡ 32) × (length (now marks) ≡ 32) × (width ≤ 32) × (rows ≤ 64) ⌝ }
+    ensures { λ r. ⌜ ShownVariables (now (picks .entry)) (now (marks .entry)) rows width r ⌝ }
+{
+    let mut out = [0u64; 64];
+    let mut j = 0;
+    while j < width {
+        out[j] = shown(rows, marks[j], picks[j]);
+        j += 1;
+    }
+    out
+}
+
+// The picks of a strategy of variables; those of variables that are not reachable are 0.
+pub fn variable_picks(right: &[u64; 2048], picks: &[usize; 32], width: usize, rows: usize) -> [u64; 64]
+    requires { ⌜ (length (now right) ≡ 2048) × (length (now picks) ≡ 32) × (width ≤ 32) × (0 < width) × (rows ≤ 64) ⌝ }
+    ensures { λ r. ⌜ VariablePicks (now (right .entry)) (now (picks .entry)) width rows r ⌝ }
+{
+    let arcs = variable_arcs(right, picks, width, rows);
+    let marks = reach(&arcs, width);
+    shown_variables(picks, &marks, width, rows)
+}
+
+// A row that picks l and holds a variable on its left.
+fn hits(pick: usize, l: usize, left: u64) -> bool
+    ensures { λ r. ⌜ HitsIs pick l left r ⌝ }
+{
+    if pick != l {
+        return false;
+    }
+    left != 0
+}
+
+// The arc from variable j to variable l by a strategy of rows.
+fn row_arc(left: &[u64; 2048], picks: &[usize; 64], rows: usize, j: usize, l: usize) -> u64
+    requires { ⌜ (length (now left) ≡ 2048) × (length (now picks) ≡ 64) × (rows ≤ 64) × (j < 32) ⌝ }
+    ensures { λ r. ⌜ RowArcIs (now (left .entry)) (now (picks .entry)) rows j l r ⌝ }
+{
+    let mut i = 0;
+    while i < rows {
+        if hits(picks[i], l, left[i * 32 + j]) {
+            return 1;
+        }
+        i += 1;
+    }
+    0
+}
+
+// The arcs of a strategy of rows.
+fn row_arcs(left: &[u64; 2048], picks: &[usize; 64], width: usize, rows: usize) -> [u64; 1024]
+    requires { ⌜ (length (now left) ≡ 2048) × (length (now picks) ≡ 64) × (width ≤ 32) × (rows ≤ 64) ⌝ }
+    ensures { λ r. ⌜ RowArcs (now (left .entry)) (now (picks .entry)) rows (width * 32) r ⌝ }
+{
+    let end = width * 32;
+    let mut out = [0u64; 1024];
+    let mut k = 0;
+    while k < end {
+        out[k] = row_arc(left, picks, rows, k / 32, k % 32);
+        k += 1;
+    }
+    out
+}
+
+// The mark of a row: it holds a marked variable on its left.
+fn used(left: &[u64; 2048], marks: &[u64; 32], i: usize, width: usize) -> u64
+    requires { ⌜ (length (now left) ≡ 2048) × (length (now marks) ≡ 32) × (i < 64) × (width ≤ 32) ⌝ }
+    ensures { λ r. ⌜ UsedIs (now (left .entry)) (now (marks .entry)) width i r ⌝ }
+{
+    let mut j = 0;
+    while j < width {
+        if both(marks[j], left[i * 32 + j]) {
+            return 1;
+        }
+        j += 1;
+    }
+    0
+}
+
+// The picks of a strategy of rows, by marks.
+fn shown_rows(left: &[u64; 2048], picks: &[usize; 64], marks: &[u64; 32], width: usize, rows: usize) -> [u64; 64]
+    requires { ⌜ (length (now left) ≡ 2048) × (length (now picks) ≡ 64) × (length (now marks) ≡ 32) × (width ≤ 32) × (rows ≤ 64) ⌝ }
+    ensures { λ r. ⌜ ShownRows (now (left .entry)) (now (picks .entry)) (now (marks .entry)) width rows r ⌝ }
+{
+    let mut out = [0u64; 64];
+    let mut i = 0;
+    while i < rows {
+        out[i] = shown(width, used(left, marks, i, width), picks[i]);
+        i += 1;
+    }
+    out
+}
+
+// The picks of a strategy of rows; those of rows that are not in use are 0.
+pub fn row_picks(left: &[u64; 2048], picks: &[usize; 64], width: usize, rows: usize) -> [u64; 64]
+    requires { ⌜ (length (now left) ≡ 2048) × (length (now picks) ≡ 64) × (width ≤ 32) × (0 < width) × (rows ≤ 64) ⌝ }
+    ensures { λ r. ⌜ RowPicks (now (left .entry)) (now (picks .entry)) width rows r ⌝ }
+{
+    let arcs = row_arcs(left, picks, width, rows);
+    let marks = reach(&arcs, width);
+    shown_rows(left, picks, &marks, width, rows)
+}
+
+// A right variable that attains the largest of a row at a point; none where that is blank.
+fn best(right: &[u64; 2048], row: usize, x: &[u64; 32], width: usize) -> usize
+    requires { ⌜ (row < 64) × (width ≤ 32) × Table raised-limit (now right) × Ranged (now x) ⌝ }
+    ensures { λ r. ⌜ BestIs (now (right .entry)) row (now (x .entry)) width r ⌝ }
+{
+    let base = row * 32;
+    let mut top = BLANK_MOST;
+    let mut pick = width;
+    let mut l = 0;
+    while l < width {
+        let sum = right[base + l] + x[l];
+        if top < sum {
+            top = sum;
+            pick = l;
+        }
+        l += 1;
+    }
+    pick
+}
+
+// The strategy of rows that a point induces.
+pub fn induced(right: &[u64; 2048], x: &[u64; 32], width: usize, rows: usize) -> [usize; 64]
+    requires { ⌜ (width ≤ 32) × (rows ≤ 64) × Table raised-limit (now right) × Ranged (now x) ⌝ }
+    ensures { λ r. ⌜ InducedRows (now (right .entry)) (now (x .entry)) width rows r ⌝ }
+{
+    let mut out = [0usize; 64];
+    let mut i = 0;
+    while i < rows {
+        out[i] = best(right, i, x, width);
+        i += 1;
+    }
+    out
+}
