@@ -7,6 +7,7 @@ pub mod Put
 pub mod Offset
 pub mod Refusals
 pub mod RoundTrip
+pub mod Solved
 pub mod Bisection
 pub mod Examples
 pub mod Edges

@@ -12,3 +12,4 @@ pub mod Variables
 pub mod RowsOf
 pub mod Form
 pub mod Final
+pub mod Outcomes

@@ -7,3 +7,4 @@ pub mod Halving
 pub mod Marks
 pub mod Shown
 pub mod Answered
+pub mod Outcome

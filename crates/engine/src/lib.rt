@@ -7,3 +7,4 @@ pub mod halving;
 pub mod reach;
 pub mod picks;
 pub mod answer;
+pub mod solve;

@@ -3,27 +3,27 @@
 -- that any true checker accepts.
 use Prim.Native.Nat.{ℕ, zero, suc, _+_, _≤_}
 use mathlib.Core.Path.{_≡_, refl, ap, ap₂, sym, subst, subst₃, _∙_}
-use mathlib.Core.Bool.{true, and-eq-true-iff}
 use mathlib.Core.List.{List}
 use native.Mathlib.Omega.{arith}
 use native.Mathlib.Nat.{zero-add}
 use lib.ListN.{length, take}
 use lib.IntN.{ℤ}
-use borrow.Author.Tests.{le-ltb, eqb-true}
+use borrow.Author.Tests.{le-ltb}
 use Rattle.definitions.specs.Limits.{answer-most, most-trials, class-optimal, class-unbounded, class-infeasible, lead-limit, span-limit}
 use Rattle.definitions.specs.Tropical.{Trop, fin}
 use Rattle.definitions.specs.Problem.{Problem, Optimal}
 use Rattle.definitions.specs.Bytes.{Bytes, or-else}
 use Rattle.definitions.specs.ProblemRecord.{WithinLayout, problemRefusal, problemOf, nField, mField}
-use Rattle.definitions.specs.AnswerRecord.{Answer, answerRefusal, answerOf, answerSize, answerBytes, known-class, written, rightCounts, formRefusal}
+use Rattle.definitions.specs.AnswerRecord.{Answer, answerRefusal, answerOf, answerSize, answerBytes, written}
 use Rattle.definitions.specs.Verdict.{Verdict, accepted, checkRefusal, answerFor, Accepted, Judged, turned-away, certified, uncertified}
 use Rattle.definitions.specs.Solved as Results
 use Rattle.definitions.specs.Solved.{Solved, answered, Found, optimal, unbounded, infeasible, Answers, Solves, solved, engineRefusal}
 use Rattle.definitions.specs.Demands.{Engine, Reader, Reading, fields, Checker, EngineSolves, EngineRefuses, LeastSpans, FoundBy, ReadsFields, EngineReadsBack, ReadBy, CheckerJudges, OwnAnswers, OwnAnswer}
 use Rattle.definitions.proofs.Tropical.{fin-injective}
 use Rattle.definitions.proofs.Bisection.{few-trials}
-use Rattle.definitions.proofs.Refusals.{or-else-none, ProblemFits, problem-fits, left-size, right-size, WriterFits, form-fits}
+use Rattle.definitions.proofs.Refusals.{or-else-none, ProblemFits, problem-fits, left-size, right-size, WriterFits}
 use Rattle.definitions.proofs.RoundTrip.{answer-length, answer-back, answer-accepted, answer-bytes}
+use Rattle.definitions.proofs.Solved.{answers-taken}
 use Rattle.definitions.proofs.Put.{take-put}
 use Rattle.duality.specs.Within.{Within}
 use Rattle.duality.proofs.Classes.{optimal-range}
@@ -112,25 +112,9 @@ quoted-is-smallest engine solves p buffer b c w long s trials size e =
 
 -- The answer's fields are such as the writer takes, so they read back from their bytes.
 answer-takes : (p : List ℕ) → WithinLayout p → {class : ℕ} {span : Trop} {trials : ℕ} (a : Answer) → Answers (problemOf p) class span trials a
-    → WriterFits a (nField p) (mField p) answer-most
-unfolding problemOf rightCounts
-answer-takes p w a ans =
-    let f = problem-fits p .0 w in
-    let counts = and-eq-true-iff _ _ .0 (ans .counts) in
-    record {
-      n-most = f .n-most;
-      m-most = f .m-most;
-      room-enough = omega arith;
-      class-known = rw (ans .class-is) (class-known (ans .found));
-      stamps-count = eqb-true _ _ (counts .0);
-      picks-count = eqb-true _ _ (counts .1);
-      form = form-fits a (nField p) (mField p) .0 (ans .form);
-    }
-  where
-    class-known : {q : Problem} {class : ℕ} {span : Trop} {trials : ℕ} → Found q class span trials → known-class class ≡ true
-    class-known (optimal o) = refl
-    class-known (unbounded u) = refl
-    class-known (infeasible n) = refl
+  → WriterFits a (nField p) (mField p) answer-most
+unfolding problemOf
+answer-takes p w a ans = let f = problem-fits p .0 w in answers-taken answer-most (f .n-most) (f .m-most) (omega arith) ans
 
 -- A record as long as its class asks stands at the buffer's start.
 record-stands : (p buffer : List ℕ) → WithinLayout p → {class : ℕ} {span : Trop} {trials : ℕ} (a : Answer) → Answers (problemOf p) class span trials a

@@ -1,0 +1,66 @@
+// The engine on bytes: refusals 1 to 7 first, in order; then the answer, written into the lent buffer.
+ghost use mathlib.Core.Path.{_≡_};
+ghost use Prim.Native.Nat.{_≤_};
+ghost use lib.ListN.{length};
+ghost use Rattle.definitions.specs.Limits.{answer-most};
+ghost use Rattle.definitions.specs.Solved.{Solves};
+ghost use Rattle.engine.specs.Outcome.{solvedOf, refusedBy, FoundFor, WroteFor};
+
+use crate::answer::{solve_tables, Answer};
+use records::class::{pick_count, stamp_count};
+use records::limits::ANSWER_MOST;
+use records::problem::{read_problem, Header};
+use records::writer::{write_answer, Written};
+
+// What the engine answers: refused with the number, or answered with class, the span's offset number, trials and the
+// record's length.
+pub enum Solved {
+    Refused(usize),
+    Answered(u64, u64, u64, usize),
+}
+
+// The number with which a problem was refused.
+fn problem_refusal(header: Header) -> usize
+    ensures { λ r. ⌜ r ≡ refusedBy header ⌝ }
+{
+    match header {
+        Header::Fields(_, _) => 0,
+        Header::Refused(k) => k,
+    }
+}
+
+// Writes the answer's record, and says what was found.
+fn write_found(found: Answer, n: usize, m: usize, answer: &mut [u8]) -> Solved
+    requires { ⌜ FoundFor n m (length (now answer)) (found .class) (found .span) (found .stamps) (found .picks) ⌝ }
+    ensures { λ r. ⌜ WroteFor n m (found .class) (found .span) (found .trials) (found .stamps) (found .picks) r (now (answer .entry)) (now (answer .exit)) ⌝ }
+{
+    let class = found.class;
+    let span = found.span;
+    let trials = found.trials;
+    let stamps = found.stamps;
+    let picks = found.picks;
+    let s = stamp_count(class, n);
+    let p = pick_count(class, n, m);
+    let written = write_answer(class, span, &stamps[..s], &picks[..p], n, m, answer);
+    let Written::Record(size) = written else {
+        return Solved::Refused(0);
+    };
+    Solved::Answered(class, span, trials, size)
+}
+
+// The answer of the problem in the bytes, written into the lent buffer; a refusal leaves the buffer as it was.
+pub fn solve(problem: &[u8], answer: &mut [u8]) -> Solved
+    ensures { λ r. ⌜ Solves (now (problem .entry)) (now (answer .entry)) (solvedOf r) (now (answer .exit)) ⌝ }
+{
+    let mut left = [0u64; 2048];
+    let mut right = [0u64; 2048];
+    let header = read_problem(problem, &mut left, &mut right);
+    let Header::Fields(n, m) = header else {
+        return Solved::Refused(problem_refusal(header));
+    };
+    if answer.len() < ANSWER_MOST {
+        return Solved::Refused(7);
+    }
+    let found = solve_tables(&left, &mut right, n, m);
+    write_found(found, n, m, answer)
+}
