@@ -130,5 +130,8 @@ highest-end right row x width n top pick t g s h = record { best = λ f. ⊎-eli
         low l b = rw (folded-low (sums right row x l) (omega arith)) trop-zero
 
     found : pick < width → (pick < width) × (largest (λ l. plus (entryOf right row l) (pointOf x l)) width ⊑ plus (entryOf right row pick) (pointOf x pick))
-    found k = (k, largest-least _ width (λ l b.
-        rw (← term l, ← term pick) (trop-order _ _ .1 (folded-mono _ _ (omega (arith, s .most l (omega arith), s .some k))))))
+    found k = (
+      k,
+      largest-least _ width (λ l b.
+          rw (← term l, ← term pick) (trop-order _ _ .1 (folded-mono _ _ (omega (arith, s .most l (omega arith), s .some k))))),
+    )

@@ -47,9 +47,6 @@ pub shifted-whole : (k t : ℕ) → (k ≡ 0 → ⊥) → k + t - signed-half �
 unfolding shifted
 shifted-whole k t h = rw (ne-eqb k 0 h)
 
-positive : (k : ℕ) → (k ≡ 0 → ⊥) → 0 < k
-positive k h = ⊎-elim (λ e. absurd (h e)) (λ p. p) (eq-zero-or-pos k)
-
 -- It stands for the sum,
 shifted-is : (k t : ℕ) → Near lead-limit k → Trialled t → tropOf (shifted k t) ≡ plus (tropOf k) (fin (wholeOf t))
 unfolding shifted

@@ -71,7 +71,6 @@ shown-most many mark pick = ⊎-elim
 
 module _ (p : Problem) (n m : ℕ) (left right picks out : List ℕ) (held : Held p n m left right) (small : n ≤ 31)
     (v : VariablePicks right picks (n + 1) (m + 1) out) where
-
   arcs-at : (j l : ℕ) → j < n + 1 → l < 32 → getD (v .arcs) (j * 32 + l) 0 ≡ arcBy right (m + 1) (getD picks j 0) l
   arcs-at j l h k =
       let e : (j * 32 + l) / 32 ≡ j = omega arith in

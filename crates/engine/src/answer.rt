@@ -6,17 +6,17 @@ ghost use Rattle.engine.specs.Tables.{Ranged};
 ghost use Rattle.engine.specs.Trials.{Ready, TriedAt};
 ghost use Rattle.engine.specs.Halving.{Searching};
 ghost use Rattle.engine.specs.Answered.{Coefficients, Copied, Stamps, Settled, Answered};
-use records::limits::OFFSET;
-use crate::values::gap;
-use crate::policy::Outcome;
 use crate::bracket::Bracket;
-use crate::halving::raise;
+use crate::halving::Search;
 use crate::halving::attempt;
 use crate::halving::halve;
-use crate::halving::Search;
-use crate::picks::variable_picks;
-use crate::picks::row_picks;
+use crate::halving::raise;
 use crate::picks::induced;
+use crate::picks::row_picks;
+use crate::picks::variable_picks;
+use crate::policy::Outcome;
+use crate::values::gap;
+use records::limits::OFFSET;
 
 // The two outer trials as offset numbers: 645,120 and −645,121.
 const TOP: u64 = 2148128768;

@@ -7,10 +7,10 @@ ghost use Rattle.records.specs.Decoded.{Near};
 ghost use Rattle.engine.specs.Tables.{systemOf, pickOf};
 ghost use Rattle.engine.specs.Trials.{wholeOf, Trialled, shifted, Raised, Steady, Ready, KeptAt, TriedAt};
 ghost use Rattle.engine.specs.Halving.{Searching, LeastFound};
-use records::limits::OFFSET;
+use crate::bracket::Bracket;
 use crate::policy::Outcome;
 use crate::policy::trial;
-use crate::bracket::Bracket;
+use records::limits::OFFSET;
 
 // A coefficient raised by t: blank stays blank.
 fn shift(k: u64, t: u64) -> u64

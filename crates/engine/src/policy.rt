@@ -8,9 +8,9 @@ ghost use Rattle.records.specs.Decoded.{Near};
 ghost use Rattle.engine.specs.Tables.{systemOf, pointOf, pickOf, raised-limit, value-limit, Table, Ranged, Tables};
 ghost use Rattle.engine.specs.Rounds.{ValuesIs};
 ghost use Rattle.engine.specs.Steps.{Sides, Costs, Failing, Chosen, Improved, Tried};
-use records::limits::OFFSET;
-use crate::values::side;
 use crate::values::evaluate;
+use crate::values::side;
+use records::limits::OFFSET;
 
 // Above every value: what a row gives a variable that it does not hold.
 const NEVER: u64 = 8589934592;

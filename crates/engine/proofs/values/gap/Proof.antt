@@ -1,15 +1,8 @@
 use native.Mathlib.Omega.{arith}
-use native.Mathlib.Nat.{eq-zero-or-pos}
-use mathlib.Core.Logic.{⊎-elim}
-use Prim.Native.Nat.{ℕ, _<_}
-use mathlib.Core.Path.{_≡_}
+use Rattle.engine.proofs.Filled.{positive}
 use Rattle.engine.proofs.Rounds.{gap-blank-side, gap-blank-left, gap-whole}
 use Rattle.engine.proofs.values.gap.Statement.{statement}
 use Rattle.engine.proofs.values.gap.Tie as tie
-
--- What is not 0 is above it.
-positive : (k : ℕ) → (k ≡ 0 → ⊥) → 0 < k
-positive k h = ⊎-elim (λ e. absurd (h e)) (λ p. p) (eq-zero-or-pos k)
 
 pub gap-spec : {M : Type 1} → statement M
 gap-spec =
