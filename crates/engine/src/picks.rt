@@ -1,9 +1,8 @@
 // The picks of an answer: in the record's form (0 none, i + 1), and 0 where they play no part.
 ghost use mathlib.Core.Path.{_≡_};
-ghost use Prim.Native.Nat.{ℕ, _+_, _*_, _/_, _%_, _<_, _≤_};
-ghost use lib.ListN.{length, getD};
-ghost use Rattle.engine.specs.Tables.{raised-limit, Table, Ranged, Tables};
-ghost use Rattle.engine.specs.Marks.{Reached};
+ghost use Prim.Native.Nat.{_+_, _*_, _/_, _%_, _<_, _≤_};
+ghost use lib.ListN.{length};
+ghost use Rattle.engine.specs.Tables.{raised-limit, Table, Ranged};
 ghost use Rattle.engine.specs.Shown.{shownPick, arcBy, VariableArcs, ShownVariables, VariablePicks, HitsIs, RowArcIs, RowArcs, UsedIs, ShownRows, RowPicks, BestIs, InducedRows};
 use crate::reach::both;
 use crate::reach::reach;

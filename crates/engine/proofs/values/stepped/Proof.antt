@@ -16,5 +16,5 @@ stepped-spec =
     (λ c. search needs)
     (λ c. search needs)
     (λ c κs. (c .before .side .ensures .most, c .before .side .ensures .least, omega (arith, c .before .before .before .pre .0 .lefts .near (c .before .before .before .args .pick * 32 + c .before .before .before .args .j) .hi)))
-    (λ c. let a = c .before .before .before .before .args in stepped-picked (a .left .now) (a .right .now) (a .x .now) (a .width) (a .rows) (a .pick) (a .j) _ 0 _ (c .before .before .before .if1 .taken) (c .before .before .side .ensures) (c .gap .ensures .0))
+    (λ c. let a = c .before .before .before .before .args in stepped-picked (a .left .now) (a .right .now) (a .x .now) (a .width) (a .rows) (a .pick) (a .j) _ 0 _ (c .before .before .before .if1 .taken) (c .before .before .side .ensures) (c .gap .ensures))
     (λ c. let a = c .before .args in stepped-terminal (a .left .now) (a .right .now) (a .width) (a .rows) (a .pick) (a .j) _ (c .if1 .left)))
