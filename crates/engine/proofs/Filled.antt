@@ -1,13 +1,18 @@
 -- Laws of arrays that a loop fills from the front.
 use Prim.Native.Nat.{ℕ, zero, suc, _+_, _≤_, _<_}
 use mathlib.Core.Path.{_≡_, refl, sym, subst, _∙_}
-use mathlib.Core.Logic.{_⊎_, inl, inr, ⊎-elim}
+use mathlib.Core.Logic.{_⊎_, ⊎-elim}
 use mathlib.Core.List.{List}
 use native.Mathlib.Omega.{arith}
+use native.Mathlib.Nat.{eq-zero-or-pos}
 use lib.ListN.{length, getD, set, replicate, length-set, length-replicate}
 use lib.Seq.{getD-set-same, getD-set-other}
 use Rattle.definitions.proofs.Whole.{nat-le-or-lt}
 use Rattle.engine.specs.Filled.{Filled}
+
+-- What is not 0 is above it.
+pub positive : (k : ℕ) → (k ≡ 0 → ⊥) → 0 < k
+positive k h = ⊎-elim (λ e. absurd (h e)) (λ p. p) (eq-zero-or-pos k)
 
 -- Zeros alone, read anywhere.
 pub zeros-at : (size k : ℕ) → getD {A = ℕ} (replicate size 0) k 0 ≡ 0

@@ -1,37 +1,35 @@
 -- The three classes: what the trials found is an answer that the checker's list accepts, with its class, span and trials.
-use Prim.Native.Nat.{ℕ, zero, suc, _+_, _*_, _-_, _≤_, _<_}
-use mathlib.Core.Path.{_≡_, refl, sym, ap, ap₂, subst, fun-ext, _∙_}
-use mathlib.Core.Bool.{Bool, true, false, cond, and-eq-true-iff}
-use mathlib.Core.Logic.{_⊎_, inl, inr, ⊎-elim}
-use mathlib.Core.List.{List, [], map}
+use Prim.Native.Nat.{ℕ, suc, _+_, _*_, _-_, _≤_, _<_}
+use mathlib.Core.Path.{_≡_, refl, sym, ap, subst, fun-ext, _∙_}
+use mathlib.Core.Bool.{true, and-eq-true-iff}
+use mathlib.Core.Logic.{_⊎_, ⊎-elim}
+use mathlib.Core.List.{List, map}
 use native.Mathlib.Omega.{arith}
 use native.Mathlib.Numerals.{add-one}
-use lib.Dec.{eqb, leb}
+use lib.Dec.{eqb}
 use lib.ListN.{length, getD, take}
-use lib.IntN.{ℤ, pos, negsuc, negℤ, subℕ, natAbs, _+ℤ_, _-ℤ_}
+use lib.IntN.{ℤ, pos, negℤ, natAbs, _+ℤ_, _-ℤ_}
 use lib.Signed.{_≤ℤ_}
 use borrow.Author.Tests.{le-leb}
 use Rattle.definitions.specs.Limits.{signed-half, lead-limit, span-limit, stamp-limit}
 use Rattle.definitions.specs.Tropical.{Trop, bot, fin, plus, _⊑_, Finite}
-use Rattle.definitions.specs.Problem.{Problem, Point, Feasible, value, Attainable, Optimal, Unbounded, Infeasible}
-use Rattle.definitions.specs.Certificate.{Strategy, Anchor, PicksCount, BelowZero, AcceptedOptimal, AcceptedInfeasible, AcceptedUnbounded, RowPicksCount}
-use Rattle.definitions.specs.Bisection.{trials-optimal}
+use Rattle.definitions.specs.Problem.{Problem, Point, Feasible, Attainable, Optimal, Unbounded, Infeasible}
+use Rattle.definitions.specs.Certificate.{Strategy, Anchor, AcceptedOptimal, AcceptedInfeasible, AcceptedUnbounded}
 use Rattle.definitions.specs.Offset.{tropOf}
 use Rattle.definitions.specs.Bytes.{whole-within, blank-or-within}
-use Rattle.definitions.specs.AnswerRecord.{Answer, stampCount, pickCount, highestPick, is-zero, is-blank, spanFits, stampsFit, picksFit, rightCounts, formRefusal}
+use Rattle.definitions.specs.AnswerRecord.{is-zero, is-blank, spanFits, stampsFit, picksFit, rightCounts, formRefusal}
 use Rattle.definitions.specs.Verdict as Verdict
-use Rattle.definitions.specs.Verdict.{Accepted, strategyOf}
+use Rattle.definitions.specs.Verdict.{strategyOf}
 use Rattle.definitions.specs.Solved as Solved
 use Rattle.definitions.specs.Solved.{Found, Answers, IdleVariables, IdleRows}
-use Rattle.definitions.proofs.Whole.{up, down, whole, plus-read, minus-read, neg-read, abs-read, abs-show, subℕ-read, nat-le-or-lt}
-use Rattle.definitions.proofs.Tropical.{blank-or-finite, bot-not-fin, fin-injective, plus-is, bot-plus, ⊑-trans, ⊑-of-eq}
+use Rattle.definitions.proofs.Whole.{up, down, whole, plus-read, minus-read, neg-read, abs-show, subℕ-read, nat-le-or-lt}
+use Rattle.definitions.proofs.Tropical.{bot-not-fin, bot-plus, ⊑-trans, ⊑-of-eq}
 use Rattle.definitions.proofs.Offset.{trop-zero, trop-fin}
-use Rattle.definitions.proofs.Refusals.{FormFits, form-fits}
-use Rattle.duality.specs.System.{System, sideOf, Solves, Blocks, Blocked, Saves, systemAt}
-use Rattle.duality.specs.Values.{difference, values, Policy}
+use Rattle.definitions.proofs.Refusals.{form-fits}
+use Rattle.duality.specs.System.{System, Solves, Blocks, Saves, systemAt}
 use Rattle.duality.specs.Within.{Within, Enough, upper, lower}
-use Rattle.duality.specs.Induced.{Attaining, Induced}
-use Rattle.duality.specs.Picks.{picksFrom, NoneAbove, AtLeastZero}
+use Rattle.duality.specs.Induced.{Induced}
+use Rattle.duality.specs.Picks.{picksFrom}
 use Rattle.duality.proofs.Weights.{difference-plus}
 use Rattle.duality.proofs.Weak.{solution-saves, not-solved-and-blocked}
 use Rattle.duality.proofs.Attain.{moved, moved-anchored, moved-solves, solves-feasible, solves-within, attainable-solution, solution-attainable}
@@ -41,15 +39,15 @@ use Rattle.duality.proofs.Classes.{value-exactly, optimal-exactly, infeasible-e
 use Rattle.duality.proofs.Stamps.{stamps-at-most-32}
 use Rattle.duality.proofs.Unused.{optimal-unused, infeasible-unused, unbounded-unused}
 use Rattle.records.specs.Decoded.{Near, Decoded}
-use Rattle.engine.specs.Tables.{entryOf, systemOf, pointOf, pickOf, raised-limit}
+use Rattle.engine.specs.Tables.{systemOf, pointOf, pickOf, raised-limit}
 use Rattle.engine.specs.Filled.{Filled}
 use Rattle.engine.specs.Steps.{Tried}
-use Rattle.engine.specs.Trials.{wholeOf, Trialled, Raised, Steady, Question, Ready, TriedAt, Held}
+use Rattle.engine.specs.Trials.{wholeOf, zero-offset, top-offset, lowest-offset, Trialled, Raised, Steady, Question, Ready, TriedAt}
 use Rattle.engine.specs.Halving.{LeastFound}
-use Rattle.engine.specs.Shown.{VariablePicks, RowPicks, BestIs, InducedRows}
+use Rattle.engine.specs.Shown.{VariablePicks, RowPicks, InducedRows}
 use Rattle.engine.specs.Answered.{Coefficients, Copied, Stamps, answerIn, Settled, Answered}
 use Rattle.engine.proofs.Small.{near-small}
-use Rattle.engine.proofs.Agree.{Agree, agree-sym, agree-side}
+use Rattle.engine.proofs.Agree.{Agree, agree-side}
 use Rattle.engine.proofs.Trials.{agree-raised, raised-ready, raised-held, question-steady, tried-blocks, tried-solution}
 use Rattle.engine.proofs.Variables.{variables-agree, variables-idle, variables-most}
 use Rattle.engine.proofs.RowsOf.{rows-agree, rows-idle, rows-most}
@@ -93,15 +91,15 @@ none-form n m stamps out h l f = (
 
 -- The trial at 645,120 is not possible: none.
 pub infeasible-settled : (n m : ℕ) (left right right′ objective x picks out stamps : List ℕ) → Ready n m left right objective
-    → TriedAt n m left right objective 2148128768 x picks → getD x 0 0 ≡ 0
-    → Raised right objective m 2147483648 32 right′ → VariablePicks right′ picks (n + 1) (m + 1) out
+    → TriedAt n m left right objective top-offset x picks → getD x 0 0 ≡ 0
+    → Raised right objective m zero-offset 32 right′ → VariablePicks right′ picks (n + 1) (m + 1) out
     → Settled n m left right objective 3 0 1 stamps out
 infeasible-settled n m left right right′ objective x picks out stamps y f z r v = record { answers = answers }
   where
     answers : (p : Problem) → Question p n m left right objective → Within p lead-limit → Answers p 3 (tropOf 0) 1 (answerIn n m 3 0 stamps out)
     answers p q w =
         let held = raised-held p n m left right objective right′ q y r in
-        let b : Blocks (systemAt p (upper span-limit)) Anchor (pickOf picks) = tried-blocks p (wholeOf 2148128768) x picks (f .tried p q) z in
+        let b : Blocks (systemAt p (upper span-limit)) Anchor (pickOf picks) = tried-blocks p (wholeOf top-offset) x picks (f .tried p q) z in
         let c = block-picks p (upper span-limit) (picks-joined (pickOf picks) (suc (p .m)) (suc (p .n))) b in
         let g = below-infeasible p lead-limit span-limit (picksFrom (pickOf picks) (suc (p .m))) w (enough p n (q .n-is) (y .n-most))
         (picks-none-above (pickOf picks) (suc (p .m)) (suc (p .n))) (c .0) (c .1) in
@@ -147,20 +145,20 @@ unbounded-form n m stamps out h l f = (
 )
 
 -- The tables raised by −645,121 are in range.
-pub lowest-ready : (n m : ℕ) (left right objective lowered : List ℕ) → Ready n m left right objective → Raised right objective m 2146838527 32 lowered
+pub lowest-ready : (n m : ℕ) (left right objective lowered : List ℕ) → Ready n m left right objective → Raised right objective m lowest-offset 32 lowered
     → Ready n m left lowered objective
 lowest-ready n m left right objective lowered y r =
-    raised-ready n m 2146838527 left right objective lowered y (record { lowest = omega arith; highest = omega arith }) r
+    raised-ready n m lowest-offset left right objective lowered y (record { lowest = omega arith; highest = omega arith }) r
 
 -- The trial at −645,121 is possible: bottomless.
 pub unbounded-settled : (n m : ℕ) (left right lowered right′ objective x kept rows out stamps : List ℕ) → Ready n m left right objective
-    → TriedAt n m left right objective 2146838527 x kept → 0 < getD x 0 0
-    → Raised right objective m 2146838527 32 lowered → InducedRows lowered x (n + 1) (m + 1) rows
-    → Raised lowered objective m 2147483648 32 right′ → RowPicks left rows (n + 1) (m + 1) out
+    → TriedAt n m left right objective lowest-offset x kept → 0 < getD x 0 0
+    → Raised right objective m lowest-offset 32 lowered → InducedRows lowered x (n + 1) (m + 1) rows
+    → Raised lowered objective m zero-offset 32 right′ → RowPicks left rows (n + 1) (m + 1) out
     → Settled n m left right objective 2 0 2 stamps out
 unbounded-settled n m left right lowered right′ objective x kept rows out stamps y f z r d r′ v = record { answers = answers }
   where
-    lowest : Trialled 2146838527
+    lowest : Trialled lowest-offset
     lowest = record { lowest = omega arith; highest = omega arith }
 
     y′ : Ready n m left lowered objective
@@ -174,7 +172,7 @@ unbounded-settled n m left right lowered right′ objective x kept rows out stam
         let held = raised-held p n m left lowered objective right′ (same p q) y′ r′ in
         let t = f .tried p q in
         let s = systemAt p (lower span-limit) in
-        let g = agree-raised p n m 2146838527 left right objective lowered q y lowest r in
+        let g = agree-raised p n m lowest-offset left right objective lowered q y lowest r in
         let i = rows-induced left lowered x rows n m s g d in
         let b : Saves s Anchor (pickOf rows) = solution-saves s (pointOf x) (pickOf rows) (t .solves) i Anchor
         (λ j e. (rw e (first-inside p (lower span-limit)), rw e (record { whole = wholeOf (getD x 0 0); is = trop-fin (getD x 0 0) z }))) in
@@ -263,7 +261,7 @@ tried-low p t n point kept e b w f k v d = ⊎-elim
 -- The halving ended: least.
 pub optimal-settled : (n m : ℕ) (left right right′ objective : List ℕ) (span trials : ℕ) (point blocking out stamps : List ℕ)
     → Ready n m left right objective → LeastFound n m left right objective span trials point blocking
-    → Raised right objective m 2147483648 32 right′ → VariablePicks right′ blocking (n + 1) (m + 1) out → Stamps point (n + 1) stamps
+    → Raised right objective m zero-offset 32 right′ → VariablePicks right′ blocking (n + 1) (m + 1) out → Stamps point (n + 1) stamps
     → Settled n m left right objective 1 span trials stamps out
 unfolding is-zero Verdict.pointOf
 optimal-settled n m left right right′ objective span trials point blocking out stamps y f r v g = record { answers = answers }

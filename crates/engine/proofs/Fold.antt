@@ -1,15 +1,14 @@
 -- The largest of coefficient + variable, found on plain sums of offset numbers: a sum of two whole numbers lies above
 -- the limit, a sum with a blank below it, so that one test at the end tells them apart.
 use Prim.Native.Nat.{ℕ, zero, suc, _+_, _*_, _-_, _≤_, _<_}
-use mathlib.Core.Path.{_≡_, refl, sym, ap, subst, _∙_}
+use mathlib.Core.Path.{_≡_, refl, sym, ap, _∙_}
 use mathlib.Core.Bool.{Bool, true, false, cond}
-use mathlib.Core.Logic.{_⊎_, inl, inr, ⊎-elim}
+use mathlib.Core.Logic.{_⊎_, ⊎-elim}
 use mathlib.Core.List.{List}
 use native.Mathlib.Omega.{arith}
 use native.Mathlib.Nat.{eq-zero-or-pos}
 use native.Mathlib.Numerals.{add-one}
-use lib.Dec.{leb, ltb}
-use lib.ListN.{length, getD}
+use lib.Dec.{leb}
 use borrow.Author.Tests.{leb-true, leb-false, lt-ltb, le-ltb, le-leb, lt-leb}
 use Rattle.definitions.specs.Limits.{signed-half}
 use Rattle.definitions.specs.Tropical.{Trop, plus, larger, largest, _⊑_}
@@ -18,7 +17,7 @@ use Rattle.definitions.proofs.Whole.{nat-le-or-lt}
 use Rattle.definitions.proofs.Tropical.{⊑-refl, ⊑-antisym, larger-left, larger-right, larger-least, largest-ext}
 use Rattle.definitions.proofs.Offset.{trop-zero, trop-order, plus-trop, plus-trop-zero}
 use Rattle.records.specs.Decoded.{Near}
-use Rattle.engine.specs.Tables.{entryOf, pointOf, raised-limit, value-limit, fold-limit, Table, Ranged}
+use Rattle.engine.specs.Tables.{raised-limit, value-limit, fold-limit, Table, Ranged}
 use Rattle.engine.specs.Rounds.{upper, uppermost, folded, sums, SideIs}
 
 -- ---- one sum

@@ -1,22 +1,20 @@
 -- Laws of the halving: the middle of offset numbers is the middle, a trial there gives the next state of the search,
 -- and a bracket of width 1 ends it.
-use Prim.Native.Nat.{ℕ, zero, suc, _+_, _*_, _-_, _/_, _≤_, _<_}
-use mathlib.Core.Path.{_≡_, refl, sym, ap, ap₂, subst, _∙_}
+use Prim.Native.Nat.{ℕ, suc, _+_, _-_, _/_, _≤_, _<_}
+use mathlib.Core.Path.{_≡_, refl, sym, ap, subst, _∙_}
 use mathlib.Core.Bool.{Bool, true, false}
-use mathlib.Core.Logic.{_⊎_, inl, inr, ⊎-elim}
+use mathlib.Core.Logic.{_⊎_, ⊎-elim}
 use mathlib.Core.List.{List}
 use native.Mathlib.Omega.{arith}
 use lib.Dec.{T}
-use lib.ListN.{length, getD}
-use lib.IntN.{ℤ, pos, subℕ, natAbs, _+ℤ_, _-ℤ_}
-use lib.Signed.{_≤ℤ_, _<ℤ_, leZ}
-use Rattle.definitions.specs.Limits.{signed-half, span-limit}
-use Rattle.definitions.specs.Problem.{Problem, Attainable, Optimal}
-use Rattle.definitions.specs.Certificate.{Anchor}
-use Rattle.definitions.specs.Bisection.{Bracket, opening, half-up, middle, next, width, Halved, counted, halved, trials-optimal}
-use Rattle.definitions.proofs.Whole.{up, down, whole, plus-read, minus-read, subℕ-read, abs-read, nat-le-or-lt}
-use Rattle.definitions.proofs.Bisection.{Half, half-up-is, width-is, Brackets, Inside, middle-inside, halved-stop, halved-on, following}
-use Rattle.engine.specs.Trials.{wholeOf, Trialled, Steady, KeptAt, TriedAt}
+use lib.ListN.{getD}
+use lib.IntN.{ℤ, _+ℤ_}
+use lib.Signed.{_≤ℤ_, leZ}
+use Rattle.definitions.specs.Limits.{signed-half}
+use Rattle.definitions.specs.Bisection.{Bracket, opening, middle, next, width, Halved, counted, halved, trials-optimal}
+use Rattle.definitions.proofs.Whole.{whole, plus-read, subℕ-read, nat-le-or-lt}
+use Rattle.definitions.proofs.Bisection.{half-up-is, width-is, Brackets, Inside, middle-inside, halved-stop, halved-on, following}
+use Rattle.engine.specs.Trials.{wholeOf, top-offset, lowest-offset, Trialled, Steady, KeptAt, TriedAt}
 use Rattle.engine.specs.Halving.{bracketOf, BlocksAt, Counted, Searching, LeastFound}
 use Rattle.engine.proofs.Trials.{question-steady, steady-sym, tried-steady, kept-down, tried-blocks}
 
@@ -187,18 +185,18 @@ narrower low high low′ high′ false w d = let g = impossible-numbers low high
 
 -- The search starts with the two outer trials made.
 pub searching-start : (n m : ℕ) (left right right′ objective x picks y blocks : List ℕ) → n ≤ 31 → Steady m right right′
-    → TriedAt n m left right objective 2148128768 x picks → 0 < getD x 0 0
-    → TriedAt n m left right′ objective 2146838527 y blocks → getD y 0 0 ≡ 0
-    → Searching n m left right′ objective 2146838527 2148128768 2 x picks blocks
+    → TriedAt n m left right objective top-offset x picks → 0 < getD x 0 0
+    → TriedAt n m left right′ objective lowest-offset y blocks → getD y 0 0 ≡ 0
+    → Searching n m left right′ objective lowest-offset top-offset 2 x picks blocks
 unfolding opening trials-optimal
 searching-start n m left right right′ objective x picks y blocks b s f h g z = record {
   low-trialled = record { lowest = omega arith; highest = omega arith };
   high-trialled = record { lowest = omega arith; highest = omega arith };
   ordered = omega arith;
   few = omega arith;
-  possible = tried-steady n m 2148128768 left right right′ objective x picks b s f;
+  possible = tried-steady n m top-offset left right right′ objective x picks b s f;
   finite = h;
-  impossible = record { blocks = λ p q. tried-blocks p (wholeOf 2146838527) y blocks (g .tried p q) z };
+  impossible = record { blocks = λ p q. tried-blocks p (wholeOf lowest-offset) y blocks (g .tried p q) z };
   blocking-size = g .picks-size;
   counted = record { count = λ s k. refl };
 }

@@ -1,7 +1,7 @@
 -- Laws of marking: what is marked is reachable, a round that adds nothing has marked all that is, and every other round
 -- leaves fewer unmarked.
-use Prim.Native.Nat.{ℕ, zero, suc, _+_, _*_, _≤_, _<_}
-use mathlib.Core.Path.{_≡_, refl, sym, ap, subst, _∙_}
+use Prim.Native.Nat.{ℕ, _+_, _*_, _≤_, _<_}
+use mathlib.Core.Path.{_≡_, refl, sym, subst, _∙_}
 use mathlib.Core.Bool.{Bool, true, false, cond}
 use mathlib.Core.Logic.{_⊎_, inl, inr, ⊎-elim}
 use mathlib.Core.List.{List}
@@ -9,11 +9,10 @@ use native.Mathlib.Omega.{arith}
 use lib.Dec.{eqb}
 use lib.ListN.{length, getD, set, replicate, length-set, length-replicate}
 use lib.Seq.{getD-set-same, getD-set-other}
-use borrow.Author.Tests.{eqb-true, eqb-false, eq-eqb, ne-eqb}
+use borrow.Author.Tests.{eqb-true, eqb-false}
 use Rattle.definitions.specs.Certificate.{Reachable, Anchor, start, onward}
 use Rattle.definitions.proofs.Whole.{nat-le-or-lt}
-use Rattle.duality.specs.Height.{total}
-use Rattle.duality.proofs.Height.{total-mono, total-falls}
+use Rattle.duality.proofs.Height.{total-falls}
 use Rattle.engine.specs.Marks.{Marked, ArcIn, BothAre, FromMarked, LedTo, Fresh, Sound, unmarked, Spreading, Reached}
 use Rattle.engine.proofs.Filled.{zeros-at}
 use Rattle.engine.proofs.Rounds.{false-not-true}

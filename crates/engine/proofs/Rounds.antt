@@ -1,33 +1,30 @@
 -- Laws of the rounds: a round of the array is a round of the values, and a round that changes nothing ends them.
-use Prim.Native.Nat.{ℕ, zero, suc, _+_, _*_, _-_, _≤_, _<_}
-use mathlib.Core.Path.{_≡_, refl, sym, ap, subst, _∙_}
-use mathlib.Core.Bool.{Bool, true, false, cond}
-use mathlib.Core.Logic.{_⊎_, inl, inr, ⊎-elim}
+use Prim.Native.Nat.{ℕ, suc, _+_, _*_, _-_, _≤_, _<_}
+use mathlib.Core.Path.{_≡_, sym, ap, subst, _∙_}
+use mathlib.Core.Bool.{true, false}
+use mathlib.Core.Logic.{_⊎_, ⊎-elim}
 use mathlib.Core.List.{List, []}
 use native.Mathlib.Omega.{arith}
-use native.Mathlib.Nat.{eq-zero-or-pos, mul-le-mul-right}
+use native.Mathlib.Nat.{mul-le-mul-right}
 use native.Mathlib.Numerals.{add-one}
-use lib.Dec.{ltb}
-use lib.ListN.{length, getD}
-use lib.IntN.{ℤ, pos, subℕ}
+use lib.ListN.{getD}
+use lib.IntN.{pos}
 use borrow.Author.Tests.{lt-ltb, le-ltb}
 use Rattle.definitions.specs.Limits.{signed-half, lead-limit}
-use Rattle.definitions.specs.Tropical.{Trop, bot, fin, plus, largest}
+use Rattle.definitions.specs.Tropical.{Trop, fin, plus}
 use Rattle.definitions.specs.Problem.{Point}
-use Rattle.definitions.specs.Certificate.{Strategy}
 use Rattle.definitions.specs.Offset.{tropOf}
 use Rattle.definitions.proofs.Whole.{nat-le-or-lt}
 use Rattle.definitions.proofs.Tropical.{largest-ext}
-use Rattle.definitions.proofs.Offset.{trop-zero, trop-fin, trop-minus, trop-show, tropOf-injective}
-use Rattle.duality.specs.System.{System, sideOf}
-use Rattle.duality.specs.Values.{difference, valueAt, exitBy, exits, valuesAfter, values}
+use Rattle.definitions.proofs.Offset.{trop-zero, trop-fin, trop-minus, trop-show}
+use Rattle.duality.specs.System.{System}
+use Rattle.duality.specs.Values.{difference, valueAt, exitBy, valuesAfter, values}
 use Rattle.duality.proofs.Weights.{difference-bot, exit-picked, exit-terminal, round-picked, round-terminal, values-still}
 use Rattle.records.specs.Decoded.{Near}
-use Rattle.engine.specs.Tables.{entryOf, systemOf, pointOf, pickOf, raised-limit, value-limit, Table, Ranged, Tables}
-use Rattle.engine.specs.Filled.{Filled}
+use Rattle.engine.specs.Tables.{entryOf, systemOf, pointOf, pickOf, raised-limit, value-limit, Ranged, Tables}
 use Rattle.engine.specs.Rounds.{SideIs, steppedBy, Stepped, Exits, Level, ValuesIs, SameUpTo}
 use Rattle.engine.proofs.Filled.{filled-map}
-use Rattle.engine.proofs.Small.{Small, near-small, small-near, small-more, rounds-small}
+use Rattle.engine.proofs.Small.{near-small, small-near, small-more, rounds-small}
 
 -- ---- one variable
 

@@ -1,24 +1,23 @@
 -- The picks of a strategy of rows, as an answer shows them: they agree with the strategy at every row in use, and are 0
 -- elsewhere.
-use Prim.Native.Nat.{ℕ, zero, suc, _+_, _*_, _-_, _/_, _%_, _≤_, _<_}
-use mathlib.Core.Path.{_≡_, refl, sym, ap, ap₂, subst, _∙_}
-use mathlib.Core.Logic.{_⊎_, inl, inr, ⊎-elim}
+use Prim.Native.Nat.{ℕ, suc, _+_, _*_, _-_, _/_, _%_, _≤_, _<_}
+use mathlib.Core.Path.{_≡_, sym, ap, subst, _∙_}
+use mathlib.Core.Logic.{_⊎_, ⊎-elim}
 use mathlib.Core.List.{List}
 use native.Mathlib.Omega.{arith}
 use native.Mathlib.Nat.{eq-zero-or-pos}
-use native.Mathlib.Numerals.{add-one}
-use lib.ListN.{length, getD}
+use lib.ListN.{getD}
 use Rattle.definitions.specs.Tropical.{Finite}
 use Rattle.definitions.specs.Problem.{Problem}
-use Rattle.definitions.specs.Certificate.{Strategy, Reachable, Anchor, start, onward, RowLeads}
+use Rattle.definitions.specs.Certificate.{Reachable, Anchor, start, onward, RowLeads}
 use Rattle.definitions.specs.Solved.{IdleRows}
 use Rattle.definitions.proofs.Whole.{nat-le-or-lt}
 use Rattle.duality.specs.Picks.{picksFrom, AgreeInUse}
 use Rattle.duality.proofs.Reach.{reach-keep, reach-map}
-use Rattle.engine.specs.Tables.{entryOf, pickOf}
+use Rattle.engine.specs.Tables.{pickOf}
 use Rattle.engine.specs.Trials.{Held}
-use Rattle.engine.specs.Marks.{Marked, ArcIn, Reached}
-use Rattle.engine.specs.Shown.{shownPick, RowTo, RowArcIs, UsedBy, UsedIs, RowShown, RowPicks}
+use Rattle.engine.specs.Marks.{ArcIn}
+use Rattle.engine.specs.Shown.{RowTo, RowArcIs, UsedBy, RowShown, RowPicks}
 use Rattle.engine.proofs.Shown.{shown-unmarked}
 use Rattle.engine.proofs.Variables.{finite-offset, offset-finite, full-picked, full-read, shown-full, shown-most}
 

@@ -1,24 +1,23 @@
 -- Laws of the loops that make an answer's picks.
-use Prim.Native.Nat.{ℕ, zero, suc, _+_, _*_, _-_, _/_, _%_, _≤_, _<_}
-use mathlib.Core.Path.{_≡_, refl, sym, ap, subst, _∙_}
-use mathlib.Core.Bool.{Bool, true, false, cond}
+use Prim.Native.Nat.{ℕ, _+_, _*_, _-_, _≤_, _<_}
+use mathlib.Core.Path.{_≡_, refl, subst}
+use mathlib.Core.Bool.{Bool, true, false}
 use mathlib.Core.Logic.{_⊎_, inl, inr, ⊎-elim}
 use mathlib.Core.List.{List}
 use native.Mathlib.Omega.{arith}
-use lib.ListN.{length, getD}
+use lib.ListN.{getD}
 use borrow.Author.Tests.{eq-eqb, ne-eqb, lt-ltb, le-ltb}
-use Rattle.definitions.specs.Tropical.{Trop, bot, plus, largest, _⊑_, Finite}
+use Rattle.definitions.specs.Tropical.{bot, plus, largest, _⊑_, Finite}
 use Rattle.definitions.specs.Offset.{tropOf}
 use Rattle.definitions.proofs.Whole.{nat-le-or-lt}
-use Rattle.definitions.proofs.Tropical.{not-finite-bot, below-bot, ⊑-of-eq, ⊑-trans, largest-least}
+use Rattle.definitions.proofs.Tropical.{not-finite-bot, below-bot, ⊑-of-eq, largest-least}
 use Rattle.definitions.proofs.Offset.{trop-zero, trop-order}
 use Rattle.engine.specs.Tables.{entryOf, pointOf, raised-limit, value-limit, Table, Ranged}
 use Rattle.engine.specs.Rounds.{folded, sums}
 use Rattle.engine.specs.Marks.{Marked, BothAre}
-use Rattle.engine.specs.Shown.{shownPick, arcBy, RowTo, HitsIs, RowArcIs, UsedBy, UsedIs, blank-most, Highest, BestIs}
+use Rattle.engine.specs.Shown.{shownPick, arcBy, HitsIs, RowArcIs, UsedIs, blank-most, Highest, BestIs}
 use Rattle.engine.proofs.Fold.{folded-low, folded-sum, folded-mono}
 use Rattle.engine.proofs.Rounds.{false-not-true}
-use Rattle.engine.proofs.Marks.{true-not-false}
 
 -- ---- one pick
 
@@ -130,5 +129,8 @@ highest-end right row x width n top pick t g s h = record { best = λ f. ⊎-eli
         low l b = rw (folded-low (sums right row x l) (omega arith)) trop-zero
 
     found : pick < width → (pick < width) × (largest (λ l. plus (entryOf right row l) (pointOf x l)) width ⊑ plus (entryOf right row pick) (pointOf x pick))
-    found k = (k, largest-least _ width (λ l b.
-        rw (← term l, ← term pick) (trop-order _ _ .1 (folded-mono _ _ (omega (arith, s .most l (omega arith), s .some k))))))
+    found k = (
+      k,
+      largest-least _ width (λ l b.
+          rw (← term l, ← term pick) (trop-order _ _ .1 (folded-mono _ _ (omega (arith, s .most l (omega arith), s .some k))))),
+    )

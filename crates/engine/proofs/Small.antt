@@ -1,6 +1,6 @@
 -- Sizes: a number that is blank or within d of 0, and how they grow along rounds.
 use Prim.Native.Nat.{ℕ, zero, suc, _+_, _*_, _≤_, _<_}
-use mathlib.Core.Path.{_≡_, refl, sym, ap, _∙_}
+use mathlib.Core.Path.{_≡_, refl, sym}
 use mathlib.Core.Logic.{_⊎_, ⊎-elim}
 use native.Mathlib.Omega.{arith}
 use native.Mathlib.Nat.{eq-zero-or-pos}
@@ -8,11 +8,11 @@ use lib.IntN.{ℤ, pos, subℕ, natAbs, _+ℤ_, _-ℤ_}
 use Rattle.definitions.specs.Limits.{signed-half}
 use Rattle.definitions.specs.Tropical.{Trop, bot, fin, plus, larger, largest}
 use Rattle.definitions.specs.Offset.{tropOf}
-use Rattle.definitions.proofs.Whole.{up, down, whole, plus-read, minus-read, abs-read, abs-show, nat-le-or-lt, subℕ-read}
+use Rattle.definitions.proofs.Whole.{plus-read, minus-read, abs-read, abs-show, nat-le-or-lt, subℕ-read}
 use Rattle.definitions.proofs.Tropical.{bot-not-fin, fin-injective, larger-one}
 use Rattle.definitions.proofs.Offset.{trop-read, trop-fin}
 use Rattle.duality.specs.System.{System}
-use Rattle.duality.specs.Values.{valueAt, difference, weightBy, exitBy, weights, exits, valuesAfter}
+use Rattle.duality.specs.Values.{valueAt, difference, weights, exits, valuesAfter}
 use Rattle.duality.proofs.Weights.{weight-picked, weight-terminal, exit-picked, exit-terminal}
 use Rattle.definitions.specs.Certificate.{Strategy}
 use Rattle.records.specs.Decoded.{Near}

@@ -1,5 +1,5 @@
 -- Laws of a step of the policy iteration, and of its end.
-use Prim.Native.Nat.{ℕ, zero, suc, _+_, _*_, _-_, _≤_, _<_}
+use Prim.Native.Nat.{ℕ, _+_, _*_, _-_, _≤_, _<_}
 use mathlib.Core.Path.{_≡_, refl, sym, ap, subst, _∙_}
 use mathlib.Core.Bool.{Bool, true, false}
 use mathlib.Core.Logic.{_⊎_, inl, inr, ⊎-elim}
@@ -8,27 +8,25 @@ use native.Mathlib.Omega.{arith}
 use native.Mathlib.Nat.{eq-zero-or-pos}
 use lib.ListN.{length, getD, set, length-set}
 use lib.Seq.{getD-set-same, getD-set-other}
-use lib.IntN.{ℤ, natAbs}
 use Rattle.definitions.specs.Limits.{signed-half, lead-limit}
-use Rattle.definitions.specs.Tropical.{Trop, bot, fin, plus, largest, _⊑_, blank-least}
+use Rattle.definitions.specs.Tropical.{Trop, plus, _⊑_, blank-least}
 use Rattle.definitions.specs.Problem.{Point}
 use Rattle.definitions.specs.Certificate.{Strategy}
 use Rattle.definitions.specs.Offset.{tropOf}
 use Rattle.definitions.proofs.Whole.{nat-le-or-lt}
-use Rattle.definitions.proofs.Tropical.{⊑-refl, ⊑-of-eq, largest-ext}
-use Rattle.definitions.proofs.Offset.{trop-zero, trop-order, plus-trop, plus-trop-zero}
-use Rattle.duality.specs.System.{System, sideOf, Solves}
+use Rattle.definitions.proofs.Tropical.{largest-ext}
+use Rattle.definitions.proofs.Offset.{trop-order, plus-trop, plus-trop-zero}
+use Rattle.duality.specs.System.{System, sideOf}
 use Rattle.duality.specs.Values.{values, Policy, Fails, Switched, Switch}
 use Rattle.duality.specs.Height.{Bounded, height}
 use Rattle.duality.proofs.Policy.{next-policy}
 use Rattle.duality.proofs.Height.{height-falls}
 use Rattle.duality.proofs.Ends.{finished}
 use Rattle.records.specs.Decoded.{Near}
-use Rattle.engine.specs.Tables.{entryOf, systemOf, pointOf, pickOf, raised-limit, value-limit, Table, Ranged, Tables}
-use Rattle.engine.specs.Filled.{Filled}
-use Rattle.engine.specs.Rounds.{SideIs, ValuesIs}
-use Rattle.engine.specs.Steps.{Sides, Stands, Costs, StandsAt, Failing, Sought, Chosen, FailsNow, Moved, AllStand, Improved, Tried}
-use Rattle.engine.proofs.Small.{Small, near-small}
+use Rattle.engine.specs.Tables.{entryOf, systemOf, pointOf, pickOf, raised-limit, value-limit, fold-least, Ranged, Tables}
+use Rattle.engine.specs.Rounds.{ValuesIs}
+use Rattle.engine.specs.Steps.{Sides, Stands, Costs, StandsAt, Failing, Sought, Chosen, FailsNow, Improved, Tried}
+use Rattle.engine.proofs.Small.{near-small}
 use Rattle.engine.proofs.Rounds.{false-not-true, level-ranged}
 
 -- ---- what a row gives a variable
@@ -55,7 +53,7 @@ cost-blank left n d = record { fails = fails; stands = λ v m h. let e : v ≡ 0
         omega arith
 
 -- A whole right side gives the difference.
-pub cost-whole : (side left : ℕ) → Near lead-limit left → (left ≡ 0 → ⊥) → 1073741824 ≤ side → Costs side left (side + signed-half - left)
+pub cost-whole : (side left : ℕ) → Near lead-limit left → (left ≡ 0 → ⊥) → fold-least ≤ side → Costs side left (side + signed-half - left)
 cost-whole side left n d k = record { fails = fails; stands = λ v m h. ⊎-elim (blank v) (stands v m h) (eq-zero-or-pos v) }
   where
     p : 0 < left

@@ -1,37 +1,35 @@
 -- Laws of trials: raising the objective's row, from the tables to the system at t, and a trial's two outcomes.
-use Prim.Native.Nat.{ℕ, zero, suc, _+_, _*_, _-_, _≤_, _<_}
+use Prim.Native.Nat.{ℕ, suc, _+_, _*_, _-_, _≤_, _<_}
 use mathlib.Core.Path.{_≡_, refl, sym, ap, subst, _∙_}
-use mathlib.Core.Bool.{Bool, true, false, cond}
-use mathlib.Core.Logic.{_⊎_, inl, inr, ⊎-elim}
+use mathlib.Core.Bool.{cond}
+use mathlib.Core.Logic.{_⊎_, ⊎-elim}
 use mathlib.Core.List.{List}
 use native.Mathlib.Omega.{arith}
-use native.Mathlib.Nat.{eq-zero-or-pos, mul-le-mul-right}
+use native.Mathlib.Nat.{eq-zero-or-pos}
 use native.Mathlib.Numerals.{add-one}
 use lib.Dec.{eqb}
 use lib.ListN.{length, getD, set, replicate, length-set, getD-replicate}
 use lib.Seq.{getD-set-same, getD-set-other}
-use lib.IntN.{ℤ, pos, subℕ}
+use lib.IntN.{ℤ}
 use lib.Signed.{_≤ℤ_}
 use borrow.Author.Tests.{eq-eqb, ne-eqb}
-use Rattle.definitions.specs.Limits.{signed-half, lead-limit, span-limit}
-use Rattle.definitions.specs.Tropical.{Trop, bot, fin, plus, _⊑_, Finite}
-use Rattle.definitions.specs.Problem.{Problem, Point, Attainable}
-use Rattle.definitions.specs.Certificate.{Strategy, Anchor, raise}
+use Rattle.definitions.specs.Limits.{signed-half, lead-limit}
+use Rattle.definitions.specs.Tropical.{Trop, fin, plus}
+use Rattle.definitions.specs.Problem.{Problem}
+use Rattle.definitions.specs.Certificate.{Anchor, raise}
 use Rattle.definitions.specs.Offset.{tropOf}
-use Rattle.definitions.proofs.Whole.{up, down, whole, nat-le-or-lt, subℕ-read}
+use Rattle.definitions.proofs.Whole.{whole, nat-le-or-lt, subℕ-read}
 use Rattle.definitions.proofs.Tropical.{plus-zero}
 use Rattle.definitions.proofs.Offset.{trop-zero, trop-fin, trop-order, plus-trop, plus-trop-zero}
 use Rattle.definitions.proofs.Raise.{raised, unraised, raise-zero}
-use Rattle.duality.specs.System.{System, Solves, Solution, Blocks, Blocked, systemAt}
-use Rattle.duality.specs.Values.{values, Policy}
+use Rattle.duality.specs.System.{System, Solution, Blocks, systemAt}
+use Rattle.duality.specs.Values.{Policy}
 use Rattle.duality.proofs.Ends.{idle, empty-policy, blank-blocks}
 use Rattle.duality.proofs.Warm.{stays-down-at}
 use Rattle.records.specs.Decoded.{Near}
-use Rattle.engine.specs.Tables.{entryOf, systemOf, pointOf, pickOf, raised-limit, Table, Tables}
-use Rattle.engine.specs.Filled.{Filled}
-use Rattle.engine.specs.Rounds.{ValuesIs}
+use Rattle.engine.specs.Tables.{entryOf, systemOf, pointOf, pickOf, raised-limit}
 use Rattle.engine.specs.Steps.{Tried}
-use Rattle.engine.specs.Trials.{wholeOf, Trialled, shifted, Raised, Steady, Question, Ready, At, KeptAt, TriedAt, Held}
+use Rattle.engine.specs.Trials.{wholeOf, zero-offset, Trialled, shifted, Raised, Steady, Question, Ready, At, KeptAt, TriedAt, Held}
 use Rattle.engine.proofs.Filled.{filled-map, filled-end}
 use Rattle.engine.proofs.Rounds.{zero-is}
 use Rattle.engine.proofs.Steps.{values-ranged}
@@ -46,9 +44,6 @@ shifted-blank t = refl
 pub shifted-whole : (k t : ℕ) → (k ≡ 0 → ⊥) → k + t - signed-half ≡ shifted k t
 unfolding shifted
 shifted-whole k t h = rw (ne-eqb k 0 h)
-
-positive : (k : ℕ) → (k ≡ 0 → ⊥) → 0 < k
-positive k h = ⊎-elim (λ e. absurd (h e)) (λ p. p) (eq-zero-or-pos k)
 
 -- It stands for the sum,
 shifted-is : (k t : ℕ) → Near lead-limit k → Trialled t → tropOf (shifted k t) ≡ plus (tropOf k) (fin (wholeOf t))
@@ -234,8 +229,8 @@ tried-agree s s′ x picks a t = record {
 }
 
 -- The value of variable 0 is at most zero.
-value-top : (s : System) (x picks : List ℕ) → 0 < s .variables → Tried s x picks → getD x 0 0 ≤ 2147483648
-value-top s x picks h t = trop-order (getD x 0 0) 2147483648 .0 (rw (t .values-are .each 0 h, zero-is) (t .policy .below 0 h))
+value-top : (s : System) (x picks : List ℕ) → 0 < s .variables → Tried s x picks → getD x 0 0 ≤ zero-offset
+value-top s x picks h t = trop-order (getD x 0 0) zero-offset .0 (rw (t .values-are .each 0 h, zero-is) (t .policy .below 0 h))
 
 -- What a trial ends with, of the problem at t.
 trial-found : (n m t : ℕ) (left right objective right′ x picks : List ℕ) → Ready n m left right objective → Trialled t
@@ -317,9 +312,9 @@ attempt-found n m t left right objective right′ x picks y b r f =
 
 -- Raised by 0 the tables hold the problem.
 pub raised-held : (p : Problem) (n m : ℕ) (left right objective right′ : List ℕ) → Question p n m left right objective
-    → Ready n m left right objective → Raised right objective m 2147483648 32 right′ → Held p n m left right′
+    → Ready n m left right objective → Raised right objective m zero-offset 32 right′ → Held p n m left right′
 raised-held p n m left right objective right′ q y r =
-    let a = raised-at p n m 2147483648 left right objective right′ q y (record { lowest = omega arith; highest = omega arith }) r in
+    let a = raised-at p n m zero-offset left right objective right′ q y (record { lowest = omega arith; highest = omega arith }) r in
     record {
       n-is = q .n-is;
       m-is = q .m-is;

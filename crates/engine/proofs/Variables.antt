@@ -1,17 +1,16 @@
 -- The picks of a strategy of variables, as an answer shows them: they agree with the strategy wherever it reaches, and
 -- are 0 elsewhere.
-use Prim.Native.Nat.{ℕ, zero, suc, _+_, _*_, _-_, _/_, _%_, _≤_, _<_}
-use mathlib.Core.Path.{_≡_, refl, sym, ap, ap₂, subst, _∙_}
-use mathlib.Core.Bool.{Bool, true, false, cond}
-use mathlib.Core.Logic.{_⊎_, inl, inr, ⊎-elim}
+use Prim.Native.Nat.{ℕ, suc, _+_, _*_, _-_, _/_, _%_, _≤_, _<_}
+use mathlib.Core.Path.{_≡_, sym, ap₂, subst, _∙_}
+use mathlib.Core.Logic.{_⊎_, ⊎-elim}
 use mathlib.Core.List.{List}
 use native.Mathlib.Omega.{arith}
 use native.Mathlib.Nat.{eq-zero-or-pos}
 use native.Mathlib.Numerals.{add-one}
-use lib.ListN.{length, getD}
-use lib.IntN.{ℤ, subℕ}
+use lib.ListN.{getD}
+use lib.IntN.{subℕ}
 use borrow.Author.Tests.{lt-ltb, le-ltb}
-use Rattle.definitions.specs.Tropical.{Trop, bot, fin, Finite}
+use Rattle.definitions.specs.Tropical.{Finite}
 use Rattle.definitions.specs.Problem.{Problem}
 use Rattle.definitions.specs.Certificate.{Strategy, Reachable, Anchor, start, onward, Leads}
 use Rattle.definitions.specs.Offset.{tropOf}
@@ -23,7 +22,7 @@ use Rattle.duality.specs.Picks.{picksFrom, AgreeReached}
 use Rattle.duality.proofs.Reach.{reach-keep, reach-map}
 use Rattle.engine.specs.Tables.{entryOf, pickOf}
 use Rattle.engine.specs.Trials.{Held}
-use Rattle.engine.specs.Marks.{Marked, ArcIn, Reached}
+use Rattle.engine.specs.Marks.{ArcIn}
 use Rattle.engine.specs.Shown.{shownPick, arcBy, VariablePicks}
 use Rattle.engine.proofs.Shown.{shown-unmarked, shown-picked, shown-none, arc-picked, arc-none}
 
@@ -71,7 +70,6 @@ shown-most many mark pick = ⊎-elim
 
 module _ (p : Problem) (n m : ℕ) (left right picks out : List ℕ) (held : Held p n m left right) (small : n ≤ 31)
     (v : VariablePicks right picks (n + 1) (m + 1) out) where
-
   arcs-at : (j l : ℕ) → j < n + 1 → l < 32 → getD (v .arcs) (j * 32 + l) 0 ≡ arcBy right (m + 1) (getD picks j 0) l
   arcs-at j l h k =
       let e : (j * 32 + l) / 32 ≡ j = omega arith in

@@ -1,8 +1,8 @@
 -- The engine's answer, on tables.
-use Prim.Native.Nat.{ℕ, suc, _+_, _*_, _≤_, _<_}
+use Prim.Native.Nat.{ℕ, _+_, _*_, _≤_}
 use mathlib.Core.Path.{_≡_}
 use mathlib.Core.List.{List, map}
-use lib.ListN.{length, getD, take}
+use lib.ListN.{getD, take}
 use Rattle.definitions.specs.Limits.{highest-n, highest-m, lead-limit}
 use Rattle.definitions.specs.Problem.{Problem}
 use Rattle.definitions.specs.Offset.{tropOf}
@@ -10,7 +10,7 @@ use Rattle.definitions.specs.AnswerRecord.{Answer, stampCount, pickCount}
 use Rattle.definitions.specs.Solved.{Answers}
 use Rattle.duality.specs.Values.{difference}
 use Rattle.duality.specs.Within.{Within}
-use Rattle.records.specs.Decoded.{Near, Decoded}
+use Rattle.records.specs.Decoded.{Decoded}
 use Rattle.engine.specs.Tables.{Table}
 use Rattle.engine.specs.Filled.{Filled}
 use Rattle.engine.specs.Trials.{Question}

@@ -4,8 +4,8 @@ use mathlib.Core.Path.{_≡_}
 use mathlib.Core.Bool.{cond}
 use mathlib.Core.List.{List}
 use lib.Dec.{ltb, leb}
-use lib.ListN.{length, getD}
-use lib.IntN.{ℤ, pos}
+use lib.ListN.{getD}
+use lib.IntN.{pos}
 use Rattle.definitions.specs.Limits.{signed-half}
 use Rattle.definitions.specs.Tropical.{Trop, fin, plus, largest}
 use Rattle.definitions.specs.Problem.{Point}
@@ -13,7 +13,7 @@ use Rattle.definitions.specs.Certificate.{Strategy}
 use Rattle.definitions.specs.Offset.{tropOf}
 use Rattle.duality.specs.System.{System, sideOf}
 use Rattle.duality.specs.Values.{difference, exits, valuesAfter, values}
-use Rattle.engine.specs.Tables.{entryOf, pointOf, fold-limit}
+use Rattle.engine.specs.Tables.{entryOf, pointOf, fold-limit, fold-least}
 use Rattle.engine.specs.Filled.{Filled}
 
 -- The larger of two numbers, and the largest of f 0, …, f (k − 1).
@@ -35,8 +35,8 @@ sums table row x l = getD table (row * 32 + l) 0 + getD x l 0
 -- One side of a row at a point, as an offset number.
 pub record SideIs (table : List ℕ) (row : ℕ) (x : List ℕ) (width r : ℕ) : Type 0 where
   pub is : tropOf r ≡ largest (λ l. plus (entryOf table row l) (pointOf x l)) width
-  pub most : r ≤ 3221225472
-  pub least : 0 < r → 1073741824 ≤ r
+  pub most : r ≤ fold-limit
+  pub least : 0 < r → fold-least ≤ r
 
 -- What a round makes of variable j with pick i at the point x: the right side of row i less its left coefficient, or 0
 -- where i is no row.

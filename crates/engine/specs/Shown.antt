@@ -4,7 +4,7 @@ use mathlib.Core.Path.{_≡_}
 use mathlib.Core.Bool.{Bool, true, false, cond}
 use mathlib.Core.List.{List}
 use lib.Dec.{eqb, ltb}
-use lib.ListN.{length, getD}
+use lib.ListN.{getD}
 use Rattle.definitions.specs.Tropical.{plus, largest, _⊑_, Finite}
 use Rattle.engine.specs.Tables.{entryOf, pointOf}
 use Rattle.engine.specs.Filled.{Filled}

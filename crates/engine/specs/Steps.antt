@@ -6,14 +6,14 @@ use mathlib.Core.Logic.{_⊎_}
 use mathlib.Core.List.{List}
 use lib.ListN.{length, getD}
 use Rattle.definitions.specs.Limits.{lead-limit}
-use Rattle.definitions.specs.Tropical.{Trop, plus, _⊑_}
+use Rattle.definitions.specs.Tropical.{plus, _⊑_}
 use Rattle.definitions.specs.Problem.{Point}
 use Rattle.definitions.specs.Certificate.{Strategy}
 use Rattle.definitions.specs.Offset.{tropOf}
 use Rattle.duality.specs.System.{System, sideOf, Solves}
 use Rattle.duality.specs.Values.{Policy, Fails}
 use Rattle.records.specs.Decoded.{Near}
-use Rattle.engine.specs.Tables.{entryOf, pointOf, pickOf, value-limit}
+use Rattle.engine.specs.Tables.{pointOf, pickOf, value-limit, fold-limit, fold-least}
 use Rattle.engine.specs.Filled.{Filled}
 use Rattle.engine.specs.Rounds.{SideIs, ValuesIs}
 
@@ -84,5 +84,5 @@ pub record Failing (left tops : List ℕ) (v j rows : ℕ) : Type 0 where
   pub inside : j < 32
   pub value-near : Near value-limit v
   pub left-near : (k : ℕ) → Near lead-limit (getD left k 0)
-  pub tops-most : (i : ℕ) → getD tops i 0 ≤ 3221225472
-  pub tops-least : (i : ℕ) → 0 < getD tops i 0 → 1073741824 ≤ getD tops i 0
+  pub tops-most : (i : ℕ) → getD tops i 0 ≤ fold-limit
+  pub tops-least : (i : ℕ) → 0 < getD tops i 0 → fold-least ≤ getD tops i 0

@@ -1,5 +1,5 @@
 -- Two tables of offset numbers as a system of inequalities, 64 rows of 32 columns, and arrays as points and strategies.
-use Prim.Native.Nat.{ℕ, _+_, _*_, _≤_, _<_}
+use Prim.Native.Nat.{ℕ, _+_, _*_, _≤_}
 use mathlib.Core.Path.{_≡_}
 use mathlib.Core.List.{List}
 use lib.ListN.{length, getD}
@@ -37,6 +37,10 @@ value-limit = 33554432
 -- The sum of two offset numbers of at most these sizes is above this if both are whole, and below it if one is blank.
 abbrev pub fold-limit : ℕ
 fold-limit = 3221225472
+
+-- A side of a row that is not blank is at least this.
+abbrev pub fold-least : ℕ
+fold-least = 1073741824
 
 -- A table of 64 rows of 32 entries within d of 0.
 pub record Table (d : ℕ) (table : List ℕ) : Type 0 where

@@ -4,7 +4,6 @@
 use Prim.Native.Nat.{ℕ, _+_, _*_, _-_, _≤_, _<_}
 use mathlib.Core.Path.{_≡_}
 use mathlib.Core.Bool.{cond}
-use mathlib.Core.Logic.{_⊎_}
 use mathlib.Core.List.{List}
 use lib.Dec.{eqb}
 use lib.ListN.{length, getD}
@@ -23,10 +22,20 @@ use Rattle.engine.specs.Steps.{Tried}
 abbrev pub wholeOf : ℕ → ℤ
 wholeOf k = subℕ k signed-half
 
+-- The offset numbers of 0 and of the two outer trials, 645,120 and −645,121.
+abbrev pub zero-offset : ℕ
+zero-offset = signed-half
+
+abbrev pub top-offset : ℕ
+top-offset = signed-half + span-limit
+
+abbrev pub lowest-offset : ℕ
+lowest-offset = signed-half - (span-limit + 1)
+
 -- The offset numbers of the trials: from −645,121 to 645,120.
 pub record Trialled (t : ℕ) : Type 0 where
-  pub lowest : 2147483648 ≤ t + (span-limit + 1)
-  pub highest : t ≤ 2147483648 + span-limit
+  pub lowest : signed-half ≤ t + (span-limit + 1)
+  pub highest : t ≤ signed-half + span-limit
 
 -- A coefficient raised by t: blank stays blank.
 unfoldable pub shifted : ℕ → ℕ → ℕ
@@ -73,7 +82,7 @@ pub record TriedAt (n m : ℕ) (left right objective : List ℕ) (t : ℕ) (x pi
   pub tried : (p : Problem) → Question p n m left right objective → Tried (systemAt p (wholeOf t)) x picks
   pub picks-size : length picks ≡ 32
   pub ranged : Ranged x
-  pub top : getD x 0 0 ≤ 2147483648
+  pub top : getD x 0 0 ≤ zero-offset
 
 -- The tables hold the problem, every row as it is.
 pub record Held (p : Problem) (n m : ℕ) (left right : List ℕ) : Type 0 where

@@ -1,27 +1,28 @@
 // The engine on tables: the two outer trials, the halving, and the answer of each class. Document 01, "The engine".
 ghost use mathlib.Core.Path.{_≡_};
-ghost use Prim.Native.Nat.{ℕ, _+_, _*_, _<_, _≤_};
+ghost use Prim.Native.Nat.{_+_, _*_, _<_, _≤_};
 ghost use lib.ListN.{length, getD};
 ghost use Rattle.engine.specs.Tables.{Ranged};
-ghost use Rattle.engine.specs.Trials.{Ready, TriedAt};
+ghost use Rattle.engine.specs.Trials.{zero-offset, top-offset, lowest-offset, Ready, TriedAt};
 ghost use Rattle.engine.specs.Halving.{Searching};
 ghost use Rattle.engine.specs.Answered.{Coefficients, Copied, Stamps, Settled, Answered};
-use records::limits::OFFSET;
-use crate::values::gap;
-use crate::policy::Outcome;
 use crate::bracket::Bracket;
-use crate::halving::raise;
+use crate::halving::Search;
 use crate::halving::attempt;
 use crate::halving::halve;
-use crate::halving::Search;
-use crate::picks::variable_picks;
-use crate::picks::row_picks;
+use crate::halving::raise;
 use crate::picks::induced;
+use crate::picks::row_picks;
+use crate::picks::variable_picks;
+use crate::policy::Outcome;
+use crate::values::gap;
+use records::limits::OFFSET;
+use records::limits::SPAN_LIMIT;
 
 // The two outer trials as offset numbers: 645,120 and −645,121.
-const TOP: u64 = 2148128768;
+const TOP: u64 = OFFSET + SPAN_LIMIT;
 
-const LOWEST: u64 = 2146838527;
+const LOWEST: u64 = OFFSET - SPAN_LIMIT - 1;
 
 // Class (1 least, 2 bottomless, 3 none), span and stamps as offset numbers, trials made, and picks. Stamps and picks past
 // the counts of the class are 0.
@@ -50,7 +51,7 @@ fn objective_of(right: &[u64; 2048], row: usize) -> [u64; 32]
 
 // The stamps of a point: each value less that of variable 0.
 fn stamps(point: &[u64; 32], width: usize) -> [u64; 32]
-    requires { ⌜ Ranged (now point) × (getD (now point) 0 0 ≤ 2147483648) × (width ≤ 32) ⌝ }
+    requires { ⌜ Ranged (now point) × (getD (now point) 0 0 ≤ zero-offset) × (width ≤ 32) ⌝ }
     ensures { λ r. ⌜ Stamps (now (point .entry)) width r ⌝ }
 {
     let first = point[0];
@@ -72,7 +73,7 @@ fn infeasible(
     m: usize,
     tried: Outcome,
 ) -> Answer
-    requires { ⌜ Ready n m (now left) (now right) (now objective) × TriedAt n m (now left) (now right) (now objective) 2148128768 (tried .values) (tried .picks) × (getD (tried .values) 0 0 ≡ 0) ⌝ }
+    requires { ⌜ Ready n m (now left) (now right) (now objective) × TriedAt n m (now left) (now right) (now objective) top-offset (tried .values) (tried .picks) × (getD (tried .values) 0 0 ≡ 0) ⌝ }
     ensures { λ r. ⌜ Settled n m (now (left .entry)) (now (right .entry)) (now (objective .entry)) (r .class) (r .span) (r .trials) (r .stamps) (r .picks) ⌝ }
 {
     raise(right, objective, m, OFFSET);
@@ -96,7 +97,7 @@ fn unbounded(
     m: usize,
     tried: Outcome,
 ) -> Answer
-    requires { ⌜ Ready n m (now left) (now right) (now objective) × TriedAt n m (now left) (now right) (now objective) 2146838527 (tried .values) (tried .picks) × (0 < getD (tried .values) 0 0) ⌝ }
+    requires { ⌜ Ready n m (now left) (now right) (now objective) × TriedAt n m (now left) (now right) (now objective) lowest-offset (tried .values) (tried .picks) × (0 < getD (tried .values) 0 0) ⌝ }
     ensures { λ r. ⌜ Settled n m (now (left .entry)) (now (right .entry)) (now (objective .entry)) (r .class) (r .span) (r .trials) (r .stamps) (r .picks) ⌝ }
 {
     raise(right, objective, m, LOWEST);

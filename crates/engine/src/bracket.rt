@@ -1,6 +1,6 @@
 // The bracket of the bisection, in offset numbers. Document 01, "a possible middle becomes high, another becomes low".
 ghost use mathlib.Core.Path.{_≡_};
-ghost use Prim.Native.Nat.{_+_, _/_, _<_, _≤_};
+ghost use Prim.Native.Nat.{_+_, _/_};
 ghost use Rattle.definitions.specs.Bisection.{middle, next};
 ghost use Rattle.engine.specs.Trials.{wholeOf, Trialled};
 ghost use Rattle.engine.specs.Halving.{bracketOf, Between};

@@ -1,16 +1,15 @@
 // The search for the least span: trials at the middles of a bracket. Document 01, "The engine" (Algorithm 1).
 ghost use mathlib.Core.Path.{_≡_};
-ghost use Prim.Native.Nat.{ℕ, _+_, _*_, _-_, _<_, _≤_};
+ghost use Prim.Native.Nat.{ℕ, _+_, _*_, _-_, _<_};
 ghost use lib.ListN.{length, getD};
 ghost use Rattle.definitions.specs.Limits.{lead-limit};
 ghost use Rattle.records.specs.Decoded.{Near};
-ghost use Rattle.engine.specs.Tables.{systemOf, pickOf};
-ghost use Rattle.engine.specs.Trials.{wholeOf, Trialled, shifted, Raised, Steady, Ready, KeptAt, TriedAt};
+ghost use Rattle.engine.specs.Trials.{Trialled, shifted, Raised, Steady, Ready, KeptAt, TriedAt};
 ghost use Rattle.engine.specs.Halving.{Searching, LeastFound};
-use records::limits::OFFSET;
+use crate::bracket::Bracket;
 use crate::policy::Outcome;
 use crate::policy::trial;
-use crate::bracket::Bracket;
+use records::limits::OFFSET;
 
 // A coefficient raised by t: blank stays blank.
 fn shift(k: u64, t: u64) -> u64

@@ -1,9 +1,8 @@
 // The picks of an answer: in the record's form (0 none, i + 1), and 0 where they play no part.
 ghost use mathlib.Core.Path.{_≡_};
-ghost use Prim.Native.Nat.{ℕ, _+_, _*_, _/_, _%_, _<_, _≤_};
-ghost use lib.ListN.{length, getD};
-ghost use Rattle.engine.specs.Tables.{raised-limit, Table, Ranged, Tables};
-ghost use Rattle.engine.specs.Marks.{Reached};
+ghost use Prim.Native.Nat.{_+_, _*_, _/_, _%_, _<_, _≤_};
+ghost use lib.ListN.{length};
+ghost use Rattle.engine.specs.Tables.{raised-limit, Table, Ranged};
 ghost use Rattle.engine.specs.Shown.{shownPick, arcBy, VariableArcs, ShownVariables, VariablePicks, HitsIs, RowArcIs, RowArcs, UsedIs, ShownRows, RowPicks, BestIs, InducedRows};
 use crate::reach::both;
 use crate::reach::reach;
@@ -60,7 +59,12 @@ fn shown_variables(picks: &[usize; 32], marks: &[u64; 32], width: usize, rows: u
 }
 
 // The picks of a strategy of variables; those of variables that are not reachable are 0.
-pub fn variable_picks(right: &[u64; 2048], picks: &[usize; 32], width: usize, rows: usize) -> [u64; 64]
+pub fn variable_picks(
+    right: &[u64; 2048],
+    picks: &[usize; 32],
+    width: usize,
+    rows: usize,
+) -> [u64; 64]
     requires { ⌜ (length (now right) ≡ 2048) × (length (now picks) ≡ 32) × (width ≤ 32) × (0 < width) × (rows ≤ 64) ⌝ }
     ensures { λ r. ⌜ VariablePicks (now (right .entry)) (now (picks .entry)) width rows r ⌝ }
 {
@@ -125,7 +129,13 @@ fn used(left: &[u64; 2048], marks: &[u64; 32], i: usize, width: usize) -> u64
 }
 
 // The picks of a strategy of rows, by marks.
-fn shown_rows(left: &[u64; 2048], picks: &[usize; 64], marks: &[u64; 32], width: usize, rows: usize) -> [u64; 64]
+fn shown_rows(
+    left: &[u64; 2048],
+    picks: &[usize; 64],
+    marks: &[u64; 32],
+    width: usize,
+    rows: usize,
+) -> [u64; 64]
     requires { ⌜ (length (now left) ≡ 2048) × (length (now picks) ≡ 64) × (length (now marks) ≡ 32) × (width ≤ 32) × (rows ≤ 64) ⌝ }
     ensures { λ r. ⌜ ShownRows (now (left .entry)) (now (picks .entry)) (now (marks .entry)) width rows r ⌝ }
 {

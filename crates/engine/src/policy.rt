@@ -1,16 +1,15 @@
 // One trial: policy iteration from a strategy that is kept, until no row fails at its values.
 ghost use mathlib.Core.Path.{_≡_};
-ghost use Prim.Native.Nat.{ℕ, _+_, _*_, _<_, _≤_};
-ghost use lib.ListN.{length, getD};
+ghost use Prim.Native.Nat.{_+_, _*_, _<_, _≤_};
+ghost use lib.ListN.{length};
 ghost use Rattle.definitions.specs.Limits.{lead-limit};
 ghost use Rattle.duality.specs.Values.{Policy};
 ghost use Rattle.records.specs.Decoded.{Near};
-ghost use Rattle.engine.specs.Tables.{systemOf, pointOf, pickOf, raised-limit, value-limit, Table, Ranged, Tables};
-ghost use Rattle.engine.specs.Rounds.{ValuesIs};
+ghost use Rattle.engine.specs.Tables.{systemOf, pointOf, pickOf, raised-limit, fold-limit, fold-least, Table, Ranged, Tables};
 ghost use Rattle.engine.specs.Steps.{Sides, Costs, Failing, Chosen, Improved, Tried};
-use records::limits::OFFSET;
-use crate::values::side;
 use crate::values::evaluate;
+use crate::values::side;
+use records::limits::OFFSET;
 
 // Above every value: what a row gives a variable that it does not hold.
 const NEVER: u64 = 8589934592;
@@ -31,7 +30,7 @@ fn sides(right: &[u64; 2048], x: &[u64; 32], width: usize, rows: usize) -> [u64;
 
 // The value that a row of this right side gives a variable of this left coefficient.
 fn cost(side: u64, left: u64) -> u64
-    requires { ⌜ (side ≤ 3221225472) × (0 < side → 1073741824 ≤ side) × Near lead-limit left ⌝ }
+    requires { ⌜ (side ≤ fold-limit) × (0 < side → fold-least ≤ side) × Near lead-limit left ⌝ }
     ensures { λ r. ⌜ Costs side left r ⌝ }
 {
     if left == 0 {

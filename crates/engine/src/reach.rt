@@ -1,6 +1,6 @@
 // Which variables variable 0 reaches along a table of arcs, 32 rows of 32; 0 is no arc.
 ghost use mathlib.Core.Path.{_≡_};
-ghost use Prim.Native.Nat.{ℕ, _<_, _≤_};
+ghost use Prim.Native.Nat.{_<_, _≤_};
 ghost use lib.ListN.{length};
 ghost use Rattle.engine.specs.Marks.{BothAre, LedTo, Fresh, Sound, Spreading, Reached};
 

@@ -2,13 +2,12 @@
 ghost use mathlib.Core.Path.{_≡_};
 ghost use mathlib.Core.Bool.{true};
 ghost use mathlib.Core.List.{[]};
-ghost use Prim.Native.Nat.{ℕ, _+_, _*_, _<_, _≤_};
-ghost use lib.ListN.{length, getD};
-ghost use Rattle.definitions.specs.Limits.{lead-limit};
+ghost use Prim.Native.Nat.{_+_, _*_, _<_, _≤_};
+ghost use lib.ListN.{length};
+ghost use Rattle.definitions.specs.Limits.{lead-limit, signed-half};
 ghost use Rattle.definitions.specs.Offset.{tropOf};
 ghost use Rattle.duality.specs.Values.{difference, exitBy};
-ghost use Rattle.engine.specs.Tables.{systemOf, pointOf, pickOf, raised-limit, Table, Ranged, Tables};
-ghost use Rattle.engine.specs.Filled.{Filled};
+ghost use Rattle.engine.specs.Tables.{systemOf, pointOf, pickOf, raised-limit, fold-limit, fold-least, Table, Ranged, Tables};
 ghost use Rattle.engine.specs.Rounds.{upper, folded, SideIs, steppedBy, Stepped, Exits, ValuesIs, SameUpTo};
 use records::limits::OFFSET;
 
@@ -46,8 +45,8 @@ pub fn side(table: &[u64; 2048], row: usize, x: &[u64; 32], width: usize) -> u64
 
 // A right side less a left coefficient.
 pub fn gap(side: u64, left: u64) -> u64
-    requires { ⌜ (side ≤ 3221225472) × (0 < side → 1073741824 ≤ side) × (left ≤ 2147483648 + lead-limit) ⌝ }
-    ensures { λ r. ⌜ (tropOf r ≡ difference (tropOf side) (tropOf left)) × (r ≤ 6442450944) ⌝ }
+    requires { ⌜ (side ≤ fold-limit) × (0 < side → fold-least ≤ side) × (left ≤ signed-half + lead-limit) ⌝ }
+    ensures { λ r. ⌜ (tropOf r ≡ difference (tropOf side) (tropOf left)) ⌝ }
 {
     if side == 0 {
         return 0;

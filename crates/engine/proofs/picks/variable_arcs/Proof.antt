@@ -1,14 +1,10 @@
-use Prim.Native.Nat.{ℕ, _≤_, _<_, _-_, _+_, _*_}
-use mathlib.Core.Path.{_≡_}
+use Prim.Native.Nat.{_≤_, _-_}
 use native.Mathlib.Omega.{arith}
 use Rattle.engine.proofs.Filled.{filled-none, filled-more, filled-end}
 use Rattle.engine.specs.Shown.{VariableArcs}
 use borrow.Author.Needs.{needs}
 use Rattle.engine.proofs.picks.variable_arcs.Statement.{statement}
 use Rattle.engine.proofs.picks.variable_arcs.Tie as tie
-use Rattle.engine.proofs.picks.variable_arcs.Reads as reads
-use Rattle.engine.proofs.picks.variable_arcs.Lts as lts
-use Rattle.engine.proofs.picks.arc_by.Reads as arc-by-reads
 
 abbrev Inv-loop : tie.InvT-loop
 Inv-loop right picks width rows end out₀ k₀ out k = (k ≤ end) × VariableArcs right picks rows k out
@@ -16,64 +12,20 @@ Inv-loop right picks width rows end out₀ k₀ out k = (k ≤ end) × VariableA
 abbrev μ-loop : tie.MeasureT-loop
 μ-loop right picks width rows end out₀ k₀ out k = end - k
 
--- src/picks.rt:38:15
-mul-end : tie.Need-mul-end Inv-loop μ-loop
-mul-end c = search needs
-
--- src/picks.rt:41:5
-loop-holds : tie.Need-loop-holds Inv-loop μ-loop
-loop-holds c = (omega arith, filled-none 1024)
-
--- src/picks.rt:42:38
-mul-arc-by : tie.Need-mul-arc-by Inv-loop μ-loop
-mul-arc-by c = search needs
-
--- src/picks.rt:42:38
-element-copy-out-arc-by : tie.Need-element-copy-out-arc-by Inv-loop μ-loop
-element-copy-out-arc-by c = search needs
-
--- src/picks.rt:42:18
-arc-by-requires : tie.Need-arc-by-requires Inv-loop μ-loop
-arc-by-requires c κs = search needs
-
--- src/picks.rt:42:9
-mul-out : tie.Need-mul-out Inv-loop μ-loop
-mul-out c = search needs
-
--- src/picks.rt:42:9
-array-write-out : tie.Need-array-write-out Inv-loop μ-loop
-array-write-out c = search needs
-
--- src/picks.rt:43:9
-add-k : tie.Need-add-k Inv-loop μ-loop
-add-k c = search needs
-
--- src/picks.rt:41:5
-loop-less : tie.Need-loop-less Inv-loop μ-loop
-loop-less c = search needs
-
--- src/picks.rt:41:5
-loop-again : tie.Need-loop-again Inv-loop μ-loop
-loop-again c = (omega arith, filled-more (c .before .before .before .loop .inv .1) (omega arith) (c .arc-by .ensures))
-
--- src/picks.rt:34:1
-returns : tie.Need-returns Inv-loop μ-loop
-returns c = filled-end (c .before .loop .inv .1) (c .before .loop .inv .0) (c .loop-test .left)
-
 pub variable-arcs-spec : {M : Type 1} → statement M
 variable-arcs-spec =
     tie.close
     (tie.spec
     Inv-loop
     μ-loop
-    mul-end
-    loop-holds
-    mul-arc-by
-    element-copy-out-arc-by
-    arc-by-requires
-    mul-out
-    array-write-out
-    add-k
-    loop-less
-    loop-again
-    returns)
+    (λ c. search needs)
+    (λ c. (omega arith, filled-none 1024))
+    (λ c. search needs)
+    (λ c. search needs)
+    (λ c κs. search needs)
+    (λ c. search needs)
+    (λ c. search needs)
+    (λ c. search needs)
+    (λ c. search needs)
+    (λ c. (omega arith, filled-more (c .before .before .before .loop .inv .1) (omega arith) (c .arc-by .ensures)))
+    (λ c. filled-end (c .before .loop .inv .1) (c .before .loop .inv .0) (c .loop-test .left)))

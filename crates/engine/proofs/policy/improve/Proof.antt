@@ -1,4 +1,4 @@
-use Prim.Native.Nat.{ℕ, _≤_, _<_, _-_, _+_, _*_}
+use Prim.Native.Nat.{_≤_, _-_}
 use mathlib.Core.Path.{_≡_}
 use native.Mathlib.Omega.{arith}
 use mathlib.Core.Logic.{⊎-elim, inl, inr}
@@ -9,10 +9,6 @@ use Rattle.engine.proofs.Steps.{failing-asked, improved-none, improved-
 use borrow.Author.Needs.{needs}
 use Rattle.engine.proofs.policy.improve.Statement.{statement}
 use Rattle.engine.proofs.policy.improve.Tie as tie
-use Rattle.engine.proofs.policy.improve.Reads as reads
-use Rattle.engine.proofs.policy.improve.Lts as lts
-use Rattle.engine.proofs.policy.failing.Reads as failing-reads
-use Rattle.engine.proofs.policy.sides.Reads as sides-reads
 
 abbrev Inv-loop : tie.InvT-loop
 Inv-loop left right x width rows tops next₀ moved₀ j₀ next moved j = (j ≤ width) × (length next ≡ 32) × Improved (systemOf left right width rows) (pointOf x) (pickOf next₀) (pickOf next) moved j × Sides right x width rows tops
@@ -20,66 +16,22 @@ Inv-loop left right x width rows tops next₀ moved₀ j₀ next moved j = (j �
 abbrev μ-loop : tie.MeasureT-loop
 μ-loop left right x width rows tops next₀ moved₀ j₀ next moved j = width - j
 
--- src/policy.rt:83:16
-sides-requires : tie.Need-sides-requires Inv-loop μ-loop
-sides-requires c κs = let p = c .pre in (p .0 .width-most, p .0 .rows-most, p .0 .rights, p .1)
-
--- src/policy.rt:87:5
-loop-holds : tie.Need-loop-holds Inv-loop μ-loop
-loop-holds c = (omega arith, search needs, improved-none _ _ _, c .sides .ensures)
-
--- src/policy.rt:88:38
-mul-failing : tie.Need-mul-failing Inv-loop μ-loop
-mul-failing c = search needs
-
--- src/policy.rt:88:38
-element-copy-out-failing : tie.Need-element-copy-out-failing Inv-loop μ-loop
-element-copy-out-failing c = search needs
-
--- src/policy.rt:88:13
-failing-requires : tie.Need-failing-requires Inv-loop μ-loop
-failing-requires c κs = let a = c .before .before .before .before .before .args in let p = c .before .before .before .before .before .pre in failing-asked (a .left .now) (a .right .now) (a .x .now) _ (a .width) (a .rows) _ (p .0) (p .1) (c .before .before .before .loop .inv .3) (c .before .before .loop-test .taken)
-
--- src/policy.rt:90:13
-mul-next : tie.Need-mul-next Inv-loop μ-loop
-mul-next c = search needs
-
--- src/policy.rt:90:13
-array-write-next : tie.Need-array-write-next Inv-loop μ-loop
-array-write-next c = search needs
-
--- src/policy.rt:93:9
-add-j : tie.Need-add-j Inv-loop μ-loop
-add-j c = search needs
-
--- src/policy.rt:87:5
-loop-less : tie.Need-loop-less Inv-loop μ-loop
-loop-less c = search needs
-
--- src/policy.rt:87:5
-loop-again : tie.Need-loop-again Inv-loop μ-loop
-loop-again c = let a = c .before .before .before .before .before .before .before .args in let p = c .before .before .before .before .before .before .before .pre in let v = c .before .before .before .before .before .loop .inv in
-    let r = improved-on (a .left .now) (a .right .now) (a .x .now) (c .before .before .before .before .before .before .sides .result) (a .picks) (c .before .before .before .before .before .loop .next) (c .if1 .next) (a .width) (a .rows) _ _ _ _ (v .2) (v .3) (c .before .failing .ensures) (omega arith) (v .1) (⊎-elim (λ w. inl (w .0 .taken, w .1, w .2)) (λ w. inr (w .0 .left, w .1, w .2)) (c .if1 .came)) in
-    (omega arith, r .0, r .1, v .3)
-
--- src/policy.rt:72:1
-returns : tie.Need-returns Inv-loop μ-loop
-returns c = (improved-end (c .before .loop .inv .2) (c .before .loop .inv .0) (c .loop-test .left), c .before .loop .inv .1)
-
 pub improve-spec : {M : Type 1} → statement M
 improve-spec =
     tie.close
     (tie.spec
     Inv-loop
     μ-loop
-    sides-requires
-    loop-holds
-    mul-failing
-    element-copy-out-failing
-    failing-requires
-    mul-next
-    array-write-next
-    add-j
-    loop-less
-    loop-again
-    returns)
+    (λ c κs. let p = c .pre in (p .0 .width-most, p .0 .rows-most, p .0 .rights, p .1))
+    (λ c. (omega arith, search needs, improved-none _ _ _, c .sides .ensures))
+    (λ c. search needs)
+    (λ c. search needs)
+    (λ c κs. let a = c .before .before .before .before .before .args in let p = c .before .before .before .before .before .pre in failing-asked (a .left .now) (a .right .now) (a .x .now) _ (a .width) (a .rows) _ (p .0) (p .1) (c .before .before .before .loop .inv .3) (c .before .before .loop-test .taken))
+    (λ c. search needs)
+    (λ c. search needs)
+    (λ c. search needs)
+    (λ c. search needs)
+    (λ c. let a = c .before .before .before .before .before .before .before .args in let p = c .before .before .before .before .before .before .before .pre in let v = c .before .before .before .before .before .loop .inv in
+    let r = improved-on (a .left .now) (a .right .now) (a .x .now) (c .before .before .before .before .before .before .sides .result) (a .picks) (c .before .before .before .before .before .loop .next) (c .if1 .next) (a .width) (a .rows) _ _ _ _ (v .2) (v .3) (c .before .failing .ensures) (omega arith) (v .1) (⊎-elim (λ w. inl (w .0 .taken, w .1, w .2)) (λ w. inr (w .0 .left, w .1, w .2)) (c .if1 .came)) in
+    (omega arith, r .0, r .1, v .3))
+    (λ c. (improved-end (c .before .loop .inv .2) (c .before .loop .inv .0) (c .loop-test .left), c .before .loop .inv .1)))

@@ -8,9 +8,6 @@ use Rattle.engine.proofs.Marks.{led-found, led-none}
 use borrow.Author.Needs.{needs}
 use Rattle.engine.proofs.reach.led.Statement.{statement}
 use Rattle.engine.proofs.reach.led.Tie as tie
-use Rattle.engine.proofs.reach.led.Reads as reads
-use Rattle.engine.proofs.reach.led.Lts as lts
-use Rattle.engine.proofs.reach.both.Reads as both-reads
 
 abbrev Inv-loop : tie.InvT-loop
 Inv-loop arcs marks l width j₀ j = (j ≤ width) × ((k : ℕ) → k < j → Marked marks k → getD arcs (k * 32 + l) 0 ≡ 0)
@@ -18,74 +15,22 @@ Inv-loop arcs marks l width j₀ j = (j ≤ width) × ((k : ℕ) → k < j → M
 abbrev μ-loop : tie.MeasureT-loop
 μ-loop arcs marks l width j₀ j = width - j
 
--- src/reach.rt:23:5
-loop-holds : tie.Need-loop-holds Inv-loop μ-loop
-loop-holds c = (omega arith, λ k h. absurd (omega arith))
-
--- src/reach.rt:24:17
-mul-both : tie.Need-mul-both Inv-loop μ-loop
-mul-both c = search needs
-
--- src/reach.rt:24:17
-element-copy-out-both : tie.Need-element-copy-out-both Inv-loop μ-loop
-element-copy-out-both c = search needs
-
--- src/reach.rt:24:32
-mul-both-2 : tie.Need-mul-both-2 Inv-loop μ-loop
-mul-both-2 c = search needs
-
--- src/reach.rt:24:32
-add-both : tie.Need-add-both Inv-loop μ-loop
-add-both c = search needs
-
--- src/reach.rt:24:27
-mul-both-3 : tie.Need-mul-both-3 Inv-loop μ-loop
-mul-both-3 c = search needs
-
--- src/reach.rt:24:27
-element-copy-out-both-2 : tie.Need-element-copy-out-both-2 Inv-loop μ-loop
-element-copy-out-both-2 c = search needs
-
--- src/reach.rt:24:12
-both-requires : tie.Need-both-requires Inv-loop μ-loop
-both-requires c κs = search needs
-
--- src/reach.rt:25:13
-returns : tie.Need-returns Inv-loop μ-loop
-returns c = let a = c .before .before .before .before .before .before .args in led-found (a .arcs .now) (a .marks .now) (a .width) (a .l) (c .before .before .before .before .before .loop .j) _ (c .before .before .before .before .loop-test .taken) (c .before .before .before .before .before .before .pre .3) (c .before .both .ensures) (c .if1 .taken)
-
--- src/reach.rt:27:9
-add-j : tie.Need-add-j Inv-loop μ-loop
-add-j c = search needs
-
--- src/reach.rt:23:5
-loop-less : tie.Need-loop-less Inv-loop μ-loop
-loop-less c = search needs
-
--- src/reach.rt:23:5
-loop-again : tie.Need-loop-again Inv-loop μ-loop
-loop-again c = (omega arith, below-more _ _ (c .before .before .before .before .before .loop .inv .1) (c .before .both .ensures .no (c .if1 .left)))
-
--- src/reach.rt:18:1
-returns-2 : tie.Need-returns-2 Inv-loop μ-loop
-returns-2 c = led-none _ _ _ _ _ (c .before .loop .inv .1) (c .loop-test .left)
-
 pub led-spec : {M : Type 1} → statement M
 led-spec =
     tie.close
     (tie.spec
     Inv-loop
     μ-loop
-    loop-holds
-    mul-both
-    element-copy-out-both
-    mul-both-2
-    add-both
-    mul-both-3
-    element-copy-out-both-2
-    both-requires
-    returns
-    add-j
-    loop-less
-    loop-again
-    returns-2)
+    (λ c. (omega arith, λ k h. absurd (omega arith)))
+    (λ c. search needs)
+    (λ c. search needs)
+    (λ c. search needs)
+    (λ c. search needs)
+    (λ c. search needs)
+    (λ c. search needs)
+    (λ c κs. search needs)
+    (λ c. let a = c .before .before .before .before .before .before .args in led-found (a .arcs .now) (a .marks .now) (a .width) (a .l) (c .before .before .before .before .before .loop .j) _ (c .before .before .before .before .loop-test .taken) (c .before .before .before .before .before .before .pre .3) (c .before .both .ensures) (c .if1 .taken))
+    (λ c. search needs)
+    (λ c. search needs)
+    (λ c. (omega arith, below-more _ _ (c .before .before .before .before .before .loop .inv .1) (c .before .both .ensures .no (c .if1 .left))))
+    (λ c. led-none _ _ _ _ _ (c .before .loop .inv .1) (c .loop-test .left)))

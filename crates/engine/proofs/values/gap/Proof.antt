@@ -1,25 +1,18 @@
 use native.Mathlib.Omega.{arith}
-use native.Mathlib.Nat.{eq-zero-or-pos}
-use mathlib.Core.Logic.{⊎-elim}
-use Prim.Native.Nat.{ℕ, _<_}
-use mathlib.Core.Path.{_≡_}
+use Rattle.engine.proofs.Filled.{positive}
 use Rattle.engine.proofs.Rounds.{gap-blank-side, gap-blank-left, gap-whole}
 use Rattle.engine.proofs.values.gap.Statement.{statement}
 use Rattle.engine.proofs.values.gap.Tie as tie
-
--- What is not 0 is above it.
-positive : (k : ℕ) → (k ≡ 0 → ⊥) → 0 < k
-positive k h = ⊎-elim (λ e. absurd (h e)) (λ p. p) (eq-zero-or-pos k)
 
 pub gap-spec : {M : Type 1} → statement M
 gap-spec =
     tie.close
     (tie.spec
-    (λ c. (rw (c .if1 .taken) (gap-blank-side _), omega arith))
-    (λ c. (rw (c .if2 .taken) (gap-blank-left _), omega arith))
+    (λ c. rw (c .if1 .taken) (gap-blank-side _))
+    (λ c. rw (c .if2 .taken) (gap-blank-left _))
     (λ c. omega arith)
     (λ c. omega (arith, c .before .before .pre .1 (positive _ (c .before .if1 .left))))
     (λ c.
     let p = positive _ (c .before .if1 .left) in
     let l = c .before .before .pre .1 p in
-    (gap-whole _ _ p (positive _ (c .if2 .left)) (omega arith), omega arith)))
+    gap-whole _ _ p (positive _ (c .if2 .left)) (omega arith)))
