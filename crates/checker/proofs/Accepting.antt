@@ -66,8 +66,7 @@ module _ (check : Checker) (judges : CheckerJudges check) where
   pub record-accepted : (p : List ℕ) (a : Answer) → Bytes p → WithinLayout p → WriterFits a (nField p) (mField p) answer-most
       → Accepts check p (answerBytes (nField p) a) ↔ Accepted (problemOf p) a
   record-accepted p a b w f =
-      let back : answerFor p (answerBytes (nField p) a) ≡ a = answer-back a (nField p) (mField p) answer-most f in
-      (
+      let back : answerFor p (answerBytes (nField p) a) ≡ a = answer-back a (nField p) (mField p) answer-most f in (
         λ t. rw back at (accepts-only p (answerBytes (nField p) a) b (answer-bytes (nField p) a) t .1),
         λ h. accepts-all p (answerBytes (nField p) a) b (answer-bytes (nField p) a) w (answer-accepted a (nField p) (mField p) answer-most f) (rw back h),
       )

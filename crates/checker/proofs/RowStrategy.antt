@@ -160,12 +160,14 @@ module _ {left right : List ℕ} {n m t : ℕ} {picks arcs : List ℕ} (sized : 
         let k = target-inside (a .row) l (a .picked) in
         let r = weight-read (rowArc left right m t picks (a .row) j l) (weight-by (a .row) j l (a .inside) h k (a .picked) (a .by)) in
         let c = table .cells j l h k in
-        let q = heaviest-above left right m t picks (m + 1) (a .row) j l (omega (arith, a .inside, holds .m-is)) in
-        (k, record {
-          weight = subℕ (getD arcs (j * 32 + l) 0) arc-zero;
-          is = weight-some (getD arcs (j * 32 + l) 0) (omega arith);
-          heavy = omega (whole, subℕ-read (getD arcs (j * 32 + l) 0) arc-zero);
-        })
+        let q = heaviest-above left right m t picks (m + 1) (a .row) j l (omega (arith, a .inside, holds .m-is)) in (
+          k,
+          record {
+            weight = subℕ (getD arcs (j * 32 + l) 0) arc-zero;
+            is = weight-some (getD arcs (j * 32 + l) 0) (omega arith);
+            heavy = omega (whole, subℕ-read (getD arcs (j * 32 + l) 0) arc-zero);
+          },
+        )
 
     -- An entry above 0 is one by a row that picks l, with whole coefficients.
     behind : (j l : ℕ) → j < n + 1 → l < n + 1 → 0 < getD arcs (j * 32 + l) 0

@@ -9,12 +9,15 @@ ghost use Rattle.checker.specs.Lists.{Filled};
 ghost use Rattle.checker.specs.Gains.{arc-zero};
 ghost use Rattle.checker.specs.Tables.{Sized, Picked, Trial};
 ghost use Rattle.checker.specs.Arcs.{raisedBy, lift, lifted, variableArc, VariableArcs, fall, fallen, rowArc, heaviest, RowArcs, Column};
-
 use crate::sums::larger;
 use records::limits::OFFSET;
+use records::limits::STRIDE;
+use records::limits::TABLE;
 
-// The number in the table of an arc that weighs 0.
-const ARC_ZERO: u64 = 1099511627776;
+// The elements of a table of arcs, 32 rows of 32, and the number in it of an arc that weighs 0.
+pub const ARCS: usize = 1024;
+
+pub const ARC_ZERO: u64 = 1099511627776;
 
 // What row i is raised by: t for the objective, 0 for an inequality.
 fn raise_of(t: u64, m: usize, i: usize) -> u64
@@ -43,7 +46,14 @@ fn lifted_by(up: u64, b: u64) -> u64
 }
 
 // The entries from one variable, whose row of the table starts at `from`, by the row that starts at `base`.
-fn fill_lifted(arcs: &mut [u64; 1024], from: usize, right: &[u64; 2048], base: usize, width: usize, up: u64)
+fn fill_lifted(
+    arcs: &mut [u64; ARCS],
+    from: usize,
+    right: &[u64; TABLE],
+    base: usize,
+    width: usize,
+    up: u64,
+)
     requires { ⌜ (length (now arcs) ≡ 1024) × (from + width ≤ 1024) × (base + width ≤ 2048) × (up ≤ 1236950581249) × ((k : ℕ) → Near lead-limit (getD (now right) k 0)) ⌝ }
     ensures { λ _. ⌜ Filled (λ l. lifted up (getD (now (right .entry)) (base + l) 0)) from width (now (arcs .entry)) (now (arcs .exit)) ⌝ }
 {
@@ -53,7 +63,7 @@ fn fill_lifted(arcs: &mut [u64; 1024], from: usize, right: &[u64; 2048], base: u
 }
 
 // No entries from one variable.
-fn fill_none(arcs: &mut [u64; 1024], from: usize, width: usize)
+fn fill_none(arcs: &mut [u64; ARCS], from: usize, width: usize)
     requires { ⌜ (length (now arcs) ≡ 1024) × (from + width ≤ 1024) ⌝ }
     ensures { λ _. ⌜ Filled (λ _. 0) from width (now (arcs .entry)) (now (arcs .exit)) ⌝ }
 {
@@ -63,28 +73,52 @@ fn fill_none(arcs: &mut [u64; 1024], from: usize, width: usize)
 }
 
 // The entries from variable j by the row that it picks.
-fn fill_variable(arcs: &mut [u64; 1024], left: &[u64; 2048], right: &[u64; 2048], n: usize, m: usize, t: u64, pick: usize, j: usize)
+fn fill_variable(
+    arcs: &mut [u64; ARCS],
+    left: &[u64; TABLE],
+    right: &[u64; TABLE],
+    n: usize,
+    m: usize,
+    t: u64,
+    pick: usize,
+    j: usize,
+)
     requires { ⌜ Sized (now left) (now right) n m × Trial t × (length (now arcs) ≡ 1024) × (pick ≤ m + 1) × (j ≤ n) ⌝ }
     ensures { λ _. ⌜ Filled (variableArc (now (left .entry)) (now (right .entry)) m t pick j) (j * 32) (n + 1) (now (arcs .entry)) (now (arcs .exit)) ⌝ }
 {
     let width = n + 1;
-    let from = j * 32;
+    let from = j * STRIDE;
     if pick == 0 {
         fill_none(arcs, from, width);
         return;
     }
     let i = pick - 1;
-    let base = i * 32;
+    let base = i * STRIDE;
     let a = left[base + j];
     if a == 0 {
         fill_none(arcs, from, width);
         return;
     }
-    fill_lifted(arcs, from, right, base, width, lift_of(a, raise_of(t, m, i)));
+    fill_lifted(
+        arcs,
+        from,
+        right,
+        base,
+        width,
+        lift_of(a, raise_of(t, m, i)),
+    );
 }
 
 // The table of a strategy of variables.
-pub fn variable_arcs(arcs: &mut [u64; 1024], left: &[u64; 2048], right: &[u64; 2048], n: usize, m: usize, picks: &[u64; 64], t: u64)
+pub fn variable_arcs(
+    arcs: &mut [u64; ARCS],
+    left: &[u64; TABLE],
+    right: &[u64; TABLE],
+    n: usize,
+    m: usize,
+    picks: &[u64; 64],
+    t: u64,
+)
     requires { ⌜ Sized (now left) (now right) n m × Trial t × (length (now arcs) ≡ 1024) × Picked (now picks) (m + 1) ⌝ }
     ensures { λ _. ⌜ VariableArcs (now (left .entry)) (now (right .entry)) m t (now (picks .entry)) (n + 1) (n + 1) (now (arcs .exit)) ⌝ }
 {
@@ -112,18 +146,34 @@ fn fallen_by(down: u64, a: u64) -> u64
 }
 
 // The entries by one row, whose left coefficients start at `base`, to variable l: each where it is the heaviest so far.
-fn fill_column(arcs: &mut [u64; 1024], left: &[u64; 2048], base: usize, l: usize, width: usize, down: u64)
+fn fill_column(
+    arcs: &mut [u64; ARCS],
+    left: &[u64; TABLE],
+    base: usize,
+    l: usize,
+    width: usize,
+    down: u64,
+)
     requires { ⌜ (length (now arcs) ≡ 1024) × (width ≤ 32) × (l < width) × (base + width ≤ 2048) × (down ≤ 1101659111424) × ((k : ℕ) → Near lead-limit (getD (now left) k 0)) ⌝ }
     ensures { λ _. ⌜ Column (λ j. fallen down (getD (now (left .entry)) (base + j) 0)) l width (now (arcs .entry)) (now (arcs .exit)) ⌝ }
 {
     for j in 0..width {
-        let at = j * 32 + l;
+        let at = j * STRIDE + l;
         arcs[at] = larger(arcs[at], fallen_by(down, left[base + j]));
     }
 }
 
 // The entries by row i, to the variable that it picks.
-fn fill_row(arcs: &mut [u64; 1024], left: &[u64; 2048], right: &[u64; 2048], n: usize, m: usize, picks: &[u64; 64], t: u64, i: usize)
+fn fill_row(
+    arcs: &mut [u64; ARCS],
+    left: &[u64; TABLE],
+    right: &[u64; TABLE],
+    n: usize,
+    m: usize,
+    picks: &[u64; 64],
+    t: u64,
+    i: usize,
+)
     requires { ⌜ Sized (now left) (now right) n m × Trial t × RowArcs (now left) (now right) m t (now picks) (n + 1) i (now arcs) × Picked (now picks) (n + 1) × (i ≤ m) ⌝ }
     ensures { λ _. ⌜ RowArcs (now (left .entry)) (now (right .entry)) m t (now (picks .entry)) (n + 1) (i + 1) (now (arcs .exit)) ⌝ }
 {
@@ -132,7 +182,7 @@ fn fill_row(arcs: &mut [u64; 1024], left: &[u64; 2048], right: &[u64; 2048], n: 
         return;
     }
     let l = pick - 1;
-    let base = i * 32;
+    let base = i * STRIDE;
     let b = right[base + l];
     if b == 0 {
         return;
@@ -141,17 +191,25 @@ fn fill_row(arcs: &mut [u64; 1024], left: &[u64; 2048], right: &[u64; 2048], n: 
 }
 
 // An empty table.
-fn clear_arcs(arcs: &mut [u64; 1024], width: usize)
+fn clear_arcs(arcs: &mut [u64; ARCS], width: usize)
     requires { ⌜ (length (now arcs) ≡ 1024) × (width ≤ 32) ⌝ }
     ensures { λ _. ⌜ (length (now (arcs .exit)) ≡ 1024) × ((j l : ℕ) → j < width → l < width → getD (now (arcs .exit)) (j * 32 + l) 0 ≡ 0) ⌝ }
 {
     for j in 0..width {
-        fill_none(arcs, j * 32, width);
+        fill_none(arcs, j * STRIDE, width);
     }
 }
 
 // The table of a strategy of rows.
-pub fn row_arcs(arcs: &mut [u64; 1024], left: &[u64; 2048], right: &[u64; 2048], n: usize, m: usize, picks: &[u64; 64], t: u64)
+pub fn row_arcs(
+    arcs: &mut [u64; ARCS],
+    left: &[u64; TABLE],
+    right: &[u64; TABLE],
+    n: usize,
+    m: usize,
+    picks: &[u64; 64],
+    t: u64,
+)
     requires { ⌜ Sized (now left) (now right) n m × Trial t × (length (now arcs) ≡ 1024) × Picked (now picks) (n + 1) ⌝ }
     ensures { λ _. ⌜ RowArcs (now (left .entry)) (now (right .entry)) m t (now (picks .entry)) (n + 1) (m + 1) (now (arcs .exit)) ⌝ }
 {

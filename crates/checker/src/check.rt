@@ -13,12 +13,17 @@ ghost use Rattle.definitions.specs.Verdict.{Accepted, Judged, strategyOf};
 ghost use Rattle.checker.specs.Decides.{Decides};
 ghost use Rattle.checker.specs.Tables.{Sized, Holds, Stamped, Picked, stampsPoint};
 ghost use Rattle.checker.specs.Outcome.{verdictOf, problemRefused, answerRefused, Span, Meant, Formed, Answered};
-
-use crate::certify::{certify_rows, certify_variables};
-use crate::point::{keeps_rules, value_is};
-use records::answer::{read_answer, AnswerHead};
-use records::limits::{OFFSET, SPAN_LIMIT};
-use records::problem::{read_problem, Header};
+use crate::certify::certify_rows;
+use crate::certify::certify_variables;
+use crate::point::keeps_rules;
+use crate::point::value_is;
+use records::answer::AnswerHead;
+use records::answer::read_answer;
+use records::limits::OFFSET;
+use records::limits::SPAN_LIMIT;
+use records::limits::TABLE;
+use records::problem::Header;
+use records::problem::read_problem;
 
 // What the checker answers: accepted, with class and the span's offset number, or refused, with the number.
 pub enum Verdict {
@@ -31,7 +36,15 @@ const NOT_CERTIFIED: usize = 14;
 
 // Class 1, least: the point keeps the rules, its value is the span, and the picks show that none is smaller: judged at
 // the span less 1.
-pub fn certify_optimal(left: &[u64; 2048], right: &[u64; 2048], n: usize, m: usize, stamps: &[u64; 32], picks: &[u64; 64], span: u64) -> bool
+pub fn certify_optimal(
+    left: &[u64; TABLE],
+    right: &[u64; TABLE],
+    n: usize,
+    m: usize,
+    stamps: &[u64; 32],
+    picks: &[u64; 64],
+    span: u64,
+) -> bool
     requires { ⌜ Sized (now left) (now right) n m × Stamped (now stamps) × (getD (now stamps) 0 0 ≡ signed-half) × Picked (now picks) (m + 1) × Span span ⌝ }
     ensures { λ r. ⌜ ((p : Problem) (z : ℤ) → Holds p (now (left .entry)) (now (right .entry)) n m → tropOf span ≡ fin z → Decides (AcceptedOptimal p z (stampsPoint (now (stamps .entry))) (strategyOf (now (picks .entry)))) r) ⌝ }
 {
@@ -46,7 +59,16 @@ pub fn certify_optimal(left: &[u64; 2048], right: &[u64; 2048], n: usize, m: usi
 
 // What document 01 lists for the answer's class holds. Class 2 is judged at the lowest trial, class 3 at the top trial: a
 // closed walk that uses the objective then weighs below zero, or above.
-pub fn certify(left: &[u64; 2048], right: &[u64; 2048], n: usize, m: usize, class: u64, span: u64, stamps: &[u64; 32], picks: &[u64; 64]) -> bool
+pub fn certify(
+    left: &[u64; TABLE],
+    right: &[u64; TABLE],
+    n: usize,
+    m: usize,
+    class: u64,
+    span: u64,
+    stamps: &[u64; 32],
+    picks: &[u64; 64],
+) -> bool
     requires { ⌜ Sized (now left) (now right) n m × Formed n m class span (now stamps) (now picks) ⌝ }
     ensures { λ r. ⌜ ((p : Problem) (a : Answer) → Holds p (now (left .entry)) (now (right .entry)) n m → Meant a class span (now (stamps .entry)) (now (picks .entry)) → Decides (Accepted p a) r) ⌝ }
 {
@@ -79,7 +101,13 @@ fn answer_refusal(head: AnswerHead) -> usize
 }
 
 // The verdict on an answer for the problem in the tables.
-pub fn check_answer(left: &[u64; 2048], right: &[u64; 2048], n: usize, m: usize, answer: &[u8]) -> Verdict
+pub fn check_answer(
+    left: &[u64; TABLE],
+    right: &[u64; TABLE],
+    n: usize,
+    m: usize,
+    answer: &[u8],
+) -> Verdict
     requires { ⌜ Sized (now left) (now right) n m ⌝ }
     ensures { λ r. ⌜ ((p : Problem) → Holds p (now (left .entry)) (now (right .entry)) n m → Answered p n m (now (answer .entry)) (verdictOf r)) ⌝ }
 {
@@ -99,8 +127,8 @@ pub fn check_answer(left: &[u64; 2048], right: &[u64; 2048], n: usize, m: usize,
 pub fn check(problem: &[u8], answer: &[u8]) -> Verdict
     ensures { λ r. ⌜ Judged (now (problem .entry)) (now (answer .entry)) (verdictOf r) ⌝ }
 {
-    let mut left = [0u64; 2048];
-    let mut right = [0u64; 2048];
+    let mut left = [0u64; TABLE];
+    let mut right = [0u64; TABLE];
     let header = read_problem(problem, &mut left, &mut right);
     let Header::Fields(n, m) = header else {
         return Verdict::Refused(problem_refusal(header));

@@ -1,8 +1,8 @@
 // The checker: it judges an answer and trusts no engine. Document 01, "The checker".
-pub mod sums;
-pub mod point;
 pub mod arcs;
-pub mod reach;
-pub mod gains;
 pub mod certify;
 pub mod check;
+pub mod gains;
+pub mod point;
+pub mod reach;
+pub mod sums;

@@ -3,7 +3,7 @@ pub mod answer;
 pub mod bytes;
 pub mod class;
 pub mod limits;
-pub mod problem;
 pub mod offset;
+pub mod problem;
 pub mod roundtrip;
 pub mod writer;

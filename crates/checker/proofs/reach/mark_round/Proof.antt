@@ -44,11 +44,14 @@ loop-less c = omega arith
 
 -- src/reach.rt:47:5
 loop-again : tie.Need-loop-again Inv-loop μ-loop
-loop-again c = (omega arith, omega arith,
-    ⊎-elim
-    (λ w. rw (w .2) (marking-row (c .before .before .loop .inv .2) (omega arith) (omega arith) (w .0 .taken) (w .1 .ensures)))
-    (λ w. rw (w .1) (marking-skip (c .before .before .loop .inv .2) (w .0 .left)))
-    (c .if1 .came))
+loop-again c = (
+  omega arith,
+  omega arith,
+  ⊎-elim
+      (λ w. rw (w .2) (marking-row (c .before .before .loop .inv .2) (omega arith) (omega arith) (w .0 .taken) (w .1 .ensures)))
+      (λ w. rw (w .1) (marking-skip (c .before .before .loop .inv .2) (w .0 .left)))
+      (c .if1 .came),
+)
 
 -- src/reach.rt:42:1
 returns : tie.Need-returns Inv-loop μ-loop
