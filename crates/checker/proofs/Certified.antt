@@ -49,7 +49,7 @@ pub record Scale (s : ℕ → ℤ → ℤ) (Good : ℤ → Type 0) : Type 0 wher
   pub bad : (n : ℕ) (w : ℤ) → n ≤ 32 → pos 0 <ℤ s n w → Good w → ⊥
 
 -- Below zero: 32 w + n.
-pub strict : ℕ → ℤ → ℤ
+unfoldable pub strict : ℕ → ℤ → ℤ
 strict n w = subℕ (32 * up w + n) (32 * down w)
 
 pub strict-read : (n : ℕ) (w : ℤ) → up (strict n w) + 32 * down w ≡ (32 * up w + n) + down (strict n w)
@@ -65,7 +65,7 @@ strict-scale = record {
 }
 
 -- Zero or more: −w.
-pub loose : ℕ → ℤ → ℤ
+unfoldable pub loose : ℕ → ℤ → ℤ
 loose n w = negℤ w
 
 pub loose-read : (n : ℕ) (w : ℤ) → up (loose n w) + up w ≡ down (loose n w) + down w

@@ -16,5 +16,8 @@ pub mod Accepting
 pub mod Soundness
 pub mod Completeness
 pub mod Demand3
+pub mod Holding
+pub mod Potentials
+pub mod Starred
 pub mod Sides
 pub mod ClosedWalks
