@@ -1,8 +1,8 @@
 -- What the tests on a table of arcs say of a strategy. The table shows the strategy's arcs, scaled; reach follows the
 -- table, document 01's `Leads` one coefficient alone, and the two agree once all reached picks count. Written once for
 -- strategies of variables and of rows.
-use Prim.Native.Nat.{ℕ, zero, suc, _+_, _*_, _≤_, _<_}
-use mathlib.Core.Path.{_≡_, refl, ap, sym, subst, _∙_}
+use Prim.Native.Nat.{ℕ, suc, _+_, _*_, _≤_, _<_}
+use mathlib.Core.Path.{_≡_, ap, sym, subst, _∙_}
 use mathlib.Core.Bool.{Bool, true, false}
 use mathlib.Core.List.{List}
 use mathlib.Core.Logic.{⊎-elim}
@@ -12,7 +12,7 @@ use lib.ListN.{getD}
 use lib.IntN.{ℤ, pos, subℕ, negℤ, _+ℤ_}
 use lib.Signed.{_≤ℤ_, _<ℤ_}
 use borrow.Author.Tests.{eq-eqb, ne-eqb}
-use Rattle.definitions.specs.Tropical.{Trop, bot, fin}
+use Rattle.definitions.specs.Tropical.{Trop, fin}
 use Rattle.definitions.specs.Certificate.{Reachable, Anchor, Walk, stop, step, Circuit}
 use Rattle.definitions.proofs.Whole.{up, down, whole, subℕ-read, plus-read, neg-read}
 use Rattle.definitions.proofs.Tropical.{fin-injective, bot-not-fin}

@@ -1,22 +1,19 @@
 -- Soundness by bytes: an answer that nothing refuses and that is accepted says the class and span of the problem.
 use Prim.Native.Nat.{ℕ, suc}
-use mathlib.Core.Path.{_≡_, refl, ap, sym, subst, _∙_}
-use mathlib.Core.Bool.{Bool, true, false, false≢true}
+use mathlib.Core.Path.{_≡_, refl, _∙_}
+use mathlib.Core.Bool.{true, false≢true}
 use mathlib.Core.List.{List}
 use native.Mathlib.Omega.{arith}
-use lib.ListN.{length}
-use lib.IntN.{ℤ}
 use borrow.Author.Tests.{ne-eqb}
-use Rattle.definitions.specs.Limits.{class-optimal, class-unbounded, class-infeasible, short-bytes, signed-bytes, answer-header}
+use Rattle.definitions.specs.Limits.{class-optimal}
 use Rattle.definitions.specs.Tropical.{Trop, bot, fin}
 use Rattle.definitions.specs.Bytes.{Bytes}
-use Rattle.definitions.specs.Problem.{Problem}
-use Rattle.definitions.specs.ProblemRecord.{nField, mField, problemRefusal, problemOf}
-use Rattle.definitions.specs.AnswerRecord.{Answer, is-blank, spanFits, pickCount, highestPick, classField, answerOf, answerRefusal}
-use Rattle.definitions.specs.Verdict.{Accepted, optimal, unbounded, infeasible, checkRefusal, answerFor, strategyOf}
+use Rattle.definitions.specs.ProblemRecord.{nField, mField, problemOf}
+use Rattle.definitions.specs.AnswerRecord.{is-blank, spanFits, pickCount, highestPick, answerOf, answerRefusal}
+use Rattle.definitions.specs.Verdict.{Accepted, optimal, unbounded, infeasible, answerFor, strategyOf}
 use Rattle.definitions.specs.Demands.{Checker, Accepts, CheckerJudges}
 use Rattle.definitions.proofs.Bytes.{length-numsAt}
-use Rattle.definitions.proofs.Refusals.{AnswerFits, answer-fits, or-else-none}
+use Rattle.definitions.proofs.Refusals.{AnswerFits, answer-fits}
 use Rattle.duality.specs.Picks.{NoneAbove}
 use Rattle.duality.proofs.Classes.{optimal-accepted, accepted-infeasible, accepted-unbounded}
 use Rattle.checker.specs.ClassHolds as Classes

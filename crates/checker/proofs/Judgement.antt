@@ -1,6 +1,6 @@
 -- For all bytes there is one verdict, and only one; a checker function that gives it.
 use Prim.Native.Nat.{ℕ, zero, suc, _≤_, _<_}
-use mathlib.Core.Path.{_≡_, refl, ap, sym, subst, _∙_}
+use mathlib.Core.Path.{_≡_, refl, ap, sym, _∙_}
 use mathlib.Core.Bool.{Bool, true, false, false≢true}
 use mathlib.Core.List.{List}
 use mathlib.Core.Logic.{_⊎_, inl, inr, ⊎-elim, _↔_}
@@ -10,9 +10,9 @@ use lib.ListN.{length, getD, List·getD-eq-default}
 use borrow.Author.Tests.{ltb-true, lt-ltb}
 use Rattle.definitions.specs.Limits.{byte-values}
 use Rattle.definitions.specs.Bytes.{Bytes, all}
-use Rattle.definitions.specs.ProblemRecord.{nField, mField, problemRefusal, problemOf}
+use Rattle.definitions.specs.ProblemRecord.{nField, mField, problemRefusal}
 use Rattle.definitions.specs.AnswerRecord.{answerRefusal}
-use Rattle.definitions.specs.Verdict.{Verdict, accepted, refused, Accepted, checkRefusal, answerFor, not-certified, Judged, turned-away, certified, uncertified}
+use Rattle.definitions.specs.Verdict.{Verdict, accepted, refused, checkRefusal, answerFor, not-certified, Judged, turned-away, certified, uncertified}
 use Rattle.definitions.specs.Demands.{Checker, CheckerJudges}
 use Rattle.definitions.proofs.Whole.{nat-le-or-lt}
 use Rattle.definitions.proofs.Bytes.{all-true}

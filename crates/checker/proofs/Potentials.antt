@@ -1,25 +1,25 @@
 -- A short way to see that picks are accepted: numbers on the variables (a potential) that no arc exceeds, tested by
 -- computing. Variables without a number are not reached.
-use Prim.Native.Nat.{ℕ, zero, suc, _+_, _*_, _≤_, _<_}
+use Prim.Native.Nat.{ℕ, zero, suc, _≤_, _<_}
 use mathlib.Core.Path.{_≡_, refl, ap, sym, subst, _∙_}
 use mathlib.Core.Bool.{Bool, true, false, cond, _&&_, and-eq-true-iff, false≢true}
-use mathlib.Core.List.{List, []}
-use mathlib.Core.Logic.{_⊎_, inl, inr, ⊎-elim}
+use mathlib.Core.List.{List}
+use mathlib.Core.Logic.{⊎-elim}
 use native.Mathlib.Omega.{arith}
 use lib.Dec.{T, eqb}
-use lib.ListN.{length, getD, List·getD-eq-default}
+use lib.ListN.{length, List·getD-eq-default}
 use lib.IntN.{ℤ, pos, negsuc, _+ℤ_, _-ℤ_}
-use lib.Signed.{_≤ℤ_, _<ℤ_, leZ}
-use borrow.Author.Tests.{eqb-true, eqb-false}
+use lib.Signed.{_≤ℤ_, leZ}
+use borrow.Author.Tests.{eqb-true}
 use Rattle.definitions.specs.Limits.{lead-limit, span-limit, class-optimal, class-unbounded, class-infeasible}
 use Rattle.definitions.specs.Tropical.{Trop, bot, fin, _⊑_, blank-least, whole-least, Finite}
 use Rattle.definitions.specs.Problem as Problems
-use Rattle.definitions.specs.Problem.{Problem, Point, Value, minus-infinity, plus-infinity, Keeps, Feasible, side, value}
+use Rattle.definitions.specs.Problem.{Problem, Value, minus-infinity, plus-infinity, side, value}
 use Rattle.definitions.specs.Certificate.{Strategy, Anchor, Reachable, start, onward, Walk, stop, step, Circuit, raise, Leads, Arc, HasPick, PicksCount, BelowZero, RowLeads, RowArc, RowHasPick, RowPicksCount}
 use Rattle.definitions.specs.ProblemRecord.{nField, mField, WithinLayout, problemOf}
 use Rattle.definitions.specs.AnswerRecord.{Answer, answerRefusal}
 use Rattle.definitions.specs.Verdict.{Accepted, optimal, unbounded, infeasible, answerFor, pointOf, strategyOf}
-use Rattle.definitions.proofs.Whole.{up, down, whole, plus-read, nat-le-or-lt}
+use Rattle.definitions.proofs.Whole.{whole, plus-read, nat-le-or-lt}
 use Rattle.definitions.proofs.Tropical.{fin-injective, bot-not-fin, not-finite-bot}
 use Rattle.duality.specs.Picks.{NoneAbove, AtLeastZero}
 use Rattle.duality.proofs.Numbers.{below-infeasible, above-unbounded}

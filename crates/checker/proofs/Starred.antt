@@ -1,19 +1,16 @@
 -- The starred examples of document 01, over the one table of the definitions: class and span hold by the definitions,
 -- through the checker's soundness; M is not certified.
-use Prim.Native.Nat.{ℕ, zero, suc, _<_}
-use mathlib.Core.Path.{_≡_, refl, ap, sym, subst, _∙_}
-use mathlib.Core.Bool.{Bool, true, false, cond, _&&_, and-eq-true-iff, false≢true}
+use mathlib.Core.Path.{_≡_, refl, ap}
+use mathlib.Core.Bool.{Bool, true, false, _&&_, and-eq-true-iff, false≢true}
 use mathlib.Core.List.{List, [], _∷_, map}
-use native.Mathlib.Omega.{arith}
-use lib.ListN.{length, getD}
-use lib.IntN.{ℤ, pos}
+use lib.IntN.{pos}
 use Rattle.definitions.specs.Tropical.{Trop, bot, fin, plus, larger, largest}
-use Rattle.definitions.specs.Bytes.{Bytes, all, numAt, numsAt, signed, tropField, tropAt}
-use Rattle.definitions.specs.Problem.{Problem, side, value, minus}
+use Rattle.definitions.specs.Bytes.{all, numAt, numsAt, signed, tropField, tropAt}
+use Rattle.definitions.specs.Problem.{side, value, minus}
 use Rattle.definitions.specs.Certificate.{raise}
 use Rattle.definitions.specs.ProblemRecord.{problemOf, problemRefusal, nField, mField}
 use Rattle.definitions.specs.AnswerRecord.{answerOf, answerRefusal}
-use Rattle.definitions.specs.Verdict.{Accepted, checkRefusal, answerFor, pointOf, strategyOf, refused, Judged, uncertified}
+use Rattle.definitions.specs.Verdict.{checkRefusal, answerFor, pointOf, strategyOf, refused, Judged, uncertified}
 use Rattle.definitions.specs.Examples.{Example, examples, example-A, example-B, example-C, example-D, example-E, example-F, example-G, example-H, example-I, example-J, example-K, example-M}
 use Rattle.definitions.specs.Demands.{Checker, CheckerJudges}
 use Rattle.definitions.proofs.Refusals.{or-else-none}
