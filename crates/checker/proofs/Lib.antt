@@ -15,6 +15,7 @@ pub mod Agreeing
 pub mod Accepting
 pub mod Soundness
 pub mod Completeness
+pub mod LongInputs
 pub mod Demand3
 pub mod Holding
 pub mod Potentials

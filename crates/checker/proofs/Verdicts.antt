@@ -98,7 +98,7 @@ head-refused zero a b e f g = absurd (let z : _≡_ {A = ℕ} 0 1 = cc in omega 
 head-refused (suc k) a b e f {r} g = let q : r ≡ suc k = g ∙ ap answerRefused e in (sym q, omega arith)
 
 -- A refusal that is not 0, as a verdict.
-turned : (p a : List ℕ) (k : ℕ) → checkRefusal p a ≡ k → 0 < k → Judged p a (refused k)
+pub turned : (p a : List ℕ) (k : ℕ) → checkRefusal p a ≡ k → 0 < k → Judged p a (refused k)
 turned p a zero e h = absurd (omega arith)
 turned p a (suc k) e h = turned-away e
 

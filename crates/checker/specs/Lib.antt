@@ -9,3 +9,4 @@ pub mod Arcs
 pub mod Counts
 pub mod Outcome
 pub mod ClassHolds
+pub mod LongInput

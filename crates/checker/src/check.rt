@@ -81,7 +81,7 @@ pub fn certify(
 }
 
 // The number with which a problem was refused.
-fn problem_refusal(header: Header) -> usize
+pub fn problem_refusal(header: Header) -> usize
     ensures { λ r. ⌜ r ≡ problemRefused header ⌝ }
 {
     match header {
@@ -91,7 +91,7 @@ fn problem_refusal(header: Header) -> usize
 }
 
 // The number with which an answer was refused.
-fn answer_refusal(head: AnswerHead) -> usize
+pub fn answer_refusal(head: AnswerHead) -> usize
     ensures { λ r. ⌜ r ≡ answerRefused head ⌝ }
 {
     match head {

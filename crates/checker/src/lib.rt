@@ -2,6 +2,7 @@
 pub mod arcs;
 pub mod certify;
 pub mod check;
+pub mod input;
 pub mod gains;
 pub mod point;
 pub mod reach;
