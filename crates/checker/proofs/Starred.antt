@@ -2,7 +2,7 @@
 -- through the checker's soundness; M is not certified.
 use mathlib.Core.Path.{_≡_, refl, ap}
 use mathlib.Core.Bool.{Bool, true, false, _&&_, and-eq-true-iff, false≢true}
-use mathlib.Core.List.{List, [], _∷_, map}
+use mathlib.Core.List.{_++_, List, [], _∷_, map}
 use lib.IntN.{pos}
 use Rattle.definitions.specs.Tropical.{Trop, bot, fin, plus, larger, largest}
 use Rattle.definitions.specs.Bytes.{all, numAt, numsAt, signed, tropField, tropAt}
@@ -10,11 +10,12 @@ use Rattle.definitions.specs.Problem.{side, value, minus}
 use Rattle.definitions.specs.Certificate.{raise}
 use Rattle.definitions.specs.ProblemRecord.{problemOf, problemRefusal, nField, mField}
 use Rattle.definitions.specs.AnswerRecord.{answerOf, answerRefusal}
-use Rattle.definitions.specs.Verdict.{checkRefusal, answerFor, pointOf, strategyOf, refused, Judged, uncertified}
+use Rattle.definitions.specs.Verdict.{checkRefusal, answerFor, pointOf, strategyOf, accepted, refused, Judged, certified, uncertified}
 use Rattle.definitions.specs.Examples.{Example, examples, example-A, example-B, example-C, example-D, example-E, example-F, example-G, example-H, example-I, example-J, example-K, example-M}
+use Rattle.definitions.specs.Programs.{digits, decimal, wholeDecimal, spanDecimal, text-accepted, text-least, classWords, verdictLine, cutPlace, problemPart, answerPart, VerdictOutput}
 use Rattle.definitions.specs.Demands.{Checker, CheckerJudges}
 use Rattle.definitions.proofs.Refusals.{or-else-none}
-use Rattle.definitions.proofs.Examples.{table, asRead, no-refusals, words-are-read, not-accepted-M}
+use Rattle.definitions.proofs.Examples.{table, asRead, no-refusals, words-are-read, accepted-A, not-accepted-M}
 use Rattle.checker.specs.ClassHolds.{ClassHolds}
 use Rattle.checker.proofs.Judgement.{judged-unique, all-bytes}
 use Rattle.checker.proofs.Holding.{accepted-holds}
@@ -107,3 +108,11 @@ pub refused-M : (check : Checker) → CheckerJudges check → check (example-M .
 unfolding example-M all
 refused-M check judges =
     judged-unique (judges (example-M .problem) (example-M .answer) (all-bytes (example-M .problem) .0 refl) (all-bytes (example-M .answer) .0 refl)) judged-M
+
+-- ---- A's 38 bytes
+
+-- A's problem followed by its answer, as input of the verdict program, is accepted as least with span 3; the line says so.
+pub output-A : VerdictOutput (example-A .problem ++ example-A .answer)
+    (97 ∷ 99 ∷ 99 ∷ 101 ∷ 112 ∷ 116 ∷ 101 ∷ 100 ∷ 32 ∷ 108 ∷ 101 ∷ 97 ∷ 115 ∷ 116 ∷ 32 ∷ 51 ∷ 10 ∷ [])
+unfolding table examples example-A problemOf numAt answerOf tropAt tropField signed cutPlace problemPart answerPart verdictLine classWords spanDecimal wholeDecimal decimal digits text-accepted text-least
+output-A = record { verdict = accepted 1 (fin (pos 3)); judged = certified (head-same (tail-same no-refusals)) accepted-A; line = refl }

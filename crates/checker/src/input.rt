@@ -9,12 +9,18 @@ ghost use Rattle.definitions.specs.Verdict.{Judged};
 ghost use Rattle.definitions.specs.Programs.{cutPlace, problemPart, answerPart, KeptOf};
 ghost use Rattle.checker.specs.Outcome.{verdictOf};
 ghost use Rattle.checker.specs.LongInput.{Longer};
-
-use crate::check::{answer_refusal, check, problem_refusal, Verdict};
-use records::answer::{read_answer_header, AnswerHead};
+use crate::check::Verdict;
+use crate::check::answer_refusal;
+use crate::check::check;
+use crate::check::problem_refusal;
+use records::answer::AnswerHead;
+use records::answer::read_answer_header;
 use records::bytes::word_at;
-use records::limits::{LENGTH_BYTES, TABLE};
-use records::problem::{read_header, read_problem, Header};
+use records::limits::LENGTH_BYTES;
+use records::limits::TABLE;
+use records::problem::Header;
+use records::problem::read_header;
+use records::problem::read_problem;
 
 // How many bytes of its input the program keeps.
 pub const KEPT: usize = 20000;

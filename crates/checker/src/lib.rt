@@ -2,8 +2,8 @@
 pub mod arcs;
 pub mod certify;
 pub mod check;
-pub mod input;
 pub mod gains;
+pub mod input;
 pub mod point;
 pub mod reach;
 pub mod sums;

@@ -1,5 +1,5 @@
 use borrow.Author.Needs.{needs}
-use Rattle.checker.proofs.Acceptance.{top-trial, top-trial-is, lowest-trial, lowest-trial-is, infeasible-at, unbounded-at, by-optimal, by-unbounded, by-infeasible, highest-row, highest-variable, class-other}
+use Rattle.checker.proofs.Acceptance.{top-trial-is, lowest-trial-is, infeasible-at, unbounded-at, by-optimal, by-unbounded, by-infeasible, highest-row, highest-variable, class-other}
 use native.Mathlib.Omega.{arith}
 use Rattle.checker.proofs.check.certify.Statement.{statement}
 use Rattle.checker.proofs.check.certify.Tie as tie
@@ -14,10 +14,10 @@ certify-spec =
     (λ c. search needs)
     (λ c. search needs)
     (λ c κs. let a = c .before .args in
-    (c .before .pre .0, lowest-trial, rw (highest-variable (a .n) (a .m) (a .class) (c .match .keys2)) at (c .before .pre .1 .picked)))
+    (c .before .pre .0, record { some = omega arith; near = record { hi = omega arith; lo = λ _. omega arith } }, rw (highest-variable (a .n) (a .m) (a .class) (c .match .keys2)) at (c .before .pre .1 .picked)))
     (λ c. search needs)
     (λ c κs. let a = c .before .args in
-    (c .before .pre .0, top-trial, rw (highest-row (a .n) (a .m) (a .class) (λ e. omega (arith, c .match .keys3))) at (c .before .pre .1 .picked)))
+    (c .before .pre .0, record { some = omega arith; near = record { hi = omega arith; lo = λ _. omega arith } }, rw (highest-row (a .n) (a .m) (a .class) (λ e. omega (arith, c .match .keys3))) at (c .before .pre .1 .picked)))
     (λ c. λ p a h e. by-optimal e (c .before .match .keys1) (c .before .before .pre .1 .whole-span (c .before .match .keys1)) (λ z f. c .certify-optimal .ensures p z h f))
     (λ c. λ p a h e.
     let g = c .before .before .args in

@@ -1,5 +1,5 @@
 use borrow.Author.Needs.{needs}
-use Rattle.checker.proofs.Acceptance.{trial-below, optimal-broken, optimal-other, optimal-picks, optimal-at}
+use Rattle.checker.proofs.Acceptance.{optimal-broken, optimal-other, optimal-picks, optimal-at}
 use borrow.Author.Tests.{not-true, not-false}
 use native.Mathlib.Omega.{arith}
 use Rattle.checker.proofs.check.certify_optimal.Statement.{statement}
@@ -14,5 +14,7 @@ certify-optimal-spec =
     (λ c κs. (c .before .before .pre .0, c .before .before .pre .1, omega (arith, c .before .before .pre .4 .near .hi)))
     (λ c. λ p z h e. optimal-other h _ (c .before .value-is .ensures p z h e) (not-true _ (c .if2 .taken)))
     (λ c. search needs)
-    (λ c κs. (c .before .before .before .before .pre .0, trial-below (c .before .before .before .before .pre .4), c .before .before .before .before .pre .3))
+    (λ c κs.
+    let s = c .before .before .before .before .pre .4 in
+    (c .before .before .before .before .pre .0, record { some = omega (arith, s .near .lo (s .some)); near = record { hi = omega (arith, s .near .hi); lo = λ h. omega (arith, s .near .lo (s .some)) } }, c .before .before .before .before .pre .3))
     (λ c. λ p z h e. optimal-picks h _ (c .before .before .before .before .before .pre .2) (c .before .before .before .before .keeps-rules .ensures p h) (not-false _ (c .before .before .before .if1 .left)) (c .before .before .value-is .ensures p z h e) (not-false _ (c .before .if2 .left)) (optimal-at (c .before .before .before .before .before .pre .4) e (λ y f. c .certify-variables .ensures p y h f))))
