@@ -1,33 +1,32 @@
 -- Long inputs: what is decided from the first bytes and the size holds of every input that begins so.
-use Prim.Native.Nat.{ℕ, zero, suc, _+_, _*_, _-_, _≤_, _<_}
-use mathlib.Core.Path.{_≡_, refl, ap, sym, subst, _∙_}
-use mathlib.Core.Bool.{Bool, true, false, cond}
+use Prim.Native.Nat.{ℕ, zero, suc, _+_, _-_, _≤_, _<_}
+use mathlib.Core.Path.{_≡_, refl, ap, sym, _∙_}
 use mathlib.Core.List.{List}
-use mathlib.Core.Logic.{_⊎_, inl, inr, ⊎-elim}
+use mathlib.Core.Logic.{⊎-elim}
 use native.Mathlib.Omega.{arith}
 use native.Mathlib.Nat.{eq-zero-or-pos}
-use lib.Dec.{ltb, eqb}
+use lib.Dec.{eqb}
 use lib.ListN.{length, getD, take, drop, length-take, length-drop}
 use lib.Seq.{getD-take, getD-drop, length-take-le, ext-getD, take-all}
 use borrow.Author.Tests.{lt-ltb, le-ltb, eqb-true, ne-eqb}
 use Rattle.definitions.specs.Limits.{kept-bytes, length-bytes, problem-header, answer-header, answer-most, highest-n, highest-m, answer-kind}
-use Rattle.definitions.specs.Bytes.{numAt, or-else}
-use Rattle.definitions.specs.ProblemRecord.{lengthField, kindField, nField, mField, problemSize, headerRefusal, problemRefusal, WithinLayout, problemOf}
-use Rattle.definitions.specs.AnswerRecord.{known-class, classField, answerSize, answerHeaderRefusal, answerRefusal, formRefusal, answerOf}
+use Rattle.definitions.specs.Bytes.{numAt}
+use Rattle.definitions.specs.ProblemRecord.{lengthField, kindField, nField, mField, headerRefusal, problemRefusal, WithinLayout}
+use Rattle.definitions.specs.AnswerRecord.{known-class, classField, answerSize, answerHeaderRefusal, answerRefusal}
 use Rattle.definitions.specs.Verdict.{Verdict, refused, checkRefusal, Judged}
 use Rattle.definitions.specs.Programs.{cutPlace, problemPart, answerPart, KeptOf}
 use Rattle.definitions.proofs.Whole.{nat-le-or-lt}
-use Rattle.definitions.proofs.Refusals.{or-else-suc, or-else-none, limits-clause, enough-clause, equal-clause, both-clause}
+use Rattle.definitions.proofs.Refusals.{or-else-suc, limits-clause, enough-clause, equal-clause, both-clause}
 use Rattle.definitions.proofs.RoundTrip.{size-most}
 use Rattle.records.specs.declared.problem.Header.{Header}
 use Rattle.records.specs.declared.problem.Header.the-variants as Headers
 use Rattle.records.specs.declared.answer.AnswerHead.{AnswerHead}
-use Rattle.records.specs.ProblemHeader.{headerOf, headerBy}
+use Rattle.records.specs.ProblemHeader.{headerOf}
 use Rattle.records.specs.AnswerReading.{headBy, answerHeadOf, spanNumber}
-use Rattle.records.proofs.ProblemHeader.{HeaderFits, header-fits, header-refuses, product-most}
+use Rattle.records.proofs.ProblemHeader.{header-fits, header-refuses, product-most}
 use Rattle.checker.specs.Outcome.{problemRefused, answerRefused}
 use Rattle.checker.specs.LongInput.{Longer}
-use Rattle.checker.proofs.Verdicts.{HeaderRead, turned, judged-problem}
+use Rattle.checker.proofs.Verdicts.{turned}
 
 -- ---- fields of lists that agree
 

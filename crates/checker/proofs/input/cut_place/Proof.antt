@@ -2,7 +2,7 @@ use borrow.Author.Needs.{needs}
 use Rattle.checker.proofs.LongInputs.{cut-short, cut-past, cut-inside}
 use mathlib.Core.Path.{ap, _∙_}
 use native.Mathlib.Omega.{arith}
-use Prim.Native.Nat.{_+_, _-_}
+use Prim.Native.Nat.{_+_}
 use Rattle.checker.proofs.input.cut_place.Statement.{statement}
 use Rattle.checker.proofs.input.cut_place.Tie as tie
 

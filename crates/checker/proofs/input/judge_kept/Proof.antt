@@ -4,7 +4,7 @@ use Rattle.checker.proofs.LongInputs.{kept-whole, kept-longer, long-pas
 use lib.Seq.{length-take-le}
 use mathlib.Core.Path.{sym, ap, _∙_}
 use native.Mathlib.Omega.{arith}
-use Prim.Native.Nat.{_+_, _-_}
+use Prim.Native.Nat.{_+_}
 use Rattle.checker.proofs.input.judge_kept.Statement.{statement}
 use Rattle.checker.proofs.input.judge_kept.Tie as tie
 

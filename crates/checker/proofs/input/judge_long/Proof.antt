@@ -8,7 +8,6 @@ use lib.Seq.{length-take-le}
 use lib.ListN.{drop}
 use mathlib.Core.Path.{sym}
 use native.Mathlib.Omega.{arith}
-use Prim.Native.Nat.{_-_}
 use Rattle.checker.proofs.input.judge_long.Statement.{statement}
 use Rattle.checker.proofs.input.judge_long.Tie as tie
 

@@ -1,6 +1,5 @@
 use borrow.Author.Needs.{needs}
 use Rattle.checker.proofs.LongInputs.{long-answer}
-use Prim.Native.Nat.{_-_}
 use Rattle.checker.proofs.input.judge_long_answer.Statement.{statement}
 use Rattle.checker.proofs.input.judge_long_answer.Tie as tie
 

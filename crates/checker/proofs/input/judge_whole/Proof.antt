@@ -3,7 +3,6 @@ use Rattle.checker.proofs.LongInputs.{rest-whole}
 use Rattle.checker.proofs.LongInputs.{judged-parts}
 use lib.Seq.{length-take-le}
 use mathlib.Core.Path.{sym}
-use Prim.Native.Nat.{_-_}
 use Rattle.checker.proofs.input.judge_whole.Statement.{statement}
 use Rattle.checker.proofs.input.judge_whole.Tie as tie
 
