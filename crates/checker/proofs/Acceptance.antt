@@ -1,23 +1,20 @@
 -- What the tests of each class say of an answer: all that document 01 lists for the class, or not.
-use Prim.Native.Nat.{ℕ, zero, suc, _+_, _*_, _-_, _≤_, _<_}
-use mathlib.Core.Path.{_≡_, refl, ap, sym, subst, _∙_, fun-ext}
-use mathlib.Core.Bool.{Bool, true, false, cond, _||_, false≢true}
+use Prim.Native.Nat.{ℕ, suc, _+_, _*_, _-_, _≤_, _<_}
+use mathlib.Core.Path.{_≡_, ap, sym, _∙_, fun-ext}
+use mathlib.Core.Bool.{Bool, true, false, false≢true}
 use mathlib.Core.List.{List}
-use mathlib.Core.Logic.{_⊎_, inl, inr, ⊎-elim}
 use native.Mathlib.Omega.{arith}
-use lib.Dec.{eqb}
 use lib.ListN.{getD}
 use lib.IntN.{ℤ, pos, negsuc, subℕ, natAbs, _-ℤ_}
 use borrow.Author.Tests.{ne-eqb, eq-eqb}
 use Rattle.definitions.specs.Limits.{signed-half, lead-limit, span-limit}
 use Rattle.definitions.specs.Tropical.{Trop, fin}
 use Rattle.definitions.specs.Offset.{tropOf}
-use Rattle.definitions.specs.Problem.{Problem, Point, Keeps, value, whole}
+use Rattle.definitions.specs.Problem.{Problem, Keeps, value, whole}
 use Rattle.definitions.specs.Certificate.{Strategy, PicksCount, BelowZero, RowPicksCount, AcceptedOptimal, AcceptedUnbounded, AcceptedInfeasible}
 use Rattle.definitions.specs.AnswerRecord.{Answer, known-class, highestPick}
 use Rattle.definitions.specs.Verdict.{Accepted, optimal, unbounded, infeasible, pointOf, strategyOf}
-use Rattle.definitions.proofs.Whole as Whole
-use Rattle.definitions.proofs.Whole.{up, down, minus-read, abs-show}
+use Rattle.definitions.proofs.Whole.{minus-read, abs-show}
 use Rattle.definitions.proofs.Tropical.{fin-injective}
 use Rattle.definitions.proofs.Offset.{trop-fin, trop-read, trop-show}
 use Rattle.duality.specs.Picks.{NoneAbove, AtLeastZero}
@@ -25,8 +22,8 @@ use Rattle.duality.specs.Within.{Within}
 use Rattle.duality.proofs.Numbers.{infeasible-below, below-infeasible, unbounded-above, above-unbounded, top-enough}
 use Rattle.records.specs.Decoded.{Near}
 use Rattle.checker.specs.Decides.{Decides}
-use Rattle.checker.specs.Tables.{Sized, Holds, Stamped, Picked, Trial, stampsPoint}
-use Rattle.checker.specs.Outcome.{Span, Meant, Formed}
+use Rattle.checker.specs.Tables.{Holds, Picked, Trial, stampsPoint}
+use Rattle.checker.specs.Outcome.{Span, Meant}
 use Rattle.checker.proofs.Decides.{said-no, decides-as}
 
 -- ---- problems in the tables are small

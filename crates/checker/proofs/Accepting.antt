@@ -1,18 +1,15 @@
 -- What a checker that judges as document 01 says accepts. For any function with `CheckerJudges`.
-use Prim.Native.Nat.{ℕ, zero, suc, _+_, _*_, _≤_, _<_}
-use mathlib.Core.Path.{_≡_, refl, ap, sym, subst, _∙_}
-use mathlib.Core.Bool.{Bool, true, false, false≢true}
+use Prim.Native.Nat.{ℕ, suc, _*_, _≤_}
+use mathlib.Core.Path.{_≡_, ap}
+use mathlib.Core.Bool.{true, false≢true}
 use mathlib.Core.List.{List}
 use mathlib.Core.Logic.{_↔_}
 use native.Mathlib.Omega.{arith}
-use lib.ListN.{length}
-use lib.IntN.{ℤ}
 use Rattle.definitions.specs.Limits.{lead-limit, span-limit, answer-most}
 use Rattle.definitions.specs.Bytes.{Bytes}
-use Rattle.definitions.specs.Problem.{Problem}
 use Rattle.definitions.specs.ProblemRecord.{nField, mField, problemRefusal, WithinLayout, problemOf}
-use Rattle.definitions.specs.AnswerRecord.{Answer, answerRefusal, answerBytes, answerOf}
-use Rattle.definitions.specs.Verdict.{Verdict, accepted, refused, accepts, Accepted, optimal, unbounded, infeasible, checkRefusal, answerFor, not-certified, Judged, turned-away, certified, uncertified}
+use Rattle.definitions.specs.AnswerRecord.{Answer, answerRefusal, answerBytes}
+use Rattle.definitions.specs.Verdict.{Verdict, accepts, Accepted, optimal, unbounded, infeasible, checkRefusal, answerFor, Judged, turned-away, certified, uncertified}
 use Rattle.definitions.specs.Demands.{Checker, Accepts, CheckerJudges, CheckerRefuses, AcceptsExactly, PlanHolds, NeverBroken}
 use Rattle.definitions.proofs.Refusals.{problem-fits, or-else-none, left-size, right-size, WriterFits}
 use Rattle.definitions.proofs.RoundTrip.{answer-bytes, answer-back, answer-accepted}

@@ -1,27 +1,26 @@
 -- Lists that hold a point or picks: what is accepted is read within the counts alone.
-use Prim.Native.Nat.{ℕ, zero, suc, _+_, _≤_, _<_}
-use mathlib.Core.Path.{_≡_, refl, ap, sym, subst, _∙_}
-use mathlib.Core.Bool.{Bool, true, false}
-use mathlib.Core.List.{List, [], _∷_, _++_}
-use mathlib.Core.Logic.{_⊎_, inl, inr, ⊎-elim}
+use Prim.Native.Nat.{ℕ, zero, suc, _≤_, _<_}
+use mathlib.Core.Path.{_≡_, refl, ap, sym, _∙_}
+use mathlib.Core.Bool.{true}
+use mathlib.Core.List.{List, [], _∷_}
+use mathlib.Core.Logic.{⊎-elim}
 use native.Mathlib.Omega.{arith}
 use lib.Dec.{leb}
 use lib.ListN.{length, getD, length-append, List·getD-append}
 use lib.Seq.{getD-at}
 use lib.IntN.{ℤ, pos}
 use borrow.Author.Tests.{leb-true, le-leb}
-use Rattle.definitions.specs.Tropical.{Trop, bot, fin, plus}
-use Rattle.definitions.specs.Bytes.{all}
-use Rattle.definitions.specs.Problem.{Problem, Point, Keeps, Feasible, side, value}
-use Rattle.definitions.specs.Certificate.{Strategy, Anchor, Reachable, Leads, Arc, ObjectiveArc, HasPick, PicksCount, BelowZero, RowLeads, RowArc, RowObjectiveArc, RowHasPick, RowPicksCount, AcceptedOptimal, AcceptedInfeasible, AcceptedUnbounded}
+use Rattle.definitions.specs.Tropical.{Trop, bot, plus}
+use Rattle.definitions.specs.Problem.{Problem, Point, Feasible, side, value}
+use Rattle.definitions.specs.Certificate.{Strategy, Leads, Arc, ObjectiveArc, PicksCount, BelowZero, RowLeads, RowArc, RowObjectiveArc, AcceptedOptimal, AcceptedInfeasible, AcceptedUnbounded}
 use Rattle.definitions.specs.ProblemRecord.{listOf}
 use Rattle.definitions.specs.AnswerRecord.{picksFit}
 use Rattle.definitions.specs.Verdict.{pointOf, strategyOf}
 use Rattle.definitions.proofs.Whole.{nat-le-or-lt}
 use Rattle.definitions.proofs.Tropical.{largest-ext}
 use Rattle.definitions.proofs.Bytes.{all-true}
-use Rattle.duality.specs.Picks.{NoneAbove, AtLeastZero}
-use Rattle.duality.proofs.Reach.{reach-keep, reach-map, circuit-keep, circuit-map, uses-keep, uses-map}
+use Rattle.duality.specs.Picks.{NoneAbove}
+use Rattle.duality.proofs.Reach.{reach-keep, reach-map, circuit-keep, circuit-map, uses-keep}
 
 -- ---- f 0, …, f (k − 1) as a list
 

@@ -1,18 +1,18 @@
 -- What the reader gives has the form of its class and means the answer in the bytes.
-use Prim.Native.Nat.{ℕ, zero, suc, _+_, _*_, _-_, _≤_, _<_}
-use mathlib.Core.Path.{_≡_, refl, ap, sym, subst, _∙_}
-use mathlib.Core.Bool.{Bool, true, false, cond, _&&_, and-eq-true-iff, false≢true}
+use Prim.Native.Nat.{ℕ, zero, suc, _+_, _≤_, _<_}
+use mathlib.Core.Path.{_≡_, refl, sym, _∙_}
+use mathlib.Core.Bool.{true, and-eq-true-iff}
 use mathlib.Core.List.{List, [], _∷_}
-use mathlib.Core.Logic.{_⊎_, inl, inr, ⊎-elim}
+use mathlib.Core.Logic.{⊎-elim}
 use native.Mathlib.Omega.{arith}
-use lib.Dec.{eqb, leb}
+use lib.Dec.{leb}
 use lib.ListN.{length, getD, length-map, List·getD-eq-default}
-use borrow.Author.Tests.{leb-true, eqb-true, eq-eqb}
-use Rattle.definitions.specs.Limits.{signed-half, stamp-limit, span-limit, class-optimal}
+use borrow.Author.Tests.{leb-true, eqb-true}
+use Rattle.definitions.specs.Limits.{signed-half, stamp-limit, span-limit}
 use Rattle.definitions.specs.Tropical.{Trop, bot}
 use Rattle.definitions.specs.Bytes.{Bytes, all, blank-or-within, whole-within}
 use Rattle.definitions.specs.Offset.{tropOf}
-use Rattle.definitions.specs.AnswerRecord.{Answer, is-zero, stampsFit, picksFit, spanFits, stampCount, highestPick, classField, answerOf, answerRefusal}
+use Rattle.definitions.specs.AnswerRecord.{is-zero, stampsFit, picksFit, spanFits, stampCount, highestPick, classField, answerOf, answerRefusal}
 use Rattle.definitions.specs.Verdict.{pointOf, strategyOf}
 use Rattle.definitions.proofs.Whole.{nat-le-or-lt}
 use Rattle.definitions.proofs.Bytes.{all-true, length-numsAt}
@@ -26,8 +26,7 @@ use Rattle.records.specs.AnswerReading.{headBy, spanNumber, answerReadOf, Answe
 use Rattle.records.proofs.LeadTables.{near-within}
 use Rattle.records.proofs.Judging.{span-meant}
 use Rattle.records.proofs.Meaning.{stamps-point, picks-strategy}
-use Rattle.checker.specs.Tables.{Stamped, Picked}
-use Rattle.checker.specs.Outcome.{answerRefused, Span, Meant, Formed}
+use Rattle.checker.specs.Outcome.{Span, Meant, Formed}
 
 -- ---- what the reader answers
 

@@ -1,16 +1,14 @@
 -- Laws of the tables of arcs.
-use Prim.Native.Nat.{ℕ, zero, suc, _+_, _*_, _-_, _≤_, _<_}
+use Prim.Native.Nat.{ℕ, suc, _+_, _*_, _≤_, _<_}
 use mathlib.Core.Path.{_≡_, refl, ap, sym, subst, _∙_}
 use mathlib.Core.Bool.{Bool, true, false, cond}
 use mathlib.Core.List.{List}
-use mathlib.Core.Logic.{_⊎_, inl, inr, ⊎-elim}
+use mathlib.Core.Logic.{⊎-elim}
 use native.Mathlib.Omega.{arith}
 use native.Mathlib.Numerals.{add-one}
-use native.Mathlib.Nat.{eq-zero-or-pos}
 use lib.Dec.{eqb}
 use lib.ListN.{length, getD, set, length-set}
 use borrow.Author.Tests.{eqb-true, eqb-false, eq-eqb, ne-eqb}
-use Rattle.definitions.proofs.Whole.{nat-le-or-lt}
 use Rattle.checker.specs.Lists.{most, Filled}
 use Rattle.checker.specs.Arcs.{raisedBy, lift, lifted, strictArc, variableArc, VariableArcs, fall, fallen, looseArc, rowArc, heaviest, RowArcs, Column}
 use Rattle.checker.proofs.Lists.{most-zero, set-here, set-there, one-more, below-or-last}

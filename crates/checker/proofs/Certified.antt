@@ -1,8 +1,8 @@
 -- What the tests on a table of arcs say of a strategy. The table shows the strategy's arcs, scaled; reach follows the
 -- table, document 01's `Leads` one coefficient alone, and the two agree once all reached picks count. Written once for
 -- strategies of variables and of rows.
-use Prim.Native.Nat.{ℕ, zero, suc, _+_, _*_, _≤_, _<_}
-use mathlib.Core.Path.{_≡_, refl, ap, sym, subst, _∙_}
+use Prim.Native.Nat.{ℕ, suc, _+_, _*_, _≤_, _<_}
+use mathlib.Core.Path.{_≡_, ap, sym, subst, _∙_}
 use mathlib.Core.Bool.{Bool, true, false}
 use mathlib.Core.List.{List}
 use mathlib.Core.Logic.{⊎-elim}
@@ -12,7 +12,7 @@ use lib.ListN.{getD}
 use lib.IntN.{ℤ, pos, subℕ, negℤ, _+ℤ_}
 use lib.Signed.{_≤ℤ_, _<ℤ_}
 use borrow.Author.Tests.{eq-eqb, ne-eqb}
-use Rattle.definitions.specs.Tropical.{Trop, bot, fin}
+use Rattle.definitions.specs.Tropical.{Trop, fin}
 use Rattle.definitions.specs.Certificate.{Reachable, Anchor, Walk, stop, step, Circuit}
 use Rattle.definitions.proofs.Whole.{up, down, whole, subℕ-read, plus-read, neg-read}
 use Rattle.definitions.proofs.Tropical.{fin-injective, bot-not-fin}
@@ -49,7 +49,7 @@ pub record Scale (s : ℕ → ℤ → ℤ) (Good : ℤ → Type 0) : Type 0 wher
   pub bad : (n : ℕ) (w : ℤ) → n ≤ 32 → pos 0 <ℤ s n w → Good w → ⊥
 
 -- Below zero: 32 w + n.
-pub strict : ℕ → ℤ → ℤ
+unfoldable pub strict : ℕ → ℤ → ℤ
 strict n w = subℕ (32 * up w + n) (32 * down w)
 
 pub strict-read : (n : ℕ) (w : ℤ) → up (strict n w) + 32 * down w ≡ (32 * up w + n) + down (strict n w)
@@ -65,7 +65,7 @@ strict-scale = record {
 }
 
 -- Zero or more: −w.
-pub loose : ℕ → ℤ → ℤ
+unfoldable pub loose : ℕ → ℤ → ℤ
 loose n w = negℤ w
 
 pub loose-read : (n : ℕ) (w : ℤ) → up (loose n w) + up w ≡ down (loose n w) + down w

@@ -1,24 +1,21 @@
 -- The closed-walk test: a round of numbers is a round of values; a round without change shows that no closed walk weighs
 -- above zero; as many rounds as variables, each with a change, show a short one that does.
 use Prim.Native.Nat.{ℕ, zero, suc, _+_, _*_, _-_, _≤_, _<_}
-use mathlib.Core.Path.{_≡_, refl, ap, sym, subst, _∙_}
-use mathlib.Core.Bool.{Bool, true, false, cond}
-use mathlib.Core.List.{List, []}
+use mathlib.Core.Path.{_≡_, refl, ap, sym, _∙_}
+use mathlib.Core.List.{List}
 use mathlib.Core.Logic.{_⊎_, inl, inr, ⊎-elim}
 use native.Mathlib.Omega.{arith}
 use native.Mathlib.Numerals.{add-one}
 use native.Mathlib.Nat.{eq-zero-or-pos}
-use lib.Dec.{eqb}
-use lib.ListN.{length, getD, replicate}
+use lib.ListN.{getD, replicate}
 use lib.IntN.{ℤ, pos, subℕ, _+ℤ_}
 use lib.Signed.{_≤ℤ_}
 use borrow.Author.Tests.{eq-eqb, ne-eqb}
-use Rattle.definitions.specs.Tropical.{Trop, bot, fin, plus, _⊑_, blank-least, whole-least, larger, largest, Finite}
-use Rattle.definitions.specs.Certificate.{Walk}
-use Rattle.definitions.proofs.Whole.{up, down, whole, subℕ-read, plus-read}
-use Rattle.definitions.proofs.Tropical.{fin-injective, ⊑-refl, ⊑-trans, ⊑-antisym, below-bot, finite-fin, bot-plus, plus-fin, larger-left, larger-right, larger-least, largest-least, largest-ext}
+use Rattle.definitions.specs.Tropical.{Trop, bot, fin, plus, blank-least, whole-least, larger, largest}
+use Rattle.definitions.proofs.Whole.{whole, subℕ-read, plus-read}
+use Rattle.definitions.proofs.Tropical.{fin-injective, ⊑-refl, ⊑-trans, ⊑-antisym, below-bot, bot-plus, plus-fin, larger-left, larger-right, larger-least, largest-least, largest-ext}
 use Rattle.duality.specs.Values.{valueAt}
-use Rattle.duality.proofs.Longest.{Entry, Gain, still-stable, stable-potential, potential-closed, fixed-or-gains}
+use Rattle.duality.proofs.Longest.{Gain, still-stable, stable-potential, potential-closed, fixed-or-gains}
 use Rattle.checker.specs.Lists.{most, bestSum, Agree}
 use Rattle.checker.specs.Gains.{arc-zero, arc-most, weightOf, matrix, anywhere, Table, Rounds, NoneGains, SomeGains}
 use Rattle.checker.specs.GainRound.{Values, gainedBy, Rounded}

@@ -1,16 +1,14 @@
 -- Demand 3, the other direction: where the class holds, some table is accepted.
-use Prim.Native.Nat.{ℕ, suc, _≤_}
-use mathlib.Core.Path.{_≡_, refl, ap, sym, subst, _∙_}
-use mathlib.Core.List.{List, []}
-use native.Mathlib.Omega.{arith}
+use Prim.Native.Nat.{ℕ, suc}
+use mathlib.Core.Path.{_≡_, refl}
+use mathlib.Core.List.{List}
 use lib.IntN.{ℤ}
 use Rattle.definitions.specs.Limits.{lead-limit, span-limit, class-optimal, class-unbounded, class-infeasible}
 use Rattle.definitions.specs.Bytes.{Bytes}
-use Rattle.definitions.specs.Problem.{Problem, Point, Feasible, value, whole, _≼_, Infeasible, Unbounded}
+use Rattle.definitions.specs.Problem.{Point, Feasible, value, whole, _≼_, Infeasible, Unbounded}
 use Rattle.definitions.specs.ProblemRecord.{nField, mField, WithinLayout, problemOf, listOf}
-use Rattle.definitions.specs.Verdict.{Accepted, optimal, unbounded, infeasible, pointOf, strategyOf}
+use Rattle.definitions.specs.Verdict.{optimal, unbounded, infeasible}
 use Rattle.definitions.specs.Demands.{Checker, CheckerJudges, SomeTable, Fits, leastAnswer, blankAnswer}
-use Rattle.duality.specs.Picks.{SomePicks}
 use Rattle.duality.proofs.Classes.{optimal-accepted, infeasible-accepted, unbounded-accepted}
 use Rattle.checker.proofs.Agreeing.{listed-length, listed-point, listed-strategy, listed-fit, optimal-agrees, infeasible-agrees, unbounded-agrees}
 use Rattle.checker.proofs.Accepting.{record-accepted, layout-within, layout-enough}

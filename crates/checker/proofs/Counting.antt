@@ -1,18 +1,17 @@
 -- Laws of the picks that count, on the tables.
 use Prim.Native.Nat.{ℕ, zero, suc, _+_, _*_, _-_, _≤_, _<_}
-use mathlib.Core.Path.{_≡_, refl, ap, sym, subst, _∙_}
-use mathlib.Core.Bool.{Bool, true, false, not}
-use mathlib.Core.List.{List, [], _∷_}
+use mathlib.Core.Path.{_≡_, refl}
+use mathlib.Core.Bool.{Bool, not}
+use mathlib.Core.List.{List, _∷_}
 use mathlib.Core.Logic.{⊎-elim}
 use native.Mathlib.Omega.{arith}
 use native.Mathlib.Nat.{eq-zero-or-pos}
 use lib.Dec.{eqb}
-use lib.ListN.{length, getD, replicate}
+use lib.ListN.{getD, replicate}
 use borrow.Author.Tests.{eqb-false, eqb-true, not-true, not-false}
 use Rattle.checker.specs.Decides.{Decides}
-use Rattle.checker.specs.Marks.{Marked, Flags}
 use Rattle.checker.specs.Counts.{PickCounts, RowPickCounts, Idle, Stands, Anchored}
-use Rattle.checker.proofs.Decides.{said-yes, said-no, decides-as}
+use Rattle.checker.proofs.Decides.{decides-as}
 
 -- Not 0: above 0.
 pub above-zero : {k : ℕ} → (k ≡ 0 → ⊥) → 0 < k

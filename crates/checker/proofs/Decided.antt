@@ -2,7 +2,7 @@
 -- tests. The tests of the code are put to use here without the code, on tables written down as lists.
 use Prim.Native.Nat.{ℕ, zero, suc, _+_, _*_, _-_, _/_, _%_, _≤_, _<_}
 use mathlib.Core.Path.{_≡_, refl, ap, sym, subst, _∙_}
-use mathlib.Core.Bool.{Bool, true, false, cond, _||_, false≢true}
+use mathlib.Core.Bool.{Bool, true, false, false≢true}
 use mathlib.Core.List.{List, [], _∷_}
 use mathlib.Core.Logic.{_⊎_, inl, inr, ⊎-elim}
 use native.Mathlib.Omega.{arith}
@@ -10,39 +10,39 @@ use native.Mathlib.Numerals.{add-one}
 use native.Mathlib.Nat.{eq-zero-or-pos}
 use lib.Dec.{eqb}
 use lib.ListN.{length, getD, set, replicate, List·getD-eq-default}
-use lib.IntN.{ℤ, pos, negsuc, subℕ, _-ℤ_}
-use borrow.Author.Tests.{eq-eqb, ne-eqb, eqb-true, eqb-false}
-use Rattle.definitions.specs.Limits.{signed-half, span-limit, highest-n, highest-m}
-use Rattle.definitions.specs.Tropical.{Trop, bot, fin, Finite}
+use lib.IntN.{ℤ, pos, subℕ, _-ℤ_}
+use borrow.Author.Tests.{eqb-true, eqb-false}
+use Rattle.definitions.specs.Limits.{signed-half, span-limit, highest-n}
+use Rattle.definitions.specs.Tropical.{fin}
 use Rattle.definitions.specs.Bytes.{Bytes}
 use Rattle.definitions.specs.Offset.{tropOf}
 use Rattle.definitions.specs.Problem as Problems
 use Rattle.definitions.specs.Problem.{Problem, Point, Value, minus-infinity, plus-infinity, Keeps, value}
 use Rattle.definitions.specs.Certificate.{PicksCount, BelowZero, RowPicksCount, AcceptedOptimal}
 use Rattle.definitions.specs.ProblemRecord.{listOf, WithinLayout, problemOf, nField, mField}
-use Rattle.definitions.specs.AnswerRecord.{Answer, known-class, classField, stampCount, pickCount, answerOf, answerRefusal}
+use Rattle.definitions.specs.AnswerRecord.{Answer, classField, answerOf, answerRefusal}
 use Rattle.definitions.specs.Verdict.{Accepted, strategyOf}
 use Rattle.definitions.proofs.Whole as Whole
 use Rattle.definitions.proofs.Whole.{nat-le-or-lt, le-or-lt}
-use Rattle.definitions.proofs.Tropical.{bot-not-fin, fin-injective, blank-or-finite, ⊑-or-above, finite-above}
+use Rattle.definitions.proofs.Tropical.{fin-injective, ⊑-or-above, finite-above}
 use Rattle.definitions.proofs.Offset.{trop-fin}
 use Rattle.definitions.proofs.Refusals.{answer-fits}
 use Rattle.duality.specs.Picks.{AtLeastZero}
 use Rattle.duality.specs.Values.{valueAt}
 use Rattle.duality.proofs.Longest.{exit-value, stable-potential, still-stable, potential-closed}
 use Rattle.records.specs.Tables.{leftTable, rightTable}
-use Rattle.records.specs.Fields.{Padded, stampsOf, picksOf, stampsAt, picksAt}
+use Rattle.records.specs.Fields.{Padded, stampsOf, picksOf}
 use Rattle.records.specs.AnswerReading.{spanNumber, answerReadOf, AnswerRead}
 use Rattle.records.proofs.Tables.{length-listOf, getD-listOf}
 use Rattle.records.proofs.Passing.{stampsAt-length, picksAt-length}
 use Rattle.records.proofs.Trips.{stamps-most, picks-most}
 use Rattle.checker.specs.Decides.{Decides}
-use Rattle.checker.specs.Marks.{Marked, Flags, Reached, markOf, RowMarked, Marking, Reaching, unmarked}
-use Rattle.checker.specs.Gains.{matrix, anywhere, Table, NoneGains, SomeGains, Tested}
-use Rattle.checker.specs.Tables.{Sized, Holds, Stamped, Picked, Trial, stampsPoint}
+use Rattle.checker.specs.Marks.{Flags, Reached, markOf, RowMarked, Marking, Reaching, unmarked}
+use Rattle.checker.specs.Gains.{matrix, anywhere, Table, NoneGains, Tested}
+use Rattle.checker.specs.Tables.{Sized, Holds, Picked, Trial, stampsPoint}
 use Rattle.checker.specs.Arcs.{variableArc, VariableArcs, heaviest, RowArcs}
-use Rattle.checker.specs.Counts.{PickCounts, RowPickCounts, VariablesCount, Stands, RowsCount, Idle, Anchored}
-use Rattle.checker.specs.Outcome.{Span, Meant, Formed}
+use Rattle.checker.specs.Counts.{PickCounts, RowPickCounts, VariablesCount, RowsCount}
+use Rattle.checker.specs.Outcome.{Meant, Formed}
 use Rattle.checker.proofs.Decides.{said-yes, said-no}
 use Rattle.checker.proofs.Counting.{anchor-marked}
 use Rattle.checker.proofs.Marks.{row-none, row-more, marking-none, marking-skip, marking-row, reaching-start, reaching-round, reached-done, round-falls}

@@ -1,8 +1,6 @@
 -- Laws of tests: a result that is known, one that another test gives, and all of several.
-use Prim.Native.Nat.{ℕ, suc, _+_, _<_}
-use mathlib.Core.Path.{_≡_, refl, sym}
+use mathlib.Core.Path.{sym}
 use mathlib.Core.Bool.{Bool, true, false, false≢true}
-use mathlib.Core.Logic.{_↔_}
 use Rattle.checker.specs.Decides.{Decides}
 
 -- What holds is answered by yes,

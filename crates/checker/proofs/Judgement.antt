@@ -1,18 +1,18 @@
 -- For all bytes there is one verdict, and only one; a checker function that gives it.
 use Prim.Native.Nat.{ℕ, zero, suc, _≤_, _<_}
-use mathlib.Core.Path.{_≡_, refl, ap, sym, subst, _∙_}
-use mathlib.Core.Bool.{Bool, true, false}
+use mathlib.Core.Path.{_≡_, refl, ap, sym, _∙_}
+use mathlib.Core.Bool.{Bool, true, false, false≢true}
 use mathlib.Core.List.{List}
-use mathlib.Core.Logic.{_⊎_, inl, inr, ⊎-elim}
+use mathlib.Core.Logic.{_⊎_, inl, inr, ⊎-elim, _↔_}
 use native.Mathlib.Omega.{arith}
 use lib.Dec.{ltb}
 use lib.ListN.{length, getD, List·getD-eq-default}
 use borrow.Author.Tests.{ltb-true, lt-ltb}
 use Rattle.definitions.specs.Limits.{byte-values}
 use Rattle.definitions.specs.Bytes.{Bytes, all}
-use Rattle.definitions.specs.ProblemRecord.{nField, mField, problemRefusal, problemOf}
+use Rattle.definitions.specs.ProblemRecord.{nField, mField, problemRefusal}
 use Rattle.definitions.specs.AnswerRecord.{answerRefusal}
-use Rattle.definitions.specs.Verdict.{Verdict, accepted, refused, Accepted, checkRefusal, answerFor, not-certified, Judged, turned-away, certified, uncertified}
+use Rattle.definitions.specs.Verdict.{Verdict, accepted, refused, checkRefusal, answerFor, not-certified, Judged, turned-away, certified, uncertified}
 use Rattle.definitions.specs.Demands.{Checker, CheckerJudges}
 use Rattle.definitions.proofs.Whole.{nat-le-or-lt}
 use Rattle.definitions.proofs.Bytes.{all-true}
@@ -55,16 +55,23 @@ judged-unique (uncertified e h) (uncertified f k) = refl
 
 -- ---- a checker
 
+-- A list whose elements all pass the test is a string of bytes, and the other way round.
+pub all-bytes : (s : List ℕ) → (all (λ b. ltb b byte-values) s ≡ true) ↔ Bytes s
+all-bytes s = (
+  λ e. record {
+    byte = λ i. ⊎-elim (λ (l : length s ≤ i). rw (List·getD-eq-default s 0 l) (omega arith))
+        (λ (l : i < length s). ltb-true (getD s i 0) byte-values (all-true (λ b. ltb b byte-values) 0 s .0 e i l)) (nat-le-or-lt (length s) i);
+  },
+  λ b. all-true (λ b. ltb b byte-values) 0 s .1 (λ i l. lt-ltb (getD s i 0) byte-values (b .byte i)),
+)
+
 -- Whether a list is a string of bytes.
 bytes-known : (s : List ℕ) → Bytes s ⊎ (Bytes s → ⊥)
 bytes-known s = go (all (λ b. ltb b byte-values) s) refl
   where
     go : (t : Bool) → all (λ b. ltb b byte-values) s ≡ t → Bytes s ⊎ (Bytes s → ⊥)
-    go true e = inl (record {
-      byte = λ i. ⊎-elim (λ (l : length s ≤ i). rw (List·getD-eq-default s 0 l) (omega arith))
-          (λ (l : i < length s). ltb-true (getD s i 0) byte-values (all-true (λ b. ltb b byte-values) 0 s .0 e i l)) (nat-le-or-lt (length s) i);
-    })
-    go false e = inr (λ b. let z : false ≡ true = sym e ∙ all-true (λ b. ltb b byte-values) 0 s .1 (λ i l. lt-ltb (getD s i 0) byte-values (b .byte i)) in absurd (mathlib.Core.Bool.false≢true z))
+    go true e = inl (all-bytes s .0 e)
+    go false e = inr (λ b. false≢true (sym e ∙ all-bytes s .1 b))
 
 -- The verdict on bytes; lists that are no strings of bytes are refused.
 checked : (p a : List ℕ) → Bytes p ⊎ (Bytes p → ⊥) → Bytes a ⊎ (Bytes a → ⊥) → Verdict

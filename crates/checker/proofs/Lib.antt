@@ -15,6 +15,10 @@ pub mod Agreeing
 pub mod Accepting
 pub mod Soundness
 pub mod Completeness
+pub mod LongInputs
 pub mod Demand3
+pub mod Holding
+pub mod Potentials
+pub mod Starred
 pub mod Sides
 pub mod ClosedWalks

@@ -1,6 +1,6 @@
 -- Laws of the lists that loops leave: sums, places filled one after another, lists that agree.
-use Prim.Native.Nat.{ℕ, zero, suc, _+_, _*_, _≤_, _<_}
-use mathlib.Core.Path.{_≡_, refl, ap, sym, subst, _∙_}
+use Prim.Native.Nat.{ℕ, zero, suc, _+_, _≤_, _<_}
+use mathlib.Core.Path.{_≡_, refl, sym, subst, _∙_}
 use mathlib.Core.Bool.{Bool, true, false, cond}
 use mathlib.Core.List.{List}
 use mathlib.Core.Logic.{_⊎_, inl, inr, ⊎-elim}
@@ -11,7 +11,7 @@ use lib.ListN.{length, getD, set, length-set}
 use lib.Seq.{getD-set-same, getD-set-other}
 use borrow.Author.Tests.{leb-true, leb-false}
 use Rattle.definitions.proofs.Whole.{nat-le-or-lt}
-use Rattle.checker.specs.Lists.{most, bestSum, Filled, Agree}
+use Rattle.checker.specs.Lists.{most, bestSum, Filled}
 
 -- ---- the larger of two
 

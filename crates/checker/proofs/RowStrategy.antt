@@ -1,38 +1,36 @@
 -- The table of a strategy of rows shows its arcs: class 2.
 use Prim.Native.Nat.{ℕ, zero, suc, _+_, _*_, _-_, _≤_, _<_}
-use mathlib.Core.Path.{_≡_, refl, ap, sym, subst, _∙_}
+use mathlib.Core.Path.{_≡_, refl, ap, _∙_}
 use mathlib.Core.Bool.{Bool, true, false, cond}
 use mathlib.Core.List.{List}
-use mathlib.Core.Logic.{_⊎_, inl, inr, ⊎-elim}
+use mathlib.Core.Logic.{⊎-elim}
 use native.Mathlib.Omega.{arith}
 use native.Mathlib.Nat.{eq-zero-or-pos}
 use lib.Dec.{eqb}
 use lib.ListN.{getD}
-use lib.IntN.{ℤ, pos, subℕ, negℤ, _+ℤ_, _-ℤ_}
-use lib.Signed.{_≤ℤ_, _<ℤ_, ≤ℤ-refl}
-use borrow.Author.Tests.{eq-eqb, ne-eqb, eqb-true, eqb-false}
+use lib.IntN.{ℤ, subℕ, _+ℤ_, _-ℤ_}
+use borrow.Author.Tests.{eq-eqb, ne-eqb, eqb-true}
 use Rattle.definitions.specs.Limits.{signed-half, lead-limit, span-limit}
-use Rattle.definitions.specs.Tropical.{Trop, bot, fin, Finite}
+use Rattle.definitions.specs.Tropical.{fin, Finite}
 use Rattle.definitions.specs.Offset.{tropOf}
 use Rattle.definitions.specs.Problem.{Problem}
 use Rattle.definitions.specs.Certificate.{Reachable, Anchor, raise, ArcBy, RowLeads, RowArc, RowHasPick, RowPicksCount}
 use Rattle.definitions.specs.Verdict.{strategyOf}
-use Rattle.definitions.proofs.Whole.{up, down, whole, subℕ-read, plus-read, minus-read, nat-le-or-lt}
-use Rattle.definitions.proofs.Offset.{trop-fin, trop-read}
+use Rattle.definitions.proofs.Whole.{whole, subℕ-read, plus-read, minus-read}
+use Rattle.definitions.proofs.Offset.{trop-read}
 use Rattle.duality.specs.Picks.{AtLeastZero}
 use Rattle.records.specs.Decoded.{Near}
 use Rattle.checker.specs.Decides.{Decides}
-use Rattle.checker.specs.Lists.{most}
 use Rattle.checker.specs.Marks.{Marked, Reached}
 use Rattle.checker.specs.Gains.{arc-zero, arc-most, weightOf, Table, Tested}
 use Rattle.checker.specs.Tables.{Sized, Holds, Picked, Trial}
 use Rattle.checker.specs.Arcs.{raisedBy, fall, fallen, looseArc, rowArc, heaviest, RowArcs}
-use Rattle.checker.specs.Counts.{RowPickCounts, RowsCount, Anchored}
+use Rattle.checker.specs.Counts.{RowsCount, Anchored}
 use Rattle.checker.proofs.Decides.{decides-as}
 use Rattle.checker.proofs.Lists.{most-one, most-left, most-right, below-or-last}
 use Rattle.checker.proofs.ArcTables.{heaviest-more}
 use Rattle.checker.proofs.ClosedWalks.{weight-some}
-use Rattle.checker.proofs.Certified.{weight-show, weight-read, loose, loose-read, loose-scale, Heavier, Behind, SomeArc, Shows, certified-not, certified-both}
+use Rattle.checker.proofs.Certified.{weight-show, weight-read, loose, loose-read, loose-scale, Heavier, Behind, Shows, certified-not, certified-both}
 use Rattle.checker.proofs.Variables.{finite-trop, trop-some, raise-is, raise-near}
 
 -- ---- one entry

@@ -1,28 +1,25 @@
 -- The sides of a row on offset numbers are the sides of the definitions.
 use Prim.Native.Nat.{ℕ, zero, suc, _+_, _*_, _-_, _≤_, _<_}
-use mathlib.Core.Path.{_≡_, refl, ap, sym, subst, _∙_}
-use mathlib.Core.Bool.{Bool, true, false, cond}
+use mathlib.Core.Path.{_≡_, ap, sym, _∙_}
 use mathlib.Core.List.{List}
 use mathlib.Core.Logic.{_⊎_, inl, inr, ⊎-elim, _↔_}
 use native.Mathlib.Omega.{arith}
-use native.Mathlib.Numerals.{add-one}
 use native.Mathlib.Nat.{eq-zero-or-pos}
-use lib.Dec.{eqb}
-use lib.ListN.{length, getD}
+use lib.ListN.{getD}
 use lib.IntN.{ℤ, _-ℤ_}
 use borrow.Author.Tests.{eq-eqb, ne-eqb}
 use Rattle.definitions.specs.Limits.{signed-half, lead-limit, stamp-limit}
-use Rattle.definitions.specs.Tropical.{Trop, bot, fin, plus, _⊑_, blank-least, larger, largest}
-use Rattle.definitions.specs.Problem.{Problem, Point, Keeps, side, value, minus, minus-infinity, plus-infinity, whole}
+use Rattle.definitions.specs.Tropical.{Trop, bot, fin, plus, blank-least, larger, largest}
+use Rattle.definitions.specs.Problem.{Problem, Keeps, side, value, minus, minus-infinity, plus-infinity, whole}
 use Rattle.definitions.specs.Offset.{tropOf}
 use Rattle.definitions.proofs.Whole as Whole
 use Rattle.definitions.proofs.Whole.{minus-read}
-use Rattle.definitions.proofs.Tropical.{fin-injective, ⊑-refl, ⊑-antisym, larger-left, larger-least, largest-ext, bot-plus, plus-bot}
-use Rattle.definitions.proofs.Offset.{trop-zero, trop-fin, trop-read, trop-order, trop-larger, plus-trop, plus-trop-zero}
+use Rattle.definitions.proofs.Tropical.{⊑-refl, ⊑-antisym, larger-left, larger-least, largest-ext, bot-plus, plus-bot}
+use Rattle.definitions.proofs.Offset.{trop-zero, trop-fin, trop-read, trop-order, trop-larger, plus-trop}
 use Rattle.records.specs.Decoded.{Near}
 use Rattle.checker.specs.Lists.{most, bestSum}
 use Rattle.checker.specs.Sides.{side-floor, sideBy, sideOf}
-use Rattle.checker.specs.Tables.{Holds, Stamped, stampsPoint, Sized}
+use Rattle.checker.specs.Tables.{Holds, Stamped, stampsPoint}
 use Rattle.checker.proofs.Lists.{most-one, best-floor, best-under}
 
 larger-blank : (x : Trop) → larger x bot ≡ x

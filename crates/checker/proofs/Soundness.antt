@@ -1,18 +1,18 @@
 -- Demand 3, one direction: a table that the checker accepts shows the class.
-use Prim.Native.Nat.{ℕ, suc, _≤_}
-use mathlib.Core.Path.{_≡_, refl, ap, sym, subst, _∙_}
+use Prim.Native.Nat.{ℕ, suc}
+use mathlib.Core.Path.{_≡_, refl, sym, subst}
 use mathlib.Core.Bool.{true}
-use mathlib.Core.List.{List, []}
+use mathlib.Core.List.{List}
 use native.Mathlib.Omega.{arith}
 use lib.ListN.{length}
 use lib.IntN.{ℤ}
-use Rattle.definitions.specs.Limits.{lead-limit, span-limit, answer-most, class-optimal, class-unbounded, class-infeasible}
+use Rattle.definitions.specs.Limits.{answer-most, class-optimal, class-unbounded, class-infeasible}
 use Rattle.definitions.specs.Tropical.{Trop, fin}
 use Rattle.definitions.specs.Bytes.{Bytes}
 use Rattle.definitions.specs.Problem.{Problem, Point, Feasible, value, whole, _≼_, Infeasible, Unbounded}
 use Rattle.definitions.specs.Certificate.{AcceptedOptimal, AcceptedInfeasible, AcceptedUnbounded}
 use Rattle.definitions.specs.ProblemRecord.{nField, mField, WithinLayout, problemOf, listOf}
-use Rattle.definitions.specs.AnswerRecord.{Answer, spanFits, is-blank, stampsFit, pickCount, highestPick, picksFit}
+use Rattle.definitions.specs.AnswerRecord.{spanFits, is-blank, stampsFit, pickCount, highestPick, picksFit}
 use Rattle.definitions.specs.Verdict.{Accepted, optimal, unbounded, infeasible, pointOf, strategyOf}
 use Rattle.definitions.specs.Demands.{Checker, CheckerJudges, SomeTable, Fits, leastAnswer, blankAnswer}
 use Rattle.definitions.proofs.Tropical.{fin-injective}

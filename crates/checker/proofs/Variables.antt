@@ -1,34 +1,33 @@
 -- The table of a strategy of variables shows its arcs: classes 1 and 3.
 use Prim.Native.Nat.{ℕ, zero, suc, _+_, _*_, _-_, _≤_, _<_}
-use mathlib.Core.Path.{_≡_, refl, ap, sym, subst, _∙_}
+use mathlib.Core.Path.{_≡_, refl, ap, sym, _∙_}
 use mathlib.Core.Bool.{Bool, true, false, cond}
 use mathlib.Core.List.{List}
-use mathlib.Core.Logic.{_⊎_, inl, inr, ⊎-elim}
+use mathlib.Core.Logic.{⊎-elim}
 use native.Mathlib.Omega.{arith}
 use native.Mathlib.Nat.{eq-zero-or-pos}
 use lib.Dec.{eqb}
 use lib.ListN.{getD}
 use lib.IntN.{ℤ, pos, subℕ, _+ℤ_, _-ℤ_}
-use lib.Signed.{_<ℤ_, ≤ℤ-refl}
+use lib.Signed.{≤ℤ-refl}
 use borrow.Author.Tests.{eq-eqb, ne-eqb}
 use Rattle.definitions.specs.Limits.{signed-half, lead-limit, span-limit}
-use Rattle.definitions.specs.Tropical.{Trop, bot, fin, Finite}
+use Rattle.definitions.specs.Tropical.{Trop, fin, Finite}
 use Rattle.definitions.specs.Offset.{tropOf}
 use Rattle.definitions.specs.Problem.{Problem}
 use Rattle.definitions.specs.Certificate.{raise, ArcBy, Leads, Arc, HasPick, PicksCount, BelowZero}
 use Rattle.definitions.specs.Verdict.{strategyOf}
-use Rattle.definitions.proofs.Whole.{up, down, whole, subℕ-read, plus-read, minus-read}
-use Rattle.definitions.proofs.Tropical.{bot-not-fin, fin-injective}
-use Rattle.definitions.proofs.Offset.{trop-zero, trop-fin, trop-read, trop-show}
+use Rattle.definitions.proofs.Whole.{whole, plus-read, minus-read}
+use Rattle.definitions.proofs.Offset.{trop-fin, trop-read, trop-show}
 use Rattle.records.specs.Decoded.{Near}
 use Rattle.checker.specs.Decides.{Decides}
 use Rattle.checker.specs.Marks.{Marked, Reached}
 use Rattle.checker.specs.Gains.{arc-zero, arc-most, weightOf, Table, Tested}
 use Rattle.checker.specs.Tables.{Sized, Holds, Picked, Trial}
 use Rattle.checker.specs.Arcs.{raisedBy, lift, lifted, strictArc, variableArc, VariableArcs}
-use Rattle.checker.specs.Counts.{PickCounts, VariablesCount, Anchored}
+use Rattle.checker.specs.Counts.{VariablesCount, Anchored}
 use Rattle.checker.proofs.Decides.{decides-as}
-use Rattle.checker.proofs.Certified.{weight-show, weight-read, strict, strict-read, strict-scale, Heavier, Behind, SomeArc, Shows, certified-not, certified-both}
+use Rattle.checker.proofs.Certified.{weight-show, strict, strict-read, strict-scale, Behind, Shows, certified-not, certified-both}
 
 -- ---- coefficients
 

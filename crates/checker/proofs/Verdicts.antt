@@ -1,17 +1,15 @@
 -- From what reading and judging answer to the verdict of the definitions; for all bytes there is one verdict, and only one.
-use Prim.Native.Nat.{ℕ, zero, suc, _+_, _*_, _≤_, _<_}
-use mathlib.Core.Path.{_≡_, refl, ap, sym, subst, _∙_}
+use Prim.Native.Nat.{ℕ, zero, suc, _<_}
+use mathlib.Core.Path.{_≡_, refl, ap, sym, _∙_}
 use mathlib.Core.Bool.{Bool, true, false}
 use mathlib.Core.List.{List}
 use native.Mathlib.Omega.{arith}
-use lib.ListN.{length, getD}
-use Rattle.definitions.specs.Limits.{lead-limit, highest-n, highest-m}
 use Rattle.definitions.specs.Bytes.{Bytes, or-else}
 use Rattle.definitions.specs.Offset.{tropOf}
 use Rattle.definitions.specs.Problem.{Problem}
 use Rattle.definitions.specs.ProblemRecord.{nField, mField, problemRefusal, WithinLayout, problemOf}
-use Rattle.definitions.specs.AnswerRecord.{Answer, classField, answerRefusal, answerOf}
-use Rattle.definitions.specs.Verdict.{Verdict, accepted, refused, Accepted, checkRefusal, answerFor, not-certified, Judged, turned-away, certified, uncertified}
+use Rattle.definitions.specs.AnswerRecord.{classField, answerRefusal, answerOf}
+use Rattle.definitions.specs.Verdict.{Verdict, accepted, refused, Accepted, checkRefusal, not-certified, Judged, turned-away, certified, uncertified}
 use Rattle.records.specs.declared.problem.Header.{Header}
 use Rattle.records.specs.declared.problem.Header.the-variants as Headers
 use Rattle.records.specs.declared.answer.AnswerHead.{AnswerHead}
@@ -78,7 +76,7 @@ head-refused zero a b e f g = absurd (let z : _≡_ {A = ℕ} 0 1 = cc in omega 
 head-refused (suc k) a b e f {r} g = let q : r ≡ suc k = g ∙ ap answerRefused e in (sym q, omega arith)
 
 -- A refusal that is not 0, as a verdict.
-turned : (p a : List ℕ) (k : ℕ) → checkRefusal p a ≡ k → 0 < k → Judged p a (refused k)
+pub turned : (p a : List ℕ) (k : ℕ) → checkRefusal p a ≡ k → 0 < k → Judged p a (refused k)
 turned p a zero e h = absurd (omega arith)
 turned p a (suc k) e h = turned-away e
 

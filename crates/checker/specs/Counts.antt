@@ -1,8 +1,8 @@
 -- Picks that count, on the tables.
-use Prim.Native.Nat.{ℕ, zero, suc, _+_, _*_, _≤_, _<_}
+use Prim.Native.Nat.{ℕ, suc, _+_, _*_, _<_}
 use mathlib.Core.Path.{_≡_}
 use mathlib.Core.List.{List}
-use lib.ListN.{length, getD}
+use lib.ListN.{getD}
 use Rattle.checker.specs.Marks.{Marked, Flags}
 
 -- Variable j's pick is a row whose left coefficient for j is not blank.

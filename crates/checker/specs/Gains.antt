@@ -1,6 +1,6 @@
 -- Closed walks over a table of arcs. An arc of weight w stands in the table as w + 2⁴⁰, 0 is no arc. The values of the
 -- rounds start at 0 and never fall, so they are plain numbers.
-use Prim.Native.Nat.{ℕ, zero, suc, _+_, _*_, _-_, _≤_, _<_}
+use Prim.Native.Nat.{ℕ, suc, _+_, _*_, _≤_, _<_}
 use mathlib.Core.Path.{_≡_}
 use mathlib.Core.Bool.{Bool, true, false, cond}
 use mathlib.Core.List.{List}

@@ -8,3 +8,5 @@ pub mod GainRound
 pub mod Arcs
 pub mod Counts
 pub mod Outcome
+pub mod ClassHolds
+pub mod LongInput

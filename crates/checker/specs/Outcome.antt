@@ -1,12 +1,10 @@
 -- What the checker's functions answer, in the words of the definitions.
-use Prim.Native.Nat.{ℕ, zero, suc, _+_, _≤_, _<_}
+use Prim.Native.Nat.{ℕ, suc, _<_}
 use mathlib.Core.Path.{_≡_}
 use mathlib.Core.Bool.{true}
 use mathlib.Core.List.{List}
-use lib.ListN.{length, getD}
-use lib.IntN.{ℤ}
+use lib.ListN.{getD}
 use Rattle.definitions.specs.Limits.{signed-half, span-limit}
-use Rattle.definitions.specs.Tropical.{Trop}
 use Rattle.definitions.specs.Offset.{tropOf}
 use Rattle.definitions.specs.Problem.{Problem}
 use Rattle.definitions.specs.AnswerRecord.{Answer, known-class, highestPick, answerRefusal, answerOf}

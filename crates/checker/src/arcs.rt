@@ -11,9 +11,13 @@ ghost use Rattle.checker.specs.Tables.{Sized, Picked, Trial};
 ghost use Rattle.checker.specs.Arcs.{raisedBy, lift, lifted, variableArc, VariableArcs, fall, fallen, rowArc, heaviest, RowArcs, Column};
 use crate::sums::larger;
 use records::limits::OFFSET;
+use records::limits::STRIDE;
+use records::limits::TABLE;
 
-// The number in the table of an arc that weighs 0.
-const ARC_ZERO: u64 = 1099511627776;
+// The elements of a table of arcs, 32 rows of 32, and the number in it of an arc that weighs 0.
+pub const ARCS: usize = 1024;
+
+pub const ARC_ZERO: u64 = 1099511627776;
 
 // What row i is raised by: t for the objective, 0 for an inequality.
 fn raise_of(t: u64, m: usize, i: usize) -> u64
@@ -43,9 +47,9 @@ fn lifted_by(up: u64, b: u64) -> u64
 
 // The entries from one variable, whose row of the table starts at `from`, by the row that starts at `base`.
 fn fill_lifted(
-    arcs: &mut [u64; 1024],
+    arcs: &mut [u64; ARCS],
     from: usize,
-    right: &[u64; 2048],
+    right: &[u64; TABLE],
     base: usize,
     width: usize,
     up: u64,
@@ -59,7 +63,7 @@ fn fill_lifted(
 }
 
 // No entries from one variable.
-fn fill_none(arcs: &mut [u64; 1024], from: usize, width: usize)
+fn fill_none(arcs: &mut [u64; ARCS], from: usize, width: usize)
     requires { ⌜ (length (now arcs) ≡ 1024) × (from + width ≤ 1024) ⌝ }
     ensures { λ _. ⌜ Filled (λ _. 0) from width (now (arcs .entry)) (now (arcs .exit)) ⌝ }
 {
@@ -70,9 +74,9 @@ fn fill_none(arcs: &mut [u64; 1024], from: usize, width: usize)
 
 // The entries from variable j by the row that it picks.
 fn fill_variable(
-    arcs: &mut [u64; 1024],
-    left: &[u64; 2048],
-    right: &[u64; 2048],
+    arcs: &mut [u64; ARCS],
+    left: &[u64; TABLE],
+    right: &[u64; TABLE],
     n: usize,
     m: usize,
     t: u64,
@@ -83,13 +87,13 @@ fn fill_variable(
     ensures { λ _. ⌜ Filled (variableArc (now (left .entry)) (now (right .entry)) m t pick j) (j * 32) (n + 1) (now (arcs .entry)) (now (arcs .exit)) ⌝ }
 {
     let width = n + 1;
-    let from = j * 32;
+    let from = j * STRIDE;
     if pick == 0 {
         fill_none(arcs, from, width);
         return;
     }
     let i = pick - 1;
-    let base = i * 32;
+    let base = i * STRIDE;
     let a = left[base + j];
     if a == 0 {
         fill_none(arcs, from, width);
@@ -107,9 +111,9 @@ fn fill_variable(
 
 // The table of a strategy of variables.
 pub fn variable_arcs(
-    arcs: &mut [u64; 1024],
-    left: &[u64; 2048],
-    right: &[u64; 2048],
+    arcs: &mut [u64; ARCS],
+    left: &[u64; TABLE],
+    right: &[u64; TABLE],
     n: usize,
     m: usize,
     picks: &[u64; 64],
@@ -143,8 +147,8 @@ fn fallen_by(down: u64, a: u64) -> u64
 
 // The entries by one row, whose left coefficients start at `base`, to variable l: each where it is the heaviest so far.
 fn fill_column(
-    arcs: &mut [u64; 1024],
-    left: &[u64; 2048],
+    arcs: &mut [u64; ARCS],
+    left: &[u64; TABLE],
     base: usize,
     l: usize,
     width: usize,
@@ -154,16 +158,16 @@ fn fill_column(
     ensures { λ _. ⌜ Column (λ j. fallen down (getD (now (left .entry)) (base + j) 0)) l width (now (arcs .entry)) (now (arcs .exit)) ⌝ }
 {
     for j in 0..width {
-        let at = j * 32 + l;
+        let at = j * STRIDE + l;
         arcs[at] = larger(arcs[at], fallen_by(down, left[base + j]));
     }
 }
 
 // The entries by row i, to the variable that it picks.
 fn fill_row(
-    arcs: &mut [u64; 1024],
-    left: &[u64; 2048],
-    right: &[u64; 2048],
+    arcs: &mut [u64; ARCS],
+    left: &[u64; TABLE],
+    right: &[u64; TABLE],
     n: usize,
     m: usize,
     picks: &[u64; 64],
@@ -178,7 +182,7 @@ fn fill_row(
         return;
     }
     let l = pick - 1;
-    let base = i * 32;
+    let base = i * STRIDE;
     let b = right[base + l];
     if b == 0 {
         return;
@@ -187,20 +191,20 @@ fn fill_row(
 }
 
 // An empty table.
-fn clear_arcs(arcs: &mut [u64; 1024], width: usize)
+fn clear_arcs(arcs: &mut [u64; ARCS], width: usize)
     requires { ⌜ (length (now arcs) ≡ 1024) × (width ≤ 32) ⌝ }
     ensures { λ _. ⌜ (length (now (arcs .exit)) ≡ 1024) × ((j l : ℕ) → j < width → l < width → getD (now (arcs .exit)) (j * 32 + l) 0 ≡ 0) ⌝ }
 {
     for j in 0..width {
-        fill_none(arcs, j * 32, width);
+        fill_none(arcs, j * STRIDE, width);
     }
 }
 
 // The table of a strategy of rows.
 pub fn row_arcs(
-    arcs: &mut [u64; 1024],
-    left: &[u64; 2048],
-    right: &[u64; 2048],
+    arcs: &mut [u64; ARCS],
+    left: &[u64; TABLE],
+    right: &[u64; TABLE],
     n: usize,
     m: usize,
     picks: &[u64; 64],

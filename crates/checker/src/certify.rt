@@ -15,10 +15,13 @@ ghost use Rattle.checker.specs.Decides.{Decides};
 ghost use Rattle.checker.specs.Marks.{Marked, Flags};
 ghost use Rattle.checker.specs.Tables.{Sized, Holds, Picked, Trial};
 ghost use Rattle.checker.specs.Counts.{PickCounts, RowPickCounts, VariablesCount, Idle, Stands, RowsCount, Anchored};
+use crate::arcs::ARCS;
 use crate::arcs::row_arcs;
 use crate::arcs::variable_arcs;
 use crate::gains::none_gains;
 use crate::reach::reach;
+use records::limits::STRIDE;
+use records::limits::TABLE;
 
 // The start of document 01: variable 0, the anchor, alone.
 pub fn anchor() -> [u8; 32]
@@ -30,7 +33,7 @@ pub fn anchor() -> [u8; 32]
 }
 
 // A variable that is not marked, or whose pick counts.
-fn variable_counts(left: &[u64; 2048], mark: u8, pick: usize, j: usize) -> bool
+fn variable_counts(left: &[u64; TABLE], mark: u8, pick: usize, j: usize) -> bool
     requires { ⌜ (pick ≤ 64) × (j < 32) ⌝ }
     ensures { λ r. ⌜ Decides (0 < mark → PickCounts (now (left .entry)) pick j) r ⌝ }
 {
@@ -40,12 +43,12 @@ fn variable_counts(left: &[u64; 2048], mark: u8, pick: usize, j: usize) -> bool
     if pick == 0 {
         return false;
     }
-    let base = (pick - 1) * 32;
-    left[base + j] != 0
+    let at = (pick - 1) * STRIDE + j;
+    left[at] != 0
 }
 
 // Every marked variable has a pick that counts.
-fn variables_count(left: &[u64; 2048], picks: &[u64; 64], marks: &[u8; 32], width: usize) -> bool
+fn variables_count(left: &[u64; TABLE], picks: &[u64; 64], marks: &[u8; 32], width: usize) -> bool
     requires { ⌜ Picked (now picks) 64 × (width ≤ 32) ⌝ }
     ensures { λ r. ⌜ Decides (VariablesCount (now (left .entry)) (now (picks .entry)) (now (marks .entry)) width) r ⌝ }
 {
@@ -59,8 +62,8 @@ fn variables_count(left: &[u64; 2048], picks: &[u64; 64], marks: &[u8; 32], widt
 
 // A strategy of variables, judged at t.
 pub fn certify_variables(
-    left: &[u64; 2048],
-    right: &[u64; 2048],
+    left: &[u64; TABLE],
+    right: &[u64; TABLE],
     n: usize,
     m: usize,
     picks: &[u64; 64],
@@ -70,7 +73,7 @@ pub fn certify_variables(
     ensures { λ r. ⌜ ((p : Problem) (z : ℤ) → Holds p (now (left .entry)) (now (right .entry)) n m → tropOf t ≡ fin z → Decides (PicksCount p (strategyOf (now (picks .entry))) × BelowZero p (strategyOf (now (picks .entry))) z) r) ⌝ }
 {
     let width = n + 1;
-    let mut arcs = [0u64; 1024];
+    let mut arcs = [0u64; ARCS];
     variable_arcs(&mut arcs, left, right, n, m, picks, t);
     let marks = reach(&arcs, width, anchor());
     if !variables_count(left, picks, &marks, width) {
@@ -80,7 +83,7 @@ pub fn certify_variables(
 }
 
 // The row that starts at `base` has no left coefficient of a marked variable.
-fn row_idle(left: &[u64; 2048], marks: &[u8; 32], base: usize, width: usize) -> bool
+fn row_idle(left: &[u64; TABLE], marks: &[u8; 32], base: usize, width: usize) -> bool
     requires { ⌜ (base + width ≤ 2048) × (width ≤ 32) ⌝ }
     ensures { λ r. ⌜ Decides (Idle (now (left .entry)) (now (marks .entry)) base width) r ⌝ }
 {
@@ -95,7 +98,7 @@ fn row_idle(left: &[u64; 2048], marks: &[u8; 32], base: usize, width: usize) -> 
 }
 
 // The row's pick counts.
-fn row_picks(right: &[u64; 2048], base: usize, pick: usize) -> bool
+fn row_picks(right: &[u64; TABLE], base: usize, pick: usize) -> bool
     requires { ⌜ (base + 32 ≤ 2048) × (pick ≤ 32) ⌝ }
     ensures { λ r. ⌜ Decides (RowPickCounts (now (right .entry)) pick base) r ⌝ }
 {
@@ -108,8 +111,8 @@ fn row_picks(right: &[u64; 2048], base: usize, pick: usize) -> bool
 
 // A row that is idle, or whose pick counts.
 fn row_stands(
-    left: &[u64; 2048],
-    right: &[u64; 2048],
+    left: &[u64; TABLE],
+    right: &[u64; TABLE],
     marks: &[u8; 32],
     width: usize,
     base: usize,
@@ -126,8 +129,8 @@ fn row_stands(
 
 // Every row in use has a pick that counts.
 fn rows_count(
-    left: &[u64; 2048],
-    right: &[u64; 2048],
+    left: &[u64; TABLE],
+    right: &[u64; TABLE],
     picks: &[u64; 64],
     marks: &[u8; 32],
     width: usize,
@@ -137,7 +140,7 @@ fn rows_count(
     ensures { λ r. ⌜ Decides (RowsCount (now (left .entry)) (now (right .entry)) (now (picks .entry)) (now (marks .entry)) width rows) r ⌝ }
 {
     for i in 0..rows {
-        if !row_stands(left, right, marks, width, i * 32, picks[i] as usize) {
+        if !row_stands(left, right, marks, width, i * STRIDE, picks[i] as usize) {
             return false;
         }
     }
@@ -146,8 +149,8 @@ fn rows_count(
 
 // A strategy of rows, judged at t.
 pub fn certify_rows(
-    left: &[u64; 2048],
-    right: &[u64; 2048],
+    left: &[u64; TABLE],
+    right: &[u64; TABLE],
     n: usize,
     m: usize,
     picks: &[u64; 64],
@@ -157,7 +160,7 @@ pub fn certify_rows(
     ensures { λ r. ⌜ ((p : Problem) (z : ℤ) → Holds p (now (left .entry)) (now (right .entry)) n m → tropOf t ≡ fin z → Decides (RowPicksCount p (strategyOf (now (picks .entry))) × AtLeastZero p (strategyOf (now (picks .entry))) z) r) ⌝ }
 {
     let width = n + 1;
-    let mut arcs = [0u64; 1024];
+    let mut arcs = [0u64; ARCS];
     row_arcs(&mut arcs, left, right, n, m, picks, t);
     let marks = reach(&arcs, width, anchor());
     if !rows_count(left, right, picks, &marks, width, m + 1) {

@@ -21,6 +21,7 @@ use records::answer::AnswerHead;
 use records::answer::read_answer;
 use records::limits::OFFSET;
 use records::limits::SPAN_LIMIT;
+use records::limits::TABLE;
 use records::problem::Header;
 use records::problem::read_problem;
 
@@ -36,8 +37,8 @@ const NOT_CERTIFIED: usize = 14;
 // Class 1, least: the point keeps the rules, its value is the span, and the picks show that none is smaller: judged at
 // the span less 1.
 pub fn certify_optimal(
-    left: &[u64; 2048],
-    right: &[u64; 2048],
+    left: &[u64; TABLE],
+    right: &[u64; TABLE],
     n: usize,
     m: usize,
     stamps: &[u64; 32],
@@ -59,8 +60,8 @@ pub fn certify_optimal(
 // What document 01 lists for the answer's class holds. Class 2 is judged at the lowest trial, class 3 at the top trial: a
 // closed walk that uses the objective then weighs below zero, or above.
 pub fn certify(
-    left: &[u64; 2048],
-    right: &[u64; 2048],
+    left: &[u64; TABLE],
+    right: &[u64; TABLE],
     n: usize,
     m: usize,
     class: u64,
@@ -79,7 +80,7 @@ pub fn certify(
     }
 }
 
-// The number with which a problem was refused. Public for `input`.
+// The number with which a problem was refused.
 pub fn problem_refusal(header: Header) -> usize
     ensures { λ r. ⌜ r ≡ problemRefused header ⌝ }
 {
@@ -89,7 +90,7 @@ pub fn problem_refusal(header: Header) -> usize
     }
 }
 
-// The number with which an answer was refused. Public for `input`.
+// The number with which an answer was refused.
 pub fn answer_refusal(head: AnswerHead) -> usize
     ensures { λ r. ⌜ r ≡ answerRefused head ⌝ }
 {
@@ -101,8 +102,8 @@ pub fn answer_refusal(head: AnswerHead) -> usize
 
 // The verdict on an answer for the problem in the tables.
 pub fn check_answer(
-    left: &[u64; 2048],
-    right: &[u64; 2048],
+    left: &[u64; TABLE],
+    right: &[u64; TABLE],
     n: usize,
     m: usize,
     answer: &[u8],
@@ -126,8 +127,8 @@ pub fn check_answer(
 pub fn check(problem: &[u8], answer: &[u8]) -> Verdict
     ensures { λ r. ⌜ Judged (now (problem .entry)) (now (answer .entry)) (verdictOf r) ⌝ }
 {
-    let mut left = [0u64; 2048];
-    let mut right = [0u64; 2048];
+    let mut left = [0u64; TABLE];
+    let mut right = [0u64; TABLE];
     let header = read_problem(problem, &mut left, &mut right);
     let Header::Fields(n, m) = header else {
         return Verdict::Refused(problem_refusal(header));

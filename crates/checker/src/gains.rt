@@ -5,25 +5,25 @@ ghost use lib.ListN.{length, getD};
 ghost use Rattle.checker.specs.Gains.{arc-zero, arc-most, Table, Tested};
 ghost use Rattle.checker.specs.Marks.{Flags};
 ghost use Rattle.checker.specs.GainRound.{Values, gainedBy, Rounded};
+use crate::arcs::ARC_ZERO;
+use crate::arcs::ARCS;
 use crate::sums::best_sum;
 use crate::sums::values_agree;
-
-// The number in the table of an arc that weighs 0.
-const ARC_ZERO: u64 = 1099511627776;
+use records::limits::STRIDE;
 
 // The value of variable j after a round, 0 where it is not marked.
-fn gain_of(arcs: &[u64; 1024], mark: u8, width: usize, e: &[u64; 32], j: usize) -> u64
+fn gain_of(arcs: &[u64; ARCS], mark: u8, width: usize, e: &[u64; 32], j: usize) -> u64
     requires { ⌜ Table (now arcs) width × Values width (now e) × (j < width) ⌝ }
     ensures { λ r. ⌜ r ≡ gainedBy (now (arcs .entry)) mark width (now (e .entry)) j ⌝ }
 {
     if mark == 0 {
         return 0;
     }
-    best_sum(arcs, j * 32, e, width, ARC_ZERO) - ARC_ZERO
+    best_sum(arcs, j * STRIDE, e, width, ARC_ZERO) - ARC_ZERO
 }
 
 // A round: the values of all variables from those before.
-fn gain_round(arcs: &[u64; 1024], marks: &[u8; 32], width: usize, e: &[u64; 32]) -> [u64; 32]
+fn gain_round(arcs: &[u64; ARCS], marks: &[u8; 32], width: usize, e: &[u64; 32]) -> [u64; 32]
     requires { ⌜ Table (now arcs) width × Flags (now marks) × Values width (now e) ⌝ }
     ensures { λ r. ⌜ Rounded (now (arcs .entry)) (now (marks .entry)) width (now (e .entry)) width r ⌝ }
 {
@@ -35,7 +35,7 @@ fn gain_round(arcs: &[u64; 1024], marks: &[u8; 32], width: usize, e: &[u64; 32])
 }
 
 // No closed walk from a marked variable weighs above zero: rounds until one changes nothing, at most as many as variables.
-pub fn none_gains(arcs: &[u64; 1024], marks: &[u8; 32], width: usize) -> bool
+pub fn none_gains(arcs: &[u64; ARCS], marks: &[u8; 32], width: usize) -> bool
     requires { ⌜ Table (now arcs) width × Flags (now marks) × (0 < width) ⌝ }
     ensures { λ r. ⌜ Tested (now (arcs .entry)) (now (marks .entry)) width r ⌝ }
 {

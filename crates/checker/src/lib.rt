@@ -3,6 +3,7 @@ pub mod arcs;
 pub mod certify;
 pub mod check;
 pub mod gains;
+pub mod input;
 pub mod point;
 pub mod reach;
 pub mod sums;

@@ -12,12 +12,14 @@ ghost use Rattle.checker.specs.Tables.{Sized, Holds, Stamped, stampsPoin
 ghost use Rattle.checker.specs.Sides.{side-floor, sideOf, RowSized};
 use crate::sums::best_sum;
 use records::limits::OFFSET;
+use records::limits::STRIDE;
+use records::limits::TABLE;
 
 // Two whole numbers in range have a sum above this, a whole number and blank one below it.
 const SIDE_FLOOR: u64 = 3221225472;
 
 // One side of a row at a point: the row's coefficients stand in the table from `base` on.
-pub fn side(table: &[u64; 2048], base: usize, x: &[u64; 32], width: usize) -> u64
+pub fn side(table: &[u64; TABLE], base: usize, x: &[u64; 32], width: usize) -> u64
     requires { ⌜ RowSized (now table) base (now x) width ⌝ }
     ensures { λ r. ⌜ r ≡ sideOf (now (table .entry)) base (now (x .entry)) width ⌝ }
 {
@@ -27,8 +29,8 @@ pub fn side(table: &[u64; 2048], base: usize, x: &[u64; 32], width: usize) -> u6
 
 // The point keeps every inequality.
 pub fn keeps_rules(
-    left: &[u64; 2048],
-    right: &[u64; 2048],
+    left: &[u64; TABLE],
+    right: &[u64; TABLE],
     n: usize,
     m: usize,
     x: &[u64; 32],
@@ -38,7 +40,7 @@ pub fn keeps_rules(
 {
     let width = n + 1;
     for i in 0..m {
-        if side(right, i * 32, x, width) < side(left, i * 32, x, width) {
+        if side(right, i * STRIDE, x, width) < side(left, i * STRIDE, x, width) {
             return false;
         }
     }
@@ -47,8 +49,8 @@ pub fn keeps_rules(
 
 // The point's objective value is the span s.
 pub fn value_is(
-    left: &[u64; 2048],
-    right: &[u64; 2048],
+    left: &[u64; TABLE],
+    right: &[u64; TABLE],
     n: usize,
     m: usize,
     x: &[u64; 32],
@@ -58,11 +60,11 @@ pub fn value_is(
     ensures { λ r. ⌜ ((p : Problem) (z : ℤ) → Holds p (now (left .entry)) (now (right .entry)) n m → tropOf s ≡ fin z → Decides (value p (stampsPoint (now (x .entry))) ≡ whole z) r) ⌝ }
 {
     let width = n + 1;
-    let first = side(left, m * 32, x, width);
+    let first = side(left, m * STRIDE, x, width);
     if first == 0 {
         return false;
     }
-    let second = side(right, m * 32, x, width);
+    let second = side(right, m * STRIDE, x, width);
     if second == 0 {
         return false;
     }

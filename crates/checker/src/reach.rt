@@ -5,6 +5,8 @@ ghost use lib.ListN.{length};
 ghost use Rattle.checker.specs.Decides.{Decides};
 ghost use Rattle.checker.specs.Lists.{Agree};
 ghost use Rattle.checker.specs.Marks.{Flags, Reached, markOf, RowMarked, Marking};
+use crate::arcs::ARCS;
+use records::limits::STRIDE;
 
 // Two lists of marks agree in their first `width` elements: a round has marked nothing new.
 pub fn marks_agree(before: &[u8; 32], after: &[u8; 32], width: usize) -> bool
@@ -27,7 +29,7 @@ fn mark_of(mark: u8, arc: u64) -> u8
 }
 
 // The marks, with all to which the arcs from `base` on lead.
-fn mark_row(arcs: &[u64; 1024], base: usize, width: usize, marks: [u8; 32]) -> [u8; 32]
+fn mark_row(arcs: &[u64; ARCS], base: usize, width: usize, marks: [u8; 32]) -> [u8; 32]
     requires { ⌜ (base + width ≤ 1024) × (width ≤ 32) × (length marks ≡ 32) ⌝ }
     ensures { λ r. ⌜ RowMarked (now (arcs .entry)) base width marks r ⌝ }
 {
@@ -39,14 +41,14 @@ fn mark_row(arcs: &[u64; 1024], base: usize, width: usize, marks: [u8; 32]) -> [
 }
 
 // A round: the marks, with all to which a marked variable leads.
-fn mark_round(arcs: &[u64; 1024], width: usize, marks: [u8; 32]) -> [u8; 32]
+fn mark_round(arcs: &[u64; ARCS], width: usize, marks: [u8; 32]) -> [u8; 32]
     requires { ⌜ (width ≤ 32) × Flags marks ⌝ }
     ensures { λ r. ⌜ Marking (now (arcs .entry)) width marks width r ⌝ }
 {
     let mut new = marks;
     for j in 0..width {
         if marks[j] != 0 {
-            let more = mark_row(arcs, j * 32, width, new);
+            let more = mark_row(arcs, j * STRIDE, width, new);
             new = more;
         }
     }
@@ -56,7 +58,7 @@ fn mark_round(arcs: &[u64; 1024], width: usize, marks: [u8; 32]) -> [u8; 32]
 // Marks of the variables that are reachable from the start, by rounds until one marks nothing new. Each round but the
 // last marks a variable, so there are at most as many as variables. (The engine, too, uses it: picks of variables that are
 // not reached play no part, and it writes 0 for them.)
-pub fn reach(arcs: &[u64; 1024], width: usize, start: [u8; 32]) -> [u8; 32]
+pub fn reach(arcs: &[u64; ARCS], width: usize, start: [u8; 32]) -> [u8; 32]
     requires { ⌜ (width ≤ 32) × Flags start ⌝ }
     ensures { λ r. ⌜ Reached (now (arcs .entry)) width start r ⌝ }
 {

@@ -1,20 +1,17 @@
-use borrow.Author.Needs.{needs}
 use borrow.Author.Tests.{eq-eqb, ne-eqb}
 use Rattle.checker.specs.Marks.{markOf}
 use Rattle.checker.proofs.reach.mark_of.Statement.{statement}
 use Rattle.checker.proofs.reach.mark_of.Tie as tie
-use Rattle.checker.proofs.reach.mark_of.Reads as reads
-use Rattle.checker.proofs.reach.mark_of.Lts as lts
 
--- src/reach.rt:23:1
 returns : tie.Need-returns
 unfolding markOf
 returns c = simp (eq-eqb _ _ (c .if1 .taken))
 
--- src/reach.rt:23:1
 returns-2 : tie.Need-returns-2
 unfolding markOf
 returns-2 c = simp (ne-eqb _ _ (c .if1 .left))
 
 pub mark-of-spec : {M : Type 1} → statement M
-mark-of-spec = tie.close (tie.spec returns returns-2)
+mark-of-spec = tie.close (tie.spec
+    returns
+    returns-2)

@@ -12,4 +12,6 @@ unfolding most
 returns-2 c = simp (lt-leb _ _ (c .if1 .left))
 
 pub larger-spec : {M : Type 1} → statement M
-larger-spec = tie.close (tie.spec returns returns-2)
+larger-spec = tie.close (tie.spec
+    returns
+    returns-2)

@@ -1,16 +1,11 @@
 use borrow.Author.Needs.{needs}
-use mathlib.Core.Path.{_≡_, refl, sym, ap, subst, _∙_}
 use Rattle.checker.proofs.Decides.{said-yes, said-no}
 use Rattle.checker.specs.Lists.{Agree}
 use borrow.Author.Count.{below-more}
-use lib.ListN.{length, getD}
-use mathlib.Core.Path.{_≡_, refl, sym, ap, _∙_}
 use native.Mathlib.Omega.{arith}
-use Prim.Native.Nat.{ℕ, suc, _+_, _*_, _-_, _≤_, _<_}
+use Prim.Native.Nat.{_-_, _≤_}
 use Rattle.checker.proofs.sums.values_agree.Statement.{statement}
 use Rattle.checker.proofs.sums.values_agree.Tie as tie
-use Rattle.checker.proofs.sums.values_agree.Reads as reads
-use Rattle.checker.proofs.sums.values_agree.Lts as lts
 
 abbrev Inv-loop : tie.InvT-loop
 Inv-loop a b width j₀ j = (j ≤ width) × Agree a b j
@@ -18,59 +13,19 @@ Inv-loop a b width j₀ j = (j ≤ width) × Agree a b j
 abbrev μ-loop : tie.MeasureT-loop
 μ-loop a b width j₀ j = width - j
 
--- src/sums.rt:32:5
-loop-holds : tie.Need-loop-holds Inv-loop μ-loop
-loop-holds c = (omega arith, λ k h. absurd (omega arith))
-
--- src/sums.rt:33:12
-mul-if1 : tie.Need-mul-if1 Inv-loop μ-loop
-mul-if1 c = search needs
-
--- src/sums.rt:33:12
-element-copy-out-if1 : tie.Need-element-copy-out-if1 Inv-loop μ-loop
-element-copy-out-if1 c = search needs
-
--- src/sums.rt:33:20
-mul-if1-2 : tie.Need-mul-if1-2 Inv-loop μ-loop
-mul-if1-2 c = search needs
-
--- src/sums.rt:33:20
-element-copy-out-if1-2 : tie.Need-element-copy-out-if1-2 Inv-loop μ-loop
-element-copy-out-if1-2 c = search needs
-
--- src/sums.rt:34:13
-returns : tie.Need-returns Inv-loop μ-loop
-returns c = said-no (λ h. c .if1 .taken (h (c .before .before .before .before .loop .j) (c .before .before .before .loop-test .taken)))
-
--- src/sums.rt:32:9
-add-j : tie.Need-add-j Inv-loop μ-loop
-add-j c = search needs
-
--- src/sums.rt:32:5
-loop-less : tie.Need-loop-less Inv-loop μ-loop
-loop-less c = search needs
-
--- src/sums.rt:32:5
-loop-again : tie.Need-loop-again Inv-loop μ-loop
-loop-again c = (omega arith, below-more _ _ (c .before .before .before .before .loop .inv .1) (c .if1 .left))
-
--- src/sums.rt:28:1
-returns-2 : tie.Need-returns-2 Inv-loop μ-loop
-returns-2 c = said-yes (λ k h. c .before .loop .inv .1 k (omega arith))
-
 pub values-agree-spec : {M : Type 1} → statement M
 values-agree-spec =
     tie.close
     (tie.spec
     Inv-loop
     μ-loop
-    loop-holds
-    mul-if1
-    element-copy-out-if1
-    mul-if1-2
-    element-copy-out-if1-2
-    returns
-    add-j
-    loop-less
-    loop-again
-    returns-2)
+    (λ c. (omega arith, λ k h. absurd (omega arith)))
+    (λ c. search needs)
+    (λ c. search needs)
+    (λ c. search needs)
+    (λ c. search needs)
+    (λ c. said-no (λ h. c .if1 .taken (h (c .before .before .before .before .loop .j) (c .before .before .before .loop-test .taken))))
+    (λ c. search needs)
+    (λ c. search needs)
+    (λ c. (omega arith, below-more _ _ (c .before .before .before .before .loop .inv .1) (c .if1 .left)))
+    (λ c. said-yes (λ k h. c .before .loop .inv .1 k (omega arith))))

@@ -1,0 +1,210 @@
+-- Long inputs: what is decided from the first bytes and the size holds of every input that begins so.
+use Prim.Native.Nat.{ℕ, zero, suc, _+_, _-_, _≤_, _<_}
+use mathlib.Core.Path.{_≡_, refl, ap, sym, _∙_}
+use mathlib.Core.List.{List}
+use mathlib.Core.Logic.{⊎-elim}
+use native.Mathlib.Omega.{arith}
+use native.Mathlib.Nat.{eq-zero-or-pos}
+use lib.Dec.{eqb}
+use lib.ListN.{length, getD, take, drop, length-take, length-drop}
+use lib.Seq.{getD-take, getD-drop, length-take-le, ext-getD, take-all}
+use borrow.Author.Tests.{lt-ltb, le-ltb, eqb-true, ne-eqb}
+use Rattle.definitions.specs.Limits.{kept-bytes, length-bytes, problem-header, answer-header, answer-most, highest-n, highest-m, answer-kind}
+use Rattle.definitions.specs.Bytes.{numAt}
+use Rattle.definitions.specs.ProblemRecord.{lengthField, kindField, nField, mField, headerRefusal, problemRefusal, WithinLayout}
+use Rattle.definitions.specs.AnswerRecord.{known-class, classField, answerSize, answerHeaderRefusal, answerRefusal}
+use Rattle.definitions.specs.Verdict.{Verdict, refused, checkRefusal, Judged}
+use Rattle.definitions.specs.Programs.{cutPlace, problemPart, answerPart, KeptOf}
+use Rattle.definitions.proofs.Whole.{nat-le-or-lt}
+use Rattle.definitions.proofs.Refusals.{or-else-suc, limits-clause, enough-clause, equal-clause, both-clause}
+use Rattle.definitions.proofs.RoundTrip.{size-most}
+use Rattle.records.specs.declared.problem.Header.{Header}
+use Rattle.records.specs.declared.problem.Header.the-variants as Headers
+use Rattle.records.specs.declared.answer.AnswerHead.{AnswerHead}
+use Rattle.records.specs.ProblemHeader.{headerOf}
+use Rattle.records.specs.AnswerReading.{headBy, answerHeadOf, spanNumber}
+use Rattle.records.proofs.ProblemHeader.{header-fits, header-refuses, product-most}
+use Rattle.checker.specs.Outcome.{problemRefused, answerRefused}
+use Rattle.checker.specs.LongInput.{Longer}
+use Rattle.checker.proofs.Verdicts.{turned}
+
+-- ---- fields of lists that agree
+
+-- Where the first bytes agree, so do the numbers in them.
+numAt-agrees : (k at n : ℕ) (s t : List ℕ) → ((i : ℕ) → i < n → getD s i 0 ≡ getD t i 0) → at + k ≤ n → numAt k s at ≡ numAt k t at
+unfolding numAt
+numAt-agrees zero at n s t h b = refl
+numAt-agrees (suc k) at n s t h b = rw (h at (omega arith), numAt-agrees k (at + 1) n s t h (omega arith))
+
+module _ (s t : List ℕ) (same : (i : ℕ) → i < problem-header → getD s i 0 ≡ getD t i 0) where
+  length-agrees : lengthField s ≡ lengthField t
+  length-agrees = numAt-agrees 4 0 10 s t same (omega arith)
+
+  n-agrees : nField s ≡ nField t
+  n-agrees = numAt-agrees 2 6 10 s t same (omega arith)
+
+  m-agrees : mField s ≡ mField t
+  m-agrees = numAt-agrees 2 8 10 s t same (omega arith)
+
+  header-agrees : (size : ℕ) → headerRefusal s size ≡ headerRefusal t size
+  unfolding headerRefusal
+  header-agrees size = rw (length-agrees, numAt-agrees 2 4 10 s t same (omega arith), n-agrees, m-agrees)
+
+answer-agrees : (s t : List ℕ) → ((i : ℕ) → i < answer-header → getD s i 0 ≡ getD t i 0) → (size n m : ℕ)
+    → answerHeaderRefusal s size n m ≡ answerHeaderRefusal t size n m
+unfolding answerHeaderRefusal
+answer-agrees s t same size n m =
+    rw (numAt-agrees 4 0 14 s t same (omega arith), numAt-agrees 2 4 14 s t same (omega arith), numAt-agrees 2 6 14 s t same (omega arith), numAt-agrees 2 8 14 s t same (omega arith))
+
+-- Fewer than 10 bytes: refusal 1, whatever they are.
+header-short : (s : List ℕ) (size : ℕ) → size < problem-header → headerRefusal s size ≡ 1
+unfolding headerRefusal
+header-short s size h = rw (lt-ltb size problem-header h)
+
+-- The length field is another than the size: refusal 2.
+header-length : (s : List ℕ) (size : ℕ) → problem-header ≤ size → (lengthField s + length-bytes ≡ size → ⊥) → headerRefusal s size ≡ 2
+unfolding headerRefusal
+header-length s size h d = rw (le-ltb size problem-header h, ne-eqb (lengthField s + length-bytes) size d)
+
+-- A header that is right says a size that is kept whole.
+pub header-small : (kept : List ℕ) (end : ℕ) {header : Header} {n m : ℕ} → header ≡ headerOf kept end → header ≡ Headers.Fields n m
+    → (problem-header ≤ end) × (end ≤ 16394) × (n ≤ highest-n) × (m ≤ highest-m)
+header-small kept end {n = n} {m = m} e f =
+    let h = header-fits kept end e f in
+    (omega (arith, h .size-is), omega (arith, h .size-is, product-most n m (h .n-most) (h .m-most)), h .n-most, h .m-most)
+
+-- ---- long answers
+
+-- What is longer than every answer record is refused by its header.
+long-refused : (s : List ℕ) (size n m : ℕ) → n ≤ highest-n → m ≤ highest-m → answer-most < size → 0 < answerHeaderRefusal s size n m
+unfolding answerHeaderRefusal
+long-refused s size n m h k l = ⊎-elim
+    (λ (e : answerHeaderRefusal s size n m ≡ 0).
+    let a = limits-clause n m _ _ .0 e in
+    let b = enough-clause size answer-header _ _ .0 (a .1) in
+    let c = equal-clause (lengthField s + length-bytes) size _ _ .0 (b .1) in
+    let d = both-clause (eqb (kindField s) answer-kind) (known-class (classField s)) _ _ .0 (c .1) in
+    let g = both-clause (eqb (nField s) n) (eqb size (answerSize (classField s) n m)) _ _ .0 (d .1) in
+    absurd (omega (arith, eqb-true size (answerSize (classField s) n m) (g .0 .1), size-most (classField s) n m h k)))
+    (λ q. q)
+    (eq-zero-or-pos (answerHeaderRefusal s size n m))
+
+refused-is : (k class span : ℕ) → 0 < k → answerRefused (headBy k class span) ≡ k
+unfolding headBy answerRefused
+refused-is zero class span h = absurd (omega arith)
+refused-is (suc k) class span h = refl
+
+pub long-answer : (s : List ℕ) (size n m : ℕ) {head : AnswerHead} {r : ℕ} → n ≤ highest-n → m ≤ highest-m → answer-most < size
+    → head ≡ answerHeadOf s size n m → r ≡ answerRefused head → (r ≡ answerHeaderRefusal s size n m) × (0 < r)
+unfolding answerHeadOf
+long-answer s size n m {head} {r} h k l e f =
+    let some = long-refused s size n m h k l in
+    let q : r ≡ answerHeaderRefusal s size n m = f ∙ ap answerRefused e ∙ refused-is (answerHeaderRefusal s size n m) (classField s) (spanNumber s) some in
+    (q, omega arith)
+
+-- ---- inputs that are kept whole
+
+pub cut-short : (s : List ℕ) → length s < length-bytes → length s ≡ cutPlace s
+unfolding cutPlace
+cut-short s h = rw (lt-ltb (length s) length-bytes h)
+
+pub cut-past : (s : List ℕ) → length-bytes ≤ length s → length s < lengthField s + length-bytes → length s ≡ cutPlace s
+unfolding cutPlace
+cut-past s h k = rw (le-ltb (length s) length-bytes h, lt-ltb (length s) (lengthField s + length-bytes) k)
+
+pub cut-inside : (s : List ℕ) → length-bytes ≤ length s → lengthField s + length-bytes ≤ length s → lengthField s + length-bytes ≡ cutPlace s
+unfolding cutPlace
+cut-inside s h k = rw (le-ltb (length s) length-bytes h, le-ltb (length s) (lengthField s + length-bytes) k)
+
+-- A part of a list that goes to its end is what is left of the list.
+pub rest-whole : (s : List ℕ) (a : ℕ) → take (length s - a) (drop a s) ≡ drop a s
+rest-whole s a = take-all (length s - a) (drop a s) (rw length-drop (omega arith))
+
+pub judged-parts : (s : List ℕ) {cut : ℕ} {v : Verdict} → cut ≡ cutPlace s → Judged (take cut s) (drop cut s) v → Judged (problemPart s) (answerPart s) v
+unfolding problemPart answerPart
+judged-parts s e j = rw (← e) j
+
+-- An input that was kept whole.
+pub kept-whole : {kept input : List ℕ} {size : ℕ} → KeptOf kept size input → size ≤ kept-bytes → input ≡ take size kept
+kept-whole {kept} {input} {size} k h =
+    let all : take kept-bytes input ≡ input = take-all kept-bytes input (omega (arith, k .size-is)) in
+    let most : length (take size kept) ≤ kept-bytes = rw length-take (omega arith) in
+    sym all ∙ k .begins ∙ take-all kept-bytes (take size kept) most
+
+-- ---- inputs that are longer
+
+pub kept-longer : {kept input : List ℕ} {size : ℕ} → KeptOf kept size input → kept-bytes < size → Longer kept size input
+kept-longer {kept} {input} {size} k h = record {
+  size-is = k .size-is;
+  begins = λ i b.
+      sym (getD-take kept-bytes input i 0 b) ∙ ap (λ (l : List ℕ). getD l i 0) (k .begins) ∙ getD-take kept-bytes (take size kept) i 0 b
+      ∙ getD-take size kept i 0 (omega arith);
+}
+
+module _ {kept input : List ℕ} {size end : ℕ} (longer : Longer kept size input) (ends : end ≤ size) where
+  part-length : length (take end input) ≡ end
+  part-length = length-take-le end input (omega (arith, longer .size-is))
+
+  part-same : (i : ℕ) → i < end → i < kept-bytes → getD (take end input) i 0 ≡ getD kept i 0
+  part-same i h k = getD-take end input i 0 h ∙ longer .begins i k
+
+  header-same : headerRefusal (take end input) (length (take end input)) ≡ headerRefusal kept end
+  header-same = rw part-length (⊎-elim
+      (λ (h : problem-header ≤ end). header-agrees (take end input) kept (λ i b. part-same i (omega arith) (omega arith)) end)
+      (λ (h : end < problem-header). header-short (take end input) end h ∙ sym (header-short kept end h))
+      (nat-le-or-lt problem-header end))
+
+  -- The header is refused.
+  pub long-header : {header : Header} {j r : ℕ} → header ≡ headerOf kept end → header ≡ Headers.Refused j → r ≡ problemRefused header
+      → Judged (take end input) (drop end input) (refused r)
+  unfolding problemRefusal checkRefusal problemRefused
+  long-header {header} {j} {r} e f g =
+      let q = header-refuses kept end e f in
+      let is : r ≡ j = g ∙ ap problemRefused f in
+      let first : headerRefusal (take end input) (length (take end input)) ≡ j = header-same ∙ q .0 in
+      let some : 0 < headerRefusal (take end input) (length (take end input)) = omega (arith, q .1) in
+      let whole : problemRefusal (take end input) ≡ headerRefusal (take end input) (length (take end input)) = or-else-suc _ _ some in
+      turned (take end input) (drop end input) r (or-else-suc _ _ (omega arith) ∙ whole ∙ first ∙ sym is) (omega (arith, q .1))
+
+  -- The problem is kept whole.
+  pub problem-kept : length kept ≡ kept-bytes → end ≤ kept-bytes → take end kept ≡ take end input
+  problem-kept l h =
+      let long : length (take end kept) ≡ end = length-take-le end kept (omega arith) in
+      ext-getD 0 (take end kept) (take end input) (long ∙ sym part-length)
+      (λ i b. getD-take end kept i 0 (omega arith) ∙ sym (part-same i (omega arith) (omega arith)))
+
+  -- The problem is not refused, and the answer is, by its header.
+  pub long-answered : {header : Header} {n m r : ℕ} → header ≡ headerOf kept end → header ≡ Headers.Fields n m → WithinLayout (take end input)
+      → r ≡ answerHeaderRefusal (drop end kept) (size - end) n m → 0 < r → Judged (take end input) (drop end input) (refused r)
+  unfolding checkRefusal answerRefusal
+  long-answered {header} {n} {m} {r} d f w g some =
+      let small = header-small kept end d f in
+      let h = header-fits kept end d f in
+      let same : (i : ℕ) → i < problem-header → getD (take end input) i 0 ≡ getD kept i 0 = λ i b. part-same i (omega arith) (omega arith) in
+      let n-is : nField (take end input) ≡ n = n-agrees (take end input) kept same ∙ sym (h .n-is) in
+      let m-is : mField (take end input) ≡ m = m-agrees (take end input) kept same ∙ sym (h .m-is) in
+      let rest : length (drop end input) ≡ size - end = length-drop end input ∙ ap (λ k. k - end) (longer .size-is) in
+      let agree : answerHeaderRefusal (drop end input) (size - end) n m ≡ answerHeaderRefusal (drop end kept) (size - end) n m =
+      answer-agrees (drop end input) (drop end kept)
+      (λ i b. getD-drop end input i 0 ∙ longer .begins (end + i) (omega arith) ∙ sym (getD-drop end kept i 0)) (size - end) n m in
+      let head : answerHeaderRefusal (drop end input) (length (drop end input)) n m ≡ r = rw rest (agree ∙ sym g) in
+      turned (take end input) (drop end input) r (rw (w, n-is, m-is) (or-else-suc _ _ (omega arith) ∙ head)) some
+
+-- The length field reaches past the input: all of it is the problem, and refusal 2 applies.
+pub long-past : {kept input : List ℕ} {size : ℕ} → Longer kept size input → kept-bytes < size → size < lengthField kept + length-bytes
+    → Judged (problemPart input) (answerPart input) (refused 2)
+unfolding problemRefusal checkRefusal
+long-past {kept} {input} {size} longer h k =
+    let e = length-agrees input kept (λ i b. longer .begins i (omega arith)) in
+    let cut : size ≡ cutPlace input = sym (longer .size-is) ∙ cut-past input (omega (arith, longer .size-is)) (omega (arith, longer .size-is)) in
+    let first : headerRefusal (take size input) (length (take size input)) ≡ 2 =
+    header-same {end = size} longer (omega arith) ∙ header-length kept size (omega arith) (λ q. omega arith) in
+    let whole : problemRefusal (take size input) ≡ headerRefusal (take size input) (length (take size input)) = or-else-suc _ _ (omega arith) in
+    judged-parts input cut (turned (take size input) (drop size input) 2 (or-else-suc _ _ (omega arith) ∙ whole ∙ first) (omega arith))
+
+-- It does not: the problem is cut there.
+pub long-cut : {kept input : List ℕ} {size : ℕ} → Longer kept size input → kept-bytes < size → lengthField kept + length-bytes ≤ size
+    → lengthField kept + length-bytes ≡ cutPlace input
+long-cut {kept} {input} longer h k =
+    let e = length-agrees input kept (λ i b. longer .begins i (omega arith)) in
+    rw (← e) (cut-inside input (omega (arith, longer .size-is)) (omega (arith, longer .size-is)))

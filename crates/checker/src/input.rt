@@ -1,0 +1,98 @@
+// The verdict on an input of which the first bytes were kept: a problem followed by an answer, cut by the first length
+// field. Document 01, "Two programs".
+ghost use mathlib.Core.Path.{_≡_};
+ghost use mathlib.Core.List.{List};
+ghost use Prim.Native.Nat.{ℕ, _+_, _≤_, _<_};
+ghost use lib.ListN.{length, take, drop};
+ghost use Rattle.definitions.specs.AnswerRecord.{answerHeaderRefusal};
+ghost use Rattle.definitions.specs.Verdict.{Judged};
+ghost use Rattle.definitions.specs.Programs.{cutPlace, problemPart, answerPart, KeptOf};
+ghost use Rattle.checker.specs.Outcome.{verdictOf};
+ghost use Rattle.checker.specs.LongInput.{Longer};
+use crate::check::Verdict;
+use crate::check::answer_refusal;
+use crate::check::check;
+use crate::check::problem_refusal;
+use records::answer::AnswerHead;
+use records::answer::read_answer_header;
+use records::bytes::word_at;
+use records::limits::LENGTH_BYTES;
+use records::limits::TABLE;
+use records::problem::Header;
+use records::problem::read_header;
+use records::problem::read_problem;
+
+// How many bytes of its input the program keeps.
+pub const KEPT: usize = 20000;
+
+// Where an input is cut: by its first length field where that is whole and reaches no further than the input.
+fn cut_place(input: &[u8]) -> usize
+    ensures { λ r. ⌜ (r ≡ cutPlace (now (input .entry))) × (r ≤ length (now (input .entry))) ⌝ }
+{
+    let size = input.len();
+    if size < LENGTH_BYTES {
+        return size;
+    }
+    let end = word_at(input, 0) as usize + LENGTH_BYTES;
+    if size < end {
+        return size;
+    }
+    end
+}
+
+// The verdict on an input that was kept whole.
+pub fn judge_whole(input: &[u8]) -> Verdict
+    ensures { λ r. ⌜ Judged (problemPart (now (input .entry))) (answerPart (now (input .entry))) (verdictOf r) ⌝ }
+{
+    let cut = cut_place(input);
+    check(&input[..cut], &input[cut..])
+}
+
+// The verdict on the answer part of an input that is longer than what was kept, from the part's first bytes and its size:
+// it is longer than every answer record, so that 9, 10 or 11 applies.
+fn judge_long_answer(answer: &[u8], size: usize, n: usize, m: usize) -> usize
+    requires { ⌜ (n ≤ 31) × (m ≤ 63) × (206 < size) ⌝ }
+    ensures { λ r. ⌜ (r ≡ answerHeaderRefusal (now (answer .entry)) size n m) × (0 < r) ⌝ }
+{
+    answer_refusal(read_answer_header(answer, size, n, m))
+}
+
+// The verdict on an input that is longer than what was kept, and whose problem part is its first `end` bytes.
+fn judge_long(kept: &[u8], size: usize, end: usize) -> Verdict
+    requires { ⌜ (length (now kept) ≡ 20000) × (20000 < size) × (end ≤ size) ⌝ }
+    ensures { λ r. ⌜ ((input : List ℕ) → Longer (now (kept .entry)) size input → Judged (take end input) (drop end input) (verdictOf r)) ⌝ }
+{
+    let header = read_header(kept, end);
+    let Header::Fields(n, m) = header else {
+        return Verdict::Refused(problem_refusal(header));
+    };
+    let mut left = [0u64; TABLE];
+    let mut right = [0u64; TABLE];
+    let whole = read_problem(&kept[..end], &mut left, &mut right);
+    let Header::Fields(_, _) = whole else {
+        return Verdict::Refused(problem_refusal(whole));
+    };
+    Verdict::Refused(judge_long_answer(&kept[end..], size - end, n, m))
+}
+
+// The same on a slice.
+fn judge_kept(kept: &[u8], size: usize) -> Verdict
+    requires { ⌜ length (now kept) ≡ 20000 ⌝ }
+    ensures { λ r. ⌜ ((input : List ℕ) → KeptOf (now (kept .entry)) size input → Judged (problemPart input) (answerPart input) (verdictOf r)) ⌝ }
+{
+    if size <= KEPT {
+        return judge_whole(&kept[..size]);
+    }
+    let end = word_at(kept, 0) as usize + LENGTH_BYTES;
+    if size < end {
+        return Verdict::Refused(2);
+    }
+    judge_long(kept, size, end)
+}
+
+// The verdict on every input of this size that begins with the kept bytes.
+pub fn judge_input(kept: &[u8; KEPT], size: u64) -> Verdict
+    ensures { λ r. ⌜ ((input : List ℕ) → KeptOf (now (kept .entry)) size input → Judged (problemPart input) (answerPart input) (verdictOf r)) ⌝ }
+{
+    judge_kept(kept, size as usize)
+}
