@@ -11,6 +11,7 @@ use crate::build::Record;
 use crate::build::SPAN;
 use crate::build::answer;
 use crate::build::minus;
+use crate::cut::bytes_within;
 use crate::noise;
 use crate::print;
 use records::answer::AnswerHead;
@@ -41,17 +42,40 @@ fn show_refused(number: usize, stamps: &[u64; 32], picks: &[u64; 64]) {
     }
 }
 
-// The first two stamps and picks; an array has 0 behind those of the record, which is no stamp's offset number but blank's.
-fn show_read(class: u64, span: u64, stamps: &[u64; 32], picks: &[u64; 64]) {
+// The first and the last stamp of an answer that was read.
+fn show_stamps(stamps: &[u64; 32], last: usize) {
+    print::text(b", stamps ");
+    print::minutes(stamps[0]);
+    print::text(b" to ");
+    if last < stamps.len() {
+        print::minutes(stamps[last]);
+    }
+}
+
+// The first and the last pick.
+fn show_picks(picks: &[u64; 64], last: usize) {
+    print::counted(b", picks ", picks[0]);
+    print::text(b" to ");
+    if last < picks.len() {
+        print::number(picks[last]);
+    }
+}
+
+fn show_read(class: u64, span: u64) {
     print::counted(b"read, class ", class);
     print::text(b" span ");
     print::minutes(span);
-    print::text(b", stamps ");
-    print::minutes(stamps[0]);
-    print::text(b" ");
-    print::minutes(stamps[1]);
-    print::counted(b", picks ", picks[0]);
-    print::counted(b" ", picks[1]);
+}
+
+fn show_lists(class: u64, n: usize, m: usize, stamps: &[u64; 32], picks: &[u64; 64]) {
+    match class {
+        1 => {
+            show_stamps(stamps, n);
+            show_picks(picks, n);
+        }
+        2 => show_picks(picks, m),
+        _ => show_picks(picks, n),
+    }
 }
 
 // Reads the bytes for a problem's n and m and prints what came of it.
@@ -61,18 +85,27 @@ fn show_bytes(words: &[u8], bytes: &[u8], n: usize, m: usize) {
     let mut picks = noise::picks();
     let head = read_answer(bytes, n, m, &mut stamps, &mut picks);
     match head {
-        AnswerHead::Fields(class, span) => show_read(class, span, &stamps, &picks),
+        AnswerHead::Fields(class, span) => {
+            show_read(class, span);
+            show_lists(class, n, m, &stamps, &picks);
+        }
         AnswerHead::Refused(k) => show_refused(k, &stamps, &picks),
     }
     print::end();
 }
 
+fn show_part(words: &[u8], bytes: &[u8], size: usize, n: usize, m: usize) {
+    let k = bytes_within(size, bytes);
+    show_bytes(words, &bytes[..k], n, m);
+}
+
+fn show_record(words: &[u8], bytes: &[u8; ROOM], size: usize, n: usize, m: usize) {
+    show_part(words, bytes, size, n, m);
+}
+
 fn show_for(words: &[u8], r: Record, n: usize, m: usize) {
-    let size = r.size;
     let bytes = r.bytes;
-    if size <= ROOM {
-        show_bytes(words, &bytes[..size], n, m);
-    }
+    show_record(words, &bytes, r.size, n, m);
 }
 
 // An answer for n 1 and m 3.
@@ -125,8 +158,14 @@ fn lengths() {
     show(b"length 21 of 26 bytes", least().word(LENGTH, 21));
     show(b"length 22 of 26 bytes", least().word(LENGTH, 22));
     show(b"length 23 of 26 bytes", least().word(LENGTH, 23));
-    show(b"length 22 + 2^24 of 26 bytes", least().word(LENGTH, 16777238));
-    show(b"length 2^32 - 1 of 26 bytes", least().word(LENGTH, 4294967295));
+    show(
+        b"length 22 + 2^24 of 26 bytes",
+        least().word(LENGTH, 16777238),
+    );
+    show(
+        b"length 2^32 - 1 of 26 bytes",
+        least().word(LENGTH, 4294967295),
+    );
 }
 
 fn kinds() {
@@ -164,10 +203,16 @@ fn spans() {
 fn other_spans() {
     show(b"class 2, span blank", bottomless().word(SPAN, BLANK));
     show(b"class 2, span 0", bottomless().word(SPAN, 0));
-    show(b"class 2, span -2^31 + 1", bottomless().word(SPAN, minus(2147483647)));
+    show(
+        b"class 2, span -2^31 + 1",
+        bottomless().word(SPAN, minus(2147483647)),
+    );
     show(b"class 3, span blank", none().word(SPAN, BLANK));
     show(b"class 3, span 0", none().word(SPAN, 0));
-    show(b"class 3, span -2^31 + 1", none().word(SPAN, minus(2147483647)));
+    show(
+        b"class 3, span -2^31 + 1",
+        none().word(SPAN, minus(2147483647)),
+    );
 }
 
 fn first_stamps() {
@@ -183,8 +228,18 @@ fn stamps() {
     show(b"stamp -2000000", least().word(STAMP_1, minus(2000000)));
     show(b"stamp -2000001", least().word(STAMP_1, minus(2000001)));
     show(b"stamp blank", least().word(STAMP_1, BLANK));
-    show_for(b"stamp 31 is 2000000", answer(1, 31, 206).word(STAMP_31, 2000000), 31, 0);
-    show_for(b"stamp 31 is 2000001", answer(1, 31, 206).word(STAMP_31, 2000001), 31, 0);
+    show_for(
+        b"stamp 31 is 2000000",
+        answer(1, 31, 206).word(STAMP_31, 2000000),
+        31,
+        0,
+    );
+    show_for(
+        b"stamp 31 is 2000001",
+        answer(1, 31, 206).word(STAMP_31, 2000001),
+        31,
+        0,
+    );
 }
 
 fn picks() {
@@ -206,21 +261,50 @@ fn other_picks() {
 
 // The largest answers: picks 64 of class 1 and 32 of class 2 are the highest.
 fn largest_picks() {
-    show_for(b"class 1, m 63, pick 64", answer(1, 31, 206).short(PICK_31, 64), 31, 63);
-    show_for(b"class 1, m 63, pick 65", answer(1, 31, 206).short(PICK_31, 65), 31, 63);
-    show_for(b"class 2, n 31, pick 32", answer(2, 31, 142).short(PICK_63, 32), 31, 63);
-    show_for(b"class 2, n 31, pick 33", answer(2, 31, 142).short(PICK_63, 33), 31, 63);
+    show_for(
+        b"class 1, m 63, pick 64",
+        answer(1, 31, 206).short(PICK_31, 64),
+        31,
+        63,
+    );
+    show_for(
+        b"class 1, m 63, pick 65",
+        answer(1, 31, 206).short(PICK_31, 65),
+        31,
+        63,
+    );
+    show_for(
+        b"class 2, n 31, pick 32",
+        answer(2, 31, 142).short(PICK_63, 32),
+        31,
+        63,
+    );
+    show_for(
+        b"class 2, n 31, pick 33",
+        answer(2, 31, 142).short(PICK_63, 33),
+        31,
+        63,
+    );
 }
 
 // Two refusals apply, and the first is given.
 fn orders() {
     show_for(b"n 32, 13 bytes", answer(1, 32, 13), 32, 0);
     show(b"13 bytes, length 10", answer(1, 1, 13).word(LENGTH, 10));
-    show(b"length 23, kind 1", least().word(LENGTH, 23).short(KIND, 1));
+    show(
+        b"length 23, kind 1",
+        least().word(LENGTH, 23).short(KIND, 1),
+    );
     show(b"class 4, n 2", least().short(CLASS, 4).short(N, 2));
     show(b"n 2, span 645121", least().short(N, 2).word(SPAN, 645121));
-    show(b"25 bytes, span 645121", answer(1, 1, 25).word(SPAN, 645121));
-    show(b"stamp 2000001, pick m + 2", least().word(STAMP_1, 2000001).short(FIRST_PICK, 5));
+    show(
+        b"25 bytes, span 645121",
+        answer(1, 1, 25).word(SPAN, 645121),
+    );
+    show(
+        b"stamp 2000001, pick m + 2",
+        least().word(STAMP_1, 2000001).short(FIRST_PICK, 5),
+    );
 }
 
 // Document 01's example A, and an answer for n 1 with every field its own.
@@ -231,7 +315,14 @@ fn examples() {
         0,
         0,
     );
-    show(b"span 30, stamps 0 30, picks 1 2", least().word(SPAN, 30).word(STAMP_1, 30).short(FIRST_PICK, 1).short(LAST_PICK, 2));
+    show(
+        b"span 30, stamps 0 30, picks 1 2",
+        least()
+            .word(SPAN, 30)
+            .word(STAMP_1, 30)
+            .short(FIRST_PICK, 1)
+            .short(LAST_PICK, 2),
+    );
 }
 
 pub fn run() {

@@ -1,6 +1,7 @@
 // Document 01's edges and examples, run through the libraries: a line each, held to the stored output.
 mod answer_edges;
 mod build;
+mod cut;
 mod noise;
 mod print;
 mod problem_edges;

@@ -35,22 +35,24 @@ pub fn buffer() -> [u8; BUFFER]
 
 // Every number is noise still.
 pub fn untouched(numbers: &[u64]) -> bool {
-    for i in 0..numbers.len() {
+    let mut i = 0;
+    while i < numbers.len() {
         if numbers[i] != NUMBER {
             return false;
         }
+        i += 1;
     }
     true
 }
 
 // Every byte from a place on is noise still.
 pub fn untouched_from(bytes: &[u8], at: usize) -> bool {
-    for i in 0..bytes.len() {
-        if i >= at {
-            if bytes[i] != BYTE {
-                return false;
-            }
+    let mut i = at;
+    while i < bytes.len() {
+        if bytes[i] != BYTE {
+            return false;
         }
+        i += 1;
     }
     true
 }

@@ -42,3 +42,16 @@ pub fn minutes(k: u64) {
     }
     number(k - OFFSET);
 }
+
+fn wide(x: u8) -> u64 {
+    x as u64
+}
+
+// Bytes in hexadecimal.
+pub fn hexadecimal(bytes: &[u8]) {
+    let mut i = 0;
+    while i < bytes.len() {
+        io::print_hex(STDOUT_FILENO, wide(bytes[i]), 2);
+        i += 1;
+    }
+}

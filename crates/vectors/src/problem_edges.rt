@@ -8,6 +8,7 @@ use crate::build::ROOM;
 use crate::build::Record;
 use crate::build::minus;
 use crate::build::problem;
+use crate::cut::bytes_within;
 use crate::noise;
 use crate::print;
 use records::problem::Header;
@@ -21,6 +22,17 @@ fn lead_at(table: &[u64; 2048], at: usize) -> u64 {
     if at < table.len() { table[at] } else { 0 }
 }
 
+// The right lead of the last variable in the question.
+fn last_lead(right: &[u64; 2048], n: usize, m: usize) -> u64 {
+    if n >= 32 {
+        return 0;
+    }
+    if m >= 64 {
+        return 0;
+    }
+    lead_at(right, 32 * m + n)
+}
+
 // The first left lead and the last right one of a problem that was read.
 fn show_read(n: usize, m: usize, left: &[u64; 2048], right: &[u64; 2048]) {
     print::counted(b"read, n ", n as u64);
@@ -28,9 +40,7 @@ fn show_read(n: usize, m: usize, left: &[u64; 2048], right: &[u64; 2048]) {
     print::text(b", leads ");
     print::minutes(lead_at(left, 0));
     print::text(b" to ");
-    if n < 32 && m < 64 {
-        print::minutes(lead_at(right, 32 * m + n));
-    }
+    print::minutes(last_lead(right, n, m));
 }
 
 fn show_refused(number: usize, left: &[u64; 2048], right: &[u64; 2048]) {
@@ -44,7 +54,7 @@ fn show_refused(number: usize, left: &[u64; 2048], right: &[u64; 2048]) {
 }
 
 // Reads the bytes and prints what came of it.
-pub fn show_bytes(words: &[u8], bytes: &[u8]) {
+fn show_bytes(words: &[u8], bytes: &[u8]) {
     print::edge(b"problem", words);
     let mut left = noise::table();
     let mut right = noise::table();
@@ -56,12 +66,18 @@ pub fn show_bytes(words: &[u8], bytes: &[u8]) {
     print::end();
 }
 
+fn show_part(words: &[u8], bytes: &[u8], size: usize) {
+    let n = bytes_within(size, bytes);
+    show_bytes(words, &bytes[..n]);
+}
+
+fn show_record(words: &[u8], bytes: &[u8; ROOM], size: usize) {
+    show_part(words, bytes, size);
+}
+
 fn show(words: &[u8], r: Record) {
-    let size = r.size;
     let bytes = r.bytes;
-    if size <= ROOM {
-        show_bytes(words, &bytes[..size]);
-    }
+    show_record(words, &bytes, r.size);
 }
 
 fn sizes() {

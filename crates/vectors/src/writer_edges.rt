@@ -1,6 +1,9 @@
 // The answer writer: refusals 4, 7 and 10 to 13 at their edges, and which of two comes first. Spans and stamps are handed
 // over as offset numbers: 0 is blank, any other k stands for k − 2³¹. Most answers here are for n 1 and m 3.
+use crate::cut::bytes_within;
+use crate::cut::numbers_within;
 use crate::noise;
+use crate::noise::BUFFER;
 use crate::print;
 use records::writer::Written;
 use records::writer::write_answer;
@@ -11,7 +14,7 @@ const ZERO: u64 = 2147483648;
 const FULL: u64 = 4294967296;
 
 // The most stamps and picks that a list here has.
-const LONGEST: usize = 70;
+pub const LONGEST: usize = 70;
 
 // What is handed to the writer: the lists are the first so many of both arrays, the buffer is the first `room` bytes.
 pub struct Fields {
@@ -41,7 +44,7 @@ fn put(list: &mut [u64; LONGEST], i: usize, x: u64) {
 }
 
 // Fields of a class: its span 0 in class 1 and else blank, stamps and picks in these counts and all 0.
-pub fn fields(class: u64, stamp_count: usize, pick_count: usize, n: usize, m: usize) -> Fields {
+pub fn handed(class: u64, stamp_count: usize, pick_count: usize, n: usize, m: usize) -> Fields {
     let span = if class == 1 { ZERO } else { 0 };
     Fields {
         class: class,
@@ -87,7 +90,7 @@ pub fn minus(x: u64) -> u64 {
     if x < ZERO { ZERO - x } else { 0 }
 }
 
-fn show_written(size: usize, buffer: &[u8; 300]) {
+fn show_written(size: usize, buffer: &[u8; BUFFER]) {
     print::number(size as u64);
     if noise::untouched_from(buffer, size) {
         print::text(b" bytes, the rest untouched");
@@ -96,7 +99,7 @@ fn show_written(size: usize, buffer: &[u8; 300]) {
     }
 }
 
-fn show_refused(number: usize, buffer: &[u8; 300]) {
+fn show_refused(number: usize, buffer: &[u8; BUFFER]) {
     print::counted(b"refused ", number as u64);
     if noise::untouched_from(buffer, 0) {
         print::text(b", buffer untouched");
@@ -105,52 +108,66 @@ fn show_refused(number: usize, buffer: &[u8; 300]) {
     }
 }
 
-fn show_lists(words: &[u8], f: Fields, stamps: &[u64], picks: &[u64]) {
-    let room = f.room;
-    let mut buffer = noise::buffer();
-    print::edge(b"writer", words);
-    if room <= 300 {
-        let written = write_answer(f.class, f.span, stamps, picks, f.n, f.m, &mut buffer[..room]);
-        match written {
-            Written::Record(size) => show_written(size, &buffer),
-            Written::Refused(k) => show_refused(k, &buffer),
-        }
-    }
-    print::end();
+// The lists and the buffer cut to their sizes, and the answer written.
+fn write_cut(f: Fields, stamps: &[u64], picks: &[u64], buffer: &mut [u8]) -> Written {
+    let s = numbers_within(f.stamp_count, stamps);
+    let p = numbers_within(f.pick_count, picks);
+    let room = bytes_within(f.room, buffer);
+    write_answer(
+        f.class,
+        f.span,
+        &stamps[..s],
+        &picks[..p],
+        f.n,
+        f.m,
+        &mut buffer[..room],
+    )
+}
+
+pub fn write(
+    f: Fields,
+    stamps: &[u64; LONGEST],
+    picks: &[u64; LONGEST],
+    buffer: &mut [u8; BUFFER],
+) -> Written {
+    write_cut(f, stamps, picks, buffer)
 }
 
 // Writes an answer of these fields and prints what came of it.
 fn show(words: &[u8], f: Fields) {
-    let s = f.stamp_count;
-    let p = f.pick_count;
     let stamps = f.stamps;
     let picks = f.picks;
-    if s <= LONGEST && p <= LONGEST {
-        show_lists(words, f, &stamps[..s], &picks[..p]);
+    let mut buffer = noise::buffer();
+    print::edge(b"writer", words);
+    let written = write(f, &stamps, &picks, &mut buffer);
+    match written {
+        Written::Record(size) => show_written(size, &buffer),
+        Written::Refused(k) => show_refused(k, &buffer),
     }
+    print::end();
 }
 
 // Right answers for n 1 and m 3.
 fn least() -> Fields {
-    fields(1, 2, 2, 1, 3)
+    handed(1, 2, 2, 1, 3)
 }
 
 fn bottomless() -> Fields {
-    fields(2, 0, 4, 1, 3)
+    handed(2, 0, 4, 1, 3)
 }
 
 fn none() -> Fields {
-    fields(3, 0, 2, 1, 3)
+    handed(3, 0, 2, 1, 3)
 }
 
 fn handed_over() {
-    show(b"n 31 m 63", fields(1, 32, 32, 31, 63));
-    show(b"n 32 m 63", fields(1, 33, 33, 32, 63));
-    show(b"n 31 m 64", fields(1, 32, 32, 31, 64));
-    show(b"class 2, n 31 m 63", fields(2, 0, 64, 31, 63));
-    show(b"class 2, n 31 m 64", fields(2, 0, 65, 31, 64));
-    show(b"class 3, n 31 m 63", fields(3, 0, 32, 31, 63));
-    show(b"class 3, n 32 m 63", fields(3, 0, 33, 32, 63));
+    show(b"n 31 m 63", handed(1, 32, 32, 31, 63));
+    show(b"n 32 m 63", handed(1, 33, 33, 32, 63));
+    show(b"n 31 m 64", handed(1, 32, 32, 31, 64));
+    show(b"class 2, n 31 m 63", handed(2, 0, 64, 31, 63));
+    show(b"class 2, n 31 m 64", handed(2, 0, 65, 31, 64));
+    show(b"class 3, n 31 m 63", handed(3, 0, 32, 31, 63));
+    show(b"class 3, n 32 m 63", handed(3, 0, 33, 32, 63));
 }
 
 fn rooms() {
@@ -160,37 +177,40 @@ fn rooms() {
     show(b"class 1, 207 bytes of room", least().room(207));
     show(b"class 2, 205 bytes of room", bottomless().room(205));
     show(b"class 3, 205 bytes of room", none().room(205));
-    show(b"n 31, 206 bytes of room", fields(1, 32, 32, 31, 0).room(206));
+    show(
+        b"n 31, 206 bytes of room",
+        handed(1, 32, 32, 31, 0).room(206),
+    );
 }
 
 fn classes() {
-    show(b"class 0", fields(0, 0, 2, 1, 3));
+    show(b"class 0", handed(0, 0, 2, 1, 3));
     show(b"class 1", least());
     show(b"class 2", bottomless());
     show(b"class 3", none());
-    show(b"class 4", fields(4, 0, 2, 1, 3));
-    show(b"class 65537", fields(65537, 2, 2, 1, 3).span(ZERO));
-    show(b"class 2^64 - 1", fields(18446744073709551615, 0, 2, 1, 3));
+    show(b"class 4", handed(4, 0, 2, 1, 3));
+    show(b"class 65537", handed(65537, 2, 2, 1, 3).span(ZERO));
+    show(b"class 2^64 - 1", handed(18446744073709551615, 0, 2, 1, 3));
 }
 
 fn stamp_counts() {
-    show(b"class 1, stamps n", fields(1, 1, 2, 1, 3));
-    show(b"class 1, stamps n + 2", fields(1, 3, 2, 1, 3));
-    show(b"class 1, no stamps", fields(1, 0, 2, 1, 3));
-    show(b"class 2, one stamp", fields(2, 1, 4, 1, 3));
-    show(b"class 2, stamps n + 1", fields(2, 2, 4, 1, 3));
-    show(b"class 3, one stamp", fields(3, 1, 2, 1, 3));
-    show(b"class 3, stamps n + 1", fields(3, 2, 2, 1, 3));
+    show(b"class 1, stamps n", handed(1, 1, 2, 1, 3));
+    show(b"class 1, stamps n + 2", handed(1, 3, 2, 1, 3));
+    show(b"class 1, no stamps", handed(1, 0, 2, 1, 3));
+    show(b"class 2, one stamp", handed(2, 1, 4, 1, 3));
+    show(b"class 2, stamps n + 1", handed(2, 2, 4, 1, 3));
+    show(b"class 3, one stamp", handed(3, 1, 2, 1, 3));
+    show(b"class 3, stamps n + 1", handed(3, 2, 2, 1, 3));
 }
 
 fn pick_counts() {
-    show(b"class 1, picks n", fields(1, 2, 1, 1, 3));
-    show(b"class 1, picks n + 2", fields(1, 2, 3, 1, 3));
-    show(b"class 2, picks m", fields(2, 0, 3, 1, 3));
-    show(b"class 2, picks m + 2", fields(2, 0, 5, 1, 3));
-    show(b"class 2, picks n + 1", fields(2, 0, 2, 1, 3));
-    show(b"class 3, picks n", fields(3, 0, 1, 1, 3));
-    show(b"class 3, picks n + 2", fields(3, 0, 3, 1, 3));
+    show(b"class 1, picks n", handed(1, 2, 1, 1, 3));
+    show(b"class 1, picks n + 2", handed(1, 2, 3, 1, 3));
+    show(b"class 2, picks m", handed(2, 0, 3, 1, 3));
+    show(b"class 2, picks m + 2", handed(2, 0, 5, 1, 3));
+    show(b"class 2, picks n + 1", handed(2, 0, 2, 1, 3));
+    show(b"class 3, picks n", handed(3, 0, 1, 1, 3));
+    show(b"class 3, picks n + 2", handed(3, 0, 3, 1, 3));
 }
 
 fn spans() {
@@ -203,10 +223,16 @@ fn spans() {
 
 fn wide_spans() {
     show(b"class 1, span number 2^32", least().span(FULL));
-    show(b"class 1, span number 2^32 + 2^31", least().span(6442450944));
+    show(
+        b"class 1, span number 2^32 + 2^31",
+        least().span(6442450944),
+    );
     show(b"class 2, span number 2^32", bottomless().span(FULL));
     show(b"class 3, span number 2^32", none().span(FULL));
-    show(b"class 1, span number 2^64 - 1", least().span(18446744073709551615));
+    show(
+        b"class 1, span number 2^64 - 1",
+        least().span(18446744073709551615),
+    );
 }
 
 fn other_spans() {
@@ -254,12 +280,27 @@ fn other_picks() {
 
 // Two refusals apply, and the first is given.
 fn orders() {
-    show(b"n 32, 205 bytes of room", fields(1, 33, 33, 32, 0).room(205));
-    show(b"205 bytes of room, class 4", fields(4, 2, 2, 1, 3).room(205));
-    show(b"class 4, one stamp", fields(4, 1, 2, 1, 3));
-    show(b"stamps n, span 645121", fields(1, 1, 2, 1, 3).span(plus(645121)));
-    show(b"picks n, stamp 2000001", fields(1, 2, 1, 1, 3).stamp(1, plus(2000001)));
-    show(b"span 645121, pick m + 2", least().span(plus(645121)).pick(1, 5));
+    show(
+        b"n 32, 205 bytes of room",
+        handed(1, 33, 33, 32, 0).room(205),
+    );
+    show(
+        b"205 bytes of room, class 4",
+        handed(4, 2, 2, 1, 3).room(205),
+    );
+    show(b"class 4, one stamp", handed(4, 1, 2, 1, 3));
+    show(
+        b"stamps n, span 645121",
+        handed(1, 1, 2, 1, 3).span(plus(645121)),
+    );
+    show(
+        b"picks n, stamp 2000001",
+        handed(1, 2, 1, 1, 3).stamp(1, plus(2000001)),
+    );
+    show(
+        b"span 645121, pick m + 2",
+        least().span(plus(645121)).pick(1, 5),
+    );
 }
 
 pub fn run() {
