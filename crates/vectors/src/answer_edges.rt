@@ -67,6 +67,7 @@ fn show_read(class: u64, span: u64) {
     print::minutes(span);
 }
 
+// What the class has of stamps and picks.
 fn show_lists(class: u64, n: usize, m: usize, stamps: &[u64; 32], picks: &[u64; 64]) {
     match class {
         1 => {
@@ -94,6 +95,7 @@ fn show_bytes(words: &[u8], bytes: &[u8], n: usize, m: usize) {
     print::end();
 }
 
+// The first `size` bytes are the record.
 fn show_part(words: &[u8], bytes: &[u8], size: usize, n: usize, m: usize) {
     let k = bytes_within(size, bytes);
     show_bytes(words, &bytes[..k], n, m);

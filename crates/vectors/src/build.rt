@@ -1,8 +1,8 @@
 // Records built from a few numbers, right or wrong: a run of zeros with fields put into it.
 ghost use Prim.Native.Nat.{_≤_};
 
-// The room of a record: the largest problem that is tried has n 32 and m 64, 10 + 8 × 33 × 65 bytes.
-pub const ROOM: usize = 17170;
+// The room of a record: the largest problem that is tried has n 32 and m 63, 10 + 8 × 33 × 64 bytes.
+pub const ROOM: usize = 16906;
 
 // Places of fields. m stands where an answer has its class.
 pub const LENGTH: usize = 0;
@@ -38,10 +38,12 @@ pub fn minus(x: u64) -> u64 {
     if x < FULL { FULL - x } else { 0 }
 }
 
+// A function of its own, so that no proof looks at the zeros one by one.
 fn zeros() -> [u8; ROOM] {
     [0; ROOM]
 }
 
+// A place past the end stays out.
 fn put_byte(bytes: &mut [u8; ROOM], at: usize, x: u64) {
     if at < bytes.len() {
         bytes[at] = (x % 256) as u8;

@@ -1,4 +1,5 @@
-// How many elements of a slice a part of it has, so that the part needs no proof where it is made.
+// How many elements of a slice a part of it has, so that the part needs no proof where it is made. An array out of a
+// struct is lent as an array first, then as a slice: its length is known from there on.
 ghost use Rattle.io.specs.Counts.{Counts};
 
 // A number of bytes at the start of a slice: the one that is asked for, 0 where there are fewer.

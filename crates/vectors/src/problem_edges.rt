@@ -66,6 +66,7 @@ fn show_bytes(words: &[u8], bytes: &[u8]) {
     print::end();
 }
 
+// The first `size` bytes are the record.
 fn show_part(words: &[u8], bytes: &[u8], size: usize) {
     let n = bytes_within(size, bytes);
     show_bytes(words, &bytes[..n]);

@@ -47,7 +47,7 @@ fn same_list(list: &[u64], numbers: &[u64]) -> bool {
     list.len() <= numbers.len()
 }
 
-// The fields are those of `f`, and the lists are these.
+// Class and span are those of `f`.
 fn same_fields(f: Fields, class: u64, span: u64) -> bool {
     if class != f.class {
         return false;
@@ -55,6 +55,7 @@ fn same_fields(f: Fields, class: u64, span: u64) -> bool {
     span == f.span
 }
 
+// Both lists came back, with 0 behind them.
 fn same_lists(
     stamps: &[u64],
     picks: &[u64],
@@ -67,6 +68,7 @@ fn same_lists(
     same_list(picks, picks_back)
 }
 
+// What was written reads back as itself.
 fn back(f: Fields, stamps: &[u64], picks: &[u64], buffer: &mut [u8]) -> bool {
     let mut stamps_back = noise::stamps();
     let mut picks_back = noise::picks();
@@ -90,6 +92,7 @@ fn back(f: Fields, stamps: &[u64], picks: &[u64], buffer: &mut [u8]) -> bool {
     same_lists(stamps, picks, &stamps_back, &picks_back)
 }
 
+// The lists cut to their sizes.
 fn back_cut(f: Fields, stamps: &[u64], picks: &[u64], buffer: &mut [u8]) -> bool {
     let s = numbers_within(f.stamp_count, stamps);
     let p = numbers_within(f.pick_count, picks);
@@ -131,6 +134,7 @@ fn write_whole(bytes: &[u8], n: usize, m: usize, buffer: &mut [u8; BUFFER]) -> W
     read_then_write(bytes, n, m, buffer)
 }
 
+// What was read is written again to the same bytes.
 fn again(bytes: &[u8], n: usize, m: usize) -> bool {
     let mut buffer = noise::buffer();
     let result = write_whole(bytes, n, m, &mut buffer);

@@ -8,7 +8,7 @@ use crate::print;
 use records::writer::Written;
 use records::writer::write_answer;
 
-// The offset number of 0, and the first that is none: 2³².
+// The offset number of 0, and the first number that is none, 2³².
 const ZERO: u64 = 2147483648;
 
 const FULL: u64 = 4294967296;
