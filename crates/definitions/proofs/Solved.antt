@@ -28,5 +28,5 @@ answers-taken {p} {a = a} room h g long ans =
       class-known = subst (λ (c : ℕ). known-class c ≡ true) (sym (ans .class-is)) (found-known (ans .found));
       stamps-count = eqb-true _ _ (counts .0);
       picks-count = eqb-true _ _ (counts .1);
-      form = form-fits a (p .n) (p .m) .0 (ans .form)
+      form = form-fits a (p .n) (p .m) .0 (ans .form);
     }

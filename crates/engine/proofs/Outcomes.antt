@@ -38,41 +38,41 @@ use Rattle.engine.specs.Outcome.{solvedOf, refusedBy, FoundFor, WroteFor
 
 -- What the writer was handed is what was found, cut to the counts of the class.
 handed :
-  (n m class span s p : ℕ) (stamps picks : List ℕ) (r : Written) (before after : List ℕ)
-  → AnswerWritten (fieldsOf class span (take s stamps) (take p picks)) n m r before after → s ≡ stampCount class n → p ≡ pickCount class n m
-  → AnswerWritten (answerIn n m class span stamps picks) n m r before after
+    (n m class span s p : ℕ) (stamps picks : List ℕ) (r : Written) (before after : List ℕ)
+    → AnswerWritten (fieldsOf class span (take s stamps) (take p picks)) n m r before after → s ≡ stampCount class n → p ≡ pickCount class n m
+    → AnswerWritten (answerIn n m class span stamps picks) n m r before after
 handed n m class span s p stamps picks r before after w e f =
     subst₂ (λ (i k : ℕ). AnswerWritten (fieldsOf class span (take i stamps) (take k picks)) n m r before after) e f w
 
 module _
-  (n m class span trials s p : ℕ) (stamps picks : List ℕ) (r : Written) (before after : List ℕ)
-  (wrote : AnswerWritten (fieldsOf class span (take s stamps) (take p picks)) n m r before after)
-  (s-is : s ≡ stampCount class n) (p-is : p ≡ pickCount class n m) (found : FoundFor n m (length before) class span stamps picks)
+    (n m class span trials s p : ℕ) (stamps picks : List ℕ) (r : Written) (before after : List ℕ)
+    (wrote : AnswerWritten (fieldsOf class span (take s stamps) (take p picks)) n m r before after)
+    (s-is : s ≡ stampCount class n) (p-is : p ≡ pickCount class n m) (found : FoundFor n m (length before) class span stamps picks)
   where
-  record-answered : r ≡ Writes.Record (answerSize class n m)
-  unfolding writtenOf writtenBy
-  record-answered =
-      handed n m class span s p stamps picks r before after wrote s-is p-is .answered
-      ∙ ap (λ (i : ℕ). writtenBy i (answerSize class n m)) (found .taken)
+    record-answered : r ≡ Writes.Record (answerSize class n m)
+    unfolding writtenOf writtenBy
+    record-answered =
+        handed n m class span s p stamps picks r before after wrote s-is p-is .answered
+        ∙ ap (λ (i : ℕ). writtenBy i (answerSize class n m)) (found .taken)
 
-  -- The writer does not refuse it.
-  pub never-refused : {k : ℕ} → r ≡ Writes.Refused k → ⊥
-  never-refused {k} f =
-      let g : Writes.Record (answerSize class n m) ≡ Writes.Refused k = sym record-answered ∙ f in
-      let z : _≡_ {A = ℕ} 0 1 = cc in omega arith
+    -- The writer does not refuse it.
+    pub never-refused : {k : ℕ} → r ≡ Writes.Refused k → ⊥
+    never-refused {k} f =
+        let g : Writes.Record (answerSize class n m) ≡ Writes.Refused k = sym record-answered ∙ f in
+        let z : _≡_ {A = ℕ} 0 1 = cc in omega arith
 
-  -- The record stands in the buffer.
-  pub wrote-for : {size : ℕ} → r ≡ Writes.Record size → WroteFor n m class span trials stamps picks (Results′.Answered class span trials size) before after
-  unfolding unlessRefused
-  wrote-for {size} f =
-      let g : Writes.Record size ≡ Writes.Record (answerSize class n m) = sym f ∙ record-answered in
-      let q : size ≡ answerSize class n m = cc in
-      record {
-        result-is = ap (λ (i : ℕ). Results′.Answered class span trials i) q;
-        buffer-is =
-          handed n m class span s p stamps picks r before after wrote s-is p-is .buffer
-          ∙ ap (λ (i : ℕ). unlessRefused i before (written before (answerBytes n (answerIn n m class span stamps picks)))) (found .taken)
-      }
+    -- The record stands in the buffer.
+    pub wrote-for : {size : ℕ} → r ≡ Writes.Record size → WroteFor n m class span trials stamps picks (Results′.Answered class span trials size) before after
+    unfolding unlessRefused
+    wrote-for {size} f =
+        let g : Writes.Record size ≡ Writes.Record (answerSize class n m) = sym f ∙ record-answered in
+        let q : size ≡ answerSize class n m = cc in
+        record {
+          result-is = ap (λ (i : ℕ). Results′.Answered class span trials i) q;
+          buffer-is =
+              handed n m class span s p stamps picks r before after wrote s-is p-is .buffer
+              ∙ ap (λ (i : ℕ). unlessRefused i before (written before (answerBytes n (answerIn n m class span stamps picks)))) (found .taken);
+        }
 
 -- ---- what was found can be written
 
@@ -80,8 +80,8 @@ cut-enough : (k : ℕ) (xs : List ℕ) → length (take k xs) ≡ k → k ≤ le
 cut-enough k xs e = omega (arith, length-take k xs)
 
 pub found-for :
-  (p : Problem) (n m room class span trials : ℕ) (stamps picks : List ℕ) → p .n ≡ n → p .m ≡ m → n ≤ highest-n → m ≤ highest-m → answer-most ≤ room
-  → Answers p class (tropOf span) trials (answerIn n m class span stamps picks) → FoundFor n m room class span stamps picks
+    (p : Problem) (n m room class span trials : ℕ) (stamps picks : List ℕ) → p .n ≡ n → p .m ≡ m → n ≤ highest-n → m ≤ highest-m → answer-most ≤ room
+    → Answers p class (tropOf span) trials (answerIn n m class span stamps picks) → FoundFor n m room class span stamps picks
 found-for p n m room class span trials stamps picks e f h g long ans =
     let w : WriterFits (answerIn n m class span stamps picks) n m room =
     subst₂ (λ (i k : ℕ). WriterFits (answerIn n m class span stamps picks) i k room) e f (answers-taken room (rw e h) (rw f g) long ans) in
@@ -90,7 +90,7 @@ found-for p n m room class span trials stamps picks e f h g long ans =
       m-most = g;
       stamps-enough = cut-enough (stampCount class n) stamps (sym (length-map (take (stampCount class n) stamps) tropOf) ∙ w .stamps-count);
       picks-enough = cut-enough (pickCount class n m) picks (w .picks-count);
-      taken = writer-fits (answerIn n m class span stamps picks) n m room .1 w
+      taken = writer-fits (answerIn n m class span stamps picks) n m room .1 w;
     }
 
 -- ---- the result
@@ -111,7 +111,7 @@ refuses-with p before (suc k) e h = turned-away (problem-first p (length before)
 
 -- A problem that is refused.
 pub refuses-problem : (p before : List ℕ) {header : Header} {k r : ℕ} → header ≡ headerBy (problemRefusal p) (nField p) (mField p) → header ≡ Headers.Refused k → r ≡ refusedBy header
-  → Solves p before (solvedOf (Results′.Refused r)) before
+    → Solves p before (solvedOf (Results′.Refused r)) before
 unfolding solvedOf refusedBy
 refuses-problem p before {header} {k} {r} e f g =
     let h = answer-refused (problemRefusal p) (nField p) (mField p) e f in
@@ -138,7 +138,7 @@ read-problem {p} b r f =
       none = h .0;
       n-is = sym (h .1);
       m-is = sym (h .2);
-      decoded = rw (r .left-read (h .0), r .right-read (h .0)) (problem-decoded p b (h .0))
+      decoded = rw (r .left-read (h .0), r .right-read (h .0)) (problem-decoded p b (h .0));
     }
 
 pub read-tables : {p : List ℕ} {n m : ℕ} {left right : List ℕ} → Read p n m left right → Coefficients n m left right
@@ -148,28 +148,28 @@ read-tables r =
       n-most = rw (← r .n-is) (d .n-most);
       m-most = rw (← r .m-is) (d .m-most);
       lefts = record { size = d .left-length; near = d .left-near };
-      rights = record { size = d .right-length; near = d .right-near }
+      rights = record { size = d .right-length; near = d .right-near };
     }
 
 module _
-  (p before : List ℕ) {n m : ℕ} {left right : List ℕ} {class span trials : ℕ} {stamps picks : List ℕ}
-  (read : Read p n m left right) (long : answer-most ≤ length before) (found : Tables.Answered n m left right class span trials stamps picks)
+    (p before : List ℕ) {n m : ℕ} {left right : List ℕ} {class span trials : ℕ} {stamps picks : List ℕ}
+    (read : Read p n m left right) (long : answer-most ≤ length before) (found : Tables.Answered n m left right class span trials stamps picks)
   where
-  pub read-found : FoundFor n m (length before) class span stamps picks
-  read-found =
-      let d = read-tables read in
-      found-for (problemOf p) n m (length before) class span trials stamps picks (read .n-is) (read .m-is) (d .n-most) (d .m-most) long
-      (found .answers (problemOf p) (read .decoded) (read .n-is) (read .m-is))
+    pub read-found : FoundFor n m (length before) class span stamps picks
+    read-found =
+        let d = read-tables read in
+        found-for (problemOf p) n m (length before) class span trials stamps picks (read .n-is) (read .m-is) (d .n-most) (d .m-most) long
+        (found .answers (problemOf p) (read .decoded) (read .n-is) (read .m-is))
 
-  nothing-refused : engineRefusal p (length before) ≡ 0
-  nothing-refused = room-next p (length before) (read .none) ∙ ap (λ (t : Bool). cond t 7 0) (le-ltb (length before) answer-most long)
+    nothing-refused : engineRefusal p (length before) ≡ 0
+    nothing-refused = room-next p (length before) (read .none) ∙ ap (λ (t : Bool). cond t 7 0) (le-ltb (length before) answer-most long)
 
-  pub solves-it : {r : Solved} {after : List ℕ} → WroteFor n m class span trials stamps picks r before after → Solves p before (solvedOf r) after
-  unfolding solvedOf problemOf
-  solves-it {r} {after} w =
-      let a = answerIn n m class span stamps picks in
-      let size : Results.answered class (tropOf span) trials (answerSize class (nField p) (mField p)) ≡ solvedOf r =
-      ap₂ (λ (i k : ℕ). Results.answered class (tropOf span) trials (answerSize class i k)) (read .n-is) (read .m-is) ∙ sym (ap solvedOf (w .result-is)) in
-      let bytes : written before (answerBytes (nField p) a) ≡ after = ap (λ (i : ℕ). written before (answerBytes i a)) (read .n-is) ∙ sym (w .buffer-is) in
-      subst₂ (λ (x : Results.Solved) (y : List ℕ). Solves p before x y) size bytes
-      (solved a nothing-refused (found .answers (problemOf p) (read .decoded) (read .n-is) (read .m-is)))
+    pub solves-it : {r : Solved} {after : List ℕ} → WroteFor n m class span trials stamps picks r before after → Solves p before (solvedOf r) after
+    unfolding solvedOf problemOf
+    solves-it {r} {after} w =
+        let a = answerIn n m class span stamps picks in
+        let size : Results.answered class (tropOf span) trials (answerSize class (nField p) (mField p)) ≡ solvedOf r =
+        ap₂ (λ (i k : ℕ). Results.answered class (tropOf span) trials (answerSize class i k)) (read .n-is) (read .m-is) ∙ sym (ap solvedOf (w .result-is)) in
+        let bytes : written before (answerBytes (nField p) a) ≡ after = ap (λ (i : ℕ). written before (answerBytes i a)) (read .n-is) ∙ sym (w .buffer-is) in
+        subst₂ (λ (x : Results.Solved) (y : List ℕ). Solves p before x y) size bytes
+        (solved a nothing-refused (found .answers (problemOf p) (read .decoded) (read .n-is) (read .m-is)))

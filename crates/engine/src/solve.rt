@@ -5,12 +5,15 @@ ghost use lib.ListN.{length};
 ghost use Rattle.definitions.specs.Limits.{answer-most};
 ghost use Rattle.definitions.specs.Solved.{Solves};
 ghost use Rattle.engine.specs.Outcome.{solvedOf, refusedBy, FoundFor, WroteFor};
-
-use crate::answer::{solve_tables, Answer};
-use records::class::{pick_count, stamp_count};
+use crate::answer::Answer;
+use crate::answer::solve_tables;
+use records::class::pick_count;
+use records::class::stamp_count;
 use records::limits::ANSWER_MOST;
-use records::problem::{read_problem, Header};
-use records::writer::{write_answer, Written};
+use records::problem::Header;
+use records::problem::read_problem;
+use records::writer::Written;
+use records::writer::write_answer;
 
 // What the engine answers: refused with the number, or answered with class, the span's offset number, trials and the
 // record's length.

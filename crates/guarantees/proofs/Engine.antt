@@ -112,7 +112,7 @@ quoted-is-smallest engine solves p buffer b c w long s trials size e =
 
 -- The answer's fields are such as the writer takes, so they read back from their bytes.
 answer-takes : (p : List ℕ) → WithinLayout p → {class : ℕ} {span : Trop} {trials : ℕ} (a : Answer) → Answers (problemOf p) class span trials a
-  → WriterFits a (nField p) (mField p) answer-most
+    → WriterFits a (nField p) (mField p) answer-most
 unfolding problemOf
 answer-takes p w a ans = let f = problem-fits p .0 w in answers-taken answer-most (f .n-most) (f .m-most) (omega arith) ans
 

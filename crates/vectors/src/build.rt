@@ -1,0 +1,107 @@
+// Records built from a few numbers, right or wrong: a run of zeros with fields put into it.
+ghost use Prim.Native.Nat.{_≤_};
+
+// The room of a record: the largest problem that is tried has n 32 and m 63, 10 + 8 × 33 × 64 bytes.
+pub const ROOM: usize = 16906;
+
+// Places of fields. m stands where an answer has its class.
+pub const LENGTH: usize = 0;
+
+pub const KIND: usize = 4;
+
+pub const N: usize = 6;
+
+pub const M: usize = 8;
+
+pub const CLASS: usize = 8;
+
+pub const SPAN: usize = 10;
+
+// Where the leads of a problem, and the stamps or picks of an answer start.
+pub const LEADS: usize = 10;
+
+pub const BODY: usize = 14;
+
+// The field of a blank, and the first number that 4 bytes do not hold.
+pub const BLANK: u64 = 2147483648;
+
+const FULL: u64 = 4294967296;
+
+// Bytes, and how many of them the record has.
+pub struct Record {
+    pub bytes: [u8; ROOM],
+    pub size: usize,
+}
+
+// The 4-byte field of −x.
+pub fn minus(x: u64) -> u64 {
+    if x < FULL { FULL - x } else { 0 }
+}
+
+// A function of its own, so that no proof looks at the zeros one by one.
+fn zeros() -> [u8; ROOM] {
+    [0; ROOM]
+}
+
+// A place past the end stays out.
+fn put_byte(bytes: &mut [u8; ROOM], at: usize, x: u64) {
+    if at < bytes.len() {
+        bytes[at] = (x % 256) as u8;
+    }
+}
+
+fn put_short(bytes: &mut [u8; ROOM], at: usize, x: u64)
+    requires { ⌜ at ≤ 20002 ⌝ }
+{
+    put_byte(bytes, at, x);
+    put_byte(bytes, at + 1, x / 256);
+}
+
+fn put_word(bytes: &mut [u8; ROOM], at: usize, x: u64)
+    requires { ⌜ at ≤ 20000 ⌝ }
+{
+    put_short(bytes, at, x);
+    put_short(bytes, at + 2, x / 65536);
+}
+
+impl Record {
+    // The record with a field of 2 bytes at a place.
+    pub fn short(mut self, at: usize, x: u64) -> Record
+        requires { ⌜ at ≤ 20000 ⌝ }
+    {
+        put_short(&mut self.bytes, at, x);
+        self
+    }
+
+    // The record with a field of 4 bytes at a place.
+    pub fn word(mut self, at: usize, x: u64) -> Record
+        requires { ⌜ at ≤ 20000 ⌝ }
+    {
+        put_word(&mut self.bytes, at, x);
+        self
+    }
+}
+
+// A record of this size with the right length field and a kind.
+fn framed(size: usize, kind: u64) -> Record {
+    let r = Record {
+        bytes: zeros(),
+        size: size,
+    };
+    let length = if size < 4 { 0 } else { size as u64 - 4 };
+    r.word(LENGTH, length).short(KIND, kind)
+}
+
+// A problem whose leads are all 0.
+pub fn problem(n: u64, m: u64, size: usize) -> Record {
+    framed(size, 1).short(N, n).short(M, m)
+}
+
+// An answer for a problem of this n: its stamps and picks all 0, its span 0 in class 1 and else blank.
+pub fn answer(class: u64, n: u64, size: usize) -> Record {
+    let span = if class == 1 { 0 } else { BLANK };
+    framed(size, 2)
+        .short(N, n)
+        .short(CLASS, class)
+        .word(SPAN, span)
+}

@@ -1,0 +1,58 @@
+// Lent places are filled with noise beforehand, so that what was written shows.
+ghost use mathlib.Core.Path.{_≡_};
+ghost use lib.ListN.{length};
+
+const BYTE: u8 = 165;
+
+const NUMBER: u64 = 11574427654092267680;
+
+// The room of the buffers that are lent to the writer.
+pub const BUFFER: usize = 300;
+
+pub fn table() -> [u64; 2048]
+    ensures { λ r. ⌜ length r ≡ 2048 ⌝ }
+{
+    [NUMBER; 2048]
+}
+
+pub fn stamps() -> [u64; 32]
+    ensures { λ r. ⌜ length r ≡ 32 ⌝ }
+{
+    [NUMBER; 32]
+}
+
+pub fn picks() -> [u64; 64]
+    ensures { λ r. ⌜ length r ≡ 64 ⌝ }
+{
+    [NUMBER; 64]
+}
+
+pub fn buffer() -> [u8; BUFFER]
+    ensures { λ r. ⌜ length r ≡ 300 ⌝ }
+{
+    [BYTE; BUFFER]
+}
+
+// Every number is noise still.
+pub fn untouched(numbers: &[u64]) -> bool {
+    let mut i = 0;
+    while i < numbers.len() {
+        if numbers[i] != NUMBER {
+            return false;
+        }
+        i += 1;
+    }
+    true
+}
+
+// Every byte from a place on is noise still.
+pub fn untouched_from(bytes: &[u8], at: usize) -> bool {
+    let mut i = at;
+    while i < bytes.len() {
+        if bytes[i] != BYTE {
+            return false;
+        }
+        i += 1;
+    }
+    true
+}

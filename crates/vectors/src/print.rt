@@ -1,0 +1,64 @@
+// What the lines are made of.
+use libc::STDOUT_FILENO;
+
+// The offset number of 0.
+const OFFSET: u64 = 2147483648;
+
+pub fn text(words: &[u8]) {
+    io::write_all(STDOUT_FILENO, words);
+}
+
+pub fn number(x: u64) {
+    io::print_decimal(STDOUT_FILENO, x);
+}
+
+pub fn end() {
+    text(b"\n");
+}
+
+// The start of a line: what is run, and the edge.
+pub fn edge(entry: &[u8], words: &[u8]) {
+    text(entry);
+    text(b", ");
+    text(words);
+    text(b": ");
+}
+
+// Words, then a number.
+pub fn counted(words: &[u8], x: u64) {
+    text(words);
+    number(x);
+}
+
+// A lead, stamp or span from its offset number.
+pub fn minutes(k: u64) {
+    if k == 0 {
+        text(b"blank");
+        return;
+    }
+    if k < OFFSET {
+        counted(b"-", OFFSET - k);
+        return;
+    }
+    number(k - OFFSET);
+}
+
+fn wide(x: u8) -> u64 {
+    x as u64
+}
+
+// Bytes in hexadecimal.
+pub fn hexadecimal(bytes: &[u8]) {
+    let mut i = 0;
+    while i < bytes.len() {
+        io::print_hex(STDOUT_FILENO, wide(bytes[i]), 2);
+        i += 1;
+    }
+}
+
+// The first n bytes of a line.
+pub fn front(line: &[u8], n: usize) {
+    if n <= line.len() {
+        io::write_all(STDOUT_FILENO, &line[..n]);
+    }
+}
