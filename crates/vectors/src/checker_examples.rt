@@ -2,17 +2,35 @@
 use crate::print;
 use checker::check::Verdict;
 use checker::check::check;
-use output::lines::LINE_MOST;
-use output::writer::write_verdict;
 
-// The line of a verdict, as the verdict program prints it.
+// What was accepted.
+fn accepted(class: u64, span: u64) {
+    match class {
+        1 => {
+            print::text(b"accepted least ");
+            print::minutes(span);
+        }
+        2 => print::text(b"accepted bottomless"),
+        _ => print::text(b"accepted none"),
+    }
+}
+
+// A verdict in the words of the verdict program.
 fn line(verdict: Verdict) {
-    let mut buf = [0u8; LINE_MOST];
-    let n = match verdict {
-        Verdict::Accepted(class, span) => write_verdict(&mut buf, 0, class, span),
-        Verdict::Refused(number) => write_verdict(&mut buf, number, 0, 0),
-    };
-    print::front(&buf, n);
+    match verdict {
+        Verdict::Accepted(class, span) => accepted(class, span),
+        Verdict::Refused(number) => refused(number),
+    }
+    print::end();
+}
+
+// A refusal.
+fn refused(number: usize) {
+    if number == 14 {
+        print::text(b"not certified");
+        return;
+    }
+    print::counted(b"refused ", number as u64);
 }
 
 // One example: its name, and the verdict on its bytes.

@@ -55,10 +55,3 @@ pub fn hexadecimal(bytes: &[u8]) {
         i += 1;
     }
 }
-
-// The first n bytes of a line.
-pub fn front(line: &[u8], n: usize) {
-    if n <= line.len() {
-        io::write_all(STDOUT_FILENO, &line[..n]);
-    }
-}
