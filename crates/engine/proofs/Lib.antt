@@ -13,3 +13,4 @@ pub mod RowsOf
 pub mod Form
 pub mod Final
 pub mod Outcomes
+pub mod Inputs

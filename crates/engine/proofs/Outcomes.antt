@@ -105,7 +105,7 @@ room-next : (p : List ℕ) (room : ℕ) → WithinLayout p → engineRefusal p r
 unfolding engineRefusal
 room-next p room w = rw w
 
-refuses-with : (p before : List ℕ) (k : ℕ) → problemRefusal p ≡ k → 0 < k → Solves p before (Results.refused k) before
+pub refuses-with : (p before : List ℕ) (k : ℕ) → problemRefusal p ≡ k → 0 < k → Solves p before (Results.refused k) before
 refuses-with p before zero e h = absurd (omega arith)
 refuses-with p before (suc k) e h = turned-away (problem-first p (length before) (rw e h) ∙ e)
 

@@ -3,6 +3,7 @@
 pub mod answer;
 pub mod bracket;
 pub mod halving;
+pub mod input;
 pub mod picks;
 pub mod policy;
 pub mod reach;

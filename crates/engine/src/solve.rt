@@ -22,8 +22,8 @@ pub enum Solved {
     Answered(u64, u64, u64, usize),
 }
 
-// The number with which a problem was refused.
-fn problem_refusal(header: Header) -> usize
+// The number with which a problem was refused. Public for `input`.
+pub fn problem_refusal(header: Header) -> usize
     ensures { λ r. ⌜ r ≡ refusedBy header ⌝ }
 {
     match header {

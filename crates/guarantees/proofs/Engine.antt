@@ -111,13 +111,13 @@ quoted-is-smallest engine solves p buffer b c w long s trials size e =
 -- ---- the record that was written
 
 -- The answer's fields are such as the writer takes, so they read back from their bytes.
-answer-takes : (p : List ℕ) → WithinLayout p → {class : ℕ} {span : Trop} {trials : ℕ} (a : Answer) → Answers (problemOf p) class span trials a
+pub answer-takes : (p : List ℕ) → WithinLayout p → {class : ℕ} {span : Trop} {trials : ℕ} (a : Answer) → Answers (problemOf p) class span trials a
     → WriterFits a (nField p) (mField p) answer-most
 unfolding problemOf
 answer-takes p w a ans = let f = problem-fits p .0 w in answers-taken answer-most (f .n-most) (f .m-most) (omega arith) ans
 
 -- A record as long as its class asks stands at the buffer's start.
-record-stands : (p buffer : List ℕ) → WithinLayout p → {class : ℕ} {span : Trop} {trials : ℕ} (a : Answer) → Answers (problemOf p) class span trials a
+pub record-stands : (p buffer : List ℕ) → WithinLayout p → {class : ℕ} {span : Trop} {trials : ℕ} (a : Answer) → Answers (problemOf p) class span trials a
     → take (answerSize class (nField p) (mField p)) (written buffer (answerBytes (nField p) a)) ≡ answerBytes (nField p) a
 unfolding written
 record-stands p buffer w {class} a ans =

@@ -1,0 +1,61 @@
+// The span program: a problem on standard input, the answer record or the line of the refusal on standard output. Document
+// 01, "Two programs".
+ghost use mathlib.Core.Path.{_≡_};
+ghost use Prim.Native.Nat.{ℕ, _≤_};
+ghost use mathlib.Core.List.{List};
+ghost use lib.ListN.{length, take};
+ghost use Rattle.definitions.specs.Programs.{KeptOf, SpanOutput};
+ghost use Rattle.span.specs.Shown.{out-most, Shown, shownRecord};
+use engine::input::solve_input;
+use engine::solve::Solved;
+use input::read_all;
+use libc::STDOUT_FILENO;
+use output::writer::write_record;
+use output::writer::write_refused;
+use records::limits::ANSWER_MOST;
+
+// Room for what is put out: a record, or a line.
+const OUT_MOST: usize = 256;
+
+// Puts the record of this size at the front of the buffer for output, and gives its size.
+fn put_record(out: &mut [u8], buffer: &[u8], size: usize) -> usize
+    requires { ⌜ length (now out) ≡ out-most ⌝ }
+    ensures { λ r. ⌜ (r ≤ out-most) × shownRecord size (now (buffer .entry)) (take r (now (out .exit))) ⌝ }
+{
+    if buffer.len() < size {
+        return 0;
+    }
+    if out.len() < size {
+        return 0;
+    }
+    write_record(out, &buffer[..size])
+}
+
+// Puts what a result shows at the front of the buffer for output, and gives its size.
+fn put_out(out: &mut [u8], buffer: &[u8], solved: Solved) -> usize
+    requires { ⌜ length (now out) ≡ out-most ⌝ }
+    ensures { λ r. ⌜ (r ≤ out-most) × Shown solved (now (buffer .entry)) (take r (now (out .exit))) ⌝ }
+{
+    match solved {
+        Solved::Refused(number) => write_refused(out, number),
+        Solved::Answered(_, _, _, size) => put_record(out, buffer, size),
+    }
+}
+
+// What the program puts out for every input of this size that begins with what was kept: so many bytes of the buffer.
+fn answer(kept: &[u8; 20000], size: u64, out: &mut [u8]) -> usize
+    requires { ⌜ length (now out) ≡ out-most ⌝ }
+    ensures { λ r. ⌜ (r ≤ out-most) × ((input : List ℕ) → KeptOf (now (kept .entry)) size input → SpanOutput input (take r (now (out .exit)))) ⌝ }
+{
+    let mut buffer = [0u8; ANSWER_MOST];
+    let solved = solve_input(kept, size, &mut buffer);
+    put_out(out, &buffer, solved)
+}
+
+fn main() {
+    let mut kept = [0u8; 20000];
+    let size = read_all(&mut kept);
+    let mut out = [0u8; OUT_MOST];
+    let n = answer(&kept, size, &mut out);
+    io::write_all(STDOUT_FILENO, &out[..n]);
+}
