@@ -116,3 +116,7 @@ pub output-A : VerdictOutput (example-A .problem ++ example-A .answer)
     (97 ∷ 99 ∷ 99 ∷ 101 ∷ 112 ∷ 116 ∷ 101 ∷ 100 ∷ 32 ∷ 108 ∷ 101 ∷ 97 ∷ 115 ∷ 116 ∷ 32 ∷ 51 ∷ 10 ∷ [])
 unfolding table examples example-A problemOf numAt answerOf tropAt tropField signed cutPlace problemPart answerPart verdictLine classWords spanDecimal wholeDecimal decimal digits text-accepted text-least
 output-A = record { verdict = accepted 1 (fin (pos 3)); judged = certified (head-same (tail-same no-refusals)) accepted-A; line = refl }
+
+-- The starred examples, together: A to K have document 01's class and span, and M is refused with 14.
+pub starred-examples : Each Shown examples × Judged (example-M .problem) (example-M .answer) (refused 14)
+starred-examples = (starred, judged-M)

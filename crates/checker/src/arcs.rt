@@ -1,4 +1,4 @@
-// The table of arcs of a strategy, 32 rows of 32: 0 no arc, else the arc's weight, scaled, above 2⁴⁰.
+// The table of arcs of a strategy, 32 rows of 32: 0 no arc, else 2⁴⁰ plus the arc's weight, scaled.
 ghost use mathlib.Core.Path.{_≡_};
 ghost use mathlib.Core.Bool.{cond};
 ghost use Prim.Native.Nat.{ℕ, suc, _+_, _*_, _≤_, _<_};

@@ -56,8 +56,7 @@ fn mark_round(arcs: &[u64; ARCS], width: usize, marks: [u8; 32]) -> [u8; 32]
 }
 
 // Marks of the variables that are reachable from the start, by rounds until one marks nothing new. Each round but the
-// last marks a variable, so there are at most as many as variables. (The engine, too, uses it: picks of variables that are
-// not reached play no part, and it writes 0 for them.)
+// last marks a variable, so there are at most as many as variables.
 pub fn reach(arcs: &[u64; ARCS], width: usize, start: [u8; 32]) -> [u8; 32]
     requires { ⌜ (width ≤ 32) × Flags start ⌝ }
     ensures { λ r. ⌜ Reached (now (arcs .entry)) width start r ⌝ }

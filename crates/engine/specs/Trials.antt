@@ -48,7 +48,7 @@ pub record Raised (before objective : List ℕ) (row t n : ℕ) (after : List �
   pub above : (k : ℕ) → k < row * 32 → getD after k 0 ≡ getD before k 0
   pub below : (k : ℕ) → row * 32 + n ≤ k → getD after k 0 ≡ getD before k 0
 
--- Two right tables that differ in the objective's row alone.
+-- Two right tables that agree in every row before the objective's.
 pub record Steady (m : ℕ) (before after : List ℕ) : Type 0 where
   pub above : (k : ℕ) → k < m * 32 → getD after k 0 ≡ getD before k 0
 

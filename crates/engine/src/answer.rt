@@ -24,8 +24,8 @@ const TOP: u64 = OFFSET + SPAN_LIMIT;
 
 const LOWEST: u64 = OFFSET - SPAN_LIMIT - 1;
 
-// Class (1 least, 2 bottomless, 3 none), span and stamps as offset numbers, trials made, and picks. Stamps and picks past
-// the counts of the class are 0.
+// Class (1 least, 2 bottomless, 3 none), span and stamps as offset numbers, trials made, and picks. Stamps and picks
+// count as far as the class has them.
 pub struct Answer {
     pub class: u64,
     pub span: u64,

@@ -1,4 +1,4 @@
-// The engine: the least span of a problem in two tables, by bisection over trials, each decided by policy iteration.
+// The engine: the least span of a problem in bytes, by bisection over trials on two tables, each decided by policy iteration.
 // Document 01, "The engine".
 pub mod answer;
 pub mod bracket;

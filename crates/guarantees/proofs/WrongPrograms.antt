@@ -97,10 +97,12 @@ form-M = refl
 
 -- ---- the wrong programs
 
--- The engine that says none to every problem, without a trial or with one (demand 2, A).
-pub none-to-every-problem :
-    (engine : Engine) (trials size : ℕ) → ((p buffer : List ℕ) → engine .result p buffer ≡ answered class-infeasible bot trials size) → LeastSpans engine → ⊥
-none-to-every-problem engine trials size always least = go (found-as engine _ zeros class-infeasible bot trials size (least _ zeros bytes-A bytes-zeros within-A long-zeros) (always _ zeros)) refl
+-- The engine that says none to every problem, without a trial or with some (demand 2, A).
+pub none-to-every-problem : (engine : Engine) (trials size : List ℕ → ℕ)
+    → ((p buffer : List ℕ) → WithinLayout p → answer-most ≤ length buffer → engine .result p buffer ≡ answered class-infeasible bot (trials p) (size p))
+    → LeastSpans engine → ⊥
+none-to-every-problem engine trials size always least =
+    go (found-as engine _ zeros class-infeasible bot _ _ (least _ zeros bytes-A bytes-zeros within-A long-zeros) (always _ zeros within-A long-zeros)) refl
   where
     go : {c : ℕ} {s : Trop} {t : ℕ} → Found (problemOf (example-A .problem)) c s t → c ≡ class-infeasible → ⊥
     go (optimal o) e = omega (arith, e)
@@ -108,9 +110,11 @@ none-to-every-problem engine trials size always least = go (found-as engine _ ze
     go (infeasible n) e = infinite-not-below (rw value-A at (n anchor-only feasible-A))
 
 -- The engine that calls all least with one fixed span (demand 2).
-pub all-least-with-one-span :
-    (engine : Engine) (s : ℤ) (trials size : ℕ) → ((p buffer : List ℕ) → engine .result p buffer ≡ answered class-optimal (fin s) trials size) → LeastSpans engine → ⊥
-all-least-with-one-span engine s trials size always least = go (found-as engine _ zeros class-optimal (fin s) trials size (least _ zeros bytes-B bytes-zeros within-B long-zeros) (always _ zeros)) refl
+pub all-least-with-one-span : (engine : Engine) (s : ℤ) (trials size : List ℕ → ℕ)
+    → ((p buffer : List ℕ) → WithinLayout p → answer-most ≤ length buffer → engine .result p buffer ≡ answered class-optimal (fin s) (trials p) (size p))
+    → LeastSpans engine → ⊥
+all-least-with-one-span engine s trials size always least =
+    go (found-as engine _ zeros class-optimal (fin s) _ _ (least _ zeros bytes-B bytes-zeros within-B long-zeros) (always _ zeros within-B long-zeros)) refl
   where
     go : {c : ℕ} {x : Trop} {t : ℕ} → Found (problemOf (example-B .problem)) c x t → c ≡ class-optimal → ⊥
     go (optimal {s = z} o) e = least-B z o
@@ -118,9 +122,11 @@ all-least-with-one-span engine s trials size always least = go (found-as engine 
     go (infeasible n) e = omega (arith, e)
 
 -- The engine that reports 23 trials always (the count's definition).
-pub always-23-trials :
-    (engine : Engine) (c : List ℕ → ℕ) (s : List ℕ → Trop) (size : ℕ) → ((p buffer : List ℕ) → engine .result p buffer ≡ answered (c p) (s p) most-trials size) → LeastSpans engine → ⊥
-always-23-trials engine c s size always least = go (found-as engine _ zeros _ _ most-trials size (least _ zeros bytes-B bytes-zeros within-B long-zeros) (always _ zeros)) refl
+pub always-23-trials : (engine : Engine) (c : List ℕ → ℕ) (s : List ℕ → Trop) (size : List ℕ → ℕ)
+    → ((p buffer : List ℕ) → WithinLayout p → answer-most ≤ length buffer → engine .result p buffer ≡ answered (c p) (s p) most-trials (size p))
+    → LeastSpans engine → ⊥
+always-23-trials engine c s size always least =
+    go (found-as engine _ zeros _ _ most-trials _ (least _ zeros bytes-B bytes-zeros within-B long-zeros) (always _ zeros within-B long-zeros)) refl
   where
     go : {k : ℕ} {x : Trop} {t : ℕ} → Found (problemOf (example-B .problem)) k x t → t ≡ most-trials → ⊥
     go (optimal {s = z} o) e = least-B z o

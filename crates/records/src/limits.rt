@@ -1,6 +1,6 @@
 // Every number of document 01 that the code uses, once.
 
-// The highest n and m, and the widths of the lent tables: a row of 32 columns, 64 rows.
+// The highest n and m.
 pub const MOST_VARIABLES: usize = 31;
 
 pub const MOST_INEQUALITIES: usize = 63;
