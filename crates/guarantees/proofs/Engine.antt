@@ -75,7 +75,7 @@ within-leads p w = record {
   right = λ i j a h g e. right-size p w i j h g e;
 }
 
-few : (p : List ℕ) → WithinLayout p → {class : ℕ} {span : Trop} {trials : ℕ} → Found (problemOf p) class span trials → trials ≤ most-trials
+pub few : (p : List ℕ) → WithinLayout p → {class : ℕ} {span : Trop} {trials : ℕ} → Found (problemOf p) class span trials → trials ≤ most-trials
 unfolding problemOf
 few p w (optimal {s = s} o) =
     few-trials s (optimal-range (problemOf p) lead-limit span-limit (within-leads p w) (top-enough (nField p) lead-limit (omega (arith, problem-fits p .0 w .n-most))) s o)
@@ -88,8 +88,8 @@ least-spans engine solves p buffer b c w long =
     record { class = e .class; span = e .span; trials = e .trials; size = answerSize (e .class) (nField p) (mField p); result-is = e .result-is; found = e .answers .found; few = few p w (e .answers .found) }
 
 -- What an engine finds, with class, span and trials as its result says them.
-result-parts : {c c′ : ℕ} {s s′ : Trop} {t t′ z z′ : ℕ} → answered c s t z ≡ answered c′ s′ t′ z′ → (c ≡ c′) × (s ≡ s′) × (t ≡ t′)
-result-parts e = (cc, cc, cc)
+pub result-parts : {c c′ : ℕ} {s s′ : Trop} {t t′ z z′ : ℕ} → answered c s t z ≡ answered c′ s′ t′ z′ → (c ≡ c′) × (s ≡ s′) × (t ≡ t′) × (z ≡ z′)
+result-parts e = (cc, cc, cc, cc)
 
 pub found-as : (engine : Engine) (p buffer : List ℕ) (c : ℕ) (s : Trop) (t z : ℕ) → FoundBy engine p buffer → engine .result p buffer ≡ answered c s t z
     → Found (problemOf p) c s t
@@ -149,7 +149,7 @@ engine-reads-back engine solves read reads p buffer b c w long =
 -- ---- the checker's own call on it
 
 -- A verdict on bytes of the right form that are accepted names their class and span.
-names-itself : (p s : List ℕ) (a : Answer) → checkRefusal p s ≡ 0 → answerFor p s ≡ a → Accepted (problemOf p) a → {v : Verdict} → Judged p s v
+pub names-itself : (p s : List ℕ) (a : Answer) → checkRefusal p s ≡ 0 → answerFor p s ≡ a → Accepted (problemOf p) a → {v : Verdict} → Judged p s v
     → v ≡ accepted (a .class) (a .span)
 names-itself p s a right back h (turned-away e) = absurd (let z : suc _ ≡ 0 = sym e ∙ right in omega arith)
 names-itself p s a right back h (certified e g) = ap (λ (x : Answer). accepted (x .class) (x .span)) back

@@ -1,4 +1,5 @@
 pub mod Engine
 pub mod Records
+pub mod OwnAnswers
 pub mod WrongPrograms
 pub mod Demands

@@ -1,0 +1,141 @@
+-- The engine's own record, judged by the checker and read by the reader.
+use Prim.Native.Nat.{ℕ, zero, suc, _+_, _≤_}
+use mathlib.Core.Path.{_≡_, refl, ap, ap₂, sym, subst, subst₃, _∙_}
+use mathlib.Core.List.{List}
+use native.Mathlib.Omega.{arith}
+use native.Mathlib.Nat.{zero-add}
+use lib.ListN.{length, take}
+use Rattle.definitions.specs.Limits.{answer-most}
+use Rattle.definitions.specs.Tropical.{Trop}
+use Rattle.definitions.specs.Offset.{tropOf}
+use Rattle.definitions.specs.Bytes.{Bytes, numAt}
+use Rattle.definitions.specs.ProblemRecord.{WithinLayout, headerRefusal, problemRefusal, problemOf, nField, mField}
+use Rattle.definitions.specs.AnswerRecord.{Answer, answerRefusal, answerOf, answerSize, answerBytes, written, classField}
+use Rattle.definitions.specs.Verdict as Verdicts
+use Rattle.definitions.specs.Verdict.{Verdict, accepted, checkRefusal, Judged}
+use Rattle.definitions.specs.Solved as Results
+use Rattle.definitions.specs.Solved.{Solved, answered, Answers, Solves, solved, engineRefusal}
+use Rattle.definitions.proofs.Refusals.{or-else-none, enough-clause, problem-fits}
+use Rattle.definitions.proofs.RoundTrip.{answer-length, answer-back, answer-accepted, size-most, answer-bytes}
+use Rattle.definitions.proofs.Put.{take-put, length-put}
+use Rattle.definitions.proofs.Offset.{tropOf-injective}
+use Rattle.records.specs.declared.problem.Header.{Header}
+use Rattle.records.specs.declared.problem.Header.the-variants as Headers
+use Rattle.records.specs.ProblemHeader.{headerBy, headerOf}
+use Rattle.records.specs.declared.answer.AnswerHead.{AnswerHead}
+use Rattle.records.specs.declared.answer.AnswerHead.the-variants as Heads
+use Rattle.records.specs.AnswerReading.{answerReadOf, headBy, spanNumber}
+use Rattle.records.proofs.Judging.{span-meant}
+use Rattle.engine.specs.declared.solve.Solved as Declared
+use Rattle.engine.specs.declared.solve.Solved.the-variants.{Refused, Answered}
+use Rattle.engine.specs.Outcome.{solvedOf}
+use Rattle.guarantees.specs.OwnAnswers.{OwnVerdict, OwnReading}
+use Rattle.guarantees.proofs.Engine.{answer-takes, result-parts, record-stands, names-itself}
+
+-- The engine answered: the record of an answer stands at the buffer's start.
+pub record Wrote (p before : List ℕ) (class : ℕ) (span : Trop) (trials size : ℕ) (after : List ℕ) : Type 0 where
+  pub none : engineRefusal p (length before) ≡ 0
+  pub within : WithinLayout p
+  pub answer : Answer
+  pub answers : Answers (problemOf p) class span trials answer
+  pub inside : size ≤ length after
+  pub bytes : take size after ≡ answerBytes (nField p) answer
+
+none-refused : (p : List ℕ) (room : ℕ) → engineRefusal p room ≡ 0 → WithinLayout p × (answer-most ≤ room)
+unfolding engineRefusal
+none-refused p room e =
+    let h = or-else-none (problemRefusal p) _ .0 e in
+    (h .0, enough-clause room answer-most 6 0 .0 (h .1) .0)
+
+wrote-record : (p before : List ℕ) {class : ℕ} {span : Trop} {trials : ℕ} (a : Answer) → engineRefusal p (length before) ≡ 0 → Answers (problemOf p) class span trials a
+    → Wrote p before class span trials (answerSize class (nField p) (mField p)) (written before (answerBytes (nField p) a))
+unfolding written
+wrote-record p before {class} a e ans =
+    let h = none-refused p (length before) e in
+    let f = problem-fits p .0 (h .0) in
+    let size : length (answerBytes (nField p) a) ≡ answerSize class (nField p) (mField p) =
+    answer-length a (nField p) (mField p) answer-most (answer-takes p (h .0) a ans) ∙ ap (λ (k : ℕ). answerSize k (nField p) (mField p)) (ans .class-is) in
+    let most = size-most class (nField p) (mField p) (f .n-most) (f .m-most) in
+    record {
+      none = e;
+      within = h .0;
+      answer = a;
+      answers = ans;
+      inside = rw (length-put before 0 (answerBytes (nField p) a) (omega arith) (omega (arith, size, most, h .1))) (omega (arith, most, h .1));
+      bytes = record-stands p before (h .0) a ans;
+    }
+
+-- What an answered result means.
+pub wrote : {p before after : List ℕ} {r : Solved} {class : ℕ} {span : Trop} {trials size : ℕ} → Solves p before r after → r ≡ answered class span trials size
+    → Wrote p before class span trials size after
+wrote (Results.turned-away e) f = absurd (let z : _≡_ {A = ℕ} 0 1 = cc in omega arith)
+wrote {p} {before} {after} {class = class} {span = span} {trials = trials} {size = size} (solved {class = c} a e ans) f =
+    let same = result-parts f in
+    let w = subst₃ (λ x y z. Wrote p before x y z (answerSize c (nField p) (mField p)) after) (same .0) (same .1) (same .2) (wrote-record p before a e ans) in
+    subst (λ (z : ℕ). Wrote p before class span trials z after) (same .3) w
+
+-- The code's result, refused.
+pub own-refused : {p before after : List ℕ} {r : Declared.Solved} {k : ℕ} → Solves p before (solvedOf r) after → r ≡ Refused k
+    → (OwnVerdict p before (Verdicts.refused k) after) × (OwnReading p before (Heads.Refused k) after)
+unfolding solvedOf
+own-refused {p} {before} {after} {r} {k} h e = go h (ap solvedOf e)
+  where
+    go : {x : Solved} {after : List ℕ} → Solves p before x after → x ≡ Results.refused k → (OwnVerdict p before (Verdicts.refused k) after) × (OwnReading p before (Heads.Refused k) after)
+    go (Results.turned-away {k = i} z) f =
+        let same : suc i ≡ k = cc in
+        (subst (λ (x : ℕ). OwnVerdict p before (Verdicts.refused x) before) same (OwnVerdict.turned-away z), subst (λ (x : ℕ). OwnReading p before (Heads.Refused x) before) same (OwnReading.turned-away z))
+    go (solved a z ans) f = absurd (let z : _≡_ {A = ℕ} 0 1 = cc in omega arith)
+
+-- The code's result, answered.
+pub own-wrote : {p before after : List ℕ} {r : Declared.Solved} {class span trials size : ℕ} → Solves p before (solvedOf r) after → r ≡ Answered class span trials size
+    → Wrote p before class (tropOf span) trials size after
+unfolding solvedOf
+own-wrote h e = wrote h (ap solvedOf e)
+
+pub own-inside : {p before after : List ℕ} {r : Declared.Solved} {class span trials size : ℕ} → Solves p before (solvedOf r) after → r ≡ Answered class span trials size → size ≤ length after
+own-inside h e = own-wrote h e .inside
+
+-- The checker accepts it.
+pub own-verdict : {p before after : List ℕ} {r : Declared.Solved} {class span trials size : ℕ} → Solves p before (solvedOf r) after → r ≡ Answered class span trials size
+    → {v : Verdict} → Judged p (take size after) v → OwnVerdict p before v after
+unfolding solvedOf checkRefusal
+own-verdict {p} {before} {after} {r} {class} {span} {trials} {size} h e {v} j =
+    let w = own-wrote h e in
+    let a = w .answer in
+    let f = answer-takes p (w .within) a (w .answers) in
+    let right : checkRefusal p (answerBytes (nField p) a) ≡ 0 = or-else-none (problemRefusal p) _ .1 (w .within, answer-accepted a (nField p) (mField p) answer-most f) in
+    let named : v ≡ accepted class (tropOf span) =
+    names-itself p (answerBytes (nField p) a) a right (answer-back a (nField p) (mField p) answer-most f) (w .answers .accepted) (rw (w .bytes) at j) ∙ ap₂ accepted (w .answers .class-is) (w .answers .span-is) in
+    rw named (OwnVerdict.own (w .none) (rw e at h))
+
+-- The reader gives class and span.
+pub own-reading : {p before after : List ℕ} {r : Declared.Solved} {class span trials size : ℕ} → Solves p before (solvedOf r) after → r ≡ Answered class span trials size
+    → {head : AnswerHead} → (WithinLayout p → head ≡ answerReadOf (take size after) (nField p) (mField p)) → OwnReading p before head after
+unfolding solvedOf answerReadOf headBy answerOf
+own-reading {p} {before} {after} {r} {class} {span} {trials} {size} h e {head} reads =
+    let w = own-wrote h e in
+    let a = w .answer in
+    let s : List ℕ = answerBytes (nField p) (w .answer) in
+    let f = answer-takes p (w .within) a (w .answers) in
+    let back = answer-back a (nField p) (mField p) answer-most f in
+    let class-is : classField (answerBytes (nField p) (w .answer)) ≡ class = ap (λ (x : Answer). x .class) back ∙ w .answers .class-is in
+    let span-is : spanNumber (answerBytes (nField p) (w .answer)) ≡ span = tropOf-injective _ span (span-meant (answer-bytes (nField p) a) (nField p) (mField p) ∙ ap (λ (x : Answer). x .span) back ∙ w .answers .span-is) in
+    let told : head ≡ Heads.Fields class span = reads (w .within) ∙ (rw (w .bytes, answer-accepted a (nField p) (mField p) answer-most f, class-is, span-is) refl) in
+    rw told (OwnReading.own (w .none) (rw e at h))
+
+-- ---- the problem's n and m
+
+within-header : (p : List ℕ) → WithinLayout p → headerOf p (length p) ≡ Headers.Fields (nField p) (mField p)
+unfolding problemRefusal headerOf headerBy
+within-header p w = let h : headerRefusal p (length p) ≡ 0 = or-else-none (headerRefusal p (length p)) _ .0 w .0 in rw h refl
+
+pub never-refused : (p : List ℕ) {header : Header} {k : ℕ} {A : Type 0} → header ≡ headerOf p (length p) → header ≡ Headers.Refused k → WithinLayout p → A
+never-refused p e f w = absurd (let g = within-header p w in let z : _≡_ {A = ℕ} 0 1 = cc in omega arith)
+
+pub reads-there : (p s : List ℕ) {header : Header} {n m : ℕ} {head : AnswerHead} → header ≡ headerOf p (length p) → header ≡ Headers.Fields n m
+    → head ≡ answerReadOf s n m → WithinLayout p → head ≡ answerReadOf s (nField p) (mField p)
+reads-there p s {n = n} {m} e f g w =
+    let h = within-header p w in
+    let n-is : n ≡ nField p = cc in
+    let m-is : m ≡ mField p = cc in
+    g ∙ ap₂ (answerReadOf s) n-is m-is

@@ -1,0 +1,52 @@
+// The engine's own answers: what the checker says of them, and what the reader gives. The bytes that are judged and read
+// are those that the engine wrote.
+ghost use mathlib.Core.Path.{_≡_};
+ghost use Rattle.definitions.specs.ProblemRecord.{WithinLayout, nField, mField};
+ghost use Rattle.records.specs.AnswerReading.{answerReadOf};
+ghost use Rattle.guarantees.specs.OwnAnswers.{OwnVerdict, OwnReading};
+ghost use Rattle.checker.specs.Outcome.{verdictOf};
+use checker::check::Verdict;
+use checker::check::check;
+use engine::solve::Solved;
+use engine::solve::solve;
+use records::answer::AnswerHead;
+use records::answer::read_answer;
+use records::problem::Header;
+use records::problem::read_header;
+
+// The engine, then the checker on what it wrote: accepted, with the engine's class and span.
+pub fn solve_then_check(problem: &[u8], answer: &mut [u8]) -> Verdict
+    ensures { λ r. ⌜ OwnVerdict (now (problem .entry)) (now (answer .entry)) (verdictOf r) (now (answer .exit)) ⌝ }
+{
+    let solved = solve(problem, answer);
+    match solved {
+        Solved::Refused(k) => Verdict::Refused(k),
+        Solved::Answered(_, _, _, size) => check(problem, &answer[..size]),
+    }
+}
+
+// What was written, read with the problem's n and m.
+fn read_own(problem: &[u8], written: &[u8]) -> AnswerHead
+    ensures { λ r. ⌜ (WithinLayout (now (problem .entry)) → r ≡ answerReadOf (now (written .entry)) (nField (now (problem .entry))) (mField (now (problem .entry)))) ⌝ }
+{
+    let header = read_header(problem, problem.len());
+    match header {
+        Header::Refused(k) => AnswerHead::Refused(k),
+        Header::Fields(n, m) => {
+            let mut stamps = [0u64; 32];
+            let mut picks = [0u64; 64];
+            read_answer(written, n, m, &mut stamps, &mut picks)
+        }
+    }
+}
+
+// The engine, then the reader on what it wrote: the engine's class and span.
+pub fn solve_then_read(problem: &[u8], answer: &mut [u8]) -> AnswerHead
+    ensures { λ r. ⌜ OwnReading (now (problem .entry)) (now (answer .entry)) r (now (answer .exit)) ⌝ }
+{
+    let solved = solve(problem, answer);
+    match solved {
+        Solved::Refused(k) => AnswerHead::Refused(k),
+        Solved::Answered(_, _, _, size) => read_own(problem, &answer[..size]),
+    }
+}
