@@ -1,0 +1,101 @@
+-- Numbers copied to the first of the lent places, and what reading then gives.
+use Prim.Native.Nat.{ℕ, zero, suc, _+_, _≤_, _<_}
+use mathlib.Core.Path.{_≡_, refl, ap, ap₂, sym, subst, _∙_}
+use mathlib.Core.List.{List, [], _∷_, _++_}
+use native.Mathlib.Omega.{arith}
+use native.Mathlib.Nat.{zero-add}
+use lib.ListN.{length, getD, take, set}
+use lib.Seq.{take-suc, length-take-le, take-all}
+use Rattle.definitions.specs.Limits.{signed-bytes, span-place}
+use Rattle.definitions.specs.Bytes.{put, numAt}
+use Rattle.definitions.specs.AnswerRecord.{answerRefusal, classField}
+use Rattle.definitions.proofs.Offset.{off-bound}
+use Rattle.definitions.proofs.Refusals.{answer-fits}
+use Rattle.definitions.proofs.RoundTrip.{class-most}
+use Rattle.definitions.proofs.Put.{put-nil, put-one, put-put, length-put}
+use Rattle.records.specs.declared.answer.AnswerHead.{AnswerHead}
+use Rattle.records.specs.declared.answer.AnswerHead.the-variants as Heads
+use Rattle.records.specs.AnswerReading.{AnswerRead, answerReadOf, headBy, spanNumber}
+use Rattle.capi.specs.Numbers.{ReadsAs, PlacesAs, fieldsNumber, low-byte, low-half}
+
+-- The first i numbers are copied.
+pub record Copied (before from : List ℕ) (i : ℕ) (now : List ℕ) : Type 0 where
+  pub is : now ≡ put before 0 (take i from)
+  pub within : i ≤ length from
+  pub room : length from ≤ length before
+
+pub copied-start : (before from : List ℕ) → length from ≤ length before → Copied before from 0 before
+copied-start before from h = record { is = sym (put-nil before 0); within = omega arith; room = h }
+
+pub copied-length : {before from : List ℕ} {i : ℕ} {now : List ℕ} → Copied before from i now → length now ≡ length before
+copied-length {before} {from} {i} c = rw (c .is) (length-put before 0 (take i from) (omega arith) (omega (arith, length-take-le i from (c .within), c .within, c .room)))
+
+pub copied-turn : {before from : List ℕ} {i : ℕ} {now : List ℕ} → Copied before from i now → i < length from → Copied before from (i + 1) (set now i (getD from i 0))
+copied-turn {before} {from} {i} {now} c h =
+    let long = length-take-le i from (c .within) in
+    let next : i + 1 ≡ suc i = omega arith in
+    rw next
+    record {
+      is = put-one now i (getD from i 0) (omega (arith, copied-length c, c .room)) ∙ (rw (c .is) (put-put before 0 (take i from) i (getD from i 0 ∷ []) (omega arith) (omega (arith, long)))) ∙ ap (put before 0) (sym (take-suc from i 0 h));
+      within = omega arith;
+      room = c .room;
+    }
+
+pub copied-end : {before from : List ℕ} {i : ℕ} {now : List ℕ} → Copied before from i now → length from ≤ i → now ≡ put before 0 from
+copied-end {before} {from} {i} c h = c .is ∙ ap (put before 0) (take-all i from h)
+
+pub both-lent : (number : ℕ) (stamps picks stamps-before picks-before : List ℕ) {stamps-after picks-after : List ℕ} → stamps-after ≡ put stamps-before 0 stamps
+    → picks-after ≡ put picks-before 0 picks → PlacesAs number stamps picks stamps-before picks-before number stamps-after picks-after
+both-lent number stamps picks stamps-before picks-before e f = rw (e, f) PlacesAs.lent
+
+-- ---- the reader's result
+
+head-refused : (k class span : ℕ) {j : ℕ} → headBy k class span ≡ Heads.Refused j → (k ≡ j) × (0 < k)
+unfolding headBy
+head-refused zero class span e = absurd (let z : _≡_ {A = ℕ} 0 1 = cc in omega arith)
+head-refused (suc k) class span e = (cc, omega arith)
+
+head-fields : (k class span : ℕ) {c s : ℕ} → headBy k class span ≡ Heads.Fields c s → (k ≡ 0) × (class ≡ c) × (span ≡ s)
+unfolding headBy
+head-fields zero class span e = (refl, cc, cc)
+head-fields (suc k) class span e = absurd (let z : _≡_ {A = ℕ} 0 1 = cc in omega arith)
+
+-- What the reader gave of an answer that it took.
+pub record Taken (s : List ℕ) (n m class span : ℕ) : Type 0 where
+  pub none : answerRefusal s n m ≡ 0
+  pub class-is : classField s ≡ class
+  pub span-is : spanNumber s ≡ span
+
+pub taken : {s : List ℕ} {n m : ℕ} {head : AnswerHead} {class span : ℕ} {stamps-before stamps picks-before picks : List ℕ}
+    → AnswerRead s n m head stamps-before stamps picks-before picks → head ≡ Heads.Fields class span → Taken s n m class span
+unfolding answerReadOf
+taken {s} {n} {m} r e =
+    let h = head-fields (answerRefusal s n m) (classField s) (spanNumber s) (sym (r .answered) ∙ e) in
+    record { none = h .0; class-is = h .1; span-is = h .2 }
+
+-- Its class and span are small.
+pub taken-small : {s : List ℕ} {n m class span : ℕ} → Taken s n m class span → (class < low-byte) × (span < low-half)
+taken-small {s} {n} {m} t =
+    let f = answer-fits s n m .0 (t .none) in
+    (omega (arith, class-most (classField s) (f .class-known), t .class-is), omega (arith, off-bound (numAt signed-bytes s span-place), t .span-is))
+
+pub reads-fields : {s : List ℕ} {n m : ℕ} {head : AnswerHead} {class span : ℕ} {stamps-own stamps picks-own picks : List ℕ}
+    → AnswerRead s n m head stamps-own stamps picks-own picks → head ≡ Heads.Fields class span
+    → {stamps-before picks-before stamps-after picks-after : List ℕ} {number : ℕ}
+    → PlacesAs (fieldsNumber class span) stamps picks stamps-before picks-before number stamps-after picks-after
+    → ReadsAs s n m stamps-before picks-before number stamps-after picks-after
+reads-fields r e (PlacesAs.too-few h) = ReadsAs.too-few (taken r e .none) h
+reads-fields {s} {n} {m} {class = class} {span} {stamps = stamps} {picks = picks} r e {stamps-before} {picks-before} PlacesAs.lent =
+    let t = taken r e in
+    let number-is : fieldsNumber (classField s) (spanNumber s) ≡ fieldsNumber class span = ap₂ fieldsNumber (t .class-is) (t .span-is) in
+    subst (λ (k : ℕ). ReadsAs s n m stamps-before picks-before k (put stamps-before 0 stamps) (put picks-before 0 picks)) number-is (ReadsAs.read (t .none) (r .stamps-read (t .none)) (r .picks-read (t .none)))
+
+pub reads-refused : {s : List ℕ} {n m : ℕ} {head : AnswerHead} {k : ℕ} {stamps-own stamps picks-own picks : List ℕ}
+    → AnswerRead s n m head stamps-own stamps picks-own picks → head ≡ Heads.Refused k → (stamps-before picks-before : List ℕ)
+    → ReadsAs s n m stamps-before picks-before k stamps-before picks-before
+unfolding answerReadOf
+reads-refused {s} {n} {m} {k = k} r e stamps-before picks-before = go k (head-refused (answerRefusal s n m) (classField s) (spanNumber s) (sym (r .answered) ∙ e))
+  where
+    go : (j : ℕ) → (answerRefusal s n m ≡ j) × (0 < answerRefusal s n m) → ReadsAs s n m stamps-before picks-before j stamps-before picks-before
+    go zero h = absurd (omega (arith, h .0, h .1))
+    go (suc j) h = ReadsAs.turned-away (h .0)

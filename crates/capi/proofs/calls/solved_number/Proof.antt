@@ -1,0 +1,15 @@
+use borrow.Author.Needs.{needs}
+use native.Mathlib.Omega.{arith}
+use Rattle.capi.proofs.Small.{refused-number, answered-number}
+use Rattle.capi.proofs.calls.solved_number.Statement.{statement}
+use Rattle.capi.proofs.calls.solved_number.Tie as tie
+
+pub solved-number-spec : {M : Type 1} → statement M
+solved-number-spec =
+    tie.close
+    (tie.spec
+    (λ c. search needs)
+    (λ c. search needs)
+    (λ c. omega (arith, c .before .before .before .pre .few (c .before .solved2 .given .1)))
+    (λ c. refused-number (c .before .solved .given .1))
+    (λ c. answered-number (c .before .solved2 .given .1)))

@@ -1,0 +1,17 @@
+use borrow.Author.Needs.{needs}
+use Rattle.capi.proofs.Lent.{taken, taken-small, reads-fields, reads-refused}
+use Rattle.capi.proofs.fields.span_read.Statement.{statement}
+use Rattle.capi.proofs.fields.span_read.Tie as tie
+
+pub span-read-spec : {M : Type 1} → statement M
+span-read-spec =
+    tie.close
+    (tie.spec
+    (λ c κs. search needs)
+    (λ c. search needs)
+    (λ c κs. taken-small (taken (c .before .before .before .before .before .before .before .read-answer .ensures) (c .before .before .before .before .before .head .given .1)))
+    (λ c. search needs)
+    (λ c. search needs)
+    (λ c. search needs)
+    (λ c. reads-fields (c .before .before .before .before .before .before .before .before .before .before .before .before .read-answer .ensures) (c .before .before .before .before .before .before .before .before .before .before .head .given .1) (c .before .before .before .before .lend .ensures))
+    (λ c. reads-refused (c .before .before .before .read-answer .ensures) (c .before .head2 .given .1) _ _))

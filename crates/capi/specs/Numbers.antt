@@ -1,0 +1,125 @@
+-- Results as one number: the low byte is the refusal, 0 where there is none.
+use Prim.Native.Nat.{ℕ, zero, suc, _+_, _*_, _<_, _≤_}
+use mathlib.Core.Path.{_≡_}
+use mathlib.Core.List.{List}
+use mathlib.Core.Logic.{_⊎_}
+use lib.ListN.{length}
+use Rattle.definitions.specs.Limits.{most-trials, answer-most}
+use Rattle.definitions.specs.Bytes.{put}
+use Rattle.definitions.specs.Offset.{tropOf}
+use Rattle.definitions.specs.AnswerRecord.{Answer, answerRefusal, answerSize, answerBytes, classField, writerRefusal, written}
+use Rattle.definitions.specs.Verdict as Verdicts
+use Rattle.definitions.specs.Verdict.{Judged}
+use Rattle.definitions.specs.Solved as Results
+use Rattle.definitions.specs.Solved.{Solves}
+use Rattle.records.specs.Fields.{Padded, stampsOf, picksOf}
+use Rattle.records.specs.AnswerReading.{spanNumber}
+use Rattle.records.specs.AnswerWriting.{unlessRefused}
+use Rattle.records.specs.declared.writer.Written.{Written}
+use Rattle.records.specs.declared.writer.Written.the-variants.{Record, Refused}
+use Rattle.engine.specs.declared.solve.Solved.{Solved}
+use Rattle.engine.specs.declared.solve.Solved.the-variants.{Answered}
+use Rattle.checker.specs.declared.check.Verdict.{Verdict}
+use Rattle.checker.specs.declared.check.Verdict.the-variants as Turned
+
+-- What stands above the refusal, and above the class.
+abbrev pub low-byte : ℕ
+low-byte = 256
+
+abbrev pub low-half : ℕ
+low-half = 4294967296
+
+-- ---- span_solve
+
+-- The engine's result: 256 × trials where answered, else the refusal.
+unfoldable pub solvedNumber : Results.Solved → ℕ
+solvedNumber (Results.refused k) = k
+solvedNumber (Results.answered class span trials size) = low-byte * trials
+
+-- The engine's result and its buffer, the result as a number.
+pub record SolvesAs (p before : List ℕ) (number : ℕ) (after : List ℕ) : Type 0 where
+  pub result : Results.Solved
+  pub solves : Solves p before result after
+  pub number-is : number ≡ solvedNumber result
+
+-- ---- span_check
+
+-- The number of a class and a span's offset number.
+abbrev pub fieldsNumber : ℕ → ℕ → ℕ
+fieldsNumber class span = low-byte * class + low-half * span
+
+-- The checker's verdict: class and the span's offset number where accepted, else the refusal.
+pub data Numbered : Verdicts.Verdict → ℕ → Type 0 where
+  refused : (k : ℕ) → Numbered (Verdicts.refused k) k
+  accepted : (class span : ℕ) → Numbered (Verdicts.accepted class (tropOf span)) (fieldsNumber class span)
+
+-- The checker's verdict as a number.
+pub record JudgedAs (p a : List ℕ) (number : ℕ) : Type 0 where
+  pub verdict : Verdicts.Verdict
+  pub judged : Judged p a verdict
+  pub numbered : Numbered verdict number
+
+-- ---- sizes, so that the numbers fit 64 bits
+
+-- The trials of an answered result are few.
+pub record FewTrials (r : Solved) : Type 0 where
+  pub few : {class span trials size : ℕ} → r ≡ Answered class span trials size → trials ≤ most-trials
+
+-- Class and span of an accepted answer are small.
+pub record SmallFields (v : Verdict) : Type 0 where
+  pub class-small : {class span : ℕ} → v ≡ Turned.Accepted class span → class < low-byte
+  pub span-small : {class span : ℕ} → v ≡ Turned.Accepted class span → span < low-half
+
+-- ---- span_write
+
+-- The writer's result: 256 × the record's size where written, else the refusal.
+unfoldable pub writtenNumber : ℕ → ℕ → ℕ
+writtenNumber zero size = low-byte * size
+writtenNumber (suc k) size = suc k
+
+-- The writer's result as a number; a refusal leaves the buffer as it was, and else the record stands at its start, every byte
+-- after it as it was.
+pub record WritesAs (a : Answer) (n m number : ℕ) (before after : List ℕ) : Type 0 where
+  pub number-is : number ≡ writtenNumber (writerRefusal a n m (length before)) (answerSize (a .class) n m)
+  pub buffer : after ≡ unlessRefused (writerRefusal a n m (length before)) before (written before (answerBytes n a))
+
+-- A record that was written is short.
+pub record SmallRecord (r : Written) : Type 0 where
+  pub size-small : {size : ℕ} → r ≡ Record size → size ≤ answer-most
+
+-- ---- span_read
+
+-- The places that the reader is lent, and its number where they are fewer.
+abbrev pub stamp-places : ℕ
+stamp-places = 32
+
+abbrev pub pick-places : ℕ
+pick-places = 64
+
+abbrev pub too-few-places : ℕ
+too-few-places = 255
+
+-- The reader's result as a number: the refusal, or that there are too few places, and both as they were; or class and span,
+-- the first 32 places with the stamps and 0 behind them, the first 64 with the picks, and what follows as it was.
+pub data ReadsAs (s : List ℕ) (n m : ℕ) (stamps-before picks-before : List ℕ) : ℕ → List ℕ → List ℕ → Type 0 where
+  turned-away : {k : ℕ} → answerRefusal s n m ≡ suc k → ReadsAs s n m stamps-before picks-before (suc k) stamps-before picks-before
+  too-few :
+      answerRefusal s n m ≡ 0 → (length stamps-before < stamp-places) ⊎ (length picks-before < pick-places)
+      → ReadsAs s n m stamps-before picks-before too-few-places stamps-before picks-before
+  read :
+      {stamps picks : List ℕ} → answerRefusal s n m ≡ 0 → Padded stamp-places (stampsOf s n) stamps → Padded pick-places (picksOf s n m) picks
+      → ReadsAs s n m stamps-before picks-before (fieldsNumber (classField s) (spanNumber s)) (put stamps-before 0 stamps) (put picks-before 0 picks)
+
+-- The number of the writer's result.
+unfoldable pub numberOf : Written → ℕ
+numberOf (Record size) = low-byte * size
+numberOf (Refused k) = k
+
+-- What is given of stamps and picks that were read, with their number: too few places, and both as they were; or both at the
+-- start of the places.
+pub data PlacesAs (number : ℕ) (stamps picks stamps-before picks-before : List ℕ) : ℕ → List ℕ → List ℕ → Type 0 where
+  too-few :
+      (length stamps-before < stamp-places) ⊎ (length picks-before < pick-places)
+      → PlacesAs number stamps picks stamps-before picks-before too-few-places stamps-before picks-before
+  lent :
+      PlacesAs number stamps picks stamps-before picks-before number (put stamps-before 0 stamps) (put picks-before 0 picks)

@@ -1,0 +1,114 @@
+// The answer reader and writer over lent numbers and bytes, with results as one number.
+ghost use mathlib.Core.Path.{_≡_};
+ghost use mathlib.Core.List.{List};
+ghost use Prim.Native.Nat.{ℕ, _≤_, _<_};
+ghost use lib.ListN.{length};
+ghost use Rattle.definitions.specs.Bytes.{put};
+ghost use Rattle.records.specs.Fields.{fieldsOf};
+ghost use Rattle.capi.specs.Numbers.{WritesAs, SmallRecord, ReadsAs, PlacesAs, numberOf, low-byte, low-half, fieldsNumber};
+use records::answer::AnswerHead;
+use records::answer::read_answer;
+use records::writer::Written;
+use records::writer::write_answer;
+
+// What `span_read` is lent for stamps and for picks, and its result where that is fewer.
+const STAMP_PLACES: usize = 32;
+
+const PICK_PLACES: usize = 64;
+
+const TOO_FEW_PLACES: u64 = 255;
+
+// 256 × size where written, else the refusal.
+fn written_number(written: Written) -> u64
+    requires { ⌜ SmallRecord written ⌝ }
+    ensures { λ r. ⌜ r ≡ numberOf written ⌝ }
+{
+    match written {
+        Written::Record(size) => 256 * size as u64,
+        Written::Refused(k) => k as u64,
+    }
+}
+
+// Writes an answer for a problem of n and m; span and stamps are offset numbers.
+#[no_mangle]
+pub extern "C" fn span_write(
+    class: u64,
+    span: u64,
+    stamps: &[u64],
+    picks: &[u64],
+    n: u64,
+    m: u64,
+    buffer: &mut [u8],
+) -> u64
+    ensures { λ r. ⌜ WritesAs (fieldsOf class span (now (stamps .entry)) (now (picks .entry))) n m r (now (buffer .entry)) (now (buffer .exit)) ⌝ }
+{
+    let written = write_answer(class, span, stamps, picks, n as usize, m as usize, buffer);
+    written_number(written)
+}
+
+// Copies numbers to the first of the lent places.
+fn copy(from: &[u64], to: &mut [u64])
+    requires { ⌜ length (now from) ≤ length (now to) ⌝ }
+    ensures { λ _. ⌜ now (to .exit) ≡ put (now (to .entry)) 0 (now (from .entry)) ⌝ }
+{
+    let count = from.len();
+    for i in 0..count {
+        to[i] = from[i];
+    }
+}
+
+// Class and span as a number, stamps and picks in the lent places, where there are enough.
+fn lend(
+    class: u64,
+    span: u64,
+    stamps: &[u64; 32],
+    picks: &[u64; 64],
+    stamps_out: &mut [u64],
+    picks_out: &mut [u64],
+) -> u64
+    requires { ⌜ (class < low-byte) × (span < low-half) ⌝ }
+    ensures { λ r. ⌜ PlacesAs (fieldsNumber class span) (now (stamps .entry)) (now (picks .entry)) (now («stamps_out» .entry)) (now («picks_out» .entry)) r (now («stamps_out» .exit)) (now («picks_out» .exit)) ⌝ }
+{
+    if stamps_out.len() < STAMP_PLACES {
+        return TOO_FEW_PLACES;
+    }
+    if picks_out.len() < PICK_PLACES {
+        return TOO_FEW_PLACES;
+    }
+    copy(stamps, stamps_out);
+    copy(picks, picks_out);
+    256 * class + 4294967296 * span
+}
+
+// Reads an answer for a problem of n and m.
+#[no_mangle]
+pub extern "C" fn span_read(
+    bytes: &[u8],
+    n: u64,
+    m: u64,
+    stamps: &mut [u64],
+    picks: &mut [u64],
+) -> u64
+    ensures { λ r. ⌜ ReadsAs (now (bytes .entry)) n m (now (stamps .entry)) (now (picks .entry)) r (now (stamps .exit)) (now (picks .exit)) ⌝ }
+{
+    let mut own_stamps = [0u64; 32];
+    let mut own_picks = [0u64; 64];
+    let head = read_answer(
+        bytes,
+        n as usize,
+        m as usize,
+        &mut own_stamps,
+        &mut own_picks,
+    );
+    match head {
+        AnswerHead::Fields(class, span) => lend(
+            class,
+            span,
+            &own_stamps,
+            &own_picks,
+            stamps,
+            picks,
+        ),
+        AnswerHead::Refused(k) => k as u64,
+    }
+}

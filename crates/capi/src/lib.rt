@@ -1,0 +1,3 @@
+// The boundary to C and Rust: four functions on bytes and numbers. capi/span.h says the same in C's words.
+pub mod calls;
+pub mod fields;
