@@ -38,6 +38,7 @@ extern "C" {
 #define SPAN_BOTTOMLESS 2
 #define SPAN_NONE 3
 #define SPAN_NOT_CERTIFIED 14
+#define SPAN_TOO_FEW_PLACES 255   /* span_read only */
 
 /* Answers a problem: writes the answer record at the start of `answer`; the bytes after it stay.
  * Result: 256 * trials + refusal. Answered: refusal 0, trials 1 to 23. Refused: 1 to 7, trials 0. */
@@ -50,8 +51,9 @@ uint64_t span_check(const uint8_t *problem, size_t problem_size, const uint8_t *
 
 /* Reads an answer record for a problem of n and m. Lend at least 32 stamps and 64 picks.
  * Result: read: 256 * class + 4294967296 * the span's offset number (0 where blank), and the first places hold
- * class 1: n + 1 stamps as offset numbers, and n + 1 picks; class 2: m + 1 picks; class 3: n + 1 picks.
- * Else the refusal: 4 (n or m above its limit), 8 to 13. */
+ * class 1: n + 1 stamps as offset numbers, and n + 1 picks; class 2: m + 1 picks; class 3: n + 1 picks; the rest of the
+ * first 32 and 64 places is 0. Else the refusal: 4 (n or m above its limit), 8 to 13; or SPAN_TOO_FEW_PLACES, where
+ * fewer than 32 stamps or 64 picks were lent. Nothing is then written. */
 uint64_t span_read(const uint8_t *record, size_t record_size, uint64_t n, uint64_t m,
                    uint64_t *stamps, size_t stamps_count, uint64_t *picks, size_t picks_count);
 

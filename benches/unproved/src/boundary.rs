@@ -30,15 +30,18 @@ pub fn check(problem: &[u8], answer: &[u8]) -> u64 {
 }
 
 /// The refusal, or 256 × class + 2³² × the span's offset number, with stamps and picks in the first places.
-pub fn read(bytes: &[u8], n: u64, m: u64, stamps: &mut [u64; VARIABLES], picks: &mut [u64; ROWS]) -> u64 {
+pub fn read(bytes: &[u8], n: u64, m: u64, stamps: &mut [u64], picks: &mut [u64]) -> u64 {
     if n >= VARIABLES as u64 || m >= ROWS as u64 {
         return 4;
     }
     let (variables, rows) = (n as usize + 1, m as usize + 1);
     match record::answer(bytes, variables, rows) {
         Err(number) => number as u64,
+        Ok(_) if stamps.len() < VARIABLES || picks.len() < ROWS => 255,
         Ok(answer) => {
             let (first, second) = record::counts(answer.class, variables, rows);
+            stamps[..VARIABLES].fill(0);
+            picks[..ROWS].fill(0);
             for place in 0..first {
                 stamps[place] = (answer.stamps[place] as i64 + OFFSET) as u64;
             }

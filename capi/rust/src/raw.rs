@@ -1,8 +1,7 @@
 //! The four functions of `capi/span.h` over slices, with their results as the header describes them.
 //!
 //! This is the only file with `unsafe`. The archive's functions take every string of bytes and every number; what
-//! they ask is that buffers do not overlap, which Rust's borrows ensure here, and room for 32 stamps and 64 picks,
-//! which the types of [`read`] ensure.
+//! they ask is that buffers do not overlap, which Rust's borrows ensure here.
 
 /// Places that the reader is lent for stamps.
 pub const STAMPS: usize = 32;
@@ -59,9 +58,10 @@ pub fn check(problem: &[u8], answer: &[u8]) -> u64 {
     unsafe { archive::span_check(problem.as_ptr(), problem.len(), answer.as_ptr(), answer.len()) }
 }
 
-/// Reads an answer record: the refusal, or 256 × class + 2³² × the span's offset number.
+/// Reads an answer record: the refusal, 255 where fewer than [`STAMPS`] and [`PICKS`] places are lent, or
+/// 256 × class + 2³² × the span's offset number.
 #[cfg(not(feature = "stand-in"))]
-pub fn read(record: &[u8], n: u64, m: u64, stamps: &mut [u64; STAMPS], picks: &mut [u64; PICKS]) -> u64 {
+pub fn read(record: &[u8], n: u64, m: u64, stamps: &mut [u64], picks: &mut [u64]) -> u64 {
     // SAFETY: all parts are valid for their lengths, and each `&mut` overlaps nothing.
     unsafe {
         archive::span_read(

@@ -40,7 +40,22 @@ fn read(tally: &mut Tally, random: &mut Random, record: &[u8], n: u64, m: u64) {
             let found: Vec<Minute> = stamps[..answer.stamps.len()].iter().map(|&stamp| minute(stamp)).collect();
             tally.same("the reader's stamps", &found, &answer.stamps, &[], record);
             tally.same("the reader's picks", &picks[..answer.picks.len()], &answer.picks[..], &[], record);
+            tally.same(
+                "places behind the stamps",
+                stamps[answer.stamps.len()..].iter().any(|&stamp| stamp != 0),
+                false,
+                &[],
+                record,
+            );
+            tally.same(
+                "places behind the picks",
+                picks[answer.picks.len()..].iter().any(|&pick| pick != 0),
+                false,
+                &[],
+                record,
+            );
             tally.count("reader read");
+            lend(tally, random, record, n, m, result);
             // What was read is written to the same bytes.
             let mut buffer = [0xA5; 206];
             let span = result >> 32;
@@ -50,6 +65,29 @@ fn read(tally: &mut Tally, random: &mut Random, record: &[u8], n: u64, m: u64) {
             tally.same("the size written again", written, 256 * record.len() as u64, &[], record);
             tally.same("the record written again", &buffer[..record.len()], record, &[], record);
         }
+    }
+}
+
+/// The reader with other numbers of places for a record that it takes: too few are an outcome, and more stay as they are.
+fn lend(tally: &mut Tally, random: &mut Random, record: &[u8], n: u64, m: u64, whole: u64) {
+    let (first, second) = (random.below(40) as usize, 40 + random.below(40) as usize);
+    let mut stamps = vec![0; first];
+    let mut picks = vec![0; second];
+    for place in stamps.iter_mut().chain(picks.iter_mut()) {
+        *place = random.next();
+    }
+    let (stamps_before, picks_before) = (stamps.clone(), picks.clone());
+    let result = span::raw::read(record, n, m, &mut stamps, &mut picks);
+    if first < span::raw::STAMPS || second < span::raw::PICKS {
+        tally.same("too few places", result, 255, &[], record);
+        tally.same("stamps where there are too few places", stamps, stamps_before, &[], record);
+        tally.same("picks where there are too few places", picks, picks_before, &[], record);
+        tally.count("reader with too few places");
+    } else {
+        tally.same("the result with more places", result, whole, &[], record);
+        tally.same("stamps behind", &stamps[span::raw::STAMPS..], &stamps_before[span::raw::STAMPS..], &[], record);
+        tally.same("picks behind", &picks[span::raw::PICKS..], &picks_before[span::raw::PICKS..], &[], record);
+        tally.count("reader with more places");
     }
 }
 
