@@ -52,15 +52,15 @@ uint64_t span_check(const uint8_t *problem, size_t problem_size, const uint8_t *
 /* Reads an answer record for a problem of n and m. Lend at least 32 stamps and 64 picks.
  * Result: read: 256 * class + 4294967296 * the span's offset number (0 where blank), and the first places hold
  * class 1: n + 1 stamps as offset numbers, and n + 1 picks; class 2: m + 1 picks; class 3: n + 1 picks; the rest of the
- * first 32 and 64 places is 0. Else the refusal: 4 (n or m above its limit), 8 to 13; or SPAN_TOO_FEW_PLACES, where
- * fewer than 32 stamps or 64 picks were lent. Nothing is then written. */
+ * first 32 and 64 places is 0. Else the refusal: 4 (n or m above its limit), 8 to 13; or, where no refusal applies,
+ * SPAN_TOO_FEW_PLACES for fewer than 32 stamps or 64 picks lent. Nothing is then written. */
 uint64_t span_read(const uint8_t *record, size_t record_size, uint64_t n, uint64_t m,
                    uint64_t *stamps, size_t stamps_count, uint64_t *picks, size_t picks_count);
 
 /* Writes an answer record for a problem of n and m at the start of `buffer`; the bytes after it stay.
  * `span` and `stamps` are offset numbers. Class 1: n + 1 stamps and n + 1 picks; class 2: no stamps, m + 1 picks;
  * class 3: no stamps, n + 1 picks.
- * Result: written: 256 * the record's size. Else the refusal: 4, 7, 10 to 13. */
+ * Result: written: 256 * the record's size. Else the refusal: 4, 7, 10 to 13; stamps or picks in another count: 11. */
 uint64_t span_write(uint64_t class_number, uint64_t span, const uint64_t *stamps, size_t stamps_count,
                     const uint64_t *picks, size_t picks_count, uint64_t n, uint64_t m,
                     uint8_t *buffer, size_t buffer_size);

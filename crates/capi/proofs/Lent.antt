@@ -5,18 +5,19 @@ use mathlib.Core.List.{List, [], _∷_, _++_}
 use native.Mathlib.Omega.{arith}
 use native.Mathlib.Nat.{zero-add}
 use lib.ListN.{length, getD, take, set}
-use lib.Seq.{take-suc, length-take-le, take-all}
+use lib.Seq.{length-take-le, take-all}
 use Rattle.definitions.specs.Limits.{signed-bytes, span-place}
 use Rattle.definitions.specs.Bytes.{put, numAt}
 use Rattle.definitions.specs.AnswerRecord.{answerRefusal, classField}
 use Rattle.definitions.proofs.Offset.{off-bound}
 use Rattle.definitions.proofs.Refusals.{answer-fits}
 use Rattle.definitions.proofs.RoundTrip.{class-most}
-use Rattle.definitions.proofs.Put.{put-nil, put-one, put-put, length-put}
+use Rattle.definitions.proofs.Put.{put-nil, put-more, length-put}
 use Rattle.records.specs.declared.answer.AnswerHead.{AnswerHead}
 use Rattle.records.specs.declared.answer.AnswerHead.the-variants as Heads
 use Rattle.records.specs.AnswerReading.{AnswerRead, answerReadOf, headBy, spanNumber}
-use Rattle.capi.specs.Numbers.{ReadsAs, PlacesAs, fieldsNumber, low-byte, low-half}
+use Rattle.records.proofs.Trips.{fields-by, refused-by}
+use Rattle.capi.specs.Numbers.{ReadsAs, PlacesAs, stamp-places, pick-places, fieldsNumber, low-byte, low-half}
 
 -- The first i numbers are copied.
 pub record Copied (before from : List ℕ) (i : ℕ) (now : List ℕ) : Type 0 where
@@ -31,34 +32,21 @@ pub copied-length : {before from : List ℕ} {i : ℕ} {now : List ℕ} → Copi
 copied-length {before} {from} {i} c = rw (c .is) (length-put before 0 (take i from) (omega arith) (omega (arith, length-take-le i from (c .within), c .within, c .room)))
 
 pub copied-turn : {before from : List ℕ} {i : ℕ} {now : List ℕ} → Copied before from i now → i < length from → Copied before from (i + 1) (set now i (getD from i 0))
-copied-turn {before} {from} {i} {now} c h =
-    let long = length-take-le i from (c .within) in
-    let next : i + 1 ≡ suc i = omega arith in
-    rw next
-    record {
-      is = put-one now i (getD from i 0) (omega (arith, copied-length c, c .room)) ∙ (rw (c .is) (put-put before 0 (take i from) i (getD from i 0 ∷ []) (omega arith) (omega (arith, long)))) ∙ ap (put before 0) (sym (take-suc from i 0 h));
-      within = omega arith;
-      room = c .room;
-    }
+copied-turn {before} {from} {i} {now} c h = record {
+  is = rw (c .is) (subst (λ (k : ℕ). set (put before 0 (take i from)) k (getD from i 0) ≡ put before 0 (take (i + 1) from)) (zero-add i) (put-more before 0 from i h (omega (arith, c .room))));
+  within = omega arith;
+  room = c .room;
+}
 
 pub copied-end : {before from : List ℕ} {i : ℕ} {now : List ℕ} → Copied before from i now → length from ≤ i → now ≡ put before 0 from
 copied-end {before} {from} {i} c h = c .is ∙ ap (put before 0) (take-all i from h)
 
-pub both-lent : (number : ℕ) (stamps picks stamps-before picks-before : List ℕ) {stamps-after picks-after : List ℕ} → stamps-after ≡ put stamps-before 0 stamps
+pub both-lent : (number : ℕ) (stamps picks stamps-before picks-before : List ℕ) {stamps-after picks-after : List ℕ} → stamp-places ≤ length stamps-before
+    → pick-places ≤ length picks-before → stamps-after ≡ put stamps-before 0 stamps
     → picks-after ≡ put picks-before 0 picks → PlacesAs number stamps picks stamps-before picks-before number stamps-after picks-after
-both-lent number stamps picks stamps-before picks-before e f = rw (e, f) PlacesAs.lent
+both-lent number stamps picks stamps-before picks-before h g e f = rw (e, f) (PlacesAs.lent h g)
 
 -- ---- the reader's result
-
-head-refused : (k class span : ℕ) {j : ℕ} → headBy k class span ≡ Heads.Refused j → (k ≡ j) × (0 < k)
-unfolding headBy
-head-refused zero class span e = absurd (let z : _≡_ {A = ℕ} 0 1 = cc in omega arith)
-head-refused (suc k) class span e = (cc, omega arith)
-
-head-fields : (k class span : ℕ) {c s : ℕ} → headBy k class span ≡ Heads.Fields c s → (k ≡ 0) × (class ≡ c) × (span ≡ s)
-unfolding headBy
-head-fields zero class span e = (refl, cc, cc)
-head-fields (suc k) class span e = absurd (let z : _≡_ {A = ℕ} 0 1 = cc in omega arith)
 
 -- What the reader gave of an answer that it took.
 pub record Taken (s : List ℕ) (n m class span : ℕ) : Type 0 where
@@ -70,8 +58,8 @@ pub taken : {s : List ℕ} {n m : ℕ} {head : AnswerHead} {class span : ℕ} {s
     → AnswerRead s n m head stamps-before stamps picks-before picks → head ≡ Heads.Fields class span → Taken s n m class span
 unfolding answerReadOf
 taken {s} {n} {m} r e =
-    let h = head-fields (answerRefusal s n m) (classField s) (spanNumber s) (sym (r .answered) ∙ e) in
-    record { none = h .0; class-is = h .1; span-is = h .2 }
+    let h = fields-by (answerRefusal s n m) (classField s) (spanNumber s) (sym e ∙ r .answered) in
+    record { none = h .0; class-is = sym (h .1); span-is = sym (h .2) }
 
 -- Its class and span are small.
 pub taken-small : {s : List ℕ} {n m class span : ℕ} → Taken s n m class span → (class < low-byte) × (span < low-half)
@@ -85,17 +73,17 @@ pub reads-fields : {s : List ℕ} {n m : ℕ} {head : AnswerHead} {class span : 
     → PlacesAs (fieldsNumber class span) stamps picks stamps-before picks-before number stamps-after picks-after
     → ReadsAs s n m stamps-before picks-before number stamps-after picks-after
 reads-fields r e (PlacesAs.too-few h) = ReadsAs.too-few (taken r e .none) h
-reads-fields {s} {n} {m} {class = class} {span} {stamps = stamps} {picks = picks} r e {stamps-before} {picks-before} PlacesAs.lent =
+reads-fields {s} {n} {m} {class = class} {span} {stamps = stamps} {picks = picks} r e {stamps-before} {picks-before} (PlacesAs.lent f g) =
     let t = taken r e in
     let number-is : fieldsNumber (classField s) (spanNumber s) ≡ fieldsNumber class span = ap₂ fieldsNumber (t .class-is) (t .span-is) in
-    subst (λ (k : ℕ). ReadsAs s n m stamps-before picks-before k (put stamps-before 0 stamps) (put picks-before 0 picks)) number-is (ReadsAs.read (t .none) (r .stamps-read (t .none)) (r .picks-read (t .none)))
+    subst (λ (k : ℕ). ReadsAs s n m stamps-before picks-before k (put stamps-before 0 stamps) (put picks-before 0 picks)) number-is (ReadsAs.read (t .none) f g (r .stamps-read (t .none)) (r .picks-read (t .none)))
 
 pub reads-refused : {s : List ℕ} {n m : ℕ} {head : AnswerHead} {k : ℕ} {stamps-own stamps picks-own picks : List ℕ}
     → AnswerRead s n m head stamps-own stamps picks-own picks → head ≡ Heads.Refused k → (stamps-before picks-before : List ℕ)
     → ReadsAs s n m stamps-before picks-before k stamps-before picks-before
 unfolding answerReadOf
-reads-refused {s} {n} {m} {k = k} r e stamps-before picks-before = go k (head-refused (answerRefusal s n m) (classField s) (spanNumber s) (sym (r .answered) ∙ e))
+reads-refused {s} {n} {m} {k = k} r e stamps-before picks-before = go k (refused-by (answerRefusal s n m) (classField s) (spanNumber s) (sym e ∙ r .answered))
   where
-    go : (j : ℕ) → (answerRefusal s n m ≡ j) × (0 < answerRefusal s n m) → ReadsAs s n m stamps-before picks-before j stamps-before picks-before
-    go zero h = absurd (omega (arith, h .0, h .1))
-    go (suc j) h = ReadsAs.turned-away (h .0)
+    go : (j : ℕ) → (j ≡ answerRefusal s n m) × (answerRefusal s n m ≡ 0 → ⊥) → ReadsAs s n m stamps-before picks-before j stamps-before picks-before
+    go zero h = absurd (h .1 (sym (h .0)))
+    go (suc j) h = ReadsAs.turned-away (sym (h .0))

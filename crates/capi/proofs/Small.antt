@@ -21,6 +21,7 @@ use Rattle.definitions.proofs.RoundTrip.{class-most, span-within, size-most}
 use Rattle.records.specs.declared.writer.Written.{Written}
 use Rattle.records.specs.declared.writer.Written.the-variants as Results
 use Rattle.records.specs.AnswerWriting.{AnswerWritten, writtenOf, writtenBy}
+use Rattle.records.proofs.Trips.{record-by}
 use Rattle.engine.specs.declared.solve.Solved.{Solved}
 use Rattle.engine.specs.declared.solve.Solved.the-variants as Solutions
 use Rattle.engine.specs.Outcome.{solvedOf}
@@ -59,16 +60,11 @@ small-fields {p} {a} j = record {
   span-small = λ e. accepted-small p a j _ _ (ap verdictOf e) .1;
 }
 
-written-small : (k size s : ℕ) → writtenBy k size ≡ Results.Record s → (k ≡ 0) × (s ≡ size)
-unfolding writtenBy
-written-small zero size s e = (refl, cc)
-written-small (suc k) size s e = absurd (let z : _≡_ {A = ℕ} 0 1 = cc in omega arith)
-
 pub small-record : (a : Answer) (n m : ℕ) {r : Written} (before after : List ℕ) → AnswerWritten a n m r before after → SmallRecord r
 unfolding writtenOf
 small-record a n m before after w = record {
   size-small = λ {size} e.
-      let h = written-small (writerRefusal a n m (length before)) (answerSize (a .class) n m) size (sym (w .answered) ∙ e) in
+      let h = record-by (writerRefusal a n m (length before)) (answerSize (a .class) n m) (sym e ∙ w .answered) in
       let f = writer-fits a n m (length before) .0 (h .0) in
       omega (arith, h .1, size-most (a .class) n m (f .n-most) (f .m-most));
 }

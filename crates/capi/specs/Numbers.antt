@@ -1,10 +1,10 @@
--- Results as one number: the low byte is the refusal, 0 where there is none.
+-- Results as one number: the low byte is the refusal, 0 where there is none, 255 where the reader is lent too few places.
 use Prim.Native.Nat.{ℕ, zero, suc, _+_, _*_, _<_, _≤_}
 use mathlib.Core.Path.{_≡_}
 use mathlib.Core.List.{List}
 use mathlib.Core.Logic.{_⊎_}
 use lib.ListN.{length}
-use Rattle.definitions.specs.Limits.{most-trials, answer-most}
+use Rattle.definitions.specs.Limits.{highest-n, highest-m, byte-values, signed-full, most-trials, answer-most}
 use Rattle.definitions.specs.Bytes.{put}
 use Rattle.definitions.specs.Offset.{tropOf}
 use Rattle.definitions.specs.AnswerRecord.{Answer, answerRefusal, answerSize, answerBytes, classField, writerRefusal, written}
@@ -22,12 +22,12 @@ use Rattle.engine.specs.declared.solve.Solved.the-variants.{Answered}
 use Rattle.checker.specs.declared.check.Verdict.{Verdict}
 use Rattle.checker.specs.declared.check.Verdict.the-variants as Turned
 
--- What stands above the refusal, and above the class.
+-- What is not the refusal counts 256 times, the span behind the class 2³² times.
 abbrev pub low-byte : ℕ
-low-byte = 256
+low-byte = byte-values
 
 abbrev pub low-half : ℕ
-low-half = 4294967296
+low-half = signed-full
 
 -- ---- span_solve
 
@@ -91,23 +91,23 @@ pub record SmallRecord (r : Written) : Type 0 where
 
 -- The places that the reader is lent, and its number where they are fewer.
 abbrev pub stamp-places : ℕ
-stamp-places = 32
+stamp-places = suc highest-n
 
 abbrev pub pick-places : ℕ
-pick-places = 64
+pick-places = suc highest-m
 
 abbrev pub too-few-places : ℕ
 too-few-places = 255
 
--- The reader's result as a number: the refusal, or that there are too few places, and both as they were; or class and span,
--- the first 32 places with the stamps and 0 behind them, the first 64 with the picks, and what follows as it was.
+-- The reader's result as a number: the refusal, or else that there are too few places, and both as they were; or class and
+-- span, the stamps in the first 32 places and the picks in the first 64, each with 0 behind them, and what follows as it was.
 pub data ReadsAs (s : List ℕ) (n m : ℕ) (stamps-before picks-before : List ℕ) : ℕ → List ℕ → List ℕ → Type 0 where
   turned-away : {k : ℕ} → answerRefusal s n m ≡ suc k → ReadsAs s n m stamps-before picks-before (suc k) stamps-before picks-before
   too-few :
       answerRefusal s n m ≡ 0 → (length stamps-before < stamp-places) ⊎ (length picks-before < pick-places)
       → ReadsAs s n m stamps-before picks-before too-few-places stamps-before picks-before
   read :
-      {stamps picks : List ℕ} → answerRefusal s n m ≡ 0 → Padded stamp-places (stampsOf s n) stamps → Padded pick-places (picksOf s n m) picks
+      {stamps picks : List ℕ} → answerRefusal s n m ≡ 0 → stamp-places ≤ length stamps-before → pick-places ≤ length picks-before → Padded stamp-places (stampsOf s n) stamps → Padded pick-places (picksOf s n m) picks
       → ReadsAs s n m stamps-before picks-before (fieldsNumber (classField s) (spanNumber s)) (put stamps-before 0 stamps) (put picks-before 0 picks)
 
 -- The number of the writer's result.
@@ -115,11 +115,12 @@ unfoldable pub numberOf : Written → ℕ
 numberOf (Record size) = low-byte * size
 numberOf (Refused k) = k
 
--- What is given of stamps and picks that were read, with their number: too few places, and both as they were; or both at the
--- start of the places.
+-- Stamps and picks handed out, and the number that goes with them: 255 and the places as they were, where these are too few; or
+-- both at the start of the places.
 pub data PlacesAs (number : ℕ) (stamps picks stamps-before picks-before : List ℕ) : ℕ → List ℕ → List ℕ → Type 0 where
   too-few :
       (length stamps-before < stamp-places) ⊎ (length picks-before < pick-places)
       → PlacesAs number stamps picks stamps-before picks-before too-few-places stamps-before picks-before
   lent :
-      PlacesAs number stamps picks stamps-before picks-before number (put stamps-before 0 stamps) (put picks-before 0 picks)
+      stamp-places ≤ length stamps-before → pick-places ≤ length picks-before
+      → PlacesAs number stamps picks stamps-before picks-before number (put stamps-before 0 stamps) (put picks-before 0 picks)

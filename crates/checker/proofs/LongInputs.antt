@@ -17,6 +17,7 @@ use Rattle.definitions.specs.Verdict.{Verdict, refused, checkRefusal, Judged}
 use Rattle.definitions.specs.Programs.{cutPlace, problemPart, answerPart, KeptOf}
 use Rattle.definitions.proofs.Whole.{nat-le-or-lt}
 use Rattle.definitions.proofs.Refusals.{or-else-suc, limits-clause, enough-clause, equal-clause, both-clause}
+use Rattle.definitions.proofs.Inputs.{kept-at, length-agrees, n-agrees, m-agrees, header-agrees, answer-agrees, header-short, header-length, cut-past, cut-inside}
 use Rattle.definitions.proofs.RoundTrip.{size-most}
 use Rattle.records.specs.declared.problem.Header.{Header}
 use Rattle.records.specs.declared.problem.Header.the-variants as Headers
@@ -28,43 +29,7 @@ use Rattle.checker.specs.Outcome.{problemRefused, answerRefused}
 use Rattle.checker.specs.LongInput.{Longer}
 use Rattle.checker.proofs.Verdicts.{turned}
 
--- ---- fields of lists that agree
-
--- Where the first bytes agree, so do the numbers in them.
-numAt-agrees : (k at n : ℕ) (s t : List ℕ) → ((i : ℕ) → i < n → getD s i 0 ≡ getD t i 0) → at + k ≤ n → numAt k s at ≡ numAt k t at
-unfolding numAt
-numAt-agrees zero at n s t h b = refl
-numAt-agrees (suc k) at n s t h b = rw (h at (omega arith), numAt-agrees k (at + 1) n s t h (omega arith))
-
-module _ (s t : List ℕ) (same : (i : ℕ) → i < problem-header → getD s i 0 ≡ getD t i 0) where
-  length-agrees : lengthField s ≡ lengthField t
-  length-agrees = numAt-agrees 4 0 10 s t same (omega arith)
-
-  n-agrees : nField s ≡ nField t
-  n-agrees = numAt-agrees 2 6 10 s t same (omega arith)
-
-  m-agrees : mField s ≡ mField t
-  m-agrees = numAt-agrees 2 8 10 s t same (omega arith)
-
-  header-agrees : (size : ℕ) → headerRefusal s size ≡ headerRefusal t size
-  unfolding headerRefusal
-  header-agrees size = rw (length-agrees, numAt-agrees 2 4 10 s t same (omega arith), n-agrees, m-agrees)
-
-answer-agrees : (s t : List ℕ) → ((i : ℕ) → i < answer-header → getD s i 0 ≡ getD t i 0) → (size n m : ℕ)
-    → answerHeaderRefusal s size n m ≡ answerHeaderRefusal t size n m
-unfolding answerHeaderRefusal
-answer-agrees s t same size n m =
-    rw (numAt-agrees 4 0 14 s t same (omega arith), numAt-agrees 2 4 14 s t same (omega arith), numAt-agrees 2 6 14 s t same (omega arith), numAt-agrees 2 8 14 s t same (omega arith))
-
--- Fewer than 10 bytes: refusal 1, whatever they are.
-header-short : (s : List ℕ) (size : ℕ) → size < problem-header → headerRefusal s size ≡ 1
-unfolding headerRefusal
-header-short s size h = rw (lt-ltb size problem-header h)
-
--- The length field is another than the size: refusal 2.
-header-length : (s : List ℕ) (size : ℕ) → problem-header ≤ size → (lengthField s + length-bytes ≡ size → ⊥) → headerRefusal s size ≡ 2
-unfolding headerRefusal
-header-length s size h d = rw (le-ltb size problem-header h, ne-eqb (lengthField s + length-bytes) size d)
+-- ---- long problems
 
 -- A header that is right says a size that is kept whole.
 pub header-small : (kept : List ℕ) (end : ℕ) {header : Header} {n m : ℕ} → header ≡ headerOf kept end → header ≡ Headers.Fields n m
@@ -104,18 +69,6 @@ long-answer s size n m {head} {r} h k l e f =
 
 -- ---- inputs that are kept whole
 
-pub cut-short : (s : List ℕ) → length s < length-bytes → length s ≡ cutPlace s
-unfolding cutPlace
-cut-short s h = rw (lt-ltb (length s) length-bytes h)
-
-pub cut-past : (s : List ℕ) → length-bytes ≤ length s → length s < lengthField s + length-bytes → length s ≡ cutPlace s
-unfolding cutPlace
-cut-past s h k = rw (le-ltb (length s) length-bytes h, lt-ltb (length s) (lengthField s + length-bytes) k)
-
-pub cut-inside : (s : List ℕ) → length-bytes ≤ length s → lengthField s + length-bytes ≤ length s → lengthField s + length-bytes ≡ cutPlace s
-unfolding cutPlace
-cut-inside s h k = rw (le-ltb (length s) length-bytes h, le-ltb (length s) (lengthField s + length-bytes) k)
-
 -- A part of a list that goes to its end is what is left of the list.
 pub rest-whole : (s : List ℕ) (a : ℕ) → take (length s - a) (drop a s) ≡ drop a s
 rest-whole s a = take-all (length s - a) (drop a s) (rw length-drop (omega arith))
@@ -124,21 +77,12 @@ pub judged-parts : (s : List ℕ) {cut : ℕ} {v : Verdict} → cut ≡ cutPlace
 unfolding problemPart answerPart
 judged-parts s e j = rw (← e) j
 
--- An input that was kept whole.
-pub kept-whole : {kept input : List ℕ} {size : ℕ} → KeptOf kept size input → size ≤ kept-bytes → input ≡ take size kept
-kept-whole {kept} {input} {size} k h =
-    let all : take kept-bytes input ≡ input = take-all kept-bytes input (omega (arith, k .size-is)) in
-    let most : length (take size kept) ≤ kept-bytes = rw length-take (omega arith) in
-    sym all ∙ k .begins ∙ take-all kept-bytes (take size kept) most
-
 -- ---- inputs that are longer
 
 pub kept-longer : {kept input : List ℕ} {size : ℕ} → KeptOf kept size input → kept-bytes < size → Longer kept size input
 kept-longer {kept} {input} {size} k h = record {
   size-is = k .size-is;
-  begins = λ i b.
-      sym (getD-take kept-bytes input i 0 b) ∙ ap (λ (l : List ℕ). getD l i 0) (k .begins) ∙ getD-take kept-bytes (take size kept) i 0 b
-      ∙ getD-take size kept i 0 (omega arith);
+  begins = kept-at k h;
 }
 
 module _ {kept input : List ℕ} {size end : ℕ} (longer : Longer kept size input) (ends : end ≤ size) where

@@ -38,7 +38,7 @@ pub record Span (span : ℕ) : Type 0 where
   pub some : 0 < span
   pub near : Near span-limit span
 
--- Class, span, stamps and picks, as the reader gives them, have the form of the class.
+-- Class, span, stamps and picks, as the reader gives them, are of the form of the class as far as the tests need it.
 pub record Formed (n m class span : ℕ) (stamps picks : List ℕ) : Type 0 where
   pub class-known : known-class class ≡ true
   pub stamped : Stamped stamps

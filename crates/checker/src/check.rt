@@ -19,6 +19,7 @@ use crate::point::keeps_rules;
 use crate::point::value_is;
 use records::answer::AnswerHead;
 use records::answer::read_answer;
+use records::limits::NOT_CERTIFIED;
 use records::limits::OFFSET;
 use records::limits::SPAN_LIMIT;
 use records::limits::TABLE;
@@ -30,9 +31,6 @@ pub enum Verdict {
     Accepted(u64, u64),
     Refused(usize),
 }
-
-// The form is right and the answer is not accepted.
-const NOT_CERTIFIED: usize = 14;
 
 // Class 1, least: the point keeps the rules, its value is the span, and the picks show that none is smaller: judged at
 // the span less 1.

@@ -16,14 +16,12 @@ use crate::check::problem_refusal;
 use records::answer::AnswerHead;
 use records::answer::read_answer_header;
 use records::bytes::word_at;
+use records::limits::KEPT;
 use records::limits::LENGTH_BYTES;
 use records::limits::TABLE;
 use records::problem::Header;
 use records::problem::read_header;
 use records::problem::read_problem;
-
-// How many bytes of its input the program keeps.
-pub const KEPT: usize = 20000;
 
 // Where an input is cut: by its first length field where that is whole and reaches no further than the input.
 fn cut_place(input: &[u8]) -> usize

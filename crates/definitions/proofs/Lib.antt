@@ -12,3 +12,4 @@ pub mod Bisection
 pub mod Examples
 pub mod Edges
 pub mod Programs
+pub mod Inputs

@@ -1,12 +1,12 @@
 -- Laws of `put`, the list with values put from a place on. Everything that is said of a written buffer goes through these.
-use Prim.Native.Nat.{ℕ, _+_, _-_, _≤_, _<_}
+use Prim.Native.Nat.{ℕ, suc, _+_, _-_, _≤_, _<_}
 use mathlib.Core.Path.{_≡_, sym, subst, _∙_}
 use mathlib.Core.List.{List, [], _∷_, _++_, append-assoc}
 use native.Mathlib.Omega.{arith}
 use native.Mathlib.Nat.{add-zero, zero-add}
 use native.Mathlib.Numerals.{add-one}
 use lib.ListN.{length, getD, set, take, drop, length-append, length-drop, take-append-drop, List·getD-append}
-use lib.Seq.{length-take-le, take-at, take-append-le, take-take, drop-append-add, drop-drop, set-split, getD-take, getD-drop, getD-append-add}
+use lib.Seq.{length-take-le, take-suc, take-at, take-append-le, take-take, drop-append-add, drop-drop, set-split, getD-take, getD-drop, getD-append-add}
 use Rattle.definitions.specs.Bytes.{put}
 
 -- Nothing put changes nothing.
@@ -85,3 +85,12 @@ put-put l at a n b h e =
     let front : take n (put l at a) ≡ take at l ++ a = rw e (take-put l at a h) in
     let rest : drop (n + length b) (put l at a) ≡ drop (n + length b) l = drop-put l at a h (n + length b) (omega arith) in
     rw (f, front, rest) (simp append-assoc)
+
+-- One more of some values, stored right after those that were put.
+pub put-more : (l : List ℕ) (at : ℕ) (vs : List ℕ) (i : ℕ) → i < length vs → at + i < length l → set (put l at (take i vs)) (at + i) (getD vs i 0) ≡ put l at (take (i + 1) vs)
+put-more l at vs i h g =
+    let long = length-take-le i vs (omega arith) in
+    let room = length-put l at (take i vs) (omega arith) (omega arith) in
+    let next : i + 1 ≡ suc i = omega arith in
+    put-one (put l at (take i vs)) (at + i) (getD vs i 0) (omega arith) ∙ put-put l at (take i vs) (at + i) (getD vs i 0 ∷ []) (omega arith) (omega arith)
+    ∙ rw (next, take-suc vs i 0 h)

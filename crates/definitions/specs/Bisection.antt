@@ -48,8 +48,8 @@ halve zero possible b = record { least = b .high; halvings = 0 }
 halve (suc turns) possible b =
     elim (eqb (width b) 1) [ true ↦ record { least = b .high; halvings = 0 } | false ↦ counted (halve turns possible (next b (possible (middle b)))) ]
 
--- The halving of a bracket for a least span s, by which t is possible exactly when s ≤ t. Each halving makes the
--- bracket narrower, so its width bounds their number.
+-- The halving of a bracket for a least span s, where t is possible exactly when s ≤ t. Each halving of a bracket wider than 1
+-- makes it narrower, so its width bounds their number.
 unfoldable pub halved : Bracket → ℤ → Halved
 halved b s = halve (width b) (λ t. leZ s t) b
 

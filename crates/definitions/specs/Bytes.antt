@@ -80,7 +80,7 @@ abbrev pub first : List Clause → ℕ
 first [] = 0
 first (c ∷ cs) = cond (c .applies) (c .number) (first cs)
 
--- The first, or where it is none the second.
+-- The first number, or the second where the first is 0.
 abbrev pub or-else : ℕ → ℕ → ℕ
 or-else zero second = second
 or-else (suc k) second = suc k

@@ -84,13 +84,14 @@ pub record ObjectiveArc (p : Problem) (picks : Strategy) (j l : ℕ) (w : ℤ) :
   pub inside : l ≤ p .n
   pub by : ArcBy p (pos 0) (p .m) j l w
 
--- Variable j has a pick whose left coefficient for it is not blank.
+-- Variable j has a pick whose left coefficient for it is not blank. (That a pick is none above the highest is the record's
+-- form, refusal 13.)
 pub record HasPick (p : Problem) (picks : Strategy) (j : ℕ) : Type 0 where
   pub row : ℕ
   pub picked : picks j ≡ suc row
   pub left : Finite (p .left row j)
 
--- Every reachable variable has a pick that counts.
+-- Every reachable variable has such a pick.
 abbrev pub PicksCount : Problem → Strategy → Type 0
 PicksCount p picks = (j : ℕ) → Reachable Anchor (Leads p picks) j → HasPick p picks j
 
@@ -139,7 +140,7 @@ pub record RowHasPick (p : Problem) (picks : Strategy) (i : ℕ) : Type 0 where
   pub picked : picks i ≡ suc variable
   pub right : Finite (p .right i variable)
 
--- Every row with a non-blank left coefficient of a reachable variable has a pick that counts.
+-- Every row with a non-blank left coefficient of a reachable variable has such a pick.
 abbrev pub RowPicksCount : Problem → Strategy → Type 0
 RowPicksCount p picks =
     (i j : ℕ) → i ≤ p .m → Reachable Anchor (RowLeads p picks) j → Finite (p .left i j) → RowHasPick p picks i

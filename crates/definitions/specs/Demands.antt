@@ -49,14 +49,16 @@ pub record Writer : Type 0 where
   pub number : Answer → ℕ → ℕ → List ℕ → ℕ
   pub buffer : Answer → ℕ → ℕ → List ℕ → List ℕ
 
--- A program: what it puts out, by the bytes of its input that it kept and the size of its input.
+-- A program: what it puts out, by the bytes of its input that it kept and the size of its input. That reading keeps and
+-- counts the input, and that what is put out is written, rests on the contracts of the C functions that do it.
 abbrev pub Program : Type 0
 Program = List ℕ → ℕ → List ℕ
 
 -- ---- demand 1
 
 -- Bytes outside the layouts get the first refusal that applies, and a lent buffer is then untouched. The only premise on
--- a string is that it is one of bytes: no entry relies on somebody having looked beforehand.
+-- a string is that it is one of bytes: no entry relies on somebody having looked beforehand. (That readers leave lent arrays
+-- as they are stands in their contracts: here a reader is a function of the bytes.)
 pub record EngineRefuses (engine : Engine) : Type 0 where
   pub first-refusal :
       (p buffer : List ℕ) → Bytes p → Bytes buffer → (k : ℕ) → engineRefusal p (length buffer) ≡ suc k
@@ -131,7 +133,7 @@ WritesRecord write =
     (a : Answer) (n m : ℕ) (buffer : List ℕ) → Bytes buffer → writerRefusal a n m (length buffer) ≡ 0
     → write .buffer a n m buffer ≡ written buffer (answerBytes n a)
 
--- Every answer written reads back as itself: what the engine wrote, with the class and span of its result,
+-- Every answer written reads back as itself. What the engine wrote does, with the class and span of its result.
 pub record ReadBy (engine : Engine) (read : Reader) (p buffer : List ℕ) : Type 0 where
   pub trials : ℕ
   pub size : ℕ
@@ -144,7 +146,7 @@ EngineReadsBack engine read =
     (p buffer : List ℕ) → Bytes p → Bytes buffer → WithinLayout p → answer-most ≤ length buffer
     → ReadBy engine read p buffer
 
--- and what the writer wrote, read with the same n and m.
+-- What the writer wrote does, read with the same n and m.
 abbrev pub ReadsBack : Reader → Writer → Type 0
 ReadsBack read write =
     (a : Answer) (n m : ℕ) (buffer : List ℕ) → Bytes buffer → write .number a n m buffer ≡ 0
@@ -154,7 +156,7 @@ ReadsBack read write =
 abbrev pub WritesBack : Reader → Writer → Type 0
 WritesBack read write =
     (s : List ℕ) → Bytes s → (n m : ℕ) (a : Answer) (buffer : List ℕ) → Bytes buffer → answer-most ≤ length buffer
-    → read s n m ≡ fields a → write .buffer a n m buffer ≡ written buffer s
+    → read s n m ≡ fields a → (write .number a n m buffer ≡ 0) × (write .buffer a n m buffer ≡ written buffer s)
 
 -- ---- demand 3
 
@@ -271,3 +273,9 @@ pub record Demand3 (engine : Engine) (check : Checker) : Type 0 where
   pub none-exactly : NoneExactly check
   pub bottomless-exactly : BottomlessExactly check
   pub own-answers : OwnAnswers engine check
+
+-- All three of the same functions.
+pub record Demands (engine : Engine) (check : Checker) (readProblem : ProblemReader) (read : Reader) (write : Writer) (span verdict : Program) : Type 0 where
+  pub first : Demand1 engine check readProblem read write span verdict
+  pub second : Demand2 engine readProblem read write
+  pub third : Demand3 engine check

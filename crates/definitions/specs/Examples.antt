@@ -205,7 +205,7 @@ example-K =
       span = blank;
     }
 
--- M. The class and span are those of its answer, which is not certified. E, stamp and span 31, picks 1 and 2: not certified, a cycle weighs 0.
+-- M. E with stamp and span 31, picks 1 and 2: not certified, a cycle weighs 0. Class and span are those of this answer.
 unfoldable pub example-M : Example
 example-M =
     record {

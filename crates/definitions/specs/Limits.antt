@@ -14,7 +14,7 @@ highest-m = 63
 abbrev pub lead-limit : ℕ
 lead-limit = 10080
 
--- A least span is within this of 0: two leads for each of 32 variables, 645,120.
+-- The limit of spans: two leads for each of 32 variables, 645,120.
 abbrev pub span-limit : ℕ
 span-limit = 2 * suc highest-n * lead-limit
 

@@ -103,8 +103,9 @@ pub data SpanOutput (input : List ℕ) : List ℕ → Type 0 where
 
 -- ---- long inputs
 
--- Both programs count all input and keep the first 20,000 bytes of it. An input of this size whose first bytes are those
--- that were kept, of which only the first `size` count: what is decided from the two holds of every such input.
+-- Both programs count all input and keep the first 20,000 bytes of it. An input of this size whose first 20,000 bytes are
+-- the kept ones; of a shorter input only the first `size` kept bytes belong to it. The programs hold 20,000 bytes, so such
+-- an input exists, and what holds of every such input needs no more than the two.
 pub record KeptOf (kept : List ℕ) (size : ℕ) (input : List ℕ) : Type 0 where
   pub size-is : length input ≡ size
   pub begins : take kept-bytes input ≡ take kept-bytes (take size kept)

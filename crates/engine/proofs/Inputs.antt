@@ -11,7 +11,7 @@ use Rattle.definitions.specs.ProblemRecord.{headerRefusal, problemRefusal}
 use Rattle.definitions.specs.Programs.{KeptOf}
 use Rattle.definitions.specs.Solved as Results
 use Rattle.definitions.specs.Solved.{Solves}
-use Rattle.definitions.proofs.Bytes.{numAt-same}
+use Rattle.definitions.proofs.Inputs.{kept-whole, kept-at, header-agrees}
 use Rattle.definitions.proofs.Refusals.{or-else-suc}
 use Rattle.records.specs.declared.problem.Header.{Header}
 use Rattle.records.specs.declared.problem.Header.the-variants as Headers
@@ -21,32 +21,11 @@ use Rattle.engine.specs.declared.solve.Solved.the-variants as Results′
 use Rattle.engine.specs.Outcome.{solvedOf, refusedBy}
 use Rattle.engine.proofs.Outcomes.{refuses-with}
 
--- An input that was kept whole.
-pub kept-whole : {kept input : List ℕ} {size : ℕ} → KeptOf kept size input → size ≤ kept-bytes → take size kept ≡ input
-kept-whole {kept} {input} {size} k h =
-    let all : take kept-bytes input ≡ input = take-all kept-bytes input (omega (arith, k .size-is)) in
-    let most : length (take size kept) ≤ kept-bytes = rw length-take (omega arith) in
-    sym (take-all kept-bytes (take size kept) most) ∙ sym (k .begins) ∙ all
-
 pub kept-solves : (kept : List ℕ) {size : ℕ} {before : List ℕ} {r : Results.Solved} {after : List ℕ} → Solves (take size kept) before r after
     → (input : List ℕ) → KeptOf kept size input → size ≤ kept-bytes → Solves input before r after
-kept-solves kept {before = before} {r} {after} s input k h = subst (λ (x : List ℕ). Solves x before r after) (kept-whole k h) s
+kept-solves kept {before = before} {r} {after} s input k h = subst (λ (x : List ℕ). Solves x before r after) (sym (kept-whole k h)) s
 
--- The bytes of a longer one that were kept.
-kept-at : {kept input : List ℕ} {size : ℕ} → KeptOf kept size input → kept-bytes < size → (i : ℕ) → i < kept-bytes → getD input i 0 ≡ getD kept i 0
-kept-at {kept} {input} {size} k h i b =
-    sym (getD-take kept-bytes input i 0 b) ∙ ap (λ (l : List ℕ). getD l i 0) (k .begins) ∙ getD-take kept-bytes (take size kept) i 0 b
-    ∙ getD-take size kept i 0 (omega arith)
-
--- Its header is the one that was kept,
-header-kept : {kept input : List ℕ} {size : ℕ} → KeptOf kept size input → kept-bytes < size → headerRefusal input size ≡ headerRefusal kept size
-unfolding headerRefusal
-header-kept {kept} {input} k h =
-    let at : (n place : ℕ) → place + n ≤ problem-header → numAt n input place ≡ numAt n kept place =
-    λ n place b. numAt-same n input kept place place (λ i c. kept-at k h (place + i) (omega arith)) in
-    rw (at 4 0 (omega arith), at 2 4 (omega arith), at 2 6 (omega arith), at 2 8 (omega arith))
-
--- and refuses it: no problem is that long.
+-- A longer one is refused by its header: no problem is that long.
 pub long-refused : {kept input : List ℕ} {size : ℕ} {before : List ℕ} {header : Header} {r : ℕ} → KeptOf kept size input → kept-bytes < size
     → header ≡ headerOf kept size → r ≡ refusedBy header → Solves input before (solvedOf (Results′.Refused r)) before
 unfolding solvedOf refusedBy problemRefusal
@@ -58,7 +37,7 @@ long-refused {kept} {input} {size} {before} {header} {r} k h e g = go header ref
         absurd (omega (arith, q .size-is, product-most n m (q .n-most) (q .m-most)))
     go (Headers.Refused j) f =
         let q = header-refuses kept size e f in
-        let same : headerRefusal input (length input) ≡ j = ap (headerRefusal input) (k .size-is) ∙ header-kept k h ∙ q .0 in
+        let same : headerRefusal input (length input) ≡ j = ap (headerRefusal input) (k .size-is) ∙ header-agrees input kept (λ i b. kept-at k h i (omega arith)) size ∙ q .0 in
         let some : 0 < headerRefusal input (length input) = omega (arith, q .1) in
         let number : r ≡ j = g ∙ ap refusedBy f in
         refuses-with input before r (or-else-suc (headerRefusal input (length input)) _ some ∙ same ∙ sym number) (omega (arith, q .1))

@@ -11,10 +11,8 @@ ghost use Rattle.engine.specs.Outcome.{solvedOf};
 use crate::solve::Solved;
 use crate::solve::problem_refusal;
 use crate::solve::solve;
+use records::limits::KEPT;
 use records::problem::read_header;
-
-// How many bytes of the input are kept.
-const KEPT: usize = 20000;
 
 // The same on a slice.
 fn solve_kept(kept: &[u8], size: usize, answer: &mut [u8]) -> Solved

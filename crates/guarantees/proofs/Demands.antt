@@ -15,7 +15,7 @@ use Rattle.definitions.specs.Problem.{Optimal}
 use Rattle.definitions.specs.Bytes.{Bytes}
 use Rattle.definitions.specs.ProblemRecord.{WithinLayout, problemOf}
 use Rattle.definitions.specs.Solved.{answered}
-use Rattle.definitions.specs.Demands.{Engine, Checker, ProblemReader, Reader, Writer, Program, EngineSolves, CheckerJudges, ProblemReaderRefuses, ReadsProblems, ReaderRefuses, ReadsFields, WriterRefuses, WritesRecord, ProgramsAnswer, Demand1, Demand2, Demand3}
+use Rattle.definitions.specs.Demands.{Engine, Checker, ProblemReader, Reader, Writer, Program, EngineSolves, CheckerJudges, ProblemReaderRefuses, ReadsProblems, ReaderRefuses, ReadsFields, WriterRefuses, WritesRecord, ProgramsAnswer, Demand1, Demand2, Demand3, Demands}
 use Rattle.checker.proofs.Demand3.{checker-demand}
 use Rattle.guarantees.proofs.Engine.{engine-refuses, least-spans, quoted-is-smallest, engine-reads-back, own-answers}
 use Rattle.guarantees.proofs.Records.{reads-back, writes-back}
@@ -43,7 +43,7 @@ module _ (engine : Engine) (solves : EngineSolves engine) (check : Checker) (jud
     writes-record = writes;
     engine-reads-back = engine-reads-back engine solves read reads;
     reads-back = reads-back read write reads judged writes;
-    writes-back = writes-back read write refuses reads writes;
+    writes-back = writes-back read write refuses reads judged writes;
   }
 
   -- The checker accepts exactly what document 01 lists; some table is accepted exactly when the theory says so; and the
@@ -60,6 +60,9 @@ module _ (engine : Engine) (solves : EngineSolves engine) (check : Checker) (jud
         bottomless-exactly = c .bottomless-exactly;
         own-answers = own-answers engine solves check judges;
       }
+
+  pub demands : Demands engine check readProblem read write span verdict
+  demands = record { first = demand-1; second = demand-2; third = demand-3 }
 
 -- The release note: a quoted span is the smallest there is. Where the engine answers least with span s, some plan that keeps
 -- the rules has span s, and every plan that keeps the rules, in blanks or whole minutes without limit, has at least that.

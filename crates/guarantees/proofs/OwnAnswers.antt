@@ -9,12 +9,13 @@ use Rattle.definitions.specs.Limits.{answer-most}
 use Rattle.definitions.specs.Tropical.{Trop}
 use Rattle.definitions.specs.Offset.{tropOf}
 use Rattle.definitions.specs.Bytes.{Bytes, numAt}
-use Rattle.definitions.specs.ProblemRecord.{WithinLayout, headerRefusal, problemRefusal, problemOf, nField, mField}
+use Rattle.definitions.specs.ProblemRecord.{WithinLayout, problemRefusal, problemOf, nField, mField}
 use Rattle.definitions.specs.AnswerRecord.{Answer, answerRefusal, answerOf, answerSize, answerBytes, written, classField}
 use Rattle.definitions.specs.Verdict as Verdicts
 use Rattle.definitions.specs.Verdict.{Verdict, accepted, checkRefusal, Judged}
 use Rattle.definitions.specs.Solved as Results
 use Rattle.definitions.specs.Solved.{Solved, answered, Answers, Solves, solved, engineRefusal}
+use Rattle.definitions.proofs.Inputs.{header-passes}
 use Rattle.definitions.proofs.Refusals.{or-else-none, enough-clause, problem-fits}
 use Rattle.definitions.proofs.RoundTrip.{answer-length, answer-back, answer-accepted, size-most, answer-bytes}
 use Rattle.definitions.proofs.Put.{take-put, length-put}
@@ -106,7 +107,7 @@ own-verdict {p} {before} {after} {r} {class} {span} {trials} {size} h e {v} j =
     let right : checkRefusal p (answerBytes (nField p) a) ≡ 0 = or-else-none (problemRefusal p) _ .1 (w .within, answer-accepted a (nField p) (mField p) answer-most f) in
     let named : v ≡ accepted class (tropOf span) =
     names-itself p (answerBytes (nField p) a) a right (answer-back a (nField p) (mField p) answer-most f) (w .answers .accepted) (rw (w .bytes) at j) ∙ ap₂ accepted (w .answers .class-is) (w .answers .span-is) in
-    rw named (OwnVerdict.own (w .none) (rw e at h))
+    rw named (OwnVerdict.own (w .none) (rw e at h) (rw named at j))
 
 -- The reader gives class and span.
 pub own-reading : {p before after : List ℕ} {r : Declared.Solved} {class span trials size : ℕ} → Solves p before (solvedOf r) after → r ≡ Answered class span trials size
@@ -121,13 +122,13 @@ own-reading {p} {before} {after} {r} {class} {span} {trials} {size} h e {head} r
     let class-is : classField (answerBytes (nField p) (w .answer)) ≡ class = ap (λ (x : Answer). x .class) back ∙ w .answers .class-is in
     let span-is : spanNumber (answerBytes (nField p) (w .answer)) ≡ span = tropOf-injective _ span (span-meant (answer-bytes (nField p) a) (nField p) (mField p) ∙ ap (λ (x : Answer). x .span) back ∙ w .answers .span-is) in
     let told : head ≡ Heads.Fields class span = reads (w .within) ∙ (rw (w .bytes, answer-accepted a (nField p) (mField p) answer-most f, class-is, span-is) refl) in
-    rw told (OwnReading.own (w .none) (rw e at h))
+    rw told (OwnReading.own (w .none) (rw e at h) (sym (reads (w .within)) ∙ told))
 
 -- ---- the problem's n and m
 
 within-header : (p : List ℕ) → WithinLayout p → headerOf p (length p) ≡ Headers.Fields (nField p) (mField p)
-unfolding problemRefusal headerOf headerBy
-within-header p w = let h : headerRefusal p (length p) ≡ 0 = or-else-none (headerRefusal p (length p)) _ .0 w .0 in rw h refl
+unfolding headerOf headerBy
+within-header p w = rw (header-passes p w) refl
 
 pub never-refused : (p : List ℕ) {header : Header} {k : ℕ} {A : Type 0} → header ≡ headerOf p (length p) → header ≡ Headers.Refused k → WithinLayout p → A
 never-refused p e f w = absurd (let g = within-header p w in let z : _≡_ {A = ℕ} 0 1 = cc in omega arith)

@@ -31,8 +31,8 @@ read-fields read refuses reads s b n m a e = go (answerRefusal s n m) refl
     go zero h = let g : fields (answerOf s n m) ≡ fields a = sym (reads s b n m h) ∙ e in (h, cc)
     go (suc k) h = let g : refusal (suc k) ≡ fields a = sym (refuses s b n m k h) ∙ e in absurd (let z : _≡_ {A = ℕ} 0 1 = cc in omega arith)
 
-pub writes-back : (read : Reader) (write : Writer) → ReaderRefuses read → ReadsFields read → WritesRecord write → WritesBack read write
-writes-back read write refuses reads writes s b n m a buffer c long e =
+pub writes-back : (read : Reader) (write : Writer) → ReaderRefuses read → ReadsFields read → WriterRefuses write → WritesRecord write → WritesBack read write
+writes-back read write refuses reads refuses′ writes s b n m a buffer c long e =
     let f = read-fields read refuses reads s b n m a e in
     let back = read-write n m (length buffer) b (f .0) long in
-    rw (← f .1) (writes (answerOf s n m) n m buffer c (back .1) ∙ ap (written buffer) (back .0))
+    rw (← f .1) (refuses′ .number-is (answerOf s n m) n m buffer c ∙ back .1, writes (answerOf s n m) n m buffer c (back .1) ∙ ap (written buffer) (back .0))

@@ -1,19 +1,24 @@
 // Standard input for both programs: the first 20,000 bytes are kept, all of them are counted.
-ghost use Prim.Native.Nat.{_≤_};
-ghost use lib.ListN.{length};
+ghost use mathlib.Core.Path.{_≡_};
+ghost use Prim.Native.Nat.{_≤_, _-_};
+ghost use lib.ListN.{length, take};
+ghost use Rattle.definitions.specs.Limits.{kept-bytes};
+ghost use Rattle.definitions.specs.Bytes.{put};
 use libc::STDIN_FILENO;
+use records::limits::KEPT;
 
 // No outcome changes from here on: a length field is below 2³².
 const ENOUGH: u64 = 8589934592;
 
 // Copies the first `n` bytes of `buf` into `kept` from place `size` on, as far as they fit.
-fn keep(kept: &mut [u8; 20000], size: u64, buf: &[u8; 4096], n: usize)
-    requires { ⌜ n ≤ 4096 ⌝ }
+fn keep(kept: &mut [u8], size: u64, buf: &[u8], n: usize)
+    requires { ⌜ (length (now kept) ≡ kept-bytes) × (n ≤ length (now buf)) ⌝ }
+    ensures { λ _. ⌜ now (kept .exit) ≡ put (now (kept .entry)) size (take (kept-bytes - size) (take n (now (buf .entry)))) ⌝ }
 {
     let mut i = 0;
     let mut at = size;
     while i < n {
-        if at >= 20000 {
+        if at >= KEPT as u64 {
             return;
         }
         let place = at as usize;
@@ -24,7 +29,8 @@ fn keep(kept: &mut [u8; 20000], size: u64, buf: &[u8; 4096], n: usize)
 }
 
 // Reads once, keeps what fits, and gives how many bytes came; 0 at the end of the input, or where reading failed.
-fn read_some(kept: &mut [u8; 20000], size: u64) -> u64
+fn read_some(kept: &mut [u8], size: u64) -> u64
+    requires { ⌜ length (now kept) ≡ kept-bytes ⌝ }
     ensures { λ r. ⌜ r ≤ 4096 ⌝ }
 {
     let mut buf = [0u8; 4096];
@@ -35,7 +41,7 @@ fn read_some(kept: &mut [u8; 20000], size: u64) -> u64
 }
 
 // Reads standard input to its end, keeps its first 20,000 bytes, and gives its size. A failed read counts as the end.
-pub fn read_all(kept: &mut [u8; 20000]) -> u64
+pub fn read_all(kept: &mut [u8; KEPT]) -> u64
     ensures { λ r. ⌜ r ≤ 8589938688 ⌝ }
 {
     let mut size = 0;

@@ -33,22 +33,22 @@ use Rattle.records.proofs.Writing.{roomy}
 
 -- ---- what an outcome says of its refusal
 
-record-by : (k size : ℕ) {z : ℕ} → result.Record z ≡ writtenBy k size → (k ≡ 0) × (z ≡ size)
+pub record-by : (k size : ℕ) {z : ℕ} → result.Record z ≡ writtenBy k size → (k ≡ 0) × (z ≡ size)
 unfolding writtenBy
 record-by zero size e = (refl, (cc))
 record-by (suc k) size e = let z : _≡_ {A = ℕ} 0 1 = cc in absurd (omega arith)
 
-refused-record : (k size : ℕ) {j : ℕ} → result.Refused j ≡ writtenBy k size → (j ≡ k) × (k ≡ 0 → ⊥)
+pub refused-record : (k size : ℕ) {j : ℕ} → result.Refused j ≡ writtenBy k size → (j ≡ k) × (k ≡ 0 → ⊥)
 unfolding writtenBy
 refused-record zero size e = let z : _≡_ {A = ℕ} 0 1 = cc in absurd (omega arith)
 refused-record (suc k) size e = ((cc), λ h. omega arith)
 
-fields-by : (k class span : ℕ) {c w : ℕ} → head.Fields c w ≡ headBy k class span → (k ≡ 0) × (c ≡ class) × (w ≡ span)
+pub fields-by : (k class span : ℕ) {c w : ℕ} → head.Fields c w ≡ headBy k class span → (k ≡ 0) × (c ≡ class) × (w ≡ span)
 unfolding headBy
 fields-by zero class span e = (refl, (cc), (cc))
 fields-by (suc k) class span e = let z : _≡_ {A = ℕ} 0 1 = cc in absurd (omega arith)
 
-refused-by : (k class span : ℕ) {j : ℕ} → head.Refused j ≡ headBy k class span → (j ≡ k) × (k ≡ 0 → ⊥)
+pub refused-by : (k class span : ℕ) {j : ℕ} → head.Refused j ≡ headBy k class span → (j ≡ k) × (k ≡ 0 → ⊥)
 unfolding headBy
 refused-by zero class span e = let z : _≡_ {A = ℕ} 0 1 = cc in absurd (omega arith)
 refused-by (suc k) class span e = ((cc), λ h. omega arith)

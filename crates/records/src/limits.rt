@@ -36,3 +36,6 @@ pub const TABLE: usize = 2048;
 pub const LENGTH_BYTES: usize = 4;
 
 pub const LEAD_BYTES: usize = 4;
+
+// How many bytes of their input the programs keep.
+pub const KEPT: usize = 20000;

@@ -13,6 +13,7 @@ use libc::STDOUT_FILENO;
 use output::writer::write_record;
 use output::writer::write_refused;
 use records::limits::ANSWER_MOST;
+use records::limits::KEPT;
 
 // Room for what is put out: a record, or a line.
 const OUT_MOST: usize = 256;
@@ -43,7 +44,7 @@ fn put_out(out: &mut [u8], buffer: &[u8], solved: Solved) -> usize
 }
 
 // What the program puts out for every input of this size that begins with what was kept: so many bytes of the buffer.
-fn answer(kept: &[u8; 20000], size: u64, out: &mut [u8]) -> usize
+fn answer(kept: &[u8; KEPT], size: u64, out: &mut [u8]) -> usize
     requires { ⌜ length (now out) ≡ out-most ⌝ }
     ensures { λ r. ⌜ (r ≤ out-most) × ((input : List ℕ) → KeptOf (now (kept .entry)) size input → SpanOutput input (take r (now (out .exit)))) ⌝ }
 {
@@ -53,7 +54,7 @@ fn answer(kept: &[u8; 20000], size: u64, out: &mut [u8]) -> usize
 }
 
 fn main() {
-    let mut kept = [0u8; 20000];
+    let mut kept = [0u8; KEPT];
     let size = read_all(&mut kept);
     let mut out = [0u8; OUT_MOST];
     let n = answer(&kept, size, &mut out);

@@ -14,6 +14,7 @@ use input::read_all;
 use libc::STDOUT_FILENO;
 use output::lines::LINE_MOST;
 use output::writer::write_verdict;
+use records::limits::KEPT;
 
 // Puts the line of a verdict at the front of a buffer, and gives its size.
 fn put_line(line: &mut [u8], verdict: Verdict) -> usize
@@ -27,7 +28,7 @@ fn put_line(line: &mut [u8], verdict: Verdict) -> usize
 }
 
 // What the program puts out for every input of this size that begins with what was kept: so many bytes of the buffer.
-fn answer(kept: &[u8; 20000], size: u64, line: &mut [u8]) -> usize
+fn answer(kept: &[u8; KEPT], size: u64, line: &mut [u8]) -> usize
     requires { ⌜ length (now line) ≡ line-most ⌝ }
     ensures { λ r. ⌜ (r ≤ line-most) × ((input : List ℕ) → KeptOf (now (kept .entry)) size input → VerdictOutput input (take r (now (line .exit)))) ⌝ }
 {
@@ -35,7 +36,7 @@ fn answer(kept: &[u8; 20000], size: u64, line: &mut [u8]) -> usize
 }
 
 fn main() {
-    let mut kept = [0u8; 20000];
+    let mut kept = [0u8; KEPT];
     let size = read_all(&mut kept);
     let mut line = [0u8; LINE_MOST];
     let n = answer(&kept, size, &mut line);

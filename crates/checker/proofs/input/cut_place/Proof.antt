@@ -1,5 +1,5 @@
 use borrow.Author.Needs.{needs}
-use Rattle.checker.proofs.LongInputs.{cut-short, cut-past, cut-inside}
+use Rattle.definitions.proofs.Inputs.{cut-short, cut-past, cut-inside}
 use mathlib.Core.Path.{ap, _∙_}
 use native.Mathlib.Omega.{arith}
 use Prim.Native.Nat.{_+_}

@@ -1,6 +1,7 @@
 use borrow.Author.Needs.{needs}
 use Rattle.checker.specs.Outcome.{verdictOf}
-use Rattle.checker.proofs.LongInputs.{kept-whole, kept-longer, long-past, long-cut, judged-parts}
+use Rattle.definitions.proofs.Inputs.{kept-whole}
+use Rattle.checker.proofs.LongInputs.{kept-longer, long-past, long-cut, judged-parts}
 use lib.Seq.{length-take-le}
 use mathlib.Core.Path.{sym, ap, _∙_}
 use native.Mathlib.Omega.{arith}

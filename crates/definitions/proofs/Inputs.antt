@@ -1,0 +1,224 @@
+-- Inputs of which the first bytes were kept: what is decided from them and the size holds of every such input. From 2³³
+-- bytes on the size counts no more.
+use Prim.Native.Nat.{ℕ, zero, suc, _+_, _*_, _-_, _≤_, _<_}
+use mathlib.Core.Path.{_≡_, refl, ap, sym, subst, _∙_}
+use mathlib.Core.List.{List}
+use mathlib.Core.Logic.{⊎-elim}
+use native.Mathlib.Omega.{arith}
+use native.Mathlib.Nat.{eq-zero-or-pos, mul-le-mul-left, mul-le-mul-right}
+use lib.Dec.{eqb}
+use lib.ListN.{length, getD, take, drop, length-take, length-drop}
+use lib.Seq.{getD-take, getD-drop, length-take-le, ext-getD, take-all, take-take}
+use borrow.Author.Tests.{lt-ltb, le-ltb, eqb-true, ne-eqb}
+use Rattle.definitions.specs.Limits.{kept-bytes, length-bytes, problem-header, answer-header, signed-full, highest-n, highest-m, problem-kind}
+use Rattle.definitions.specs.Bytes.{Bytes, numAt}
+use Rattle.definitions.specs.ProblemRecord.{lengthField, kindField, nField, mField, headerRefusal, problemRefusal, WithinLayout, problemSize}
+use Rattle.definitions.specs.AnswerRecord.{answerHeaderRefusal, answerRefusal}
+use Rattle.definitions.specs.Verdict.{Verdict, refused, checkRefusal, Judged, turned-away, certified, uncertified}
+use Rattle.definitions.specs.Programs.{cutPlace, problemPart, answerPart, KeptOf, SpanOutput, VerdictOutput, refusedLine}
+use Rattle.definitions.specs.Programs as Programs
+use Rattle.definitions.proofs.Whole.{nat-le-or-lt}
+use Rattle.definitions.proofs.Bytes.{numAt-same, numAt-bound, bytes-take, bytes-drop}
+use Rattle.definitions.proofs.Refusals.{or-else-suc, or-else-none, or-else-zero, limits-clause, enough-clause, equal-clause, problem-fits}
+
+-- ---- what was kept
+
+-- An input that was kept whole.
+pub kept-whole : {kept input : List ℕ} {size : ℕ} → KeptOf kept size input → size ≤ kept-bytes → input ≡ take size kept
+kept-whole {kept} {input} {size} k h =
+    let all : take kept-bytes input ≡ input = take-all kept-bytes input (omega (arith, k .size-is)) in
+    let most : length (take size kept) ≤ kept-bytes = rw length-take (omega arith) in
+    sym all ∙ k .begins ∙ take-all kept-bytes (take size kept) most
+
+-- The first bytes of a longer one.
+pub kept-at : {kept input : List ℕ} {size : ℕ} → KeptOf kept size input → kept-bytes < size → (i : ℕ) → i < kept-bytes → getD input i 0 ≡ getD kept i 0
+kept-at {kept} {input} {size} k h i b =
+    sym (getD-take kept-bytes input i 0 b) ∙ ap (λ (l : List ℕ). getD l i 0) (k .begins) ∙ getD-take kept-bytes (take size kept) i 0 b
+    ∙ getD-take size kept i 0 (omega arith)
+
+-- ---- headers of lists whose first bytes agree
+
+fields-agree : (n : ℕ) (s t : List ℕ) → ((i : ℕ) → i < n → getD s i 0 ≡ getD t i 0) → (k at : ℕ) → at + k ≤ n → numAt k s at ≡ numAt k t at
+fields-agree n s t same k at h = numAt-same k s t at at (λ i b. same (at + i) (omega arith))
+
+module _ (s t : List ℕ) (same : (i : ℕ) → i < problem-header → getD s i 0 ≡ getD t i 0) where
+  pub length-agrees : lengthField s ≡ lengthField t
+  length-agrees = fields-agree problem-header s t same 4 0 (omega arith)
+
+  pub n-agrees : nField s ≡ nField t
+  n-agrees = fields-agree problem-header s t same 2 6 (omega arith)
+
+  pub m-agrees : mField s ≡ mField t
+  m-agrees = fields-agree problem-header s t same 2 8 (omega arith)
+
+  pub header-agrees : (size : ℕ) → headerRefusal s size ≡ headerRefusal t size
+  unfolding headerRefusal
+  header-agrees size = rw (length-agrees, fields-agree problem-header s t same 2 4 (omega arith), n-agrees, m-agrees)
+
+pub answer-agrees : (s t : List ℕ) → ((i : ℕ) → i < answer-header → getD s i 0 ≡ getD t i 0) → (size n m : ℕ)
+    → answerHeaderRefusal s size n m ≡ answerHeaderRefusal t size n m
+unfolding answerHeaderRefusal
+answer-agrees s t same size n m =
+    let at = fields-agree answer-header s t same in
+    rw (at 4 0 (omega arith), at 2 4 (omega arith), at 2 6 (omega arith), at 2 8 (omega arith))
+
+-- Fewer than 10 bytes: refusal 1, whatever they are.
+pub header-short : (s : List ℕ) (size : ℕ) → size < problem-header → headerRefusal s size ≡ 1
+unfolding headerRefusal
+header-short s size h = rw (lt-ltb size problem-header h)
+
+-- The length field is another than the size: refusal 2.
+pub header-length : (s : List ℕ) (size : ℕ) → problem-header ≤ size → (lengthField s + length-bytes ≡ size → ⊥) → headerRefusal s size ≡ 2
+unfolding headerRefusal
+header-length s size h d = rw (le-ltb size problem-header h, ne-eqb (lengthField s + length-bytes) size d)
+
+-- ---- where an input is cut
+
+pub cut-short : (s : List ℕ) → length s < length-bytes → length s ≡ cutPlace s
+unfolding cutPlace
+cut-short s h = rw (lt-ltb (length s) length-bytes h)
+
+pub cut-past : (s : List ℕ) → length-bytes ≤ length s → length s < lengthField s + length-bytes → length s ≡ cutPlace s
+unfolding cutPlace
+cut-past s h k = rw (le-ltb (length s) length-bytes h, lt-ltb (length s) (lengthField s + length-bytes) k)
+
+pub cut-inside : (s : List ℕ) → length-bytes ≤ length s → lengthField s + length-bytes ≤ length s → lengthField s + length-bytes ≡ cutPlace s
+unfolding cutPlace
+cut-inside s h k = rw (le-ltb (length s) length-bytes h, le-ltb (length s) (lengthField s + length-bytes) k)
+
+-- ---- from 2³³ bytes on
+
+-- A length field is below half of this.
+abbrev pub enough : ℕ
+enough = 2 * signed-full
+
+field-below : {s : List ℕ} → Bytes s → lengthField s + length-bytes < signed-full + length-bytes
+field-below b = let h = numAt-bound length-bytes 0 b in omega arith
+
+-- The length field of so long a problem is another than its size.
+far-problem : {s : List ℕ} → Bytes s → enough ≤ length s → problemRefusal s ≡ 2
+unfolding problemRefusal
+far-problem {s} b h =
+    let two = header-length s (length s) (omega arith) (λ e. omega (arith, field-below b)) in
+    or-else-suc (headerRefusal s (length s)) _ (omega arith) ∙ two
+
+-- And so is that of so long an answer.
+far-answer : {a : List ℕ} → Bytes a → signed-full + length-bytes ≤ length a → (n m : ℕ) → n ≤ highest-n → m ≤ highest-m → answerRefusal a n m ≡ 9
+unfolding answerRefusal answerHeaderRefusal
+far-answer {a} b h n m f g =
+    let nine : answerHeaderRefusal a (length a) n m ≡ 9 =
+    rw (le-ltb highest-n n f, le-ltb highest-m m g, le-ltb (length a) answer-header (omega arith), ne-eqb (lengthField a + length-bytes) (length a) (λ e. omega (arith, field-below b))) in
+    or-else-suc (answerHeaderRefusal a (length a) n m) _ (omega arith) ∙ nine
+
+-- What the span program puts out is the same for all inputs that are so long.
+pub span-far : (input other : List ℕ) → Bytes input → Bytes other → enough ≤ length input → enough ≤ length other → {output : List ℕ}
+    → SpanOutput other output → SpanOutput input output
+span-far input other b c h g (Programs.refusal {k = k} e) = Programs.refusal (far-problem b h ∙ sym (far-problem c g) ∙ e)
+span-far input other b c h g (Programs.answer a e ans) = absurd (let z = far-problem c g in omega arith)
+
+-- ---- the verdict program on them
+
+-- A header that nothing refuses says a size that is kept.
+header-most : (s : List ℕ) (size : ℕ) → headerRefusal s size ≡ 0 → size ≤ kept-bytes
+unfolding headerRefusal
+header-most s size e =
+    let a = enough-clause size problem-header _ _ .0 e in
+    let b = equal-clause (lengthField s + length-bytes) size _ _ .0 (a .1) in
+    let c = equal-clause (kindField s) problem-kind _ _ .0 (b .1) in
+    let d = limits-clause (nField s) (mField s) _ _ .0 (c .1) in
+    let g = equal-clause size (problemSize (nField s) (mField s)) _ _ .0 (d .1) in
+    let wide = mul-le-mul-right {m = suc (nField s)} {n = 32} (suc (mField s)) (omega (arith, d .0 .0)) in
+    let high = mul-le-mul-left {m = suc (mField s)} {n = 64} 32 (omega (arith, d .0 .1)) in
+    omega (arith, g .0, wide, high)
+
+pub header-passes : (s : List ℕ) → WithinLayout s → headerRefusal s (length s) ≡ 0
+unfolding problemRefusal
+header-passes s w = or-else-none (headerRefusal s (length s)) _ .0 w .0
+
+-- Two inputs whose first bytes agree, and whose problem parts end at the same place.
+module _ (x y : List ℕ) (same : (i : ℕ) → i < kept-bytes → getD x i 0 ≡ getD y i 0) (end : ℕ) (inside : end ≤ length x) (inside′ : end ≤ length y) where
+  parts-length : length (take end x) ≡ length (take end y)
+  parts-length = length-take-le end x inside ∙ sym (length-take-le end y inside′)
+
+  parts-kept : end ≤ kept-bytes → take end x ≡ take end y
+  parts-kept h =
+      ext-getD 0 (take end x) (take end y) parts-length
+      (λ i b. let l = length-take-le end x inside in getD-take end x i 0 (omega arith) ∙ same i (omega arith) ∙ sym (getD-take end y i 0 (omega arith)))
+
+  parts-header : kept-bytes < end → headerRefusal (take end x) (length (take end x)) ≡ headerRefusal (take end y) (length (take end y))
+  parts-header h =
+      header-agrees (take end x) (take end y) (λ i b. getD-take end x i 0 (omega arith) ∙ same i (omega arith) ∙ sym (getD-take end y i 0 (omega arith))) (length (take end x))
+      ∙ ap (headerRefusal (take end y)) parts-length
+
+  -- A problem part that reaches past what is kept is refused by its header.
+  parts-refused : kept-bytes < end → 0 < headerRefusal (take end x) (length (take end x))
+  parts-refused h = ⊎-elim
+      (λ (e : headerRefusal (take end x) (length (take end x)) ≡ 0). absurd (omega (arith, header-most (take end x) (length (take end x)) e, length-take-le end x inside)))
+      (λ q. q)
+      (eq-zero-or-pos (headerRefusal (take end x) (length (take end x))))
+
+  problem-alike : problemRefusal (take end x) ≡ problemRefusal (take end y)
+  unfolding problemRefusal
+  problem-alike = ⊎-elim
+      (λ (h : end ≤ kept-bytes). ap problemRefusal (parts-kept h))
+      (λ (h : kept-bytes < end).
+      let some = parts-refused h in
+      let alike = parts-header h in
+      or-else-suc (headerRefusal (take end x) (length (take end x))) _ some ∙ alike ∙ sym (or-else-suc (headerRefusal (take end y) (length (take end y))) _ (omega arith)))
+      (nat-le-or-lt end kept-bytes)
+
+-- The refusal of the two parts is the same for inputs that are so long and begin alike, and there is one.
+module _ (x y : List ℕ) (same : (i : ℕ) → i < kept-bytes → getD x i 0 ≡ getD y i 0) (b : Bytes x) (c : Bytes y) (long : enough ≤ length x) (long′ : enough ≤ length y) where
+  cuts-alike : cutPlace x ≡ cutPlace y
+  cuts-alike =
+      sym (cut-inside x (omega arith) (omega (arith, field-below b))) ∙ ap (λ (k : ℕ). k + length-bytes) (length-agrees x y (λ i h. same i (omega arith)))
+      ∙ cut-inside y (omega arith) (omega (arith, field-below c))
+
+  cut-below : cutPlace x < signed-full + length-bytes
+  cut-below = let e = cut-inside x (omega arith) (omega (arith, field-below b)) in omega (arith, field-below b)
+
+  far-part : (s : List ℕ) → Bytes s → enough ≤ length s → cutPlace s ≤ kept-bytes → (n m : ℕ) → n ≤ highest-n → m ≤ highest-m → answerRefusal (drop (cutPlace s) s) n m ≡ 9
+  far-part s d h e n m f g = far-answer (bytes-drop (cutPlace s) d) (rw length-drop (omega arith)) n m f g
+
+  pub refusals-alike : (checkRefusal (problemPart x) (answerPart x) ≡ checkRefusal (problemPart y) (answerPart y)) × (0 < checkRefusal (problemPart x) (answerPart x))
+  unfolding checkRefusal problemPart answerPart
+  refusals-alike = go (problemRefusal (take (cutPlace x) x)) refl
+    where
+      alike : problemRefusal (take (cutPlace x) x) ≡ problemRefusal (take (cutPlace y) y)
+      alike = rw (← cuts-alike) (problem-alike x y same (cutPlace x) (omega (arith, cut-below)) (omega (arith, cut-below)))
+
+      go : (k : ℕ) → problemRefusal (take (cutPlace x) x) ≡ k
+          → (checkRefusal (take (cutPlace x) x) (drop (cutPlace x) x) ≡ checkRefusal (take (cutPlace y) y) (drop (cutPlace y) y)) × (0 < checkRefusal (take (cutPlace x) x) (drop (cutPlace x) x))
+      go zero e =
+          let f = problem-fits (take (cutPlace x) x) .0 e in
+          let g = problem-fits (take (cutPlace y) y) .0 (sym alike ∙ e) in
+          let most : cutPlace x ≤ kept-bytes =
+          let l = length-take-le (cutPlace x) x (omega (arith, cut-below)) in omega (arith, header-most (take (cutPlace x) x) (length (take (cutPlace x) x)) (header-passes (take (cutPlace x) x) e)) in
+          let nine = far-part x b long most _ _ (f .n-most) (f .m-most) in
+          let nine′ = far-part y c long′ (omega (arith, cuts-alike)) _ _ (g .n-most) (g .m-most) in
+          (rw (e, sym alike ∙ e, nine, nine′) refl, rw (e, nine) (omega arith))
+      go (suc k) e = (rw (e, sym alike ∙ e) refl, rw e (omega arith))
+
+-- A verdict on bytes that are refused.
+refused-with : {p a : List ℕ} {v : Verdict} → Judged p a v → (k : ℕ) → checkRefusal p a ≡ suc k → v ≡ refused (suc k)
+refused-with (turned-away e) k f = ap refused (sym e ∙ f)
+refused-with (certified e g) k f = absurd (omega arith)
+refused-with (uncertified e g) k f = absurd (omega arith)
+
+judged-with : {p a : List ℕ} {v : Verdict} (k : ℕ) → checkRefusal p a ≡ k → 0 < k → v ≡ refused k → Judged p a v
+judged-with zero e h f = absurd (omega arith)
+judged-with (suc k) e h f = rw f (turned-away e)
+
+-- What the verdict program puts out is the same for all inputs that are so long and begin alike.
+pub verdict-far : (input other : List ℕ) → Bytes input → Bytes other → enough ≤ length input → enough ≤ length other → take kept-bytes input ≡ take kept-bytes other
+    → {output : List ℕ} → VerdictOutput other output → VerdictOutput input output
+verdict-far input other b c h g begins o =
+    let same : (i : ℕ) → i < kept-bytes → getD input i 0 ≡ getD other i 0 =
+    λ i l. sym (getD-take kept-bytes input i 0 l) ∙ ap (λ (s : List ℕ). getD s i 0) begins ∙ getD-take kept-bytes other i 0 l in
+    let alike = refusals-alike input other same b c h g in
+    record { verdict = o .verdict; judged = go (checkRefusal (problemPart other) (answerPart other)) refl (alike .0) (alike .1); line = o .line }
+  where
+    go : (k : ℕ) → checkRefusal (problemPart other) (answerPart other) ≡ k → checkRefusal (problemPart input) (answerPart input) ≡ checkRefusal (problemPart other) (answerPart other)
+        → 0 < checkRefusal (problemPart input) (answerPart input) → Judged (problemPart input) (answerPart input) (o .verdict)
+    go zero e f some = absurd (omega arith)
+    go (suc k) e f some = judged-with (suc k) (f ∙ e) (omega arith) (refused-with (o .judged) k e)
