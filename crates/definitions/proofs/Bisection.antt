@@ -12,7 +12,7 @@ use lib.IntN.{ℤ, pos, negsuc, negℤ, natAbs, _+ℤ_, _-ℤ_}
 use lib.Signed.{_≤ℤ_, _<ℤ_, leZ}
 use borrow.Author.Tests.{eqb-true, eqb-false, eq-eqb, ne-eqb}
 use Rattle.definitions.specs.Limits.{span-limit, top-trial, lowest-trial, most-trials}
-use Rattle.definitions.specs.Bisection.{Bracket, opening, half-up, middle, next, width, Halved, counted, halve, halved, trials-optimal}
+use Rattle.definitions.specs.Bisection.{Brackets, Bracket, opening, half-up, middle, next, width, Halved, counted, halve, halved, trials-optimal}
 use Rattle.definitions.proofs.Whole.{up, down, whole, le-read, le-show, lt-read, lt-show, plus-read, minus-read, neg-read, abs-read, parts, le-or-lt, nat-le-or-lt}
 
 -- ---- the middle
@@ -38,11 +38,6 @@ width-is b h =
     (λ (e : up (b .high -ℤ b .low) ≡ 0). omega (whole, minus-read (b .high) (b .low), abs-read (b .high -ℤ b .low)))
     (λ (e : down (b .high -ℤ b .low) ≡ 0). omega (whole, minus-read (b .high) (b .low), abs-read (b .high -ℤ b .low)))
     (parts (b .high -ℤ b .low))
-
--- A bracket in which the least span s lies: low is not possible, high is.
-pub record Brackets (b : Bracket) (s : ℤ) : Type 0 where
-  pub above : b .low <ℤ s
-  pub within : s ≤ℤ b .high
 
 pub ordered : {b : Bracket} {s : ℤ} → Brackets b s → b .low ≤ℤ b .high
 ordered {b} {s} h = omega (whole, h .above, h .within)

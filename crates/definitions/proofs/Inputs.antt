@@ -15,7 +15,7 @@ use Rattle.definitions.specs.Bytes.{Bytes, numAt}
 use Rattle.definitions.specs.ProblemRecord.{lengthField, kindField, nField, mField, headerRefusal, problemRefusal, WithinLayout, problemSize}
 use Rattle.definitions.specs.AnswerRecord.{answerHeaderRefusal, answerRefusal}
 use Rattle.definitions.specs.Verdict.{Verdict, refused, checkRefusal, Judged, turned-away, certified, uncertified}
-use Rattle.definitions.specs.Programs.{cutPlace, problemPart, answerPart, KeptOf, SpanOutput, VerdictOutput, refusedLine}
+use Rattle.definitions.specs.Programs.{cutPlace, problemPart, answerPart, KeptOf, SpanOutput, VerdictOutput, read-most, ReadFrom}
 use Rattle.definitions.specs.Programs as Programs
 use Rattle.definitions.proofs.Whole.{nat-le-or-lt}
 use Rattle.definitions.proofs.Bytes.{numAt-same, numAt-bound, bytes-take, bytes-drop}
@@ -88,15 +88,11 @@ cut-inside s h k = rw (le-ltb (length s) length-bytes h, le-ltb (length s) (leng
 
 -- ---- from 2³³ bytes on
 
--- A length field is below half of this.
-abbrev pub enough : ℕ
-enough = 2 * signed-full
-
 field-below : {s : List ℕ} → Bytes s → lengthField s + length-bytes < signed-full + length-bytes
 field-below b = let h = numAt-bound length-bytes 0 b in omega arith
 
 -- The length field of so long a problem is another than its size.
-far-problem : {s : List ℕ} → Bytes s → enough ≤ length s → problemRefusal s ≡ 2
+far-problem : {s : List ℕ} → Bytes s → read-most ≤ length s → problemRefusal s ≡ 2
 unfolding problemRefusal
 far-problem {s} b h =
     let two = header-length s (length s) (omega arith) (λ e. omega (arith, field-below b)) in
@@ -111,7 +107,7 @@ far-answer {a} b h n m f g =
     or-else-suc (answerHeaderRefusal a (length a) n m) _ (omega arith) ∙ nine
 
 -- What the span program puts out is the same for all inputs that are so long.
-pub span-far : (input other : List ℕ) → Bytes input → Bytes other → enough ≤ length input → enough ≤ length other → {output : List ℕ}
+pub span-far : (input other : List ℕ) → Bytes input → Bytes other → read-most ≤ length input → read-most ≤ length other → {output : List ℕ}
     → SpanOutput other output → SpanOutput input output
 span-far input other b c h g (Programs.refusal {k = k} e) = Programs.refusal (far-problem b h ∙ sym (far-problem c g) ∙ e)
 span-far input other b c h g (Programs.answer a e ans) = absurd (let z = far-problem c g in omega arith)
@@ -168,7 +164,7 @@ module _ (x y : List ℕ) (same : (i : ℕ) → i < kept-bytes → getD x i 0 �
       (nat-le-or-lt end kept-bytes)
 
 -- The refusal of the two parts is the same for inputs that are so long and begin alike, and there is one.
-module _ (x y : List ℕ) (same : (i : ℕ) → i < kept-bytes → getD x i 0 ≡ getD y i 0) (b : Bytes x) (c : Bytes y) (long : enough ≤ length x) (long′ : enough ≤ length y) where
+module _ (x y : List ℕ) (same : (i : ℕ) → i < kept-bytes → getD x i 0 ≡ getD y i 0) (b : Bytes x) (c : Bytes y) (long : read-most ≤ length x) (long′ : read-most ≤ length y) where
   cuts-alike : cutPlace x ≡ cutPlace y
   cuts-alike =
       sym (cut-inside x (omega arith) (omega (arith, field-below b))) ∙ ap (λ (k : ℕ). k + length-bytes) (length-agrees x y (λ i h. same i (omega arith)))
@@ -177,7 +173,7 @@ module _ (x y : List ℕ) (same : (i : ℕ) → i < kept-bytes → getD x i 0 �
   cut-below : cutPlace x < signed-full + length-bytes
   cut-below = let e = cut-inside x (omega arith) (omega (arith, field-below b)) in omega (arith, field-below b)
 
-  far-part : (s : List ℕ) → Bytes s → enough ≤ length s → cutPlace s ≤ kept-bytes → (n m : ℕ) → n ≤ highest-n → m ≤ highest-m → answerRefusal (drop (cutPlace s) s) n m ≡ 9
+  far-part : (s : List ℕ) → Bytes s → read-most ≤ length s → cutPlace s ≤ kept-bytes → (n m : ℕ) → n ≤ highest-n → m ≤ highest-m → answerRefusal (drop (cutPlace s) s) n m ≡ 9
   far-part s d h e n m f g = far-answer (bytes-drop (cutPlace s) d) (rw length-drop (omega arith)) n m f g
 
   pub refusals-alike : (checkRefusal (problemPart x) (answerPart x) ≡ checkRefusal (problemPart y) (answerPart y)) × (0 < checkRefusal (problemPart x) (answerPart x))
@@ -210,7 +206,7 @@ judged-with zero e h f = absurd (omega arith)
 judged-with (suc k) e h f = rw f (turned-away e)
 
 -- What the verdict program puts out is the same for all inputs that are so long and begin alike.
-pub verdict-far : (input other : List ℕ) → Bytes input → Bytes other → enough ≤ length input → enough ≤ length other → take kept-bytes input ≡ take kept-bytes other
+pub verdict-far : (input other : List ℕ) → Bytes input → Bytes other → read-most ≤ length input → read-most ≤ length other → take kept-bytes input ≡ take kept-bytes other
     → {output : List ℕ} → VerdictOutput other output → VerdictOutput input output
 verdict-far input other b c h g begins o =
     let same : (i : ℕ) → i < kept-bytes → getD input i 0 ≡ getD other i 0 =
@@ -222,3 +218,19 @@ verdict-far input other b c h g begins o =
         → 0 < checkRefusal (problemPart input) (answerPart input) → Judged (problemPart input) (answerPart input) (o .verdict)
     go zero e f some = absurd (omega arith)
     go (suc k) e f some = judged-with (suc k) (f ∙ e) (omega arith) (refused-with (o .judged) k e)
+
+-- ---- what is put out for all inputs of which the same was read
+
+module _ (kept : List ℕ) (size : ℕ) (output : List ℕ) where
+  part-long : (input : List ℕ) → size ≤ length input → length (take size input) ≡ size
+  part-long input h = length-take-le size input h
+
+  pub span-read : ((input : List ℕ) → KeptOf kept size input → SpanOutput input output) → (input : List ℕ) → ReadFrom kept size input → SpanOutput input output
+  span-read f input (Programs.whole k) = f input k
+  span-read f input (Programs.part b h g k) =
+      span-far input (take size input) b (bytes-take size b) (omega arith) (omega (arith, part-long input g)) (f (take size input) k)
+
+  pub verdict-read : ((input : List ℕ) → KeptOf kept size input → VerdictOutput input output) → (input : List ℕ) → ReadFrom kept size input → VerdictOutput input output
+  verdict-read f input (Programs.whole k) = f input k
+  verdict-read f input (Programs.part b h g k) =
+      verdict-far input (take size input) b (bytes-take size b) (omega arith) (omega (arith, part-long input g)) (sym (take-take kept-bytes size input (omega arith))) (f (take size input) k)

@@ -3,7 +3,7 @@ use Prim.Native.Nat.{ℕ, zero, suc, _+_, _/_}
 use mathlib.Core.Bool.{Bool, true, false}
 use lib.Dec.{eqb}
 use lib.IntN.{ℤ, pos, negsuc, negℤ, natAbs, _+ℤ_, _-ℤ_}
-use lib.Signed.{leZ}
+use lib.Signed.{leZ, _≤ℤ_, _<ℤ_}
 use Rattle.definitions.specs.Limits.{top-trial, lowest-trial}
 
 -- The bracket of a search for the least possible span: between a `low` that is not possible and a `high` that is.
@@ -62,3 +62,8 @@ trials-unbounded = 2
 
 unfoldable pub trials-optimal : ℤ → ℕ
 trials-optimal s = 2 + halved opening s .halvings
+
+-- A bracket in which the least span s lies: low is not possible, high is.
+pub record Brackets (b : Bracket) (s : ℤ) : Type 0 where
+  pub above : b .low <ℤ s
+  pub within : s ≤ℤ b .high

@@ -16,7 +16,7 @@ use Rattle.definitions.specs.ProblemRecord.{problemRefusal, WithinLayout
 use Rattle.definitions.specs.AnswerRecord.{Answer, answerRefusal, writerRefusal, answerOf, answerBytes, answerSize, pickCount, highestPick, picksFit, spanFits, stampsFit, written}
 use Rattle.definitions.specs.Verdict.{Verdict, accepted, refused, accepts, checkRefusal, Accepted, answerFor, pointOf, Judged}
 use Rattle.definitions.specs.Solved.{Solved, answered, Found, engineRefusal, Solves}
-use Rattle.definitions.specs.Programs.{VerdictOutput, SpanOutput}
+use Rattle.definitions.specs.Programs.{VerdictOutput, SpanOutput, ReadFrom}
 
 -- ---- the functions that the demands speak of
 
@@ -86,12 +86,15 @@ pub record WriterRefuses (write : Writer) : Type 0 where
       (a : Answer) (n m : ℕ) (buffer : List ℕ) → Bytes buffer → (k : ℕ) → writerRefusal a n m (length buffer) ≡ suc k
       → write .buffer a n m buffer ≡ buffer
 
--- The program as a whole takes every string of bytes, and puts out what document 01 says, though it keeps only the first
--- 20,000 bytes.
+-- The program as a whole takes every string of bytes, and puts out what document 01 says, though it holds only 20,000 bytes
+-- and counts no further than 2³³.
 pub record ProgramsAnswer (span verdict : Program) : Type 0 where
-  pub span-output : (input : List ℕ) → Bytes input → SpanOutput input (span (take kept-bytes input) (length input))
+  pub span-output :
+      (kept : List ℕ) → Bytes kept → length kept ≡ kept-bytes → (size : ℕ) (input : List ℕ) → ReadFrom kept size input
+      → SpanOutput input (span kept size)
   pub verdict-output :
-      (input : List ℕ) → Bytes input → VerdictOutput input (verdict (take kept-bytes input) (length input))
+      (kept : List ℕ) → Bytes kept → length kept ≡ kept-bytes → (size : ℕ) (input : List ℕ) → ReadFrom kept size input
+      → VerdictOutput input (verdict kept size)
 
 -- ---- demand 2
 

@@ -1,14 +1,15 @@
 -- The two programs: how the verdict program cuts its input, and what each program puts out for every input.
 -- Document 01, "Two programs". Text is in ASCII; every line ends with one newline, 0A.
-use Prim.Native.Nat.{ℕ, zero, suc, _+_, _/_, _%_}
+use Prim.Native.Nat.{ℕ, zero, suc, _+_, _*_, _/_, _%_, _≤_}
 use mathlib.Core.Path.{_≡_}
 use mathlib.Core.Bool.{Bool, true, false, cond}
 use mathlib.Core.List.{List, [], _∷_, _++_}
 use lib.Dec.{eqb, ltb}
 use lib.ListN.{length, take, drop}
 use lib.IntN.{ℤ, pos, negsuc}
-use Rattle.definitions.specs.Limits.{kept-bytes, length-bytes, class-optimal, class-unbounded}
+use Rattle.definitions.specs.Limits.{kept-bytes, length-bytes, signed-full, class-optimal, class-unbounded}
 use Rattle.definitions.specs.Tropical.{Trop, bot, fin}
+use Rattle.definitions.specs.Bytes.{Bytes}
 use Rattle.definitions.specs.ProblemRecord.{problemRefusal, problemOf, nField, lengthField}
 use Rattle.definitions.specs.AnswerRecord.{Answer, answerBytes}
 use Rattle.definitions.specs.Verdict.{Verdict, accepted, refused, not-certified, Judged}
@@ -109,3 +110,12 @@ pub data SpanOutput (input : List ℕ) : List ℕ → Type 0 where
 pub record KeptOf (kept : List ℕ) (size : ℕ) (input : List ℕ) : Type 0 where
   pub size-is : length input ≡ size
   pub begins : take kept-bytes input ≡ take kept-bytes (take size kept)
+
+-- Counting stops at 2³³ bytes: a length field is below half of that, so that nothing changes from there on.
+abbrev pub read-most : ℕ
+read-most = 2 * signed-full
+
+-- An input of which these bytes were kept and so many were counted: all of it, or, from 2³³ on, its first `size` bytes.
+pub data ReadFrom (kept : List ℕ) (size : ℕ) (input : List ℕ) : Type 0 where
+  whole : KeptOf kept size input → ReadFrom kept size input
+  part : Bytes input → read-most ≤ size → size ≤ length input → KeptOf kept size (take size input) → ReadFrom kept size input

@@ -11,9 +11,9 @@ use lib.ListN.{getD}
 use lib.IntN.{ℤ, _+ℤ_}
 use lib.Signed.{_≤ℤ_, leZ}
 use Rattle.definitions.specs.Limits.{signed-half}
-use Rattle.definitions.specs.Bisection.{Bracket, opening, middle, next, width, Halved, counted, halved, trials-optimal}
+use Rattle.definitions.specs.Bisection.{Bracket, Brackets, opening, middle, next, width, Halved, counted, halved, trials-optimal}
 use Rattle.definitions.proofs.Whole.{whole, plus-read, subℕ-read, nat-le-or-lt}
-use Rattle.definitions.proofs.Bisection.{half-up-is, width-is, Brackets, Inside, middle-inside, halved-stop, halved-on, following}
+use Rattle.definitions.proofs.Bisection.{half-up-is, width-is, Inside, middle-inside, halved-stop, halved-on, following}
 use Rattle.engine.specs.Trials.{wholeOf, top-offset, lowest-offset, Trialled, Steady, KeptAt, TriedAt}
 use Rattle.engine.specs.Halving.{bracketOf, BlocksAt, Counted, Searching, LeastFound}
 use Rattle.engine.proofs.Trials.{question-steady, steady-sym, tried-steady, kept-down, tried-blocks}

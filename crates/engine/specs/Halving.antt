@@ -7,8 +7,7 @@ use lib.ListN.{length, getD}
 use lib.IntN.{ℤ}
 use Rattle.definitions.specs.Problem.{Problem}
 use Rattle.definitions.specs.Certificate.{Anchor}
-use Rattle.definitions.specs.Bisection.{Bracket, halved, trials-optimal}
-use Rattle.definitions.proofs.Bisection.{Brackets}
+use Rattle.definitions.specs.Bisection.{Bracket, Brackets, halved, trials-optimal}
 use Rattle.duality.specs.System.{systemAt, Blocks}
 use Rattle.engine.specs.Tables.{pickOf}
 use Rattle.engine.specs.Trials.{wholeOf, Trialled, Question, TriedAt}

@@ -4,6 +4,7 @@ ghost use Prim.Native.Nat.{_≤_, _-_};
 ghost use lib.ListN.{length, take};
 ghost use Rattle.definitions.specs.Limits.{kept-bytes};
 ghost use Rattle.definitions.specs.Bytes.{put};
+ghost use Rattle.input.specs.Came.{Came};
 use libc::STDIN_FILENO;
 use records::limits::KEPT;
 
@@ -31,7 +32,7 @@ fn keep(kept: &mut [u8], size: u64, buf: &[u8], n: usize)
 // Reads once, keeps what fits, and gives how many bytes came; 0 at the end of the input, or where reading failed.
 fn read_some(kept: &mut [u8], size: u64) -> u64
     requires { ⌜ length (now kept) ≡ kept-bytes ⌝ }
-    ensures { λ r. ⌜ r ≤ 4096 ⌝ }
+    ensures { λ r. ⌜ (r ≤ 4096) × Came (now (kept .entry)) size r (now (kept .exit)) ⌝ }
 {
     let mut buf = [0u8; 4096];
     let got = libc::read(STDIN_FILENO, &mut buf);

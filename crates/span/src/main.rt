@@ -4,7 +4,7 @@ ghost use mathlib.Core.Path.{_≡_};
 ghost use Prim.Native.Nat.{ℕ, _≤_};
 ghost use mathlib.Core.List.{List};
 ghost use lib.ListN.{length, take};
-ghost use Rattle.definitions.specs.Programs.{KeptOf, SpanOutput};
+ghost use Rattle.definitions.specs.Programs.{ReadFrom, SpanOutput};
 ghost use Rattle.span.specs.Shown.{out-most, Shown, shownRecord};
 use engine::input::solve_input;
 use engine::solve::Solved;
@@ -43,10 +43,10 @@ fn put_out(out: &mut [u8], buffer: &[u8], solved: Solved) -> usize
     }
 }
 
-// What the program puts out for every input of this size that begins with what was kept: so many bytes of the buffer.
+// What the program puts out for every input of which this was read: so many bytes of the buffer.
 fn answer(kept: &[u8; KEPT], size: u64, out: &mut [u8]) -> usize
     requires { ⌜ length (now out) ≡ out-most ⌝ }
-    ensures { λ r. ⌜ (r ≤ out-most) × ((input : List ℕ) → KeptOf (now (kept .entry)) size input → SpanOutput input (take r (now (out .exit)))) ⌝ }
+    ensures { λ r. ⌜ (r ≤ out-most) × ((input : List ℕ) → ReadFrom (now (kept .entry)) size input → SpanOutput input (take r (now (out .exit)))) ⌝ }
 {
     let mut buffer = [0u8; ANSWER_MOST];
     let solved = solve_input(kept, size, &mut buffer);

@@ -4,7 +4,7 @@ ghost use mathlib.Core.Path.{_≡_};
 ghost use Prim.Native.Nat.{ℕ, _≤_};
 ghost use mathlib.Core.List.{List};
 ghost use lib.ListN.{length, take};
-ghost use Rattle.definitions.specs.Programs.{KeptOf, VerdictOutput, verdictLine};
+ghost use Rattle.definitions.specs.Programs.{ReadFrom, VerdictOutput, verdictLine};
 ghost use Rattle.definitions.specs.Verdict.{refused};
 ghost use Rattle.checker.specs.Outcome.{verdictOf};
 ghost use Rattle.output.specs.Text.{line-most};
@@ -27,10 +27,10 @@ fn put_line(line: &mut [u8], verdict: Verdict) -> usize
     }
 }
 
-// What the program puts out for every input of this size that begins with what was kept: so many bytes of the buffer.
+// What the program puts out for every input of which this was read: so many bytes of the buffer.
 fn answer(kept: &[u8; KEPT], size: u64, line: &mut [u8]) -> usize
     requires { ⌜ length (now line) ≡ line-most ⌝ }
-    ensures { λ r. ⌜ (r ≤ line-most) × ((input : List ℕ) → KeptOf (now (kept .entry)) size input → VerdictOutput input (take r (now (line .exit)))) ⌝ }
+    ensures { λ r. ⌜ (r ≤ line-most) × ((input : List ℕ) → ReadFrom (now (kept .entry)) size input → VerdictOutput input (take r (now (line .exit)))) ⌝ }
 {
     put_line(line, judge_input(kept, size))
 }

@@ -1,5 +1,6 @@
 use borrow.Author.Needs.{needs}
 use mathlib.Core.Path.{refl}
+use Rattle.definitions.proofs.Inputs.{span-read}
 use Rattle.span.proofs.Put.{span-output}
 use Rattle.span.proofs.answer.Statement.{statement}
 use Rattle.span.proofs.answer.Tie as tie
@@ -13,4 +14,4 @@ answer-spec =
     (λ c. search needs)
     (λ c κs. search needs)
     (λ c. search needs)
-    (λ c. (c .before .before .put-out .ensures .0, λ input k. span-output _ (c .before .before .before .before .before .before .solve-input .ensures input k) refl (c .before .before .put-out .ensures .1))))
+    (λ c. (c .before .before .put-out .ensures .0, span-read _ _ _ (λ input k. span-output _ (c .before .before .before .before .before .before .solve-input .ensures input k) refl (c .before .before .put-out .ensures .1)))))
