@@ -3,11 +3,13 @@ mod answer_edges;
 mod build;
 mod checker_examples;
 mod cut;
+mod examples;
 mod noise;
 mod print;
 mod problem_edges;
 mod records_edges;
 mod round_trips;
+mod verdicts;
 mod writer_edges;
 
 fn main() {
