@@ -21,6 +21,9 @@ pub const LEADS: usize = 10;
 
 pub const BODY: usize = 14;
 
+// How many leads the largest problem has.
+const LEADS_MOST: usize = 4096;
+
 // The field of a blank, and the first number that 4 bytes do not hold.
 pub const BLANK: u64 = 2147483648;
 
@@ -88,6 +91,23 @@ fn put_fields(bytes: &mut [u8; ROOM], from: usize, width: usize, list: &[u64]) -
     at
 }
 
+// Blanks from the first lead on, as many as any problem has; those after the record's size are no part of it.
+fn put_blanks(bytes: &mut [u8; ROOM]) {
+    for i in 0..LEADS_MOST {
+        put_word(bytes, LEADS + 4 * i, BLANK);
+    }
+}
+
+// In 32 rows of 64 leads each: row i has one left lead, at moment i, and one right lead, at the next; the last leads back
+// to the anchor.
+fn put_ring(bytes: &mut [u8; ROOM], left: u64, right: u64) {
+    for i in 0..32 {
+        let row = LEADS + 256 * i;
+        put_word(bytes, row + 4 * i, left);
+        put_word(bytes, row + 128 + 4 * ((i + 1) % 32), right);
+    }
+}
+
 impl Record {
     // The record with a field of 2 bytes at a place.
     pub fn short(mut self, at: usize, x: u64) -> Record {
@@ -139,4 +159,18 @@ pub fn answer(class: u64, n: u64, size: usize) -> Record {
         .short(N, n)
         .short(CLASS, class)
         .word(SPAN, span)
+}
+
+// A problem whose leads are all blank.
+pub fn blank_problem(n: u64, m: u64, size: usize) -> Record {
+    let mut r = problem(n, m, size);
+    put_blanks(&mut r.bytes);
+    r
+}
+
+// 31 rules and the question in a ring: moment i + left ≤ moment i + 1 + right, span moment 31 + left − (anchor + right).
+pub fn ring(left: u64, right: u64) -> Record {
+    let mut r = blank_problem(31, 31, 8202);
+    put_ring(&mut r.bytes, left, right);
+    r
 }

@@ -3,6 +3,8 @@ mod answer_edges;
 mod build;
 mod checker_examples;
 mod cut;
+mod engine_examples;
+mod engine_runs;
 mod examples;
 mod noise;
 mod print;
@@ -15,4 +17,5 @@ mod writer_edges;
 fn main() {
     records_edges::run();
     checker_examples::run();
+    engine_examples::run();
 }
