@@ -49,7 +49,7 @@ fn papers() {
     show(b"the paper's example 3", paper_3());
 }
 
-// Least spans by a first and a second lead. With middles rounded down 1 and -8 would take 22 trials, -1 and 8 would take 23;
+// Least spans by a first and a second lead. With middles rounded down 1 and −8 would take 22 trials, −1 and 8 would take 23;
 // with middles rounded towards 0, 7 would take 22.
 fn counts() {
     show(b"first 0 second 0", pair(0, 0));
