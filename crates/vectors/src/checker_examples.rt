@@ -1,1309 +1,142 @@
 // Document 01's examples for the checker: answers with a pick table each, and answers that are not certified.
+use crate::build::BLANK;
+use crate::build::ROOM;
+use crate::build::Record;
+use crate::build::SPAN;
+use crate::build::answer;
+use crate::build::minus;
+use crate::build::problem;
+use crate::examples::a;
+use crate::examples::b;
+use crate::examples::c;
+use crate::examples::d;
+use crate::examples::e;
+use crate::examples::f;
+use crate::examples::g;
+use crate::examples::h;
+use crate::examples::i;
+use crate::examples::j;
+use crate::examples::k;
 use crate::print;
-use checker::check::Verdict;
-use checker::check::check;
+use crate::verdicts;
 
-// What was accepted.
-fn accepted(class: u64, span: u64) {
-    match class {
-        1 => {
-            print::text(b"accepted least ");
-            print::minutes(span);
-        }
-        2 => print::text(b"accepted bottomless"),
-        _ => print::text(b"accepted none"),
-    }
+// The arrays are lent as arrays first: their lengths are known from there on.
+fn judged(problem: &[u8; ROOM], size: usize, answer: &[u8; ROOM], answer_size: usize) {
+    verdicts::judged(problem, size, answer, answer_size);
 }
 
-// A verdict in the words of the verdict program.
-fn line(verdict: Verdict) {
-    match verdict {
-        Verdict::Accepted(class, span) => accepted(class, span),
-        Verdict::Refused(number) => refused(number),
-    }
+// One example: its name, and the verdict on its records.
+fn example(words: &[u8], problem: Record, answer: Record) {
+    let p = problem.bytes;
+    let a = answer.bytes;
+    print::edge(b"checker", words);
+    judged(&p, problem.size, &a, answer.size);
     print::end();
 }
 
-// A refusal.
-fn refused(number: usize) {
-    if number == 14 {
-        print::text(b"not certified");
-        return;
-    }
-    print::counted(b"refused ", number as u64);
+// An answer of class 1 for n 1, without its picks.
+fn least(span: u64, stamp: u64) -> Record {
+    answer(1, 1, 26).word(SPAN, span).words(&[0, stamp])
 }
 
-// One example: its name, and the verdict on its bytes.
-fn example(words: &[u8], problem: &[u8], answer: &[u8]) {
-    print::edge(b"checker", words);
-    line(check(problem, answer));
+fn letters() {
+    example(
+        b"A",
+        a(),
+        answer(1, 0, 20).word(SPAN, 3).words(&[0]).shorts(&[1]),
+    );
+    example(b"B", b(), answer(2, 0, 16));
+    example(b"C", c(), answer(3, 0, 16).shorts(&[1]));
+    example(b"D", d(), answer(2, 0, 16));
+    example(b"E", e(), least(30, 30).shorts(&[1, 2]));
+    example(b"F", f(), answer(2, 1, 18).shorts(&[2, 2]));
 }
 
-fn a() {
-    let problem: [u8; 18] = [14, 0, 0, 0, 1, 0, 0, 0, 0, 0, 5, 0, 0, 0, 2, 0, 0, 0];
-    let answer: [u8; 20] = [16, 0, 0, 0, 2, 0, 0, 0, 1, 0, 3, 0, 0, 0, 0, 0, 0, 0, 1, 0];
-    example(b"A", &problem, &answer);
+fn more_letters() {
+    example(b"G", g(), answer(3, 1, 18).shorts(&[1, 2]));
+    example(b"H", h(), least(30, 30).shorts(&[1, 3]));
+    example(
+        b"I",
+        i(),
+        answer(1, 2, 32)
+            .word(SPAN, 45)
+            .words(&[0, 0, 45])
+            .shorts(&[1, 2, 2]),
+    );
+    example(b"J", j(), answer(2, 2, 18));
+    example(b"K", k(), answer(3, 1, 18).shorts(&[1, 2]));
+    example(
+        b"M, a cycle of weight 0 at s - 1",
+        e(),
+        least(31, 31).shorts(&[1, 2]),
+    );
 }
 
-fn b() {
-    let problem: [u8; 18] = [14, 0, 0, 0, 1, 0, 0, 0, 0, 0, 0, 0, 0, 128, 2, 0, 0, 0];
-    let answer: [u8; 16] = [12, 0, 0, 0, 2, 0, 0, 0, 2, 0, 0, 0, 0, 128, 0, 0];
-    example(b"B", &problem, &answer);
-}
-
-fn c() {
-    let problem: [u8; 18] = [14, 0, 0, 0, 1, 0, 0, 0, 0, 0, 5, 0, 0, 0, 0, 0, 0, 128];
-    let answer: [u8; 16] = [12, 0, 0, 0, 2, 0, 0, 0, 3, 0, 0, 0, 0, 128, 1, 0];
-    example(b"C", &problem, &answer);
-}
-
-fn d() {
-    let problem: [u8; 18] = [14, 0, 0, 0, 1, 0, 0, 0, 0, 0, 0, 0, 0, 128, 0, 0, 0, 128];
-    let answer: [u8; 16] = [12, 0, 0, 0, 2, 0, 0, 0, 2, 0, 0, 0, 0, 128, 0, 0];
-    example(b"D", &problem, &answer);
-}
-
-fn e() {
-    let problem: [u8; 42] = [
-        38,
-        0,
-        0,
-        0,
-        1,
-        0,
-        1,
-        0,
-        1,
-        0,
-        30,
-        0,
-        0,
-        0,
-        0,
-        0,
-        0,
-        128,
-        0,
-        0,
-        0,
-        128,
-        0,
-        0,
-        0,
-        0,
-        0,
-        0,
-        0,
-        128,
-        0,
-        0,
-        0,
-        0,
-        0,
-        0,
-        0,
-        0,
-        0,
-        0,
-        0,
-        128,
-    ];
-    let answer: [u8; 26] = [
-        22,
-        0,
-        0,
-        0,
-        2,
-        0,
-        1,
-        0,
-        1,
-        0,
-        30,
-        0,
-        0,
-        0,
-        0,
-        0,
-        0,
-        0,
-        30,
-        0,
-        0,
-        0,
-        1,
-        0,
-        2,
-        0,
-    ];
-    example(b"E", &problem, &answer);
-}
-
-fn f() {
-    let problem: [u8; 42] = [
-        38,
-        0,
-        0,
-        0,
-        1,
-        0,
-        1,
-        0,
-        1,
-        0,
-        30,
-        0,
-        0,
-        0,
-        0,
-        0,
-        0,
-        128,
-        0,
-        0,
-        0,
-        128,
-        0,
-        0,
-        0,
-        0,
-        0,
-        0,
-        0,
-        0,
-        0,
-        0,
-        0,
-        128,
-        0,
-        0,
-        0,
-        128,
-        0,
-        0,
-        0,
-        0,
-    ];
-    let answer: [u8; 18] = [14, 0, 0, 0, 2, 0, 1, 0, 2, 0, 0, 0, 0, 128, 2, 0, 2, 0];
-    example(b"F", &problem, &answer);
-}
-
-fn g() {
-    let problem: [u8; 58] = [
-        54,
-        0,
-        0,
-        0,
-        1,
-        0,
-        1,
-        0,
-        2,
-        0,
-        30,
-        0,
-        0,
-        0,
-        0,
-        0,
-        0,
-        128,
-        0,
-        0,
-        0,
-        128,
-        0,
-        0,
-        0,
-        0,
-        0,
-        0,
-        0,
-        128,
-        0,
-        0,
-        0,
-        0,
-        20,
-        0,
-        0,
-        0,
-        0,
-        0,
-        0,
-        128,
-        0,
-        0,
-        0,
-        128,
-        0,
-        0,
-        0,
-        0,
-        0,
-        0,
-        0,
-        0,
-        0,
-        0,
-        0,
-        128,
-    ];
-    let answer: [u8; 18] = [14, 0, 0, 0, 2, 0, 1, 0, 3, 0, 0, 0, 0, 128, 1, 0, 2, 0];
-    example(b"G", &problem, &answer);
-}
-
-fn h() {
-    let problem: [u8; 58] = [
-        54,
-        0,
-        0,
-        0,
-        1,
-        0,
-        1,
-        0,
-        2,
-        0,
-        30,
-        0,
-        0,
-        0,
-        0,
-        0,
-        0,
-        128,
-        0,
-        0,
-        0,
-        128,
-        0,
-        0,
-        0,
-        0,
-        0,
-        0,
-        0,
-        128,
-        0,
-        0,
-        0,
-        0,
-        30,
-        0,
-        0,
-        0,
-        0,
-        0,
-        0,
-        128,
-        0,
-        0,
-        0,
-        128,
-        0,
-        0,
-        0,
-        0,
-        0,
-        0,
-        0,
-        0,
-        0,
-        0,
-        0,
-        128,
-    ];
-    let answer: [u8; 26] = [
-        22,
-        0,
-        0,
-        0,
-        2,
-        0,
-        1,
-        0,
-        1,
-        0,
-        30,
-        0,
-        0,
-        0,
-        0,
-        0,
-        0,
-        0,
-        30,
-        0,
-        0,
-        0,
-        1,
-        0,
-        3,
-        0,
-    ];
-    example(b"H", &problem, &answer);
-}
-
-fn i() {
-    let problem: [u8; 58] = [
-        54,
-        0,
-        0,
-        0,
-        1,
-        0,
-        2,
-        0,
-        1,
-        0,
-        60,
-        0,
-        0,
-        0,
-        0,
-        0,
-        0,
-        128,
-        0,
-        0,
-        0,
-        128,
-        0,
-        0,
-        0,
-        128,
-        0,
-        0,
-        0,
-        0,
-        15,
-        0,
-        0,
-        0,
-        0,
-        0,
-        0,
-        128,
-        0,
-        0,
-        0,
-        0,
-        0,
-        0,
-        0,
-        0,
-        0,
-        0,
-        0,
-        0,
-        0,
-        0,
-        0,
-        128,
-        0,
-        0,
-        0,
-        128,
-    ];
-    let answer: [u8; 32] = [
-        28,
-        0,
-        0,
-        0,
-        2,
-        0,
-        2,
-        0,
-        1,
-        0,
-        45,
-        0,
-        0,
-        0,
-        0,
-        0,
-        0,
-        0,
-        0,
-        0,
-        0,
-        0,
-        45,
-        0,
-        0,
-        0,
-        1,
-        0,
-        2,
-        0,
-        2,
-        0,
-    ];
-    example(b"I", &problem, &answer);
-}
-
-fn j() {
-    let problem: [u8; 58] = [
-        54,
-        0,
-        0,
-        0,
-        1,
-        0,
-        2,
-        0,
-        1,
-        0,
-        0,
-        0,
-        0,
-        128,
-        0,
-        0,
-        0,
-        128,
-        246,
-        255,
-        255,
-        255,
-        0,
-        0,
-        0,
-        128,
-        0,
-        0,
-        0,
-        0,
-        0,
-        0,
-        0,
-        128,
-        0,
-        0,
-        0,
-        128,
-        0,
-        0,
-        0,
-        0,
-        0,
-        0,
-        0,
-        128,
-        0,
-        0,
-        0,
-        128,
-        0,
-        0,
-        0,
-        128,
-        0,
-        0,
-        0,
-        0,
-    ];
-    let answer: [u8; 18] = [14, 0, 0, 0, 2, 0, 2, 0, 2, 0, 0, 0, 0, 128, 0, 0, 0, 0];
-    example(b"J", &problem, &answer);
-}
-
-fn k() {
-    let problem: [u8; 58] = [
-        54,
-        0,
-        0,
-        0,
-        1,
-        0,
-        1,
-        0,
-        2,
-        0,
-        30,
-        0,
-        0,
-        0,
-        0,
-        0,
-        0,
-        128,
-        0,
-        0,
-        0,
-        128,
-        0,
-        0,
-        0,
-        0,
-        0,
-        0,
-        0,
-        128,
-        0,
-        0,
-        0,
-        0,
-        0,
-        0,
-        0,
-        128,
-        0,
-        0,
-        0,
-        128,
-        0,
-        0,
-        0,
-        128,
-        0,
-        0,
-        0,
-        0,
-        0,
-        0,
-        0,
-        0,
-        0,
-        0,
-        0,
-        128,
-    ];
-    let answer: [u8; 18] = [14, 0, 0, 0, 2, 0, 1, 0, 3, 0, 0, 0, 0, 128, 1, 0, 2, 0];
-    example(b"K", &problem, &answer);
-}
-
-fn m() {
-    let problem: [u8; 42] = [
-        38,
-        0,
-        0,
-        0,
-        1,
-        0,
-        1,
-        0,
-        1,
-        0,
-        30,
-        0,
-        0,
-        0,
-        0,
-        0,
-        0,
-        128,
-        0,
-        0,
-        0,
-        128,
-        0,
-        0,
-        0,
-        0,
-        0,
-        0,
-        0,
-        128,
-        0,
-        0,
-        0,
-        0,
-        0,
-        0,
-        0,
-        0,
-        0,
-        0,
-        0,
-        128,
-    ];
-    let answer: [u8; 26] = [
-        22,
-        0,
-        0,
-        0,
-        2,
-        0,
-        1,
-        0,
-        1,
-        0,
-        31,
-        0,
-        0,
-        0,
-        0,
-        0,
-        0,
-        0,
-        31,
-        0,
-        0,
-        0,
-        1,
-        0,
-        2,
-        0,
-    ];
-    example(b"M, a cycle of weight 0 at s - 1", &problem, &answer);
-}
-
+// Picks of rows or moments that no arc reaches play no part.
 fn unreached() {
-    let problem: [u8; 58] = [
-        54,
-        0,
-        0,
-        0,
-        1,
-        0,
-        2,
-        0,
-        1,
-        0,
-        0,
-        0,
-        0,
-        128,
-        0,
-        0,
-        0,
-        128,
-        246,
-        255,
-        255,
-        255,
-        0,
-        0,
-        0,
-        128,
-        0,
-        0,
-        0,
-        0,
-        0,
-        0,
-        0,
-        128,
-        0,
-        0,
-        0,
-        128,
-        0,
-        0,
-        0,
-        0,
-        0,
-        0,
-        0,
-        128,
-        0,
-        0,
-        0,
-        128,
-        0,
-        0,
-        0,
-        128,
-        0,
-        0,
-        0,
-        0,
-    ];
-    let answer: [u8; 18] = [14, 0, 0, 0, 2, 0, 2, 0, 2, 0, 0, 0, 0, 128, 1, 0, 1, 0];
     example(
         b"J with nonsense picks of rows that are not reached",
-        &problem,
-        &answer,
+        j(),
+        answer(2, 2, 18).shorts(&[1, 1]),
     );
-}
-
-fn unreached_variable() {
-    let problem: [u8; 26] = [
-        22,
-        0,
-        0,
-        0,
-        1,
-        0,
-        1,
-        0,
-        0,
-        0,
-        5,
-        0,
-        0,
-        0,
-        0,
-        0,
-        0,
-        128,
-        2,
-        0,
-        0,
-        0,
-        0,
-        0,
-        0,
-        128,
-    ];
-    let answer: [u8; 26] = [
-        22,
-        0,
-        0,
-        0,
-        2,
-        0,
-        1,
-        0,
-        1,
-        0,
-        3,
-        0,
-        0,
-        0,
-        0,
-        0,
-        0,
-        0,
-        0,
-        0,
-        0,
-        128,
-        1,
-        0,
-        1,
-        0,
-    ];
     example(
         b"A with a moment that no arc reaches, nonsense picked",
-        &problem,
-        &answer,
+        problem(1, 0, 26).words(&[5, BLANK, 2, BLANK]),
+        least(3, BLANK).shorts(&[1, 1]),
     );
 }
 
-fn other_span() {
-    let problem: [u8; 42] = [
-        38,
-        0,
-        0,
-        0,
-        1,
-        0,
-        1,
-        0,
-        1,
-        0,
-        30,
-        0,
-        0,
-        0,
-        0,
-        0,
-        0,
-        128,
-        0,
-        0,
-        0,
-        128,
-        0,
-        0,
-        0,
-        0,
-        0,
-        0,
-        0,
-        128,
-        0,
-        0,
-        0,
-        0,
-        0,
-        0,
-        0,
-        0,
-        0,
-        0,
-        0,
-        128,
-    ];
-    let answer: [u8; 26] = [
-        22,
-        0,
-        0,
-        0,
-        2,
-        0,
-        1,
-        0,
-        1,
-        0,
-        29,
-        0,
-        0,
-        0,
-        0,
-        0,
-        0,
-        0,
-        30,
-        0,
-        0,
-        0,
-        1,
-        0,
-        2,
-        0,
-    ];
-    example(b"E with another span than the plan has", &problem, &answer);
-}
-
-fn broken_rule() {
-    let problem: [u8; 42] = [
-        38,
-        0,
-        0,
-        0,
-        1,
-        0,
-        1,
-        0,
-        1,
-        0,
-        30,
-        0,
-        0,
-        0,
-        0,
-        0,
-        0,
-        128,
-        0,
-        0,
-        0,
-        128,
-        0,
-        0,
-        0,
-        0,
-        0,
-        0,
-        0,
-        128,
-        0,
-        0,
-        0,
-        0,
-        0,
-        0,
-        0,
-        0,
-        0,
-        0,
-        0,
-        128,
-    ];
-    let answer: [u8; 26] = [
-        22,
-        0,
-        0,
-        0,
-        2,
-        0,
-        1,
-        0,
-        1,
-        0,
-        29,
-        0,
-        0,
-        0,
-        0,
-        0,
-        0,
-        0,
-        29,
-        0,
-        0,
-        0,
-        1,
-        0,
-        2,
-        0,
-    ];
-    example(b"E with a plan that breaks the rule", &problem, &answer);
-}
-
-fn blank_pick() {
-    let problem: [u8; 42] = [
-        38,
-        0,
-        0,
-        0,
-        1,
-        0,
-        1,
-        0,
-        1,
-        0,
-        30,
-        0,
-        0,
-        0,
-        0,
-        0,
-        0,
-        128,
-        0,
-        0,
-        0,
-        128,
-        0,
-        0,
-        0,
-        0,
-        0,
-        0,
-        0,
-        128,
-        0,
-        0,
-        0,
-        0,
-        0,
-        0,
-        0,
-        0,
-        0,
-        0,
-        0,
-        128,
-    ];
-    let answer: [u8; 26] = [
-        22,
-        0,
-        0,
-        0,
-        2,
-        0,
-        1,
-        0,
-        1,
-        0,
-        30,
-        0,
-        0,
-        0,
-        0,
-        0,
-        0,
-        0,
-        30,
-        0,
-        0,
-        0,
-        2,
-        0,
-        2,
-        0,
-    ];
+// One thing is wrong with each.
+fn wrong() {
+    example(
+        b"E with another span than the plan has",
+        e(),
+        least(29, 30).shorts(&[1, 2]),
+    );
+    example(
+        b"E with a plan that breaks the rule",
+        e(),
+        least(29, 29).shorts(&[1, 2]),
+    );
     example(
         b"E, the anchor picks a row with a blank left lead",
-        &problem,
-        &answer,
+        e(),
+        least(30, 30).shorts(&[2, 2]),
+    );
+    example(
+        b"F, a row in use without a pick",
+        f(),
+        answer(2, 1, 18).shorts(&[2, 0]),
+    );
+    example(
+        b"E, none with the table of least",
+        e(),
+        answer(3, 1, 18).shorts(&[1, 2]),
     );
 }
 
-fn row_without_pick() {
-    let problem: [u8; 42] = [
-        38,
-        0,
-        0,
-        0,
-        1,
-        0,
-        1,
-        0,
-        1,
-        0,
-        30,
-        0,
-        0,
-        0,
-        0,
-        0,
-        0,
-        128,
-        0,
-        0,
-        0,
-        128,
-        0,
-        0,
-        0,
-        0,
-        0,
-        0,
-        0,
-        0,
-        0,
-        0,
-        0,
-        128,
-        0,
-        0,
-        0,
-        128,
-        0,
-        0,
-        0,
-        0,
-    ];
-    let answer: [u8; 18] = [14, 0, 0, 0, 2, 0, 1, 0, 2, 0, 0, 0, 0, 128, 2, 0, 0, 0];
-    example(b"F, a row in use without a pick", &problem, &answer);
-}
-
-fn none_for_least() {
-    let problem: [u8; 42] = [
-        38,
-        0,
-        0,
-        0,
-        1,
-        0,
-        1,
-        0,
-        1,
-        0,
-        30,
-        0,
-        0,
-        0,
-        0,
-        0,
-        0,
-        128,
-        0,
-        0,
-        0,
-        128,
-        0,
-        0,
-        0,
-        0,
-        0,
-        0,
-        0,
-        128,
-        0,
-        0,
-        0,
-        0,
-        0,
-        0,
-        0,
-        0,
-        0,
-        0,
-        0,
-        128,
-    ];
-    let answer: [u8; 18] = [14, 0, 0, 0, 2, 0, 1, 0, 3, 0, 0, 0, 0, 128, 1, 0, 2, 0];
-    example(b"E, none with the table of least", &problem, &answer);
-}
-
-fn later() {
-    let problem: [u8; 42] = [
-        38,
-        0,
-        0,
-        0,
-        1,
-        0,
-        1,
-        0,
-        1,
-        0,
-        0,
-        0,
-        0,
-        128,
-        0,
-        0,
-        0,
-        0,
-        226,
-        255,
-        255,
-        255,
-        0,
-        0,
-        0,
-        128,
-        0,
-        0,
-        0,
-        0,
-        0,
-        0,
-        0,
-        128,
-        0,
-        0,
-        0,
-        128,
-        0,
-        0,
-        0,
-        0,
-    ];
-    let answer: [u8; 26] = [
-        22,
-        0,
-        0,
-        0,
-        2,
-        0,
-        1,
-        0,
-        1,
-        0,
-        30,
-        0,
-        0,
-        0,
-        0,
-        0,
-        0,
-        0,
-        226,
-        255,
-        255,
-        255,
-        2,
-        0,
-        1,
-        0,
-    ];
+// A span and a stamp below 0.
+fn below_zero() {
     example(
         b"Span anchor - moment 1, moment 1 at most anchor - 30",
-        &problem,
-        &answer,
+        problem(1, 1, 42)
+            .words(&[BLANK, 0, minus(30), BLANK])
+            .words(&[0, BLANK, BLANK, 0]),
+        least(30, minus(30)).shorts(&[2, 1]),
     );
-}
-
-fn negative() {
-    let problem: [u8; 42] = [
-        38,
-        0,
-        0,
-        0,
-        1,
-        0,
-        1,
-        0,
-        1,
-        0,
-        226,
-        255,
-        255,
-        255,
-        0,
-        0,
-        0,
-        128,
-        0,
-        0,
-        0,
-        128,
-        0,
-        0,
-        0,
-        0,
-        0,
-        0,
-        0,
-        128,
-        0,
-        0,
-        0,
-        0,
-        0,
-        0,
-        0,
-        0,
-        0,
-        0,
-        0,
-        128,
-    ];
-    let answer: [u8; 26] = [
-        22,
-        0,
-        0,
-        0,
-        2,
-        0,
-        1,
-        0,
-        1,
-        0,
-        226,
-        255,
-        255,
-        255,
-        0,
-        0,
-        0,
-        0,
-        226,
-        255,
-        255,
-        255,
-        1,
-        0,
-        2,
-        0,
-    ];
     example(
         b"Moment 1 at least anchor - 30, span moment 1 - anchor",
-        &problem,
-        &answer,
+        problem(1, 1, 42)
+            .words(&[minus(30), BLANK, BLANK, 0])
+            .words(&[BLANK, 0, 0, BLANK]),
+        least(minus(30), minus(30)).shorts(&[1, 2]),
     );
-}
-
-fn part_0() {
-    a();
-    b();
-    c();
-    d();
-    e();
-    f();
-    g();
-    h();
-}
-
-fn part_1() {
-    i();
-    j();
-    k();
-    m();
-    unreached();
-    unreached_variable();
-    other_span();
-    broken_rule();
-}
-
-fn part_2() {
-    blank_pick();
-    row_without_pick();
-    none_for_least();
-    later();
-    negative();
 }
 
 pub fn run() {
-    part_0();
-    part_1();
-    part_2();
+    letters();
+    more_letters();
+    unreached();
+    wrong();
+    below_zero();
 }

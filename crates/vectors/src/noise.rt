@@ -1,6 +1,7 @@
 // Lent places are filled with noise beforehand, so that what was written shows.
 ghost use mathlib.Core.Path.{_≡_};
 ghost use lib.ListN.{length};
+use crate::print;
 
 const BYTE: u8 = 165;
 
@@ -55,4 +56,24 @@ pub fn untouched_from(bytes: &[u8], at: usize) -> bool {
         i += 1;
     }
     true
+}
+
+// How many bytes of a lent buffer were written.
+pub fn show_written(size: usize, buffer: &[u8; BUFFER]) {
+    print::number(size as u64);
+    if untouched_from(buffer, size) {
+        print::text(b" bytes, the rest untouched");
+    } else {
+        print::text(b" bytes, the rest touched");
+    }
+}
+
+// A refusal, which writes nothing.
+pub fn show_refused(number: usize, buffer: &[u8; BUFFER]) {
+    print::counted(b"refused ", number as u64);
+    if untouched_from(buffer, 0) {
+        print::text(b", buffer untouched");
+    } else {
+        print::text(b", buffer touched");
+    }
 }

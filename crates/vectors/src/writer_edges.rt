@@ -90,24 +90,6 @@ pub fn minus(x: u64) -> u64 {
     if x < ZERO { ZERO - x } else { 0 }
 }
 
-fn show_written(size: usize, buffer: &[u8; BUFFER]) {
-    print::number(size as u64);
-    if noise::untouched_from(buffer, size) {
-        print::text(b" bytes, the rest untouched");
-    } else {
-        print::text(b" bytes, the rest touched");
-    }
-}
-
-fn show_refused(number: usize, buffer: &[u8; BUFFER]) {
-    print::counted(b"refused ", number as u64);
-    if noise::untouched_from(buffer, 0) {
-        print::text(b", buffer untouched");
-    } else {
-        print::text(b", buffer touched");
-    }
-}
-
 // The lists and the buffer cut to their sizes, and the answer written.
 fn write_cut(f: Fields, stamps: &[u64], picks: &[u64], buffer: &mut [u8]) -> Written {
     let s = numbers_within(f.stamp_count, stamps);
@@ -141,8 +123,8 @@ fn show(words: &[u8], f: Fields) {
     print::edge(b"writer", words);
     let written = write(f, &stamps, &picks, &mut buffer);
     match written {
-        Written::Record(size) => show_written(size, &buffer),
-        Written::Refused(k) => show_refused(k, &buffer),
+        Written::Record(size) => noise::show_written(size, &buffer),
+        Written::Refused(k) => noise::show_refused(k, &buffer),
     }
     print::end();
 }
