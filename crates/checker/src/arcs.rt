@@ -30,26 +30,26 @@ fn raise_of(t: u64, m: usize, i: usize) -> u64
 // ---- classes 1 and 3
 
 // An entry but for its right coefficient: left coefficient a, raise r.
-fn lift_of(a: u64, r: u64) -> u64
+fn lift_of(a: u32, r: u64) -> u64
     requires { ⌜ (a ≤ 4294967296) × (r ≤ 4294967296) ⌝ }
     ensures { λ v. ⌜ (v ≡ lift a r) × (v ≤ 1236950581249) ⌝ }
 {
-    (ARC_ZERO + 32 * r + 1) - 32 * (a + OFFSET)
+    (ARC_ZERO + 32 * r + 1) - 32 * (a as u64 + OFFSET)
 }
 
 // An entry with right coefficient b; none where it is blank.
-fn lifted_by(up: u64, b: u64) -> u64
+fn lifted_by(up: u64, b: u32) -> u64
     requires { ⌜ (up ≤ 1236950581249) × (b ≤ 4294967296) ⌝ }
     ensures { λ r. ⌜ r ≡ lifted up b ⌝ }
 {
-    if b == 0 { 0 } else { up + 32 * b }
+    if b == 0 { 0 } else { up + 32 * (b as u64) }
 }
 
 // The entries from one variable, whose row of the table starts at `from`, by the row that starts at `base`.
 fn fill_lifted(
     arcs: &mut [u64; ARCS],
     from: usize,
-    right: &[u64; TABLE],
+    right: &[u32; TABLE],
     base: usize,
     width: usize,
     up: u64,
@@ -75,8 +75,8 @@ fn fill_none(arcs: &mut [u64; ARCS], from: usize, width: usize)
 // The entries from variable j by the row that it picks.
 fn fill_variable(
     arcs: &mut [u64; ARCS],
-    left: &[u64; TABLE],
-    right: &[u64; TABLE],
+    left: &[u32; TABLE],
+    right: &[u32; TABLE],
     n: usize,
     m: usize,
     t: u64,
@@ -112,8 +112,8 @@ fn fill_variable(
 // The table of a strategy of variables.
 pub fn variable_arcs(
     arcs: &mut [u64; ARCS],
-    left: &[u64; TABLE],
-    right: &[u64; TABLE],
+    left: &[u32; TABLE],
+    right: &[u32; TABLE],
     n: usize,
     m: usize,
     picks: &[u64; 64],
@@ -130,25 +130,25 @@ pub fn variable_arcs(
 // ---- class 2
 
 // An entry but for its left coefficient: right coefficient b, raise r.
-fn fall_of(b: u64, r: u64) -> u64
+fn fall_of(b: u32, r: u64) -> u64
     requires { ⌜ (b ≤ 4294967296) × (r ≤ 4294967296) ⌝ }
     ensures { λ v. ⌜ (v ≡ fall b r) × (v ≤ 1101659111424) ⌝ }
 {
-    (ARC_ZERO + OFFSET) - (b + r)
+    (ARC_ZERO + OFFSET) - (b as u64 + r)
 }
 
 // An entry with left coefficient a; none where it is blank.
-fn fallen_by(down: u64, a: u64) -> u64
+fn fallen_by(down: u64, a: u32) -> u64
     requires { ⌜ (down ≤ 1101659111424) × (a ≤ 4294967296) ⌝ }
     ensures { λ r. ⌜ r ≡ fallen down a ⌝ }
 {
-    if a == 0 { 0 } else { down + a }
+    if a == 0 { 0 } else { down + a as u64 }
 }
 
 // The entries by one row, whose left coefficients start at `base`, to variable l: each where it is the heaviest so far.
 fn fill_column(
     arcs: &mut [u64; ARCS],
-    left: &[u64; TABLE],
+    left: &[u32; TABLE],
     base: usize,
     l: usize,
     width: usize,
@@ -166,8 +166,8 @@ fn fill_column(
 // The entries by row i, to the variable that it picks.
 fn fill_row(
     arcs: &mut [u64; ARCS],
-    left: &[u64; TABLE],
-    right: &[u64; TABLE],
+    left: &[u32; TABLE],
+    right: &[u32; TABLE],
     n: usize,
     m: usize,
     picks: &[u64; 64],
@@ -203,8 +203,8 @@ fn clear_arcs(arcs: &mut [u64; ARCS], width: usize)
 // The table of a strategy of rows.
 pub fn row_arcs(
     arcs: &mut [u64; ARCS],
-    left: &[u64; TABLE],
-    right: &[u64; TABLE],
+    left: &[u32; TABLE],
+    right: &[u32; TABLE],
     n: usize,
     m: usize,
     picks: &[u64; 64],

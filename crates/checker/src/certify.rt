@@ -33,7 +33,7 @@ pub fn anchor() -> [u8; 32]
 }
 
 // A variable that is not marked, or whose pick counts.
-fn variable_counts(left: &[u64; TABLE], mark: u8, pick: usize, j: usize) -> bool
+fn variable_counts(left: &[u32; TABLE], mark: u8, pick: usize, j: usize) -> bool
     requires { ⌜ (pick ≤ 64) × (j < 32) ⌝ }
     ensures { λ r. ⌜ Decides (0 < mark → PickCounts (now (left .entry)) pick j) r ⌝ }
 {
@@ -48,7 +48,7 @@ fn variable_counts(left: &[u64; TABLE], mark: u8, pick: usize, j: usize) -> bool
 }
 
 // Every marked variable has a pick that counts.
-fn variables_count(left: &[u64; TABLE], picks: &[u64; 64], marks: &[u8; 32], width: usize) -> bool
+fn variables_count(left: &[u32; TABLE], picks: &[u64; 64], marks: &[u8; 32], width: usize) -> bool
     requires { ⌜ Picked (now picks) 64 × (width ≤ 32) ⌝ }
     ensures { λ r. ⌜ Decides (VariablesCount (now (left .entry)) (now (picks .entry)) (now (marks .entry)) width) r ⌝ }
 {
@@ -62,8 +62,8 @@ fn variables_count(left: &[u64; TABLE], picks: &[u64; 64], marks: &[u8; 32], wid
 
 // A strategy of variables, judged at t.
 pub fn certify_variables(
-    left: &[u64; TABLE],
-    right: &[u64; TABLE],
+    left: &[u32; TABLE],
+    right: &[u32; TABLE],
     n: usize,
     m: usize,
     picks: &[u64; 64],
@@ -83,7 +83,7 @@ pub fn certify_variables(
 }
 
 // The row that starts at `base` has no left coefficient of a marked variable.
-fn row_idle(left: &[u64; TABLE], marks: &[u8; 32], base: usize, width: usize) -> bool
+fn row_idle(left: &[u32; TABLE], marks: &[u8; 32], base: usize, width: usize) -> bool
     requires { ⌜ (base + width ≤ 2048) × (width ≤ 32) ⌝ }
     ensures { λ r. ⌜ Decides (Idle (now (left .entry)) (now (marks .entry)) base width) r ⌝ }
 {
@@ -98,7 +98,7 @@ fn row_idle(left: &[u64; TABLE], marks: &[u8; 32], base: usize, width: usize) ->
 }
 
 // The row's pick counts.
-fn row_picks(right: &[u64; TABLE], base: usize, pick: usize) -> bool
+fn row_picks(right: &[u32; TABLE], base: usize, pick: usize) -> bool
     requires { ⌜ (base + 32 ≤ 2048) × (pick ≤ 32) ⌝ }
     ensures { λ r. ⌜ Decides (RowPickCounts (now (right .entry)) pick base) r ⌝ }
 {
@@ -111,8 +111,8 @@ fn row_picks(right: &[u64; TABLE], base: usize, pick: usize) -> bool
 
 // A row that is idle, or whose pick counts.
 fn row_stands(
-    left: &[u64; TABLE],
-    right: &[u64; TABLE],
+    left: &[u32; TABLE],
+    right: &[u32; TABLE],
     marks: &[u8; 32],
     width: usize,
     base: usize,
@@ -129,8 +129,8 @@ fn row_stands(
 
 // Every row in use has a pick that counts.
 fn rows_count(
-    left: &[u64; TABLE],
-    right: &[u64; TABLE],
+    left: &[u32; TABLE],
+    right: &[u32; TABLE],
     picks: &[u64; 64],
     marks: &[u8; 32],
     width: usize,
@@ -149,8 +149,8 @@ fn rows_count(
 
 // A strategy of rows, judged at t.
 pub fn certify_rows(
-    left: &[u64; TABLE],
-    right: &[u64; TABLE],
+    left: &[u32; TABLE],
+    right: &[u32; TABLE],
     n: usize,
     m: usize,
     picks: &[u64; 64],

@@ -35,8 +35,8 @@ pub enum Verdict {
 // Class 1, least: the point keeps the rules, its value is the span, and the picks show that none is smaller: judged at
 // the span less 1.
 pub fn certify_optimal(
-    left: &[u64; TABLE],
-    right: &[u64; TABLE],
+    left: &[u32; TABLE],
+    right: &[u32; TABLE],
     n: usize,
     m: usize,
     stamps: &[u64; 32],
@@ -58,8 +58,8 @@ pub fn certify_optimal(
 // What document 01 lists for the answer's class holds. Class 2 is judged at the lowest trial, class 3 at the top trial: a
 // closed walk that uses the objective then weighs below zero, or above.
 pub fn certify(
-    left: &[u64; TABLE],
-    right: &[u64; TABLE],
+    left: &[u32; TABLE],
+    right: &[u32; TABLE],
     n: usize,
     m: usize,
     class: u64,
@@ -100,8 +100,8 @@ pub fn answer_refusal(head: AnswerHead) -> usize
 
 // The verdict on an answer for the problem in the tables.
 pub fn check_answer(
-    left: &[u64; TABLE],
-    right: &[u64; TABLE],
+    left: &[u32; TABLE],
+    right: &[u32; TABLE],
     n: usize,
     m: usize,
     answer: &[u8],
@@ -125,8 +125,8 @@ pub fn check_answer(
 pub fn check(problem: &[u8], answer: &[u8]) -> Verdict
     ensures { λ r. ⌜ Judged (now (problem .entry)) (now (answer .entry)) (verdictOf r) ⌝ }
 {
-    let mut left = [0u64; TABLE];
-    let mut right = [0u64; TABLE];
+    let mut left = [0u32; TABLE];
+    let mut right = [0u32; TABLE];
     let header = read_problem(problem, &mut left, &mut right);
     let Header::Fields(n, m) = header else {
         return Verdict::Refused(problem_refusal(header));

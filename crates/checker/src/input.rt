@@ -64,8 +64,8 @@ fn judge_long(kept: &[u8], size: usize, end: usize) -> Verdict
     let Header::Fields(n, m) = header else {
         return Verdict::Refused(problem_refusal(header));
     };
-    let mut left = [0u64; TABLE];
-    let mut right = [0u64; TABLE];
+    let mut left = [0u32; TABLE];
+    let mut right = [0u32; TABLE];
     let whole = read_problem(&kept[..end], &mut left, &mut right);
     let Header::Fields(_, _) = whole else {
         return Verdict::Refused(problem_refusal(whole));

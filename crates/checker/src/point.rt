@@ -10,7 +10,7 @@ ghost use Rattle.definitions.specs.Offset.{tropOf};
 ghost use Rattle.checker.specs.Decides.{Decides};
 ghost use Rattle.checker.specs.Tables.{Sized, Holds, Stamped, stampsPoint};
 ghost use Rattle.checker.specs.Sides.{side-floor, sideOf, RowSized};
-use crate::sums::best_sum;
+use crate::sums::best_side;
 use records::limits::OFFSET;
 use records::limits::STRIDE;
 use records::limits::TABLE;
@@ -19,18 +19,18 @@ use records::limits::TABLE;
 const SIDE_FLOOR: u64 = 3221225472;
 
 // One side of a row at a point: the row's coefficients stand in the table from `base` on.
-pub fn side(table: &[u64; TABLE], base: usize, x: &[u64; 32], width: usize) -> u64
+pub fn side(table: &[u32; TABLE], base: usize, x: &[u64; 32], width: usize) -> u64
     requires { ⌜ RowSized (now table) base (now x) width ⌝ }
     ensures { λ r. ⌜ r ≡ sideOf (now (table .entry)) base (now (x .entry)) width ⌝ }
 {
-    let best = best_sum(table, base, x, width, SIDE_FLOOR);
+    let best = best_side(table, base, x, width, SIDE_FLOOR);
     if best == SIDE_FLOOR { 0 } else { best - OFFSET }
 }
 
 // The point keeps every inequality.
 pub fn keeps_rules(
-    left: &[u64; TABLE],
-    right: &[u64; TABLE],
+    left: &[u32; TABLE],
+    right: &[u32; TABLE],
     n: usize,
     m: usize,
     x: &[u64; 32],
@@ -49,8 +49,8 @@ pub fn keeps_rules(
 
 // The point's objective value is the span s.
 pub fn value_is(
-    left: &[u64; TABLE],
-    right: &[u64; TABLE],
+    left: &[u32; TABLE],
+    right: &[u32; TABLE],
     n: usize,
     m: usize,
     x: &[u64; 32],

@@ -1,6 +1,6 @@
 // The larger of two, the largest of sums, and the test whether two lists of values agree.
 ghost use mathlib.Core.Path.{_≡_};
-ghost use Prim.Native.Nat.{_≤_, _<_};
+ghost use Prim.Native.Nat.{_+_, _≤_, _<_};
 ghost use lib.ListN.{length};
 ghost use Rattle.checker.specs.Decides.{Decides};
 ghost use Rattle.checker.specs.Lists.{most, bestSum, Summable, Agree};
@@ -20,6 +20,26 @@ pub fn best_sum(table: &[u64], base: usize, x: &[u64; 32], width: usize, floor: 
     let mut best = floor;
     for l in 0..width {
         best = larger(best, table[base + l] + x[l]);
+    }
+    best
+}
+
+// A coefficient plus a value.
+fn plus(a: u32, b: u64) -> u64
+    requires { ⌜ a + b ≤ 18446744073709551615 ⌝ }
+    ensures { λ r. ⌜ r ≡ a + b ⌝ }
+{
+    a as u64 + b
+}
+
+// The same over a table of coefficients.
+pub fn best_side(table: &[u32], base: usize, x: &[u64; 32], width: usize, floor: u64) -> u64
+    requires { ⌜ Summable (now table) base (now x) width ⌝ }
+    ensures { λ r. ⌜ r ≡ bestSum (now (table .entry)) base (now (x .entry)) floor width ⌝ }
+{
+    let mut best = floor;
+    for l in 0..width {
+        best = larger(best, plus(table[base + l], x[l]));
     }
     best
 }

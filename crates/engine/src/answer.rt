@@ -35,12 +35,12 @@ pub struct Answer {
 }
 
 // The right coefficients of the objective's row.
-fn objective_of(right: &[u64; 2048], row: usize) -> [u64; 32]
+fn objective_of(right: &[u32; 2048], row: usize) -> [u32; 32]
     requires { ⌜ (length (now right) ≡ 2048) × (row < 64) ⌝ }
     ensures { λ r. ⌜ Copied (now (right .entry)) row 32 r ⌝ }
 {
     let base = row * 32;
-    let mut out = [0u64; 32];
+    let mut out = [0u32; 32];
     let mut l = 0;
     while l < 32 {
         out[l] = right[base + l];
@@ -66,9 +66,9 @@ fn stamps(point: &[u64; 32], width: usize) -> [u64; 32]
 
 // Class 3: the trial at 645,120 is not possible.
 fn infeasible(
-    left: &[u64; 2048],
-    right: &mut [u64; 2048],
-    objective: &[u64; 32],
+    left: &[u32; 2048],
+    right: &mut [u32; 2048],
+    objective: &[u32; 32],
     n: usize,
     m: usize,
     tried: Outcome,
@@ -90,9 +90,9 @@ fn infeasible(
 
 // Class 2: the trial at −645,121 is possible; each row picks a variable that attains its largest there.
 fn unbounded(
-    left: &[u64; 2048],
-    right: &mut [u64; 2048],
-    objective: &[u64; 32],
+    left: &[u32; 2048],
+    right: &mut [u32; 2048],
+    objective: &[u32; 32],
     n: usize,
     m: usize,
     tried: Outcome,
@@ -116,9 +116,9 @@ fn unbounded(
 
 // Class 1: the halving ends at the least span.
 fn optimal(
-    left: &[u64; 2048],
-    right: &mut [u64; 2048],
-    objective: &[u64; 32],
+    left: &[u32; 2048],
+    right: &mut [u32; 2048],
+    objective: &[u32; 32],
     n: usize,
     m: usize,
     search: Search,
@@ -142,7 +142,7 @@ fn optimal(
 }
 
 // The answer of the problem in two tables. The right table's row of the objective is rewritten on the way.
-pub fn solve_tables(left: &[u64; 2048], right: &mut [u64; 2048], n: usize, m: usize) -> Answer
+pub fn solve_tables(left: &[u32; 2048], right: &mut [u32; 2048], n: usize, m: usize) -> Answer
     requires { ⌜ Coefficients n m (now left) (now right) ⌝ }
     ensures { λ r. ⌜ Answered n m (now (left .entry)) (now (right .entry)) (r .class) (r .span) (r .trials) (r .stamps) (r .picks) ⌝ }
 {

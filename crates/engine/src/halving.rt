@@ -12,15 +12,18 @@ use crate::policy::trial;
 use records::limits::OFFSET;
 
 // A coefficient raised by t: blank stays blank.
-fn shift(k: u64, t: u64) -> u64
+fn shift(k: u32, t: u64) -> u32
     requires { ⌜ Trialled t × Near lead-limit k ⌝ }
     ensures { λ r. ⌜ r ≡ shifted k t ⌝ }
 {
-    if k == 0 { 0 } else { k + t - OFFSET }
+    if k == 0 {
+        return 0;
+    }
+    (k as u64 + t - OFFSET) as u32
 }
 
 // The objective's row of the right table, raised by t.
-pub fn raise(right: &mut [u64; 2048], objective: &[u64; 32], row: usize, t: u64)
+pub fn raise(right: &mut [u32; 2048], objective: &[u32; 32], row: usize, t: u64)
     requires { ⌜ (length (now right) ≡ 2048) × (length (now objective) ≡ 32) × (row < 64) × Trialled t × ((k : ℕ) → Near lead-limit (getD (now objective) k 0)) ⌝ }
     ensures { λ _. ⌜ Raised (now (right .entry)) (now (objective .entry)) row t 32 (now (right .exit)) ⌝ }
 {
@@ -34,9 +37,9 @@ pub fn raise(right: &mut [u64; 2048], objective: &[u64; 32], row: usize, t: u64)
 
 // One trial at t, from a strategy that is kept there.
 pub fn attempt(
-    left: &[u64; 2048],
-    right: &mut [u64; 2048],
-    objective: &[u64; 32],
+    left: &[u32; 2048],
+    right: &mut [u32; 2048],
+    objective: &[u32; 32],
     n: usize,
     m: usize,
     t: u64,
@@ -61,9 +64,9 @@ pub struct Search {
 
 // One trial at the middle of a search's bracket, which is wider than 1.
 pub fn step(
-    left: &[u64; 2048],
-    right: &mut [u64; 2048],
-    objective: &[u64; 32],
+    left: &[u32; 2048],
+    right: &mut [u32; 2048],
+    objective: &[u32; 32],
     n: usize,
     m: usize,
     search: Search,
@@ -108,9 +111,9 @@ pub struct Least {
 
 // Halvings until the bracket is 1 wide; its high is the least span.
 pub fn halve(
-    left: &[u64; 2048],
-    right: &mut [u64; 2048],
-    objective: &[u64; 32],
+    left: &[u32; 2048],
+    right: &mut [u32; 2048],
+    objective: &[u32; 32],
     n: usize,
     m: usize,
     start: Search,

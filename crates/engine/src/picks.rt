@@ -6,12 +6,13 @@ ghost use Rattle.engine.specs.Tables.{raised-limit, Table, Ranged};
 ghost use Rattle.engine.specs.Shown.{shownPick, arcBy, VariableArcs, ShownVariables, VariablePicks, HitsIs, RowArcIs, RowArcs, UsedIs, ShownRows, RowPicks, BestIs, InducedRows};
 use crate::reach::both;
 use crate::reach::reach;
+use crate::values::plus;
 
 // One less than three quarters of 2³²: a sum of two offset numbers is above it exactly if both are whole.
 const BLANK_MOST: u64 = 3221225471;
 
 // The record's form of a pick below `many`.
-fn shown(many: usize, mark: u64, pick: usize) -> u64
+fn shown(many: usize, mark: u32, pick: usize) -> u64
     requires { ⌜ many ≤ 64 ⌝ }
     ensures { λ r. ⌜ r ≡ shownPick many mark pick ⌝ }
 {
@@ -22,7 +23,7 @@ fn shown(many: usize, mark: u64, pick: usize) -> u64
 }
 
 // The arc by the row that a variable picks.
-fn arc_by(right: &[u64; 2048], rows: usize, pick: usize, l: usize) -> u64
+fn arc_by(right: &[u32; 2048], rows: usize, pick: usize, l: usize) -> u32
     requires { ⌜ (length (now right) ≡ 2048) × (rows ≤ 64) × (l < 32) ⌝ }
     ensures { λ r. ⌜ r ≡ arcBy (now (right .entry)) rows pick l ⌝ }
 {
@@ -30,12 +31,12 @@ fn arc_by(right: &[u64; 2048], rows: usize, pick: usize, l: usize) -> u64
 }
 
 // The arcs of a strategy of variables.
-fn variable_arcs(right: &[u64; 2048], picks: &[usize; 32], width: usize, rows: usize) -> [u64; 1024]
+fn variable_arcs(right: &[u32; 2048], picks: &[usize; 32], width: usize, rows: usize) -> [u32; 1024]
     requires { ⌜ (length (now right) ≡ 2048) × (length (now picks) ≡ 32) × (width ≤ 32) × (rows ≤ 64) ⌝ }
     ensures { λ r. ⌜ VariableArcs (now (right .entry)) (now (picks .entry)) rows (width * 32) r ⌝ }
 {
     let end = width * 32;
-    let mut out = [0u64; 1024];
+    let mut out = [0u32; 1024];
     let mut k = 0;
     while k < end {
         out[k] = arc_by(right, rows, picks[k / 32], k % 32);
@@ -45,7 +46,7 @@ fn variable_arcs(right: &[u64; 2048], picks: &[usize; 32], width: usize, rows: u
 }
 
 // The picks of a strategy of variables, by marks.
-fn shown_variables(picks: &[usize; 32], marks: &[u64; 32], width: usize, rows: usize) -> [u64; 64]
+fn shown_variables(picks: &[usize; 32], marks: &[u32; 32], width: usize, rows: usize) -> [u64; 64]
     requires { ⌜ (length (now picks) ≡ 32) × (length (now marks) ≡ 32) × (width ≤ 32) × (rows ≤ 64) ⌝ }
     ensures { λ r. ⌜ ShownVariables (now (picks .entry)) (now (marks .entry)) rows width r ⌝ }
 {
@@ -60,7 +61,7 @@ fn shown_variables(picks: &[usize; 32], marks: &[u64; 32], width: usize, rows: u
 
 // The picks of a strategy of variables; those of variables that are not reachable are 0.
 pub fn variable_picks(
-    right: &[u64; 2048],
+    right: &[u32; 2048],
     picks: &[usize; 32],
     width: usize,
     rows: usize,
@@ -74,7 +75,7 @@ pub fn variable_picks(
 }
 
 // A row that picks l and holds a variable on its left.
-fn hits(pick: usize, l: usize, left: u64) -> bool
+fn hits(pick: usize, l: usize, left: u32) -> bool
     ensures { λ r. ⌜ HitsIs pick l left r ⌝ }
 {
     if pick != l {
@@ -84,7 +85,7 @@ fn hits(pick: usize, l: usize, left: u64) -> bool
 }
 
 // The arc from variable j to variable l by a strategy of rows.
-fn row_arc(left: &[u64; 2048], picks: &[usize; 64], rows: usize, j: usize, l: usize) -> u64
+fn row_arc(left: &[u32; 2048], picks: &[usize; 64], rows: usize, j: usize, l: usize) -> u32
     requires { ⌜ (length (now left) ≡ 2048) × (length (now picks) ≡ 64) × (rows ≤ 64) × (j < 32) ⌝ }
     ensures { λ r. ⌜ RowArcIs (now (left .entry)) (now (picks .entry)) rows j l r ⌝ }
 {
@@ -99,12 +100,12 @@ fn row_arc(left: &[u64; 2048], picks: &[usize; 64], rows: usize, j: usize, l: us
 }
 
 // The arcs of a strategy of rows.
-fn row_arcs(left: &[u64; 2048], picks: &[usize; 64], width: usize, rows: usize) -> [u64; 1024]
+fn row_arcs(left: &[u32; 2048], picks: &[usize; 64], width: usize, rows: usize) -> [u32; 1024]
     requires { ⌜ (length (now left) ≡ 2048) × (length (now picks) ≡ 64) × (width ≤ 32) × (rows ≤ 64) ⌝ }
     ensures { λ r. ⌜ RowArcs (now (left .entry)) (now (picks .entry)) rows (width * 32) r ⌝ }
 {
     let end = width * 32;
-    let mut out = [0u64; 1024];
+    let mut out = [0u32; 1024];
     let mut k = 0;
     while k < end {
         out[k] = row_arc(left, picks, rows, k / 32, k % 32);
@@ -114,7 +115,7 @@ fn row_arcs(left: &[u64; 2048], picks: &[usize; 64], width: usize, rows: usize) 
 }
 
 // The mark of a row: it holds a marked variable on its left.
-fn used(left: &[u64; 2048], marks: &[u64; 32], i: usize, width: usize) -> u64
+fn used(left: &[u32; 2048], marks: &[u32; 32], i: usize, width: usize) -> u32
     requires { ⌜ (length (now left) ≡ 2048) × (length (now marks) ≡ 32) × (i < 64) × (width ≤ 32) ⌝ }
     ensures { λ r. ⌜ UsedIs (now (left .entry)) (now (marks .entry)) width i r ⌝ }
 {
@@ -130,9 +131,9 @@ fn used(left: &[u64; 2048], marks: &[u64; 32], i: usize, width: usize) -> u64
 
 // The picks of a strategy of rows, by marks.
 fn shown_rows(
-    left: &[u64; 2048],
+    left: &[u32; 2048],
     picks: &[usize; 64],
-    marks: &[u64; 32],
+    marks: &[u32; 32],
     width: usize,
     rows: usize,
 ) -> [u64; 64]
@@ -149,7 +150,7 @@ fn shown_rows(
 }
 
 // The picks of a strategy of rows; those of rows that are not in use are 0.
-pub fn row_picks(left: &[u64; 2048], picks: &[usize; 64], width: usize, rows: usize) -> [u64; 64]
+pub fn row_picks(left: &[u32; 2048], picks: &[usize; 64], width: usize, rows: usize) -> [u64; 64]
     requires { ⌜ (length (now left) ≡ 2048) × (length (now picks) ≡ 64) × (width ≤ 32) × (0 < width) × (rows ≤ 64) ⌝ }
     ensures { λ r. ⌜ RowPicks (now (left .entry)) (now (picks .entry)) width rows r ⌝ }
 {
@@ -159,7 +160,7 @@ pub fn row_picks(left: &[u64; 2048], picks: &[usize; 64], width: usize, rows: us
 }
 
 // A right variable that attains the largest of a row at a point; none where that is blank.
-fn best(right: &[u64; 2048], row: usize, x: &[u64; 32], width: usize) -> usize
+fn best(right: &[u32; 2048], row: usize, x: &[u64; 32], width: usize) -> usize
     requires { ⌜ (row < 64) × (width ≤ 32) × Table raised-limit (now right) × Ranged (now x) ⌝ }
     ensures { λ r. ⌜ BestIs (now (right .entry)) row (now (x .entry)) width r ⌝ }
 {
@@ -168,7 +169,7 @@ fn best(right: &[u64; 2048], row: usize, x: &[u64; 32], width: usize) -> usize
     let mut pick = width;
     let mut l = 0;
     while l < width {
-        let sum = right[base + l] + x[l];
+        let sum = plus(right[base + l], x[l]);
         if top < sum {
             top = sum;
             pick = l;
@@ -179,7 +180,7 @@ fn best(right: &[u64; 2048], row: usize, x: &[u64; 32], width: usize) -> usize
 }
 
 // The strategy of rows that a point induces.
-pub fn induced(right: &[u64; 2048], x: &[u64; 32], width: usize, rows: usize) -> [usize; 64]
+pub fn induced(right: &[u32; 2048], x: &[u64; 32], width: usize, rows: usize) -> [usize; 64]
     requires { ⌜ (width ≤ 32) × (rows ≤ 64) × Table raised-limit (now right) × Ranged (now x) ⌝ }
     ensures { λ r. ⌜ InducedRows (now (right .entry)) (now (x .entry)) width rows r ⌝ }
 {

@@ -15,7 +15,7 @@ use records::limits::OFFSET;
 const NEVER: u64 = 8589934592;
 
 // The right sides of all rows at a point.
-fn sides(right: &[u64; 2048], x: &[u64; 32], width: usize, rows: usize) -> [u64; 64]
+fn sides(right: &[u32; 2048], x: &[u64; 32], width: usize, rows: usize) -> [u64; 64]
     requires { ⌜ (width ≤ 32) × (rows ≤ 64) × Table raised-limit (now right) × Ranged (now x) ⌝ }
     ensures { λ r. ⌜ Sides (now (right .entry)) (now (x .entry)) width rows r ⌝ }
 {
@@ -29,7 +29,7 @@ fn sides(right: &[u64; 2048], x: &[u64; 32], width: usize, rows: usize) -> [u64;
 }
 
 // The value that a row of this right side gives a variable of this left coefficient.
-fn cost(side: u64, left: u64) -> u64
+fn cost(side: u64, left: u32) -> u64
     requires { ⌜ (side ≤ fold-limit) × (0 < side → fold-least ≤ side) × Near lead-limit left ⌝ }
     ensures { λ r. ⌜ Costs side left r ⌝ }
 {
@@ -39,11 +39,11 @@ fn cost(side: u64, left: u64) -> u64
     if side == 0 {
         return 0;
     }
-    side + OFFSET - left
+    side + OFFSET - left as u64
 }
 
 // The row that gives variable j the least value below its own; none where no row fails there.
-fn failing(left: &[u64; 2048], tops: &[u64; 64], value: u64, j: usize, rows: usize) -> usize
+fn failing(left: &[u32; 2048], tops: &[u64; 64], value: u64, j: usize, rows: usize) -> usize
     requires { ⌜ Failing (now left) (now tops) value j rows ⌝ }
     ensures { λ r. ⌜ Chosen (now (left .entry)) (now (tops .entry)) value j rows r ⌝ }
 {
@@ -69,8 +69,8 @@ pub struct Step {
 
 // One step: every variable at which a row fails picks such a row.
 fn improve(
-    left: &[u64; 2048],
-    right: &[u64; 2048],
+    left: &[u32; 2048],
+    right: &[u32; 2048],
     x: &[u64; 32],
     picks: [usize; 32],
     width: usize,
@@ -102,8 +102,8 @@ pub struct Outcome {
 
 // Policy iteration from a strategy that is kept.
 pub fn trial(
-    left: &[u64; 2048],
-    right: &[u64; 2048],
+    left: &[u32; 2048],
+    right: &[u32; 2048],
     picks: [usize; 32],
     width: usize,
     rows: usize,

@@ -5,7 +5,7 @@ ghost use lib.ListN.{length};
 ghost use Rattle.engine.specs.Marks.{BothAre, LedTo, Fresh, Sound, Spreading, Reached};
 
 // Both numbers are above 0.
-pub fn both(a: u64, b: u64) -> bool
+pub fn both(a: u32, b: u32) -> bool
     ensures { λ r. ⌜ BothAre a b r ⌝ }
 {
     if a == 0 {
@@ -15,7 +15,7 @@ pub fn both(a: u64, b: u64) -> bool
 }
 
 // An arc from a marked variable leads to l.
-fn led(arcs: &[u64; 1024], marks: &[u64; 32], l: usize, width: usize) -> bool
+fn led(arcs: &[u32; 1024], marks: &[u32; 32], l: usize, width: usize) -> bool
     requires { ⌜ (length (now arcs) ≡ 1024) × (length (now marks) ≡ 32) × (width ≤ 32) × (l < width) ⌝ }
     ensures { λ r. ⌜ LedTo (now (arcs .entry)) (now (marks .entry)) width l r ⌝ }
 {
@@ -30,7 +30,7 @@ fn led(arcs: &[u64; 1024], marks: &[u64; 32], l: usize, width: usize) -> bool
 }
 
 // Variable l is not marked, and such an arc leads there.
-fn fresh(arcs: &[u64; 1024], marks: &[u64; 32], l: usize, width: usize) -> bool
+fn fresh(arcs: &[u32; 1024], marks: &[u32; 32], l: usize, width: usize) -> bool
     requires { ⌜ (length (now arcs) ≡ 1024) × (length (now marks) ≡ 32) × (width ≤ 32) × (l < width) ⌝ }
     ensures { λ r. ⌜ Fresh (now (arcs .entry)) (now (marks .entry)) width l r ⌝ }
 {
@@ -42,12 +42,12 @@ fn fresh(arcs: &[u64; 1024], marks: &[u64; 32], l: usize, width: usize) -> bool
 
 // Marks after a round, and whether one was added.
 pub struct Spread {
-    pub marks: [u64; 32],
+    pub marks: [u32; 32],
     pub moved: bool,
 }
 
 // A round: every variable to which a marked one leads is marked.
-fn spread_from(arcs: &[u64; 1024], before: [u64; 32], width: usize) -> Spread
+fn spread_from(arcs: &[u32; 1024], before: [u32; 32], width: usize) -> Spread
     requires { ⌜ (length (now arcs) ≡ 1024) × (width ≤ 32) × Sound (now arcs) width before ⌝ }
     ensures { λ r. ⌜ Spreading (now (arcs .entry)) width before (r .marks) (r .moved) width ⌝ }
 {
@@ -65,11 +65,11 @@ fn spread_from(arcs: &[u64; 1024], before: [u64; 32], width: usize) -> Spread
 }
 
 // Marks of the variables that variable 0 reaches: rounds until one adds none.
-pub fn reach(arcs: &[u64; 1024], width: usize) -> [u64; 32]
+pub fn reach(arcs: &[u32; 1024], width: usize) -> [u32; 32]
     requires { ⌜ (length (now arcs) ≡ 1024) × (width ≤ 32) × (0 < width) ⌝ }
     ensures { λ r. ⌜ Reached (now (arcs .entry)) width r ⌝ }
 {
-    let mut marks = [0u64; 32];
+    let mut marks = [0u32; 32];
     marks[0] = 1;
     loop {
         let round = spread_from(arcs, marks, width);

@@ -55,8 +55,8 @@ fn write_found(found: Answer, n: usize, m: usize, answer: &mut [u8]) -> Solved
 pub fn solve(problem: &[u8], answer: &mut [u8]) -> Solved
     ensures { λ r. ⌜ Solves (now (problem .entry)) (now (answer .entry)) (solvedOf r) (now (answer .exit)) ⌝ }
 {
-    let mut left = [0u64; 2048];
-    let mut right = [0u64; 2048];
+    let mut left = [0u32; 2048];
+    let mut right = [0u32; 2048];
     let header = read_problem(problem, &mut left, &mut right);
     let Header::Fields(n, m) = header else {
         return Solved::Refused(problem_refusal(header));

@@ -21,6 +21,21 @@ fn larger(a: u64, b: u64) -> u64
     if a <= b { b } else { a }
 }
 
+// A coefficient plus a value.
+pub fn plus(a: u32, b: u64) -> u64
+    requires { ⌜ a + b ≤ 18446744073709551615 ⌝ }
+    ensures { λ r. ⌜ r ≡ a + b ⌝ }
+{
+    a as u64 + b
+}
+
+// A coefficient in the width of values.
+fn wide(x: u32) -> u64
+    ensures { λ r. ⌜ r ≡ x ⌝ }
+{
+    x as u64
+}
+
 // A sum of two offset numbers as an offset number.
 fn fold(k: u64) -> u64
     ensures { λ r. ⌜ r ≡ folded k ⌝ }
@@ -29,7 +44,7 @@ fn fold(k: u64) -> u64
 }
 
 // One side of a row at a point: the largest of coefficient + variable.
-pub fn side(table: &[u64; 2048], row: usize, x: &[u64; 32], width: usize) -> u64
+pub fn side(table: &[u32; 2048], row: usize, x: &[u64; 32], width: usize) -> u64
     requires { ⌜ (row < 64) × (width ≤ 32) × Table raised-limit (now table) × Ranged (now x) ⌝ }
     ensures { λ r. ⌜ SideIs (now (table .entry)) row (now (x .entry)) width r ⌝ }
 {
@@ -37,7 +52,7 @@ pub fn side(table: &[u64; 2048], row: usize, x: &[u64; 32], width: usize) -> u64
     let mut best = 0;
     let mut l = 0;
     while l < width {
-        best = larger(best, table[base + l] + x[l]);
+        best = larger(best, plus(table[base + l], x[l]));
         l += 1;
     }
     fold(best)
@@ -59,8 +74,8 @@ pub fn gap(side: u64, left: u64) -> u64
 
 // What a round makes of one variable: by the row that it picks, or 0 where it picks none.
 fn stepped(
-    left: &[u64; 2048],
-    right: &[u64; 2048],
+    left: &[u32; 2048],
+    right: &[u32; 2048],
     pick: usize,
     j: usize,
     x: &[u64; 32],
@@ -71,7 +86,7 @@ fn stepped(
     ensures { λ r. ⌜ tropOf r ≡ steppedBy (systemOf (now (left .entry)) (now (right .entry)) width rows) pick j (pointOf (now (x .entry))) ⌝ }
 {
     if pick < rows {
-        gap(side(right, pick, x, width), left[pick * 32 + j])
+        gap(side(right, pick, x, width), wide(left[pick * 32 + j]))
     } else {
         OFFSET
     }
@@ -79,8 +94,8 @@ fn stepped(
 
 // One round: every variable by its pick.
 fn round_from(
-    left: &[u64; 2048],
-    right: &[u64; 2048],
+    left: &[u32; 2048],
+    right: &[u32; 2048],
     picks: &[usize; 32],
     x: &[u64; 32],
     width: usize,
@@ -136,8 +151,8 @@ fn same(x: &[u64; 32], y: &[u64; 32], width: usize) -> bool
 
 // The values of a strategy: rounds until one changes nothing, at most as many as there are variables.
 pub fn evaluate(
-    left: &[u64; 2048],
-    right: &[u64; 2048],
+    left: &[u32; 2048],
+    right: &[u32; 2048],
     picks: &[usize; 32],
     width: usize,
     rows: usize,

@@ -16,7 +16,8 @@ take-below n xs k h = getD-take n xs k 0 h
 take-past : (n : ℕ) (xs : List ℕ) (k : ℕ) → n ≤ k → getD (take n xs) k 0 ≡ 0
 take-past n xs k h = List·getD-eq-default (take n xs) 0 (rw length-take (omega arith))
 
-zeros : (width k : ℕ) → getD {A = ℕ} (replicate width 0) k 0 ≡ 0
+-- Zeros alone, read anywhere.
+pub zeros : (width k : ℕ) → getD {A = ℕ} (replicate width 0) k 0 ≡ 0
 zeros zero k = refl
 zeros (suc width) zero = refl
 zeros (suc width) (suc k) = zeros width k

@@ -5,7 +5,7 @@ use mathlib.Core.List.{List, [], _∷_}
 use mathlib.Core.Logic.{_⊎_, ⊎-elim}
 use native.Mathlib.Omega.{arith}
 use native.Mathlib.Nat.{mul-le-mul-right}
-use lib.ListN.{length, getD, set, length-append, length-set, List·getD-append}
+use lib.ListN.{length, getD, set, replicate, length-append, length-set, length-replicate, List·getD-append}
 use lib.Seq.{getD-at, getD-set-same, getD-set-other, ext-getD}
 use borrow.Author.Tests.{le-leb, lt-leb}
 use Rattle.definitions.specs.Bytes.{numAt}
@@ -13,7 +13,8 @@ use Rattle.definitions.specs.Offset.{off}
 use Rattle.definitions.specs.ProblemRecord.{leftPlace, rightPlace, listOf}
 use Rattle.definitions.proofs.Whole.{nat-le-or-lt}
 use Rattle.records.specs.Tables.{cell, leadAt}
-use Rattle.records.specs.Filling.{rowCell, Filled, Framed, Tabled}
+use Rattle.records.specs.Filling.{rowCell, RowOf, Filled, Framed, Tabled}
+use Rattle.records.proofs.Padding.{zeros}
 
 -- ---- elements
 
@@ -43,38 +44,46 @@ filled-more {f} {base} {j} {old} {new} {x} l h e =
 pub filled-end : {f : ℕ → ℕ} {base j count : ℕ} {old new : List ℕ} → Filled f base j old new → j ≤ count → count ≤ j → Filled f base count old new
 filled-end l h k = record { same = l .same; before = l .before; cells = λ i b. l .cells i (omega arith) }
 
--- Two runs of elements one after the other are one.
-pub filled-join : {f g h : ℕ → ℕ} {base a b : ℕ} {old mid new : List ℕ} → Filled g base a old mid → Filled h (base + a) b mid new
-    → ((j : ℕ) → j < a → g j ≡ f j) → ((j : ℕ) → j < b → h j ≡ f (a + j)) → Filled f base (a + b) old new
-filled-join {f} {g} {h} {base} {a} {b} {old} {mid} {new} l r e k =
-    record {
-      same = r .same ∙ l .same;
-      before = λ i q. r .before i (omega arith) ∙ l .before i q;
-      cells = λ i q. ⊎-elim (second i q) (first i) (nat-le-or-lt a i);
-    }
-  where
-    first : (i : ℕ) → i < a → getD new (base + i) 0 ≡ f i
-    first i q = r .before (base + i) (omega arith) ∙ l .cells i q ∙ e i q
-
-    second : (i : ℕ) → i < a + b → a ≤ i → getD new (base + i) 0 ≡ f i
-    second i q p =
-        let place : base + a + (i - a) ≡ base + i = omega arith in
-        let index : a + (i - a) ≡ i = omega arith in
-        rw (place, index) at (r .cells (i - a) (omega arith) ∙ k (i - a) (omega arith))
-
 -- A lead is read, and its offset number taken.
 pub lead-read : (s : List ℕ) {w x from place : ℕ} → w ≡ numAt 4 s from → x ≡ off w → from ≡ place → x ≡ leadAt s place
 lead-read s e f g = rw (f, e, g)
 
 -- ---- rows
 
--- A row: its leads, then blanks.
-pub filled-row : (s : List ℕ) (at : ℕ) {n base : ℕ} {old mid new : List ℕ} → n ≤ 31 → Filled (λ j. leadAt s (at + 4 * j)) base (n + 1) old mid
-    → Filled (λ _. 0) (base + (n + 1)) (32 - (n + 1)) mid new → Filled (rowCell s at n) base 32 old new
+-- No lead of a row is read yet.
+pub row-none : {f : ℕ → ℕ} → RowOf f 0 (replicate 32 0)
+row-none = record { size = length-replicate {A = ℕ} 32 0; cells = λ j h. absurd (omega arith); rest = λ j h. zeros 32 j }
+
+-- One lead more.
+pub row-more : {f : ℕ → ℕ} {j x : ℕ} {row : List ℕ} → RowOf f j row → j < 32 → x ≡ f j → RowOf f (j + 1) (set row j x)
+row-more {f} {j} {x} {row} r h e =
+    record {
+      size = length-set row j x ∙ r .size;
+      cells = λ i b. ⊎-elim (last i b) (earlier i) (nat-le-or-lt j i);
+      rest = λ i b. getD-set-other row j i x 0 (λ q. omega arith) ∙ r .rest i (omega arith);
+    }
+  where
+    last : (i : ℕ) → i < j + 1 → j ≤ i → getD (set row j x) i 0 ≡ f i
+    last i b q = let p : i ≡ j = omega arith in rw p (getD-set-same row j x 0 (omega (arith, r .size)) ∙ e)
+
+    earlier : (i : ℕ) → i < j → getD (set row j x) i 0 ≡ f i
+    earlier i b = getD-set-other row j i x 0 (λ q. omega arith) ∙ r .cells i b
+
+-- All leads of a row.
+pub row-end : {f : ℕ → ℕ} {j count : ℕ} {row : List ℕ} → RowOf f j row → j ≤ count → count ≤ j → RowOf f count row
+row-end r h k = record { size = r .size; cells = λ i b. r .cells i (omega arith); rest = λ i b. r .rest i (omega arith) }
+
+-- A row is copied: its leads, then blanks.
+pub filled-row : (s : List ℕ) (at n : ℕ) {base : ℕ} {row old new : List ℕ} → RowOf (λ j. leadAt s (at + 4 * j)) (n + 1) row
+    → Filled (λ j. getD row j 0) base 32 old new → Filled (rowCell s at n) base 32 old new
 unfolding rowCell
-filled-row s at {n} h l r =
-    let whole : n + 1 + (32 - (n + 1)) ≡ 32 = omega arith in
-    rw whole at (filled-join {f = rowCell s at n} l r (λ j q. rw (le-leb j n (omega arith))) (λ j q. rw (lt-leb (n + 1 + j) n (omega arith))))
+filled-row s at n {row = row} r l = record { same = l .same; before = l .before; cells = λ j b. l .cells j b ∙ cell-of j }
+  where
+    cell-of : (j : ℕ) → getD row j 0 ≡ rowCell s at n j
+    cell-of j = ⊎-elim
+        (λ (q : n + 1 ≤ j). r .rest j q ∙ rw (lt-leb j n (omega arith)))
+        (λ (q : j < n + 1). r .cells j q ∙ rw (le-leb j n (omega arith)))
+        (nat-le-or-lt (n + 1) j)
 
 -- Element 32 i + j of a table is element j of its row i.
 pub cell-row : (place : ℕ → ℕ → ℕ) (s : List ℕ) (n m i j at : ℕ) → i ≤ m → j < 32 → place i j ≡ at + 4 * j → cell place s n m (32 * i + j) ≡ rowCell s at n j

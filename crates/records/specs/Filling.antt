@@ -24,6 +24,12 @@ pub record Filled (f : ℕ → ℕ) (base count : ℕ) (old new : List ℕ) : Ty
   pub before : (k : ℕ) → k < base → getD new k 0 ≡ getD old k 0
   pub cells : (j : ℕ) → j < count → getD new (base + j) 0 ≡ f j
 
+-- A row of 32 by itself: f 0, …, f (count − 1), then 0.
+pub record RowOf (f : ℕ → ℕ) (count : ℕ) (row : List ℕ) : Type 0 where
+  pub size : length row ≡ 32
+  pub cells : (j : ℕ) → j < count → getD row j 0 ≡ f j
+  pub rest : (j : ℕ) → count ≤ j → getD row j 0 ≡ 0
+
 -- Element j of a row whose leads start at a place: n + 1 leads, then 0.
 unfoldable pub rowCell : List ℕ → ℕ → ℕ → ℕ → ℕ
 rowCell s at n j = cond (leb j n) (leadAt s (at + signed-bytes * j)) 0

@@ -1,18 +1,17 @@
 // The problem record: its header judged, its leads judged, and its leads read into two lent tables.
 ghost use mathlib.Core.Path.{_≡_};
 ghost use Prim.Native.Nat.{_+_, _*_, _-_, _<_, _≤_};
-ghost use lib.ListN.{length};
+ghost use mathlib.Core.Bool.{cond};
+ghost use lib.ListN.{length, getD};
 ghost use Rattle.definitions.specs.Limits.{lead-limit};
 ghost use Rattle.definitions.specs.Bytes.{tropField, blank-or-within};
-ghost use Rattle.definitions.specs.Offset.{off};
 ghost use Rattle.definitions.specs.ProblemRecord.{problemSize};
 ghost use Rattle.records.specs.ProblemHeader.{headerBy, headerOf, judged, countsJudged};
 ghost use Rattle.records.specs.Tables.{runFits, leadAt, ProblemRead};
-ghost use Rattle.records.specs.Filling.{rowCell, Filled, Framed, Tabled};
+ghost use Rattle.records.specs.Filling.{rowCell, RowOf, Filled, Framed, Tabled};
 use crate::bytes::short_at;
 use crate::bytes::word_at;
 use crate::bytes::word_in;
-use crate::limits::FULL;
 use crate::limits::LEAD_BYTES;
 use crate::limits::LEAD_LIMIT;
 use crate::limits::LENGTH_BYTES;
@@ -22,6 +21,7 @@ use crate::limits::OFFSET;
 use crate::limits::PROBLEM_HEADER;
 use crate::limits::STRIDE;
 use crate::limits::TABLE;
+use crate::offset::offset;
 
 // What a header answers: n and m, or the number of the refusal.
 pub enum Header {
@@ -101,14 +101,6 @@ pub fn read_header(bytes: &[u8], size: usize) -> Header
     answered(judge(size, length, kind, n, m), n, m)
 }
 
-// The offset number of a 4-byte field.
-fn offset(w: u64) -> u64
-    requires { ⌜ w < 4294967296 ⌝ }
-    ensures { λ r. ⌜ (r ≡ off w) × (r < 4294967296) ⌝ }
-{
-    (w + OFFSET) % FULL
-}
-
 // A 4-byte field holds a lead: blank, or within the limit.
 fn lead_fits(w: u64) -> bool
     requires { ⌜ w < 4294967296 ⌝ }
@@ -124,35 +116,55 @@ fn lead_fits(w: u64) -> bool
     k <= OFFSET + LEAD_LIMIT
 }
 
-// Each of the first `count` leads of a problem is blank or within the limit.
+// 0 where a 4-byte field holds a lead, else 1.
+fn misfit(w: u64) -> u32
+    requires { ⌜ w < 4294967296 ⌝ }
+    ensures { λ r. ⌜ (r ≡ cond (blank-or-within lead-limit (tropField w)) 0 1) × (r ≤ 1) ⌝ }
+{
+    if lead_fits(w) { 0 } else { 1 }
+}
+
+// Each of the first `count` leads of a problem is blank or within the limit. All are looked at, so that the loop has no
+// branch.
 fn leads_fit(bytes: &[u8], count: usize) -> bool
-    requires { ⌜ 10 + 4 * count ≤ length (now bytes) ⌝ }
+    requires { ⌜ (count ≤ 4096) × (10 + 4 * count ≤ length (now bytes)) ⌝ }
     ensures { λ r. ⌜ r ≡ runFits (now (bytes .entry)) count 10 ⌝ }
 {
     let mut at = PROBLEM_HEADER;
+    let mut misfits = 0u32;
     for _ in 0..count {
-        if !lead_fits(word_in(bytes, at)) {
-            return false;
-        }
+        misfits += misfit(word_in(bytes, at));
         at += LEAD_BYTES;
     }
-    true
+    misfits == 0
 }
 
-// `count` leads from a place of the bytes, into a table from an element on.
-fn read_leads(bytes: &[u8], at: usize, count: usize, table: &mut [u64], base: usize)
-    requires { ⌜ (at + 4 * count ≤ length (now bytes)) × (base + count ≤ length (now table)) ⌝ }
-    ensures { λ _. ⌜ Filled (λ j. leadAt (now (bytes .entry)) (at + 4 * j)) base count (now (table .entry)) (now (table .exit)) ⌝ }
+// `count` leads from a place of the bytes, then blanks.
+fn row_of(bytes: &[u8], at: usize, count: usize) -> [u32; STRIDE]
+    requires { ⌜ (count ≤ 32) × (at + 4 * count ≤ length (now bytes)) ⌝ }
+    ensures { λ r. ⌜ RowOf (λ j. leadAt (now (bytes .entry)) (at + 4 * j)) count r ⌝ }
 {
+    let mut row = [0u32; STRIDE];
     let mut from = at;
     for j in 0..count {
-        table[base + j] = offset(word_in(bytes, from));
+        row[j] = offset(word_in(bytes, from)) as u32;
         from += LEAD_BYTES;
+    }
+    row
+}
+
+// A row is copied into a table, from an element on.
+fn put_row(row: &[u32; STRIDE], table: &mut [u32], base: usize)
+    requires { ⌜ (length (now row) ≡ 32) × (base + 32 ≤ length (now table)) ⌝ }
+    ensures { λ _. ⌜ Filled (λ j. getD (now (row .entry)) j 0) base 32 (now (table .entry)) (now (table .exit)) ⌝ }
+{
+    for j in 0..STRIDE {
+        table[base + j] = row[j];
     }
 }
 
 // `count` elements of a table from one on are set to 0, blank.
-fn clear(table: &mut [u64], base: usize, count: usize)
+fn clear(table: &mut [u32], base: usize, count: usize)
     requires { ⌜ base + count ≤ length (now table) ⌝ }
     ensures { λ _. ⌜ Filled (λ _. 0) base count (now (table .entry)) (now (table .exit)) ⌝ }
 {
@@ -162,17 +174,16 @@ fn clear(table: &mut [u64], base: usize, count: usize)
 }
 
 // A row of a table: n + 1 leads from a place of the bytes, then blanks.
-fn read_row(bytes: &[u8], at: usize, n: usize, table: &mut [u64], base: usize)
+fn read_row(bytes: &[u8], at: usize, n: usize, table: &mut [u32], base: usize)
     requires { ⌜ (n ≤ 31) × (at + 4 * (n + 1) ≤ length (now bytes)) × (base + 32 ≤ length (now table)) ⌝ }
     ensures { λ _. ⌜ Filled (rowCell (now (bytes .entry)) at n) base 32 (now (table .entry)) (now (table .exit)) ⌝ }
 {
-    let count = n + 1;
-    read_leads(bytes, at, count, table, base);
-    clear(table, base + count, STRIDE - count);
+    let row = row_of(bytes, at, n + 1);
+    put_row(&row, table, base);
 }
 
 // The leads of n + 1 variables in m + 1 rows, into the first m + 1 rows of both tables.
-fn read_rows(bytes: &[u8], n: usize, m: usize, left: &mut [u64], right: &mut [u64])
+fn read_rows(bytes: &[u8], n: usize, m: usize, left: &mut [u32], right: &mut [u32])
     requires { ⌜ Framed (now bytes) n m (now left) (now right) ⌝ }
     ensures { λ _. ⌜ Tabled (now (bytes .entry)) n m (32 * (m + 1)) (now (left .exit)) (now (right .exit)) ⌝ }
 {
@@ -187,7 +198,7 @@ fn read_rows(bytes: &[u8], n: usize, m: usize, left: &mut [u64], right: &mut [u6
 }
 
 // The leads of n + 1 variables in m + 1 rows, into both tables; what lies past them is blank.
-fn read_tables(bytes: &[u8], n: usize, m: usize, left: &mut [u64], right: &mut [u64])
+fn read_tables(bytes: &[u8], n: usize, m: usize, left: &mut [u32], right: &mut [u32])
     requires { ⌜ Framed (now bytes) n m (now left) (now right) ⌝ }
     ensures { λ _. ⌜ Tabled (now (bytes .entry)) n m 2048 (now (left .exit)) (now (right .exit)) ⌝ }
 {
@@ -199,7 +210,7 @@ fn read_tables(bytes: &[u8], n: usize, m: usize, left: &mut [u64], right: &mut [
 
 // A problem from its bytes, into two lent tables: n and m, with the leads as offset numbers in rows of 32, or the first of
 // refusals 1 to 6 that applies. A refused problem leaves both tables as they are.
-pub fn read_problem(bytes: &[u8], left: &mut [u64; TABLE], right: &mut [u64; TABLE]) -> Header
+pub fn read_problem(bytes: &[u8], left: &mut [u32; TABLE], right: &mut [u32; TABLE]) -> Header
     ensures { λ r. ⌜ ProblemRead (now (bytes .entry)) (now (left .entry)) (now (right .entry)) r (now (left .exit)) (now (right .exit)) ⌝ }
 {
     let header = read_header(bytes, bytes.len());

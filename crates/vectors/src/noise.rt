@@ -7,13 +7,15 @@ const BYTE: u8 = 165;
 
 const NUMBER: u64 = 11574427654092267680;
 
+const LEAD: u32 = 2779096485;
+
 // The room of the buffers that are lent to the writer.
 pub const BUFFER: usize = 300;
 
-pub fn table() -> [u64; 2048]
+pub fn table() -> [u32; 2048]
     ensures { λ r. ⌜ length r ≡ 2048 ⌝ }
 {
-    [NUMBER; 2048]
+    [LEAD; 2048]
 }
 
 pub fn stamps() -> [u64; 32]
@@ -39,6 +41,18 @@ pub fn untouched(numbers: &[u64]) -> bool {
     let mut i = 0;
     while i < numbers.len() {
         if numbers[i] != NUMBER {
+            return false;
+        }
+        i += 1;
+    }
+    true
+}
+
+// Every lead is noise still.
+pub fn untouched_leads(leads: &[u32]) -> bool {
+    let mut i = 0;
+    while i < leads.len() {
+        if leads[i] != LEAD {
             return false;
         }
         i += 1;

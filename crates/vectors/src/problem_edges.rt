@@ -17,13 +17,17 @@ use records::problem::read_problem;
 // The place of the last lead in the largest problem.
 const LAST: usize = 16390;
 
+fn wide(x: u32) -> u64 {
+    x as u64
+}
+
 // An element of a table, blank where there is none.
-fn lead_at(table: &[u64; 2048], at: usize) -> u64 {
-    if at < table.len() { table[at] } else { 0 }
+fn lead_at(table: &[u32; 2048], at: usize) -> u64 {
+    if at < table.len() { wide(table[at]) } else { 0 }
 }
 
 // The right lead of the last variable in the question.
-fn last_lead(right: &[u64; 2048], n: usize, m: usize) -> u64 {
+fn last_lead(right: &[u32; 2048], n: usize, m: usize) -> u64 {
     if n >= 32 {
         return 0;
     }
@@ -34,7 +38,7 @@ fn last_lead(right: &[u64; 2048], n: usize, m: usize) -> u64 {
 }
 
 // The first left lead and the last right one of a problem that was read.
-fn show_read(n: usize, m: usize, left: &[u64; 2048], right: &[u64; 2048]) {
+fn show_read(n: usize, m: usize, left: &[u32; 2048], right: &[u32; 2048]) {
     print::counted(b"read, n ", n as u64);
     print::counted(b" m ", m as u64);
     print::text(b", leads ");
@@ -43,12 +47,12 @@ fn show_read(n: usize, m: usize, left: &[u64; 2048], right: &[u64; 2048]) {
     print::minutes(last_lead(right, n, m));
 }
 
-fn show_refused(number: usize, left: &[u64; 2048], right: &[u64; 2048]) {
+fn show_refused(number: usize, left: &[u32; 2048], right: &[u32; 2048]) {
     print::counted(b"refused ", number as u64);
-    if !noise::untouched(left) {
+    if !noise::untouched_leads(left) {
         print::text(b", left table touched");
     }
-    if !noise::untouched(right) {
+    if !noise::untouched_leads(right) {
         print::text(b", right table touched");
     }
 }
@@ -180,7 +184,7 @@ fn orders() {
 }
 
 // Which lead stands where: leads 1 to 8 in the order of the record.
-fn show_places(left: &[u64; 2048], right: &[u64; 2048]) {
+fn show_places(left: &[u32; 2048], right: &[u32; 2048]) {
     print::text(b"left");
     show_row(left, 0);
     show_row(left, 32);
@@ -190,7 +194,7 @@ fn show_places(left: &[u64; 2048], right: &[u64; 2048]) {
 }
 
 // Three places of a row: two leads, and what follows them.
-fn show_row(table: &[u64; 2048], at: usize)
+fn show_row(table: &[u32; 2048], at: usize)
     requires { ⌜ at ≤ 2000 ⌝ }
 {
     print::text(b" ");

@@ -10,11 +10,11 @@ use Rattle.checker.proofs.point.side.Tie as tie
 
 returns : tie.Need-returns
 unfolding sideOf
-returns c = sym (side-none (sym (c .before .best-sum .ensures) ∙ c .if1 .taken))
+returns c = sym (side-none (sym (c .before .best-side .ensures) ∙ c .if1 .taken))
 
 returns-2 : tie.Need-returns-2
 unfolding sideOf
-returns-2 c = ap (λ k. k - signed-half) (c .before .best-sum .ensures) ∙ sym (side-some (λ e. c .if1 .left (c .before .best-sum .ensures ∙ e)))
+returns-2 c = ap (λ k. k - signed-half) (c .before .best-side .ensures) ∙ sym (side-some (λ e. c .if1 .left (c .before .best-side .ensures ∙ e)))
 
 pub side-spec : {M : Type 1} → statement M
 side-spec = tie.close (tie.spec

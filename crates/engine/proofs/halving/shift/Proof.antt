@@ -7,7 +7,8 @@ use Rattle.engine.proofs.halving.shift.Tie as tie
 
 pub shift-spec : {M : Type 1} → statement M
 shift-spec = tie.close (tie.spec
+    (λ c. rw (c .if1 .taken) (shifted-blank _))
     (λ c. search needs)
     (λ c. omega (arith, c .before .pre .1 .lo (positive _ (c .if1 .left))))
-    (λ c. rw (c .if1 .taken) (shifted-blank _))
+    (λ c. omega (arith, c .before .pre .1 .lo (positive _ (c .if1 .left)), c .before .pre .1 .hi))
     (λ c. shifted-whole _ _ (c .if1 .left)))

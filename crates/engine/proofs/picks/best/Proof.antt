@@ -1,3 +1,4 @@
+use mathlib.Core.Path.{_∙_}
 use Prim.Native.Nat.{_≤_, _-_, _+_, _*_}
 use native.Mathlib.Omega.{arith}
 use mathlib.Core.Logic.{⊎-elim, inl, inr}
@@ -26,8 +27,10 @@ best-spec =
     (λ c. search needs)
     (λ c. search needs)
     (λ c. search needs)
-    (λ c. omega (arith, c .before .before .before .before .pre .2 .near (c .before .before .before .before .args .row * 32 + c .before .before .before .loop .l) .hi, c .before .before .before .before .pre .3 .near (c .before .before .before .loop .l) .hi))
+    (λ c κs. omega (arith, c .before .before .before .before .pre .2 .near (c .before .before .before .before .args .row * 32 + c .before .before .before .loop .l) .hi, c .before .before .before .before .pre .3 .near (c .before .before .before .loop .l) .hi))
     (λ c. search needs)
     (λ c. search needs)
-    (λ c. let a = c .before .before .before .before .before .args in (omega arith, highest-on (a .right .now) (a .row) (a .x .now) (a .width) _ _ _ _ _ (c .before .before .before .before .loop .inv .1) (c .before .before .before .loop-test .taken) (⊎-elim (λ w. inl (w .0 .taken, w .1, w .2)) (λ w. inr (w .0 .left, w .1, w .2)) (c .if1 .came))))
+    (λ c. let a = c .before .before .before .before .before .before .args in
+    let e = c .before .plus .ensures in
+    (omega arith, highest-on (a .right .now) (a .row) (a .x .now) (a .width) _ _ _ _ _ (c .before .before .before .before .before .loop .inv .1) (c .before .before .before .before .loop-test .taken) (⊎-elim (λ w. inl (omega (arith, e, w .0 .taken), w .1 ∙ e, w .2)) (λ w. inr (omega (arith, e, w .0 .left), w .1, w .2)) (c .if1 .came))))
     (λ c. highest-end _ _ _ _ _ _ _ (c .before .before .pre .2) (c .before .before .pre .3) (c .before .loop .inv .1) (c .loop-test .left)))

@@ -1,15 +1,14 @@
-use borrow.Author.Tests.{not-true, not-false}
-use Rattle.records.proofs.Leads.{Judged, judged-none, judged-more, judged-stop, judged-end}
 use Prim.Native.Nat.{_-_}
+use Rattle.records.proofs.Leads.{Judged, judged-none, judged-more, judged-end}
 use borrow.Author.Needs.{needs}
 use Rattle.records.proofs.problem.leads_fit.Statement.{statement}
 use Rattle.records.proofs.problem.leads_fit.Tie as tie
 
 abbrev Inv-loop : tie.InvT-loop
-Inv-loop bytes count at₀ counter₀ at counter = Judged bytes count counter at
+Inv-loop bytes count at₀ misfits₀ counter₀ at misfits counter = Judged bytes count counter at misfits
 
 abbrev μ-loop : tie.MeasureT-loop
-μ-loop bytes count at₀ counter₀ at counter = count - counter
+μ-loop bytes count at₀ misfits₀ counter₀ at misfits counter = count - counter
 
 pub leads-fit-spec : {M : Type 1} → statement M
 leads-fit-spec =
@@ -20,9 +19,9 @@ leads-fit-spec =
     (λ c. search judged-none)
     (λ c κs. search needs)
     (λ c κs. search needs)
-    (λ c. search (judged-stop, not-true))
     (λ c. search needs)
     (λ c. search needs)
     (λ c. search needs)
-    (λ c. search (judged-more, not-false))
+    (λ c. search needs)
+    (λ c. search judged-more)
     (λ c. search judged-end))

@@ -5,12 +5,9 @@ use Rattle.records.proofs.problem.read_row.Tie as tie
 
 pub read-row-spec : {M : Type 1} → statement M
 read-row-spec =
-    tie.close
-    (tie.spec
+    tie.close (tie.spec
     (λ c. search needs)
     (λ c κs. search needs)
-    (λ c. search needs)
-    (λ c. search needs)
     (λ c κs. search needs)
     (λ c. search needs)
-    (λ c. filled-row _ _ (c .before .before .before .before .before .before .before .before .before .before .pre .0) (c .before .before .before .before .before .before .read-leads .ensures) (c .before .before .clear .ensures)))
+    (λ c. search filled-row))
