@@ -6,7 +6,7 @@ use mathlib.Core.Logic.{⊎-elim}
 use mathlib.Core.List.{List}
 use native.Mathlib.Omega.{arith}
 use native.Mathlib.Nat.{eq-zero-or-pos}
-use borrow.Author.Tests.{eq-eqb, ne-eqb}
+use borrow.Author.Tests.{eq-eqb, ne-eqb, le-leb, lt-leb}
 use lib.Dec.{eqb, leb}
 use Rattle.definitions.specs.Limits.{lead-limit, signed-half, signed-full, problem-header}
 use Rattle.definitions.specs.Bytes.{numAt, numsAt, tropField, all, blank-or-within}
@@ -18,6 +18,13 @@ use Rattle.records.specs.Tables.{runFits}
 pub lead-offset : (w k : ℕ) → w < signed-full → k ≡ off w
     → blank-or-within lead-limit (tropField w) ≡ (eqb k 0 || (leb signed-half (k + lead-limit) && leb k (signed-half + lead-limit)))
 lead-offset w k h e = ap (blank-or-within lead-limit) (sym (trop-off w h)) ∙ rw (← e) (within-offset lead-limit k (omega arith))
+
+-- A number that is not blank, below the limit on one side; and one that is not.
+pub lead-early : {w k : ℕ} → w < signed-full → k ≡ off w → 0 < k → k + lead-limit < signed-half → false ≡ blank-or-within lead-limit (tropField w)
+lead-early {w} {k} h e s l = sym (lead-offset w k h e ∙ rw (ne-eqb k 0 (omega arith), lt-leb signed-half (k + lead-limit) l) refl)
+
+pub lead-late : {w k : ℕ} → w < signed-full → k ≡ off w → 0 < k → signed-half ≤ k + lead-limit → leb k (signed-half + lead-limit) ≡ blank-or-within lead-limit (tropField w)
+lead-late {w} {k} h e s l = sym (lead-offset w k h e ∙ rw (ne-eqb k 0 (omega arith), le-leb signed-half (k + lead-limit) l) refl)
 
 -- The count of misfits of one field.
 pub misfit-none : {b r : Bool} → r ≡ b → r ≡ true → (_≡_ {A = ℕ} 0 (cond b 0 1)) × (0 ≤ 1)

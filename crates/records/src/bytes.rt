@@ -38,13 +38,20 @@ pub fn word_at(s: &[u8], at: usize) -> u64
     byte_at(s, at) + 256 * (byte_at(s, b) + 256 * (byte_at(s, c) + 256 * byte_at(s, d)))
 }
 
-// A field of 4 bytes that lies inside the string.
-pub fn word_in(s: &[u8], at: usize) -> u64
+// The same in 32 bits.
+fn wide_32(x: u8) -> u32
+    ensures { λ r. ⌜ (r ≡ x) × (r < 256) ⌝ }
+{
+    x as u32
+}
+
+// A field of 4 bytes that lies inside the string, in 32 bits: the loops over leads become vector code. Public for `problem`.
+pub fn word_in(s: &[u8], at: usize) -> u32
     requires { ⌜ at + 4 ≤ length (now s) ⌝ }
     ensures { λ r. ⌜ (r ≡ numAt 4 (now (s .entry)) at) × (r < 4294967296) ⌝ }
 {
     let b = at + 1;
     let c = b + 1;
     let d = c + 1;
-    wide(s[at]) + 256 * (wide(s[b]) + 256 * (wide(s[c]) + 256 * wide(s[d])))
+    wide_32(s[at]) + 256 * (wide_32(s[b]) + 256 * (wide_32(s[c]) + 256 * wide_32(s[d])))
 }

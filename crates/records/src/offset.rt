@@ -1,6 +1,7 @@
 // Offset numbers: the form in which leads, stamps and spans are kept. 0 is blank, any other number k stands for k − 2³¹.
 use crate::limits::FULL;
 use crate::limits::OFFSET;
+use crate::limits::OFFSET_32;
 ghost use mathlib.Core.Path.{_≡_};
 ghost use Prim.Native.Nat.{_<_};
 ghost use Rattle.definitions.specs.Limits.{signed-full};
@@ -12,6 +13,18 @@ pub fn offset(w: u64) -> u64
     ensures { λ r. ⌜ (r ≡ off w) × (r < signed-full) ⌝ }
 {
     (w % FULL + OFFSET) % FULL
+}
+
+// The same in 32 bits. Public for `problem`.
+pub fn offset_32(w: u32) -> u32
+    requires { ⌜ w < signed-full ⌝ }
+    ensures { λ r. ⌜ (r ≡ off w) × (r < signed-full) ⌝ }
+{
+    if w < OFFSET_32 {
+        w + OFFSET_32
+    } else {
+        w - OFFSET_32
+    }
 }
 
 // The number is whole and within ±limit.

@@ -13,15 +13,15 @@ use crate::bytes::short_at;
 use crate::bytes::word_at;
 use crate::bytes::word_in;
 use crate::limits::LEAD_BYTES;
-use crate::limits::LEAD_LIMIT;
+use crate::limits::LEAD_LIMIT_32;
 use crate::limits::LENGTH_BYTES;
 use crate::limits::MOST_INEQUALITIES;
 use crate::limits::MOST_VARIABLES;
-use crate::limits::OFFSET;
+use crate::limits::OFFSET_32;
 use crate::limits::PROBLEM_HEADER;
 use crate::limits::STRIDE;
 use crate::limits::TABLE;
-use crate::offset::offset;
+use crate::offset::offset_32;
 
 // What a header answers: n and m, or the number of the refusal.
 pub enum Header {
@@ -102,22 +102,22 @@ pub fn read_header(bytes: &[u8], size: usize) -> Header
 }
 
 // A 4-byte field holds a lead: blank, or within the limit.
-fn lead_fits(w: u64) -> bool
+fn lead_fits(w: u32) -> bool
     requires { ⌜ w < 4294967296 ⌝ }
     ensures { λ r. ⌜ r ≡ blank-or-within lead-limit (tropField w) ⌝ }
 {
-    let k = offset(w);
+    let k = offset_32(w);
     if k == 0 {
         return true;
     }
-    if k + LEAD_LIMIT < OFFSET {
+    if k < OFFSET_32 - LEAD_LIMIT_32 {
         return false;
     }
-    k <= OFFSET + LEAD_LIMIT
+    k <= OFFSET_32 + LEAD_LIMIT_32
 }
 
 // 0 where a 4-byte field holds a lead, else 1.
-fn misfit(w: u64) -> u32
+fn misfit(w: u32) -> u32
     requires { ⌜ w < 4294967296 ⌝ }
     ensures { λ r. ⌜ (r ≡ cond (blank-or-within lead-limit (tropField w)) 0 1) × (r ≤ 1) ⌝ }
 {
@@ -147,7 +147,7 @@ fn row_of(bytes: &[u8], at: usize, count: usize) -> [u32; STRIDE]
     let mut row = [0u32; STRIDE];
     let mut from = at;
     for j in 0..count {
-        row[j] = offset(word_in(bytes, from)) as u32;
+        row[j] = offset_32(word_in(bytes, from));
         from += LEAD_BYTES;
     }
     row

@@ -28,11 +28,10 @@ row-of-spec =
     (λ c. search needs)
     (λ c. search needs)
     (λ c. search needs)
-    (λ c. search needs)
     (λ c.
     let turn = c .before .before .before .loop in (
       omega arith,
       omega arith,
-      row-more (turn .inv .2) (omega arith) (lead-read _ (c .before .word-in .ensures .0) (c .offset .ensures .0) (turn .inv .1)),
+      row-more (turn .inv .2) (omega arith) (lead-read _ (c .before .word-in .ensures .0) (c .offset-32 .ensures .0) (turn .inv .1)),
     ))
     (λ c. search row-end))
