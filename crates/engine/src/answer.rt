@@ -123,7 +123,7 @@ fn optimal(
     m: usize,
     search: Search,
 ) -> Answer
-    requires { ⌜ Ready n m (now left) (now right) (now objective) × Searching n m (now left) (now right) (now objective) (search .bracket .low) (search .bracket .high) (search .trials) (search .point) (search .kept) (search .blocking) ⌝ }
+    requires { ⌜ Ready n m (now left) (now right) (now objective) × Searching n m (now left) (now right) (now objective) search ⌝ }
     ensures { λ r. ⌜ Settled n m (now (left .entry)) (now (right .entry)) (now (objective .entry)) (r .class) (r .span) (r .trials) (r .stamps) (r .picks) ⌝ }
 {
     let least = halve(left, right, objective, n, m, search);
@@ -168,6 +168,8 @@ pub fn solve_tables(left: &[u64; 2048], right: &mut [u64; 2048], n: usize, m: us
     let search = Search {
         bracket,
         trials: 2,
+        reached: TOP,
+        blocked: LOWEST,
         point,
         kept,
         blocking,
