@@ -16,7 +16,9 @@ use Rattle.definitions.proofs.Whole.{whole, plus-read, subℕ-read, nat-le-or-l
 use Rattle.definitions.proofs.Bisection.{half-up-is, width-is, Brackets, Inside, middle-inside, halved-stop, halved-on, following}
 use Rattle.engine.specs.Trials.{wholeOf, top-offset, lowest-offset, Trialled, Steady, KeptAt, TriedAt}
 use Rattle.engine.specs.declared.halving.Search.{Search}
-use Rattle.engine.specs.Halving.{bracketOf, BlocksAt, Counted, Searching, Wide, Known, MiddleCounted, remaining, LeastFound}
+use Rattle.engine.specs.declared.descent.Descent.{Descent}
+use Rattle.engine.specs.Descent.{Descended}
+use Rattle.engine.specs.Halving.{bracketOf, BlocksAt, Counted, Searching, Wide, MiddleCounted, remaining, LeastFound}
 use Rattle.engine.proofs.Trials.{question-steady, steady-sym, tried-steady, kept-down, tried-blocks}
 
 -- ---- the middle
@@ -117,6 +119,11 @@ blocks-steady : (n m t : ℕ) (left right right′ objective picks : List ℕ) �
 blocks-steady n m t left right right′ objective picks b s f =
     record { blocks = λ p q. f .blocks p (question-steady p n m left right′ right objective b (steady-sym s) q) }
 
+-- A trial that is not possible blocks.
+tried-impossible : (n m : ℕ) (left right objective : List ℕ) (t : ℕ) (x picks : List ℕ) → TriedAt n m left right objective t x picks → getD x 0 0 ≡ 0
+    → BlocksAt n m left right objective t picks
+tried-impossible n m left right objective t x picks f z = record { blocks = λ p q. tried-blocks p (wholeOf t) x picks (f .tried p q) z }
+
 module _ (n m : ℕ) (left right objective : List ℕ) (s : Search) (k : Searching n m left right objective s) where
   -- A trial between what is blocked and what is reached lies between the two outer ones,
   pub between-trialled : (t : ℕ) → s .blocked < t → t < s .reached → Trialled t
@@ -175,12 +182,17 @@ module _ (n m : ℕ) (left right objective : List ℕ) (s : Search) (k : Searchi
       few = k .few;
       possible = tried-steady n m (s .reached) left right right′ objective (s .point) (s .kept) b y (k .possible);
       finite = k .finite;
-      impossible = record { blocks = λ p q. tried-blocks p (wholeOf t) x picks (f .tried p q) z };
+      impossible = tried-impossible n m left right′ objective t x picks f z;
       blocking-size = f .picks-size;
       counted = k .counted;
     }
 
 -- ---- one halving
+
+-- The outcome at t is known, and it is this.
+pub record Known (t : ℕ) (s : Search) (possible : Bool) : Type 0 where
+  pub yes : possible ≡ true → s .reached ≤ t
+  pub no : possible ≡ false → t ≤ s .blocked
 
 -- The next bracket holds what is known, and is narrower.
 record Narrower (s : Search) (low high : ℕ) : Type 0 where
@@ -240,31 +252,29 @@ wider low high h d = ⊎-elim (λ (l : high ≤ low + 1). absurd (d (omega arith
 
 -- ---- the two ends
 
--- The search starts with the two outer trials made.
-pub searching-start : (n m : ℕ) (left right right′ objective x picks y blocks : List ℕ) → n ≤ 31 → Steady m right right′
-    → TriedAt n m left right objective top-offset x picks → 0 < getD x 0 0
-    → TriedAt n m left right′ objective lowest-offset y blocks → getD y 0 0 ≡ 0
-    → Searching n m left right′ objective (record {
+-- The search starts where the descent ended with a trial that is not possible.
+pub searching-start : (n m : ℕ) (left right objective : List ℕ) (d : Descent) → Descended n m left right objective d → getD (d .values) 0 0 ≡ 0
+    → Searching n m left right objective (record {
       bracket = record { low = lowest-offset; high = top-offset };
       trials = 2;
-      reached = top-offset;
-      blocked = lowest-offset;
-      point = x;
-      kept = picks;
-      blocking = blocks;
+      reached = d .reached;
+      blocked = d .last;
+      point = d .point;
+      kept = d .kept;
+      blocking = d .picks;
     })
 unfolding opening trials-optimal
-searching-start n m left right right′ objective x picks y blocks b s f h g z = record {
+searching-start n m left right objective d f z = record {
   low-trialled = record { lowest = omega arith; highest = omega arith };
   high-trialled = record { lowest = omega arith; highest = omega arith };
-  low-most = omega arith;
-  apart = omega arith;
-  high-least = omega arith;
+  low-most = f .lowest;
+  apart = f .apart;
+  high-least = f .above .high;
   few = omega arith;
-  possible = tried-steady n m top-offset left right right′ objective x picks b s f;
-  finite = h;
-  impossible = record { blocks = λ p q. tried-blocks p (wholeOf lowest-offset) y blocks (g .tried p q) z };
-  blocking-size = g .picks-size;
+  possible = f .above .possible;
+  finite = f .above .finite;
+  impossible = tried-impossible n m left right objective (d .last) (d .values) (d .picks) (f .tried) z;
+  blocking-size = f .tried .picks-size;
   counted = record { count = λ s k. refl };
 }
 

@@ -1,7 +1,7 @@
 -- The state of a search for the least span: what is known, and what one step of the search makes of it.
 use Prim.Native.Nat.{ℕ, _+_, _-_, _/_, _≤_, _<_}
 use mathlib.Core.Path.{_≡_}
-use mathlib.Core.Bool.{Bool, true, false}
+use mathlib.Core.Bool.{Bool}
 use mathlib.Core.List.{List}
 use lib.ListN.{length, getD}
 use lib.IntN.{ℤ}
@@ -44,11 +44,6 @@ pub record Searching (n m : ℕ) (left right objective : List ℕ) (s : Search) 
 -- The bracket is wider than 1.
 abbrev pub Wide : Search → Type 0
 Wide s = s .bracket .low + 1 < s .bracket .high
-
--- The outcome at t is known, and it is this.
-pub record Known (t : ℕ) (s : Search) (possible : Bool) : Type 0 where
-  pub yes : possible ≡ true → s .reached ≤ t
-  pub no : possible ≡ false → t ≤ s .blocked
 
 -- The trial at the middle was counted, with this outcome; all else stays.
 pub record MiddleCounted (s : Search) (possible : Bool) (r : Search) : Type 0 where

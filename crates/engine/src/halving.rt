@@ -1,4 +1,5 @@
-// The search for the least span: trials at the middles of a bracket. Document 01, "The engine" (Algorithm 1).
+// The search for the least span: the middles of a bracket, with a trial at those whose outcome is not known. Document 01,
+// "The engine" (Algorithm 1).
 ghost use mathlib.Core.Path.{_≡_};
 ghost use Prim.Native.Nat.{ℕ, _+_, _*_, _<_, _≤_};
 ghost use lib.ListN.{length, getD};
@@ -76,7 +77,7 @@ impl Search {
 }
 
 // One trial at t, between what is blocked and what is reached: it moves one of them.
-pub fn try_at(
+fn try_at(
     left: &[u64; 2048],
     right: &mut [u64; 2048],
     objective: &[u64; 32],
@@ -102,6 +103,25 @@ pub fn try_at(
         next.kept = picks;
     }
     next
+}
+
+// A trial one above what is blocked: there the search ends if the last guess was right.
+pub fn closer(
+    left: &[u64; 2048],
+    right: &mut [u64; 2048],
+    objective: &[u64; 32],
+    n: usize,
+    m: usize,
+    search: Search,
+) -> Search
+    requires { ⌜ Ready n m (now left) (now right) (now objective) × Searching n m (now left) (now right) (now objective) search ⌝ }
+    ensures { λ r. ⌜ Searching n m (now (left .entry)) (now (right .exit)) (now (objective .entry)) r × Ready n m (now (left .entry)) (now (right .exit)) (now (objective .entry)) × Steady m (now (right .entry)) (now (right .exit)) ⌝ }
+{
+    let t = search.blocked + 1;
+    if t < search.reached {
+        return try_at(left, right, objective, n, m, search, t);
+    }
+    search
 }
 
 // One step of a search whose bracket is wider than 1: a middle whose outcome is known is counted, at another a trial is made.
