@@ -38,8 +38,8 @@ use Rattle.duality.proofs.Numbers.{below-infeasible, above-unbounded, top-enoug
 use Rattle.duality.proofs.Classes.{value-exactly, optimal-exactly, infeasible-exactly, unbounded-exactly, optimal-range}
 use Rattle.duality.proofs.Stamps.{stamps-at-most-32}
 use Rattle.duality.proofs.Unused.{optimal-unused, infeasible-unused, unbounded-unused}
-use Rattle.records.specs.Decoded.{Near, Decoded}
-use Rattle.engine.specs.Tables.{systemOf, pointOf, pickOf, raised-limit}
+use Rattle.records.specs.Decoded.{Decoded}
+use Rattle.engine.specs.Tables.{systemOf, pointOf, pickOf}
 use Rattle.engine.specs.Filled.{Filled}
 use Rattle.engine.specs.Steps.{Tried}
 use Rattle.engine.specs.Trials.{wholeOf, zero-offset, top-offset, lowest-offset, Trialled, Raised, Steady, Question, Ready, TriedAt}
@@ -48,7 +48,7 @@ use Rattle.engine.specs.Shown.{VariablePicks, RowPicks, InducedRows}
 use Rattle.engine.specs.Answered.{Coefficients, Copied, Stamps, answerIn, Settled, Answered}
 use Rattle.engine.proofs.Small.{near-small}
 use Rattle.engine.proofs.Agree.{Agree, agree-side}
-use Rattle.engine.proofs.Trials.{agree-raised, raised-ready, raised-held, question-steady, tried-blocks, tried-solution}
+use Rattle.engine.proofs.Trials.{table-raised, agree-raised, raised-ready, raised-held, question-steady, tried-blocks, tried-solution}
 use Rattle.engine.proofs.Variables.{variables-agree, variables-idle, variables-most}
 use Rattle.engine.proofs.RowsOf.{rows-agree, rows-idle, rows-most}
 use Rattle.engine.proofs.Form.{cut-at, cut-strategy, cut-point, picks-fit, stamps-fit, no-stamps-fit, cut-count, cut-count-map}
@@ -357,7 +357,7 @@ coefficients-ready n m left right objective c o = record {
     width-most = omega (arith, c .n-most);
     rows-most = omega (arith, c .m-most);
     lefts = c .lefts;
-    rights = record { size = c .rights .size; near = λ k. wider (c .rights .near k) };
+    rights = table-raised (c .rights);
   };
   objective-size = o .size-is;
   objective-near = λ k. ⊎-elim
@@ -365,9 +365,6 @@ coefficients-ready n m left right objective c o = record {
       (λ (h : k < 32). rw (o .each k h) (c .rights .near (m * 32 + k)))
       (nat-le-or-lt 32 k);
 }
-  where
-    wider : {k : ℕ} → Near lead-limit k → Near raised-limit k
-    wider n = record { hi = omega (arith, n .hi); lo = λ h. let l = n .lo h in omega arith }
 
 -- The problem in the tables.
 decoded-question : (p : Problem) (n m : ℕ) (left right objective : List ℕ) → Decoded p left right → p .n ≡ n → p .m ≡ m → Copied right m 32 objective

@@ -15,7 +15,10 @@ use Rattle.definitions.specs.Bisection.{Bracket, Brackets, opening, middle, nex
 use Rattle.definitions.proofs.Whole.{whole, plus-read, subℕ-read, nat-le-or-lt}
 use Rattle.definitions.proofs.Bisection.{half-up-is, width-is, Inside, middle-inside, halved-stop, halved-on, following}
 use Rattle.engine.specs.Trials.{wholeOf, top-offset, lowest-offset, Trialled, Steady, KeptAt, TriedAt}
-use Rattle.engine.specs.Halving.{bracketOf, BlocksAt, Counted, Searching, LeastFound}
+use Rattle.engine.specs.declared.halving.Search.{Search}
+use Rattle.engine.specs.declared.descent.Descent.{Descent}
+use Rattle.engine.specs.Descent.{Descended}
+use Rattle.engine.specs.Halving.{bracketOf, BlocksAt, Counted, Searching, Wide, MiddleCounted, remaining, LeastFound}
 use Rattle.engine.proofs.Trials.{question-steady, steady-sym, tried-steady, kept-down, tried-blocks}
 
 -- ---- the middle
@@ -109,128 +112,210 @@ impossible-numbers low high low′ high′ e = (
   whole-injective high′ high (ap (λ (z : Bracket). z .high) e),
 )
 
--- ---- one halving
+-- ---- one trial
 
 blocks-steady : (n m t : ℕ) (left right right′ objective picks : List ℕ) → n ≤ 31 → Steady m right right′
     → BlocksAt n m left right objective t picks → BlocksAt n m left right′ objective t picks
 blocks-steady n m t left right right′ objective picks b s f =
     record { blocks = λ p q. f .blocks p (question-steady p n m left right′ right objective b (steady-sym s) q) }
 
--- The middle is a trial between the two outer ones.
-pub middle-trialled : (low high half : ℕ) → Trialled low → Trialled high → half ≡ (low + high + 1) / 2 → Trialled half
-middle-trialled low high half l h e = record { lowest = omega (arith, l .lowest, h .lowest); highest = omega (arith, l .highest, h .highest) }
+-- A trial that is not possible blocks.
+tried-impossible : (n m : ℕ) (left right objective : List ℕ) (t : ℕ) (x picks : List ℕ) → TriedAt n m left right objective t x picks → getD x 0 0 ≡ 0
+    → BlocksAt n m left right objective t picks
+tried-impossible n m left right objective t x picks f z = record { blocks = λ p q. tried-blocks p (wholeOf t) x picks (f .tried p q) z }
 
--- A trial at the middle starts from the strategy of the last possible trial.
-pub middle-kept : (n m : ℕ) (left right objective : List ℕ) (low high trials half : ℕ) (point kept blocking : List ℕ)
-    → Searching n m left right objective low high trials point kept blocking → half ≡ (low + high + 1) / 2
-    → KeptAt n m left right objective half kept
-middle-kept n m left right objective low high trials half point kept blocking s e =
-    kept-down n m half high left right objective point kept (omega (arith, s .ordered)) (s .possible)
+module _ (n m : ℕ) (left right objective : List ℕ) (s : Search) (k : Searching n m left right objective s) where
+  -- A trial between what is blocked and what is reached lies between the two outer ones,
+  pub between-trialled : (t : ℕ) → s .blocked < t → t < s .reached → Trialled t
+  between-trialled t l h = record {
+    lowest = omega (arith, k .low-trialled .lowest, k .low-most);
+    highest = omega (arith, k .high-trialled .highest, k .high-least);
+  }
 
--- Where the middle is possible, its point and its strategy are kept.
-pub searching-possible : (n m : ℕ) (left right right′ objective : List ℕ) (low high trials half low′ high′ : ℕ) (point kept blocking x picks : List ℕ)
-    → Searching n m left right objective low high trials point kept blocking → n ≤ 31 → Steady m right right′ → low + 1 < high
-    → half ≡ (low + high + 1) / 2 → TriedAt n m left right′ objective half x picks → 0 < getD x 0 0
-    → bracketOf low′ high′ ≡ next (bracketOf low high) true
-    → Searching n m left right′ objective low′ high′ (trials + 1) x picks blocking
-searching-possible n m left right right′ objective low high trials half low′ high′ point kept blocking x picks s b y w e f z d =
-    let g = possible-numbers low high low′ high′ d in
-    let u : half ≡ high′ = omega arith in
-    let c = counted-on low high w low′ high′ trials true d (s .counted) in
-    record {
-      low-trialled = rw (g .0) (s .low-trialled);
-      high-trialled = middle-trialled low high high′ (s .low-trialled) (s .high-trialled) (g .1);
-      ordered = omega arith;
-      few = omega (arith, s .few);
-      possible = subst (λ (t : ℕ). TriedAt n m left right′ objective t x picks) u f;
+  -- and starts from the strategy that was kept.
+  pub between-kept : (t : ℕ) → t < s .reached → KeptAt n m left right objective t (s .kept)
+  between-kept t h = kept-down n m t (s .reached) left right objective (s .point) (s .kept) (omega arith) (k .possible)
+
+  module _ (right′ : List ℕ) (t : ℕ) (x picks : List ℕ) (b : n ≤ 31) (y : Steady m right right′) (l : s .blocked < t) (h : t < s .reached) (f : TriedAt n m left right′ objective t x picks) where
+    -- Where it is possible, its point and its strategy are kept.
+    pub searching-possible : 0 < getD x 0 0
+        → Searching n m left right′ objective (record {
+          bracket = s .bracket;
+          trials = s .trials;
+          reached = t;
+          blocked = s .blocked;
+          point = x;
+          kept = picks;
+          blocking = s .blocking;
+        })
+    searching-possible z = record {
+      low-trialled = k .low-trialled;
+      high-trialled = k .high-trialled;
+      low-most = k .low-most;
+      apart = l;
+      high-least = omega (arith, k .high-least);
+      few = k .few;
+      possible = f;
       finite = z;
-      impossible = rw (g .0) (blocks-steady n m low left right right′ objective blocking b y (s .impossible));
-      blocking-size = s .blocking-size;
-      counted = c;
+      impossible = blocks-steady n m (s .blocked) left right right′ objective (s .blocking) b y (k .impossible);
+      blocking-size = k .blocking-size;
+      counted = k .counted;
     }
 
--- Where it is not, its strategy is the blocking one.
-pub searching-impossible : (n m : ℕ) (left right right′ objective : List ℕ) (low high trials half low′ high′ : ℕ) (point kept blocking x picks : List ℕ)
-    → Searching n m left right objective low high trials point kept blocking → n ≤ 31 → Steady m right right′ → low + 1 < high
-    → half ≡ (low + high + 1) / 2 → TriedAt n m left right′ objective half x picks → getD x 0 0 ≡ 0
-    → bracketOf low′ high′ ≡ next (bracketOf low high) false
-    → Searching n m left right′ objective low′ high′ (trials + 1) point kept picks
-searching-impossible n m left right right′ objective low high trials half low′ high′ point kept blocking x picks s b y w e f z d =
-    let g = impossible-numbers low high low′ high′ d in
-    let u : half ≡ low′ = omega arith in
-    let c = counted-on low high w low′ high′ trials false d (s .counted) in
-    record {
-      low-trialled = middle-trialled low high low′ (s .low-trialled) (s .high-trialled) (g .0);
-      high-trialled = rw (g .1) (s .high-trialled);
-      ordered = omega arith;
-      few = omega (arith, s .few);
-      possible = rw (g .1) (tried-steady n m high left right right′ objective point kept b y (s .possible));
-      finite = s .finite;
-      impossible = subst (λ (t : ℕ). BlocksAt n m left right′ objective t picks) u
-          (record { blocks = λ p q. tried-blocks p (wholeOf half) x picks (f .tried p q) z });
+    -- Where it is not, its strategy is the blocking one.
+    pub searching-impossible : getD x 0 0 ≡ 0
+        → Searching n m left right′ objective (record {
+          bracket = s .bracket;
+          trials = s .trials;
+          reached = s .reached;
+          blocked = t;
+          point = s .point;
+          kept = s .kept;
+          blocking = picks;
+        })
+    searching-impossible z = record {
+      low-trialled = k .low-trialled;
+      high-trialled = k .high-trialled;
+      low-most = omega (arith, k .low-most);
+      apart = h;
+      high-least = k .high-least;
+      few = k .few;
+      possible = tried-steady n m (s .reached) left right right′ objective (s .point) (s .kept) b y (k .possible);
+      finite = k .finite;
+      impossible = tried-impossible n m left right′ objective t x picks f z;
       blocking-size = f .picks-size;
-      counted = c;
+      counted = k .counted;
     }
+
+-- ---- one halving
+
+-- The outcome at t is known, and it is this.
+pub record Known (t : ℕ) (s : Search) (possible : Bool) : Type 0 where
+  pub yes : possible ≡ true → s .reached ≤ t
+  pub no : possible ≡ false → t ≤ s .blocked
+
+-- The next bracket holds what is known, and is narrower.
+record Narrower (s : Search) (low high : ℕ) : Type 0 where
+  pub low-up : s .bracket .low ≤ low
+  pub low-most : low ≤ s .blocked
+  pub high-least : s .reached ≤ high
+  pub high-down : high ≤ s .bracket .high
+  pub less : high - low < s .bracket .high - s .bracket .low
+
+-- The middle of a search's bracket.
+abbrev pub halfOf : Search → ℕ
+halfOf s = (s .bracket .low + s .bracket .high + 1) / 2
+
+narrower : (s r : Search) (t : Bool) → s .bracket .low ≤ s .blocked → s .blocked < s .reached → s .reached ≤ s .bracket .high → Wide s
+    → Known (halfOf s) s t → MiddleCounted s t r → Narrower s (r .bracket .low) (r .bracket .high)
+narrower s r true l a h w d g =
+    let e = possible-numbers (s .bracket .low) (s .bracket .high) (r .bracket .low) (r .bracket .high) (g .bracket-is) in
+    let u = d .yes refl in
+    record { low-up = omega arith; low-most = omega arith; high-least = omega arith; high-down = omega arith; less = omega arith }
+narrower s r false l a h w d g =
+    let e = impossible-numbers (s .bracket .low) (s .bracket .high) (r .bracket .low) (r .bracket .high) (g .bracket-is) in
+    let u = d .no refl in
+    record { low-up = omega arith; low-most = omega arith; high-least = omega arith; high-down = omega arith; less = omega arith }
+
+-- A trial is known to be possible from `reached` on, and to be impossible up to `blocked`.
+pub known-possible : (t : ℕ) (s : Search) → s .reached ≤ t → Known t s true
+known-possible t s h = record { yes = λ e. h; no = λ e. let z : _≡_ {A = ℕ} 0 1 = cc in absurd (omega arith) }
+
+pub known-impossible : (t : ℕ) (s : Search) → t ≤ s .blocked → Known t s false
+known-impossible t s h = record { yes = λ e. let z : _≡_ {A = ℕ} 0 1 = cc in absurd (omega arith); no = λ e. h }
+
+-- A middle whose outcome is known is counted.
+pub searching-halved : (n m : ℕ) (left right objective : List ℕ) (s r : Search) (t : Bool) → Searching n m left right objective s → Wide s
+    → Known (halfOf s) s t → MiddleCounted s t r → Searching n m left right objective r × (remaining r < remaining s)
+searching-halved n m left right objective s r t k w d g =
+    let a = narrower s r t (k .low-most) (k .apart) (k .high-least) w d g in
+    let c = counted-on (s .bracket .low) (s .bracket .high) w (r .bracket .low) (r .bracket .high) (s .trials) t (g .bracket-is) (k .counted) in (
+      record {
+        low-trialled = record { lowest = omega (arith, k .low-trialled .lowest, a .low-up); highest = omega (arith, k .high-trialled .highest, k .low-most, a .low-most, k .apart, k .high-least) };
+        high-trialled = record { lowest = omega (arith, k .low-trialled .lowest, k .low-most, k .apart, a .high-least); highest = omega (arith, k .high-trialled .highest, a .high-down) };
+        low-most = rw (g .blocked-is) (a .low-most);
+        apart = rw (g .blocked-is, g .reached-is) (k .apart);
+        high-least = rw (g .reached-is) (a .high-least);
+        few = omega (arith, k .few, a .less, g .trials-is);
+        possible = rw (g .reached-is, g .point-is, g .kept-is) (k .possible);
+        finite = rw (g .point-is) (k .finite);
+        impossible = rw (g .blocked-is, g .blocking-is) (k .impossible);
+        blocking-size = rw (g .blocking-is) (k .blocking-size);
+        counted = rw (g .trials-is) c;
+      },
+      rw (g .reached-is, g .blocked-is) (omega (arith, a .less)),
+    )
 
 -- A bracket that is not 1 wide is wider.
 pub wider : (low high : ℕ) → low < high → (high - low ≡ 1 → ⊥) → low + 1 < high
 wider low high h d = ⊎-elim (λ (l : high ≤ low + 1). absurd (d (omega arith))) (λ l. l) (nat-le-or-lt high (low + 1))
 
--- The bracket becomes narrower.
-pub narrower : (low high low′ high′ : ℕ) (t : Bool) → low + 1 < high → bracketOf low′ high′ ≡ next (bracketOf low high) t → high′ - low′ < high - low
-narrower low high low′ high′ true w d = let g = possible-numbers low high low′ high′ d in omega arith
-narrower low high low′ high′ false w d = let g = impossible-numbers low high low′ high′ d in omega arith
-
 -- ---- the two ends
 
--- The search starts with the two outer trials made.
-pub searching-start : (n m : ℕ) (left right right′ objective x picks y blocks : List ℕ) → n ≤ 31 → Steady m right right′
-    → TriedAt n m left right objective top-offset x picks → 0 < getD x 0 0
-    → TriedAt n m left right′ objective lowest-offset y blocks → getD y 0 0 ≡ 0
-    → Searching n m left right′ objective lowest-offset top-offset 2 x picks blocks
+-- The search starts where the descent ended with a trial that is not possible.
+pub searching-start : (n m : ℕ) (left right objective : List ℕ) (d : Descent) → Descended n m left right objective d → getD (d .values) 0 0 ≡ 0
+    → Searching n m left right objective (record {
+      bracket = record { low = lowest-offset; high = top-offset };
+      trials = 2;
+      reached = d .reached;
+      blocked = d .last;
+      point = d .point;
+      kept = d .kept;
+      blocking = d .picks;
+    })
 unfolding opening trials-optimal
-searching-start n m left right right′ objective x picks y blocks b s f h g z = record {
+searching-start n m left right objective d f z = record {
   low-trialled = record { lowest = omega arith; highest = omega arith };
   high-trialled = record { lowest = omega arith; highest = omega arith };
-  ordered = omega arith;
+  low-most = f .lowest;
+  apart = f .apart;
+  high-least = f .above .high;
   few = omega arith;
-  possible = tried-steady n m top-offset left right right′ objective x picks b s f;
-  finite = h;
-  impossible = record { blocks = λ p q. tried-blocks p (wholeOf lowest-offset) y blocks (g .tried p q) z };
-  blocking-size = g .picks-size;
+  possible = f .above .possible;
+  finite = f .above .finite;
+  impossible = tried-impossible n m left right objective (d .last) (d .values) (d .picks) (f .tried) z;
+  blocking-size = f .tried .picks-size;
   counted = record { count = λ s k. refl };
 }
 
 -- A bracket of width 1: high is the least span, and the trials made are those of the bisection.
-pub searching-end : (n m : ℕ) (left right objective : List ℕ) (low high trials : ℕ) (point kept blocking : List ℕ)
-    → Searching n m left right objective low high trials point kept blocking → high - low ≡ 1
-    → LeastFound n m left right objective high trials point blocking
-searching-end n m left right objective low high trials point kept blocking s e = record {
-  span-trialled = s .high-trialled;
-  kept = kept;
-  possible = s .possible;
-  finite = s .finite;
-  impossible = subst (λ (t : ℕ). BlocksAt n m left right objective t blocking) u (s .impossible);
-  blocking-size = s .blocking-size;
+pub searching-end : (n m : ℕ) (left right objective : List ℕ) (s : Search) → Searching n m left right objective s
+    → s .bracket .high - s .bracket .low ≡ 1 → LeastFound n m left right objective (s .bracket .high) (s .trials) (s .point) (s .blocking)
+searching-end n m left right objective s k e = record {
+  span-trialled = k .high-trialled;
+  kept = s .kept;
+  possible = rw u at (k .possible);
+  finite = k .finite;
+  impossible = rw v at (k .impossible);
+  blocking-size = k .blocking-size;
   count = count;
 }
   where
-    u : low ≡ high - 1
-    u = omega (arith, s .ordered)
+    low : ℕ
+    low = s .bracket .low
+
+    high : ℕ
+    high = s .bracket .high
+
+    u : s .reached ≡ high
+    u = omega (arith, k .low-most, k .apart, k .high-least)
+
+    v : s .blocked ≡ high - 1
+    v = omega (arith, k .low-most, k .apart, k .high-least)
+
+    apart : low < high
+    apart = omega (arith, k .low-most, k .apart, k .high-least)
 
     ordered : wholeOf low ≤ℤ wholeOf high
-    ordered = omega (whole, s .ordered, subℕ-read low signed-half, subℕ-read high signed-half)
+    ordered = omega (whole, subℕ-read low signed-half, subℕ-read high signed-half)
 
     narrow : width (bracketOf low high) ≡ 1
-    narrow = omega (arith, s .ordered, width-is (bracketOf low high) ordered, subℕ-read low signed-half, subℕ-read high signed-half)
+    narrow = omega (arith, width-is (bracketOf low high) ordered, subℕ-read low signed-half, subℕ-read high signed-half)
 
     brackets : Brackets (bracketOf low high) (wholeOf high)
-    brackets = record {
-      above = omega (whole, s .ordered, subℕ-read low signed-half, subℕ-read high signed-half);
-      within = omega whole;
-    }
+    brackets = record { above = omega (whole, subℕ-read low signed-half, subℕ-read high signed-half); within = omega whole }
 
-    count : trials-optimal (wholeOf high) ≡ trials
+    count : trials-optimal (wholeOf high) ≡ s .trials
     count =
         let h : halved (bracketOf low high) (wholeOf high) .halvings ≡ 0 = ap (λ (z : Halved). z .halvings) (halved-stop (bracketOf low high) (wholeOf high) narrow) in
-        omega (arith, s .counted .count (wholeOf high) brackets)
+        omega (arith, k .counted .count (wholeOf high) brackets)

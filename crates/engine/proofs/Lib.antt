@@ -5,6 +5,8 @@ pub mod Rounds
 pub mod Steps
 pub mod Agree
 pub mod Trials
+pub mod Heights
+pub mod Descents
 pub mod Halves
 pub mod Marks
 pub mod Shown

@@ -27,7 +27,7 @@ use Rattle.duality.specs.Values.{Policy}
 use Rattle.duality.proofs.Ends.{idle, empty-policy, blank-blocks}
 use Rattle.duality.proofs.Warm.{stays-down-at}
 use Rattle.records.specs.Decoded.{Near}
-use Rattle.engine.specs.Tables.{entryOf, systemOf, pointOf, pickOf, raised-limit}
+use Rattle.engine.specs.Tables.{entryOf, systemOf, pointOf, pickOf, raised-limit, Table}
 use Rattle.engine.specs.Steps.{Tried}
 use Rattle.engine.specs.Trials.{wholeOf, zero-offset, Trialled, shifted, Raised, Steady, Question, Ready, At, KeptAt, TriedAt, Held}
 use Rattle.engine.proofs.Filled.{filled-map, filled-end}
@@ -67,6 +67,10 @@ shifted-near k t n b = ⊎-elim
     (eq-zero-or-pos k)
 
 -- ---- the row raised
+
+-- A table that was not raised is within the limit of raised ones.
+pub table-raised : {table : List ℕ} → Table lead-limit table → Table raised-limit table
+table-raised t = record { size = t .size; near = λ k. record { hi = omega (arith, t .near k .hi); lo = λ h. omega (arith, t .near k .lo h) } }
 
 pub raised-none : (before objective : List ℕ) (row t : ℕ) → length before ≡ 2048 → Raised before objective row t 0 before
 raised-none before objective row t l = record {

@@ -3,6 +3,7 @@ pub mod Filled
 pub mod Rounds
 pub mod Steps
 pub mod Trials
+pub mod Descent
 pub mod Halving
 pub mod Marks
 pub mod Shown

@@ -7,8 +7,12 @@ ghost use Rattle.engine.specs.Trials.{zero-offset, top-offset, lowest-of
 ghost use Rattle.engine.specs.Halving.{Searching};
 ghost use Rattle.engine.specs.Answered.{Coefficients, Copied, Stamps, Settled, Answered};
 use crate::bracket::Bracket;
+use crate::descent::LOWEST;
+use crate::descent::TOP;
+use crate::descent::descend;
 use crate::halving::Search;
 use crate::halving::attempt;
+use crate::halving::closer;
 use crate::halving::halve;
 use crate::halving::raise;
 use crate::picks::induced;
@@ -17,12 +21,6 @@ use crate::picks::variable_picks;
 use crate::policy::Outcome;
 use crate::values::gap;
 use records::limits::OFFSET;
-use records::limits::SPAN_LIMIT;
-
-// The two outer trials as offset numbers: 645,120 and −645,121.
-const TOP: u64 = OFFSET + SPAN_LIMIT;
-
-const LOWEST: u64 = OFFSET - SPAN_LIMIT - 1;
 
 // Class (1 least, 2 bottomless, 3 none), span and stamps as offset numbers, trials made, and picks. Stamps and picks
 // count as far as the class has them.
@@ -123,10 +121,11 @@ fn optimal(
     m: usize,
     search: Search,
 ) -> Answer
-    requires { ⌜ Ready n m (now left) (now right) (now objective) × Searching n m (now left) (now right) (now objective) (search .bracket .low) (search .bracket .high) (search .trials) (search .point) (search .kept) (search .blocking) ⌝ }
+    requires { ⌜ Ready n m (now left) (now right) (now objective) × Searching n m (now left) (now right) (now objective) search ⌝ }
     ensures { λ r. ⌜ Settled n m (now (left .entry)) (now (right .entry)) (now (objective .entry)) (r .class) (r .span) (r .trials) (r .stamps) (r .picks) ⌝ }
 {
-    let least = halve(left, right, objective, n, m, search);
+    let near = closer(left, right, objective, n, m, search);
+    let least = halve(left, right, objective, n, m, near);
     raise(right, objective, m, OFFSET);
     let point = least.point;
     let blocking = least.blocking;
@@ -150,27 +149,29 @@ pub fn solve_tables(left: &[u32; 2048], right: &mut [u32; 2048], n: usize, m: us
     let rows = m + 1;
     let empty = [rows; 32];
     let top = attempt(left, right, &objective, n, m, TOP, empty);
-    let point = top.values;
-    let kept = top.picks;
-    if point[0] == 0 {
+    let first = top.values;
+    if first[0] == 0 {
         return infeasible(left, right, &objective, n, m, top);
     }
-    let lowest = attempt(left, right, &objective, n, m, LOWEST, kept);
-    let values = lowest.values;
-    let blocking = lowest.picks;
+    let found = descend(left, right, &objective, n, m, top);
+    let values = found.values;
+    let picks = found.picks;
     if values[0] != 0 {
-        return unbounded(left, right, &objective, n, m, lowest);
+        return unbounded(left, right, &objective, n, m, Outcome { values, picks });
     }
-    let bracket = Bracket {
-        low: LOWEST,
-        high: TOP,
-    };
+    let point = found.point;
+    let kept = found.kept;
     let search = Search {
-        bracket,
+        bracket: Bracket {
+            low: LOWEST,
+            high: TOP,
+        },
         trials: 2,
+        reached: found.reached,
+        blocked: found.last,
         point,
         kept,
-        blocking,
+        blocking: picks,
     };
     optimal(left, right, &objective, n, m, search)
 }

@@ -1,11 +1,12 @@
-// The search for the least span: trials at the middles of a bracket. Document 01, "The engine" (Algorithm 1).
+// The search for the least span: the middles of a bracket, with a trial at those whose outcome is not known. Document 01,
+// "The engine" (Algorithm 1).
 ghost use mathlib.Core.Path.{_≡_};
-ghost use Prim.Native.Nat.{ℕ, _+_, _*_, _-_, _<_};
+ghost use Prim.Native.Nat.{ℕ, _+_, _*_, _<_, _≤_};
 ghost use lib.ListN.{length, getD};
 ghost use Rattle.definitions.specs.Limits.{lead-limit};
 ghost use Rattle.records.specs.Decoded.{Near};
 ghost use Rattle.engine.specs.Trials.{Trialled, shifted, Raised, Steady, Ready, KeptAt, TriedAt};
-ghost use Rattle.engine.specs.Halving.{Searching, LeastFound};
+ghost use Rattle.engine.specs.Halving.{Searching, Wide, MiddleCounted, remaining, LeastFound};
 use crate::bracket::Bracket;
 use crate::policy::Outcome;
 use crate::policy::trial;
@@ -52,17 +53,81 @@ pub fn attempt(
     trial(left, right, picks, n + 1, m + 1)
 }
 
-// The state of a search: the bracket, the trials made, the point and the strategy of the last possible trial, and the
-// strategy of the last impossible one.
+// The state of a search: the bracket and the trials counted; `reached` is possible, with this point and the strategy that
+// was kept there; `blocked` is not, by the blocking strategy.
 pub struct Search {
     pub bracket: Bracket,
     pub trials: u64,
+    pub reached: u64,
+    pub blocked: u64,
     pub point: [u64; 32],
     pub kept: [usize; 32],
     pub blocking: [usize; 32],
 }
 
-// One trial at the middle of a search's bracket, which is wider than 1.
+impl Search {
+    // The trial at the middle, with this outcome, is counted.
+    pub fn halved(mut self, possible: bool) -> Search
+        requires { ⌜ Trialled (self .bracket .low) × Trialled (self .bracket .high) × (self .trials ≤ 2000000) ⌝ }
+        ensures { λ r. ⌜ MiddleCounted self possible r ⌝ }
+    {
+        let bracket = self.bracket;
+        let next = bracket.next(possible);
+        self.bracket = next;
+        self.trials += 1;
+        self
+    }
+}
+
+// One trial at t, between what is blocked and what is reached: it moves one of them.
+fn try_at(
+    left: &[u64; 2048],
+    right: &mut [u64; 2048],
+    objective: &[u64; 32],
+    n: usize,
+    m: usize,
+    search: Search,
+    t: u64,
+) -> Search
+    requires { ⌜ Ready n m (now left) (now right) (now objective) × Searching n m (now left) (now right) (now objective) search × (search .blocked < t) × (t < search .reached) ⌝ }
+    ensures { λ r. ⌜ Searching n m (now (left .entry)) (now (right .exit)) (now (objective .entry)) r × (remaining r < remaining search) × Ready n m (now (left .entry)) (now (right .exit)) (now (objective .entry)) × Steady m (now (right .entry)) (now (right .exit)) ⌝ }
+{
+    let mut next = search;
+    let kept = search.kept;
+    let tried = attempt(left, right, objective, n, m, t, kept);
+    let values = tried.values;
+    let picks = tried.picks;
+    if values[0] == 0 {
+        next.blocked = t;
+        next.blocking = picks;
+    } else {
+        next.reached = t;
+        next.point = values;
+        next.kept = picks;
+    }
+    next
+}
+
+// A trial one above what is blocked: there the search ends if the last guess was right.
+pub fn closer(
+    left: &[u64; 2048],
+    right: &mut [u64; 2048],
+    objective: &[u64; 32],
+    n: usize,
+    m: usize,
+    search: Search,
+) -> Search
+    requires { ⌜ Ready n m (now left) (now right) (now objective) × Searching n m (now left) (now right) (now objective) search ⌝ }
+    ensures { λ r. ⌜ Searching n m (now (left .entry)) (now (right .exit)) (now (objective .entry)) r × Ready n m (now (left .entry)) (now (right .exit)) (now (objective .entry)) × Steady m (now (right .entry)) (now (right .exit)) ⌝ }
+{
+    let t = search.blocked + 1;
+    if t < search.reached {
+        return try_at(left, right, objective, n, m, search, t);
+    }
+    search
+}
+
+// One step of a search whose bracket is wider than 1: a middle whose outcome is known is counted, at another a trial is made.
 pub fn step(
     left: &[u32; 2048],
     right: &mut [u32; 2048],
@@ -71,34 +136,18 @@ pub fn step(
     m: usize,
     search: Search,
 ) -> Search
-    requires { ⌜ Ready n m (now left) (now right) (now objective) × Searching n m (now left) (now right) (now objective) (search .bracket .low) (search .bracket .high) (search .trials) (search .point) (search .kept) (search .blocking) × (search .bracket .low + 1 < search .bracket .high) ⌝ }
-    ensures { λ r. ⌜ Searching n m (now (left .entry)) (now (right .exit)) (now (objective .entry)) (r .bracket .low) (r .bracket .high) (r .trials) (r .point) (r .kept) (r .blocking) × (r .bracket .high - r .bracket .low < search .bracket .high - search .bracket .low) × Ready n m (now (left .entry)) (now (right .exit)) (now (objective .entry)) × Steady m (now (right .entry)) (now (right .exit)) ⌝ }
+    requires { ⌜ Ready n m (now left) (now right) (now objective) × Searching n m (now left) (now right) (now objective) search × Wide search ⌝ }
+    ensures { λ r. ⌜ Searching n m (now (left .entry)) (now (right .exit)) (now (objective .entry)) r × (remaining r < remaining search) × Ready n m (now (left .entry)) (now (right .exit)) (now (objective .entry)) × Steady m (now (right .entry)) (now (right .exit)) ⌝ }
 {
     let bracket = search.bracket;
-    let kept = search.kept;
-    let point = search.point;
-    let blocking = search.blocking;
-    let trials = search.trials + 1;
-    let tried = attempt(left, right, objective, n, m, bracket.middle(), kept);
-    let values = tried.values;
-    let picks = tried.picks;
-    if values[0] == 0 {
-        Search {
-            bracket: bracket.next(false),
-            trials,
-            point,
-            kept,
-            blocking: picks,
-        }
-    } else {
-        Search {
-            bracket: bracket.next(true),
-            trials,
-            point: values,
-            kept: picks,
-            blocking,
-        }
+    let half = bracket.middle();
+    if search.reached <= half {
+        return search.halved(true);
     }
+    if half <= search.blocked {
+        return search.halved(false);
+    }
+    try_at(left, right, objective, n, m, search, half)
 }
 
 // The least span with the trials made, its point, and a strategy that blocks one below it.
@@ -118,7 +167,7 @@ pub fn halve(
     m: usize,
     start: Search,
 ) -> Least
-    requires { ⌜ Ready n m (now left) (now right) (now objective) × Searching n m (now left) (now right) (now objective) (start .bracket .low) (start .bracket .high) (start .trials) (start .point) (start .kept) (start .blocking) ⌝ }
+    requires { ⌜ Ready n m (now left) (now right) (now objective) × Searching n m (now left) (now right) (now objective) start ⌝ }
     ensures { λ r. ⌜ LeastFound n m (now (left .entry)) (now (right .exit)) (now (objective .entry)) (r .span) (r .trials) (r .point) (r .blocking) × Steady m (now (right .entry)) (now (right .exit)) × Ready n m (now (left .entry)) (now (right .exit)) (now (objective .entry)) ⌝ }
 {
     let mut search = start;

@@ -2,6 +2,8 @@
 // Document 01, "The engine".
 pub mod answer;
 pub mod bracket;
+pub mod descent;
+pub mod guess;
 pub mod halving;
 pub mod input;
 pub mod picks;

@@ -1,7 +1,7 @@
-use Prim.Native.Nat.{_-_}
+use native.Mathlib.Omega.{arith}
 use mathlib.Core.Bool.{true, false}
-use Rattle.engine.proofs.Filled.{positive}
-use Rattle.engine.proofs.Halves.{middle-trialled, middle-kept, searching-possible, searching-impossible, narrower}
+use Rattle.engine.proofs.Trials.{steady-refl}
+use Rattle.engine.proofs.Halves.{halfOf, known-possible, known-impossible, searching-halved}
 use borrow.Author.Needs.{needs}
 use Rattle.engine.proofs.halving.step.Statement.{statement}
 use Rattle.engine.proofs.halving.step.Tie as tie
@@ -10,22 +10,14 @@ pub step-spec : {M : Type 1} → statement M
 step-spec =
     tie.close
     (tie.spec
-    (λ c. search needs)
-    (λ c κs. search needs)
-    (λ c κs. let a = c .before .before .before .before .before .before .before .args in let p = c .before .before .before .before .before .before .before .pre in let e = c .middle .ensures .1 .is in
-    (p .0, middle-trialled (a .search .bracket .low) (a .search .bracket .high) (c .middle .result) (p .1 .low-trialled) (p .1 .high-trialled) e, middle-kept (a .n) (a .m) (a .left .now) (a .right .now) (a .objective .now) (a .search .bracket .low) (a .search .bracket .high) (a .search .trials) (c .middle .result) (a .search .point) (a .search .kept) (a .search .blocking) (p .1) e))
-    (λ c. search needs)
     (λ c κs. search needs)
     (λ c κs. search needs)
-    (λ c. let a = c .before .before .before .before .before .before .before .before .before .before .before .before .args in let p = c .before .before .before .before .before .before .before .before .before .before .before .before .pre in let e = c .before .before .before .before .attempt .ensures in (
-      searching-impossible (a .n) (a .m) (a .left .now) (a .right .now) (c .before .before .before .before .attempt .last .1 .0) (a .objective .now) (a .search .bracket .low) (a .search .bracket .high) (a .search .trials) (c .before .before .before .before .before .middle .result) (c .next .result .low) (c .next .result .high) (a .search .point) (a .search .kept) (a .search .blocking) (c .before .before .before .before .attempt .result .values) (c .before .before .before .before .attempt .result .picks) (p .1) (p .0 .n-most) (e .1) (p .2) (c .before .before .before .before .before .middle .ensures .1 .is) (e .0) (c .before .if1 .taken) (c .next .ensures),
-      narrower (a .search .bracket .low) (a .search .bracket .high) (c .next .result .low) (c .next .result .high) false (p .2) (c .next .ensures),
-      e .2,
-      e .1,
-    ))
-    (λ c. let a = c .before .before .before .before .before .before .before .before .before .before .before .before .args in let p = c .before .before .before .before .before .before .before .before .before .before .before .before .pre in let e = c .before .before .before .before .attempt .ensures in (
-      searching-possible (a .n) (a .m) (a .left .now) (a .right .now) (c .before .before .before .before .attempt .last .1 .0) (a .objective .now) (a .search .bracket .low) (a .search .bracket .high) (a .search .trials) (c .before .before .before .before .before .middle .result) (c .next2 .result .low) (c .next2 .result .high) (a .search .point) (a .search .kept) (a .search .blocking) (c .before .before .before .before .attempt .result .values) (c .before .before .before .before .attempt .result .picks) (p .1) (p .0 .n-most) (e .1) (p .2) (c .before .before .before .before .before .middle .ensures .1 .is) (e .0) (positive _ (c .before .if1 .left)) (c .next2 .ensures),
-      narrower (a .search .bracket .low) (a .search .bracket .high) (c .next2 .result .low) (c .next2 .result .high) true (p .2) (c .next2 .ensures),
-      e .2,
-      e .1,
-    )))
+    (λ c. let a = c .before .before .before .before .before .args in let p = c .before .before .before .before .before .pre in let e = c .before .before .before .middle .ensures .1 .is in let s = a .search in
+    let h = searching-halved (a .n) (a .m) (a .left .now) (a .right .now) (a .objective .now) s (c .halved .result) true (p .1) (p .2) (known-possible (halfOf s) s (omega (arith, c .before .if1 .taken))) (c .halved .ensures) in
+    (h .0, h .1, p .0, steady-refl))
+    (λ c κs. search needs)
+    (λ c. let a = c .before .before .before .before .before .before .before .args in let p = c .before .before .before .before .before .before .before .pre in let e = c .before .before .before .before .before .middle .ensures .1 .is in let s = a .search in
+    let h = searching-halved (a .n) (a .m) (a .left .now) (a .right .now) (a .objective .now) s (c .halved2 .result) false (p .1) (p .2) (known-impossible (halfOf s) s (omega (arith, c .before .if2 .taken))) (c .halved2 .ensures) in
+    (h .0, h .1, p .0, steady-refl))
+    (λ c κs. search needs)
+    (λ c. search needs))

@@ -1,0 +1,18 @@
+use native.Mathlib.Omega.{arith}
+use Rattle.engine.proofs.Filled.{positive}
+use borrow.Author.Needs.{needs}
+use Rattle.engine.proofs.guess.asked.Statement.{statement}
+use Rattle.engine.proofs.guess.asked.Tie as tie
+
+pub asked-spec : {M : Type 1} → statement M
+asked-spec =
+    tie.close
+    (tie.spec
+    (λ c. search needs)
+    (λ c. search needs)
+    (λ c. omega (arith, c .before .pre .1 (positive _ (c .if1 .left)), c .before .pre .2 .hi))
+    (λ c. search needs)
+    (λ c. search needs)
+    (λ c. search needs)
+    (λ c. search needs)
+    (λ c. search needs))

@@ -1,0 +1,29 @@
+use native.Mathlib.Omega.{arith}
+use lib.ListN.{getD}
+use Rattle.engine.proofs.Filled.{positive}
+use Rattle.engine.proofs.Trials.{table-raised}
+use borrow.Author.Needs.{needs}
+use Rattle.engine.proofs.guess.guess.Statement.{statement}
+use Rattle.engine.proofs.guess.guess.Tie as tie
+
+pub guess-spec : {M : Type 1} → statement M
+guess-spec =
+    tie.close
+    (tie.spec
+    (λ c. search needs)
+    (λ c. search needs)
+    (λ c κs. search needs)
+    (λ c. search needs)
+    (λ c. search needs)
+    (λ c. search needs)
+    (λ c. search needs)
+    (λ c κs. search needs)
+    (λ c. search needs)
+    (λ c κs. let p = c .before .before .before .before .before .pre in (omega (arith, p .0 .m-most), omega (arith, p .0 .n-most), table-raised (p .0 .tables .lefts), c .before .lifted .ensures))
+    (λ c. search needs)
+    (λ c. search needs)
+    (λ c. search needs)
+    (λ c. search needs)
+    (λ c. let s = c .before .before .before .before .before .before .before .before in omega (arith, c .before .before .side .ensures .least (positive _ (c .before .if2 .left)), s .pre .0 .objective-near (getD (c .before .before .before .before .before .before .before .induced .result) (s .args .m) 0) .hi))
+    (λ c. let s = c .before .before .before .before .before .before .before .before in omega (arith, c .before .before .side .ensures .least (positive _ (c .before .if2 .left)), s .pre .0 .objective-near (getD (c .before .before .before .before .before .before .before .induced .result) (s .args .m) 0) .hi))
+    (λ c. search needs))

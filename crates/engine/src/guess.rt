@@ -1,0 +1,120 @@
+// A guess at the next trial, by Newton's method on strategies of rows: each row keeps to a right variable that attains its
+// right side at a point; the least span with these targets alone is a question of longest walks. Nothing is promised of
+// a guess: trials decide.
+ghost use mathlib.Core.Path.{_≡_};
+ghost use Prim.Native.Nat.{_+_, _<_, _≤_};
+ghost use lib.ListN.{length};
+ghost use Rattle.records.specs.Decoded.{Near};
+ghost use Rattle.engine.specs.Tables.{raised-limit, value-limit, fold-limit, fold-least, Ranged, Tables};
+ghost use Rattle.engine.specs.Trials.{Ready};
+use crate::picks::induced;
+use crate::values::side;
+use records::limits::OFFSET;
+
+// Heights from −2²⁵ to 2²⁵ are kept.
+const FARTHEST: u64 = 33554432;
+
+// The height that a row of this left side asks of its target, whose right coefficient is this; blank where there is none or
+// it is out of range.
+fn asked(side: u64, right: u64) -> u64
+    requires { ⌜ (side ≤ fold-limit) × (0 < side → fold-least ≤ side) × Near raised-limit right ⌝ }
+    ensures { λ r. ⌜ Near value-limit r ⌝ }
+{
+    if side == 0 {
+        return 0;
+    }
+    let height = side + OFFSET - right;
+    if height < OFFSET - FARTHEST {
+        return 0;
+    }
+    if OFFSET + FARTHEST < height {
+        return 0;
+    }
+    height
+}
+
+// Heights after a round, and whether one rose.
+pub struct Round {
+    pub heights: [u64; 32],
+    pub moved: bool,
+}
+
+// One round over the rules: targets rise to what is asked of them.
+fn lift(
+    left: &[u64; 2048],
+    right: &[u64; 2048],
+    targets: &[usize; 64],
+    before: [u64; 32],
+    width: usize,
+    rules: usize,
+) -> Round
+    requires { ⌜ Tables (now left) (now right) width (rules + 1) × (length (now targets) ≡ 64) × Ranged before ⌝ }
+    ensures { λ r. ⌜ Ranged (r .heights) ⌝ }
+{
+    let mut heights = before;
+    let mut moved = false;
+    let mut i = 0;
+    while i < rules {
+        let l = targets[i];
+        if l < width {
+            let height = asked(side(left, i, &heights, width), right[i * 32 + l]);
+            if heights[l] < height {
+                heights[l] = height;
+                moved = true;
+            }
+        }
+        i += 1;
+    }
+    Round { heights, moved }
+}
+
+// The heights that the rules ask for where the variable `start` is at 0: rounds until one changes nothing.
+fn lifted(
+    left: &[u64; 2048],
+    right: &[u64; 2048],
+    targets: &[usize; 64],
+    start: usize,
+    width: usize,
+    rules: usize,
+) -> [u64; 32]
+    requires { ⌜ Tables (now left) (now right) width (rules + 1) × (length (now targets) ≡ 64) × (start < 32) ⌝ }
+    ensures { λ r. ⌜ Ranged r ⌝ }
+{
+    let mut heights = [0u64; 32];
+    heights[start] = OFFSET;
+    let mut rounds: usize = 0;
+    while rounds < 32 {
+        let round = lift(left, right, targets, heights, width, rules);
+        let next = round.heights;
+        if !round.moved {
+            return next;
+        }
+        heights = next;
+        rounds += 1;
+    }
+    heights
+}
+
+// One below the least span with the targets of a point; 0 where there is no least.
+pub fn guess(
+    left: &[u64; 2048],
+    right: &[u64; 2048],
+    objective: &[u64; 32],
+    n: usize,
+    m: usize,
+    point: &[u64; 32],
+) -> u64
+    requires { ⌜ Ready n m (now left) (now right) (now objective) × Ranged (now point) ⌝ }
+{
+    let targets = induced(right, point, n + 1, m + 1);
+    let target = targets[m];
+    if n < target {
+        return 0;
+    }
+    let heights = lifted(left, right, &targets, target, n + 1, m);
+    let first = side(left, m, &heights, n + 1);
+    if first == 0 {
+        return 0;
+    }
+    first + OFFSET - objective[target] - 1
+}
