@@ -6,7 +6,7 @@ use mathlib.Core.Logic.{⊎-elim}
 use mathlib.Core.List.{List}
 use native.Mathlib.Omega.{arith}
 use native.Mathlib.Nat.{eq-zero-or-pos}
-use borrow.Author.Tests.{eq-eqb, ne-eqb}
+use borrow.Author.Tests.{eq-eqb, ne-eqb, le-leb, lt-leb}
 use lib.Dec.{eqb, leb}
 use Rattle.definitions.specs.Limits.{lead-limit, signed-half, signed-full, problem-header}
 use Rattle.definitions.specs.Bytes.{numAt, numsAt, tropField, all, blank-or-within}
@@ -15,9 +15,20 @@ use Rattle.definitions.proofs.Offset.{trop-off, within-offset}
 use Rattle.records.specs.Tables.{runFits}
 
 -- The test of a field, on its offset number.
-pub lead-offset : (w k : ℕ) → w < signed-full → k ≡ off w
+lead-offset : (w k : ℕ) → w < signed-full → k ≡ off w
     → blank-or-within lead-limit (tropField w) ≡ (eqb k 0 || (leb signed-half (k + lead-limit) && leb k (signed-half + lead-limit)))
 lead-offset w k h e = ap (blank-or-within lead-limit) (sym (trop-off w h)) ∙ rw (← e) (within-offset lead-limit k (omega arith))
+
+-- The test of a field by the limits of its offset number.
+module _ {w k : ℕ} (h : w < signed-full) (e : k ≡ off w) where
+  pub lead-blank : k ≡ 0 → true ≡ blank-or-within lead-limit (tropField w)
+  lead-blank z = sym (lead-offset w k h e ∙ rw (eq-eqb k 0 z))
+
+  pub lead-low : (k ≡ 0 → ⊥) → k < signed-half - lead-limit → false ≡ blank-or-within lead-limit (tropField w)
+  lead-low d l = sym (lead-offset w k h e ∙ rw (ne-eqb k 0 d, lt-leb signed-half (k + lead-limit) (omega arith)))
+
+  pub lead-rest : (k ≡ 0 → ⊥) → signed-half - lead-limit ≤ k → leb k (signed-half + lead-limit) ≡ blank-or-within lead-limit (tropField w)
+  lead-rest d l = sym (lead-offset w k h e ∙ rw (ne-eqb k 0 d, le-leb signed-half (k + lead-limit) (omega arith)))
 
 -- The count of misfits of one field.
 pub misfit-none : {b r : Bool} → r ≡ b → r ≡ true → (_≡_ {A = ℕ} 0 (cond b 0 1)) × (0 ≤ 1)

@@ -101,24 +101,27 @@ pub fn read_header(bytes: &[u8], size: usize) -> Header
     answered(judge(size, length, kind, n, m), n, m)
 }
 
+// The offset numbers of the lowest and the highest lead.
+const LOWEST_LEAD: u32 = (OFFSET - LEAD_LIMIT) as u32;
+
+const HIGHEST_LEAD: u32 = (OFFSET + LEAD_LIMIT) as u32;
+
 // A 4-byte field holds a lead: blank, or within the limit.
-fn lead_fits(w: u64) -> bool
-    requires { ⌜ w < 4294967296 ⌝ }
+fn lead_fits(w: u32) -> bool
     ensures { λ r. ⌜ r ≡ blank-or-within lead-limit (tropField w) ⌝ }
 {
-    let k = offset(w);
+    let k = offset(w as u64) as u32;
     if k == 0 {
         return true;
     }
-    if k + LEAD_LIMIT < OFFSET {
+    if k < LOWEST_LEAD {
         return false;
     }
-    k <= OFFSET + LEAD_LIMIT
+    k <= HIGHEST_LEAD
 }
 
 // 0 where a 4-byte field holds a lead, else 1.
-fn misfit(w: u64) -> u32
-    requires { ⌜ w < 4294967296 ⌝ }
+fn misfit(w: u32) -> u32
     ensures { λ r. ⌜ (r ≡ cond (blank-or-within lead-limit (tropField w)) 0 1) × (r ≤ 1) ⌝ }
 {
     if lead_fits(w) { 0 } else { 1 }
@@ -133,7 +136,7 @@ fn leads_fit(bytes: &[u8], count: usize) -> bool
     let mut at = PROBLEM_HEADER;
     let mut misfits = 0u32;
     for _ in 0..count {
-        misfits += misfit(word_in(bytes, at));
+        misfits += misfit(word_in(bytes, at) as u32);
         at += LEAD_BYTES;
     }
     misfits == 0

@@ -1,6 +1,6 @@
-use Rattle.records.proofs.Tests.{tests}
-use Rattle.records.proofs.Leads.{lead-offset}
+use native.Mathlib.Omega.{arith}
 use borrow.Author.Needs.{needs}
+use Rattle.records.proofs.Leads.{lead-blank, lead-low, lead-rest}
 use Rattle.records.proofs.problem.lead_fits.Statement.{statement}
 use Rattle.records.proofs.problem.lead_fits.Tie as tie
 
@@ -8,8 +8,7 @@ pub lead-fits-spec : {M : Type 1} → statement M
 lead-fits-spec =
     tie.close (tie.spec
     (λ c κs. search needs)
-    (λ c. search (tests, lead-offset _ _ (c .before .before .pre) (c .before .offset .ensures .0)))
     (λ c. search needs)
-    (λ c. search (tests, lead-offset _ _ (c .before .before .before .pre) (c .before .before .offset .ensures .0)))
-    (λ c. search needs)
-    (λ c. search (tests, lead-offset _ _ (c .before .before .before .pre) (c .before .before .offset .ensures .0))))
+    (λ c. lead-blank (omega (arith, c .before .before .fits)) (c .before .offset .ensures .0) (c .if1 .taken))
+    (λ c. lead-low (omega (arith, c .before .before .before .fits)) (c .before .before .offset .ensures .0) (c .before .if1 .left) (c .if2 .taken))
+    (λ c. lead-rest (omega (arith, c .before .before .before .fits)) (c .before .before .offset .ensures .0) (c .before .if1 .left) (c .if2 .left)))

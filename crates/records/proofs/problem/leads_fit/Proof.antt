@@ -18,6 +18,7 @@ leads-fit-spec =
     μ-loop
     (λ c. search judged-none)
     (λ c κs. search needs)
+    (λ c. search needs)
     (λ c κs. search needs)
     (λ c. search needs)
     (λ c. search needs)
