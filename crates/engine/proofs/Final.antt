@@ -174,7 +174,7 @@ unbounded-settled n m left right lowered right′ objective x kept rows out stam
         let s = systemAt p (lower span-limit) in
         let g = agree-raised p n m lowest-offset left right objective lowered q y lowest r in
         let i = rows-induced left lowered x rows n m s g d in
-        let b : Saves s Anchor (pickOf rows) = solution-saves s (pointOf x) (pickOf rows) (t .solves) i Anchor
+        let b : Saves s Anchor (pickOf rows) = solution-saves s (pointOf x) (pickOf rows) (t .solves z) i Anchor
         (λ j e. (rw e (first-inside p (lower span-limit)), rw e (record { whole = wholeOf (getD x 0 0); is = trop-fin (getD x 0 0) z }))) in
         let c = save-picks p (lower span-limit) (picks-joined (pickOf rows) (suc (p .n)) (suc (p .m))) b in
         let h = above-unbounded p lead-limit span-limit (picksFrom (pickOf rows) (suc (p .n))) w (enough p n (q .n-is) (y .n-most))
@@ -273,7 +273,7 @@ optimal-settled n m left right right′ objective span trials point blocking out
     blocks p q = subst (λ (t : ℤ). Blocks (systemAt p t) Anchor (pickOf blocking)) (below-whole span some) (f .impossible .blocks p q)
 
     solves : (p : Problem) → Question p n m left right objective → Solves (systemAt p (wholeOf span)) (moved (pointOf point) (wholeOf (getD point 0 0)))
-    solves p q = moved-solves (systemAt p (wholeOf span)) (pointOf point) (wholeOf (getD point 0 0)) (f .possible .tried p q .solves)
+    solves p q = moved-solves (systemAt p (wholeOf span)) (pointOf point) (wholeOf (getD point 0 0)) (f .possible .tried p q .solves (f .finite))
 
     feasible : (p : Problem) → Question p n m left right objective → Feasible p (moved (pointOf point) (wholeOf (getD point 0 0)))
     feasible p q = solves-feasible p (wholeOf span) _ (moved-anchored (pointOf point) (wholeOf (getD point 0 0)) (trop-fin (getD point 0 0) (f .finite))) (solves p q)

@@ -1,34 +1,47 @@
--- The heights of a guess stay in range as they rise.
-use Prim.Native.Nat.{ℕ, _≤_, _<_}
-use mathlib.Core.Path.{_≡_, subst, _∙_}
+-- The heights of a guess, low numbers, stay in range as they rise.
+use Prim.Native.Nat.{ℕ, _+_, _≤_, _<_}
+use mathlib.Core.Path.{_≡_, sym, subst, _∙_}
 use mathlib.Core.Logic.{_⊎_, ⊎-elim}
-use mathlib.Core.List.{List}
+use mathlib.Core.List.{List, map}
 use native.Mathlib.Omega.{arith}
-use lib.ListN.{getD, set, replicate, length-set, length-replicate}
+use lib.ListN.{length, getD, set, replicate, length-set, length-replicate, length-map}
 use lib.Seq.{getD-set-same, getD-set-other}
-use Rattle.definitions.specs.Limits.{signed-half}
 use Rattle.definitions.proofs.Whole.{nat-le-or-lt}
 use Rattle.records.specs.Decoded.{Near}
 use Rattle.records.proofs.LeadTables.{near-zero}
-use Rattle.engine.specs.Tables.{value-limit, Ranged}
+use Rattle.engine.specs.Tables.{value-limit, low-half, high, highs, Ranged}
 use Rattle.engine.proofs.Filled.{zeros-at}
+use Rattle.engine.proofs.Low.{high-zero, high-whole, highs-at, highs-size}
+
+-- A height that is kept: blank, or within 2²⁵ of the low number of 0.
+pub near-blank : Near value-limit (high 0)
+near-blank = rw high-zero (near-zero value-limit)
+
+pub near-height : (k : ℕ) → low-half ≤ k + value-limit → k ≤ low-half + value-limit → Near value-limit (high k)
+near-height k h g = let e = high-whole k (omega arith) in record { hi = omega arith; lo = λ p. omega arith }
 
 -- A height rises.
-pub ranged-set : (x : List ℕ) (l v : ℕ) → Ranged x → l < 32 → Near value-limit v → Ranged (set x l v)
+pub ranged-set : (x : List ℕ) (l v : ℕ) → Ranged (highs x) → l < 32 → Near value-limit (high v) → Ranged (highs (set x l v))
 ranged-set x l v r h n = record {
-  size = length-set x l v ∙ r .size;
+  size = length-map (set x l v) high ∙ length-set x l v ∙ size;
   near = λ k. ⊎-elim (λ (a : l ≤ k). ⊎-elim (λ (b : k ≤ l). here k (omega arith)) (λ (b : l < k). other k (λ e. omega arith)) (nat-le-or-lt k l)) (λ (a : k < l). other k (λ e. omega arith)) (nat-le-or-lt l k);
 }
   where
-    here : (k : ℕ) → l ≡ k → Near value-limit (getD (set x l v) k 0)
-    here k e = subst (λ (i : ℕ). Near value-limit (getD (set x l v) i 0)) e (rw (getD-set-same x l v 0 (omega (arith, r .size))) n)
+    size : length x ≡ 32
+    size = highs-size x 32 (r .size)
 
-    other : (k : ℕ) → (k ≡ l → ⊥) → Near value-limit (getD (set x l v) k 0)
-    other k d = rw (getD-set-other x l k v 0 d) (r .near k)
+    here : (k : ℕ) → l ≡ k → Near value-limit (getD (highs (set x l v)) k 0)
+    here k e = subst (λ (i : ℕ). Near value-limit (getD (highs (set x l v)) i 0)) e (rw (highs-at (set x l v) l, getD-set-same x l v 0 (omega (arith, size))) n)
+
+    other : (k : ℕ) → (k ≡ l → ⊥) → Near value-limit (getD (highs (set x l v)) k 0)
+    other k d = rw (highs-at (set x l v) k, getD-set-other x l k v 0 d, ← highs-at x k) (r .near k)
+
+pub ranged-rises : (x : List ℕ) {y : List ℕ} (l v : ℕ) → y ≡ set x l v → Ranged (highs x) → l < 32 → Near value-limit (high v) → Ranged (highs y)
+ranged-rises x l v e r h n = rw e (ranged-set x l v r h n)
 
 -- All heights blank but one, which is 0.
-pub ranged-start : (l : ℕ) → l < 32 → Ranged (set (replicate 32 0) l signed-half)
-ranged-start l h = ranged-set (replicate 32 0) l signed-half
-    (record { size = length-replicate {A = ℕ} 32 0; near = λ k. rw (zeros-at 32 k) (near-zero value-limit) })
+pub ranged-start : (l : ℕ) → l < 32 → Ranged (highs (set (replicate 32 0) l low-half))
+ranged-start l h = ranged-set (replicate 32 0) l low-half
+    (record { size = length-map (replicate 32 0) high ∙ length-replicate {A = ℕ} 32 0; near = λ k. rw (highs-at (replicate 32 0) k, zeros-at 32 k) near-blank })
     h
-    (record { hi = omega arith; lo = λ h. omega arith })
+    (near-height low-half (omega arith) (omega arith))

@@ -21,9 +21,10 @@ use Rattle.duality.specs.System.{System}
 use Rattle.duality.specs.Values.{difference, valueAt, exitBy, valuesAfter, values}
 use Rattle.duality.proofs.Weights.{difference-bot, exit-picked, exit-terminal, round-picked, round-terminal, values-still}
 use Rattle.records.specs.Decoded.{Near}
-use Rattle.engine.specs.Tables.{entryOf, systemOf, pointOf, pickOf, raised-limit, value-limit, Ranged, Tables}
+use Rattle.engine.specs.Tables.{entryOf, systemOf, pointOf, pickOf, raised-limit, value-limit, low-half, side-least, high, highs, Ranged, Tables}
 use Rattle.engine.specs.Rounds.{SideIs, steppedBy, Stepped, Exits, Level, ValuesIs, SameUpTo}
 use Rattle.engine.proofs.Filled.{filled-map}
+use Rattle.engine.proofs.Low.{high-zero, high-whole, highs-at}
 use Rattle.engine.proofs.Small.{near-small, small-near, small-more, rounds-small}
 
 -- ---- one variable
@@ -39,28 +40,45 @@ pub gap-whole : (s a : ℕ) → 0 < s → 0 < a → a < s + signed-half → trop
 unfolding difference
 gap-whole s a h k l = rw (trop-minus s a (trop-fin s h) (trop-fin a k) l, trop-fin s h, trop-fin a k)
 
+-- The same on low numbers.
+pub given-blank-side : (a : ℕ) → tropOf (high 0) ≡ difference (tropOf (high 0)) (tropOf a)
+given-blank-side a = rw high-zero (gap-blank-side a)
+
+pub given-blank-left : (s : ℕ) → tropOf (high 0) ≡ difference (tropOf (high s)) (tropOf 0)
+given-blank-left s = rw high-zero (gap-blank-left (high s))
+
+pub given-whole : (s a : ℕ) → side-least ≤ s → 0 < a → a ≤ signed-half + lead-limit
+    → tropOf (high (s + signed-half - a)) ≡ difference (tropOf (high s)) (tropOf a)
+given-whole s a h k l =
+    let e : high s ≡ s + 1073741824 = high-whole s (omega arith) in
+    let f : high (s + signed-half - a) ≡ high s + signed-half - a = omega (arith, high-whole (s + signed-half - a) (omega arith)) in
+    rw f (gap-whole (high s) a (omega arith) k (omega arith))
+
 -- The number 0.
 pub zero-is : tropOf signed-half ≡ fin (pos 0)
 zero-is = trop-show signed-half (pos 0) (omega arith) (omega arith)
 
+pub low-zero-is : tropOf (high low-half) ≡ fin (pos 0)
+low-zero-is = let e : high low-half ≡ signed-half = omega (arith, high-whole low-half (omega arith)) in rw e zero-is
+
 -- A variable that picks a row.
 pub stepped-picked : (left right x : List ℕ) (width rows i j s a r : ℕ) → i < rows → SideIs right i x width s
-    → tropOf r ≡ difference (tropOf s) (tropOf (getD left (i * 32 + j) 0))
+    → tropOf r ≡ difference (tropOf (high s)) (tropOf (getD left (i * 32 + j) 0))
     → tropOf r ≡ steppedBy (systemOf left right width rows) i j (pointOf x)
 unfolding steppedBy
 stepped-picked left right x width rows i j s a r h si e = rw (lt-ltb i rows h) (e ∙ ap (λ (z : Trop). difference z (tropOf (getD left (i * 32 + j) 0))) (si .is))
 
 -- A variable that picks none.
 pub stepped-terminal : (left right : List ℕ) (width rows i j : ℕ) (x : Point) → rows ≤ i
-    → tropOf signed-half ≡ steppedBy (systemOf left right width rows) i j x
+    → tropOf (high low-half) ≡ steppedBy (systemOf left right width rows) i j x
 unfolding steppedBy
-stepped-terminal left right width rows i j x h = rw (le-ltb i rows h) zero-is
+stepped-terminal left right width rows i j x h = rw (le-ltb i rows h) low-zero-is
 
-pub exit-none : (rows i : ℕ) → i < rows → tropOf 0 ≡ exitBy (systemOf [] [] 0 rows) i
-exit-none rows i h = trop-zero ∙ sym (exit-picked (systemOf [] [] 0 rows) i h)
+pub exit-none : (rows i : ℕ) → i < rows → tropOf (high 0) ≡ exitBy (systemOf [] [] 0 rows) i
+exit-none rows i h = rw high-zero trop-zero ∙ sym (exit-picked (systemOf [] [] 0 rows) i h)
 
-pub exit-zero : (rows i : ℕ) → rows ≤ i → tropOf signed-half ≡ exitBy (systemOf [] [] 0 rows) i
-exit-zero rows i h = zero-is ∙ sym (exit-terminal (systemOf [] [] 0 rows) i h)
+pub exit-zero : (rows i : ℕ) → rows ≤ i → tropOf (high low-half) ≡ exitBy (systemOf [] [] 0 rows) i
+exit-zero rows i h = low-zero-is ∙ sym (exit-terminal (systemOf [] [] 0 rows) i h)
 
 -- ---- levels
 
@@ -125,6 +143,9 @@ unfolding values
 level-last left right picks x width rows i h k f = let e : i ≡ width = omega arith in subst (λ (z : ℕ). Level (systemOf left right width rows) (pickOf picks) z x) e f
 
 -- ---- the test of two arrays
+
+pub same-highs : (n : ℕ) (x y : List ℕ) → SameUpTo n x y → SameUpTo n (highs x) (highs y)
+same-highs n x y s j h = highs-at x j ∙ ap high (s j h) ∙ sym (highs-at y j)
 
 pub false-not-true : false ≡ true → ⊥
 false-not-true e = let z : _≡_ {A = ℕ} 0 1 = cc in omega arith

@@ -12,11 +12,11 @@ use Rattle.definitions.specs.Offset.{tropOf}
 use Rattle.definitions.proofs.Whole.{nat-le-or-lt}
 use Rattle.definitions.proofs.Tropical.{not-finite-bot, below-bot, ⊑-of-eq, largest-least}
 use Rattle.definitions.proofs.Offset.{trop-zero, trop-order}
-use Rattle.engine.specs.Tables.{entryOf, pointOf, raised-limit, value-limit, Table, Ranged}
-use Rattle.engine.specs.Rounds.{folded, sums}
+use Rattle.engine.specs.Tables.{entryOf, pointOf, raised-limit, fold-limit, Table, Ranged}
+use Rattle.engine.specs.Rounds.{foldedAt, sums}
 use Rattle.engine.specs.Marks.{Marked, BothAre}
 use Rattle.engine.specs.Shown.{shownPick, arcBy, HitsIs, RowArcIs, UsedIs, blank-most, Highest, BestIs}
-use Rattle.engine.proofs.Fold.{folded-low, folded-sum, folded-mono}
+use Rattle.engine.proofs.Fold.{folded-low, folded-offsets, folded-mono}
 use Rattle.engine.proofs.Rounds.{false-not-true}
 
 -- ---- one pick
@@ -115,8 +115,8 @@ pub highest-end : (right : List ℕ) (row : ℕ) (x : List ℕ) (width n top pic
     → Highest right row x width n top pick → width ≤ n → BestIs right row x width pick
 highest-end right row x width n top pick t g s h = record { best = λ f. ⊎-elim (λ k. absurd (blank k f)) found (nat-le-or-lt width pick) }
   where
-    term : (l : ℕ) → tropOf (folded (sums right row x l)) ≡ plus (entryOf right row l) (pointOf x l)
-    term l = folded-sum raised-limit value-limit _ _ (t .near (row * 32 + l)) (g .near l) (omega arith)
+    term : (l : ℕ) → tropOf (foldedAt fold-limit (sums right row x l)) ≡ plus (entryOf right row l) (pointOf x l)
+    term l = folded-offsets _ _ (t .near (row * 32 + l)) (g .near l)
 
     -- No sum above the limit: all are blank.
     blank : width ≤ pick → Finite (largest (λ l. plus (entryOf right row l) (pointOf x l)) width) → ⊥
@@ -125,12 +125,12 @@ highest-end right row x width n top pick t g s h = record { best = λ f. ⊎-eli
         largest-least _ width (λ l b. rw (← term l) (⊑-of-eq (low l (omega (arith, s .most l (omega arith), s .none k))))) in
         not-finite-bot (subst Finite (below-bot below) f)
       where
-        low : (l : ℕ) → sums right row x l ≤ blank-most → tropOf (folded (sums right row x l)) ≡ bot
-        low l b = rw (folded-low (sums right row x l) (omega arith)) trop-zero
+        low : (l : ℕ) → sums right row x l ≤ blank-most → tropOf (foldedAt fold-limit (sums right row x l)) ≡ bot
+        low l b = rw (folded-low {limit = fold-limit} (sums right row x l) (omega arith)) trop-zero
 
     found : pick < width → (pick < width) × (largest (λ l. plus (entryOf right row l) (pointOf x l)) width ⊑ plus (entryOf right row pick) (pointOf x pick))
     found k = (
       k,
       largest-least _ width (λ l b.
-          rw (← term l, ← term pick) (trop-order _ _ .1 (folded-mono _ _ (omega (arith, s .most l (omega arith), s .some k))))),
+          rw (← term l, ← term pick) (trop-order _ _ .1 (folded-mono fold-limit _ _ (omega (arith, s .most l (omega arith), s .some k))))),
     )

@@ -6,7 +6,8 @@ use mathlib.Core.Logic.{_⊎_, inl, inr, ⊎-elim}
 use mathlib.Core.List.{List}
 use native.Mathlib.Omega.{arith}
 use native.Mathlib.Nat.{eq-zero-or-pos}
-use lib.ListN.{length, getD, set, length-set}
+use lib.ListN.{length, getD, set, replicate, length-set, length-replicate}
+use borrow.Author.Tests.{lt-ltb, le-ltb}
 use lib.Seq.{getD-set-same, getD-set-other}
 use Rattle.definitions.specs.Limits.{signed-half, lead-limit}
 use Rattle.definitions.specs.Tropical.{Trop, plus, _⊑_, blank-least}
@@ -23,9 +24,10 @@ use Rattle.duality.proofs.Policy.{next-policy}
 use Rattle.duality.proofs.Height.{height-falls}
 use Rattle.duality.proofs.Ends.{finished}
 use Rattle.records.specs.Decoded.{Near}
-use Rattle.engine.specs.Tables.{entryOf, systemOf, pointOf, pickOf, raised-limit, value-limit, fold-least, Ranged, Tables}
-use Rattle.engine.specs.Rounds.{ValuesIs}
-use Rattle.engine.specs.Steps.{Sides, Stands, Costs, StandsAt, Failing, Sought, Chosen, FailsNow, Improved, Tried}
+use Rattle.engine.specs.Tables.{entryOf, systemOf, pointOf, pickOf, raised-limit, value-limit, fold-least, side-least, high, highs, Ranged, Tables}
+use Rattle.engine.specs.Rounds.{SideIs, ValuesIs}
+use Rattle.engine.specs.Steps.{Stands, Costs, Gives, lesser, chosenBy, givenBy, Lowered, SoughtAt, Sought, FailsNow, Improved, Tried}
+use Rattle.engine.proofs.Low.{high-zero, high-whole, highs-at}
 use Rattle.engine.proofs.Small.{near-small}
 use Rattle.engine.proofs.Rounds.{false-not-true, level-ranged}
 
@@ -76,60 +78,182 @@ cost-whole side left n d k = record { fails = fails; stands = λ v m h. ⊎-elim
         let b = m .lo q in
         rw (plus-trop left v p q (omega arith)) (trop-order (left + v - signed-half) side .1 (omega (arith, n .hi)))
 
--- ---- the search for a failing row
+-- ---- the same on low numbers
 
-pub sought-none : (left tops : List ℕ) (v j rows : ℕ) → Sought left tops v j rows 0 v rows
-sought-none left tops v j rows = record {
-  low = omega arith;
-  some = λ h. absurd (omega arith);
-  same = λ h. refl;
-  none = λ h i k. absurd (omega arith);
+-- A row that does not hold the variable stands there: its top is above every value.
+never-lower : (side top v : ℕ) → signed-half ≤ top → Near value-limit (high v) → v ≤ top
+never-lower side top v h m = ⊎-elim (λ (z : v ≡ 0). omega arith) (λ (q : 0 < v). omega (arith, high-whole v q, m .hi)) (eq-zero-or-pos v)
+
+never-fails : (side top v : ℕ) → signed-half ≤ top → Near value-limit (high v) → top - 0 < v → ⊥
+never-fails side top v h m l = omega (arith, never-lower side top v h m)
+
+stands-blank : (side v : ℕ) → Near value-limit (high v) → Stands (high side) 0 (high v)
+stands-blank side v m = cost-never (high side) .stands (high v) m (omega (arith, m .hi))
+
+not-zero : {k : ℕ} → 0 < k → k ≡ 0 → ⊥
+not-zero h e = omega arith
+
+-- A blank right side.
+pub gives-blank : Gives 0 2147503648
+gives-blank = record {
+  fails = λ left v n m h s. ⊎-elim
+      (λ (z : left ≡ 0). never-fails 0 2147503648 v (omega arith) m (omega arith))
+      (λ (p : 0 < left). cost-blank left n (not-zero p) .fails (high v) m (omega (arith, high-whole v (omega arith))) (rw high-zero at s))
+      (eq-zero-or-pos left);
+  stands = λ left v n m h. ⊎-elim
+      (λ (z : left ≡ 0). rw z (stands-blank 0 v m))
+      (λ (p : 0 < left). rw high-zero (cost-blank left n (not-zero p) .stands (high v) m (none left v n m h p)))
+      (eq-zero-or-pos left);
+}
+  where
+    none : (left v : ℕ) → Near lead-limit left → Near value-limit (high v) → v ≤ 2147503648 - left → 0 < left → high v ≤ 0
+    none left v n m h p = ⊎-elim
+        (λ (z : v ≡ 0). let e : high v ≡ 0 = rw z high-zero in omega arith)
+        (λ (q : 0 < v). let e : high v ≡ v + 1073741824 = high-whole v q in absurd (omega (arith, m .lo (omega arith), n .lo p)))
+        (eq-zero-or-pos v)
+
+-- A whole right side.
+pub gives-whole : (side : ℕ) → side-least ≤ side → Gives side (side + signed-half)
+gives-whole side k = record {
+  fails = λ left v n m h s. ⊎-elim
+      (λ (z : left ≡ 0). never-fails side (side + signed-half) v (omega arith) m (omega arith))
+      (λ (p : 0 < left). costs left n p .fails (high v) m (omega (arith, up, high-whole v (omega arith), n .hi)) s)
+      (eq-zero-or-pos left);
+  stands = λ left v n m h. ⊎-elim
+      (λ (z : left ≡ 0). rw z (stands-blank side v m))
+      (λ (p : 0 < left). costs left n p .stands (high v) m (most left v n h))
+      (eq-zero-or-pos left);
+}
+  where
+    up : high side ≡ side + 1073741824
+    up = high-whole side (omega arith)
+
+    costs : (left : ℕ) → Near lead-limit left → 0 < left → Costs (high side) left (high side + signed-half - left)
+    costs left n p = cost-whole (high side) left n (not-zero p) (omega (arith, up))
+
+    most : (left v : ℕ) → Near lead-limit left → v ≤ side + signed-half - left → high v ≤ high side + signed-half - left
+    most left v n h = ⊎-elim
+        (λ (z : v ≡ 0). let e : high v ≡ 0 = rw z high-zero in omega arith)
+        (λ (q : 0 < v). omega (arith, up, high-whole v q, n .hi))
+        (eq-zero-or-pos v)
+
+-- ---- a row lowers the least values
+
+pub lesser-first : (a b : ℕ) → a < b → a ≡ lesser a b
+lesser-first a b h = rw (lt-ltb a b h)
+
+pub lesser-second : (a b : ℕ) → b ≤ a → b ≡ lesser a b
+lesser-second a b h = rw (le-ltb a b h)
+
+pub chosen-first : (a b i k : ℕ) → a < b → i ≡ chosenBy a b i k
+chosen-first a b i k h = rw (lt-ltb a b h)
+
+pub chosen-second : (a b i k : ℕ) → b ≤ a → k ≡ chosenBy a b i k
+chosen-second a b i k h = rw (le-ltb a b h)
+
+pub lowered-none : {left least chosen : List ℕ} {i top : ℕ} → length least ≡ 32 → length chosen ≡ 32 → Lowered left i top least chosen 0 least chosen
+lowered-none e f = record {
+  least-size = e;
+  chosen-size = f;
+  leasts = λ j h. absurd (omega arith);
+  choices = λ j h. absurd (omega arith);
+  later-leasts = λ j h. refl;
+  later-choices = λ j h. refl;
 }
 
--- A row that gives less is picked.
-pub sought-taken : (left tops : List ℕ) (v j rows n least pick given least′ pick′ : ℕ) → Sought left tops v j rows n least pick → n < rows
-    → Costs (getD tops n 0) (getD left (n * 32 + j) 0) given → Near value-limit v → given < least → least′ ≡ given → pick′ ≡ n
-    → Sought left tops v j rows (n + 1) least′ pick′
-sought-taken left tops v j rows n least pick given least′ pick′ s h c m l e d = rw (e, d) (record {
-  low = omega (arith, s .low);
-  some = λ _. c .fails v m (omega (arith, s .low));
-  same = λ k. absurd (omega arith);
-  none = λ k. absurd (omega arith);
-})
+pub lowered-more : (left least chosen : List ℕ) (i top n g k v : ℕ) (l c : List ℕ) → Lowered left i top least chosen n l c → n < 32
+    → g ≡ givenBy left i top n → k ≡ chosenBy g (getD l n 0) i (getD c n 0) → v ≡ lesser g (getD l n 0)
+    → Lowered left i top least chosen (n + 1) (set l n v) (set c n k)
+lowered-more left least chosen i top n g k v l c w h e d f = record {
+  least-size = length-set l n v ∙ w .least-size;
+  chosen-size = length-set c n k ∙ w .chosen-size;
+  leasts = λ j b. ⊎-elim
+      (λ (q : n ≤ j). let p : n ≡ j = omega arith in subst (λ (j : ℕ). getD (set l n v) j 0 ≡ lesser (givenBy left i top j) (getD least j 0)) p
+      (getD-set-same l n v 0 (omega (arith, w .least-size)) ∙ rw (f, e, w .later-leasts n (omega arith))))
+      (λ (q : j < n). getD-set-other l n j v 0 (λ p. omega arith) ∙ w .leasts j q)
+      (nat-le-or-lt n j);
+  choices = λ j b. ⊎-elim
+      (λ (q : n ≤ j). let p : n ≡ j = omega arith in subst (λ (j : ℕ). getD (set c n k) j 0 ≡ chosenBy (givenBy left i top j) (getD least j 0) i (getD chosen j 0)) p
+      (getD-set-same c n k 0 (omega (arith, w .chosen-size)) ∙ rw (d, e, w .later-leasts n (omega arith), w .later-choices n (omega arith))))
+      (λ (q : j < n). getD-set-other c n j k 0 (λ p. omega arith) ∙ w .choices j q)
+      (nat-le-or-lt n j);
+  later-leasts = λ j b. getD-set-other l n j v 0 (λ p. omega arith) ∙ w .later-leasts j (omega arith);
+  later-choices = λ j b. getD-set-other c n j k 0 (λ p. omega arith) ∙ w .later-choices j (omega arith);
+}
 
--- Another row is passed.
-pub sought-passed : (left tops : List ℕ) (v j rows n least pick given least′ pick′ : ℕ) → Sought left tops v j rows n least pick
-    → Costs (getD tops n 0) (getD left (n * 32 + j) 0) given → Near value-limit v → least ≤ given → least′ ≡ least → pick′ ≡ pick
-    → Sought left tops v j rows (n + 1) least′ pick′
-sought-passed left tops v j rows n least pick given least′ pick′ s c m l e d = rw (e, d) (record {
-  low = s .low;
-  some = s .some;
-  same = s .same;
-  none = λ k i b. ⊎-elim
-      (λ (e : n ≤ i). let q : n ≡ i = omega arith in subst (StandsAt left tops v j) q (c .stands v m (omega (arith, s .same k))))
-      (λ (e : i < n). s .none k i e)
-      (nat-le-or-lt n i);
-})
+pub lowered-end : (left least chosen : List ℕ) (i top n width : ℕ) (l c : List ℕ) → Lowered left i top least chosen n l c → n ≤ width → width ≤ n
+    → Lowered left i top least chosen width l c
+lowered-end left least chosen i top n width l c w h k =
+    let e : n ≡ width = omega arith in subst (λ (z : ℕ). Lowered left i top least chosen z l c) e w
 
-pub sought-end : (left tops : List ℕ) (v j rows n least pick : ℕ) → Sought left tops v j rows n least pick → rows ≤ n
-    → Chosen left tops v j rows pick
-sought-end left tops v j rows n least pick s h = record { some = s .some; none = λ k i b. s .none k i (omega arith) }
+-- ---- the search for failing rows
+
+pub sought-none : (s : System) (x : List ℕ) → length x ≡ 32 → Sought s x 0 x (replicate 32 0)
+sought-none s x e = record {
+  least-size = e;
+  chosen-size = length-replicate {A = ℕ} 32 0;
+  each = λ j h. record { low = omega arith; picked = λ l. absurd (omega arith); fails = λ l. absurd (omega arith); stand = λ l i k. absurd (omega arith) };
+}
+
+module _ (left right x : List ℕ) (width rows n side top : ℕ) (t : Tables left right width rows) (g : Ranged (highs x)) (h : n < rows)
+    (si : SideIs right n (highs x) width side) (gi : Gives side top) where
+  -- In the words of the system.
+  row-stands : (j : ℕ) → Stands (high side) (getD left (n * 32 + j) 0) (high (getD x j 0))
+      → plus (entryOf left n j) (pointOf (highs x) j) ⊑ sideOf (systemOf left right width rows) (entryOf right n) (pointOf (highs x))
+  row-stands j a = subst (λ (z : Trop). plus (entryOf left n j) (pointOf (highs x) j) ⊑ z) (si .is) (rw (highs-at x j) a)
+
+  row-fails : (j : ℕ) → (Stands (high side) (getD left (n * 32 + j) 0) (high (getD x j 0)) → ⊥) → Fails (systemOf left right width rows) (pointOf (highs x)) n j
+  row-fails j d a = d (rw (highs-at x j) at (subst (λ (z : Trop). plus (entryOf left n j) (pointOf (highs x) j) ⊑ z) (sym (si .is)) a))
+
+  -- One row more, at one variable.
+  sought-at : (j least pick least′ pick′ : ℕ) → SoughtAt (systemOf left right width rows) (pointOf (highs x)) (getD x j 0) j n least pick
+      → least′ ≡ lesser (givenBy left n top j) least → pick′ ≡ chosenBy (givenBy left n top j) least n pick
+      → SoughtAt (systemOf left right width rows) (pointOf (highs x)) (getD x j 0) j (n + 1) least′ pick′
+  sought-at j least pick least′ pick′ s e d = ⊎-elim passed taken (nat-le-or-lt least (givenBy left n top j))
+    where
+      near : Near value-limit (high (getD x j 0))
+      near = rw (highs-at x j) at (g .near j)
+
+      taken : givenBy left n top j < least → SoughtAt (systemOf left right width rows) (pointOf (highs x)) (getD x j 0) j (n + 1) least′ pick′
+      taken b =
+          let el : least′ ≡ givenBy left n top j = e ∙ sym (lesser-first _ _ b) in
+          let ep : pick′ ≡ n = d ∙ sym (chosen-first _ _ _ _ b) in
+          record {
+            low = omega (arith, s .low);
+            picked = λ _. rw ep h;
+            fails = λ _. rw ep (row-fails j (gi .fails _ _ (t .lefts .near (n * 32 + j)) near (omega (arith, s .low))));
+            stand = λ l. absurd (omega (arith, s .low));
+          }
+
+      passed : least ≤ givenBy left n top j → SoughtAt (systemOf left right width rows) (pointOf (highs x)) (getD x j 0) j (n + 1) least′ pick′
+      passed b =
+          let el : least′ ≡ least = e ∙ sym (lesser-second _ _ b) in
+          let ep : pick′ ≡ pick = d ∙ sym (chosen-second _ _ _ _ b) in
+          record {
+            low = omega (arith, s .low);
+            picked = λ l. rw ep (s .picked (omega arith));
+            fails = λ l. rw ep (s .fails (omega arith));
+            stand = λ l i k. ⊎-elim
+                (λ (q : n ≤ i). let p : n ≡ i = omega arith in
+                subst (λ (i : ℕ). plus (entryOf left i j) (pointOf (highs x) j) ⊑ sideOf (systemOf left right width rows) (entryOf right i) (pointOf (highs x))) p
+                (row-stands j (gi .stands _ _ (t .lefts .near (n * 32 + j)) near (omega arith))))
+                (λ (q : i < n). s .stand (omega arith) i q)
+                (nat-le-or-lt n i);
+          }
+
+  -- One row more.
+  pub sought-more : {least chosen least′ chosen′ : List ℕ} → Sought (systemOf left right width rows) x n least chosen
+      → Lowered left n top least chosen width least′ chosen′ → Sought (systemOf left right width rows) x (n + 1) least′ chosen′
+  sought-more s w = record {
+    least-size = w .least-size;
+    chosen-size = w .chosen-size;
+    each = λ j b. sought-at j _ _ _ _ (s .each j b) (w .leasts j b) (w .choices j b);
+  }
+
+pub sought-end : {s : System} {x least chosen : List ℕ} {n rows : ℕ} → Sought s x n least chosen → n ≤ rows → rows ≤ n → Sought s x rows least chosen
+sought-end {s} {x} {least} {chosen} {n} {rows} w h k = let e : n ≡ rows = omega arith in subst (λ (z : ℕ). Sought s x z least chosen) e w
 
 -- ---- a step
-
--- What the search is handed.
-pub failing-asked : (left right x tops : List ℕ) (width rows j : ℕ) → Tables left right width rows → Ranged x → Sides right x width rows tops → j < width
-    → Failing left tops (getD x j 0) j rows
-failing-asked left right x tops width rows j t r s h = record {
-  left-size = t .lefts .size;
-  tops-size = s .size-is;
-  rows-most = t .rows-most;
-  inside = omega (arith, t .width-most);
-  value-near = r .near j;
-  left-near = t .lefts .near;
-  tops-most = λ i. ⊎-elim (λ k. omega (arith, s .rest i k)) (λ k. s .each i k .most) (nat-le-or-lt rows i);
-  tops-least = λ i p. ⊎-elim (λ k. absurd (omega (arith, s .rest i k))) (λ k. s .each i k .least p) (nat-le-or-lt rows i);
-}
 
 -- Before the first variable.
 pub improved-none : (s : System) (x : Point) (τ : Strategy) → Improved s x τ τ false 0
@@ -140,87 +264,58 @@ improved-none s x τ = record {
   nowhere = λ e i j h k. absurd (omega arith);
 }
 
--- In the words of the system.
-stands-in : (left right x tops : List ℕ) (width rows i j : ℕ) → Sides right x width rows tops → i < rows
-    → StandsAt left tops (getD x j 0) j i
-    → plus (entryOf left i j) (pointOf x j) ⊑ sideOf (systemOf left right width rows) (entryOf right i) (pointOf x)
-stands-in left right x tops width rows i j s h a = subst (λ (z : Trop). plus (entryOf left i j) (pointOf x j) ⊑ z) (s .each i h .is) a
+module _ (s : System) (x : Point) (picks next : List ℕ) (n v least pick : ℕ) (moved : Bool)
+    (p : Improved s x (pickOf picks) (pickOf next) moved n) (c : SoughtAt s x v n (s .rows) least pick) where
+  -- A variable at which no row fails keeps its pick.
+  improved-kept : v ≤ least → Improved s x (pickOf picks) (pickOf next) moved (n + 1)
+  improved-kept h = record {
+    switch = λ j b. ⊎-elim (λ (e : n ≤ j). inl (p .later j e)) (λ (e : j < n). p .switch j e) (nat-le-or-lt n j);
+    later = λ j b. p .later j (omega arith);
+    somewhere = λ e. let q = p .somewhere e in record { place = q .place; inside = omega (arith, q .inside); now = q .now };
+    nowhere = λ e i j b d. ⊎-elim
+        (λ (k : n ≤ j). let q : n ≡ j = omega arith in subst (λ (j : ℕ). plus (s .left i j) (x j) ⊑ sideOf s (s .right i) x) q (c .stand h i b))
+        (λ (k : j < n). p .nowhere e i j b k)
+        (nat-le-or-lt n j);
+  }
 
-fails-in : (left right x tops : List ℕ) (width rows i j : ℕ) → Sides right x width rows tops → i < rows
-    → (StandsAt left tops (getD x j 0) j i → ⊥) → Fails (systemOf left right width rows) (pointOf x) i j
-fails-in left right x tops width rows i j s h d a = d (subst (λ (z : Trop). plus (entryOf left i j) (pointOf x j) ⊑ z) (sym (s .each i h .is)) a)
+  -- A variable at which a row fails picks it.
+  improved-moved : least < v → n < length next → Improved s x (pickOf picks) (pickOf (set next n pick)) true (n + 1)
+  improved-moved h l = record {
+    switch = λ j b. ⊎-elim
+        (λ (e : n ≤ j). let q : n ≡ j = omega arith in inr (subst (FailsNow s x (pickOf (set next n pick))) q here))
+        (λ (e : j < n). before j e (p .switch j e))
+        (nat-le-or-lt n j);
+    later = λ j b. other j (λ e. omega arith) ∙ p .later j (omega arith);
+    somewhere = λ _. record { place = n; inside = omega arith; now = here };
+    nowhere = λ e. absurd (false-not-true (sym e));
+  }
+    where
+      same : getD (set next n pick) n 0 ≡ pick
+      same = getD-set-same next n pick 0 l
 
--- A variable at which no row fails keeps its pick.
-improved-kept : (left right x tops picks next : List ℕ) (width rows n pick : ℕ) (moved : Bool)
-    → Improved (systemOf left right width rows) (pointOf x) (pickOf picks) (pickOf next) moved n
-    → Sides right x width rows tops → Chosen left tops (getD x n 0) n rows pick → rows ≤ pick
-    → Improved (systemOf left right width rows) (pointOf x) (pickOf picks) (pickOf next) moved (n + 1)
-improved-kept left right x tops picks next width rows n pick moved p s c h = record {
-  switch = λ j b. ⊎-elim (λ (e : n ≤ j). inl (p .later j e)) (λ (e : j < n). p .switch j e) (nat-le-or-lt n j);
-  later = λ j b. p .later j (omega arith);
-  somewhere = λ e. let q = p .somewhere e in record { place = q .place; inside = omega (arith, q .inside); now = q .now };
-  nowhere = λ e i j b d. ⊎-elim
-      (λ (k : n ≤ j). let q : n ≡ j = omega arith in
-      subst (λ (j : ℕ). plus (entryOf left i j) (pointOf x j) ⊑ sideOf (systemOf left right width rows) (entryOf right i) (pointOf x)) q
-      (stands-in left right x tops width rows i n s b (c .none h i b)))
-      (λ (k : j < n). p .nowhere e i j b k)
-      (nat-le-or-lt n j);
-}
+      other : (j : ℕ) → (j ≡ n → ⊥) → getD (set next n pick) j 0 ≡ getD next j 0
+      other j d = getD-set-other next n j pick 0 d
 
--- A variable at which a row fails picks it.
-improved-moved : (left right x tops picks next : List ℕ) (width rows n pick : ℕ) (moved : Bool)
-    → Improved (systemOf left right width rows) (pointOf x) (pickOf picks) (pickOf next) moved n
-    → Sides right x width rows tops → Chosen left tops (getD x n 0) n rows pick → pick < rows → n < length next
-    → Improved (systemOf left right width rows) (pointOf x) (pickOf picks) (pickOf (set next n pick)) true (n + 1)
-improved-moved left right x tops picks next width rows n pick moved p s c h l = record {
-  switch = λ j b. ⊎-elim
-      (λ (e : n ≤ j). let q : n ≡ j = omega arith in inr (subst (FailsNow system (pointOf x) (pickOf (set next n pick))) q here))
-      (λ (e : j < n). before j e (p .switch j e))
-      (nat-le-or-lt n j);
-  later = λ j b. other j (λ e. omega arith) ∙ p .later j (omega arith);
-  somewhere = λ _. record { place = n; inside = omega arith; now = here };
-  nowhere = λ e. absurd (false-not-true (sym e));
-}
-  where
-    system : System
-    system = systemOf left right width rows
+      here : FailsNow s x (pickOf (set next n pick)) n
+      here = record { picked = rw same (c .picked h); fails = subst (λ (i : ℕ). Fails s x i n) (sym same) (c .fails h) }
 
-    same : getD (set next n pick) n 0 ≡ pick
-    same = getD-set-same next n pick 0 l
+      before : (j : ℕ) → j < n → (pickOf next j ≡ pickOf picks j) ⊎ FailsNow s x (pickOf next) j
+          → (pickOf (set next n pick) j ≡ pickOf picks j) ⊎ FailsNow s x (pickOf (set next n pick)) j
+      before j b (inl e) = inl (other j (λ e. omega arith) ∙ e)
+      before j b (inr f) =
+          let e = other j (λ e. omega arith) in
+          inr (record { picked = rw e (f .picked); fails = subst (λ (i : ℕ). Fails s x i j) (sym e) (f .fails) })
 
-    other : (j : ℕ) → (j ≡ n → ⊥) → getD (set next n pick) j 0 ≡ getD next j 0
-    other j d = getD-set-other next n j pick 0 d
-
-    here : FailsNow (systemOf left right width rows) (pointOf x) (pickOf (set next n pick)) n
-    here = record {
-      picked = rw same h;
-      fails = subst (λ (i : ℕ). Fails (systemOf left right width rows) (pointOf x) i n) (sym same) (fails-in left right x tops width rows pick n s h (c .some h));
-    }
-
-    before : (j : ℕ) → j < n → (pickOf next j ≡ pickOf picks j) ⊎ FailsNow (systemOf left right width rows) (pointOf x) (pickOf next) j
-        → (pickOf (set next n pick) j ≡ pickOf picks j) ⊎ FailsNow (systemOf left right width rows) (pointOf x) (pickOf (set next n pick)) j
-    before j b (inl e) = inl (other j (λ e. omega arith) ∙ e)
-    before j b (inr f) =
-        let e = other j (λ e. omega arith) in
-        inr (record {
-          picked = rw e (f .picked);
-          fails = subst (λ (i : ℕ). Fails (systemOf left right width rows) (pointOf x) i j) (sym e) (f .fails);
-        })
+  -- The same where two ways meet.
+  pub improved-on : (next′ : List ℕ) (moved′ : Bool) → n < 32 → length next ≡ 32
+      → ((least < v) × (next′ ≡ set next n pick) × (moved′ ≡ true)) ⊎ ((v ≤ least) × (next′ ≡ next) × (moved′ ≡ moved))
+      → (length next′ ≡ 32) × Improved s x (pickOf picks) (pickOf next′) moved′ (n + 1)
+  improved-on next′ moved′ h l (inl w) = rw (w .1, w .2) (length-set next n pick ∙ l, improved-moved (w .0) (omega arith))
+  improved-on next′ moved′ h l (inr w) = rw (w .1, w .2) (l, improved-kept (w .0))
 
 pub improved-end : {s : System} {x : Point} {τ τ′ : Strategy} {moved : Bool} {n w : ℕ} → Improved s x τ τ′ moved n → n ≤ w → w ≤ n
     → Improved s x τ τ′ moved w
 improved-end {s} {x} {τ} {τ′} {moved} {n} {w} p h k = let e : n ≡ w = omega arith in subst (Improved s x τ τ′ moved) e p
-
--- The same where two ways meet.
-pub improved-on : (left right x tops picks next next′ : List ℕ) (width rows n pick : ℕ) (moved moved′ : Bool)
-    → Improved (systemOf left right width rows) (pointOf x) (pickOf picks) (pickOf next) moved n
-    → Sides right x width rows tops → Chosen left tops (getD x n 0) n rows pick → n < 32 → length next ≡ 32
-    → ((pick < rows) × (next′ ≡ set next n pick) × (moved′ ≡ true)) ⊎ ((rows ≤ pick) × (next′ ≡ next) × (moved′ ≡ moved))
-    → (length next′ ≡ 32) × Improved (systemOf left right width rows) (pointOf x) (pickOf picks) (pickOf next′) moved′ (n + 1)
-improved-on left right x tops picks next next′ width rows n pick moved moved′ p s c h l (inl w) =
-    rw (w .1, w .2) (length-set next n pick ∙ l, improved-moved left right x tops picks next width rows n pick moved p s c (w .0) (omega arith))
-improved-on left right x tops picks next next′ width rows n pick moved moved′ p s c h l (inr w) =
-    rw (w .1, w .2) (l, improved-kept left right x tops picks next width rows n pick moved p s c (w .0))
 
 -- ---- the iteration
 
@@ -279,5 +374,17 @@ step-tried left right x picks next width rows moved l p v i e = record {
   size = l;
   policy = p;
   values-are = v;
-  solves = finished (systemOf left right width rows) (pointOf x) (i .nowhere e);
+  solves = λ _. finished (systemOf left right width rows) (pointOf x) (i .nowhere e);
 }
+
+-- Where variable 0 has no value left the trial may stop.
+pub stop-tried : (s : System) (x picks : List ℕ) → length picks ≡ 32 → Policy s (pickOf picks) → ValuesIs s (pickOf picks) (highs x) → getD x 0 0 ≡ 0
+    → Tried s (highs x) picks
+stop-tried s x picks l p v e = record { size = l; policy = p; values-are = v; solves = λ h. absurd (omega (arith, blank)) }
+  where
+    blank : getD (highs x) 0 0 ≡ 0
+    blank = highs-at x 0 ∙ ap high e ∙ high-zero
+
+-- What is returned are these values.
+pub tried-as : (s : System) (x y picks : List ℕ) → y ≡ x → Tried s x picks → Tried s y picks
+tried-as s x y picks e t = subst (λ (z : List ℕ). Tried s z picks) (sym e) t

@@ -229,7 +229,7 @@ tried-agree s s′ x picks a t = record {
   policy = agree-policy s s′ (pickOf picks) (pickOf picks) a (λ j h. refl) (t .policy);
   values-are = filled-end (filled-map (λ j v h e. e ∙ agree-values s s′ (pickOf picks) (pickOf picks) a (λ j h. refl) j h) (t .values-are))
       (omega (arith, a .variables)) (omega (arith, a .variables));
-  solves = agree-solves (pointOf x) a (t .solves);
+  solves = λ h. agree-solves (pointOf x) a (t .solves h);
 }
 
 -- The value of variable 0 is at most zero.
@@ -294,7 +294,7 @@ tried-blocks p t x picks f e = blank-blocks (systemAt p t) (pickOf picks) (f .po
 pub tried-solution : (p : Problem) (t : ℤ) (x picks : List ℕ) → Tried (systemAt p t) x picks → 0 < getD x 0 0 → Solution (systemAt p t) Anchor
 tried-solution p t x picks f h = record {
   point = pointOf x;
-  solves = f .solves;
+  solves = f .solves h;
   at = 0;
   inside = first-inside p t;
   started = refl;

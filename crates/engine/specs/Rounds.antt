@@ -13,7 +13,7 @@ use Rattle.definitions.specs.Certificate.{Strategy}
 use Rattle.definitions.specs.Offset.{tropOf}
 use Rattle.duality.specs.System.{System, sideOf}
 use Rattle.duality.specs.Values.{difference, exits, valuesAfter, values}
-use Rattle.engine.specs.Tables.{entryOf, pointOf, fold-limit, fold-least}
+use Rattle.engine.specs.Tables.{entryOf, pointOf, high, low-fold, side-most, side-least}
 use Rattle.engine.specs.Filled.{Filled}
 
 -- The larger of two numbers, and the largest of f 0, …, f (k − 1).
@@ -24,19 +24,23 @@ unfoldable pub uppermost : (ℕ → ℕ) → ℕ → ℕ
 uppermost f zero = 0
 uppermost f (suc k) = upper (uppermost f k) (f k)
 
--- A sum of two offset numbers as an offset number: blank where one of them was.
-unfoldable pub folded : ℕ → ℕ
-folded k = cond (ltb k fold-limit) 0 (k - signed-half)
+-- A sum of a coefficient and a value as a value: blank where one of them was, which is where the sum is below the limit.
+unfoldable pub foldedAt : ℕ → ℕ → ℕ
+foldedAt limit k = cond (ltb k limit) 0 (k - signed-half)
 
--- The sums of a row of a table with a point.
+-- The same for low values.
+abbrev pub folded : ℕ → ℕ
+folded k = foldedAt low-fold k
+
+-- The sums of a row of a table with an array.
 abbrev pub sums : List ℕ → ℕ → List ℕ → ℕ → ℕ
 sums table row x l = getD table (row * 32 + l) 0 + getD x l 0
 
--- One side of a row at a point, as an offset number.
+-- One side of a row at a point, as a low number.
 pub record SideIs (table : List ℕ) (row : ℕ) (x : List ℕ) (width r : ℕ) : Type 0 where
-  pub is : tropOf r ≡ largest (λ l. plus (entryOf table row l) (pointOf x l)) width
-  pub most : r ≤ fold-limit
-  pub least : 0 < r → fold-least ≤ r
+  pub is : tropOf (high r) ≡ largest (λ l. plus (entryOf table row l) (pointOf x l)) width
+  pub most : r ≤ side-most
+  pub least : 0 < r → side-least ≤ r
 
 -- What a round makes of variable j with pick i at the point x: the right side of row i less its left coefficient, or 0
 -- where i is no row.

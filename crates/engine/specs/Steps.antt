@@ -1,7 +1,8 @@
 -- What one step of the policy iteration finds, and what a trial ends with.
-use Prim.Native.Nat.{ℕ, _+_, _*_, _≤_, _<_}
+use Prim.Native.Nat.{ℕ, _+_, _*_, _-_, _≤_, _<_}
 use mathlib.Core.Path.{_≡_}
-use mathlib.Core.Bool.{Bool, true, false}
+use mathlib.Core.Bool.{Bool, true, false, cond}
+use lib.Dec.{ltb}
 use mathlib.Core.Logic.{_⊎_}
 use mathlib.Core.List.{List}
 use lib.ListN.{length, getD}
@@ -13,13 +14,8 @@ use Rattle.definitions.specs.Offset.{tropOf}
 use Rattle.duality.specs.System.{System, sideOf, Solves}
 use Rattle.duality.specs.Values.{Policy, Fails}
 use Rattle.records.specs.Decoded.{Near}
-use Rattle.engine.specs.Tables.{pointOf, pickOf, value-limit, fold-limit, fold-least}
-use Rattle.engine.specs.Filled.{Filled}
-use Rattle.engine.specs.Rounds.{SideIs, ValuesIs}
-
--- The right sides of the first n rows at a point.
-abbrev pub Sides : List ℕ → List ℕ → ℕ → ℕ → List ℕ → Type 0
-Sides right x width n tops = Filled (λ i v. SideIs right i x width v) 64 n tops
+use Rattle.engine.specs.Tables.{pointOf, pickOf, value-limit, high, highs}
+use Rattle.engine.specs.Rounds.{ValuesIs}
 
 -- A row with this right side and this left coefficient stands at a variable of this value.
 abbrev pub Stands : ℕ → ℕ → ℕ → Type 0
@@ -30,21 +26,56 @@ pub record Costs (side left r : ℕ) : Type 0 where
   pub fails : (v : ℕ) → Near value-limit v → r < v → Stands side left v → ⊥
   pub stands : (v : ℕ) → Near value-limit v → v ≤ r → Stands side left v
 
--- Row i stands at variable j.
-abbrev pub StandsAt : List ℕ → List ℕ → ℕ → ℕ → ℕ → Type 0
-StandsAt left tops v j i = Stands (getD tops i 0) (getD left (i * 32 + j) 0) v
+-- The same on low numbers, for every left coefficient of a row with this right side: `top` less the coefficient. A row that
+-- does not hold the variable gives more than every value.
+pub record Gives (side top : ℕ) : Type 0 where
+  pub fails : (left v : ℕ) → Near lead-limit left → Near value-limit (high v) → top - left < v → Stands (high side) left (high v) → ⊥
+  pub stands : (left v : ℕ) → Near lead-limit left → Near value-limit (high v) → v ≤ top - left → Stands (high side) left (high v)
 
--- Of the first n rows the pick fails at variable j, with the least value that is given, or it is none and all stand.
-pub record Sought (left tops : List ℕ) (v j rows n least pick : ℕ) : Type 0 where
+-- The lower of two numbers, and the choice between two by which is lower.
+abbrev pub lesser : ℕ → ℕ → ℕ
+lesser a b = cond (ltb a b) a b
+
+abbrev pub chosenBy : ℕ → ℕ → ℕ → ℕ → ℕ
+chosenBy a b i k = cond (ltb a b) i k
+
+-- What row i gives a variable, by its top.
+abbrev pub givenBy : List ℕ → ℕ → ℕ → ℕ → ℕ
+givenBy left i top j = top - getD left (i * 32 + j) 0
+
+-- Row i has lowered the least values of the variables below n, and is chosen where it did.
+pub record Lowered (left : List ℕ) (i top : ℕ) (least chosen : List ℕ) (n : ℕ) (least′ chosen′ : List ℕ) : Type 0 where
+  pub least-size : length least′ ≡ 32
+  pub chosen-size : length chosen′ ≡ 32
+  pub leasts : (j : ℕ) → j < n → getD least′ j 0 ≡ lesser (givenBy left i top j) (getD least j 0)
+  pub choices : (j : ℕ) → j < n → getD chosen′ j 0 ≡ chosenBy (givenBy left i top j) (getD least j 0) i (getD chosen j 0)
+  pub later-leasts : (j : ℕ) → n ≤ j → getD least′ j 0 ≡ getD least j 0
+  pub later-choices : (j : ℕ) → n ≤ j → getD chosen′ j 0 ≡ getD chosen j 0
+
+-- What a row is lowered by: the sizes, and numbers that fit.
+pub record Lowering (left least chosen : List ℕ) (i top width : ℕ) : Type 0 where
+  pub left-size : length left ≡ 2048
+  pub least-size : length least ≡ 32
+  pub chosen-size : length chosen ≡ 32
+  pub row-most : i < 64
+  pub width-most : width ≤ 32
+  pub top-least : 2147493728 ≤ top
+  pub top-most : top ≤ 3287483648
+  pub left-near : (k : ℕ) → Near lead-limit (getD left k 0)
+
+-- Of the first n rows: the least value that one gives variable j, below the variable's own v, by a row that fails there; or
+-- all of them stand.
+pub record SoughtAt (s : System) (x : Point) (v j n least pick : ℕ) : Type 0 where
   pub low : least ≤ v
-  pub some : pick < rows → StandsAt left tops v j pick → ⊥
-  pub same : rows ≤ pick → least ≡ v
-  pub none : rows ≤ pick → (i : ℕ) → i < n → StandsAt left tops v j i
+  pub picked : least < v → pick < s .rows
+  pub fails : least < v → Fails s x pick j
+  pub stand : v ≤ least → (i : ℕ) → i < n → plus (s .left i j) (x j) ⊑ sideOf s (s .right i) x
 
--- The pick fails at variable j, or it is none and all rows stand.
-pub record Chosen (left tops : List ℕ) (v j rows pick : ℕ) : Type 0 where
-  pub some : pick < rows → StandsAt left tops v j pick → ⊥
-  pub none : rows ≤ pick → (i : ℕ) → i < rows → StandsAt left tops v j i
+-- The same for every variable; the array holds low values.
+pub record Sought (s : System) (x : List ℕ) (n : ℕ) (least chosen : List ℕ) : Type 0 where
+  pub least-size : length least ≡ 32
+  pub chosen-size : length chosen ≡ 32
+  pub each : (j : ℕ) → j < s .variables → SoughtAt s (pointOf (highs x)) (getD x j 0) j n (getD least j 0) (getD chosen j 0)
 
 -- Variable j picks a row that fails there.
 pub record FailsNow (s : System) (x : Point) (τ′ : Strategy) (j : ℕ) : Type 0 where
@@ -69,20 +100,9 @@ pub record Improved (s : System) (x : Point) (τ τ′ : Strategy) (moved : Bool
   pub somewhere : moved ≡ true → Moved s x τ′ n
   pub nowhere : moved ≡ false → AllStand s x n
 
--- The end of a trial: a kept strategy, its values, and they solve the system.
+-- The end of a trial: a kept strategy, its values, and they solve the system, where that of variable 0 is not blank.
 pub record Tried (s : System) (x picks : List ℕ) : Type 0 where
   pub size : length picks ≡ 32
   pub policy : Policy s (pickOf picks)
   pub values-are : ValuesIs s (pickOf picks) x
-  pub solves : Solves s (pointOf x)
-
--- What the search for a failing row is handed: the left table, the right sides, and the variable with its value.
-pub record Failing (left tops : List ℕ) (v j rows : ℕ) : Type 0 where
-  pub left-size : length left ≡ 2048
-  pub tops-size : length tops ≡ 64
-  pub rows-most : rows ≤ 64
-  pub inside : j < 32
-  pub value-near : Near value-limit v
-  pub left-near : (k : ℕ) → Near lead-limit (getD left k 0)
-  pub tops-most : (i : ℕ) → getD tops i 0 ≤ fold-limit
-  pub tops-least : (i : ℕ) → 0 < getD tops i 0 → fold-least ≤ getD tops i 0
+  pub solves : 0 < getD x 0 0 → Solves s (pointOf x)

@@ -1,7 +1,9 @@
 -- Two tables of offset numbers as a system of inequalities, 64 rows of 32 columns, and arrays as points and strategies.
 use Prim.Native.Nat.{ℕ, _+_, _*_, _≤_}
 use mathlib.Core.Path.{_≡_}
-use mathlib.Core.List.{List}
+use mathlib.Core.Bool.{cond}
+use mathlib.Core.List.{List, map}
+use lib.Dec.{eqb}
 use lib.ListN.{length, getD}
 use Rattle.definitions.specs.Limits.{lead-limit, span-limit}
 use Rattle.definitions.specs.Tropical.{Trop}
@@ -41,6 +43,28 @@ fold-limit = 3221225472
 -- A side of a row that is not blank is at least this.
 abbrev pub fold-least : ℕ
 fold-least = 1073741824
+
+-- Inside a trial a value is kept low, as its offset number less 2 to the 30th, and 0 for blank: a coefficient and a value
+-- then have a sum of 32 bits. This is the offset number of a low one, and an array of them.
+abbrev pub low-half : ℕ
+low-half = 1073741824
+
+unfoldable pub high : ℕ → ℕ
+high k = cond (eqb k 0) 0 (k + low-half)
+
+abbrev pub highs : List ℕ → List ℕ
+highs x = map high x
+
+-- The sum of a coefficient and a low value is at least this if both are whole, and below it if one is blank.
+abbrev pub low-fold : ℕ
+low-fold = 2684354560
+
+-- A side of a row, as a low number, is at most this, and at least that where it is not blank.
+abbrev pub side-most : ℕ
+side-most = 1140000000
+
+abbrev pub side-least : ℕ
+side-least = 536870912
 
 -- A table of 64 rows of 32 entries within d of 0.
 pub record Table (d : ℕ) (table : List ℕ) : Type 0 where

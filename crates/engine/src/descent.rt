@@ -31,9 +31,9 @@ fn clamped(k: u64, reached: u64) -> u64
 
 // The trial after a possible one: a guess, or the lowest.
 fn next_trial(
-    left: &[u64; 2048],
-    right: &[u64; 2048],
-    objective: &[u64; 32],
+    left: &[u32; 2048],
+    right: &[u32; 2048],
+    objective: &[u32; 32],
     n: usize,
     m: usize,
     point: &[u64; 32],
@@ -72,9 +72,9 @@ pub struct Descent {
 
 // Trials from the top, which is possible, down to the last.
 pub fn descend(
-    left: &[u64; 2048],
-    right: &mut [u64; 2048],
-    objective: &[u64; 32],
+    left: &[u32; 2048],
+    right: &mut [u32; 2048],
+    objective: &[u32; 32],
     n: usize,
     m: usize,
     top: Outcome,

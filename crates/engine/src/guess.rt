@@ -5,29 +5,33 @@ ghost use mathlib.Core.Path.{_≡_};
 ghost use Prim.Native.Nat.{_+_, _<_, _≤_};
 ghost use lib.ListN.{length};
 ghost use Rattle.records.specs.Decoded.{Near};
-ghost use Rattle.engine.specs.Tables.{raised-limit, value-limit, fold-limit, fold-least, Ranged, Tables};
+ghost use Rattle.engine.specs.Tables.{raised-limit, value-limit, side-most, side-least, high, highs, Ranged, Tables};
 ghost use Rattle.engine.specs.Trials.{Ready};
 use crate::picks::induced;
+use crate::policy::raised;
+use crate::values::HALF;
+use crate::values::LOW;
+use crate::values::plus;
 use crate::values::side;
 use records::limits::OFFSET;
 
-// Heights from −2²⁵ to 2²⁵ are kept.
-const FARTHEST: u64 = 33554432;
+// Heights from −2²⁵ to 2²⁵ are kept, as low numbers.
+const FARTHEST: u32 = 33554432;
 
 // The height that a row of this left side asks of its target, whose right coefficient is this; blank where there is none or
 // it is out of range.
-fn asked(side: u64, right: u64) -> u64
-    requires { ⌜ (side ≤ fold-limit) × (0 < side → fold-least ≤ side) × Near raised-limit right ⌝ }
-    ensures { λ r. ⌜ Near value-limit r ⌝ }
+fn asked(side: u32, right: u32) -> u32
+    requires { ⌜ (side ≤ side-most) × (0 < side → side-least ≤ side) × Near raised-limit right ⌝ }
+    ensures { λ r. ⌜ Near value-limit (high r) ⌝ }
 {
     if side == 0 {
         return 0;
     }
-    let height = side + OFFSET - right;
-    if height < OFFSET - FARTHEST {
+    let height = side + HALF - right;
+    if height < LOW - FARTHEST {
         return 0;
     }
-    if OFFSET + FARTHEST < height {
+    if LOW + FARTHEST < height {
         return 0;
     }
     height
@@ -35,21 +39,21 @@ fn asked(side: u64, right: u64) -> u64
 
 // Heights after a round, and whether one rose.
 pub struct Round {
-    pub heights: [u64; 32],
+    pub heights: [u32; 32],
     pub moved: bool,
 }
 
 // One round over the rules: targets rise to what is asked of them.
 fn lift(
-    left: &[u64; 2048],
-    right: &[u64; 2048],
+    left: &[u32; 2048],
+    right: &[u32; 2048],
     targets: &[usize; 64],
-    before: [u64; 32],
+    before: [u32; 32],
     width: usize,
     rules: usize,
 ) -> Round
-    requires { ⌜ Tables (now left) (now right) width (rules + 1) × (length (now targets) ≡ 64) × Ranged before ⌝ }
-    ensures { λ r. ⌜ Ranged (r .heights) ⌝ }
+    requires { ⌜ Tables (now left) (now right) width (rules + 1) × (length (now targets) ≡ 64) × Ranged (highs before) ⌝ }
+    ensures { λ r. ⌜ Ranged (highs (r .heights)) ⌝ }
 {
     let mut heights = before;
     let mut moved = false;
@@ -70,18 +74,18 @@ fn lift(
 
 // The heights that the rules ask for where the variable `start` is at 0: rounds until one changes nothing.
 fn lifted(
-    left: &[u64; 2048],
-    right: &[u64; 2048],
+    left: &[u32; 2048],
+    right: &[u32; 2048],
     targets: &[usize; 64],
     start: usize,
     width: usize,
     rules: usize,
-) -> [u64; 32]
+) -> [u32; 32]
     requires { ⌜ Tables (now left) (now right) width (rules + 1) × (length (now targets) ≡ 64) × (start < 32) ⌝ }
-    ensures { λ r. ⌜ Ranged r ⌝ }
+    ensures { λ r. ⌜ Ranged (highs r) ⌝ }
 {
-    let mut heights = [0u64; 32];
-    heights[start] = OFFSET;
+    let mut heights = [0u32; 32];
+    heights[start] = LOW;
     let mut rounds: usize = 0;
     while rounds < 32 {
         let round = lift(left, right, targets, heights, width, rules);
@@ -97,9 +101,9 @@ fn lifted(
 
 // One below the least span with the targets of a point; 0 where there is no least.
 pub fn guess(
-    left: &[u64; 2048],
-    right: &[u64; 2048],
-    objective: &[u64; 32],
+    left: &[u32; 2048],
+    right: &[u32; 2048],
+    objective: &[u32; 32],
     n: usize,
     m: usize,
     point: &[u64; 32],
@@ -116,5 +120,5 @@ pub fn guess(
     if first == 0 {
         return 0;
     }
-    first + OFFSET - objective[target] - 1
+    raised(first) + OFFSET - plus(objective[target], 1)
 }

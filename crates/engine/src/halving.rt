@@ -81,9 +81,9 @@ impl Search {
 
 // One trial at t, between what is blocked and what is reached: it moves one of them.
 fn try_at(
-    left: &[u64; 2048],
-    right: &mut [u64; 2048],
-    objective: &[u64; 32],
+    left: &[u32; 2048],
+    right: &mut [u32; 2048],
+    objective: &[u32; 32],
     n: usize,
     m: usize,
     search: Search,
@@ -110,9 +110,9 @@ fn try_at(
 
 // A trial one above what is blocked: there the search ends if the last guess was right.
 pub fn closer(
-    left: &[u64; 2048],
-    right: &mut [u64; 2048],
-    objective: &[u64; 32],
+    left: &[u32; 2048],
+    right: &mut [u32; 2048],
+    objective: &[u32; 32],
     n: usize,
     m: usize,
     search: Search,

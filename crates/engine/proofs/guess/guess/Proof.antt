@@ -1,5 +1,6 @@
 use native.Mathlib.Omega.{arith}
 use lib.ListN.{getD}
+use Rattle.engine.proofs.Low.{high-whole, highs-size}
 use Rattle.engine.proofs.Filled.{positive}
 use Rattle.engine.proofs.Trials.{table-raised}
 use borrow.Author.Needs.{needs}
@@ -19,11 +20,12 @@ guess-spec =
     (λ c. search needs)
     (λ c κs. search needs)
     (λ c. search needs)
-    (λ c κs. let p = c .before .before .before .before .before .pre in (omega (arith, p .0 .m-most), omega (arith, p .0 .n-most), table-raised (p .0 .tables .lefts), c .before .lifted .ensures))
+    (λ c κs. let p = c .before .before .before .before .before .pre in (omega (arith, p .0 .m-most), omega (arith, p .0 .n-most), table-raised (p .0 .tables .lefts), c .before .lifted .ensures, highs-size (c .before .lifted .result) 32 (c .before .lifted .ensures .size)))
+    (λ c. search needs)
+    (λ c κs. search needs)
+    (λ c. omega (arith, c .raised .ensures, high-whole _ (positive _ (c .before .if2 .left)), c .before .before .side .ensures .least (positive _ (c .before .if2 .left)), c .before .before .side .ensures .most))
     (λ c. search needs)
     (λ c. search needs)
-    (λ c. search needs)
-    (λ c. search needs)
-    (λ c. let s = c .before .before .before .before .before .before .before .before in omega (arith, c .before .before .side .ensures .least (positive _ (c .before .if2 .left)), s .pre .0 .objective-near (getD (c .before .before .before .before .before .before .before .induced .result) (s .args .m) 0) .hi))
-    (λ c. let s = c .before .before .before .before .before .before .before .before in omega (arith, c .before .before .side .ensures .least (positive _ (c .before .if2 .left)), s .pre .0 .objective-near (getD (c .before .before .before .before .before .before .before .induced .result) (s .args .m) 0) .hi))
+    (λ c κs. omega (arith, c .before .before .before .before .before .before .before .before .before .pre .0 .objective-near (getD (c .before .before .before .before .before .before .before .before .induced .result) (c .before .before .before .before .before .before .before .before .before .args .m) 0) .hi))
+    (λ c. omega (arith, c .plus .ensures, c .before .before .raised .ensures, high-whole _ (positive _ (c .before .before .before .if2 .left)), c .before .before .before .before .side .ensures .least (positive _ (c .before .before .before .if2 .left)), c .before .before .before .before .side .ensures .most, c .before .before .before .before .before .before .before .before .before .before .pre .0 .objective-near (getD (c .before .before .before .before .before .before .before .before .before .induced .result) (c .before .before .before .before .before .before .before .before .before .before .args .m) 0) .hi))
     (λ c. search needs))

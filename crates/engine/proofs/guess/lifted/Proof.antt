@@ -1,13 +1,13 @@
 use Prim.Native.Nat.{_≤_, _-_}
 use native.Mathlib.Omega.{arith}
-use Rattle.engine.specs.Tables.{Ranged}
+use Rattle.engine.specs.Tables.{Ranged, highs}
 use Rattle.engine.proofs.Heights.{ranged-start}
 use borrow.Author.Needs.{needs}
 use Rattle.engine.proofs.guess.lifted.Statement.{statement}
 use Rattle.engine.proofs.guess.lifted.Tie as tie
 
 abbrev Inv-loop : tie.InvT-loop
-Inv-loop left right targets start width rules heights₀ rounds₀ heights rounds = (rounds ≤ 32) × Ranged heights
+Inv-loop left right targets start width rules heights₀ rounds₀ heights rounds = (rounds ≤ 32) × Ranged (highs heights)
 
 abbrev μ-loop : tie.MeasureT-loop
 μ-loop left right targets start width rules heights₀ rounds₀ heights rounds = 32 - rounds

@@ -2,15 +2,19 @@ use Rattle.duality.specs.Values.{exitBy}
 use Prim.Native.Nat.{_≤_, _-_}
 use native.Mathlib.Omega.{arith}
 use mathlib.Core.List.{[]}
-use Rattle.engine.specs.Tables.{systemOf, pickOf}
-use Rattle.engine.specs.Rounds.{Exits}
+use Rattle.engine.specs.Tables.{systemOf, pickOf, high}
+use mathlib.Core.Path.{_≡_}
+use Rattle.definitions.specs.Offset.{tropOf}
+use Rattle.duality.specs.Values.{exits as exitsOf}
+use Rattle.engine.specs.Filled.{Filled}
 use Rattle.engine.proofs.Filled.{filled-none, filled-more, filled-end}
+use Rattle.engine.proofs.Low.{filled-highs}
 use borrow.Author.Needs.{needs}
 use Rattle.engine.proofs.values.exits.Statement.{statement}
 use Rattle.engine.proofs.values.exits.Tie as tie
 
 abbrev Inv-loop : tie.InvT-loop
-Inv-loop picks width rows out₀ j₀ out j = (j ≤ width) × Exits (systemOf [] [] width rows) (pickOf picks) j out
+Inv-loop picks width rows out₀ j₀ out j = (j ≤ width) × Filled (λ k v. tropOf (high v) ≡ exitsOf (systemOf [] [] width rows) (pickOf picks) k) 32 j out
 
 abbrev μ-loop : tie.MeasureT-loop
 μ-loop picks width rows out₀ j₀ out j = width - j
@@ -34,4 +38,4 @@ exits-spec =
     (λ c. search needs)
     (λ c. search needs)
     loop-again
-    (λ c. filled-end (c .before .loop .inv .1) (omega arith) (omega arith)))
+    (λ c. filled-highs (filled-end (c .before .loop .inv .1) (omega arith) (omega arith))))

@@ -2,7 +2,7 @@ use Prim.Native.Nat.{_≤_, _-_, _+_, _*_}
 use mathlib.Core.Path.{_≡_}
 use native.Mathlib.Omega.{arith}
 use Rattle.engine.specs.Rounds.{uppermost, sums}
-use Rattle.engine.proofs.Fold.{uppermost-none, uppermost-more, side-end}
+use Rattle.engine.proofs.Fold.{uppermost-none, uppermost-more, sum-most, side-end}
 use borrow.Author.Needs.{needs}
 use Rattle.engine.proofs.values.side.Statement.{statement}
 use Rattle.engine.proofs.values.side.Tie as tie
@@ -26,10 +26,10 @@ side-spec =
     (λ c. search needs)
     (λ c. search needs)
     (λ c. search needs)
-    (λ c κs. omega (arith, c .before .before .before .before .pre .2 .near (c .before .before .before .before .args .row * 32 + c .before .before .before .loop .l) .hi, c .before .before .before .before .pre .3 .near (c .before .before .before .loop .l) .hi))
+    (λ c. let start = c .before .before .before .before in omega (arith, sum-most (start .args .table .now) (start .args .x .now) (start .pre .2) (start .pre .3) (start .args .row) (c .before .before .before .loop .l)))
     (λ c κs. search needs)
     (λ c. search needs)
     (λ c. search needs)
-    (λ c. (omega arith, uppermost-more _ _ _ _ (c .before .before .before .before .before .loop .inv .1) (rw (c .before .plus .ensures) at (c .larger .ensures))))
+    (λ c. (omega arith, search uppermost-more))
     (λ c κs. search needs)
     (λ c. search side-end))

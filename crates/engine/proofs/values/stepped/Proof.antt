@@ -1,6 +1,7 @@
 use Prim.Native.Nat.{_+_, _*_}
 use Prim.Native.Nat.{_-_}
 use native.Mathlib.Omega.{arith}
+use Rattle.engine.specs.Tables.{highs}
 use Rattle.engine.proofs.Rounds.{stepped-picked, stepped-terminal}
 use borrow.Author.Needs.{needs}
 use Rattle.engine.proofs.values.stepped.Statement.{statement}
@@ -10,14 +11,11 @@ pub stepped-spec : {M : Type 1} → statement M
 stepped-spec =
     tie.close
     (tie.spec
-    (λ c κs. (omega arith, omega arith, c .before .pre .0 .rights, c .before .pre .1))
+    (λ c κs. (omega arith, omega arith, c .before .pre .0 .rights, c .before .pre .1, c .before .pre .2))
     (λ c. search needs)
     (λ c. search needs)
     (λ c. search needs)
     (λ c. search needs)
-    (λ c κs. search needs)
-    (λ c κs. let start = c .before .before .before .before in
-    (c .before .before .side .ensures .most, c .before .before .side .ensures .least, omega (arith, c .wide .ensures, start .pre .0 .lefts .near (start .args .pick * 32 + start .args .j) .hi)))
-    (λ c. let a = c .before .before .before .before .before .args in
-    stepped-picked (a .left .now) (a .right .now) (a .x .now) (a .width) (a .rows) (a .pick) (a .j) _ 0 _ (c .before .before .before .before .if1 .taken) (c .before .before .before .side .ensures) (rw (c .before .wide .ensures) at (c .gap .ensures)))
+    (λ c κs. (c .before .side .ensures .most, c .before .side .ensures .least, omega (arith, c .before .before .before .pre .0 .lefts .near (c .before .before .before .args .pick * 32 + c .before .before .before .args .j) .hi)))
+    (λ c. let a = c .before .before .before .before .args in stepped-picked (a .left .now) (a .right .now) (highs (a .x .now)) (a .width) (a .rows) (a .pick) (a .j) _ 0 _ (c .before .before .before .if1 .taken) (c .before .before .side .ensures) (c .given .ensures))
     (λ c. let a = c .before .args in stepped-terminal (a .left .now) (a .right .now) (a .width) (a .rows) (a .pick) (a .j) _ (c .if1 .left)))
