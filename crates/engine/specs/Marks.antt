@@ -2,6 +2,7 @@
 use Prim.Native.Nat.{ℕ, _+_, _*_, _≤_, _<_}
 use mathlib.Core.Path.{_≡_}
 use mathlib.Core.Bool.{Bool, true, false, cond}
+use mathlib.Core.Logic.{_⊎_}
 use mathlib.Core.List.{List}
 use lib.Dec.{eqb}
 use lib.ListN.{length, getD}
@@ -29,16 +30,13 @@ pub record FromMarked (arcs marks : List ℕ) (width l : ℕ) : Type 0 where
   pub marked : Marked marks at
   pub arc : ArcIn arcs width at l
 
--- The test for such an arc.
-pub record LedTo (arcs marks : List ℕ) (width l : ℕ) (r : Bool) : Type 0 where
-  pub yes : r ≡ true → FromMarked arcs marks width l
-  pub no : r ≡ false → (j : ℕ) → Marked marks j → ArcIn arcs width j l → ⊥
+-- The mark after an arc from a marked variable was looked at: it is new, or as it was.
+abbrev pub MarkBy : ℕ → ℕ → ℕ → Type 0
+MarkBy mark arc r = ((r ≡ 1) × (mark ≡ 0) × (arc ≡ 0 → ⊥)) ⊎ ((r ≡ mark) × (mark ≡ 0 → arc ≡ 0))
 
--- The test for a variable that is to be marked.
-pub record Fresh (arcs marks : List ℕ) (width l : ℕ) (r : Bool) : Type 0 where
-  pub blank : r ≡ true → getD marks l 0 ≡ 0
-  pub yes : r ≡ true → FromMarked arcs marks width l
-  pub no : r ≡ false → getD marks l 0 ≡ 0 → (j : ℕ) → Marked marks j → ArcIn arcs width j l → ⊥
+-- The test of two marks.
+abbrev pub Differs : ℕ → ℕ → ℕ → Type 0
+Differs a b r = ((r ≡ 0) × (a ≡ b)) ⊎ ((r ≡ 1) × (a ≡ b → ⊥))
 
 -- What is marked is reachable, and variable 0 is marked.
 pub record Sound (arcs : List ℕ) (width : ℕ) (marks : List ℕ) : Type 0 where
@@ -50,12 +48,23 @@ pub record Sound (arcs : List ℕ) (width : ℕ) (marks : List ℕ) : Type 0 whe
 unfoldable pub unmarked : ℕ → List ℕ → ℕ
 unmarked width marks = total (λ l. cond (eqb (getD marks l 0) 0) 1 0) width
 
+-- Variable j has marked all to which it leads below n; so many are new.
+pub record RowSpread (arcs : List ℕ) (width j : ℕ) (before marks : List ℕ) (count n : ℕ) : Type 0 where
+  pub sound : Sound arcs width marks
+  pub kept : (l : ℕ) → Marked before l → Marked marks l
+  pub most : unmarked width marks ≤ unmarked width before
+  pub fewer : 0 < count → unmarked width marks < unmarked width before
+  pub still : count ≡ 0 → (l : ℕ) → getD marks l 0 ≡ getD before l 0
+  pub closed : (l : ℕ) → l < n → ArcIn arcs width j l → Marked marks l
+  pub few : count ≤ n
+
 -- A round, made for the variables below n.
-pub record Spreading (arcs : List ℕ) (width : ℕ) (before marks : List ℕ) (moved : Bool) (n : ℕ) : Type 0 where
+pub record Spreading (arcs : List ℕ) (width : ℕ) (before marks : List ℕ) (added n : ℕ) : Type 0 where
   pub sound : Sound arcs width marks
   pub most : unmarked width marks ≤ unmarked width before
-  pub fewer : moved ≡ true → unmarked width marks < unmarked width before
-  pub closed : moved ≡ false → (l : ℕ) → l < n → getD marks l 0 ≡ 0 → (j : ℕ) → Marked marks j → ArcIn arcs width j l → ⊥
+  pub fewer : 0 < added → unmarked width marks < unmarked width before
+  pub closed : added ≡ 0 → (j : ℕ) → j < n → Marked marks j → (l : ℕ) → ArcIn arcs width j l → Marked marks l
+  pub few : added ≤ 32 * n
 
 -- Exactly the reachable variables are marked.
 pub record Reached (arcs : List ℕ) (width : ℕ) (marks : List ℕ) : Type 0 where

@@ -1,5 +1,6 @@
-use borrow.Author.Tests.{not-true, not-false}
+use native.Mathlib.Omega.{arith}
 use Rattle.engine.specs.Marks.{Sound, unmarked}
+use Rattle.engine.proofs.Filled.{positive}
 use Rattle.engine.proofs.Marks.{sound-start, spreading-reached}
 use borrow.Author.Needs.{needs}
 use Rattle.engine.proofs.reach.reach.Statement.{statement}
@@ -20,6 +21,6 @@ reach-spec =
     (λ c. search needs)
     (λ c. sound-start _ _)
     (λ c κs. (c .before .pre .0, c .before .pre .1, c .loop .inv))
-    (λ c. spreading-reached _ _ _ _ _ (c .before .before .before .spread-from .ensures) (not-true _ (c .if1 .taken)))
-    (λ c. c .before .before .before .spread-from .ensures .fewer (not-false _ (c .if1 .left)))
+    (λ c. spreading-reached _ _ _ _ _ (c .before .before .before .spread-from .ensures) (c .if1 .taken))
+    (λ c. c .before .before .before .spread-from .ensures .fewer (positive _ (c .if1 .left)))
     (λ c. c .before .before .before .spread-from .ensures .sound))
