@@ -141,6 +141,7 @@ fn optimal(
 }
 
 // The answer of the problem in two tables. The right table's row of the objective is rewritten on the way.
+// Public for `solve`.
 pub fn solve_tables(left: &[u32; 2048], right: &mut [u32; 2048], n: usize, m: usize) -> Answer
     requires { ⌜ Coefficients n m (now left) (now right) ⌝ }
     ensures { λ r. ⌜ Answered n m (now (left .entry)) (now (right .entry)) (r .class) (r .span) (r .trials) (r .stamps) (r .picks) ⌝ }

@@ -12,7 +12,7 @@ pub struct Bracket {
 }
 
 impl Bracket {
-    // The middle, (high + low) / 2 rounded up.
+    // The middle, (high + low) / 2 rounded up. Public for `halving`.
     pub fn middle(self) -> u64
         requires { ⌜ Trialled (self .low) × Trialled (self .high) ⌝ }
         ensures { λ r. ⌜ (wholeOf r ≡ middle (bracketOf (self .low) (self .high))) × Between (self .low) (self .high) r ⌝ }
@@ -20,7 +20,7 @@ impl Bracket {
         (self.low + self.high + 1) / 2
     }
 
-    // One trial's outcome at the middle gives the next bracket.
+    // One trial's outcome at the middle gives the next bracket. Public for `halving`.
     pub fn next(self, possible: bool) -> Bracket
         requires { ⌜ Trialled (self .low) × Trialled (self .high) ⌝ }
         ensures { λ r. ⌜ (bracketOf (r .low) (r .high) ≡ next (bracketOf (self .low) (self .high)) possible) ⌝ }

@@ -70,7 +70,7 @@ pub struct Descent {
     pub picks: [usize; 32],
 }
 
-// Trials from the top, which is possible, down to the last.
+// Trials from the top, which is possible, down to the last. Public for `answer`.
 pub fn descend(
     left: &[u32; 2048],
     right: &mut [u32; 2048],

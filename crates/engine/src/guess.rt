@@ -99,7 +99,7 @@ fn lifted(
     heights
 }
 
-// One below the least span with the targets of a point; 0 where there is no least.
+// One below the least span with the targets of a point; 0 where there is no least. Public for `descent`.
 pub fn guess(
     left: &[u32; 2048],
     right: &[u32; 2048],

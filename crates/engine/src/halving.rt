@@ -23,7 +23,7 @@ fn shift(k: u32, t: u64) -> u32
     (k as u64 + t - OFFSET) as u32
 }
 
-// The objective's row of the right table, raised by t.
+// The objective's row of the right table, raised by t. Public for `answer`.
 pub fn raise(right: &mut [u32; 2048], objective: &[u32; 32], row: usize, t: u64)
     requires { ⌜ (length (now right) ≡ 2048) × (length (now objective) ≡ 32) × (row < 64) × Trialled t × ((k : ℕ) → Near lead-limit (getD (now objective) k 0)) ⌝ }
     ensures { λ _. ⌜ Raised (now (right .entry)) (now (objective .entry)) row t 32 (now (right .exit)) ⌝ }
@@ -36,7 +36,7 @@ pub fn raise(right: &mut [u32; 2048], objective: &[u32; 32], row: usize, t: u64)
     }
 }
 
-// One trial at t, from a strategy that is kept there.
+// One trial at t, from a strategy that is kept there. Public for `answer`, `descent`.
 pub fn attempt(
     left: &[u32; 2048],
     right: &mut [u32; 2048],
@@ -66,7 +66,7 @@ pub struct Search {
 }
 
 impl Search {
-    // The trial at the middle, with this outcome, is counted.
+    // The trial at the middle, with this outcome, is counted. Public for `halving`.
     pub fn halved(mut self, possible: bool) -> Search
         requires { ⌜ Trialled (self .bracket .low) × Trialled (self .bracket .high) × (self .trials ≤ 2000000) ⌝ }
         ensures { λ r. ⌜ MiddleCounted self possible r ⌝ }
@@ -108,7 +108,7 @@ fn try_at(
     next
 }
 
-// A trial one above what is blocked: there the search ends if the last guess was right.
+// A trial one above what is blocked: there the search ends if the last guess was right. Public for `answer`.
 pub fn closer(
     left: &[u32; 2048],
     right: &mut [u32; 2048],
@@ -128,7 +128,7 @@ pub fn closer(
 }
 
 // One step of a search whose bracket is wider than 1: a middle whose outcome is known is counted, at another a trial is made.
-pub fn step(
+fn step(
     left: &[u32; 2048],
     right: &mut [u32; 2048],
     objective: &[u32; 32],
@@ -158,7 +158,7 @@ pub struct Least {
     pub blocking: [usize; 32],
 }
 
-// Halvings until the bracket is 1 wide; its high is the least span.
+// Halvings until the bracket is 1 wide; its high is the least span. Public for `answer`.
 pub fn halve(
     left: &[u32; 2048],
     right: &mut [u32; 2048],

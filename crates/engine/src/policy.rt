@@ -148,6 +148,7 @@ pub struct Outcome {
 }
 
 // Policy iteration from a strategy that is kept, until no row fails at its values or variable 0 has none left.
+// Public for `halving`.
 pub fn trial(
     left: &[u32; 2048],
     right: &[u32; 2048],

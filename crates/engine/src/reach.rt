@@ -72,7 +72,7 @@ fn spread_from(arcs: &[u32; 1024], before: [u32; 32], width: usize) -> Spread
     Spread { marks, added }
 }
 
-// Marks of the variables that variable 0 reaches: rounds until one adds none.
+// Marks of the variables that variable 0 reaches: rounds until one adds none. Public for `picks`.
 pub fn reach(arcs: &[u32; 1024], width: usize) -> [u32; 32]
     requires { ⌜ (length (now arcs) ≡ 1024) × (width ≤ 32) × (0 < width) ⌝ }
     ensures { λ r. ⌜ Reached (now (arcs .entry)) width r ⌝ }

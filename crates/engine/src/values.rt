@@ -27,7 +27,7 @@ fn larger(a: u32, b: u32) -> u32
     if a <= b { b } else { a }
 }
 
-// A coefficient plus a value.
+// A coefficient plus a value. Public for `guess`, `picks`.
 pub fn plus(a: u32, b: u64) -> u64
     requires { ⌜ a + b ≤ 18446744073709551615 ⌝ }
     ensures { λ r. ⌜ r ≡ a + b ⌝ }
@@ -42,7 +42,7 @@ fn fold(k: u32) -> u32
     if k < FOLD { 0 } else { k - HALF }
 }
 
-// One side of a row at low values: the largest of coefficient + variable.
+// One side of a row at low values: the largest of coefficient + variable. Public for `guess`, `policy`.
 pub fn side(table: &[u32; 2048], row: usize, x: &[u32; 32], width: usize) -> u32
     requires { ⌜ (row < 64) × (width ≤ 32) × Table raised-limit (now table) × Ranged (highs (now x)) × (length (now x) ≡ 32) ⌝ }
     ensures { λ r. ⌜ SideIs (now (table .entry)) row (highs (now (x .entry))) width r ⌝ }
@@ -57,7 +57,7 @@ pub fn side(table: &[u32; 2048], row: usize, x: &[u32; 32], width: usize) -> u32
     fold(best)
 }
 
-// An offset number less another.
+// An offset number less another. Public for `answer`.
 pub fn gap(side: u64, left: u64) -> u64
     requires { ⌜ (side ≤ fold-limit) × (0 < side → fold-least ≤ side) × (left ≤ signed-half + lead-limit) ⌝ }
     ensures { λ r. ⌜ (tropOf r ≡ difference (tropOf side) (tropOf left)) ⌝ }
@@ -163,6 +163,7 @@ fn same(x: &[u32; 32], y: &[u32; 32], width: usize) -> bool
 }
 
 // The values of a strategy: rounds until one changes nothing, at most as many as there are variables.
+// Public for `policy`.
 pub fn evaluate(
     left: &[u32; 2048],
     right: &[u32; 2048],

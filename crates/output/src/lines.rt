@@ -61,7 +61,7 @@ fn accepted_line(line: &mut [u8], class: u64, span: u64) -> usize
     copy(line, b, b"\n")
 }
 
-// Puts the line of a refusal.
+// Puts the line of a refusal. Public for `writer`.
 pub fn refused_line(line: &mut [u8], number: usize) -> usize
     requires { ⌜ line-most ≤ length (now line) ⌝ }
     ensures { λ r. ⌜ Putting (now (line .entry)) 0 (refusedLine number) (now (line .exit)) r × (r ≤ line-most) ⌝ }
@@ -71,7 +71,7 @@ pub fn refused_line(line: &mut [u8], number: usize) -> usize
     copy(line, b, b"\n")
 }
 
-// Puts the line of a verdict: that of refusal `refusal`, or of class and span where it is 0.
+// Puts the line of a verdict: that of refusal `refusal`, or of class and span where it is 0. Public for `writer`.
 pub fn verdict_line(line: &mut [u8], refusal: usize, class: u64, span: u64) -> usize
     requires { ⌜ line-most ≤ length (now line) ⌝ }
     ensures { λ r. ⌜ Putting (now (line .entry)) 0 (verdictLine (verdictOf refusal class span)) (now (line .exit)) r × (r ≤ line-most) ⌝ }

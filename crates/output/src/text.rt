@@ -5,7 +5,7 @@ ghost use lib.ListN.{length};
 ghost use Rattle.definitions.specs.Programs.{decimal};
 ghost use Rattle.output.specs.Text.{Putting, Appended};
 
-// Puts `text` from place `at` on, and gives the place after it.
+// Puts `text` from place `at` on, and gives the place after it. Public for `lines`.
 pub fn copy(buf: &mut [u8], at: usize, text: &[u8]) -> usize
     requires { ⌜ at + length (now text) ≤ length (now buf) ⌝ }
     ensures { λ r. ⌜ Putting (now (buf .entry)) at (now (text .entry)) (now (buf .exit)) r ⌝ }
@@ -34,6 +34,7 @@ pub fn append(buf: &mut [u8], at: usize, text: &[u8]) -> usize
 }
 
 // Puts a number in decimal, without leading zeros, from place `at` on, and gives the place after it.
+// Public for `lines`.
 pub fn put_decimal(buf: &mut [u8], at: usize, number: u64) -> usize
     requires { ⌜ at + 20 ≤ length (now buf) ⌝ }
     ensures { λ r. ⌜ Putting (now (buf .entry)) at (decimal number) (now (buf .exit)) r × (r ≤ at + 20) ⌝ }

@@ -21,6 +21,7 @@ pub fn known_class(class: u64) -> bool
 }
 
 // How many stamps an answer of this class has: n + 1 for least, else none.
+// Public for `engine::solve`, `answer`, `roundtrip`, `writer`.
 pub fn stamp_count(class: u64, n: usize) -> usize
     requires { ⌜ n ≤ highest-n ⌝ }
     ensures { λ r. ⌜ (r ≡ stampCount class n) × (r ≤ 32) ⌝ }
@@ -32,6 +33,7 @@ pub fn stamp_count(class: u64, n: usize) -> usize
 }
 
 // How many picks: one a row for bottomless, else one a moment.
+// Public for `engine::solve`, `answer`, `roundtrip`, `writer`.
 pub fn pick_count(class: u64, n: usize, m: usize) -> usize
     requires { ⌜ (n ≤ highest-n) × (m ≤ highest-m) ⌝ }
     ensures { λ r. ⌜ (r ≡ pickCount class n m) × (r ≤ 64) ⌝ }
@@ -42,7 +44,7 @@ pub fn pick_count(class: u64, n: usize, m: usize) -> usize
     }
 }
 
-// The highest pick: 1 + a moment's number for bottomless, else m + 1, the question.
+// The highest pick: 1 + a moment's number for bottomless, else m + 1, the question. Public for `answer`, `writer`.
 pub fn highest_pick(class: u64, n: usize, m: usize) -> u64
     requires { ⌜ (n ≤ highest-n) × (m ≤ highest-m) ⌝ }
     ensures { λ r. ⌜ r ≡ highestPick class n m ⌝ }
@@ -63,7 +65,7 @@ pub fn span_fits(class: u64, span: u64) -> bool
     }
 }
 
-// The size of an answer record.
+// The size of an answer record. Public for `answer`, `writer`.
 pub fn answer_size(class: u64, n: usize, m: usize) -> usize
     requires { ⌜ (n ≤ highest-n) × (m ≤ highest-m) ⌝ }
     ensures { λ r. ⌜ (r ≡ answerSize class n m) × (r ≤ 270) ⌝ }
