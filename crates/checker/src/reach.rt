@@ -22,14 +22,14 @@ pub fn marks_agree(before: &[u8; 32], after: &[u8; 32], width: usize) -> bool
 }
 
 // A place's mark once an arc leads there, or none does.
-fn mark_of(mark: u8, arc: u64) -> u8
+fn mark_of(mark: u8, arc: u32) -> u8
     ensures { λ r. ⌜ r ≡ markOf mark arc ⌝ }
 {
     if arc == 0 { mark } else { 1 }
 }
 
 // The marks, with all to which the arcs from `base` on lead.
-fn mark_row(arcs: &[u64; ARCS], base: usize, width: usize, marks: [u8; 32]) -> [u8; 32]
+fn mark_row(arcs: &[u32; ARCS], base: usize, width: usize, marks: [u8; 32]) -> [u8; 32]
     requires { ⌜ (base + width ≤ 1024) × (width ≤ 32) × (length marks ≡ 32) ⌝ }
     ensures { λ r. ⌜ RowMarked (now (arcs .entry)) base width marks r ⌝ }
 {
@@ -41,7 +41,7 @@ fn mark_row(arcs: &[u64; ARCS], base: usize, width: usize, marks: [u8; 32]) -> [
 }
 
 // A round: the marks, with all to which a marked variable leads.
-fn mark_round(arcs: &[u64; ARCS], width: usize, marks: [u8; 32]) -> [u8; 32]
+fn mark_round(arcs: &[u32; ARCS], width: usize, marks: [u8; 32]) -> [u8; 32]
     requires { ⌜ (width ≤ 32) × Flags marks ⌝ }
     ensures { λ r. ⌜ Marking (now (arcs .entry)) width marks width r ⌝ }
 {
@@ -57,7 +57,7 @@ fn mark_round(arcs: &[u64; ARCS], width: usize, marks: [u8; 32]) -> [u8; 32]
 
 // Marks of the variables that are reachable from the start, by rounds until one marks nothing new. Each round but the
 // last marks a variable, so there are at most as many as variables.
-pub fn reach(arcs: &[u64; ARCS], width: usize, start: [u8; 32]) -> [u8; 32]
+pub fn reach(arcs: &[u32; ARCS], width: usize, start: [u8; 32]) -> [u8; 32]
     requires { ⌜ (width ≤ 32) × Flags start ⌝ }
     ensures { λ r. ⌜ Reached (now (arcs .entry)) width start r ⌝ }
 {
