@@ -28,27 +28,28 @@ fn mark_of(mark: u8, arc: u32) -> u8
     if arc == 0 { mark } else { 1 }
 }
 
-// The marks, with all to which the arcs from `base` on lead.
-fn mark_row(arcs: &[u32; ARCS], base: usize, width: usize, marks: [u8; 32]) -> [u8; 32]
-    requires { ⌜ (base + width ≤ 1024) × (width ≤ 32) × (length marks ≡ 32) ⌝ }
-    ensures { λ r. ⌜ RowMarked (now (arcs .entry)) base width marks r ⌝ }
+// The marks, with all to which the arcs from `base` on lead. All places are looked at, whatever the width: a loop of known
+// length is several times as fast, and marks past the width say nothing.
+fn mark_row(arcs: &[u32; ARCS], base: usize, marks: [u8; 32]) -> [u8; 32]
+    requires { ⌜ (base + 32 ≤ 1024) × (length marks ≡ 32) ⌝ }
+    ensures { λ r. ⌜ RowMarked (now (arcs .entry)) base 32 marks r ⌝ }
 {
     let mut new = marks;
-    for l in 0..width {
+    for l in 0..STRIDE {
         new[l] = mark_of(new[l], arcs[base + l]);
     }
     new
 }
 
-// A round: the marks, with all to which a marked variable leads.
+// A round: the marks, with all to which a marked variable leads. Marks of this round count in it already.
 fn mark_round(arcs: &[u32; ARCS], width: usize, marks: [u8; 32]) -> [u8; 32]
     requires { ⌜ (width ≤ 32) × Flags marks ⌝ }
     ensures { λ r. ⌜ Marking (now (arcs .entry)) width marks width r ⌝ }
 {
     let mut new = marks;
     for j in 0..width {
-        if marks[j] != 0 {
-            let more = mark_row(arcs, j * STRIDE, width, new);
+        if new[j] != 0 {
+            let more = mark_row(arcs, j * STRIDE, new);
             new = more;
         }
     }
