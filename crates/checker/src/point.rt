@@ -34,7 +34,7 @@ fn lower(stamp: u64) -> u32
     }
 }
 
-// The stamps lowered.
+// The stamps lowered, then blanks.
 fn lower_point(stamps: &[u64; 32], width: usize) -> [u32; 32]
     requires { ⌜ Stamped (now stamps) × (width ≤ 32) ⌝ }
     ensures { λ r. ⌜ Lowered (now (stamps .entry)) width r ⌝ }
@@ -46,12 +46,13 @@ fn lower_point(stamps: &[u64; 32], width: usize) -> [u32; 32]
     x
 }
 
-// One side of a row at a point: the row's coefficients stand in the table from `base` on.
-pub fn side(table: &[u32; TABLE], base: usize, x: &[u32; 32], width: usize) -> u64
-    requires { ⌜ RowSized (now table) base (now x) width ⌝ }
-    ensures { λ r. ⌜ r ≡ sideOf (now (table .entry)) base (now (x .entry)) width ⌝ }
+// One side of a row at a point: the row's coefficients stand in the table from `base` on. All places are added, whatever
+// the width, so that the loop has a known length.
+pub fn side(table: &[u32; TABLE], base: usize, x: &[u32; 32]) -> u64
+    requires { ⌜ RowSized (now table) base (now x) ⌝ }
+    ensures { λ r. ⌜ r ≡ sideOf (now (table .entry)) base (now (x .entry)) ⌝ }
 {
-    let best = best_sum(table, base, x, width, SIDE_FLOOR);
+    let best = best_sum(table, base, x, STRIDE, SIDE_FLOOR);
     if best == SIDE_FLOOR {
         0
     } else {
@@ -70,10 +71,9 @@ pub fn keeps_rules(
     requires { ⌜ Sized (now left) (now right) n m × Stamped (now stamps) ⌝ }
     ensures { λ r. ⌜ ((p : Problem) → Holds p (now (left .entry)) (now (right .entry)) n m → Decides ((i : ℕ) → i < m → Keeps p (stampsPoint (now (stamps .entry))) i) r) ⌝ }
 {
-    let width = n + 1;
-    let x = lower_point(stamps, width);
+    let x = lower_point(stamps, n + 1);
     for i in 0..m {
-        if side(right, i * STRIDE, &x, width) < side(left, i * STRIDE, &x, width) {
+        if side(right, i * STRIDE, &x) < side(left, i * STRIDE, &x) {
             return false;
         }
     }
@@ -92,13 +92,12 @@ pub fn value_is(
     requires { ⌜ Sized (now left) (now right) n m × Stamped (now stamps) × (s ≤ 4294967296) ⌝ }
     ensures { λ r. ⌜ ((p : Problem) (z : ℤ) → Holds p (now (left .entry)) (now (right .entry)) n m → tropOf s ≡ fin z → Decides (value p (stampsPoint (now (stamps .entry))) ≡ whole z) r) ⌝ }
 {
-    let width = n + 1;
-    let x = lower_point(stamps, width);
-    let first = side(left, m * STRIDE, &x, width);
+    let x = lower_point(stamps, n + 1);
+    let first = side(left, m * STRIDE, &x);
     if first == 0 {
         return false;
     }
-    let second = side(right, m * STRIDE, &x, width);
+    let second = side(right, m * STRIDE, &x);
     if second == 0 {
         return false;
     }

@@ -10,10 +10,10 @@ use Rattle.checker.proofs.point.keeps_rules.Statement.{statement}
 use Rattle.checker.proofs.point.keeps_rules.Tie as tie
 
 abbrev Inv-loop : tie.InvT-loop
-Inv-loop left right n m stamps width x i₀ i = (i ≤ m) × ((p : Problem) → Holds p left right n m → (k : ℕ) → k < i → Keeps p (stampsPoint stamps) k)
+Inv-loop left right n m stamps x i₀ i = (i ≤ m) × ((p : Problem) → Holds p left right n m → (k : ℕ) → k < i → Keeps p (stampsPoint stamps) k)
 
 abbrev μ-loop : tie.MeasureT-loop
-μ-loop left right n m stamps width x i₀ i = m - i
+μ-loop left right n m stamps x i₀ i = m - i
 
 pub keeps-rules-spec : {M : Type 1} → statement M
 keeps-rules-spec =
@@ -26,10 +26,10 @@ keeps-rules-spec =
     (λ c. (omega arith, λ p h k b. absurd (omega arith)))
     (λ c. search needs)
     (λ c κs. let start = c .before .before .before .before in
-    record { in-table = omega arith; in-x = omega arith; cells = start .pre .0 .right-near; points = low-small (start .pre .1) (c .before .before .before .lower-point .ensures) })
+    record { in-table = omega arith; cells = start .pre .0 .right-near; points = low-small (start .pre .1) (c .before .before .before .lower-point .ensures) })
     (λ c. search needs)
     (λ c κs. let start = c .before .before .before .before .before .before in
-    record { in-table = omega arith; in-x = omega arith; cells = start .pre .0 .left-near; points = low-small (start .pre .1) (c .before .before .before .before .before .lower-point .ensures) })
+    record { in-table = omega arith; cells = start .pre .0 .left-near; points = low-small (start .pre .1) (c .before .before .before .before .before .lower-point .ensures) })
     (λ c. λ p h. said-no (λ k. row-broken h (c .before .before .before .before .before .before .before .before .pre .1) (c .before .before .before .before .before .before .before .lower-point .ensures) (c .before .before .before .before .before .before .loop .i) (omega arith) (omega arith) (k (c .before .before .before .before .before .before .loop .i) (c .before .before .before .before .before .loop-test .taken))))
     (λ c. search needs)
     (λ c. omega arith)

@@ -23,10 +23,10 @@ side-spec = tie.close (tie.spec
       in-table = omega arith;
       in-x = omega arith;
       cells = λ l h. omega (arith, start .pre .cells (start .args .base + l) .hi);
-      points = λ l h. omega (arith, start .pre .points l h);
+      points = λ l h. omega (arith, start .pre .points l);
     })
     (λ c. let start = c .before .before .before in
-    omega (arith, best-floor (start .args .table .now) (start .args .base) (start .args .x .now) side-floor (start .args .width)))
+    omega (arith, best-floor (start .args .table .now) (start .args .base) (start .args .x .now) side-floor 32))
     (λ c. search needs)
     returns
     returns-2)
