@@ -26,14 +26,14 @@ use Rattle.checker.proofs.ClosedWalks.{weight-none, weight-some}
 
 -- ---- weights of the table
 
--- A number in the table that stands for z is z + 2⁴⁰,
+-- A number in the table that stands for z is z + 2³¹,
 pub weight-read : (k : ℕ) {z : ℤ} → weightOf k ≡ fin z → (0 < k) × (up z + arc-zero ≡ k + down z)
 weight-read k {z} e = ⊎-elim
     (λ (b : k ≡ 0). absurd (bot-not-fin (sym weight-none ∙ (rw b at e))))
     (λ (h : 0 < k). (h, subst (λ (y : ℤ). up y + arc-zero ≡ k + down y) (fin-injective (sym (weight-some k h) ∙ e)) (subℕ-read k arc-zero)))
     (eq-zero-or-pos k)
 
--- and z + 2⁴⁰ stands for z.
+-- and z + 2³¹ stands for z.
 pub weight-show : (k : ℕ) (z : ℤ) → 0 < k → up z + arc-zero ≡ k + down z → weightOf k ≡ fin z
 weight-show k z h e =
     let r : subℕ k arc-zero ≡ z = omega (whole, subℕ-read k arc-zero) in

@@ -19,7 +19,7 @@ use Rattle.duality.proofs.Longest.{Gain, still-stable, stable-potential, potent
 use Rattle.checker.specs.Lists.{most, bestSum, Agree}
 use Rattle.checker.specs.Gains.{arc-zero, arc-most, weightOf, matrix, anywhere, Table, Rounds, NoneGains, SomeGains}
 use Rattle.checker.specs.GainRound.{Values, gainedBy, Rounded}
-use Rattle.checker.proofs.Lists.{most-one, best-floor, best-under, set-here, set-there, one-more}
+use Rattle.checker.proofs.Lists.{most-one, best-floor, best-under, zeros, set-here, set-there, one-more}
 
 -- ---- the larger of two
 
@@ -111,11 +111,6 @@ module _ (arcs marks : List ℕ) (width : ℕ) (table : Table arcs width) where
       (eq-zero-or-pos (getD marks j 0))
 
   -- ---- rounds
-
-  zeros : (n j : ℕ) → _≡_ {A = ℕ} (getD (replicate n 0) j 0) 0
-  zeros zero j = refl
-  zeros (suc n) zero = refl
-  zeros (suc n) (suc j) = zeros n j
 
   pub rounds-start : Rounds arcs marks width 0 (replicate 32 0)
   unfolding valueAt anywhere

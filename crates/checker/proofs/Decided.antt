@@ -109,11 +109,11 @@ record RoundOf (arcs : List ℕ) (width : ℕ) (old : List ℕ) (k : ℕ) : Type
 
 round-step : (arcs : List ℕ) (width : ℕ) (old : List ℕ) (k : ℕ) → width ≤ 32 → k < width → RoundOf arcs width old k → RoundOf arcs width old (suc k)
 round-step arcs width old k w h before = ⊎-elim
-    (λ (z : getD old k 0 ≡ 0). record { marks = before .marks; marking = rw (← add-one k) (marking-skip (before .marking) z) })
-    (λ (z : 0 < getD old k 0).
-    let r = row-exists arcs (k * 32) (before .marks) (before .marking .flags .length-is) width w in
+    (λ (z : getD (before .marks) k 0 ≡ 0). record { marks = before .marks; marking = rw (← add-one k) (marking-skip (before .marking) z) })
+    (λ (z : 0 < getD (before .marks) k 0).
+    let r = row-exists arcs (k * 32) (before .marks) (before .marking .flags .length-is) 32 (omega arith) in
     record { marks = r .marks; marking = rw (← add-one k) (marking-row (before .marking) w h (λ e. omega arith) (r .row)) })
-    (eq-zero-or-pos (getD old k 0))
+    (eq-zero-or-pos (getD (before .marks) k 0))
 
 round-exists : (arcs : List ℕ) (width : ℕ) (old : List ℕ) → width ≤ 32 → Flags old → (k : ℕ) → k ≤ width → RoundOf arcs width old k
 round-exists arcs width old w f zero h = record { marks = old; marking = marking-none arcs width old f }

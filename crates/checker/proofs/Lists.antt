@@ -7,7 +7,7 @@ use mathlib.Core.Logic.{_⊎_, inl, inr, ⊎-elim}
 use native.Mathlib.Omega.{arith}
 use native.Mathlib.Numerals.{add-one}
 use lib.Dec.{leb}
-use lib.ListN.{length, getD, set, length-set}
+use lib.ListN.{length, getD, set, length-set, replicate}
 use lib.Seq.{getD-set-same, getD-set-other}
 use borrow.Author.Tests.{leb-true, leb-false}
 use Rattle.definitions.proofs.Whole.{nat-le-or-lt}
@@ -60,7 +60,25 @@ module _ (table : List ℕ) (base : ℕ) (x : List ℕ) (floor : ℕ) where
       let j : getD table (base + k) 0 + getD x k 0 ≤ bound = h k (omega arith) in
       ⊎-elim (λ q. omega arith) (λ q. omega arith) (most-one (bestSum table base x floor k) (getD table (base + k) 0 + getD x k 0))
 
+  -- Sums that are at most the floor change nothing.
+  pub best-past : (w k : ℕ) → w ≤ k → ((l : ℕ) → w ≤ l → getD table (base + l) 0 + getD x l 0 ≤ floor) → bestSum table base x floor k ≡ bestSum table base x floor w
+  unfolding bestSum
+  best-past w zero b h = let e : w ≡ 0 = omega arith in rw e refl
+  best-past w (suc k) b h = ⊎-elim
+      (λ (q : suc k ≤ w). let e : w ≡ suc k = omega arith in rw e refl)
+      (λ (q : w < suc k).
+      let i = best-past w k (omega arith) h in
+      let f = best-floor k in
+      let s = h k (omega arith) in
+      ⊎-elim (λ r. omega arith) (λ r. omega arith) (most-one (bestSum table base x floor k) (getD table (base + k) 0 + getD x k 0)))
+      (nat-le-or-lt (suc k) w)
+
 -- ---- places filled
+
+pub zeros : (n j : ℕ) → _≡_ {A = ℕ} (getD (replicate n 0) j 0) 0
+zeros zero j = refl
+zeros (suc n) zero = refl
+zeros (suc n) (suc j) = zeros n j
 
 -- The place that is set has the value, the others what they had.
 pub set-here : (l : List ℕ) (i v : ℕ) → i < length l → getD (set l i v) i 0 ≡ v

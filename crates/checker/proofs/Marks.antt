@@ -67,13 +67,10 @@ marking-none arcs width marks f = record {
   flags = f;
   kept = λ l h. h;
   onward = λ l s. absurd (omega (arith, s .low));
-  only = λ l b h. inl h;
+  only = λ l b h. start (record { inside = b; marked = h });
 }
 
--- One more source, or one that is not marked.
-source-more : {arcs : List ℕ} {width : ℕ} {marks : List ℕ} {k l : ℕ} → Source arcs width marks k l → Source arcs width marks (k + 1) l
-source-more s = record { at = s .at; low = omega (arith, s .low); marked = s .marked; led = s .led }
-
+-- The last source, or one before it.
 source-last : {arcs : List ℕ} {width : ℕ} {marks : List ℕ} {k l : ℕ} → Source arcs width marks (k + 1) l
     → Source arcs width marks k l ⊎ (Marked marks k × Led arcs width k l)
 source-last {arcs} {width} {marks} {k} {l} s = ⊎-elim
@@ -82,36 +79,39 @@ source-last {arcs} {width} {marks} {k} {l} s = ⊎-elim
     (below-or-last (s .at) k (s .low))
 
 pub marking-skip : {arcs : List ℕ} {width : ℕ} {marks : List ℕ} {k : ℕ} {new : List ℕ} → Marking arcs width marks k new
-    → getD marks k 0 ≡ 0 → Marking arcs width marks (k + 1) new
+    → getD new k 0 ≡ 0 → Marking arcs width marks (k + 1) new
 marking-skip {arcs} {width} {marks} {k} {new} h z = record {
   flags = h .flags;
   kept = h .kept;
-  onward = λ l s. ⊎-elim (λ q. h .onward l q) (λ q. absurd (omega (arith, q .0))) (source-last s);
-  only = λ l b q. ⊎-elim (λ e. inl e) (λ e. inr (source-more e)) (h .only l b q);
+  onward = λ l s. ⊎-elim (λ q. h .onward l q) (λ q. absurd (omega (arith, h .kept k (q .0)))) (source-last s);
+  only = h .only;
 }
 
 pub marking-row : {arcs : List ℕ} {width : ℕ} {marks : List ℕ} {k : ℕ} {new more : List ℕ} → Marking arcs width marks k new
-    → width ≤ 32 → k < width → (getD marks k 0 ≡ 0 → ⊥) → RowMarked arcs (k * 32) width new more → Marking arcs width marks (k + 1) more
+    → width ≤ 32 → k < width → (getD new k 0 ≡ 0 → ⊥) → RowMarked arcs (k * 32) 32 new more → Marking arcs width marks (k + 1) more
 marking-row {arcs} {width} {marks} {k} {new} {more} h w b z r = record {
   flags = record { length-is = r .same ∙ h .flags .length-is; flag = flag };
   kept = λ l m. kept l (h .kept l m);
-  onward = λ l s. ⊎-elim (λ q. kept l (h .onward l q)) (λ q. rw (r .cells l (q .1 .to)) (mark-arc (getD new l 0) (getD arcs (k * 32 + l) 0) (q .1 .arc))) (source-last s);
+  onward = λ l s. ⊎-elim (λ q. kept l (h .onward l q)) (λ q. rw (r .cells l (inside (q .1 .to))) (mark-arc (getD new l 0) (getD arcs (k * 32 + l) 0) (q .1 .arc))) (source-last s);
   only = λ l m q. ⊎-elim
-      (λ p. ⊎-elim (λ e. inl e) (λ e. inr (source-more e)) (h .only l m p))
-      (λ p. inr (record { at = k; low = omega arith; marked = marked; led = record { from = b; to = m; arc = p } }))
-      (mark-from (getD new l 0) (getD arcs (k * 32 + l) 0) (rw (r .cells l m) at q));
+      (λ p. h .only l m p)
+      (λ p. onward (h .only k b marked) (record { from = b; to = m; arc = p }))
+      (mark-from (getD new l 0) (getD arcs (k * 32 + l) 0) (rw (r .cells l (inside m)) at q));
 }
   where
-    marked : Marked marks k
-    marked = ⊎-elim (λ (e : getD marks k 0 ≡ 0). absurd (z e)) (λ p. p) (eq-zero-or-pos (getD marks k 0))
+    marked : Marked new k
+    marked = ⊎-elim (λ (e : getD new k 0 ≡ 0). absurd (z e)) (λ p. p) (eq-zero-or-pos (getD new k 0))
+
+    inside : {l : ℕ} → l < width → l < 32
+    inside q = omega arith
 
     kept : (l : ℕ) → Marked new l → Marked more l
-    kept l m = ⊎-elim (λ (q : width ≤ l). rw (r .others l q) m)
-        (λ (q : l < width). rw (r .cells l q) (mark-kept (getD new l 0) (getD arcs (k * 32 + l) 0) m)) (nat-le-or-lt width l)
+    kept l m = ⊎-elim (λ (q : 32 ≤ l). rw (r .others l q) m)
+        (λ (q : l < 32). rw (r .cells l q) (mark-kept (getD new l 0) (getD arcs (k * 32 + l) 0) m)) (nat-le-or-lt 32 l)
 
     flag : (l : ℕ) → getD more l 0 ≤ 1
-    flag l = ⊎-elim (λ (q : width ≤ l). rw (r .others l q) (h .flags .flag l))
-        (λ (q : l < width). rw (r .cells l q) (mark-flag (getD new l 0) (getD arcs (k * 32 + l) 0) (h .flags .flag l))) (nat-le-or-lt width l)
+    flag l = ⊎-elim (λ (q : 32 ≤ l). rw (r .others l q) (h .flags .flag l))
+        (λ (q : l < 32). rw (r .cells l q) (mark-flag (getD new l 0) (getD arcs (k * 32 + l) 0) (h .flags .flag l))) (nat-le-or-lt 32 l)
 
 -- ---- rounds
 
@@ -122,12 +122,18 @@ reaching-start arcs width begin f = record {
   only = λ j b h. start (record { inside = b; marked = h });
 }
 
+-- What is reachable from reachable ones is reachable.
+reach-on : {arcs : List ℕ} {width : ℕ} {begin marks : List ℕ} {j : ℕ} → Reaching arcs width begin marks
+    → Reachable (Begins marks width) (Led arcs width) j → Reachable (Begins begin width) (Led arcs width) j
+reach-on {j = j} h (start s) = h .only j (s .inside) (s .marked)
+reach-on h (onward q led) = onward (reach-on h q) led
+
 pub reaching-round : {arcs : List ℕ} {width : ℕ} {begin marks new : List ℕ} → Reaching arcs width begin marks
     → Marking arcs width marks width new → Reaching arcs width begin new
 reaching-round {arcs} {width} {begin} {marks} {new} h r = record {
   flags = r .flags;
   begun = λ j s. r .kept j (h .begun j s);
-  only = λ j b m. ⊎-elim (λ q. h .only j b q) (λ q. onward (h .only (q .at) (q .led .from) (q .marked)) (q .led)) (r .only j b m);
+  only = λ j b m. reach-on h (r .only j b m);
 }
 
 -- A round that marks nothing new has reached all.

@@ -24,7 +24,7 @@ use Rattle.checker.specs.Decides.{Decides}
 use Rattle.checker.specs.Marks.{Marked, Reached}
 use Rattle.checker.specs.Gains.{arc-zero, arc-most, weightOf, Table, Tested}
 use Rattle.checker.specs.Tables.{Sized, Holds, Picked, Trial}
-use Rattle.checker.specs.Arcs.{raisedBy, fall, fallen, looseArc, rowArc, heaviest, RowArcs}
+use Rattle.checker.specs.Arcs.{raisedBy, least-lead, fall, fallen, looseArc, rowArc, heaviest, RowArcs}
 use Rattle.checker.specs.Counts.{RowsCount, Anchored}
 use Rattle.checker.proofs.Decides.{decides-as}
 use Rattle.checker.proofs.Lists.{most-one, most-left, most-right, below-or-last}
@@ -36,16 +36,16 @@ use Rattle.checker.proofs.Variables.{finite-trop, trop-some, raise-is, 
 -- ---- one entry
 
 -- Where left and right coefficient are whole, the entry is the number of −w.
-loose-entry : (a r b : ℕ) → 0 < a → 0 < b → looseArc a r b ≡ (arc-zero + signed-half) - (b + r) + a
+loose-entry : (a r b : ℕ) → 0 < a → 0 < b → looseArc a r b ≡ (arc-zero + signed-half + least-lead) - (b + r) + (a - least-lead)
 unfolding looseArc fallen fall
 loose-entry a r b h k = rw (ne-eqb a 0 (omega arith), ne-eqb b 0 (omega arith))
 
 loose-blank : (a r b : ℕ) → 0 < looseArc a r b → (0 < a) × (0 < b)
 unfolding looseArc fallen
 loose-blank a r b h = ⊎-elim
-    (λ (z : b ≡ 0). absurd (let q : 0 < cond (eqb b 0) 0 (cond (eqb a 0) 0 (fall b r + a)) = h in omega (arith, rw (eq-eqb b 0 z) at q)))
+    (λ (z : b ≡ 0). absurd (let q : 0 < cond (eqb b 0) 0 (cond (eqb a 0) 0 (fall b r + (a - least-lead))) = h in omega (arith, rw (eq-eqb b 0 z) at q)))
     (λ (z : 0 < b). ⊎-elim
-    (λ (y : a ≡ 0). absurd (let q : 0 < cond (eqb b 0) 0 (cond (eqb a 0) 0 (fall b r + a)) = h in omega (arith, rw (ne-eqb b 0 (omega arith), eq-eqb a 0 y) at q)))
+    (λ (y : a ≡ 0). absurd (let q : 0 < cond (eqb b 0) 0 (cond (eqb a 0) 0 (fall b r + (a - least-lead))) = h in omega (arith, rw (ne-eqb b 0 (omega arith), eq-eqb a 0 y) at q)))
     (λ (y : 0 < a). (y, z))
     (eq-zero-or-pos a))
     (eq-zero-or-pos b)
@@ -56,14 +56,14 @@ loose-weight a r b {x} {y} {z} {w} na nb nr ea eb er e =
     let ra = trop-read a ea in
     let rb = trop-read b eb in
     let rr = trop-read r er in
-    let q : looseArc a r b ≡ (arc-zero + signed-half) - (b + r) + a = loose-entry a r b (ra .0) (rb .0) in
+    let q : looseArc a r b ≡ (arc-zero + signed-half + least-lead) - (b + r) + (a - least-lead) = loose-entry a r b (ra .0) (rb .0) in
     weight-show (looseArc a r b) (loose 1 w) (omega (arith, nb .hi, nr .hi))
-    (omega (whole, loose-read 1 w, e, minus-read y x, plus-read (y -ℤ x) z, nb .hi, nr .hi))
+    (omega (whole, loose-read 1 w, e, minus-read y x, plus-read (y -ℤ x) z, na .lo (ra .0), nb .hi, nr .hi))
 
 loose-small : (a r b : ℕ) → Near lead-limit a → Near lead-limit b → Near (suc span-limit) r → 0 < r → looseArc a r b ≤ arc-zero + arc-most
 loose-small a r b na nb nr hr = ⊎-elim (λ (z : looseArc a r b ≡ 0). omega arith) (λ (h : 0 < looseArc a r b).
     let s = loose-blank a r b h in
-    let q : looseArc a r b ≡ (arc-zero + signed-half) - (b + r) + a = loose-entry a r b (s .0) (s .1) in
+    let q : looseArc a r b ≡ (arc-zero + signed-half + least-lead) - (b + r) + (a - least-lead) = loose-entry a r b (s .0) (s .1) in
     omega (arith, na .hi, nb .lo (s .1), nr .lo hr)) (eq-zero-or-pos (looseArc a r b))
 
 -- ---- the heaviest over the rows

@@ -24,7 +24,7 @@ use Rattle.checker.specs.Decides.{Decides}
 use Rattle.checker.specs.Marks.{Marked, Reached}
 use Rattle.checker.specs.Gains.{arc-zero, arc-most, weightOf, Table, Tested}
 use Rattle.checker.specs.Tables.{Sized, Holds, Picked, Trial}
-use Rattle.checker.specs.Arcs.{raisedBy, lift, lifted, strictArc, variableArc, VariableArcs}
+use Rattle.checker.specs.Arcs.{raisedBy, least-lead, lift, lifted, strictArc, variableArc, VariableArcs}
 use Rattle.checker.specs.Counts.{VariablesCount, Anchored}
 use Rattle.checker.proofs.Decides.{decides-as}
 use Rattle.checker.proofs.Certified.{weight-show, strict, strict-read, strict-scale, Behind, Shows, certified-not, certified-both}
@@ -59,16 +59,16 @@ raise-near m i {t} h = go (eqb i m)
 -- ---- one entry
 
 -- Where left and right coefficient are whole, the entry is the number of 32 w + 1.
-strict-entry : (a r b : ℕ) → 0 < a → 0 < b → strictArc a r b ≡ (arc-zero + 32 * r + 1) - 32 * (a + signed-half) + 32 * b
+strict-entry : (a r b : ℕ) → 0 < a → 0 < b → strictArc a r b ≡ (arc-zero + 32 * r + 1) - 32 * (a + lead-limit) + 32 * (b - least-lead)
 unfolding strictArc lifted lift
 strict-entry a r b h k = rw (ne-eqb a 0 (omega arith), ne-eqb b 0 (omega arith))
 
 strict-blank : (a r b : ℕ) → 0 < strictArc a r b → (0 < a) × (0 < b)
 unfolding strictArc lifted
 strict-blank a r b h = ⊎-elim
-    (λ (z : a ≡ 0). absurd (let q : 0 < cond (eqb a 0) 0 (cond (eqb b 0) 0 (lift a r + 32 * b)) = h in omega (arith, rw (eq-eqb a 0 z) at q)))
+    (λ (z : a ≡ 0). absurd (let q : 0 < cond (eqb a 0) 0 (cond (eqb b 0) 0 (lift a r + 32 * (b - least-lead))) = h in omega (arith, rw (eq-eqb a 0 z) at q)))
     (λ (z : 0 < a). ⊎-elim
-    (λ (y : b ≡ 0). absurd (let q : 0 < cond (eqb a 0) 0 (cond (eqb b 0) 0 (lift a r + 32 * b)) = h in omega (arith, rw (ne-eqb a 0 (omega arith), eq-eqb b 0 y) at q)))
+    (λ (y : b ≡ 0). absurd (let q : 0 < cond (eqb a 0) 0 (cond (eqb b 0) 0 (lift a r + 32 * (b - least-lead))) = h in omega (arith, rw (ne-eqb a 0 (omega arith), eq-eqb b 0 y) at q)))
     (λ (y : 0 < b). (z, y))
     (eq-zero-or-pos b))
     (eq-zero-or-pos a)
@@ -79,14 +79,14 @@ strict-weight a r b {x} {y} {z} {w} na nb nr ea eb er e =
     let ra = trop-read a ea in
     let rb = trop-read b eb in
     let rr = trop-read r er in
-    let q : strictArc a r b ≡ (arc-zero + 32 * r + 1) - 32 * (a + signed-half) + 32 * b = strict-entry a r b (ra .0) (rb .0) in
-    weight-show (strictArc a r b) (strict 1 w) (omega (arith, na .hi))
-    (omega (whole, strict-read 1 w, e, minus-read y x, plus-read (y -ℤ x) z, na .hi))
+    let q : strictArc a r b ≡ (arc-zero + 32 * r + 1) - 32 * (a + lead-limit) + 32 * (b - least-lead) = strict-entry a r b (ra .0) (rb .0) in
+    weight-show (strictArc a r b) (strict 1 w) (omega (arith, na .hi, nr .lo (rr .0)))
+    (omega (whole, strict-read 1 w, e, minus-read y x, plus-read (y -ℤ x) z, na .hi, nb .lo (rb .0), nr .lo (rr .0)))
 
 strict-small : (a r b : ℕ) → Near lead-limit a → Near lead-limit b → Near (suc span-limit) r → strictArc a r b ≤ arc-zero + arc-most
 strict-small a r b na nb nr = ⊎-elim (λ (z : strictArc a r b ≡ 0). omega arith) (λ (h : 0 < strictArc a r b).
     let s = strict-blank a r b h in
-    let q : strictArc a r b ≡ (arc-zero + 32 * r + 1) - 32 * (a + signed-half) + 32 * b = strict-entry a r b (s .0) (s .1) in
+    let q : strictArc a r b ≡ (arc-zero + 32 * r + 1) - 32 * (a + lead-limit) + 32 * (b - least-lead) = strict-entry a r b (s .0) (s .1) in
     omega (arith, na .lo (s .0), nb .hi, nr .hi)) (eq-zero-or-pos (strictArc a r b))
 
 -- ---- the table

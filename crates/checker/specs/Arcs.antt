@@ -5,7 +5,7 @@ use mathlib.Core.Bool.{cond}
 use mathlib.Core.List.{List}
 use lib.Dec.{eqb}
 use lib.ListN.{length, getD}
-use Rattle.definitions.specs.Limits.{signed-half}
+use Rattle.definitions.specs.Limits.{signed-half, lead-limit, span-limit}
 use Rattle.checker.specs.Lists.{most}
 use Rattle.checker.specs.Gains.{arc-zero}
 
@@ -13,15 +13,23 @@ use Rattle.checker.specs.Gains.{arc-zero}
 unfoldable pub raisedBy : ℕ → ℕ → ℕ → ℕ
 raisedBy t m i = cond (eqb i m) t signed-half
 
+-- The offset number of the least lead. Coefficients enter as what they are above it, so that an entry stays below 2³².
+abbrev pub least-lead : ℕ
+least-lead = 2147473568
+
 -- Classes 1 and 3. An arc of weight w stands in the table for 32 w + 1: a closed walk of at most 32 arcs then weighs at
 -- most 0 exactly when it weighed below 0. From variable j with left coefficient a by a row raised by r, all but the right
 -- coefficient:
 unfoldable pub lift : ℕ → ℕ → ℕ
-lift a r = (arc-zero + 32 * r + 1) - 32 * (a + signed-half)
+lift a r = (arc-zero + 32 * r + 1) - 32 * (a + lead-limit)
+
+-- no more than this,
+abbrev pub lift-most : ℕ
+lift-most = arc-zero + 32 * suc span-limit + 1
 
 -- and the entry, with right coefficient b.
 unfoldable pub lifted : ℕ → ℕ → ℕ
-lifted up b = cond (eqb b 0) 0 (up + 32 * b)
+lifted up b = cond (eqb b 0) 0 (up + 32 * (b - least-lead))
 
 -- The entry for left coefficient a, raise r, right coefficient b: none where one of them is blank.
 unfoldable pub strictArc : ℕ → ℕ → ℕ → ℕ
@@ -42,11 +50,15 @@ pub record VariableArcs (left right : List ℕ) (m t : ℕ) (picks : List ℕ) (
 -- Class 2. An arc of weight w stands in the table for −w. By a row raised by r to a variable with right coefficient b,
 -- all but the left coefficient:
 unfoldable pub fall : ℕ → ℕ → ℕ
-fall b r = (arc-zero + signed-half) - (b + r)
+fall b r = (arc-zero + signed-half + least-lead) - (b + r)
+
+-- no more than this,
+abbrev pub fall-most : ℕ
+fall-most = arc-zero + suc span-limit
 
 -- and the entry, with left coefficient a.
 unfoldable pub fallen : ℕ → ℕ → ℕ
-fallen down a = cond (eqb a 0) 0 (down + a)
+fallen down a = cond (eqb a 0) 0 (down + (a - least-lead))
 
 -- The entry for left coefficient a, raise r, right coefficient b: none where one of them is blank.
 unfoldable pub looseArc : ℕ → ℕ → ℕ → ℕ

@@ -1,5 +1,5 @@
--- Closed walks over a table of arcs. An arc of weight w stands in the table as w + 2⁴⁰, 0 is no arc. The values of the
--- rounds start at 0 and never fall, so they are plain numbers.
+-- Closed walks over a table of arcs. An arc of weight w stands in the table as w + 2³¹, 0 is no arc. The values of the
+-- rounds start at 0 and never fall, so they are plain numbers; with an entry added they stay below 2³².
 use Prim.Native.Nat.{ℕ, suc, _+_, _*_, _≤_, _<_}
 use mathlib.Core.Path.{_≡_}
 use mathlib.Core.Bool.{Bool, true, false, cond}
@@ -8,7 +8,7 @@ use lib.Dec.{eqb}
 use lib.ListN.{length, getD}
 use lib.IntN.{ℤ, pos, subℕ}
 use lib.Signed.{_≤ℤ_}
-use Rattle.definitions.specs.Limits.{lead-limit, span-limit}
+use Rattle.definitions.specs.Limits.{lead-limit, span-limit, signed-half}
 use Rattle.definitions.specs.Tropical.{Trop, bot, fin}
 use Rattle.definitions.specs.Certificate.{Walk}
 use Rattle.duality.specs.Values.{valueAt}
@@ -16,7 +16,7 @@ use Rattle.duality.proofs.Longest.{Entry, Gain}
 
 -- The number in the table of an arc that weighs 0.
 abbrev pub arc-zero : ℕ
-arc-zero = 1099511627776
+arc-zero = signed-half
 
 -- No arc weighs more: 32 times two leads and a trial, and one.
 abbrev pub arc-most : ℕ

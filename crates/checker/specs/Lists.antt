@@ -15,12 +15,12 @@ unfoldable pub bestSum : List ℕ → ℕ → List ℕ → ℕ → ℕ → ℕ
 bestSum table base x floor zero = floor
 bestSum table base x floor (suc k) = most (bestSum table base x floor k) (getD table (base + k) 0 + getD x k 0)
 
--- What the sums ask of their lists: both are long enough, and no element is so large that a sum would wrap.
+-- What the sums ask of their lists: both are long enough, and no element is so large that a sum would reach 2³².
 pub record Summable (table : List ℕ) (base : ℕ) (x : List ℕ) (width : ℕ) : Type 0 where
   pub in-table : base + width ≤ length table
   pub in-x : width ≤ 32
-  pub cells : (l : ℕ) → l < width → getD table (base + l) 0 < 4398046511104
-  pub points : (l : ℕ) → l < width → getD x l 0 < 4398046511104
+  pub cells : (l : ℕ) → l < width → getD table (base + l) 0 < 2415919104
+  pub points : (l : ℕ) → l < width → getD x l 0 < 1879048192
 
 -- From `base` on, `count` elements are those of f; before it everything is as it was.
 pub record Filled (f : ℕ → ℕ) (base count : ℕ) (old new : List ℕ) : Type 0 where

@@ -3,7 +3,6 @@ use Prim.Native.Nat.{ℕ, zero, suc, _+_, _*_, _≤_, _<_}
 use mathlib.Core.Path.{_≡_}
 use mathlib.Core.Bool.{cond}
 use mathlib.Core.List.{List}
-use mathlib.Core.Logic.{_⊎_}
 use lib.Dec.{eqb}
 use lib.ListN.{length, getD}
 use Rattle.definitions.specs.Certificate.{Reachable}
@@ -52,12 +51,12 @@ pub record Source (arcs : List ℕ) (width : ℕ) (marks : List ℕ) (k l : ℕ)
   pub led : Led arcs width at l
 
 -- A round, once the first k variables have had their turn: what was marked is, with all to which a marked one of these
--- leads, and nothing else.
+-- leads, and nothing that is not reachable from what was marked.
 pub record Marking (arcs : List ℕ) (width : ℕ) (marks : List ℕ) (k : ℕ) (new : List ℕ) : Type 0 where
   pub flags : Flags new
   pub kept : (l : ℕ) → Marked marks l → Marked new l
   pub onward : (l : ℕ) → Source arcs width marks k l → Marked new l
-  pub only : (l : ℕ) → l < width → Marked new l → Marked marks l ⊎ Source arcs width marks k l
+  pub only : (l : ℕ) → l < width → Marked new l → Reachable (Begins marks width) (Led arcs width) l
 
 -- Reach on the way: the start is marked, and whatever is marked is reachable.
 pub record Reaching (arcs : List ℕ) (width : ℕ) (start marks : List ℕ) : Type 0 where

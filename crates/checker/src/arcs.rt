@@ -1,4 +1,4 @@
-// The table of arcs of a strategy, 32 rows of 32: 0 no arc, else 2⁴⁰ plus the arc's weight, scaled.
+// The table of arcs of a strategy, 32 rows of 32: 0 no arc, else 2³¹ plus the arc's weight, scaled.
 ghost use mathlib.Core.Path.{_≡_};
 ghost use mathlib.Core.Bool.{cond};
 ghost use Prim.Native.Nat.{ℕ, suc, _+_, _*_, _≤_, _<_};
@@ -8,8 +8,9 @@ ghost use Rattle.records.specs.Decoded.{Near};
 ghost use Rattle.checker.specs.Lists.{Filled};
 ghost use Rattle.checker.specs.Gains.{arc-zero};
 ghost use Rattle.checker.specs.Tables.{Sized, Picked, Trial};
-ghost use Rattle.checker.specs.Arcs.{raisedBy, lift, lifted, variableArc, VariableArcs, fall, fallen, rowArc, heaviest, RowArcs, Column};
+ghost use Rattle.checker.specs.Arcs.{raisedBy, lift, lift-most, lifted, variableArc, VariableArcs, fall, fall-most, fallen, rowArc, heaviest, RowArcs, Column};
 use crate::sums::larger;
+use records::limits::LEAD_LIMIT;
 use records::limits::OFFSET;
 use records::limits::STRIDE;
 use records::limits::TABLE;
@@ -17,7 +18,10 @@ use records::limits::TABLE;
 // The elements of a table of arcs, 32 rows of 32, and the number in it of an arc that weighs 0.
 pub const ARCS: usize = 1024;
 
-pub const ARC_ZERO: u64 = 1099511627776;
+pub const ARC_ZERO: u32 = 2147483648;
+
+// The offset number of the least lead.
+const LEAST_LEAD: u32 = 2147473568;
 
 // What row i is raised by: t for the objective, 0 for an inequality.
 fn raise_of(t: u64, m: usize, i: usize) -> u64
@@ -30,31 +34,35 @@ fn raise_of(t: u64, m: usize, i: usize) -> u64
 // ---- classes 1 and 3
 
 // An entry but for its right coefficient: left coefficient a, raise r.
-fn lift_of(a: u32, r: u64) -> u64
-    requires { ⌜ (a ≤ 4294967296) × (r ≤ 4294967296) ⌝ }
-    ensures { λ v. ⌜ (v ≡ lift a r) × (v ≤ 1236950581249) ⌝ }
+fn lift_of(a: u32, r: u64) -> u32
+    requires { ⌜ Near lead-limit a × (0 < a) × Near (suc span-limit) r × (0 < r) ⌝ }
+    ensures { λ v. ⌜ (v ≡ lift a r) × (v ≤ lift-most) ⌝ }
 {
-    (ARC_ZERO + 32 * r + 1) - 32 * (a as u64 + OFFSET)
+    ((OFFSET + 32 * r + 1) - 32 * (a as u64 + LEAD_LIMIT)) as u32
 }
 
 // An entry with right coefficient b; none where it is blank.
-fn lifted_by(up: u64, b: u32) -> u64
-    requires { ⌜ (up ≤ 1236950581249) × (b ≤ 4294967296) ⌝ }
+fn lifted_by(up: u32, b: u32) -> u32
+    requires { ⌜ (up ≤ lift-most) × Near lead-limit b ⌝ }
     ensures { λ r. ⌜ r ≡ lifted up b ⌝ }
 {
-    if b == 0 { 0 } else { up + 32 * (b as u64) }
+    if b == 0 {
+        0
+    } else {
+        up + 32 * (b - LEAST_LEAD)
+    }
 }
 
 // The entries from one variable, whose row of the table starts at `from`, by the row that starts at `base`.
 fn fill_lifted(
-    arcs: &mut [u64; ARCS],
+    arcs: &mut [u32; ARCS],
     from: usize,
     right: &[u32; TABLE],
     base: usize,
     width: usize,
-    up: u64,
+    up: u32,
 )
-    requires { ⌜ (length (now arcs) ≡ 1024) × (from + width ≤ 1024) × (base + width ≤ 2048) × (up ≤ 1236950581249) × ((k : ℕ) → Near lead-limit (getD (now right) k 0)) ⌝ }
+    requires { ⌜ (length (now arcs) ≡ 1024) × (from + width ≤ 1024) × (base + width ≤ 2048) × (up ≤ lift-most) × ((k : ℕ) → Near lead-limit (getD (now right) k 0)) ⌝ }
     ensures { λ _. ⌜ Filled (λ l. lifted up (getD (now (right .entry)) (base + l) 0)) from width (now (arcs .entry)) (now (arcs .exit)) ⌝ }
 {
     for l in 0..width {
@@ -63,7 +71,7 @@ fn fill_lifted(
 }
 
 // No entries from one variable.
-fn fill_none(arcs: &mut [u64; ARCS], from: usize, width: usize)
+fn fill_none(arcs: &mut [u32; ARCS], from: usize, width: usize)
     requires { ⌜ (length (now arcs) ≡ 1024) × (from + width ≤ 1024) ⌝ }
     ensures { λ _. ⌜ Filled (λ _. 0) from width (now (arcs .entry)) (now (arcs .exit)) ⌝ }
 {
@@ -74,7 +82,7 @@ fn fill_none(arcs: &mut [u64; ARCS], from: usize, width: usize)
 
 // The entries from variable j by the row that it picks.
 fn fill_variable(
-    arcs: &mut [u64; ARCS],
+    arcs: &mut [u32; ARCS],
     left: &[u32; TABLE],
     right: &[u32; TABLE],
     n: usize,
@@ -111,7 +119,7 @@ fn fill_variable(
 
 // The table of a strategy of variables.
 pub fn variable_arcs(
-    arcs: &mut [u64; ARCS],
+    arcs: &mut [u32; ARCS],
     left: &[u32; TABLE],
     right: &[u32; TABLE],
     n: usize,
@@ -130,31 +138,31 @@ pub fn variable_arcs(
 // ---- class 2
 
 // An entry but for its left coefficient: right coefficient b, raise r.
-fn fall_of(b: u32, r: u64) -> u64
-    requires { ⌜ (b ≤ 4294967296) × (r ≤ 4294967296) ⌝ }
-    ensures { λ v. ⌜ (v ≡ fall b r) × (v ≤ 1101659111424) ⌝ }
+fn fall_of(b: u32, r: u64) -> u32
+    requires { ⌜ Near lead-limit b × (0 < b) × Near (suc span-limit) r × (0 < r) ⌝ }
+    ensures { λ v. ⌜ (v ≡ fall b r) × (v ≤ fall-most) ⌝ }
 {
-    (ARC_ZERO + OFFSET) - (b as u64 + r)
+    ((OFFSET + OFFSET + LEAST_LEAD as u64) - (b as u64 + r)) as u32
 }
 
 // An entry with left coefficient a; none where it is blank.
-fn fallen_by(down: u64, a: u32) -> u64
-    requires { ⌜ (down ≤ 1101659111424) × (a ≤ 4294967296) ⌝ }
+fn fallen_by(down: u32, a: u32) -> u32
+    requires { ⌜ (down ≤ fall-most) × Near lead-limit a ⌝ }
     ensures { λ r. ⌜ r ≡ fallen down a ⌝ }
 {
-    if a == 0 { 0 } else { down + a as u64 }
+    if a == 0 { 0 } else { down + (a - LEAST_LEAD) }
 }
 
 // The entries by one row, whose left coefficients start at `base`, to variable l: each where it is the heaviest so far.
 fn fill_column(
-    arcs: &mut [u64; ARCS],
+    arcs: &mut [u32; ARCS],
     left: &[u32; TABLE],
     base: usize,
     l: usize,
     width: usize,
-    down: u64,
+    down: u32,
 )
-    requires { ⌜ (length (now arcs) ≡ 1024) × (width ≤ 32) × (l < width) × (base + width ≤ 2048) × (down ≤ 1101659111424) × ((k : ℕ) → Near lead-limit (getD (now left) k 0)) ⌝ }
+    requires { ⌜ (length (now arcs) ≡ 1024) × (width ≤ 32) × (l < width) × (base + width ≤ 2048) × (down ≤ fall-most) × ((k : ℕ) → Near lead-limit (getD (now left) k 0)) ⌝ }
     ensures { λ _. ⌜ Column (λ j. fallen down (getD (now (left .entry)) (base + j) 0)) l width (now (arcs .entry)) (now (arcs .exit)) ⌝ }
 {
     for j in 0..width {
@@ -165,7 +173,7 @@ fn fill_column(
 
 // The entries by row i, to the variable that it picks.
 fn fill_row(
-    arcs: &mut [u64; ARCS],
+    arcs: &mut [u32; ARCS],
     left: &[u32; TABLE],
     right: &[u32; TABLE],
     n: usize,
@@ -191,7 +199,7 @@ fn fill_row(
 }
 
 // An empty table.
-fn clear_arcs(arcs: &mut [u64; ARCS], width: usize)
+fn clear_arcs(arcs: &mut [u32; ARCS], width: usize)
     requires { ⌜ (length (now arcs) ≡ 1024) × (width ≤ 32) ⌝ }
     ensures { λ _. ⌜ (length (now (arcs .exit)) ≡ 1024) × ((j l : ℕ) → j < width → l < width → getD (now (arcs .exit)) (j * 32 + l) 0 ≡ 0) ⌝ }
 {
@@ -202,7 +210,7 @@ fn clear_arcs(arcs: &mut [u64; ARCS], width: usize)
 
 // The table of a strategy of rows.
 pub fn row_arcs(
-    arcs: &mut [u64; ARCS],
+    arcs: &mut [u32; ARCS],
     left: &[u32; TABLE],
     right: &[u32; TABLE],
     n: usize,

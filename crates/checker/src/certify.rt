@@ -73,7 +73,7 @@ pub fn certify_variables(
     ensures { λ r. ⌜ ((p : Problem) (z : ℤ) → Holds p (now (left .entry)) (now (right .entry)) n m → tropOf t ≡ fin z → Decides (PicksCount p (strategyOf (now (picks .entry))) × BelowZero p (strategyOf (now (picks .entry))) z) r) ⌝ }
 {
     let width = n + 1;
-    let mut arcs = [0u64; ARCS];
+    let mut arcs = [0u32; ARCS];
     variable_arcs(&mut arcs, left, right, n, m, picks, t);
     let marks = reach(&arcs, width, anchor());
     if !variables_count(left, picks, &marks, width) {
@@ -160,7 +160,7 @@ pub fn certify_rows(
     ensures { λ r. ⌜ ((p : Problem) (z : ℤ) → Holds p (now (left .entry)) (now (right .entry)) n m → tropOf t ≡ fin z → Decides (RowPicksCount p (strategyOf (now (picks .entry))) × AtLeastZero p (strategyOf (now (picks .entry))) z) r) ⌝ }
 {
     let width = n + 1;
-    let mut arcs = [0u64; ARCS];
+    let mut arcs = [0u32; ARCS];
     row_arcs(&mut arcs, left, right, n, m, picks, t);
     let marks = reach(&arcs, width, anchor());
     if !rows_count(left, right, picks, &marks, width, m + 1) {

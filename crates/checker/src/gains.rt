@@ -12,7 +12,7 @@ use crate::sums::values_agree;
 use records::limits::STRIDE;
 
 // The value of variable j after a round, 0 where it is not marked.
-fn gain_of(arcs: &[u64; ARCS], mark: u8, width: usize, e: &[u64; 32], j: usize) -> u64
+fn gain_of(arcs: &[u32; ARCS], mark: u8, width: usize, e: &[u32; 32], j: usize) -> u32
     requires { ⌜ Table (now arcs) width × Values width (now e) × (j < width) ⌝ }
     ensures { λ r. ⌜ r ≡ gainedBy (now (arcs .entry)) mark width (now (e .entry)) j ⌝ }
 {
@@ -23,11 +23,11 @@ fn gain_of(arcs: &[u64; ARCS], mark: u8, width: usize, e: &[u64; 32], j: usize) 
 }
 
 // A round: the values of all variables from those before.
-fn gain_round(arcs: &[u64; ARCS], marks: &[u8; 32], width: usize, e: &[u64; 32]) -> [u64; 32]
+fn gain_round(arcs: &[u32; ARCS], marks: &[u8; 32], width: usize, e: &[u32; 32]) -> [u32; 32]
     requires { ⌜ Table (now arcs) width × Flags (now marks) × Values width (now e) ⌝ }
     ensures { λ r. ⌜ Rounded (now (arcs .entry)) (now (marks .entry)) width (now (e .entry)) width r ⌝ }
 {
-    let mut new = [0u64; 32];
+    let mut new = [0u32; 32];
     for j in 0..width {
         new[j] = gain_of(arcs, marks[j], width, e, j);
     }
@@ -35,11 +35,11 @@ fn gain_round(arcs: &[u64; ARCS], marks: &[u8; 32], width: usize, e: &[u64; 32])
 }
 
 // No closed walk from a marked variable weighs above zero: rounds until one changes nothing, at most as many as variables.
-pub fn none_gains(arcs: &[u64; ARCS], marks: &[u8; 32], width: usize) -> bool
+pub fn none_gains(arcs: &[u32; ARCS], marks: &[u8; 32], width: usize) -> bool
     requires { ⌜ Table (now arcs) width × Flags (now marks) × (0 < width) ⌝ }
     ensures { λ r. ⌜ Tested (now (arcs .entry)) (now (marks .entry)) width r ⌝ }
 {
-    let mut e = [0u64; 32];
+    let mut e = [0u32; 32];
     for _ in 0..width {
         let new = gain_round(arcs, marks, width, &e);
         if values_agree(&e, &new, width) {

@@ -22,33 +22,34 @@ pub fn marks_agree(before: &[u8; 32], after: &[u8; 32], width: usize) -> bool
 }
 
 // A place's mark once an arc leads there, or none does.
-fn mark_of(mark: u8, arc: u64) -> u8
+fn mark_of(mark: u8, arc: u32) -> u8
     ensures { λ r. ⌜ r ≡ markOf mark arc ⌝ }
 {
     if arc == 0 { mark } else { 1 }
 }
 
-// The marks, with all to which the arcs from `base` on lead.
-fn mark_row(arcs: &[u64; ARCS], base: usize, width: usize, marks: [u8; 32]) -> [u8; 32]
-    requires { ⌜ (base + width ≤ 1024) × (width ≤ 32) × (length marks ≡ 32) ⌝ }
-    ensures { λ r. ⌜ RowMarked (now (arcs .entry)) base width marks r ⌝ }
+// The marks, with all to which the arcs from `base` on lead. All places are looked at, whatever the width: a loop of known
+// length is several times as fast, and marks past the width say nothing.
+fn mark_row(arcs: &[u32; ARCS], base: usize, marks: [u8; 32]) -> [u8; 32]
+    requires { ⌜ (base + 32 ≤ 1024) × (length marks ≡ 32) ⌝ }
+    ensures { λ r. ⌜ RowMarked (now (arcs .entry)) base 32 marks r ⌝ }
 {
     let mut new = marks;
-    for l in 0..width {
+    for l in 0..STRIDE {
         new[l] = mark_of(new[l], arcs[base + l]);
     }
     new
 }
 
-// A round: the marks, with all to which a marked variable leads.
-fn mark_round(arcs: &[u64; ARCS], width: usize, marks: [u8; 32]) -> [u8; 32]
+// A round: the marks, with all to which a marked variable leads. Marks of this round count in it already.
+fn mark_round(arcs: &[u32; ARCS], width: usize, marks: [u8; 32]) -> [u8; 32]
     requires { ⌜ (width ≤ 32) × Flags marks ⌝ }
     ensures { λ r. ⌜ Marking (now (arcs .entry)) width marks width r ⌝ }
 {
     let mut new = marks;
     for j in 0..width {
-        if marks[j] != 0 {
-            let more = mark_row(arcs, j * STRIDE, width, new);
+        if new[j] != 0 {
+            let more = mark_row(arcs, j * STRIDE, new);
             new = more;
         }
     }
@@ -57,7 +58,7 @@ fn mark_round(arcs: &[u64; ARCS], width: usize, marks: [u8; 32]) -> [u8; 32]
 
 // Marks of the variables that are reachable from the start, by rounds until one marks nothing new. Each round but the
 // last marks a variable, so there are at most as many as variables.
-pub fn reach(arcs: &[u64; ARCS], width: usize, start: [u8; 32]) -> [u8; 32]
+pub fn reach(arcs: &[u32; ARCS], width: usize, start: [u8; 32]) -> [u8; 32]
     requires { ⌜ (width ≤ 32) × Flags start ⌝ }
     ensures { λ r. ⌜ Reached (now (arcs .entry)) width start r ⌝ }
 {

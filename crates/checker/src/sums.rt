@@ -6,14 +6,14 @@ ghost use Rattle.checker.specs.Decides.{Decides};
 ghost use Rattle.checker.specs.Lists.{most, bestSum, Summable, Agree};
 
 // The larger of two numbers.
-pub fn larger(a: u64, b: u64) -> u64
+pub fn larger(a: u32, b: u32) -> u32
     ensures { λ r. ⌜ r ≡ most a b ⌝ }
 {
     if a <= b { b } else { a }
 }
 
 // The largest of `floor` and the sums of the table's elements from `base` on with those of x.
-pub fn best_sum(table: &[u64], base: usize, x: &[u64; 32], width: usize, floor: u64) -> u64
+pub fn best_sum(table: &[u32], base: usize, x: &[u32; 32], width: usize, floor: u32) -> u32
     requires { ⌜ Summable (now table) base (now x) width ⌝ }
     ensures { λ r. ⌜ r ≡ bestSum (now (table .entry)) base (now (x .entry)) floor width ⌝ }
 {
@@ -24,28 +24,8 @@ pub fn best_sum(table: &[u64], base: usize, x: &[u64; 32], width: usize, floor: 
     best
 }
 
-// A coefficient plus a value.
-fn plus(a: u32, b: u64) -> u64
-    requires { ⌜ a + b ≤ 18446744073709551615 ⌝ }
-    ensures { λ r. ⌜ r ≡ a + b ⌝ }
-{
-    a as u64 + b
-}
-
-// The same over a table of coefficients.
-pub fn best_side(table: &[u32], base: usize, x: &[u64; 32], width: usize, floor: u64) -> u64
-    requires { ⌜ Summable (now table) base (now x) width ⌝ }
-    ensures { λ r. ⌜ r ≡ bestSum (now (table .entry)) base (now (x .entry)) floor width ⌝ }
-{
-    let mut best = floor;
-    for l in 0..width {
-        best = larger(best, plus(table[base + l], x[l]));
-    }
-    best
-}
-
 // Two lists of values agree in their first `width` elements.
-pub fn values_agree(a: &[u64; 32], b: &[u64; 32], width: usize) -> bool
+pub fn values_agree(a: &[u32; 32], b: &[u32; 32], width: usize) -> bool
     requires { ⌜ width ≤ 32 ⌝ }
     ensures { λ r. ⌜ Decides (Agree (now (a .entry)) (now (b .entry)) width) r ⌝ }
 {

@@ -1,4 +1,5 @@
 use borrow.Author.Needs.{needs}
+use native.Mathlib.Omega.{arith}
 use borrow.Author.Tests.{eq-eqb, ne-eqb}
 use Rattle.checker.specs.Arcs.{fallen}
 use Rattle.checker.proofs.arcs.fallen_by.Statement.{statement}
@@ -14,6 +15,7 @@ returns-2 c = simp (ne-eqb _ _ (c .if1 .left))
 
 pub fallen-by-spec : {M : Type 1} → statement M
 fallen-by-spec = tie.close (tie.spec
+    (λ c. omega (arith, c .before .pre .1 .lo (omega (arith, c .if1 .left))))
     (λ c. search needs)
     returns
     returns-2)

@@ -29,7 +29,7 @@ fill-column-spec =
     (λ c. search needs)
     (λ c. search needs)
     (λ c. search needs)
-    (λ c κs. omega (arith, c .before .before .before .before .pre .5 (c .before .before .before .before .args .base + c .before .before .before .loop .j)))
+    (λ c κs. (omega arith, c .before .before .before .before .pre .5 (c .before .before .before .before .args .base + c .before .before .before .loop .j)))
     (λ c κs. search needs)
     (λ c. search needs)
     (λ c. search needs)

@@ -26,7 +26,7 @@ fill-lifted-spec =
     (λ c. search needs)
     (λ c. search needs)
     (λ c. search needs)
-    (λ c κs. omega (arith, c .before .before .before .pre .4 (c .before .before .before .args .base + c .before .before .loop .l)))
+    (λ c κs. (omega arith, c .before .before .before .pre .4 (c .before .before .before .args .base + c .before .before .loop .l)))
     (λ c. search needs)
     (λ c. search needs)
     (λ c. search needs)

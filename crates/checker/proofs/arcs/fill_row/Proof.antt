@@ -26,7 +26,7 @@ fill-row-spec =
     (λ c. search needs)
     (λ c κs. search needs)
     (λ c κs. let start = c .before .before .before .before .before .before in
-    omega (arith, start .pre .0 .right-near (start .args .i * 32 + (getD (start .args .picks .now) (start .args .i) 0 - 1))))
+    (start .pre .0 .right-near (start .args .i * 32 + (getD (start .args .picks .now) (start .args .i) 0 - 1)), omega (arith, c .before .before .if2 .left), c .raise-of .ensures .1, c .raise-of .ensures .2))
     (λ c κs. let start = c .before .before .before .before .before .before .before in
     (start .pre .2 .length-is, omega arith, omega (arith, start .pre .3 .none-above (start .args .i)), omega arith, omega arith, start .pre .0 .left-near))
     (λ c. let start = c .before .before .before .before .before .before .before .before in

@@ -25,7 +25,7 @@ fill-variable-spec =
     fill-blank _ _ _ _ _ e (c .before .before .if2 .taken) (c .fill-none2 .ensures))
     (λ c κs. search needs)
     (λ c κs. let start = c .before .before .before .before .before in
-    omega (arith, start .pre .0 .left-near ((start .args .pick - 1) * 32 + start .args .j)))
+    (start .pre .0 .left-near ((start .args .pick - 1) * 32 + start .args .j), omega (arith, c .before .before .if2 .left), c .raise-of .ensures .1, c .raise-of .ensures .2))
     (λ c κs. search needs)
     (λ c. let start = c .before .before .before .before .before .before .before in
     let e : start .args .pick ≡ suc (start .args .pick - 1) = omega arith in

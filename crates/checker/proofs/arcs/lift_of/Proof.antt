@@ -1,11 +1,12 @@
 use borrow.Author.Needs.{needs}
+use native.Mathlib.Omega.{arith}
 use Rattle.checker.specs.Arcs.{lift}
 use Rattle.checker.proofs.arcs.lift_of.Statement.{statement}
 use Rattle.checker.proofs.arcs.lift_of.Tie as tie
 
 returns : tie.Need-returns
 unfolding lift
-returns c = search needs
+returns c = (omega arith, omega (arith, c .pre .0 .lo (c .pre .1)))
 
 pub lift-of-spec : {M : Type 1} → statement M
 lift-of-spec =
@@ -16,5 +17,6 @@ lift-of-spec =
     (λ c. search needs)
     (λ c. search needs)
     (λ c. search needs)
-    (λ c. search needs)
+    (λ c. omega (arith, c .pre .2 .lo (c .pre .3)))
+    (λ c. omega (arith, c .pre .0 .lo (c .pre .1)))
     returns)

@@ -9,10 +9,10 @@ use Rattle.checker.proofs.reach.mark_round.Statement.{statement}
 use Rattle.checker.proofs.reach.mark_round.Tie as tie
 
 abbrev Inv-loop : tie.InvT-loop
-Inv-loop arcs width marks new₀ j₀ new j = (j ≤ width) × (width ≤ 32) × Marking arcs width marks j new
+Inv-loop arcs width new₀ j₀ new j = (j ≤ width) × (width ≤ 32) × Marking arcs width new₀ j new
 
 abbrev μ-loop : tie.MeasureT-loop
-μ-loop arcs width marks new₀ j₀ new j = width - j
+μ-loop arcs width new₀ j₀ new j = width - j
 
 pub mark-round-spec : {M : Type 1} → statement M
 mark-round-spec =
@@ -23,7 +23,7 @@ mark-round-spec =
     (λ c. (omega arith, omega arith, marking-none _ _ _ (c .pre .1)))
     (λ c. search needs)
     (λ c. search needs)
-    (λ c κs. (omega arith, omega arith, c .before .before .loop .inv .2 .flags .length-is))
+    (λ c κs. (omega arith, c .before .before .loop .inv .2 .flags .length-is))
     (λ c. search needs)
     (λ c. omega arith)
     (λ c. (

@@ -8,10 +8,10 @@ use Rattle.checker.proofs.reach.mark_row.Statement.{statement}
 use Rattle.checker.proofs.reach.mark_row.Tie as tie
 
 abbrev Inv-loop : tie.InvT-loop
-Inv-loop arcs base width new₀ l₀ new l = (l ≤ width) × RowMarked arcs base l new₀ new
+Inv-loop arcs base new₀ l₀ new l = (l ≤ 32) × RowMarked arcs base l new₀ new
 
 abbrev μ-loop : tie.MeasureT-loop
-μ-loop arcs base width new₀ l₀ new l = width - l
+μ-loop arcs base new₀ l₀ new l = 32 - l
 
 pub mark-row-spec : {M : Type 1} → statement M
 mark-row-spec =
@@ -29,4 +29,4 @@ mark-row-spec =
     (λ c. search needs)
     (λ c. search needs)
     (λ c. (omega arith, row-more (c .before .before .before .loop .inv .1) (omega (arith, c .before .before .before .loop .inv .1 .same)) (c .mark-of .ensures)))
-    (λ c. let e : c .before .loop .l ≡ c .before .before .args .width = omega arith in rw e at (c .before .loop .inv .1)))
+    (λ c. let e : c .before .loop .l ≡ 32 = omega arith in rw e at (c .before .loop .inv .1)))
