@@ -117,7 +117,7 @@ fn fill_variable(
     );
 }
 
-// The table of a strategy of variables.
+// The table of a strategy of variables. Public for `certify`.
 pub fn variable_arcs(
     arcs: &mut [u32; ARCS],
     left: &[u32; TABLE],
@@ -208,7 +208,7 @@ fn clear_arcs(arcs: &mut [u32; ARCS], width: usize)
     }
 }
 
-// The table of a strategy of rows.
+// The table of a strategy of rows. Public for `certify`.
 pub fn row_arcs(
     arcs: &mut [u32; ARCS],
     left: &[u32; TABLE],

@@ -60,7 +60,7 @@ fn variables_count(left: &[u32; TABLE], picks: &[u64; 64], marks: &[u8; 32], wid
     true
 }
 
-// A strategy of variables, judged at t.
+// A strategy of variables, judged at t. Public for `check`.
 pub fn certify_variables(
     left: &[u32; TABLE],
     right: &[u32; TABLE],
@@ -147,7 +147,7 @@ fn rows_count(
     true
 }
 
-// A strategy of rows, judged at t.
+// A strategy of rows, judged at t. Public for `check`.
 pub fn certify_rows(
     left: &[u32; TABLE],
     right: &[u32; TABLE],

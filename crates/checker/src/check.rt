@@ -34,7 +34,7 @@ pub enum Verdict {
 
 // Class 1, least: the point keeps the rules, its value is the span, and the picks show that none is smaller: judged at
 // the span less 1.
-pub fn certify_optimal(
+fn certify_optimal(
     left: &[u32; TABLE],
     right: &[u32; TABLE],
     n: usize,
@@ -57,7 +57,7 @@ pub fn certify_optimal(
 
 // What document 01 lists for the answer's class holds. Class 2 is judged at the lowest trial, class 3 at the top trial: a
 // closed walk that uses the objective then weighs below zero, or above.
-pub fn certify(
+fn certify(
     left: &[u32; TABLE],
     right: &[u32; TABLE],
     n: usize,
@@ -99,7 +99,7 @@ pub fn answer_refusal(head: AnswerHead) -> usize
 }
 
 // The verdict on an answer for the problem in the tables.
-pub fn check_answer(
+fn check_answer(
     left: &[u32; TABLE],
     right: &[u32; TABLE],
     n: usize,

@@ -35,6 +35,7 @@ fn gain_round(arcs: &[u32; ARCS], marks: &[u8; 32], width: usize, e: &[u32; 32])
 }
 
 // No closed walk from a marked variable weighs above zero: rounds until one changes nothing, at most as many as variables.
+// Public for `certify`.
 pub fn none_gains(arcs: &[u32; ARCS], marks: &[u8; 32], width: usize) -> bool
     requires { ⌜ Table (now arcs) width × Flags (now marks) × (0 < width) ⌝ }
     ensures { λ r. ⌜ Tested (now (arcs .entry)) (now (marks .entry)) width r ⌝ }

@@ -48,7 +48,7 @@ fn lower_point(stamps: &[u64; 32], width: usize) -> [u32; 32]
 
 // One side of a row at a point: the row's coefficients stand in the table from `base` on. All places are added, whatever
 // the width, so that the loop has a known length.
-pub fn side(table: &[u32; TABLE], base: usize, x: &[u32; 32]) -> u64
+fn side(table: &[u32; TABLE], base: usize, x: &[u32; 32]) -> u64
     requires { ⌜ RowSized (now table) base (now x) ⌝ }
     ensures { λ r. ⌜ r ≡ sideOf (now (table .entry)) base (now (x .entry)) ⌝ }
 {
@@ -60,7 +60,7 @@ pub fn side(table: &[u32; TABLE], base: usize, x: &[u32; 32]) -> u64
     }
 }
 
-// The point keeps every inequality.
+// The point keeps every inequality. Public for `check`.
 pub fn keeps_rules(
     left: &[u32; TABLE],
     right: &[u32; TABLE],
@@ -80,7 +80,7 @@ pub fn keeps_rules(
     true
 }
 
-// The point's objective value is the span s.
+// The point's objective value is the span s. Public for `check`.
 pub fn value_is(
     left: &[u32; TABLE],
     right: &[u32; TABLE],

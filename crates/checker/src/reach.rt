@@ -9,7 +9,7 @@ use crate::arcs::ARCS;
 use records::limits::STRIDE;
 
 // Two lists of marks agree in their first `width` elements: a round has marked nothing new.
-pub fn marks_agree(before: &[u8; 32], after: &[u8; 32], width: usize) -> bool
+fn marks_agree(before: &[u8; 32], after: &[u8; 32], width: usize) -> bool
     requires { ⌜ width ≤ 32 ⌝ }
     ensures { λ r. ⌜ Decides (Agree (now (before .entry)) (now (after .entry)) width) r ⌝ }
 {
@@ -57,7 +57,7 @@ fn mark_round(arcs: &[u32; ARCS], width: usize, marks: [u8; 32]) -> [u8; 32]
 }
 
 // Marks of the variables that are reachable from the start, by rounds until one marks nothing new. Each round but the
-// last marks a variable, so there are at most as many as variables.
+// last marks a variable, so there are at most as many as variables. Public for `certify`.
 pub fn reach(arcs: &[u32; ARCS], width: usize, start: [u8; 32]) -> [u8; 32]
     requires { ⌜ (width ≤ 32) × Flags start ⌝ }
     ensures { λ r. ⌜ Reached (now (arcs .entry)) width start r ⌝ }

@@ -13,6 +13,7 @@ pub fn larger(a: u32, b: u32) -> u32
 }
 
 // The largest of `floor` and the sums of the table's elements from `base` on with those of x.
+// Public for `gains`, `point`.
 pub fn best_sum(table: &[u32], base: usize, x: &[u32; 32], width: usize, floor: u32) -> u32
     requires { ⌜ Summable (now table) base (now x) width ⌝ }
     ensures { λ r. ⌜ r ≡ bestSum (now (table .entry)) base (now (x .entry)) floor width ⌝ }
@@ -24,7 +25,7 @@ pub fn best_sum(table: &[u32], base: usize, x: &[u32; 32], width: usize, floor: 
     best
 }
 
-// Two lists of values agree in their first `width` elements.
+// Two lists of values agree in their first `width` elements. Public for `gains`.
 pub fn values_agree(a: &[u32; 32], b: &[u32; 32], width: usize) -> bool
     requires { ⌜ width ≤ 32 ⌝ }
     ensures { λ r. ⌜ Decides (Agree (now (a .entry)) (now (b .entry)) width) r ⌝ }
