@@ -1,5 +1,6 @@
 pub mod Engine
 pub mod Records
 pub mod OwnAnswers
+pub mod Contracts
 pub mod WrongPrograms
 pub mod Demands

@@ -253,7 +253,7 @@ module _ {s : List ℕ} {n m : ℕ} {outcome : AnswerHead} {stamps-before stamps
         }
 
     -- The first stamps and picks of the arrays are the answer that the bytes mean.
-    counted : Bytes s → fieldsOf class span (take (stampCount class n) stamps) (take (pickCount class n m) picks) ≡ answerOf s n m
+    pub counted : Bytes s → fieldsOf class span (take (stampCount class n) stamps) (take (pickCount class n m) picks) ≡ answerOf s n m
     unfolding stampsOf picksOf
     counted b =
         let h = read-right in
