@@ -13,10 +13,10 @@ use Rattle.definitions.proofs.Offset.{off-bound}
 use Rattle.definitions.proofs.Refusals.{answer-fits}
 use Rattle.definitions.proofs.RoundTrip.{class-most}
 use Rattle.definitions.proofs.Put.{put-nil, put-more, length-put}
-use Rattle.records.specs.declared.answer.AnswerHead.{AnswerHead}
-use Rattle.records.specs.declared.answer.AnswerHead.the-variants as Heads
-use Rattle.records.specs.AnswerReading.{AnswerRead, answerReadOf, headBy, spanNumber}
-use Rattle.records.proofs.Trips.{fields-by, refused-by}
+use Rattle.answers.specs.declared.answer.AnswerHead.{AnswerHead}
+use Rattle.answers.specs.declared.answer.AnswerHead.the-variants as Heads
+use Rattle.answers.specs.AnswerReading.{AnswerRead, answerReadOf, headBy, spanNumber}
+use Rattle.answers.proofs.Trips.{fields-by, refused-by}
 use Rattle.capi.specs.Numbers.{ReadsAs, PlacesAs, stamp-places, pick-places, fieldsNumber, low-byte, low-half}
 
 -- The first i numbers are copied.

@@ -4,12 +4,12 @@ ghost use mathlib.Core.List.{List};
 ghost use Prim.Native.Nat.{ℕ, _≤_, _<_};
 ghost use lib.ListN.{length};
 ghost use Rattle.definitions.specs.Bytes.{put};
-ghost use Rattle.records.specs.Fields.{fieldsOf};
+ghost use Rattle.answers.specs.Fields.{fieldsOf};
 ghost use Rattle.capi.specs.Numbers.{WritesAs, SmallRecord, ReadsAs, PlacesAs, numberOf, low-byte, low-half, fieldsNumber};
-use records::answer::AnswerHead;
-use records::answer::read_answer;
-use records::writer::Written;
-use records::writer::write_answer;
+use answers::answer::AnswerHead;
+use answers::answer::read_answer;
+use answers::writer::Written;
+use answers::writer::write_answer;
 
 // What `span_read` is lent for stamps and for picks, and its result where that is fewer.
 const STAMP_PLACES: usize = 32;

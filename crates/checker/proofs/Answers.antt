@@ -19,13 +19,13 @@ use Rattle.definitions.proofs.Bytes.{all-true, length-numsAt}
 use Rattle.definitions.proofs.Offset.{zero-offset, whole-offset}
 use Rattle.definitions.proofs.Refusals.{AnswerFits, answer-fits}
 use Rattle.definitions.proofs.RoundTrip.{stamps-within}
-use Rattle.records.specs.declared.answer.AnswerHead.{AnswerHead}
-use Rattle.records.specs.declared.answer.AnswerHead.the-variants as Heads
+use Rattle.answers.specs.declared.answer.AnswerHead.{AnswerHead}
+use Rattle.answers.specs.declared.answer.AnswerHead.the-variants as Heads
 use Rattle.records.specs.Decoded.{Near}
-use Rattle.records.specs.AnswerReading.{headBy, spanNumber, answerReadOf, AnswerRead}
+use Rattle.answers.specs.AnswerReading.{headBy, spanNumber, answerReadOf, AnswerRead}
 use Rattle.records.proofs.LeadTables.{near-within}
-use Rattle.records.proofs.Judging.{span-meant}
-use Rattle.records.proofs.Meaning.{stamps-point, picks-strategy}
+use Rattle.answers.proofs.Judging.{span-meant}
+use Rattle.answers.proofs.Meaning.{stamps-point, picks-strategy}
 use Rattle.checker.specs.Outcome.{Span, Meant, Formed}
 
 -- ---- what the reader answers

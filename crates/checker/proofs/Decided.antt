@@ -31,11 +31,11 @@ use Rattle.duality.specs.Picks.{AtLeastZero}
 use Rattle.duality.specs.Values.{valueAt}
 use Rattle.duality.proofs.Longest.{exit-value, stable-potential, still-stable, potential-closed}
 use Rattle.records.specs.Tables.{leftTable, rightTable}
-use Rattle.records.specs.Fields.{Padded, stampsOf, picksOf}
-use Rattle.records.specs.AnswerReading.{spanNumber, answerReadOf, AnswerRead}
+use Rattle.answers.specs.Fields.{Padded, stampsOf, picksOf}
+use Rattle.answers.specs.AnswerReading.{spanNumber, answerReadOf, AnswerRead}
 use Rattle.records.proofs.Tables.{length-listOf, getD-listOf}
-use Rattle.records.proofs.Passing.{stampsAt-length, picksAt-length}
-use Rattle.records.proofs.Trips.{stamps-most, picks-most}
+use Rattle.answers.proofs.Passing.{stampsAt-length, picksAt-length}
+use Rattle.answers.proofs.Trips.{stamps-most, picks-most}
 use Rattle.checker.specs.Decides.{Decides}
 use Rattle.checker.specs.Marks.{Flags, Reached, markOf, RowMarked, Marking, Reaching, unmarked}
 use Rattle.checker.specs.Gains.{matrix, anywhere, Table, NoneGains, Tested}

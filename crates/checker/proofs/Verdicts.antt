@@ -12,11 +12,11 @@ use Rattle.definitions.specs.AnswerRecord.{classField, answerRefusal, answerOf}
 use Rattle.definitions.specs.Verdict.{Verdict, accepted, refused, Accepted, checkRefusal, not-certified, Judged, turned-away, certified, uncertified}
 use Rattle.records.specs.declared.problem.Header.{Header}
 use Rattle.records.specs.declared.problem.Header.the-variants as Headers
-use Rattle.records.specs.declared.answer.AnswerHead.{AnswerHead}
-use Rattle.records.specs.declared.answer.AnswerHead.the-variants as Heads
+use Rattle.answers.specs.declared.answer.AnswerHead.{AnswerHead}
+use Rattle.answers.specs.declared.answer.AnswerHead.the-variants as Heads
 use Rattle.records.specs.Tables.{leftTable, rightTable, ProblemRead}
 use Rattle.records.specs.ProblemHeader.{headerBy}
-use Rattle.records.specs.AnswerReading.{headBy, spanNumber, answerReadOf}
+use Rattle.answers.specs.AnswerReading.{headBy, spanNumber, answerReadOf}
 use Rattle.records.proofs.LeadTables.{problem-decoded}
 use Rattle.checker.specs.Tables.{Sized, Holds}
 use Rattle.checker.specs.Outcome as Outcome

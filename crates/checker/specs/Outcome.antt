@@ -12,8 +12,8 @@ use Rattle.definitions.specs.Verdict as Verdicts
 use Rattle.definitions.specs.Verdict.{Accepted, not-certified, pointOf, strategyOf}
 use Rattle.records.specs.declared.problem.Header.{Header}
 use Rattle.records.specs.declared.problem.Header.the-variants as Headers
-use Rattle.records.specs.declared.answer.AnswerHead.{AnswerHead}
-use Rattle.records.specs.declared.answer.AnswerHead.the-variants as Heads
+use Rattle.answers.specs.declared.answer.AnswerHead.{AnswerHead}
+use Rattle.answers.specs.declared.answer.AnswerHead.the-variants as Heads
 use Rattle.records.specs.Decoded.{Near}
 use Rattle.checker.specs.declared.check.Verdict.{Verdict}
 use Rattle.checker.specs.declared.check.Verdict.the-variants.{Accepted as Certified, Refused}

@@ -7,8 +7,8 @@ ghost use Rattle.engine.specs.Descent.{EndsAt, Descended};
 use crate::guess::guess;
 use crate::halving::attempt;
 use crate::policy::Outcome;
+use answers::limits::SPAN_LIMIT;
 use records::limits::OFFSET;
-use records::limits::SPAN_LIMIT;
 
 // The two outer trials as offset numbers: 645,120 and −645,121.
 pub const TOP: u64 = OFFSET + SPAN_LIMIT;

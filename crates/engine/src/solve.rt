@@ -7,13 +7,13 @@ ghost use Rattle.definitions.specs.Solved.{Solves};
 ghost use Rattle.engine.specs.Outcome.{solvedOf, refusedBy, FoundFor, WroteFor};
 use crate::answer::Answer;
 use crate::answer::solve_tables;
-use records::class::pick_count;
-use records::class::stamp_count;
-use records::limits::ANSWER_MOST;
+use answers::class::pick_count;
+use answers::class::stamp_count;
+use answers::limits::ANSWER_MOST;
+use answers::writer::Written;
+use answers::writer::write_answer;
 use records::problem::Header;
 use records::problem::read_problem;
-use records::writer::Written;
-use records::writer::write_answer;
 
 // What the engine answers: refused with the number, or answered with class, the span's offset number, trials and the
 // record's length.

@@ -15,14 +15,14 @@ use Rattle.definitions.specs.Solved.{Solves}
 use Rattle.definitions.specs.Demands.{Engine, Checker, ProblemReader, Reader, Reading, refusal, fields, EngineSolves, CheckerJudges, ProblemReaderRefuses, ReadsProblems, ReaderRefuses, ReadsFields}
 use Rattle.records.specs.declared.problem.Header.{Header}
 use Rattle.records.specs.declared.problem.Header.the-variants as Headers
-use Rattle.records.specs.declared.answer.AnswerHead.{AnswerHead}
-use Rattle.records.specs.declared.answer.AnswerHead.the-variants as Heads
+use Rattle.answers.specs.declared.answer.AnswerHead.{AnswerHead}
+use Rattle.answers.specs.declared.answer.AnswerHead.the-variants as Heads
 use Rattle.records.specs.ProblemHeader.{headerBy}
 use Rattle.records.specs.Tables.{ProblemRead}
-use Rattle.records.specs.Fields.{fieldsOf}
-use Rattle.records.specs.AnswerReading.{AnswerRead, answerReadOf, headBy, spanNumber}
+use Rattle.answers.specs.Fields.{fieldsOf}
+use Rattle.answers.specs.AnswerReading.{AnswerRead, answerReadOf, headBy, spanNumber}
 use Rattle.records.proofs.LeadTables.{problem-decoded}
-use Rattle.records.proofs.Trips.{counted}
+use Rattle.answers.proofs.Trips.{counted}
 use Rattle.engine.specs.declared.solve.Solved as Code
 use Rattle.engine.specs.Outcome.{solvedOf}
 use Rattle.checker.specs.declared.check.Verdict as Code′

@@ -23,10 +23,10 @@ use Rattle.definitions.proofs.Offset.{tropOf-injective}
 use Rattle.records.specs.declared.problem.Header.{Header}
 use Rattle.records.specs.declared.problem.Header.the-variants as Headers
 use Rattle.records.specs.ProblemHeader.{headerBy, headerOf}
-use Rattle.records.specs.declared.answer.AnswerHead.{AnswerHead}
-use Rattle.records.specs.declared.answer.AnswerHead.the-variants as Heads
-use Rattle.records.specs.AnswerReading.{answerReadOf, headBy, spanNumber}
-use Rattle.records.proofs.Judging.{span-meant}
+use Rattle.answers.specs.declared.answer.AnswerHead.{AnswerHead}
+use Rattle.answers.specs.declared.answer.AnswerHead.the-variants as Heads
+use Rattle.answers.specs.AnswerReading.{answerReadOf, headBy, spanNumber}
+use Rattle.answers.proofs.Judging.{span-meant}
 use Rattle.engine.specs.declared.solve.Solved as Declared
 use Rattle.engine.specs.declared.solve.Solved.the-variants.{Refused, Answered}
 use Rattle.engine.specs.Outcome.{solvedOf}

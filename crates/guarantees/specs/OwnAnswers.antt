@@ -9,9 +9,9 @@ use Rattle.definitions.specs.ProblemRecord.{nField, mField}
 use Rattle.definitions.specs.Verdict as Verdicts
 use Rattle.definitions.specs.Verdict.{Judged}
 use Rattle.definitions.specs.Solved.{Solves, engineRefusal, answered}
-use Rattle.records.specs.declared.answer.AnswerHead.{AnswerHead}
-use Rattle.records.specs.declared.answer.AnswerHead.the-variants.{Fields, Refused}
-use Rattle.records.specs.AnswerReading.{answerReadOf}
+use Rattle.answers.specs.declared.answer.AnswerHead.{AnswerHead}
+use Rattle.answers.specs.declared.answer.AnswerHead.the-variants.{Fields, Refused}
+use Rattle.answers.specs.AnswerReading.{answerReadOf}
 
 -- The engine's refusal, and the buffer as lent; or the checker's verdict on the bytes that the engine wrote: accepted, with the
 -- class and span of the engine's result.

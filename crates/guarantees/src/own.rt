@@ -2,15 +2,15 @@
 // are those that the engine wrote.
 ghost use mathlib.Core.Path.{_≡_};
 ghost use Rattle.definitions.specs.ProblemRecord.{WithinLayout, nField, mField};
-ghost use Rattle.records.specs.AnswerReading.{answerReadOf};
+ghost use Rattle.answers.specs.AnswerReading.{answerReadOf};
 ghost use Rattle.guarantees.specs.OwnAnswers.{OwnVerdict, OwnReading};
 ghost use Rattle.checker.specs.Outcome.{verdictOf};
+use answers::answer::AnswerHead;
+use answers::answer::read_answer;
 use checker::check::Verdict;
 use checker::check::check;
 use engine::solve::Solved;
 use engine::solve::solve;
-use records::answer::AnswerHead;
-use records::answer::read_answer;
 use records::problem::Header;
 use records::problem::read_header;
 

@@ -4,11 +4,4 @@ pub mod Leads
 pub mod Tables
 pub mod ReadProblem
 pub mod LeadTables
-pub mod ByClass
-pub mod Passing
-pub mod Reading
-pub mod Padding
-pub mod Judging
-pub mod Writing
-pub mod Trips
-pub mod Meaning
+pub mod Within

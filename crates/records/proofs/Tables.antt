@@ -14,9 +14,14 @@ use Rattle.definitions.specs.ProblemRecord.{leftPlace, rightPlace, listOf}
 use Rattle.definitions.proofs.Whole.{nat-le-or-lt}
 use Rattle.records.specs.Tables.{cell, leadAt}
 use Rattle.records.specs.Filling.{rowCell, RowOf, Filled, Framed, Tabled}
-use Rattle.records.proofs.Padding.{zeros}
 
 -- ---- elements
+
+-- Zeros alone, read anywhere.
+pub zeros : (width k : ℕ) → getD {A = ℕ} (replicate width 0) k 0 ≡ 0
+zeros zero k = refl
+zeros (suc width) zero = refl
+zeros (suc width) (suc k) = zeros width k
 
 -- Nothing is filled yet.
 pub filled-none : {f : ℕ → ℕ} {base : ℕ} {l : List ℕ} → Filled f base 0 l l

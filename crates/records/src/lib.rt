@@ -1,9 +1,5 @@
-// Records: bytes to fields and back. Document 01, "Records" and "What is turned away".
-pub mod answer;
+// Problem records: bytes to tables, and what answers share with them. Document 01, "Records" and "What is turned away".
 pub mod bytes;
-pub mod class;
 pub mod limits;
 pub mod offset;
 pub mod problem;
-pub mod roundtrip;
-pub mod writer;

@@ -1,23 +1,15 @@
-// Every number of document 01 that the code uses, once.
+// Every number of document 01 that the code uses, once; those of answers alone stand in `answers`.
 
 // The highest n and m.
 pub const MOST_VARIABLES: usize = 31;
 
 pub const MOST_INEQUALITIES: usize = 63;
 
-// Sizes of the two headers, and of the largest answer record.
+// The size of a problem's header.
 pub const PROBLEM_HEADER: usize = 10;
 
-pub const ANSWER_HEADER: usize = 14;
-
-pub const ANSWER_MOST: usize = 206;
-
-// Limits of leads, spans and stamps.
+// The limit of leads.
 pub const LEAD_LIMIT: u64 = 10080;
-
-pub const SPAN_LIMIT: u64 = 645120;
-
-pub const STAMP_LIMIT: u64 = 2000000;
 
 // The refusal that is printed in words: the form is right and the answer is not accepted.
 pub const NOT_CERTIFIED: usize = 14;

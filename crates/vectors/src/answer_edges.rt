@@ -14,8 +14,8 @@ use crate::build::minus;
 use crate::cut::bytes_within;
 use crate::noise;
 use crate::print;
-use records::answer::AnswerHead;
-use records::answer::read_answer;
+use answers::answer::AnswerHead;
+use answers::answer::read_answer;
 
 // Where stamp 1 stands in an answer of class 1.
 const STAMP_1: usize = 18;

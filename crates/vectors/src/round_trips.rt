@@ -16,10 +16,10 @@ use crate::writer_edges::handed;
 use crate::writer_edges::minus;
 use crate::writer_edges::plus;
 use crate::writer_edges::write;
-use records::answer::AnswerHead;
-use records::roundtrip::read_then_write;
-use records::roundtrip::write_then_read;
-use records::writer::Written;
+use answers::answer::AnswerHead;
+use answers::roundtrip::read_then_write;
+use answers::roundtrip::write_then_read;
+use answers::writer::Written;
 
 fn verdict(same: bool) {
     if same {

@@ -5,8 +5,8 @@ use crate::cut::numbers_within;
 use crate::noise;
 use crate::noise::BUFFER;
 use crate::print;
-use records::writer::Written;
-use records::writer::write_answer;
+use answers::writer::Written;
+use answers::writer::write_answer;
 
 // The offset number of 0, and the first number that is none, 2³².
 const ZERO: u64 = 2147483648;

@@ -1,5 +1,5 @@
 use mathlib.Core.Path.{_∙_}
-use Rattle.records.proofs.ByClass.{within-blank, within-other}
+use Rattle.records.proofs.Within.{within-blank, within-other}
 use borrow.Author.Needs.{needs}
 use Rattle.records.proofs.offset.blank_or_within.Statement.{statement}
 use Rattle.records.proofs.offset.blank_or_within.Tie as tie

@@ -1,4 +1,4 @@
-use Rattle.records.proofs.ByClass.{whole-low, whole-high}
+use Rattle.records.proofs.Within.{whole-low, whole-high}
 use borrow.Author.Needs.{needs}
 use Rattle.records.proofs.offset.whole_within.Statement.{statement}
 use Rattle.records.proofs.offset.whole_within.Tie as tie

@@ -1,0 +1,4 @@
+pub mod Fields
+pub mod AnswerReading
+pub mod AnswerWriting
+pub mod RoundTrips
