@@ -18,7 +18,7 @@ pub fn byte_at(s: &[u8], at: usize) -> u64
     if at < s.len() { wide(s[at]) } else { 0 }
 }
 
-// A field of 2 bytes. Public for `answer`, `problem`.
+// A field of 2 bytes. Public for `problem` and `answers::answer`.
 pub fn short_at(s: &[u8], at: usize) -> u64
     requires { ⌜ at < 4294967296 ⌝ }
     ensures { λ r. ⌜ (r ≡ numAt 2 (now (s .entry)) at) × (r < 65536) ⌝ }
@@ -27,7 +27,7 @@ pub fn short_at(s: &[u8], at: usize) -> u64
     byte_at(s, at) + 256 * byte_at(s, b)
 }
 
-// A field of 4 bytes. Public for `checker::input`, `answer`, `problem`.
+// A field of 4 bytes. Public for `problem`, `answers::answer` and `checker::input`.
 pub fn word_at(s: &[u8], at: usize) -> u64
     requires { ⌜ at < 4294967296 ⌝ }
     ensures { λ r. ⌜ (r ≡ numAt 4 (now (s .entry)) at) × (r < 4294967296) ⌝ }

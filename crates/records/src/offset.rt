@@ -27,7 +27,7 @@ pub fn offset_32(w: u32) -> u32
     }
 }
 
-// The number is whole and within ±limit. Public for `class`.
+// The number is whole and within ±limit. Public for `answers::class`.
 pub fn whole_within(limit: u64, k: u64) -> bool
     requires { ⌜ limit < 2147483648 ⌝ }
     ensures { λ r. ⌜ r ≡ whole-within limit (tropOf k) ⌝ }
@@ -38,7 +38,7 @@ pub fn whole_within(limit: u64, k: u64) -> bool
     k <= OFFSET + limit
 }
 
-// The number is blank, or within ±limit. Public for `answer`.
+// The number is blank, or within ±limit. Public for `answers::answer`.
 pub fn blank_or_within(limit: u64, k: u64) -> bool
     requires { ⌜ limit < 2147483648 ⌝ }
     ensures { λ r. ⌜ r ≡ blank-or-within limit (tropOf k) ⌝ }
