@@ -39,14 +39,14 @@ use Rattle.duality.proofs.Classes.{value-exactly, optimal-exactly, infeasible-e
 use Rattle.duality.proofs.Stamps.{stamps-at-most-32}
 use Rattle.duality.proofs.Unused.{optimal-unused, infeasible-unused, unbounded-unused}
 use Rattle.records.specs.Decoded.{Decoded}
-use Rattle.engine.specs.Tables.{systemOf, pointOf, pickOf}
-use Rattle.engine.specs.Filled.{Filled}
-use Rattle.engine.specs.Steps.{Tried}
+use Rattle.trials.specs.Tables.{systemOf, pointOf, pickOf}
+use Rattle.trials.specs.Filled.{Filled}
+use Rattle.trials.specs.Steps.{Tried}
 use Rattle.engine.specs.Trials.{wholeOf, zero-offset, top-offset, lowest-offset, Trialled, Raised, Steady, Question, Ready, TriedAt}
 use Rattle.engine.specs.Halving.{LeastFound}
 use Rattle.engine.specs.Shown.{VariablePicks, RowPicks, InducedRows}
 use Rattle.engine.specs.Answered.{Coefficients, Copied, Stamps, answerIn, Settled, Answered}
-use Rattle.engine.proofs.Small.{near-small}
+use Rattle.trials.proofs.Small.{near-small}
 use Rattle.engine.proofs.Agree.{Agree, agree-side}
 use Rattle.engine.proofs.Trials.{table-raised, agree-raised, raised-ready, raised-held, question-steady, tried-blocks, tried-solution}
 use Rattle.engine.proofs.Variables.{variables-agree, variables-idle, variables-most}

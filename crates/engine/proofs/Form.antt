@@ -17,8 +17,8 @@ use Rattle.definitions.specs.AnswerRecord.{is-zero, stampsFit, picksFit}
 use Rattle.definitions.specs.Verdict.{pointOf, strategyOf}
 use Rattle.definitions.proofs.Whole.{nat-le-or-lt}
 use Rattle.definitions.proofs.Offset.{trop-zero}
-use Rattle.engine.specs.Tables as Tables
-use Rattle.engine.specs.Tables.{pickOf}
+use Rattle.trials.specs.Tables as Tables
+use Rattle.trials.specs.Tables.{pickOf}
 
 -- ---- a list cut where only zeros follow
 

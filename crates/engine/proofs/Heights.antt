@@ -9,9 +9,9 @@ use lib.Seq.{getD-set-same, getD-set-other}
 use Rattle.definitions.proofs.Whole.{nat-le-or-lt}
 use Rattle.records.specs.Decoded.{Near}
 use Rattle.records.proofs.LeadTables.{near-zero}
-use Rattle.engine.specs.Tables.{value-limit, low-half, high, highs, Ranged}
-use Rattle.engine.proofs.Filled.{zeros-at}
-use Rattle.engine.proofs.Low.{high-zero, high-whole, highs-at, highs-size}
+use Rattle.trials.specs.Tables.{value-limit, low-half, high, highs, Ranged}
+use Rattle.trials.proofs.Filled.{zeros-at}
+use Rattle.trials.proofs.Low.{high-zero, high-whole, highs-at, highs-size}
 
 -- A height that is kept: blank, or within 2²⁵ of the low number of 0.
 pub near-blank : Near value-limit (high 0)

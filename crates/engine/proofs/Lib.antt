@@ -1,9 +1,3 @@
-pub mod Filled
-pub mod Fold
-pub mod Low
-pub mod Small
-pub mod Rounds
-pub mod Steps
 pub mod Agree
 pub mod Trials
 pub mod Heights

@@ -15,8 +15,8 @@ use Rattle.definitions.specs.Certificate.{Reachable, Anchor, start, onward}
 use Rattle.definitions.proofs.Whole.{nat-le-or-lt}
 use Rattle.duality.proofs.Height.{total-falls}
 use Rattle.engine.specs.Marks.{Marked, ArcIn, BothAre, FromMarked, MarkBy, Differs, Sound, unmarked, RowSpread, Spreading, Reached}
-use Rattle.engine.proofs.Filled.{zeros-at}
-use Rattle.engine.proofs.Rounds.{false-not-true}
+use Rattle.trials.proofs.Filled.{zeros-at}
+use Rattle.trials.proofs.Rounds.{false-not-true}
 
 pub true-not-false : true ≡ false → ⊥
 true-not-false e = false-not-true (sym e)

@@ -14,7 +14,7 @@ use Rattle.definitions.specs.Solved.{IdleRows}
 use Rattle.definitions.proofs.Whole.{nat-le-or-lt}
 use Rattle.duality.specs.Picks.{picksFrom, AgreeInUse}
 use Rattle.duality.proofs.Reach.{reach-keep, reach-map}
-use Rattle.engine.specs.Tables.{pickOf}
+use Rattle.trials.specs.Tables.{pickOf}
 use Rattle.engine.specs.Trials.{Held}
 use Rattle.engine.specs.Marks.{ArcIn}
 use Rattle.engine.specs.Shown.{RowTo, RowArcIs, UsedBy, RowShown, RowPicks}

@@ -12,12 +12,12 @@ use Rattle.definitions.specs.Offset.{tropOf}
 use Rattle.definitions.proofs.Whole.{nat-le-or-lt}
 use Rattle.definitions.proofs.Tropical.{not-finite-bot, below-bot, ⊑-of-eq, largest-least}
 use Rattle.definitions.proofs.Offset.{trop-zero, trop-order}
-use Rattle.engine.specs.Tables.{entryOf, pointOf, raised-limit, fold-limit, Table, Ranged}
-use Rattle.engine.specs.Rounds.{foldedAt, sums}
+use Rattle.trials.specs.Tables.{entryOf, pointOf, raised-limit, fold-limit, Table, Ranged}
+use Rattle.trials.specs.Rounds.{foldedAt, sums}
 use Rattle.engine.specs.Marks.{Marked, BothAre}
 use Rattle.engine.specs.Shown.{shownPick, arcBy, HitsIs, RowArcIs, UsedIs, blank-most, Highest, BestIs}
-use Rattle.engine.proofs.Fold.{folded-low, folded-offsets, folded-mono}
-use Rattle.engine.proofs.Rounds.{false-not-true}
+use Rattle.trials.proofs.Fold.{folded-low, folded-offsets, folded-mono}
+use Rattle.trials.proofs.Rounds.{false-not-true}
 
 -- ---- one pick
 

@@ -27,12 +27,12 @@ use Rattle.duality.specs.Values.{Policy}
 use Rattle.duality.proofs.Ends.{idle, empty-policy, blank-blocks}
 use Rattle.duality.proofs.Warm.{stays-down-at}
 use Rattle.records.specs.Decoded.{Near}
-use Rattle.engine.specs.Tables.{entryOf, systemOf, pointOf, pickOf, raised-limit, Table}
-use Rattle.engine.specs.Steps.{Tried}
+use Rattle.trials.specs.Tables.{entryOf, systemOf, pointOf, pickOf, raised-limit, Table}
+use Rattle.trials.specs.Steps.{Tried}
 use Rattle.engine.specs.Trials.{wholeOf, zero-offset, Trialled, shifted, Raised, Steady, Question, Ready, At, KeptAt, TriedAt, Held}
-use Rattle.engine.proofs.Filled.{filled-map, filled-end}
-use Rattle.engine.proofs.Rounds.{zero-is}
-use Rattle.engine.proofs.Steps.{values-ranged}
+use Rattle.trials.proofs.Filled.{filled-map, filled-end}
+use Rattle.trials.proofs.Rounds.{zero-is}
+use Rattle.trials.proofs.Steps.{values-ranged}
 use Rattle.engine.proofs.Agree.{Agree, agree-sym, agree-solves, agree-values, agree-policy}
 
 -- ---- one coefficient raised

@@ -20,7 +20,7 @@ use Rattle.definitions.proofs.Tropical.{not-finite-bot}
 use Rattle.definitions.proofs.Offset.{trop-zero, trop-fin}
 use Rattle.duality.specs.Picks.{picksFrom, AgreeReached}
 use Rattle.duality.proofs.Reach.{reach-keep, reach-map}
-use Rattle.engine.specs.Tables.{entryOf, pickOf}
+use Rattle.trials.specs.Tables.{entryOf, pickOf}
 use Rattle.engine.specs.Trials.{Held}
 use Rattle.engine.specs.Marks.{ArcIn}
 use Rattle.engine.specs.Shown.{shownPick, arcBy, VariablePicks}

@@ -11,8 +11,8 @@ use Rattle.definitions.specs.Solved.{Answers}
 use Rattle.duality.specs.Values.{difference}
 use Rattle.duality.specs.Within.{Within}
 use Rattle.records.specs.Decoded.{Decoded}
-use Rattle.engine.specs.Tables.{Table}
-use Rattle.engine.specs.Filled.{Filled}
+use Rattle.trials.specs.Tables.{Table}
+use Rattle.trials.specs.Filled.{Filled}
 use Rattle.engine.specs.Trials.{Question}
 
 -- Tables of n + 1 variables and m + 1 rows within the leads' limit.

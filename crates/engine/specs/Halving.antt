@@ -10,7 +10,7 @@ use Rattle.definitions.specs.Certificate.{Anchor}
 use Rattle.definitions.specs.Bisection.{Bracket, Brackets, next, halved, trials-optimal}
 use Rattle.duality.specs.System.{systemAt, Blocks}
 use Rattle.engine.specs.declared.halving.Search.{Search}
-use Rattle.engine.specs.Tables.{pickOf}
+use Rattle.trials.specs.Tables.{pickOf}
 use Rattle.engine.specs.Trials.{wholeOf, Trialled, Question, TriedAt}
 
 -- A bracket of offset numbers as one of whole numbers.

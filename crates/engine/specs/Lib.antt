@@ -1,7 +1,3 @@
-pub mod Tables
-pub mod Filled
-pub mod Rounds
-pub mod Steps
 pub mod Trials
 pub mod Descent
 pub mod Halving

@@ -6,9 +6,9 @@ use mathlib.Core.List.{List}
 use lib.Dec.{eqb, ltb}
 use lib.ListN.{getD}
 use Rattle.definitions.specs.Tropical.{plus, largest, _⊑_, Finite}
-use Rattle.engine.specs.Tables.{entryOf, pointOf}
-use Rattle.engine.specs.Filled.{Filled}
-use Rattle.engine.specs.Rounds.{sums}
+use Rattle.trials.specs.Tables.{entryOf, pointOf}
+use Rattle.trials.specs.Filled.{Filled}
+use Rattle.trials.specs.Rounds.{sums}
 use Rattle.engine.specs.Marks.{Marked, Reached}
 
 -- The record's form of a pick below `many`, 0 where its mark is 0 or it is none.

@@ -15,8 +15,8 @@ use Rattle.definitions.specs.Certificate.{raise}
 use Rattle.duality.specs.System.{systemAt}
 use Rattle.duality.specs.Values.{Policy}
 use Rattle.records.specs.Decoded.{Near}
-use Rattle.engine.specs.Tables.{entryOf, pointOf, pickOf, Tables, Ranged}
-use Rattle.engine.specs.Steps.{Tried}
+use Rattle.trials.specs.Tables.{entryOf, pointOf, pickOf, Tables, Ranged}
+use Rattle.trials.specs.Steps.{Tried}
 
 -- The whole number that an offset number above 0 stands for.
 abbrev pub wholeOf : ℕ → ℤ

@@ -2,7 +2,7 @@
 ghost use mathlib.Core.Path.{_≡_};
 ghost use Prim.Native.Nat.{_+_, _*_, _<_, _≤_};
 ghost use lib.ListN.{length, getD};
-ghost use Rattle.engine.specs.Tables.{Ranged};
+ghost use Rattle.trials.specs.Tables.{Ranged};
 ghost use Rattle.engine.specs.Trials.{zero-offset, top-offset, lowest-offset, Ready, TriedAt};
 ghost use Rattle.engine.specs.Halving.{Searching};
 ghost use Rattle.engine.specs.Answered.{Coefficients, Copied, Stamps, Settled, Answered};
@@ -18,9 +18,9 @@ use crate::halving::raise;
 use crate::picks::induced;
 use crate::picks::row_picks;
 use crate::picks::variable_picks;
-use crate::policy::Outcome;
-use crate::values::gap;
 use records::limits::OFFSET;
+use trials::policy::Outcome;
+use trials::values::gap;
 
 // Class (1 least, 2 bottomless, 3 none), span and stamps as offset numbers, trials made, and picks. Stamps and picks
 // count as far as the class has them.

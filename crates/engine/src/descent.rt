@@ -1,14 +1,14 @@
 // Trials from the top down, at guesses, until one is not possible or the lowest is.
 ghost use Prim.Native.Nat.{_<_, _≤_};
 ghost use lib.ListN.{getD};
-ghost use Rattle.engine.specs.Tables.{Ranged};
+ghost use Rattle.trials.specs.Tables.{Ranged};
 ghost use Rattle.engine.specs.Trials.{top-offset, lowest-offset, Ready, Steady, TriedAt};
 ghost use Rattle.engine.specs.Descent.{EndsAt, Descended};
 use crate::guess::guess;
 use crate::halving::attempt;
-use crate::policy::Outcome;
 use answers::limits::SPAN_LIMIT;
 use records::limits::OFFSET;
+use trials::policy::Outcome;
 
 // The two outer trials as offset numbers: 645,120 and −645,121.
 pub const TOP: u64 = OFFSET + SPAN_LIMIT;

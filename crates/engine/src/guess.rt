@@ -5,15 +5,15 @@ ghost use mathlib.Core.Path.{_≡_};
 ghost use Prim.Native.Nat.{_+_, _<_, _≤_};
 ghost use lib.ListN.{length};
 ghost use Rattle.records.specs.Decoded.{Near};
-ghost use Rattle.engine.specs.Tables.{raised-limit, value-limit, side-most, side-least, high, highs, Ranged, Tables};
+ghost use Rattle.trials.specs.Tables.{raised-limit, value-limit, side-most, side-least, high, highs, Ranged, Tables};
 ghost use Rattle.engine.specs.Trials.{Ready};
 use crate::picks::induced;
-use crate::policy::raised;
-use crate::values::HALF;
-use crate::values::LOW;
-use crate::values::plus;
-use crate::values::side;
 use records::limits::OFFSET;
+use trials::policy::raised;
+use trials::values::HALF;
+use trials::values::LOW;
+use trials::values::plus;
+use trials::values::side;
 
 // Heights from −2²⁵ to 2²⁵ are kept, as low numbers.
 const FARTHEST: u32 = 33554432;

@@ -8,9 +8,9 @@ ghost use Rattle.records.specs.Decoded.{Near};
 ghost use Rattle.engine.specs.Trials.{Trialled, shifted, Raised, Steady, Ready, KeptAt, TriedAt};
 ghost use Rattle.engine.specs.Halving.{Searching, Wide, MiddleCounted, remaining, LeastFound};
 use crate::bracket::Bracket;
-use crate::policy::Outcome;
-use crate::policy::trial;
 use records::limits::OFFSET;
+use trials::policy::Outcome;
+use trials::policy::trial;
 
 // A coefficient raised by t: blank stays blank.
 fn shift(k: u32, t: u64) -> u32

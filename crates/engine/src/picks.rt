@@ -2,11 +2,11 @@
 ghost use mathlib.Core.Path.{_≡_};
 ghost use Prim.Native.Nat.{_+_, _*_, _/_, _%_, _<_, _≤_};
 ghost use lib.ListN.{length};
-ghost use Rattle.engine.specs.Tables.{raised-limit, Table, Ranged};
+ghost use Rattle.trials.specs.Tables.{raised-limit, Table, Ranged};
 ghost use Rattle.engine.specs.Shown.{shownPick, arcBy, VariableArcs, ShownVariables, VariablePicks, HitsIs, RowArcIs, RowArcs, UsedIs, ShownRows, RowPicks, BestIs, InducedRows};
 use crate::reach::both;
 use crate::reach::reach;
-use crate::values::plus;
+use trials::values::plus;
 
 // One less than three quarters of 2³²: a sum of two offset numbers is above it exactly if both are whole.
 const BLANK_MOST: u64 = 3221225471;

@@ -1,6 +1,6 @@
 use Prim.Native.Nat.{_≤_, _-_}
 use native.Mathlib.Omega.{arith}
-use Rattle.engine.proofs.Filled.{filled-none, filled-more, filled-end}
+use Rattle.trials.proofs.Filled.{filled-none, filled-more, filled-end}
 use mathlib.Core.Path.{refl}
 use Rattle.engine.specs.Answered.{Copied}
 use borrow.Author.Needs.{needs}

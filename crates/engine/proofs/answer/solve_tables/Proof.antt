@@ -1,5 +1,5 @@
 use native.Mathlib.Omega.{arith}
-use Rattle.engine.proofs.Filled.{positive}
+use Rattle.trials.proofs.Filled.{positive}
 use Rattle.engine.proofs.Trials.{kept-none, steady-trans}
 use Rattle.engine.proofs.Halves.{searching-start}
 use Rattle.engine.proofs.Final.{coefficients-ready, answered-by}

@@ -2,7 +2,7 @@ use Prim.Native.Nat.{ℕ}
 use mathlib.Core.Path.{_≡_}
 use native.Mathlib.Omega.{arith}
 use borrow.Author.Tests.{eqb-true, eqb-false}
-use Rattle.engine.proofs.Filled.{positive}
+use Rattle.trials.proofs.Filled.{positive}
 use Rattle.engine.proofs.descent.ends.Statement.{statement}
 use Rattle.engine.proofs.descent.ends.Tie as tie
 

@@ -1,5 +1,5 @@
 use native.Mathlib.Omega.{arith}
-use Rattle.engine.proofs.Filled.{positive}
+use Rattle.trials.proofs.Filled.{positive}
 use Rattle.engine.proofs.Heights.{near-blank, near-height}
 use borrow.Author.Needs.{needs}
 use Rattle.engine.proofs.guess.asked.Statement.{statement}

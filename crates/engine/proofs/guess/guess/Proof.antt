@@ -1,7 +1,7 @@
 use native.Mathlib.Omega.{arith}
 use lib.ListN.{getD}
-use Rattle.engine.proofs.Low.{high-whole, highs-size}
-use Rattle.engine.proofs.Filled.{positive}
+use Rattle.trials.proofs.Low.{high-whole, highs-size}
+use Rattle.trials.proofs.Filled.{positive}
 use Rattle.engine.proofs.Trials.{table-raised}
 use borrow.Author.Needs.{needs}
 use Rattle.engine.proofs.guess.guess.Statement.{statement}

@@ -1,8 +1,8 @@
 use Prim.Native.Nat.{_≤_, _-_}
 use native.Mathlib.Omega.{arith}
 use mathlib.Core.Logic.{⊎-elim}
-use Rattle.engine.specs.Tables.{Ranged, highs}
-use Rattle.engine.proofs.Low.{highs-size}
+use Rattle.trials.specs.Tables.{Ranged, highs}
+use Rattle.trials.proofs.Low.{highs-size}
 use Rattle.engine.proofs.Heights.{ranged-rises}
 use Rattle.engine.proofs.Trials.{table-raised}
 use borrow.Author.Needs.{needs}

@@ -1,6 +1,6 @@
 use Prim.Native.Nat.{_≤_, _-_}
 use native.Mathlib.Omega.{arith}
-use Rattle.engine.specs.Tables.{Ranged, highs}
+use Rattle.trials.specs.Tables.{Ranged, highs}
 use Rattle.engine.proofs.Heights.{ranged-start}
 use borrow.Author.Needs.{needs}
 use Rattle.engine.proofs.guess.lifted.Statement.{statement}

@@ -1,5 +1,5 @@
 use native.Mathlib.Omega.{arith}
-use Rattle.engine.proofs.Filled.{positive}
+use Rattle.trials.proofs.Filled.{positive}
 use Rattle.engine.proofs.Trials.{shifted-blank, shifted-whole}
 use borrow.Author.Needs.{needs}
 use Rattle.engine.proofs.halving.shift.Statement.{statement}

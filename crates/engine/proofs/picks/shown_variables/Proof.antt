@@ -1,6 +1,6 @@
 use Prim.Native.Nat.{_≤_, _-_}
 use native.Mathlib.Omega.{arith}
-use Rattle.engine.proofs.Filled.{filled-none, filled-more, filled-end}
+use Rattle.trials.proofs.Filled.{filled-none, filled-more, filled-end}
 use Rattle.engine.specs.Shown.{ShownVariables}
 use borrow.Author.Needs.{needs}
 use Rattle.engine.proofs.picks.shown_variables.Statement.{statement}

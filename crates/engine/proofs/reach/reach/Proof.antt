@@ -1,6 +1,6 @@
 use native.Mathlib.Omega.{arith}
 use Rattle.engine.specs.Marks.{Sound, unmarked}
-use Rattle.engine.proofs.Filled.{positive}
+use Rattle.trials.proofs.Filled.{positive}
 use Rattle.engine.proofs.Marks.{sound-start, spreading-reached}
 use borrow.Author.Needs.{needs}
 use Rattle.engine.proofs.reach.reach.Statement.{statement}

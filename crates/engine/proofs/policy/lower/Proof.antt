@@ -1,8 +1,0 @@
-use Rattle.engine.proofs.Steps.{lesser-first, lesser-second}
-use Rattle.engine.proofs.policy.lower.Statement.{statement}
-use Rattle.engine.proofs.policy.lower.Tie as tie
-
-pub lower-spec : {M : Type 1} → statement M
-lower-spec = tie.close (tie.spec
-    (λ c. search lesser-first)
-    (λ c. search lesser-second))

@@ -1,0 +1,157 @@
+-- The largest of coefficient + variable, found on plain sums of a coefficient and a low value: a sum of two whole numbers
+-- lies above the limit, a sum with a blank below it, so that one test at the end tells them apart.
+use Prim.Native.Nat.{ℕ, zero, suc, _+_, _*_, _-_, _≤_, _<_}
+use mathlib.Core.Path.{_≡_, refl, sym, ap, _∙_}
+use mathlib.Core.Bool.{Bool, true, false, cond}
+use mathlib.Core.Logic.{_⊎_, ⊎-elim}
+use mathlib.Core.List.{List}
+use native.Mathlib.Omega.{arith}
+use native.Mathlib.Nat.{eq-zero-or-pos}
+use native.Mathlib.Numerals.{add-one}
+use lib.Dec.{leb}
+use lib.ListN.{getD}
+use borrow.Author.Tests.{leb-true, leb-false, lt-ltb, le-ltb, le-leb, lt-leb}
+use Rattle.definitions.specs.Limits.{signed-half}
+use Rattle.definitions.specs.Tropical.{Trop, plus, larger, largest, _⊑_}
+use Rattle.definitions.specs.Offset.{tropOf}
+use Rattle.definitions.proofs.Whole.{nat-le-or-lt}
+use Rattle.definitions.proofs.Tropical.{⊑-refl, ⊑-antisym, larger-left, larger-right, larger-least, largest-ext}
+use Rattle.definitions.proofs.Offset.{trop-zero, trop-order, plus-trop, plus-trop-zero}
+use Rattle.records.specs.Decoded.{Near}
+use Rattle.trials.specs.Tables.{raised-limit, value-limit, fold-limit, low-fold, high, highs, Table, Ranged}
+use Rattle.trials.specs.Rounds.{upper, uppermost, foldedAt, folded, sums, SideIs}
+use Rattle.trials.proofs.Low.{high-zero, high-whole, high-mono, highs-at}
+
+-- ---- one sum
+
+pub folded-low : {limit : ℕ} (k : ℕ) → k < limit → foldedAt limit k ≡ 0
+unfolding foldedAt
+folded-low {limit} k h = rw (lt-ltb k limit h)
+
+pub folded-high : {limit : ℕ} (k : ℕ) → limit ≤ k → foldedAt limit k ≡ k - signed-half
+unfolding foldedAt
+folded-high {limit} k h = rw (le-ltb k limit h)
+
+pub folded-mono : (limit a b : ℕ) → a ≤ b → foldedAt limit a ≤ foldedAt limit b
+folded-mono limit a b h = ⊎-elim
+    (λ (l : limit ≤ a). omega (arith, folded-high a l, folded-high {limit = limit} b (omega arith)))
+    (λ (l : a < limit). omega (arith, folded-low a l))
+    (nat-le-or-lt limit a)
+
+-- A sum of two offset numbers, folded, stands for the sum.
+pub folded-offsets : (a b : ℕ) → Near raised-limit a → Near value-limit b → tropOf (foldedAt fold-limit (a + b)) ≡ plus (tropOf a) (tropOf b)
+folded-offsets a b na nb = ⊎-elim left-blank (λ (p : 0 < a). ⊎-elim (right-blank p) (both p) (eq-zero-or-pos b)) (eq-zero-or-pos a)
+  where
+    left-blank : a ≡ 0 → tropOf (foldedAt fold-limit (a + b)) ≡ plus (tropOf a) (tropOf b)
+    left-blank z = rw (folded-low {limit = fold-limit} (a + b) (omega (arith, nb .hi)), z) (trop-zero ∙ sym (plus-trop-zero (tropOf b) .0))
+
+    right-blank : 0 < a → b ≡ 0 → tropOf (foldedAt fold-limit (a + b)) ≡ plus (tropOf a) (tropOf b)
+    right-blank p z = rw (folded-low {limit = fold-limit} (a + b) (omega (arith, na .hi)), z) (trop-zero ∙ sym (plus-trop-zero (tropOf a) .1))
+
+    both : 0 < a → 0 < b → tropOf (foldedAt fold-limit (a + b)) ≡ plus (tropOf a) (tropOf b)
+    both p q =
+        let l : signed-half ≤ a + raised-limit = na .lo p in
+        let r : signed-half ≤ b + value-limit = nb .lo q in
+        rw (folded-high {limit = fold-limit} (a + b) (omega arith)) (sym (plus-trop a b p q (omega arith)))
+
+-- On low values the fold is the same.
+fold-low : (a b : ℕ) → Near raised-limit a → Near value-limit (high b) → high (folded (a + b)) ≡ foldedAt fold-limit (a + high b)
+fold-low a b na nb = ⊎-elim blank whole (eq-zero-or-pos b)
+  where
+    blank : b ≡ 0 → high (folded (a + b)) ≡ foldedAt fold-limit (a + high b)
+    blank z = rw (z, high-zero, folded-low {limit = low-fold} (a + 0) (omega (arith, na .hi)), folded-low {limit = fold-limit} (a + 0) (omega (arith, na .hi))) high-zero
+
+    whole : 0 < b → high (folded (a + b)) ≡ foldedAt fold-limit (a + high b)
+    whole q =
+        let e : high b ≡ b + 1073741824 = high-whole b q in
+        let r : signed-half ≤ high b + value-limit = nb .lo (omega arith) in
+        ⊎-elim
+        (λ (z : a ≡ 0). rw (folded-low {limit = low-fold} (a + b) (omega (arith, nb .hi)), folded-low {limit = fold-limit} (a + high b) (omega (arith, nb .hi))) high-zero)
+        (λ (p : 0 < a).
+        let l : signed-half ≤ a + raised-limit = na .lo p in
+        let f : folded (a + b) ≡ a + b - signed-half = folded-high {limit = low-fold} (a + b) (omega arith) in
+        let g : foldedAt fold-limit (a + high b) ≡ a + high b - signed-half = folded-high {limit = fold-limit} (a + high b) (omega arith) in
+        omega (arith, high-whole (folded (a + b)) (omega arith)))
+        (eq-zero-or-pos a)
+
+-- The sum of a coefficient and a low value, folded, stands for the sum.
+folded-sum : (a b : ℕ) → Near raised-limit a → Near value-limit (high b) → tropOf (high (folded (a + b))) ≡ plus (tropOf a) (tropOf (high b))
+folded-sum a b na nb = ap tropOf (fold-low a b na nb) ∙ folded-offsets a (high b) na nb
+
+-- ---- the largest
+
+larger-of : {x y : Trop} → x ⊑ y → larger x y ≡ y
+larger-of {x} {y} h = ⊑-antisym (larger-least h (⊑-refl y)) (larger-right x y)
+
+larger-over : {x y : Trop} → y ⊑ x → larger x y ≡ x
+larger-over {x} {y} h = ⊑-antisym (larger-least (⊑-refl x) h) (larger-left x y)
+
+folded-upper : (a b : ℕ) → tropOf (high (folded (upper a b))) ≡ larger (tropOf (high (folded a))) (tropOf (high (folded b)))
+folded-upper a b = go (leb a b) refl
+  where
+    up : (a b : ℕ) → a ≤ b → tropOf (high (folded a)) ⊑ tropOf (high (folded b))
+    up a b h = trop-order (high (folded a)) (high (folded b)) .1 (high-mono (folded a) (folded b) (folded-mono low-fold a b h))
+
+    go : (t : Bool) → leb a b ≡ t → tropOf (high (folded (cond t b a))) ≡ larger (tropOf (high (folded a))) (tropOf (high (folded b)))
+    go true e = sym (larger-of (up a b (leb-true a b e)))
+    go false e =
+        let l : b < a = leb-false a b e in
+        sym (larger-over (up b a (omega arith)))
+
+folded-uppermost : (f : ℕ → ℕ) (k : ℕ) → tropOf (high (folded (uppermost f k))) ≡ largest (λ l. tropOf (high (folded (f l)))) k
+unfolding uppermost largest
+folded-uppermost f zero = rw (folded-low {limit = low-fold} 0 (omega arith), high-zero) trop-zero
+folded-uppermost f (suc k) = folded-upper (uppermost f k) (f k) ∙ ap (λ (z : Trop). larger z (tropOf (high (folded (f k))))) (folded-uppermost f k)
+
+either : {a b B : ℕ} (t : Bool) → a ≤ B → b ≤ B → cond t a b ≤ B
+either true h k = h
+either false h k = k
+
+pub uppermost-most : (f : ℕ → ℕ) (k B : ℕ) → ((l : ℕ) → l < k → f l ≤ B) → uppermost f k ≤ B
+unfolding uppermost
+uppermost-most f zero B h = omega arith
+uppermost-most f (suc k) B h = either (leb (uppermost f k) (f k)) (h k (omega arith)) (uppermost-most f k B (λ l b. h l (omega arith)))
+
+-- ---- the loop
+
+pub upper-second : (a b : ℕ) → a ≤ b → b ≡ upper a b
+upper-second a b h = rw (le-leb a b h)
+
+pub upper-first : (a b : ℕ) → b < a → a ≡ upper a b
+upper-first a b h = rw (lt-leb a b h)
+
+pub uppermost-none : (f : ℕ → ℕ) → 0 ≡ uppermost f 0
+unfolding uppermost
+uppermost-none f = refl
+
+pub uppermost-more : (f : ℕ → ℕ) (k best r : ℕ) → best ≡ uppermost f k → r ≡ upper best (f k) → r ≡ uppermost f (k + 1)
+unfolding uppermost
+uppermost-more f k best r e d = d ∙ rw (e, add-one, uppermost)
+
+-- The sum of a coefficient and a low value has 32 bits.
+pub sum-most : (table x : List ℕ) → Table raised-limit table → Ranged (highs x) → (row l : ℕ) → sums table row x l ≤ 3255435105
+sum-most table x t g row l = ⊎-elim
+    (λ (z : getD x l 0 ≡ 0). omega (arith, t .near (row * 32 + l) .hi))
+    (λ (q : 0 < getD x l 0). omega (arith, t .near (row * 32 + l) .hi, high-whole (getD x l 0) q, highs-at x l, g .near l .hi))
+    (eq-zero-or-pos (getD x l 0))
+
+-- What the loop's end, folded, is: the side of the row.
+pub side-end : (table : List ℕ) (row : ℕ) (x : List ℕ) (width l best r : ℕ) → Table raised-limit table → Ranged (highs x) → l ≤ width → width ≤ l
+    → best ≡ uppermost (sums table row x) l → r ≡ folded best → SideIs table row (highs x) width r
+side-end table row x width l best r t g h k e d = rw (d, e, eq) side
+  where
+    eq : l ≡ width
+    eq = omega arith
+
+    few : uppermost (sums table row x) width ≤ 3255435105
+    few = uppermost-most (sums table row x) width 3255435105 (λ l b. sum-most table x t g row l)
+
+    at : (l : ℕ) → tropOf (high (folded (sums table row x l))) ≡ plus (tropOf (getD table (row * 32 + l) 0)) (tropOf (getD (highs x) l 0))
+    at l = rw (highs-at x l) (folded-sum _ _ (t .near (row * 32 + l)) (rw (highs-at x l) at (g .near l)))
+
+    side : SideIs table row (highs x) width (folded (uppermost (sums table row x) width))
+    side = record {
+      is = folded-uppermost (sums table row x) width ∙ largest-ext _ _ width (λ l b. at l);
+      most = ⊎-elim (λ h. omega (arith, few, folded-high _ h)) (λ h. omega (arith, folded-low _ h)) (nat-le-or-lt low-fold (uppermost (sums table row x) width));
+      least = λ p. ⊎-elim (λ h. omega (arith, folded-high _ h)) (λ h. absurd (omega (arith, folded-low _ h))) (nat-le-or-lt low-fold (uppermost (sums table row x) width));
+    }

@@ -1,0 +1,6 @@
+pub mod Filled
+pub mod Fold
+pub mod Low
+pub mod Small
+pub mod Rounds
+pub mod Steps

@@ -1,0 +1,151 @@
+-- Laws of the rounds: a round of the array is a round of the values, and a round that changes nothing ends them.
+use Prim.Native.Nat.{ℕ, suc, _+_, _*_, _-_, _≤_, _<_}
+use mathlib.Core.Path.{_≡_, sym, ap, subst, _∙_}
+use mathlib.Core.Bool.{true, false}
+use mathlib.Core.Logic.{_⊎_, ⊎-elim}
+use mathlib.Core.List.{List, []}
+use native.Mathlib.Omega.{arith}
+use native.Mathlib.Nat.{mul-le-mul-right}
+use native.Mathlib.Numerals.{add-one}
+use lib.ListN.{getD}
+use lib.IntN.{pos}
+use borrow.Author.Tests.{lt-ltb, le-ltb}
+use Rattle.definitions.specs.Limits.{signed-half, lead-limit}
+use Rattle.definitions.specs.Tropical.{Trop, fin, plus}
+use Rattle.definitions.specs.Problem.{Point}
+use Rattle.definitions.specs.Offset.{tropOf}
+use Rattle.definitions.proofs.Whole.{nat-le-or-lt}
+use Rattle.definitions.proofs.Tropical.{largest-ext}
+use Rattle.definitions.proofs.Offset.{trop-zero, trop-fin, trop-minus, trop-show}
+use Rattle.duality.specs.System.{System}
+use Rattle.duality.specs.Values.{difference, valueAt, exitBy, valuesAfter, values}
+use Rattle.duality.proofs.Weights.{difference-bot, exit-picked, exit-terminal, round-picked, round-terminal, values-still}
+use Rattle.records.specs.Decoded.{Near}
+use Rattle.trials.specs.Tables.{entryOf, systemOf, pointOf, pickOf, raised-limit, value-limit, low-half, side-least, high, highs, Ranged, Tables}
+use Rattle.trials.specs.Rounds.{SideIs, steppedBy, Stepped, Exits, Level, ValuesIs, SameUpTo}
+use Rattle.trials.proofs.Filled.{filled-map}
+use Rattle.trials.proofs.Low.{high-zero, high-whole, highs-at}
+use Rattle.trials.proofs.Small.{near-small, small-near, small-more, rounds-small}
+
+-- ---- one variable
+
+pub gap-blank-side : (a : ℕ) → tropOf 0 ≡ difference (tropOf 0) (tropOf a)
+unfolding difference
+gap-blank-side a = rw trop-zero
+
+pub gap-blank-left : (s : ℕ) → tropOf 0 ≡ difference (tropOf s) (tropOf 0)
+gap-blank-left s = rw trop-zero (sym (difference-bot (tropOf s)))
+
+pub gap-whole : (s a : ℕ) → 0 < s → 0 < a → a < s + signed-half → tropOf (s + signed-half - a) ≡ difference (tropOf s) (tropOf a)
+unfolding difference
+gap-whole s a h k l = rw (trop-minus s a (trop-fin s h) (trop-fin a k) l, trop-fin s h, trop-fin a k)
+
+-- The same on low numbers.
+pub given-blank-side : (a : ℕ) → tropOf (high 0) ≡ difference (tropOf (high 0)) (tropOf a)
+given-blank-side a = rw high-zero (gap-blank-side a)
+
+pub given-blank-left : (s : ℕ) → tropOf (high 0) ≡ difference (tropOf (high s)) (tropOf 0)
+given-blank-left s = rw high-zero (gap-blank-left (high s))
+
+pub given-whole : (s a : ℕ) → side-least ≤ s → 0 < a → a ≤ signed-half + lead-limit
+    → tropOf (high (s + signed-half - a)) ≡ difference (tropOf (high s)) (tropOf a)
+given-whole s a h k l =
+    let e : high s ≡ s + 1073741824 = high-whole s (omega arith) in
+    let f : high (s + signed-half - a) ≡ high s + signed-half - a = omega (arith, high-whole (s + signed-half - a) (omega arith)) in
+    rw f (gap-whole (high s) a (omega arith) k (omega arith))
+
+-- The number 0.
+pub zero-is : tropOf signed-half ≡ fin (pos 0)
+zero-is = trop-show signed-half (pos 0) (omega arith) (omega arith)
+
+pub low-zero-is : tropOf (high low-half) ≡ fin (pos 0)
+low-zero-is = let e : high low-half ≡ signed-half = omega (arith, high-whole low-half (omega arith)) in rw e zero-is
+
+-- A variable that picks a row.
+pub stepped-picked : (left right x : List ℕ) (width rows i j s a r : ℕ) → i < rows → SideIs right i x width s
+    → tropOf r ≡ difference (tropOf (high s)) (tropOf (getD left (i * 32 + j) 0))
+    → tropOf r ≡ steppedBy (systemOf left right width rows) i j (pointOf x)
+unfolding steppedBy
+stepped-picked left right x width rows i j s a r h si e = rw (lt-ltb i rows h) (e ∙ ap (λ (z : Trop). difference z (tropOf (getD left (i * 32 + j) 0))) (si .is))
+
+-- A variable that picks none.
+pub stepped-terminal : (left right : List ℕ) (width rows i j : ℕ) (x : Point) → rows ≤ i
+    → tropOf (high low-half) ≡ steppedBy (systemOf left right width rows) i j x
+unfolding steppedBy
+stepped-terminal left right width rows i j x h = rw (le-ltb i rows h) low-zero-is
+
+pub exit-none : (rows i : ℕ) → i < rows → tropOf (high 0) ≡ exitBy (systemOf [] [] 0 rows) i
+exit-none rows i h = rw high-zero trop-zero ∙ sym (exit-picked (systemOf [] [] 0 rows) i h)
+
+pub exit-zero : (rows i : ℕ) → rows ≤ i → tropOf (high low-half) ≡ exitBy (systemOf [] [] 0 rows) i
+exit-zero rows i h = low-zero-is ∙ sym (exit-terminal (systemOf [] [] 0 rows) i h)
+
+-- ---- levels
+
+-- The exits are the values before the first round.
+pub level-start : (left right picks x : List ℕ) (width rows : ℕ) → Exits (systemOf [] [] width rows) (pickOf picks) width x
+    → Level (systemOf left right width rows) (pickOf picks) 0 x
+unfolding valueAt exitBy
+level-start left right picks x width rows f = filled-map (λ k v h e. e) f
+
+-- What a round makes of the values after i rounds are those after one more.
+pub level-more : (left right picks x y : List ℕ) (width rows i : ℕ) → Level (systemOf left right width rows) (pickOf picks) i x
+    → Stepped (systemOf left right width rows) (pickOf picks) (pointOf x) y → Level (systemOf left right width rows) (pickOf picks) (i + 1) y
+unfolding steppedBy
+level-more left right picks x y width rows i f g = rw add-one (filled-map turned g)
+  where
+    s : System
+    s = systemOf left right width rows
+
+    turned : (j v : ℕ) → j < width → tropOf v ≡ steppedBy (systemOf left right width rows) (pickOf picks j) j (pointOf x)
+        → tropOf v ≡ valuesAfter (systemOf left right width rows) (pickOf picks) (suc i) j
+    turned j v h e = ⊎-elim
+        (λ (t : rows ≤ pickOf picks j). rw (e, le-ltb (pickOf picks j) rows t) (sym (round-terminal (systemOf left right width rows) (pickOf picks) (suc i) j t)))
+        (λ (t : pickOf picks j < rows).
+        rw (e, lt-ltb (pickOf picks j) rows t, round-picked (systemOf left right width rows) (pickOf picks) i j t)
+        (ap (λ (z : Trop). difference z (entryOf left (pickOf picks j) j))
+        (largest-ext _ _ width (λ l b. ap (plus (entryOf right (pickOf picks j) l)) (f .each l b)))))
+        (nat-le-or-lt rows (pickOf picks j))
+
+-- After at most 32 rounds the values are within their limit.
+pub level-ranged : (left right picks x : List ℕ) (width rows i : ℕ) → Tables left right width rows → i ≤ width
+    → Level (systemOf left right width rows) (pickOf picks) i x → Ranged x
+level-ranged left right picks x width rows i t h f = record { size = f .size-is; near = λ k. ⊎-elim (past k) (inside k) (nat-le-or-lt width k) }
+  where
+    past : (k : ℕ) → width ≤ k → Near value-limit (getD x k 0)
+    past k b = rw (f .rest k b) (record { hi = omega arith; lo = λ p. absurd (omega arith) })
+
+    inside : (k : ℕ) → k < width → Near value-limit (getD x k 0)
+    inside k b = small-near value-limit (getD x k 0) (rw (f .each k b) (small-more
+        (omega (arith, t .width-most, mul-le-mul-right (raised-limit + lead-limit) h, mul-le-mul-right (raised-limit + lead-limit) (t .width-most)))
+        (rounds-small (systemOf left right width rows) lead-limit raised-limit
+        (λ i j. near-small lead-limit _ (t .lefts .near (i * 32 + j)))
+        (λ i j. near-small raised-limit _ (t .rights .near (i * 32 + j)))
+        (pickOf picks) i k)))
+
+-- A round that changes nothing: these are the values.
+pub level-still : (left right picks x y : List ℕ) (width rows i : ℕ) → i ≤ width
+    → Level (systemOf left right width rows) (pickOf picks) i x
+    → Stepped (systemOf left right width rows) (pickOf picks) (pointOf x) y → SameUpTo width x y
+    → ValuesIs (systemOf left right width rows) (pickOf picks) x
+level-still left right picks x y width rows i h f g same =
+    let m = level-more left right picks x y width rows i f g in
+    filled-map (λ j v b e. e ∙ sym (values-still (systemOf left right width rows) (pickOf picks) i h (still m) j b)) f
+  where
+    still : Level (systemOf left right width rows) (pickOf picks) (i + 1) y → (j : ℕ) → j < width
+        → valuesAfter (systemOf left right width rows) (pickOf picks) (suc i) j ≡ valuesAfter (systemOf left right width rows) (pickOf picks) i j
+    still m j b = sym ((rw add-one at m) .each j b) ∙ ap tropOf (sym (same j b)) ∙ f .each j b
+
+-- As many rounds as variables: these are the values.
+pub level-last : (left right picks x : List ℕ) (width rows i : ℕ) → i ≤ width → width ≤ i
+    → Level (systemOf left right width rows) (pickOf picks) i x → ValuesIs (systemOf left right width rows) (pickOf picks) x
+unfolding values
+level-last left right picks x width rows i h k f = let e : i ≡ width = omega arith in subst (λ (z : ℕ). Level (systemOf left right width rows) (pickOf picks) z x) e f
+
+-- ---- the test of two arrays
+
+pub same-highs : (n : ℕ) (x y : List ℕ) → SameUpTo n x y → SameUpTo n (highs x) (highs y)
+same-highs n x y s j h = highs-at x j ∙ ap high (s j h) ∙ sym (highs-at y j)
+
+pub false-not-true : false ≡ true → ⊥
+false-not-true e = let z : _≡_ {A = ℕ} 0 1 = cc in omega arith

@@ -1,0 +1,4 @@
+pub mod Tables
+pub mod Filled
+pub mod Rounds
+pub mod Steps

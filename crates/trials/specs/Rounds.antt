@@ -1,0 +1,68 @@
+-- What the rounds that find the values of a strategy make.
+use Prim.Native.Nat.{ℕ, zero, suc, _+_, _*_, _-_, _≤_, _<_}
+use mathlib.Core.Path.{_≡_}
+use mathlib.Core.Bool.{cond}
+use mathlib.Core.List.{List}
+use lib.Dec.{ltb, leb}
+use lib.ListN.{getD}
+use lib.IntN.{pos}
+use Rattle.definitions.specs.Limits.{signed-half}
+use Rattle.definitions.specs.Tropical.{Trop, fin, plus, largest}
+use Rattle.definitions.specs.Problem.{Point}
+use Rattle.definitions.specs.Certificate.{Strategy}
+use Rattle.definitions.specs.Offset.{tropOf}
+use Rattle.duality.specs.System.{System, sideOf}
+use Rattle.duality.specs.Values.{difference, exits, valuesAfter, values}
+use Rattle.trials.specs.Tables.{entryOf, pointOf, high, low-fold, side-most, side-least}
+use Rattle.trials.specs.Filled.{Filled}
+
+-- The larger of two numbers, and the largest of f 0, …, f (k − 1).
+abbrev pub upper : ℕ → ℕ → ℕ
+upper a b = cond (leb a b) b a
+
+unfoldable pub uppermost : (ℕ → ℕ) → ℕ → ℕ
+uppermost f zero = 0
+uppermost f (suc k) = upper (uppermost f k) (f k)
+
+-- A sum of a coefficient and a value as a value: blank where one of them was, which is where the sum is below the limit.
+unfoldable pub foldedAt : ℕ → ℕ → ℕ
+foldedAt limit k = cond (ltb k limit) 0 (k - signed-half)
+
+-- The same for low values.
+abbrev pub folded : ℕ → ℕ
+folded k = foldedAt low-fold k
+
+-- The sums of a row of a table with an array.
+abbrev pub sums : List ℕ → ℕ → List ℕ → ℕ → ℕ
+sums table row x l = getD table (row * 32 + l) 0 + getD x l 0
+
+-- One side of a row at a point, as a low number.
+pub record SideIs (table : List ℕ) (row : ℕ) (x : List ℕ) (width r : ℕ) : Type 0 where
+  pub is : tropOf (high r) ≡ largest (λ l. plus (entryOf table row l) (pointOf x l)) width
+  pub most : r ≤ side-most
+  pub least : 0 < r → side-least ≤ r
+
+-- What a round makes of variable j with pick i at the point x: the right side of row i less its left coefficient, or 0
+-- where i is no row.
+unfoldable pub steppedBy : System → ℕ → ℕ → Point → Trop
+steppedBy s i j x = cond (ltb i (s .rows)) (difference (sideOf s (s .right i) x) (s .left i j)) (fin (pos 0))
+
+-- An array after a round from the array x.
+abbrev pub Stepped : System → Strategy → Point → List ℕ → Type 0
+Stepped s τ x out = Filled (λ j v. tropOf v ≡ steppedBy s (τ j) j x) 32 (s .variables) out
+
+-- The exits of a strategy.
+abbrev pub Exits : System → Strategy → ℕ → List ℕ → Type 0
+Exits s τ n out = Filled (λ j v. tropOf v ≡ exits s τ j) 32 n out
+
+-- The values of a strategy after i rounds.
+abbrev pub Level : System → Strategy → ℕ → List ℕ → Type 0
+Level s τ i x = Filled (λ j v. tropOf v ≡ valuesAfter s τ i j) 32 (s .variables) x
+
+-- The values of a strategy.
+abbrev pub ValuesIs : System → Strategy → List ℕ → Type 0
+ValuesIs s τ x = Filled (λ j v. tropOf v ≡ values s τ j) 32 (s .variables) x
+
+-- The two arrays are the same at the first n places.
+abbrev pub SameUpTo : ℕ → List ℕ → List ℕ → Type 0
+SameUpTo n x y = (j : ℕ) → j < n → getD x j 0 ≡ getD y j 0

@@ -1,0 +1,4 @@
+// One trial on two tables of coefficients: the values of a strategy, and policy iteration until no row fails.
+// Document 01, "The engine".
+pub mod policy;
+pub mod values;

@@ -1,0 +1,182 @@
+// One trial: policy iteration from a strategy that is kept, until no row fails at its values. Values are low numbers here.
+ghost use mathlib.Core.Path.{_≡_};
+ghost use Prim.Native.Nat.{_+_, _*_, _<_, _≤_};
+ghost use lib.ListN.{length};
+ghost use Rattle.duality.specs.Values.{Policy};
+ghost use Rattle.trials.specs.Tables.{systemOf, pointOf, pickOf, side-most, side-least, high, highs, Ranged, Tables};
+ghost use Rattle.trials.specs.Steps.{Gives, lesser, chosenBy, Lowering, Lowered, Sought, Improved, Tried};
+use crate::values::HALF;
+use crate::values::evaluate;
+use crate::values::side;
+
+// Above a whole left coefficient by little: what stands for a blank right side, so that the row gives next to nothing.
+const BLANK_TOP: u32 = HALF + 20000;
+
+// What gives every variable of a row its value, once the left coefficient is taken off.
+fn top_of(side: u32) -> u32
+    requires { ⌜ (side ≤ side-most) × (0 < side → side-least ≤ side) ⌝ }
+    ensures { λ r. ⌜ Gives side r × (2147493728 ≤ r) × (r ≤ 3287483648) ⌝ }
+{
+    if side == 0 { BLANK_TOP } else { side + HALF }
+}
+
+// The lower of two.
+fn lower(a: u32, b: u32) -> u32
+    ensures { λ r. ⌜ r ≡ lesser a b ⌝ }
+{
+    if a < b { a } else { b }
+}
+
+// The one row where the first number is lower, else the other.
+fn choice(a: u32, b: u32, i: u32, k: u32) -> u32
+    ensures { λ r. ⌜ r ≡ chosenBy a b i k ⌝ }
+{
+    if a < b { i } else { k }
+}
+
+// Row i lowers the least values of the variables, and is chosen where it does.
+fn lower_row(
+    left: &[u32; 2048],
+    i: usize,
+    top: u32,
+    least: &mut [u32; 32],
+    chosen: &mut [u32; 32],
+    width: usize,
+)
+    requires { ⌜ Lowering (now left) (now least) (now chosen) i top width ⌝ }
+    ensures { λ _. ⌜ Lowered (now (left .entry)) i top (now (least .entry)) (now (chosen .entry)) width (now (least .exit)) (now (chosen .exit)) ⌝ }
+{
+    let base = i * 32;
+    let row = i as u32;
+    let mut j = 0;
+    while j < width {
+        let given = top - left[base + j];
+        let was = least[j];
+        chosen[j] = choice(given, was, row, chosen[j]);
+        least[j] = lower(given, was);
+        j += 1;
+    }
+}
+
+// For every variable the least of its own value and of what the rows give it, and the row that gives it.
+pub struct Found {
+    pub least: [u32; 32],
+    pub chosen: [u32; 32],
+}
+
+// The cheapest rows at low values.
+fn cheapest(
+    left: &[u32; 2048],
+    right: &[u32; 2048],
+    x: [u32; 32],
+    width: usize,
+    rows: usize,
+) -> Found
+    requires { ⌜ Tables (now left) (now right) width rows × Ranged (highs x) ⌝ }
+    ensures { λ r. ⌜ Sought (systemOf (now (left .entry)) (now (right .entry)) width rows) x rows (r .least) (r .chosen) ⌝ }
+{
+    let mut least = x;
+    let mut chosen = [0u32; 32];
+    let mut i = 0;
+    while i < rows {
+        let top = top_of(side(right, i, &x, width));
+        lower_row(left, i, top, &mut least, &mut chosen, width);
+        i += 1;
+    }
+    Found { least, chosen }
+}
+
+// A strategy after a step, and whether something moved.
+pub struct Step {
+    pub picks: [usize; 32],
+    pub moved: bool,
+}
+
+// One step: every variable at which a row fails picks such a row.
+fn improve(
+    left: &[u32; 2048],
+    right: &[u32; 2048],
+    x: [u32; 32],
+    picks: [usize; 32],
+    width: usize,
+    rows: usize,
+) -> Step
+    requires { ⌜ Tables (now left) (now right) width rows × Ranged (highs x) ⌝ }
+    ensures { λ r. ⌜ Improved (systemOf (now (left .entry)) (now (right .entry)) width rows) (pointOf (highs x)) (pickOf picks) (pickOf (r .picks)) (r .moved) width × (length (r .picks) ≡ 32) ⌝ }
+{
+    let found = cheapest(left, right, x, width, rows);
+    let least = found.least;
+    let chosen = found.chosen;
+    let mut next = picks;
+    let mut moved = false;
+    let mut j = 0;
+    while j < width {
+        if least[j] < x[j] {
+            next[j] = chosen[j] as usize;
+            moved = true;
+        }
+        j += 1;
+    }
+    Step { picks: next, moved }
+}
+
+// The offset number of a low one. Public for `guess`.
+pub fn raised(k: u32) -> u64
+    ensures { λ r. ⌜ r ≡ high k ⌝ }
+{
+    if k == 0 { 0 } else { k as u64 + 1073741824 }
+}
+
+// Low values as offset numbers.
+fn raised_all(x: &[u32; 32]) -> [u64; 32]
+    requires { ⌜ length (now x) ≡ 32 ⌝ }
+    ensures { λ r. ⌜ r ≡ highs (now (x .entry)) ⌝ }
+{
+    let mut out = [0u64; 32];
+    let mut j = 0;
+    while j < 32 {
+        out[j] = raised(x[j]);
+        j += 1;
+    }
+    out
+}
+
+// What a trial ends with: a strategy and its values; they solve the system, where that of variable 0 is not blank.
+pub struct Outcome {
+    pub values: [u64; 32],
+    pub picks: [usize; 32],
+}
+
+// Policy iteration from a strategy that is kept, until no row fails at its values or variable 0 has none left.
+// Public for `halving`.
+pub fn trial(
+    left: &[u32; 2048],
+    right: &[u32; 2048],
+    picks: [usize; 32],
+    width: usize,
+    rows: usize,
+) -> Outcome
+    requires { ⌜ Tables (now left) (now right) width rows × Policy (systemOf (now left) (now right) width rows) (pickOf picks) ⌝ }
+    ensures { λ r. ⌜ Tried (systemOf (now (left .entry)) (now (right .entry)) width rows) (r .values) (r .picks) ⌝ }
+{
+    let mut kept = picks;
+    loop {
+        let x = evaluate(left, right, &kept, width, rows);
+        let values = raised_all(&x);
+        if x[0] == 0 {
+            return Outcome {
+                values,
+                picks: kept,
+            };
+        }
+        let step = improve(left, right, x, kept, width, rows);
+        if !step.moved {
+            return Outcome {
+                values,
+                picks: kept,
+            };
+        }
+        let next = step.picks;
+        kept = next;
+    }
+}

@@ -1,0 +1,188 @@
+// The values of a strategy: rounds of longest walks to a variable without a pick. Inside a trial a value is kept low, 2³⁰
+// below its offset number, and 0 for blank: coefficient + value then has 32 bits, and rows are vectors of them.
+ghost use mathlib.Core.Path.{_≡_};
+ghost use mathlib.Core.Bool.{true};
+ghost use mathlib.Core.List.{[]};
+ghost use Prim.Native.Nat.{_+_, _*_, _<_, _≤_};
+ghost use lib.ListN.{length};
+ghost use Rattle.definitions.specs.Limits.{lead-limit, signed-half};
+ghost use Rattle.definitions.specs.Offset.{tropOf};
+ghost use Rattle.duality.specs.Values.{difference, exitBy};
+ghost use Rattle.trials.specs.Tables.{systemOf, pointOf, pickOf, raised-limit, fold-limit, fold-least, side-most, side-least, high, highs, Table, Ranged, Tables};
+ghost use Rattle.trials.specs.Rounds.{upper, folded, SideIs, steppedBy, Stepped, Exits, ValuesIs, SameUpTo};
+use records::limits::OFFSET;
+
+// The low number of 0, and the offset of coefficients.
+pub const LOW: u32 = 1073741824;
+
+pub const HALF: u32 = 2147483648;
+
+// A coefficient plus a low value is at least this if both are whole, and below it if one is blank.
+const FOLD: u32 = 2684354560;
+
+// The larger of two.
+fn larger(a: u32, b: u32) -> u32
+    ensures { λ r. ⌜ r ≡ upper a b ⌝ }
+{
+    if a <= b { b } else { a }
+}
+
+// A coefficient plus a value. Public for `guess`, `picks`.
+pub fn plus(a: u32, b: u64) -> u64
+    requires { ⌜ a + b ≤ 18446744073709551615 ⌝ }
+    ensures { λ r. ⌜ r ≡ a + b ⌝ }
+{
+    a as u64 + b
+}
+
+// A coefficient plus a low value as a low number.
+fn fold(k: u32) -> u32
+    ensures { λ r. ⌜ r ≡ folded k ⌝ }
+{
+    if k < FOLD { 0 } else { k - HALF }
+}
+
+// One side of a row at low values: the largest of coefficient + variable. Public for `guess`, `policy`.
+pub fn side(table: &[u32; 2048], row: usize, x: &[u32; 32], width: usize) -> u32
+    requires { ⌜ (row < 64) × (width ≤ 32) × Table raised-limit (now table) × Ranged (highs (now x)) × (length (now x) ≡ 32) ⌝ }
+    ensures { λ r. ⌜ SideIs (now (table .entry)) row (highs (now (x .entry))) width r ⌝ }
+{
+    let base = row * 32;
+    let mut best = 0;
+    let mut l = 0;
+    while l < width {
+        best = larger(best, table[base + l] + x[l]);
+        l += 1;
+    }
+    fold(best)
+}
+
+// An offset number less another. Public for `answer`.
+pub fn gap(side: u64, left: u64) -> u64
+    requires { ⌜ (side ≤ fold-limit) × (0 < side → fold-least ≤ side) × (left ≤ signed-half + lead-limit) ⌝ }
+    ensures { λ r. ⌜ (tropOf r ≡ difference (tropOf side) (tropOf left)) ⌝ }
+{
+    if side == 0 {
+        return 0;
+    }
+    if left == 0 {
+        return 0;
+    }
+    side + OFFSET - left
+}
+
+// A right side less a left coefficient, as low numbers.
+fn given(side: u32, left: u32) -> u32
+    requires { ⌜ (side ≤ side-most) × (0 < side → side-least ≤ side) × (left ≤ signed-half + lead-limit) ⌝ }
+    ensures { λ r. ⌜ (tropOf (high r) ≡ difference (tropOf (high side)) (tropOf left)) ⌝ }
+{
+    if side == 0 {
+        return 0;
+    }
+    if left == 0 {
+        return 0;
+    }
+    side + HALF - left
+}
+
+// What a round makes of one variable: by the row that it picks, or 0 where it picks none.
+fn stepped(
+    left: &[u32; 2048],
+    right: &[u32; 2048],
+    pick: usize,
+    j: usize,
+    x: &[u32; 32],
+    width: usize,
+    rows: usize,
+) -> u32
+    requires { ⌜ Tables (now left) (now right) width rows × Ranged (highs (now x)) × (length (now x) ≡ 32) × (j < width) ⌝ }
+    ensures { λ r. ⌜ tropOf (high r) ≡ steppedBy (systemOf (now (left .entry)) (now (right .entry)) width rows) pick j (pointOf (highs (now (x .entry)))) ⌝ }
+{
+    if pick < rows {
+        given(side(right, pick, x, width), left[pick * 32 + j])
+    } else {
+        LOW
+    }
+}
+
+// One round: every variable by its pick.
+fn round_from(
+    left: &[u32; 2048],
+    right: &[u32; 2048],
+    picks: &[usize; 32],
+    x: &[u32; 32],
+    width: usize,
+    rows: usize,
+) -> [u32; 32]
+    requires { ⌜ Tables (now left) (now right) width rows × (length (now picks) ≡ 32) × Ranged (highs (now x)) × (length (now x) ≡ 32) ⌝ }
+    ensures { λ r. ⌜ Stepped (systemOf (now (left .entry)) (now (right .entry)) width rows) (pickOf (now (picks .entry))) (pointOf (highs (now (x .entry)))) (highs r) ⌝ }
+{
+    let mut out = [0u32; 32];
+    let mut j = 0;
+    while j < width {
+        out[j] = stepped(left, right, picks[j], j, x, width, rows);
+        j += 1;
+    }
+    out
+}
+
+// A variable without a pick is terminal: its exit is 0. The others have none.
+fn exit(pick: usize, rows: usize) -> u32
+    ensures { λ r. ⌜ tropOf (high r) ≡ exitBy (systemOf [] [] 0 rows) pick ⌝ }
+{
+    if pick < rows { 0 } else { LOW }
+}
+
+// The values before the first round: the exits.
+fn exits(picks: &[usize; 32], width: usize, rows: usize) -> [u32; 32]
+    requires { ⌜ (length (now picks) ≡ 32) × (width ≤ 32) ⌝ }
+    ensures { λ r. ⌜ Exits (systemOf [] [] width rows) (pickOf (now (picks .entry))) width (highs r) ⌝ }
+{
+    let mut out = [0u32; 32];
+    let mut j = 0;
+    while j < width {
+        out[j] = exit(picks[j], rows);
+        j += 1;
+    }
+    out
+}
+
+// The two arrays agree at the first `width` places.
+fn same(x: &[u32; 32], y: &[u32; 32], width: usize) -> bool
+    requires { ⌜ (length (now x) ≡ 32) × (length (now y) ≡ 32) × (width ≤ 32) ⌝ }
+    ensures { λ r. ⌜ (r ≡ true → SameUpTo width (now (x .entry)) (now (y .entry))) ⌝ }
+{
+    let mut j = 0;
+    while j < width {
+        if x[j] != y[j] {
+            return false;
+        }
+        j += 1;
+    }
+    true
+}
+
+// The values of a strategy: rounds until one changes nothing, at most as many as there are variables.
+// Public for `policy`.
+pub fn evaluate(
+    left: &[u32; 2048],
+    right: &[u32; 2048],
+    picks: &[usize; 32],
+    width: usize,
+    rows: usize,
+) -> [u32; 32]
+    requires { ⌜ Tables (now left) (now right) width rows × (length (now picks) ≡ 32) ⌝ }
+    ensures { λ r. ⌜ ValuesIs (systemOf (now (left .entry)) (now (right .entry)) width rows) (pickOf (now (picks .entry))) (highs r) ⌝ }
+{
+    let mut x = exits(picks, width, rows);
+    let mut i = 0;
+    while i < width {
+        let y = round_from(left, right, picks, &x, width, rows);
+        if same(&x, &y, width) {
+            return x;
+        }
+        x = y;
+        i += 1;
+    }
+    x
+}
