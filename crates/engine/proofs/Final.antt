@@ -48,7 +48,8 @@ use Rattle.engine.specs.Shown.{VariablePicks, RowPicks, InducedRows}
 use Rattle.engine.specs.Answered.{Coefficients, Copied, Stamps, answerIn, Settled, Answered}
 use Rattle.trials.proofs.Small.{near-small}
 use Rattle.engine.proofs.Agree.{Agree, agree-side}
-use Rattle.engine.proofs.Trials.{table-raised, agree-raised, raised-ready, raised-held, question-steady, tried-blocks, tried-solution}
+use Rattle.trials.proofs.Steps.{table-raised}
+use Rattle.engine.proofs.Trials.{agree-raised, raised-ready, raised-held, question-steady, tried-blocks, tried-solution}
 use Rattle.engine.proofs.Variables.{variables-agree, variables-idle, variables-most}
 use Rattle.engine.proofs.RowsOf.{rows-agree, rows-idle, rows-most}
 use Rattle.engine.proofs.Form.{cut-at, cut-strategy, cut-point, picks-fit, stamps-fit, no-stamps-fit, cut-count, cut-count-map}

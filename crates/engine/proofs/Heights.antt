@@ -1,6 +1,6 @@
 -- The heights of a guess, low numbers, stay in range as they rise.
 use Prim.Native.Nat.{ℕ, _+_, _≤_, _<_}
-use mathlib.Core.Path.{_≡_, sym, subst, _∙_}
+use mathlib.Core.Path.{_≡_, refl, subst, _∙_}
 use mathlib.Core.Logic.{_⊎_, ⊎-elim}
 use mathlib.Core.List.{List, map}
 use native.Mathlib.Omega.{arith}
@@ -9,7 +9,7 @@ use lib.Seq.{getD-set-same, getD-set-other}
 use Rattle.definitions.proofs.Whole.{nat-le-or-lt}
 use Rattle.records.specs.Decoded.{Near}
 use Rattle.records.proofs.LeadTables.{near-zero}
-use Rattle.trials.specs.Tables.{value-limit, low-half, high, highs, Ranged}
+use Rattle.trials.specs.Tables.{value-limit, low-half, high, highs, Ranged, Lows}
 use Rattle.trials.proofs.Filled.{zeros-at}
 use Rattle.trials.proofs.Low.{high-zero, high-whole, highs-at, highs-size}
 
@@ -21,7 +21,7 @@ pub near-height : (k : ℕ) → low-half ≤ k + value-limit → k ≤ low-half 
 near-height k h g = let e = high-whole k (omega arith) in record { hi = omega arith; lo = λ p. omega arith }
 
 -- A height rises.
-pub ranged-set : (x : List ℕ) (l v : ℕ) → Ranged (highs x) → l < 32 → Near value-limit (high v) → Ranged (highs (set x l v))
+ranged-set : (x : List ℕ) (l v : ℕ) → Ranged (highs x) → l < 32 → Near value-limit (high v) → Ranged (highs (set x l v))
 ranged-set x l v r h n = record {
   size = length-map (set x l v) high ∙ length-set x l v ∙ size;
   near = λ k. ⊎-elim (λ (a : l ≤ k). ⊎-elim (λ (b : k ≤ l). here k (omega arith)) (λ (b : l < k). other k (λ e. omega arith)) (nat-le-or-lt k l)) (λ (a : k < l). other k (λ e. omega arith)) (nat-le-or-lt l k);
@@ -36,12 +36,20 @@ ranged-set x l v r h n = record {
     other : (k : ℕ) → (k ≡ l → ⊥) → Near value-limit (getD (highs (set x l v)) k 0)
     other k d = rw (highs-at (set x l v) k, getD-set-other x l k v 0 d, ← highs-at x k) (r .near k)
 
-pub ranged-rises : (x : List ℕ) {y : List ℕ} (l v : ℕ) → y ≡ set x l v → Ranged (highs x) → l < 32 → Near value-limit (high v) → Ranged (highs y)
-ranged-rises x l v e r h n = rw e (ranged-set x l v r h n)
+-- The same of an array of `width` low values.
+pub lows-rise : (width : ℕ) (x : List ℕ) {y : List ℕ} (l v : ℕ) → y ≡ set x l v → Lows width x → width ≤ 32 → l < width → Near value-limit (high v) → Lows width y
+lows-rise width x l v e r w h n = rw e (record {
+  size = length-set x l v ∙ r .size;
+  ranged = ranged-set x l v (r .ranged) (omega arith) n;
+  rest = λ k b. getD-set-other x l k v 0 (λ z. omega arith) ∙ r .rest k b;
+})
 
 -- All heights blank but one, which is 0.
-pub ranged-start : (l : ℕ) → l < 32 → Ranged (highs (set (replicate 32 0) l low-half))
-ranged-start l h = ranged-set (replicate 32 0) l low-half
-    (record { size = length-map (replicate 32 0) high ∙ length-replicate {A = ℕ} 32 0; near = λ k. rw (highs-at (replicate 32 0) k, zeros-at 32 k) near-blank })
-    h
-    (near-height low-half (omega arith) (omega arith))
+pub lows-start : (width l : ℕ) → width ≤ 32 → l < width → Lows width (set (replicate 32 0) l low-half)
+lows-start width l w h = lows-rise width (replicate 32 0) l low-half refl
+    (record {
+      size = length-replicate {A = ℕ} 32 0;
+      ranged = record { size = length-map (replicate 32 0) high ∙ length-replicate {A = ℕ} 32 0; near = λ k. rw (highs-at (replicate 32 0) k, zeros-at 32 k) near-blank };
+      rest = λ k b. zeros-at 32 k;
+    })
+    w h (near-height low-half (omega arith) (omega arith))

@@ -68,10 +68,6 @@ shifted-near k t n b = ⊎-elim
 
 -- ---- the row raised
 
--- A table that was not raised is within the limit of raised ones.
-pub table-raised : {table : List ℕ} → Table lead-limit table → Table raised-limit table
-table-raised t = record { size = t .size; near = λ k. record { hi = omega (arith, t .near k .hi); lo = λ h. omega (arith, t .near k .lo h) } }
-
 pub raised-none : (before objective : List ℕ) (row t : ℕ) → length before ≡ 2048 → Raised before objective row t 0 before
 raised-none before objective row t l = record {
   size = l;

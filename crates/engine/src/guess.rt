@@ -5,7 +5,7 @@ ghost use mathlib.Core.Path.{_≡_};
 ghost use Prim.Native.Nat.{_+_, _<_, _≤_};
 ghost use lib.ListN.{length};
 ghost use Rattle.records.specs.Decoded.{Near};
-ghost use Rattle.trials.specs.Tables.{raised-limit, value-limit, side-most, side-least, high, highs, Ranged, Tables};
+ghost use Rattle.trials.specs.Tables.{raised-limit, value-limit, side-most, side-least, high, Ranged, Lows, Tables};
 ghost use Rattle.engine.specs.Trials.{Ready};
 use crate::picks::induced;
 use records::limits::OFFSET;
@@ -52,8 +52,8 @@ fn lift(
     width: usize,
     rules: usize,
 ) -> Round
-    requires { ⌜ Tables (now left) (now right) width (rules + 1) × (length (now targets) ≡ 64) × Ranged (highs before) ⌝ }
-    ensures { λ r. ⌜ Ranged (highs (r .heights)) ⌝ }
+    requires { ⌜ Tables (now left) (now right) width (rules + 1) × (length (now targets) ≡ 64) × Lows width before ⌝ }
+    ensures { λ r. ⌜ Lows width (r .heights) ⌝ }
 {
     let mut heights = before;
     let mut moved = false;
@@ -81,8 +81,8 @@ fn lifted(
     width: usize,
     rules: usize,
 ) -> [u32; 32]
-    requires { ⌜ Tables (now left) (now right) width (rules + 1) × (length (now targets) ≡ 64) × (start < 32) ⌝ }
-    ensures { λ r. ⌜ Ranged (highs r) ⌝ }
+    requires { ⌜ Tables (now left) (now right) width (rules + 1) × (length (now targets) ≡ 64) × (start < width) ⌝ }
+    ensures { λ r. ⌜ Lows width r ⌝ }
 {
     let mut heights = [0u32; 32];
     heights[start] = LOW;

@@ -1,7 +1,7 @@
 -- The largest of coefficient + variable, found on plain sums of a coefficient and a low value: a sum of two whole numbers
 -- lies above the limit, a sum with a blank below it, so that one test at the end tells them apart.
 use Prim.Native.Nat.{ℕ, zero, suc, _+_, _*_, _-_, _≤_, _<_}
-use mathlib.Core.Path.{_≡_, refl, sym, ap, _∙_}
+use mathlib.Core.Path.{_≡_, refl, sym, ap, subst, _∙_}
 use mathlib.Core.Bool.{Bool, true, false, cond}
 use mathlib.Core.Logic.{_⊎_, ⊎-elim}
 use mathlib.Core.List.{List}
@@ -12,13 +12,13 @@ use lib.Dec.{leb}
 use lib.ListN.{getD}
 use borrow.Author.Tests.{leb-true, leb-false, lt-ltb, le-ltb, le-leb, lt-leb}
 use Rattle.definitions.specs.Limits.{signed-half}
-use Rattle.definitions.specs.Tropical.{Trop, plus, larger, largest, _⊑_}
+use Rattle.definitions.specs.Tropical.{Trop, bot, plus, larger, largest, _⊑_, blank-least}
 use Rattle.definitions.specs.Offset.{tropOf}
 use Rattle.definitions.proofs.Whole.{nat-le-or-lt}
-use Rattle.definitions.proofs.Tropical.{⊑-refl, ⊑-antisym, larger-left, larger-right, larger-least, largest-ext}
+use Rattle.definitions.proofs.Tropical.{⊑-refl, ⊑-antisym, larger-left, larger-right, larger-least, largest-above, largest-least, largest-ext}
 use Rattle.definitions.proofs.Offset.{trop-zero, trop-order, plus-trop, plus-trop-zero}
 use Rattle.records.specs.Decoded.{Near}
-use Rattle.trials.specs.Tables.{raised-limit, value-limit, fold-limit, low-fold, high, highs, Table, Ranged}
+use Rattle.trials.specs.Tables.{raised-limit, value-limit, fold-limit, low-fold, side-most, side-least, high, highs, Table, Ranged, Lows}
 use Rattle.trials.specs.Rounds.{upper, uppermost, foldedAt, folded, sums, SideIs}
 use Rattle.trials.proofs.Low.{high-zero, high-whole, high-mono, highs-at}
 
@@ -135,23 +135,39 @@ sum-most table x t g row l = ⊎-elim
     (λ (q : 0 < getD x l 0). omega (arith, t .near (row * 32 + l) .hi, high-whole (getD x l 0) q, highs-at x l, g .near l .hi))
     (eq-zero-or-pos (getD x l 0))
 
+-- A fold within these bounds.
+folded-within : (k : ℕ) → k ≤ 3255435105 → (folded k ≤ side-most) × (0 < folded k → side-least ≤ folded k)
+folded-within k few = (
+  ⊎-elim (λ h. omega (arith, folded-high _ h)) (λ h. omega (arith, folded-low _ h)) (nat-le-or-lt low-fold k),
+  λ p. ⊎-elim (λ h. omega (arith, folded-high _ h)) (λ h. absurd (omega (arith, folded-low _ h))) (nat-le-or-lt low-fold k),
+)
+
+-- The largest over all 32 places is that over the first ones, where the others are blank.
+largest-rest : (f : ℕ → Trop) (k : ℕ) → k ≤ 32 → ((l : ℕ) → k ≤ l → f l ≡ bot) → largest f 32 ≡ largest f k
+largest-rest f k h b = ⊑-antisym
+    (largest-least f 32 (λ j l. ⊎-elim (λ (e : k ≤ j). subst (λ (z : Trop). z ⊑ largest f k) (sym (b j e)) blank-least) (largest-above f k j) (nat-le-or-lt k j)))
+    (largest-least f k (λ j l. largest-above f 32 j (omega arith)))
+
 -- What the loop's end, folded, is: the side of the row.
-pub side-end : (table : List ℕ) (row : ℕ) (x : List ℕ) (width l best r : ℕ) → Table raised-limit table → Ranged (highs x) → l ≤ width → width ≤ l
+pub side-end : (table : List ℕ) (row : ℕ) (x : List ℕ) (width l best r : ℕ) → Table raised-limit table → Lows width x → width ≤ 32 → l ≤ 32 → 32 ≤ l
     → best ≡ uppermost (sums table row x) l → r ≡ folded best → SideIs table row (highs x) width r
-side-end table row x width l best r t g h k e d = rw (d, e, eq) side
+side-end table row x width l best r t g w h k e d = rw (d, e, eq) side
   where
-    eq : l ≡ width
+    eq : l ≡ 32
     eq = omega arith
 
-    few : uppermost (sums table row x) width ≤ 3255435105
-    few = uppermost-most (sums table row x) width 3255435105 (λ l b. sum-most table x t g row l)
+    bounds : (folded (uppermost (sums table row x) 32) ≤ side-most) × (0 < folded (uppermost (sums table row x) 32) → side-least ≤ folded (uppermost (sums table row x) 32))
+    bounds = folded-within (uppermost (sums table row x) 32) (uppermost-most (sums table row x) 32 3255435105 (λ l b. sum-most table x t (g .ranged) row l))
 
     at : (l : ℕ) → tropOf (high (folded (sums table row x l))) ≡ plus (tropOf (getD table (row * 32 + l) 0)) (tropOf (getD (highs x) l 0))
-    at l = rw (highs-at x l) (folded-sum _ _ (t .near (row * 32 + l)) (rw (highs-at x l) at (g .near l)))
+    at l = rw (highs-at x l) (folded-sum _ _ (t .near (row * 32 + l)) (rw (highs-at x l) at (g .ranged .near l)))
 
-    side : SideIs table row (highs x) width (folded (uppermost (sums table row x) width))
+    blank : (l : ℕ) → width ≤ l → plus (tropOf (getD table (row * 32 + l) 0)) (tropOf (getD (highs x) l 0)) ≡ bot
+    blank l b = rw (highs-at x l, g .rest l b, high-zero) (plus-trop-zero (tropOf (getD table (row * 32 + l) 0)) .1)
+
+    side : SideIs table row (highs x) width (folded (uppermost (sums table row x) 32))
     side = record {
-      is = folded-uppermost (sums table row x) width ∙ largest-ext _ _ width (λ l b. at l);
-      most = ⊎-elim (λ h. omega (arith, few, folded-high _ h)) (λ h. omega (arith, folded-low _ h)) (nat-le-or-lt low-fold (uppermost (sums table row x) width));
-      least = λ p. ⊎-elim (λ h. omega (arith, folded-high _ h)) (λ h. absurd (omega (arith, folded-low _ h))) (nat-le-or-lt low-fold (uppermost (sums table row x) width));
+      is = folded-uppermost (sums table row x) 32 ∙ largest-ext _ _ 32 (λ l b. at l) ∙ largest-rest _ width w blank;
+      most = bounds .0;
+      least = bounds .1;
     }

@@ -31,6 +31,9 @@ high-mono a b h = ⊎-elim
 pub high-some : (k : ℕ) → 0 < high k → 0 < k
 high-some k h = ⊎-elim (λ (e : k ≡ 0). let z : high k ≡ 0 = rw e high-zero in absurd (omega arith)) (λ p. p) (eq-zero-or-pos k)
 
+pub high-blank : (k : ℕ) → high k ≡ 0 → k ≡ 0
+high-blank k e = ⊎-elim (λ z. z) (λ (p : 0 < k). absurd (omega (arith, high-whole k p))) (eq-zero-or-pos k)
+
 -- ---- arrays
 
 pub highs-at : (x : List ℕ) (k : ℕ) → getD (highs x) k 0 ≡ high (getD x k 0)

@@ -21,10 +21,10 @@ use Rattle.duality.specs.System.{System}
 use Rattle.duality.specs.Values.{difference, valueAt, exitBy, valuesAfter, values}
 use Rattle.duality.proofs.Weights.{difference-bot, exit-picked, exit-terminal, round-picked, round-terminal, values-still}
 use Rattle.records.specs.Decoded.{Near}
-use Rattle.trials.specs.Tables.{entryOf, systemOf, pointOf, pickOf, raised-limit, value-limit, low-half, side-least, high, highs, Ranged, Tables}
+use Rattle.trials.specs.Tables.{entryOf, systemOf, pointOf, pickOf, raised-limit, value-limit, low-half, side-least, high, highs, Ranged, Lows, Tables}
 use Rattle.trials.specs.Rounds.{SideIs, steppedBy, Stepped, Exits, Level, ValuesIs, SameUpTo}
 use Rattle.trials.proofs.Filled.{filled-map}
-use Rattle.trials.proofs.Low.{high-zero, high-whole, highs-at}
+use Rattle.trials.proofs.Low.{high-zero, high-whole, high-blank, highs-at, highs-size}
 use Rattle.trials.proofs.Small.{near-small, small-near, small-more, rounds-small}
 
 -- ---- one variable
@@ -122,6 +122,15 @@ level-ranged left right picks x width rows i t h f = record { size = f .size-is;
         (λ i j. near-small lead-limit _ (t .lefts .near (i * 32 + j)))
         (λ i j. near-small raised-limit _ (t .rights .near (i * 32 + j)))
         (pickOf picks) i k)))
+
+-- The same of an array of low values.
+pub level-lows : (left right picks x : List ℕ) (width rows i : ℕ) → Tables left right width rows → i ≤ width
+    → Level (systemOf left right width rows) (pickOf picks) i (highs x) → Lows width x
+level-lows left right picks x width rows i t h f = record {
+  size = highs-size x 32 (f .size-is);
+  ranged = level-ranged left right picks (highs x) width rows i t h f;
+  rest = λ k b. high-blank (getD x k 0) (sym (highs-at x k) ∙ f .rest k b);
+}
 
 -- A round that changes nothing: these are the values.
 pub level-still : (left right picks x y : List ℕ) (width rows i : ℕ) → i ≤ width

@@ -10,12 +10,12 @@ use lib.ListN.{length, getD, set, replicate, length-set, length-replicate}
 use borrow.Author.Tests.{lt-ltb, le-ltb}
 use lib.Seq.{getD-set-same, getD-set-other}
 use Rattle.definitions.specs.Limits.{signed-half, lead-limit}
-use Rattle.definitions.specs.Tropical.{Trop, plus, _⊑_, blank-least}
+use Rattle.definitions.specs.Tropical.{Trop, plus, largest, _⊑_, blank-least}
 use Rattle.definitions.specs.Problem.{Point}
 use Rattle.definitions.specs.Certificate.{Strategy}
 use Rattle.definitions.specs.Offset.{tropOf}
 use Rattle.definitions.proofs.Whole.{nat-le-or-lt}
-use Rattle.definitions.proofs.Tropical.{largest-ext}
+use Rattle.definitions.proofs.Tropical.{⊑-trans, largest-above, largest-ext}
 use Rattle.definitions.proofs.Offset.{trop-order, plus-trop, plus-trop-zero}
 use Rattle.duality.specs.System.{System, sideOf}
 use Rattle.duality.specs.Values.{values, Policy, Fails, Switched, Switch}
@@ -24,12 +24,12 @@ use Rattle.duality.proofs.Policy.{next-policy}
 use Rattle.duality.proofs.Height.{height-falls}
 use Rattle.duality.proofs.Ends.{finished}
 use Rattle.records.specs.Decoded.{Near}
-use Rattle.trials.specs.Tables.{entryOf, systemOf, pointOf, pickOf, raised-limit, value-limit, fold-least, side-least, high, highs, Ranged, Tables}
+use Rattle.trials.specs.Tables.{entryOf, systemOf, pointOf, pickOf, raised-limit, value-limit, fold-least, side-least, high, highs, Table, Ranged, Lows, Tables}
 use Rattle.trials.specs.Rounds.{SideIs, ValuesIs}
-use Rattle.trials.specs.Steps.{Stands, Costs, Gives, lesser, chosenBy, givenBy, Lowered, SoughtAt, Sought, FailsNow, Improved, Tried}
-use Rattle.trials.proofs.Low.{high-zero, high-whole, highs-at}
+use Rattle.trials.specs.Steps.{Stands, Costs, Gives, lesser, chosenBy, givenBy, Lowered, LoweredAt, LoweredBy, SoughtAt, Sought, FailsNow, Improved, Tried}
+use Rattle.trials.proofs.Low.{high-zero, high-whole, high-mono, highs-at}
 use Rattle.trials.proofs.Small.{near-small}
-use Rattle.trials.proofs.Rounds.{false-not-true, level-ranged}
+use Rattle.trials.proofs.Rounds.{false-not-true, level-ranged, level-lows}
 
 -- ---- what a row gives a variable
 
@@ -195,8 +195,8 @@ sought-none s x e = record {
   each = λ j h. record { low = omega arith; picked = λ l. absurd (omega arith); fails = λ l. absurd (omega arith); stand = λ l i k. absurd (omega arith) };
 }
 
-module _ (left right x : List ℕ) (width rows n side top : ℕ) (t : Tables left right width rows) (g : Ranged (highs x)) (h : n < rows)
-    (si : SideIs right n (highs x) width side) (gi : Gives side top) where
+module _ (left right x : List ℕ) (width rows n side : ℕ) (t : Tables left right width rows) (g : Ranged (highs x)) (h : n < rows)
+    (si : SideIs right n (highs x) width side) where
   -- In the words of the system.
   row-stands : (j : ℕ) → Stands (high side) (getD left (n * 32 + j) 0) (high (getD x j 0))
       → plus (entryOf left n j) (pointOf (highs x) j) ⊑ sideOf (systemOf left right width rows) (entryOf right n) (pointOf (highs x))
@@ -206,10 +206,10 @@ module _ (left right x : List ℕ) (width rows n side top : ℕ) (t : Tables lef
   row-fails j d a = d (rw (highs-at x j) at (subst (λ (z : Trop). plus (entryOf left n j) (pointOf (highs x) j) ⊑ z) (sym (si .is)) a))
 
   -- One row more, at one variable.
-  sought-at : (j least pick least′ pick′ : ℕ) → SoughtAt (systemOf left right width rows) (pointOf (highs x)) (getD x j 0) j n least pick
+  sought-at : (top : ℕ) → Gives side top → (j least pick least′ pick′ : ℕ) → SoughtAt (systemOf left right width rows) (pointOf (highs x)) (getD x j 0) j n least pick
       → least′ ≡ lesser (givenBy left n top j) least → pick′ ≡ chosenBy (givenBy left n top j) least n pick
       → SoughtAt (systemOf left right width rows) (pointOf (highs x)) (getD x j 0) j (n + 1) least′ pick′
-  sought-at j least pick least′ pick′ s e d = ⊎-elim passed taken (nat-le-or-lt least (givenBy left n top j))
+  sought-at top gi j least pick least′ pick′ s e d = ⊎-elim passed taken (nat-le-or-lt least (givenBy left n top j))
     where
       near : Near value-limit (high (getD x j 0))
       near = rw (highs-at x j) at (g .near j)
@@ -241,14 +241,46 @@ module _ (left right x : List ℕ) (width rows n side top : ℕ) (t : Tables lef
                 (nat-le-or-lt n i);
           }
 
-  -- One row more.
-  pub sought-more : {least chosen least′ chosen′ : List ℕ} → Sought (systemOf left right width rows) x n least chosen
-      → Lowered left n top least chosen width least′ chosen′ → Sought (systemOf left right width rows) x (n + 1) least′ chosen′
-  sought-more s w = record {
-    least-size = w .least-size;
-    chosen-size = w .chosen-size;
-    each = λ j b. sought-at j _ _ _ _ (s .each j b) (w .leasts j b) (w .choices j b);
+  -- One row more that lowers.
+  sought-lowered : {least chosen least′ chosen′ : List ℕ} → Sought (systemOf left right width rows) x n least chosen
+      → LoweredAt left n side least chosen least′ chosen′ → Sought (systemOf left right width rows) x (n + 1) least′ chosen′
+  sought-lowered s w = record {
+    least-size = w .lowered .least-size;
+    chosen-size = w .lowered .chosen-size;
+    each = λ j b. let k : j < 32 = omega (arith, t .width-most) in
+        sought-at (w .top) (w .gives) j _ _ _ _ (s .each j b) (w .lowered .leasts j k) (w .lowered .choices j k);
   }
+
+  -- One row more that stands everywhere.
+  sought-passed : (there : ℕ) {least chosen : List ℕ} → Sought (systemOf left right width rows) x n least chosen
+      → SideIs left n (highs x) width there → there ≤ side → Sought (systemOf left right width rows) x (n + 1) least chosen
+  sought-passed there s l b = record {
+    least-size = s .least-size;
+    chosen-size = s .chosen-size;
+    each = λ j k. record {
+      low = s .each j k .low;
+      picked = s .each j k .picked;
+      fails = s .each j k .fails;
+      stand = λ e i q. ⊎-elim
+          (λ (z : n ≤ i). let p : n ≡ i = omega arith in
+          subst (λ (i : ℕ). plus (entryOf left i j) (pointOf (highs x) j) ⊑ sideOf (systemOf left right width rows) (entryOf right i) (pointOf (highs x))) p (all j k))
+          (λ (z : i < n). s .each j k .stand e i z)
+          (nat-le-or-lt n i);
+    };
+  }
+    where
+      all : (j : ℕ) → j < width → plus (entryOf left n j) (pointOf (highs x) j) ⊑ sideOf (systemOf left right width rows) (entryOf right n) (pointOf (highs x))
+      all j k = ⊑-trans (largest-above (λ l. plus (entryOf left n l) (pointOf (highs x) l)) width j k)
+          (subst (λ (z : Trop). largest (λ l. plus (entryOf left n l) (pointOf (highs x) l)) width ⊑ z) (si .is)
+          (subst (λ (z : Trop). z ⊑ tropOf (high side)) (l .is) (trop-order (high there) (high side) .1 (high-mono there side b))))
+
+  -- One row more.
+  pub sought-more : (there : ℕ) {least chosen least′ chosen′ : List ℕ} → SideIs left n (highs x) width there → Sought (systemOf left right width rows) x n least chosen
+      → LoweredBy left n side there least chosen least′ chosen′ → Sought (systemOf left right width rows) x (n + 1) least′ chosen′
+  sought-more there l s w = ⊎-elim
+      (λ (b : there ≤ side). let e = w .stands b in rw (e .0, e .1) (sought-passed there s l b))
+      (λ (b : side < there). sought-lowered s (w .lowers b))
+      (nat-le-or-lt there side)
 
 pub sought-end : {s : System} {x least chosen : List ℕ} {n rows : ℕ} → Sought s x n least chosen → n ≤ rows → rows ≤ n → Sought s x rows least chosen
 sought-end {s} {x} {least} {chosen} {n} {rows} w h k = let e : n ≡ rows = omega arith in subst (λ (z : ℕ). Sought s x z least chosen) e w
@@ -331,6 +363,15 @@ pub values-ranged : (left right picks x : List ℕ) (width rows : ℕ) → Table
     → ValuesIs (systemOf left right width rows) (pickOf picks) x → Ranged x
 unfolding values
 values-ranged left right picks x width rows t v = level-ranged left right picks x width rows width t (omega arith) v
+
+pub values-lows : (left right picks x : List ℕ) (width rows : ℕ) → Tables left right width rows
+    → ValuesIs (systemOf left right width rows) (pickOf picks) (highs x) → Lows width x
+unfolding values
+values-lows left right picks x width rows t v = level-lows left right picks x width rows width t (omega arith) v
+
+-- A table that was not raised is within the limit of raised ones.
+pub table-raised : {table : List ℕ} → Table lead-limit table → Table raised-limit table
+table-raised t = record { size = t .size; near = λ k. record { hi = omega (arith, t .near k .hi); lo = λ h. omega (arith, t .near k .lo h) } }
 
 -- A row that fails at the array's values fails at the strategy's.
 module _ (s : System) (x picks : List ℕ) (v : ValuesIs s (pickOf picks) x) where

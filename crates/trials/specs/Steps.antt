@@ -14,7 +14,7 @@ use Rattle.definitions.specs.Offset.{tropOf}
 use Rattle.duality.specs.System.{System, sideOf, Solves}
 use Rattle.duality.specs.Values.{Policy, Fails}
 use Rattle.records.specs.Decoded.{Near}
-use Rattle.trials.specs.Tables.{pointOf, pickOf, value-limit, high, highs}
+use Rattle.trials.specs.Tables.{pointOf, pickOf, value-limit, side-most, side-least, high, highs, Table}
 use Rattle.trials.specs.Rounds.{ValuesIs}
 
 -- A row with this right side and this left coefficient stands at a variable of this value.
@@ -52,16 +52,35 @@ pub record Lowered (left : List ℕ) (i top : ℕ) (least chosen : List ℕ) (n 
   pub later-leasts : (j : ℕ) → n ≤ j → getD least′ j 0 ≡ getD least j 0
   pub later-choices : (j : ℕ) → n ≤ j → getD chosen′ j 0 ≡ getD chosen j 0
 
+-- The same by a row of this right side.
+pub record LoweredAt (left : List ℕ) (i side : ℕ) (least chosen least′ chosen′ : List ℕ) : Type 0 where
+  pub top : ℕ
+  pub gives : Gives side top
+  pub lowered : Lowered left i top least chosen 32 least′ chosen′
+
+-- Row i with these right and left sides has lowered the least values, unless it stands everywhere.
+pub record LoweredBy (left : List ℕ) (i here there : ℕ) (least chosen least′ chosen′ : List ℕ) : Type 0 where
+  pub stands : there ≤ here → (least′ ≡ least) × (chosen′ ≡ chosen)
+  pub lowers : here < there → LoweredAt left i here least chosen least′ chosen′
+
 -- What a row is lowered by: the sizes, and numbers that fit.
-pub record Lowering (left least chosen : List ℕ) (i top width : ℕ) : Type 0 where
+pub record Lowering (left least chosen : List ℕ) (i top : ℕ) : Type 0 where
   pub left-size : length left ≡ 2048
   pub least-size : length least ≡ 32
   pub chosen-size : length chosen ≡ 32
   pub row-most : i < 64
-  pub width-most : width ≤ 32
   pub top-least : 2147493728 ≤ top
   pub top-most : top ≤ 3287483648
   pub left-near : (k : ℕ) → Near lead-limit (getD left k 0)
+
+-- The same where the row has this right side.
+pub record LoweringBy (left least chosen : List ℕ) (i side : ℕ) : Type 0 where
+  pub lefts : Table lead-limit left
+  pub least-size : length least ≡ 32
+  pub chosen-size : length chosen ≡ 32
+  pub row-most : i < 64
+  pub side-high : side ≤ side-most
+  pub side-low : 0 < side → side-least ≤ side
 
 -- Of the first n rows: the least value that one gives variable j, below the variable's own v, by a row that fails there; or
 -- all of them stand.

@@ -76,6 +76,12 @@ pub record Ranged (x : List ℕ) : Type 0 where
   pub size : length x ≡ 32
   pub near : (k : ℕ) → Near value-limit (getD x k 0)
 
+-- An array of low values of `width` variables; past them it is blank.
+pub record Lows (width : ℕ) (x : List ℕ) : Type 0 where
+  pub size : length x ≡ 32
+  pub ranged : Ranged (highs x)
+  pub rest : (k : ℕ) → width ≤ k → getD x k 0 ≡ 0
+
 -- The two tables of a system of at most 32 variables and 64 rows.
 pub record Tables (left right : List ℕ) (width rows : ℕ) : Type 0 where
   pub width-most : width ≤ 32

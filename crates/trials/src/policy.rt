@@ -3,8 +3,8 @@ ghost use mathlib.Core.Path.{_≡_};
 ghost use Prim.Native.Nat.{_+_, _*_, _<_, _≤_};
 ghost use lib.ListN.{length};
 ghost use Rattle.duality.specs.Values.{Policy};
-ghost use Rattle.trials.specs.Tables.{systemOf, pointOf, pickOf, side-most, side-least, high, highs, Ranged, Tables};
-ghost use Rattle.trials.specs.Steps.{Gives, lesser, chosenBy, Lowering, Lowered, Sought, Improved, Tried};
+ghost use Rattle.trials.specs.Tables.{systemOf, pointOf, pickOf, side-most, side-least, high, highs, Lows, Tables};
+ghost use Rattle.trials.specs.Steps.{Gives, lesser, chosenBy, Lowering, Lowered, LoweringBy, LoweredBy, Sought, Improved, Tried};
 use crate::values::HALF;
 use crate::values::evaluate;
 use crate::values::side;
@@ -35,26 +35,36 @@ fn choice(a: u32, b: u32, i: u32, k: u32) -> u32
 }
 
 // Row i lowers the least values of the variables, and is chosen where it does.
-fn lower_row(
-    left: &[u32; 2048],
-    i: usize,
-    top: u32,
-    least: &mut [u32; 32],
-    chosen: &mut [u32; 32],
-    width: usize,
-)
-    requires { ⌜ Lowering (now left) (now least) (now chosen) i top width ⌝ }
-    ensures { λ _. ⌜ Lowered (now (left .entry)) i top (now (least .entry)) (now (chosen .entry)) width (now (least .exit)) (now (chosen .exit)) ⌝ }
+fn lower_row(left: &[u32; 2048], i: usize, top: u32, least: &mut [u32; 32], chosen: &mut [u32; 32])
+    requires { ⌜ Lowering (now left) (now least) (now chosen) i top ⌝ }
+    ensures { λ _. ⌜ Lowered (now (left .entry)) i top (now (least .entry)) (now (chosen .entry)) 32 (now (least .exit)) (now (chosen .exit)) ⌝ }
 {
     let base = i * 32;
     let row = i as u32;
     let mut j = 0;
-    while j < width {
+    while j < 32 {
         let given = top - left[base + j];
         let was = least[j];
         chosen[j] = choice(given, was, row, chosen[j]);
         least[j] = lower(given, was);
         j += 1;
+    }
+}
+
+// Row i, with these right and left sides: it lowers nothing where it stands everywhere, as most rows do.
+fn lower_by(
+    left: &[u32; 2048],
+    i: usize,
+    here: u32,
+    there: u32,
+    least: &mut [u32; 32],
+    chosen: &mut [u32; 32],
+)
+    requires { ⌜ LoweringBy (now left) (now least) (now chosen) i here ⌝ }
+    ensures { λ _. ⌜ LoweredBy (now (left .entry)) i here there (now (least .entry)) (now (chosen .entry)) (now (least .exit)) (now (chosen .exit)) ⌝ }
+{
+    if here < there {
+        lower_row(left, i, top_of(here), least, chosen);
     }
 }
 
@@ -72,15 +82,16 @@ fn cheapest(
     width: usize,
     rows: usize,
 ) -> Found
-    requires { ⌜ Tables (now left) (now right) width rows × Ranged (highs x) ⌝ }
+    requires { ⌜ Tables (now left) (now right) width rows × Lows width x ⌝ }
     ensures { λ r. ⌜ Sought (systemOf (now (left .entry)) (now (right .entry)) width rows) x rows (r .least) (r .chosen) ⌝ }
 {
     let mut least = x;
     let mut chosen = [0u32; 32];
     let mut i = 0;
     while i < rows {
-        let top = top_of(side(right, i, &x, width));
-        lower_row(left, i, top, &mut least, &mut chosen, width);
+        let here = side(right, i, &x, width);
+        let there = side(left, i, &x, width);
+        lower_by(left, i, here, there, &mut least, &mut chosen);
         i += 1;
     }
     Found { least, chosen }
@@ -101,7 +112,7 @@ fn improve(
     width: usize,
     rows: usize,
 ) -> Step
-    requires { ⌜ Tables (now left) (now right) width rows × Ranged (highs x) ⌝ }
+    requires { ⌜ Tables (now left) (now right) width rows × Lows width x ⌝ }
     ensures { λ r. ⌜ Improved (systemOf (now (left .entry)) (now (right .entry)) width rows) (pointOf (highs x)) (pickOf picks) (pickOf (r .picks)) (r .moved) width × (length (r .picks) ≡ 32) ⌝ }
 {
     let found = cheapest(left, right, x, width, rows);

@@ -8,7 +8,7 @@ ghost use lib.ListN.{length};
 ghost use Rattle.definitions.specs.Limits.{lead-limit, signed-half};
 ghost use Rattle.definitions.specs.Offset.{tropOf};
 ghost use Rattle.duality.specs.Values.{difference, exitBy};
-ghost use Rattle.trials.specs.Tables.{systemOf, pointOf, pickOf, raised-limit, fold-limit, fold-least, side-most, side-least, high, highs, Table, Ranged, Tables};
+ghost use Rattle.trials.specs.Tables.{systemOf, pointOf, pickOf, raised-limit, fold-limit, fold-least, side-most, side-least, high, highs, Table, Lows, Tables};
 ghost use Rattle.trials.specs.Rounds.{upper, folded, SideIs, steppedBy, Stepped, Exits, ValuesIs, SameUpTo};
 use records::limits::OFFSET;
 
@@ -42,15 +42,16 @@ fn fold(k: u32) -> u32
     if k < FOLD { 0 } else { k - HALF }
 }
 
-// One side of a row at low values: the largest of coefficient + variable. Public for `guess`, `policy`.
+// One side of a row at low values: the largest of coefficient + variable. All 32 places are looked at, whatever the width:
+// past it there are blanks. Public for `policy` and for the engine's `guess`.
 pub fn side(table: &[u32; 2048], row: usize, x: &[u32; 32], width: usize) -> u32
-    requires { ⌜ (row < 64) × (width ≤ 32) × Table raised-limit (now table) × Ranged (highs (now x)) × (length (now x) ≡ 32) ⌝ }
+    requires { ⌜ (row < 64) × (width ≤ 32) × Table raised-limit (now table) × Lows width (now x) ⌝ }
     ensures { λ r. ⌜ SideIs (now (table .entry)) row (highs (now (x .entry))) width r ⌝ }
 {
     let base = row * 32;
     let mut best = 0;
     let mut l = 0;
-    while l < width {
+    while l < 32 {
         best = larger(best, table[base + l] + x[l]);
         l += 1;
     }
@@ -95,7 +96,7 @@ fn stepped(
     width: usize,
     rows: usize,
 ) -> u32
-    requires { ⌜ Tables (now left) (now right) width rows × Ranged (highs (now x)) × (length (now x) ≡ 32) × (j < width) ⌝ }
+    requires { ⌜ Tables (now left) (now right) width rows × Lows width (now x) × (j < width) ⌝ }
     ensures { λ r. ⌜ tropOf (high r) ≡ steppedBy (systemOf (now (left .entry)) (now (right .entry)) width rows) pick j (pointOf (highs (now (x .entry)))) ⌝ }
 {
     if pick < rows {
@@ -114,7 +115,7 @@ fn round_from(
     width: usize,
     rows: usize,
 ) -> [u32; 32]
-    requires { ⌜ Tables (now left) (now right) width rows × (length (now picks) ≡ 32) × Ranged (highs (now x)) × (length (now x) ≡ 32) ⌝ }
+    requires { ⌜ Tables (now left) (now right) width rows × (length (now picks) ≡ 32) × Lows width (now x) ⌝ }
     ensures { λ r. ⌜ Stepped (systemOf (now (left .entry)) (now (right .entry)) width rows) (pickOf (now (picks .entry))) (pointOf (highs (now (x .entry)))) (highs r) ⌝ }
 {
     let mut out = [0u32; 32];

@@ -1,8 +1,8 @@
 use native.Mathlib.Omega.{arith}
 use lib.ListN.{getD}
-use Rattle.trials.proofs.Low.{high-whole, highs-size}
+use Rattle.trials.proofs.Low.{high-whole}
 use Rattle.trials.proofs.Filled.{positive}
-use Rattle.engine.proofs.Trials.{table-raised}
+use Rattle.trials.proofs.Steps.{table-raised}
 use borrow.Author.Needs.{needs}
 use Rattle.engine.proofs.guess.guess.Statement.{statement}
 use Rattle.engine.proofs.guess.guess.Tie as tie
@@ -20,7 +20,7 @@ guess-spec =
     (λ c. search needs)
     (λ c κs. search needs)
     (λ c. search needs)
-    (λ c κs. let p = c .before .before .before .before .before .pre in (omega (arith, p .0 .m-most), omega (arith, p .0 .n-most), table-raised (p .0 .tables .lefts), c .before .lifted .ensures, highs-size (c .before .lifted .result) 32 (c .before .lifted .ensures .size)))
+    (λ c κs. let p = c .before .before .before .before .before .pre in (omega (arith, p .0 .m-most), omega (arith, p .0 .n-most), table-raised (p .0 .tables .lefts), c .before .lifted .ensures))
     (λ c. search needs)
     (λ c κs. search needs)
     (λ c. omega (arith, c .raised .ensures, high-whole _ (positive _ (c .before .if2 .left)), c .before .before .side .ensures .least (positive _ (c .before .if2 .left)), c .before .before .side .ensures .most))

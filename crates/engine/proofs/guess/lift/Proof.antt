@@ -1,16 +1,15 @@
 use Prim.Native.Nat.{_≤_, _-_}
 use native.Mathlib.Omega.{arith}
 use mathlib.Core.Logic.{⊎-elim}
-use Rattle.trials.specs.Tables.{Ranged, highs}
-use Rattle.trials.proofs.Low.{highs-size}
-use Rattle.engine.proofs.Heights.{ranged-rises}
-use Rattle.engine.proofs.Trials.{table-raised}
+use Rattle.trials.specs.Tables.{Lows}
+use Rattle.engine.proofs.Heights.{lows-rise}
+use Rattle.trials.proofs.Steps.{table-raised}
 use borrow.Author.Needs.{needs}
 use Rattle.engine.proofs.guess.lift.Statement.{statement}
 use Rattle.engine.proofs.guess.lift.Tie as tie
 
 abbrev Inv-loop : tie.InvT-loop
-Inv-loop left right targets width rules heights₀ moved₀ i₀ heights moved i = (i ≤ rules) × Ranged (highs heights)
+Inv-loop left right targets width rules heights₀ moved₀ i₀ heights moved i = (i ≤ rules) × Lows width heights
 
 abbrev μ-loop : tie.MeasureT-loop
 μ-loop left right targets width rules heights₀ moved₀ i₀ heights moved i = rules - i
@@ -24,7 +23,7 @@ lift-spec =
     (λ c. (omega arith, c .pre .2))
     (λ c. search needs)
     (λ c. search needs)
-    (λ c κs. let p = c .before .before .before .before .before .pre in (omega (arith, p .0 .rows-most), p .0 .width-most, table-raised (p .0 .lefts), c .before .before .before .before .loop .inv .1, highs-size (c .before .before .before .before .loop .heights) 32 (c .before .before .before .before .loop .inv .1 .size)))
+    (λ c κs. let p = c .before .before .before .before .before .pre in (omega (arith, p .0 .rows-most), p .0 .width-most, table-raised (p .0 .lefts), c .before .before .before .before .loop .inv .1))
     (λ c. search needs)
     (λ c. search needs)
     (λ c. search needs)
@@ -37,5 +36,5 @@ lift-spec =
     (λ c. search needs)
     (λ c. search needs)
     (λ c. let v = c .before .before .before .loop .inv .1 in
-    (omega arith, ⊎-elim (λ w. ranged-rises (c .before .before .before .loop .heights) _ _ (w .6) v (omega (arith, w .0 .taken, c .before .before .before .before .pre .0 .width-most)) (w .4 .ensures)) (λ u. ⊎-elim (λ w. rw (w .6) v) (λ w. rw (w .1) v) u) (c .if1 .came)))
+    (omega arith, ⊎-elim (λ w. lows-rise _ (c .before .before .before .loop .heights) _ _ (w .6) v (c .before .before .before .before .pre .0 .width-most) (w .0 .taken) (w .4 .ensures)) (λ u. ⊎-elim (λ w. rw (w .6) v) (λ w. rw (w .1) v) u) (c .if1 .came)))
     (λ c. search needs))

@@ -1,13 +1,13 @@
 use Prim.Native.Nat.{_≤_, _-_}
 use native.Mathlib.Omega.{arith}
-use Rattle.trials.specs.Tables.{Ranged, highs}
-use Rattle.engine.proofs.Heights.{ranged-start}
+use Rattle.trials.specs.Tables.{Lows}
+use Rattle.engine.proofs.Heights.{lows-start}
 use borrow.Author.Needs.{needs}
 use Rattle.engine.proofs.guess.lifted.Statement.{statement}
 use Rattle.engine.proofs.guess.lifted.Tie as tie
 
 abbrev Inv-loop : tie.InvT-loop
-Inv-loop left right targets start width rules heights₀ rounds₀ heights rounds = (rounds ≤ 32) × Ranged (highs heights)
+Inv-loop left right targets start width rules heights₀ rounds₀ heights rounds = (rounds ≤ 32) × Lows width heights
 
 abbrev μ-loop : tie.MeasureT-loop
 μ-loop left right targets start width rules heights₀ rounds₀ heights rounds = 32 - rounds
@@ -20,7 +20,7 @@ lifted-spec =
     μ-loop
     (λ c. search needs)
     (λ c. search needs)
-    (λ c. (omega arith, ranged-start _ (c .pre .2)))
+    (λ c. (omega arith, lows-start _ _ (c .pre .0 .width-most) (c .pre .2)))
     (λ c κs. search needs)
     (λ c. search needs)
     (λ c. search needs)

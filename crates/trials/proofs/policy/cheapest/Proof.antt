@@ -2,8 +2,7 @@ use Prim.Native.Nat.{_≤_, _-_}
 use native.Mathlib.Omega.{arith}
 use Rattle.trials.specs.Tables.{systemOf}
 use Rattle.trials.specs.Steps.{Sought}
-use Rattle.trials.proofs.Steps.{sought-none, sought-more, sought-end}
-use Rattle.trials.proofs.Low.{highs-size}
+use Rattle.trials.proofs.Steps.{sought-none, sought-more, sought-end, table-raised}
 use borrow.Author.Needs.{needs}
 use Rattle.trials.proofs.policy.cheapest.Statement.{statement}
 use Rattle.trials.proofs.policy.cheapest.Tie as tie
@@ -20,26 +19,25 @@ cheapest-spec =
     (tie.spec
     Inv-loop
     μ-loop
-    (λ c. (omega arith, sought-none _ _ (highs-size (c .args .t3) 32 (c .pre .1 .size))))
-    (λ c κs. let start = c .before .before .before in (omega (arith, start .pre .0 .rows-most), start .pre .0 .width-most, start .pre .0 .rights, start .pre .1, highs-size (start .args .t3) 32 (start .pre .1 .size)))
-    (λ c κs. (c .side .ensures .most, c .side .ensures .least))
+    (λ c. (omega arith, sought-none _ _ (c .pre .1 .size)))
+    (λ c κs. let start = c .before .before .before in (omega (arith, start .pre .0 .rows-most), start .pre .0 .width-most, start .pre .0 .rights, start .pre .1))
+    (λ c κs. let start = c .before .before .before .before .before in (omega (arith, start .pre .0 .rows-most), start .pre .0 .width-most, table-raised (start .pre .0 .lefts), start .pre .1))
     (λ c κs.
-    let start = c .before .before .before .before .before .before .before in
-    let turn = c .before .before .before .before .before .before .loop in
+    let start = c .before .before .before .before .before .before .before .before in
+    let turn = c .before .before .before .before .before .before .before .loop in
+    let side = c .before .before .before .before .side .ensures in
     record {
-      left-size = start .pre .0 .lefts .size;
+      lefts = start .pre .0 .lefts;
       least-size = turn .inv .1 .least-size;
       chosen-size = turn .inv .1 .chosen-size;
       row-most = omega (arith, start .pre .0 .rows-most);
-      width-most = start .pre .0 .width-most;
-      top-least = c .before .before .top-of .ensures .1;
-      top-most = c .before .before .top-of .ensures .2;
-      left-near = start .pre .0 .lefts .near;
+      side-high = side .most;
+      side-low = side .least;
     })
     (λ c. search needs)
     (λ c. search needs)
     (λ c.
-    let start = c .before .before .before .before .before .before .before .before in
-    let turn = c .before .before .before .before .before .before .before .loop in
-    (omega arith, sought-more (start .args .left .now) (start .args .right .now) (start .args .t3) (start .args .width) (start .args .rows) (turn .i) _ _ (start .pre .0) (start .pre .1) (c .before .before .before .before .before .before .loop-test .taken) (c .before .before .before .before .side .ensures) (c .before .before .before .top-of .ensures .0) (turn .inv .1) (c .lower-row .ensures)))
+    let start = c .before .before .before .before .before .before .before .before .before in
+    let turn = c .before .before .before .before .before .before .before .before .loop in
+    (omega arith, sought-more (start .args .left .now) (start .args .right .now) (start .args .t3) (start .args .width) (start .args .rows) (turn .i) _ (start .pre .0) (start .pre .1 .ranged) (c .before .before .before .before .before .before .before .loop-test .taken) (c .before .before .before .before .before .side .ensures) _ (c .before .before .before .side2 .ensures) (turn .inv .1) (c .lower-by .ensures)))
     (λ c. sought-end (c .before .loop .inv .1) (c .before .loop .inv .0) (c .loop-test .left)))

@@ -8,10 +8,10 @@ use Rattle.trials.proofs.policy.lower_row.Statement.{statement}
 use Rattle.trials.proofs.policy.lower_row.Tie as tie
 
 abbrev Inv-loop : tie.InvT-loop
-Inv-loop left i top least₀ chosen₀ width base row j₀ least chosen j = (j ≤ width) × Lowered left i top least₀ chosen₀ j least chosen
+Inv-loop left i top least₀ chosen₀ base row j₀ least chosen j = (j ≤ 32) × Lowered left i top least₀ chosen₀ j least chosen
 
 abbrev μ-loop : tie.MeasureT-loop
-μ-loop left i top least₀ chosen₀ width base row j₀ least chosen j = width - j
+μ-loop left i top least₀ chosen₀ base row j₀ least chosen j = 32 - j
 
 pub lower-row-spec : {M : Type 1} → statement M
 lower-row-spec =
@@ -42,4 +42,4 @@ lower-row-spec =
     let a = c .before .before .before .before .before .before .before .args in
     let turn = c .before .before .before .before .before .before .loop in
     (omega arith, lowered-more (a .left .now) (a .least .now) (a .chosen .now) (a .i) (a .top) (turn .j) _ _ _ (turn .least) (turn .chosen) (turn .inv .1) (omega arith) refl (c .before .choice .ensures) (c .lower .ensures)))
-    (λ c. let a = c .before .before .args in lowered-end (a .left .now) (a .least .now) (a .chosen .now) (a .i) (a .top) _ (a .width) _ _ (c .before .loop .inv .1) (c .before .loop .inv .0) (c .loop-test .left)))
+    (λ c. let a = c .before .before .args in lowered-end (a .left .now) (a .least .now) (a .chosen .now) (a .i) (a .top) _ 32 _ _ (c .before .loop .inv .1) (c .before .loop .inv .0) (c .loop-test .left)))

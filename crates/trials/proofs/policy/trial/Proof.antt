@@ -4,7 +4,7 @@ use lib.ListN.{length}
 use Rattle.duality.specs.Values.{Policy}
 use Rattle.duality.specs.Height.{height}
 use Rattle.trials.specs.Tables.{systemOf, pickOf, raised-limit, highs}
-use Rattle.trials.proofs.Steps.{step-policy, step-lower, step-tried, stop-tried, tried-as, values-ranged}
+use Rattle.trials.proofs.Steps.{step-policy, step-lower, step-tried, stop-tried, tried-as, values-lows}
 use Rattle.trials.proofs.Low.{highs-size}
 use borrow.Author.Needs.{needs}
 use Rattle.trials.proofs.policy.trial.Statement.{statement}
@@ -35,7 +35,7 @@ trial-spec =
     (λ c κs.
     let start = c .before .before .before .before .before .before in
     let a = start .args in
-    (start .pre .0, values-ranged (a .left .now) (a .right .now) (c .before .before .before .before .before .loop .kept) (highs (c .before .before .before .evaluate .result)) (a .width) (a .rows) (start .pre .0) (c .before .before .before .evaluate .ensures)))
+    (start .pre .0, values-lows (a .left .now) (a .right .now) (c .before .before .before .before .before .loop .kept) (c .before .before .before .evaluate .result) (a .width) (a .rows) (start .pre .0) (c .before .before .before .evaluate .ensures)))
     (λ c.
     let a = c .before .before .before .before .before .before .before .before .before .args in
     let v = c .before .before .before .before .before .before .evaluate in

@@ -8,10 +8,10 @@ use Rattle.trials.proofs.values.side.Statement.{statement}
 use Rattle.trials.proofs.values.side.Tie as tie
 
 abbrev Inv-loop : tie.InvT-loop
-Inv-loop table row x width base best₀ l₀ best l = (l ≤ width) × (best ≡ uppermost (sums table row x) l)
+Inv-loop table row x width base best₀ l₀ best l = (l ≤ 32) × (best ≡ uppermost (sums table row x) l)
 
 abbrev μ-loop : tie.MeasureT-loop
-μ-loop table row x width base best₀ l₀ best l = width - l
+μ-loop table row x width base best₀ l₀ best l = 32 - l
 
 pub side-spec : {M : Type 1} → statement M
 side-spec =
@@ -26,7 +26,7 @@ side-spec =
     (λ c. search needs)
     (λ c. search needs)
     (λ c. search needs)
-    (λ c. let start = c .before .before .before .before in omega (arith, sum-most (start .args .table .now) (start .args .x .now) (start .pre .2) (start .pre .3) (start .args .row) (c .before .before .before .loop .l)))
+    (λ c. let start = c .before .before .before .before in omega (arith, sum-most (start .args .table .now) (start .args .x .now) (start .pre .2) (start .pre .3 .ranged) (start .args .row) (c .before .before .before .loop .l)))
     (λ c κs. search needs)
     (λ c. search needs)
     (λ c. search needs)

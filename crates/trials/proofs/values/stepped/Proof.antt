@@ -11,7 +11,7 @@ pub stepped-spec : {M : Type 1} → statement M
 stepped-spec =
     tie.close
     (tie.spec
-    (λ c κs. (omega arith, omega arith, c .before .pre .0 .rights, c .before .pre .1, c .before .pre .2))
+    (λ c κs. (omega arith, omega arith, c .before .pre .0 .rights, c .before .pre .1))
     (λ c. search needs)
     (λ c. search needs)
     (λ c. search needs)
