@@ -1,9 +1,9 @@
 -- The largest of coefficient + variable, found on plain sums of a coefficient and a low value: a sum of two whole numbers
 -- lies above the limit, a sum with a blank below it, so that one test at the end tells them apart.
-use Prim.Native.Nat.{ℕ, zero, suc, _+_, _*_, _-_, _≤_, _<_}
+use Prim.Native.Nat.{ℕ, zero, suc, _+_, _*_, _-_, _/_, _%_, _≤_, _<_}
 use mathlib.Core.Path.{_≡_, refl, sym, ap, subst, _∙_}
 use mathlib.Core.Bool.{Bool, true, false, cond}
-use mathlib.Core.Logic.{_⊎_, ⊎-elim}
+use mathlib.Core.Logic.{_⊎_, inl, inr, ⊎-elim}
 use mathlib.Core.List.{List}
 use native.Mathlib.Omega.{arith}
 use native.Mathlib.Nat.{eq-zero-or-pos}
@@ -19,6 +19,7 @@ use Rattle.definitions.proofs.Tropical.{⊑-refl, ⊑-antisym, larger-left, lar
 use Rattle.definitions.proofs.Offset.{trop-zero, trop-order, plus-trop, plus-trop-zero}
 use Rattle.records.specs.Decoded.{Near}
 use Rattle.trials.specs.Tables.{raised-limit, value-limit, fold-limit, low-fold, side-most, side-least, high, highs, Table, Ranged, Lows}
+use Rattle.trials.specs.Ends.{RowEnds}
 use Rattle.trials.specs.Rounds.{upper, uppermost, foldedAt, folded, sums, SideIs}
 use Rattle.trials.proofs.Low.{high-zero, high-whole, high-mono, highs-at}
 
@@ -142,32 +143,66 @@ folded-within k few = (
   λ p. ⊎-elim (λ h. omega (arith, folded-high _ h)) (λ h. absurd (omega (arith, folded-low _ h))) (nat-le-or-lt low-fold k),
 )
 
+-- Two numbers are the same, or not.
+same-or-not : (a b : ℕ) → (a ≡ b) ⊎ (a ≡ b → ⊥)
+same-or-not a b = ⊎-elim
+    (λ (h : a ≤ b). ⊎-elim (λ (k : b ≤ a). inl (omega arith)) (λ (k : a < b). inr (λ e. omega arith)) (nat-le-or-lt b a))
+    (λ (h : b < a). inr (λ e. omega arith))
+    (nat-le-or-lt a b)
+
 -- The largest over all 32 places is that over the first ones, where the others are blank.
 largest-rest : (f : ℕ → Trop) (k : ℕ) → k ≤ 32 → ((l : ℕ) → k ≤ l → f l ≡ bot) → largest f 32 ≡ largest f k
 largest-rest f k h b = ⊑-antisym
     (largest-least f 32 (λ j l. ⊎-elim (λ (e : k ≤ j). subst (λ (z : Trop). z ⊑ largest f k) (sym (b j e)) blank-least) (largest-above f k j) (nat-le-or-lt k j)))
     (largest-least f k (λ j l. largest-above f 32 j (omega arith)))
 
--- What the loop's end, folded, is: the side of the row.
-pub side-end : (table : List ℕ) (row : ℕ) (x : List ℕ) (width l best r : ℕ) → Table raised-limit table → Lows width x → width ≤ 32 → l ≤ 32 → 32 ≤ l
-    → best ≡ uppermost (sums table row x) l → r ≡ folded best → SideIs table row (highs x) width r
-side-end table row x width l best r t g w h k e d = rw (d, e, eq) side
-  where
-    eq : l ≡ 32
-    eq = omega arith
+module _ (table : List ℕ) (row : ℕ) (x : List ℕ) (width : ℕ) (t : Table raised-limit table) (g : Lows width x) (w : width ≤ 32) where
+  -- What one place adds to a side.
+  abbrev adds : ℕ → Trop
+  adds l = plus (tropOf (getD table (row * 32 + l) 0)) (tropOf (getD (highs x) l 0))
 
-    bounds : (folded (uppermost (sums table row x) 32) ≤ side-most) × (0 < folded (uppermost (sums table row x) 32) → side-least ≤ folded (uppermost (sums table row x) 32))
-    bounds = folded-within (uppermost (sums table row x) 32) (uppermost-most (sums table row x) 32 3255435105 (λ l b. sum-most table x t (g .ranged) row l))
+  adds-folded : (l : ℕ) → tropOf (high (folded (sums table row x l))) ≡ adds l
+  adds-folded l = rw (highs-at x l) (folded-sum _ _ (t .near (row * 32 + l)) (rw (highs-at x l) at (g .ranged .near l)))
 
-    at : (l : ℕ) → tropOf (high (folded (sums table row x l))) ≡ plus (tropOf (getD table (row * 32 + l) 0)) (tropOf (getD (highs x) l 0))
-    at l = rw (highs-at x l) (folded-sum _ _ (t .near (row * 32 + l)) (rw (highs-at x l) at (g .ranged .near l)))
+  -- Nothing, past the width and where the coefficient is blank.
+  adds-past : (l : ℕ) → width ≤ l → adds l ≡ bot
+  adds-past l b = rw (highs-at x l, g .rest l b, high-zero) (plus-trop-zero (tropOf (getD table (row * 32 + l) 0)) .1)
 
-    blank : (l : ℕ) → width ≤ l → plus (tropOf (getD table (row * 32 + l) 0)) (tropOf (getD (highs x) l 0)) ≡ bot
-    blank l b = rw (highs-at x l, g .rest l b, high-zero) (plus-trop-zero (tropOf (getD table (row * 32 + l) 0)) .1)
+  adds-blank : (l : ℕ) → getD table (row * 32 + l) 0 ≡ 0 → adds l ≡ bot
+  adds-blank l e = rw e (plus-trop-zero (tropOf (getD (highs x) l 0)) .0)
 
-    side : SideIs table row (highs x) width (folded (uppermost (sums table row x) 32))
-    side = record {
-      is = folded-uppermost (sums table row x) 32 ∙ largest-ext _ _ 32 (λ l b. at l) ∙ largest-rest _ width w blank;
-      most = bounds .0;
-      least = bounds .1;
-    }
+  -- A number that stands for the largest is the side, once folded.
+  side-is : (best r : ℕ) → r ≡ folded best → best ≤ 3255435105 → tropOf (high (folded best)) ≡ largest adds width → SideIs table row (highs x) width r
+  side-is best r d few e = rw d (record { is = e; most = folded-within best few .0; least = folded-within best few .1 })
+
+  -- What the loop ends with.
+  pub side-end : (l best r : ℕ) → l ≤ 32 → 32 ≤ l → best ≡ uppermost (sums table row x) l → r ≡ folded best → SideIs table row (highs x) width r
+  side-end l best r h k e d = side-is best r d
+      (rw eq (uppermost-most (sums table row x) 32 3255435105 (λ l b. sum-most table x t (g .ranged) row l)))
+      (rw eq (folded-uppermost (sums table row x) 32 ∙ largest-ext _ _ 32 (λ l b. adds-folded l) ∙ largest-rest adds width w adds-past))
+    where
+      eq : best ≡ uppermost (sums table row x) 32
+      eq = let z : l ≡ 32 = omega arith in e ∙ ap (uppermost (sums table row x)) z
+
+  -- What one place adds is at most the side.
+  adds-under : (l : ℕ) → adds l ⊑ largest adds width
+  adds-under l = ⊎-elim (λ (b : width ≤ l). subst (λ (z : Trop). z ⊑ largest adds width) (sym (adds-past l b)) blank-least) (largest-above adds width l) (nat-le-or-lt width l)
+
+  -- The larger of the sums at the ends is the side.
+  pub side-ends : (ends best r : ℕ) → RowEnds table row ends → ends < 1024 → best ≡ upper (sums table row x (ends / 32)) (sums table row x (ends % 32))
+      → r ≡ folded best → SideIs table row (highs x) width r
+  side-ends ends best r n h e d = side-is best r d
+      (rw e (either (leb (sums table row x (ends / 32)) (sums table row x (ends % 32))) (sum-most table x t (g .ranged) row (ends % 32)) (sum-most table x t (g .ranged) row (ends / 32))))
+      (rw e (folded-upper _ _ ∙ ap (λ (z : Trop). larger z (tropOf (high (folded (sums table row x (ends % 32)))))) (adds-folded (ends / 32)) ∙ ap (larger (adds (ends / 32))) (adds-folded (ends % 32)) ∙ both))
+    where
+      under : (l : ℕ) → l < width → adds l ⊑ larger (adds (ends / 32)) (adds (ends % 32))
+      under l b = ⊎-elim
+          (λ (p : l ≡ ends / 32). subst (λ (i : ℕ). adds i ⊑ larger (adds (ends / 32)) (adds (ends % 32))) (sym p) (larger-left _ _))
+          (λ p. ⊎-elim
+          (λ (q : l ≡ ends % 32). subst (λ (i : ℕ). adds i ⊑ larger (adds (ends / 32)) (adds (ends % 32))) (sym q) (larger-right _ _))
+          (λ q. subst (λ (z : Trop). z ⊑ larger (adds (ends / 32)) (adds (ends % 32))) (sym (adds-blank l (n .others h l (omega arith) p q))) blank-least)
+          (same-or-not l (ends % 32)))
+          (same-or-not l (ends / 32))
+
+      both : larger (adds (ends / 32)) (adds (ends % 32)) ≡ largest adds width
+      both = ⊑-antisym (larger-least (adds-under (ends / 32)) (adds-under (ends % 32))) (largest-least adds width under)

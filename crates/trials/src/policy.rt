@@ -4,6 +4,7 @@ ghost use Prim.Native.Nat.{_+_, _*_, _<_, _≤_};
 ghost use lib.ListN.{length};
 ghost use Rattle.duality.specs.Values.{Policy};
 ghost use Rattle.trials.specs.Tables.{systemOf, pointOf, pickOf, side-most, side-least, high, highs, Lows, Tables};
+ghost use Rattle.trials.specs.Ends.{EndsOf};
 ghost use Rattle.trials.specs.Steps.{Gives, lesser, chosenBy, Lowering, Lowered, LoweringBy, LoweredBy, Sought, Improved, Tried};
 use crate::values::HALF;
 use crate::values::evaluate;
@@ -78,19 +79,21 @@ pub struct Found {
 fn cheapest(
     left: &[u32; 2048],
     right: &[u32; 2048],
+    lefts: &[u32; 64],
+    rights: &[u32; 64],
     x: [u32; 32],
     width: usize,
     rows: usize,
 ) -> Found
-    requires { ⌜ Tables (now left) (now right) width rows × Lows width x ⌝ }
+    requires { ⌜ Tables (now left) (now right) width rows × Lows width x × EndsOf (now left) rows (now lefts) × EndsOf (now right) rows (now rights) ⌝ }
     ensures { λ r. ⌜ Sought (systemOf (now (left .entry)) (now (right .entry)) width rows) x rows (r .least) (r .chosen) ⌝ }
 {
     let mut least = x;
     let mut chosen = [0u32; 32];
     let mut i = 0;
     while i < rows {
-        let here = side(right, i, &x, width);
-        let there = side(left, i, &x, width);
+        let here = side(right, rights[i], i, &x, width);
+        let there = side(left, lefts[i], i, &x, width);
         lower_by(left, i, here, there, &mut least, &mut chosen);
         i += 1;
     }
@@ -107,15 +110,17 @@ pub struct Step {
 fn improve(
     left: &[u32; 2048],
     right: &[u32; 2048],
+    lefts: &[u32; 64],
+    rights: &[u32; 64],
     x: [u32; 32],
     picks: [usize; 32],
     width: usize,
     rows: usize,
 ) -> Step
-    requires { ⌜ Tables (now left) (now right) width rows × Lows width x ⌝ }
+    requires { ⌜ Tables (now left) (now right) width rows × Lows width x × EndsOf (now left) rows (now lefts) × EndsOf (now right) rows (now rights) ⌝ }
     ensures { λ r. ⌜ Improved (systemOf (now (left .entry)) (now (right .entry)) width rows) (pointOf (highs x)) (pickOf picks) (pickOf (r .picks)) (r .moved) width × (length (r .picks) ≡ 32) ⌝ }
 {
-    let found = cheapest(left, right, x, width, rows);
+    let found = cheapest(left, right, lefts, rights, x, width, rows);
     let least = found.least;
     let chosen = found.chosen;
     let mut next = picks;
@@ -163,16 +168,18 @@ pub struct Outcome {
 pub fn trial(
     left: &[u32; 2048],
     right: &[u32; 2048],
+    lefts: &[u32; 64],
+    rights: &[u32; 64],
     picks: [usize; 32],
     width: usize,
     rows: usize,
 ) -> Outcome
-    requires { ⌜ Tables (now left) (now right) width rows × Policy (systemOf (now left) (now right) width rows) (pickOf picks) ⌝ }
+    requires { ⌜ Tables (now left) (now right) width rows × Policy (systemOf (now left) (now right) width rows) (pickOf picks) × EndsOf (now left) rows (now lefts) × EndsOf (now right) rows (now rights) ⌝ }
     ensures { λ r. ⌜ Tried (systemOf (now (left .entry)) (now (right .entry)) width rows) (r .values) (r .picks) ⌝ }
 {
     let mut kept = picks;
     loop {
-        let x = evaluate(left, right, &kept, width, rows);
+        let x = evaluate(left, right, rights, &kept, width, rows);
         let values = raised_all(&x);
         if x[0] == 0 {
             return Outcome {
@@ -180,7 +187,7 @@ pub fn trial(
                 picks: kept,
             };
         }
-        let step = improve(left, right, x, kept, width, rows);
+        let step = improve(left, right, lefts, rights, x, kept, width, rows);
         if !step.moved {
             return Outcome {
                 values,

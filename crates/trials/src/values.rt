@@ -9,7 +9,9 @@ ghost use Rattle.definitions.specs.Limits.{lead-limit, signed-half};
 ghost use Rattle.definitions.specs.Offset.{tropOf};
 ghost use Rattle.duality.specs.Values.{difference, exitBy};
 ghost use Rattle.trials.specs.Tables.{systemOf, pointOf, pickOf, raised-limit, fold-limit, fold-least, side-most, side-least, high, highs, Table, Lows, Tables};
+ghost use Rattle.trials.specs.Ends.{RowEnds, EndsOf};
 ghost use Rattle.trials.specs.Rounds.{upper, folded, SideIs, steppedBy, Stepped, Exits, ValuesIs, SameUpTo};
+use crate::ends::WIDE;
 use records::limits::OFFSET;
 
 // The low number of 0, and the offset of coefficients.
@@ -43,8 +45,8 @@ fn fold(k: u32) -> u32
 }
 
 // One side of a row at low values: the largest of coefficient + variable. All 32 places are looked at, whatever the width:
-// past it there are blanks. Public for `policy` and for the engine's `guess`.
-pub fn side(table: &[u32; 2048], row: usize, x: &[u32; 32], width: usize) -> u32
+// past it there are blanks.
+fn full_side(table: &[u32; 2048], row: usize, x: &[u32; 32], width: usize) -> u32
     requires { ⌜ (row < 64) × (width ≤ 32) × Table raised-limit (now table) × Lows width (now x) ⌝ }
     ensures { λ r. ⌜ SideIs (now (table .entry)) row (highs (now (x .entry))) width r ⌝ }
 {
@@ -58,7 +60,29 @@ pub fn side(table: &[u32; 2048], row: usize, x: &[u32; 32], width: usize) -> u32
     fold(best)
 }
 
-// An offset number less another. Public for `answer`.
+// The side of a row by its ends: the larger of two sums.
+fn end_side(table: &[u32; 2048], ends: u32, row: usize, x: &[u32; 32], width: usize) -> u32
+    requires { ⌜ (row < 64) × (width ≤ 32) × Table raised-limit (now table) × Lows width (now x) × RowEnds (now table) row ends × (ends < 1024) ⌝ }
+    ensures { λ r. ⌜ SideIs (now (table .entry)) row (highs (now (x .entry))) width r ⌝ }
+{
+    let base = row * 32;
+    let first = (ends / 32) as usize;
+    let last = (ends % 32) as usize;
+    fold(larger(table[base + first] + x[first], table[base + last] + x[last]))
+}
+
+// One side of a row at low values, by its ends or whole. Public for `policy` and for the engine's `guess`.
+pub fn side(table: &[u32; 2048], ends: u32, row: usize, x: &[u32; 32], width: usize) -> u32
+    requires { ⌜ (row < 64) × (width ≤ 32) × Table raised-limit (now table) × Lows width (now x) × RowEnds (now table) row ends ⌝ }
+    ensures { λ r. ⌜ SideIs (now (table .entry)) row (highs (now (x .entry))) width r ⌝ }
+{
+    if ends < WIDE {
+        return end_side(table, ends, row, x, width);
+    }
+    full_side(table, row, x, width)
+}
+
+// An offset number less another. Public for the engine's `answer`.
 pub fn gap(side: u64, left: u64) -> u64
     requires { ⌜ (side ≤ fold-limit) × (0 < side → fold-least ≤ side) × (left ≤ signed-half + lead-limit) ⌝ }
     ensures { λ r. ⌜ (tropOf r ≡ difference (tropOf side) (tropOf left)) ⌝ }
@@ -90,17 +114,18 @@ fn given(side: u32, left: u32) -> u32
 fn stepped(
     left: &[u32; 2048],
     right: &[u32; 2048],
+    rights: &[u32; 64],
     pick: usize,
     j: usize,
     x: &[u32; 32],
     width: usize,
     rows: usize,
 ) -> u32
-    requires { ⌜ Tables (now left) (now right) width rows × Lows width (now x) × (j < width) ⌝ }
+    requires { ⌜ Tables (now left) (now right) width rows × Lows width (now x) × (j < width) × EndsOf (now right) rows (now rights) ⌝ }
     ensures { λ r. ⌜ tropOf (high r) ≡ steppedBy (systemOf (now (left .entry)) (now (right .entry)) width rows) pick j (pointOf (highs (now (x .entry)))) ⌝ }
 {
     if pick < rows {
-        given(side(right, pick, x, width), left[pick * 32 + j])
+        given(side(right, rights[pick], pick, x, width), left[pick * 32 + j])
     } else {
         LOW
     }
@@ -110,18 +135,19 @@ fn stepped(
 fn round_from(
     left: &[u32; 2048],
     right: &[u32; 2048],
+    rights: &[u32; 64],
     picks: &[usize; 32],
     x: &[u32; 32],
     width: usize,
     rows: usize,
 ) -> [u32; 32]
-    requires { ⌜ Tables (now left) (now right) width rows × (length (now picks) ≡ 32) × Lows width (now x) ⌝ }
+    requires { ⌜ Tables (now left) (now right) width rows × (length (now picks) ≡ 32) × Lows width (now x) × EndsOf (now right) rows (now rights) ⌝ }
     ensures { λ r. ⌜ Stepped (systemOf (now (left .entry)) (now (right .entry)) width rows) (pickOf (now (picks .entry))) (pointOf (highs (now (x .entry)))) (highs r) ⌝ }
 {
     let mut out = [0u32; 32];
     let mut j = 0;
     while j < width {
-        out[j] = stepped(left, right, picks[j], j, x, width, rows);
+        out[j] = stepped(left, right, rights, picks[j], j, x, width, rows);
         j += 1;
     }
     out
@@ -168,17 +194,18 @@ fn same(x: &[u32; 32], y: &[u32; 32], width: usize) -> bool
 pub fn evaluate(
     left: &[u32; 2048],
     right: &[u32; 2048],
+    rights: &[u32; 64],
     picks: &[usize; 32],
     width: usize,
     rows: usize,
 ) -> [u32; 32]
-    requires { ⌜ Tables (now left) (now right) width rows × (length (now picks) ≡ 32) ⌝ }
+    requires { ⌜ Tables (now left) (now right) width rows × (length (now picks) ≡ 32) × EndsOf (now right) rows (now rights) ⌝ }
     ensures { λ r. ⌜ ValuesIs (systemOf (now (left .entry)) (now (right .entry)) width rows) (pickOf (now (picks .entry))) (highs r) ⌝ }
 {
     let mut x = exits(picks, width, rows);
     let mut i = 0;
     while i < width {
-        let y = round_from(left, right, picks, &x, width, rows);
+        let y = round_from(left, right, rights, picks, &x, width, rows);
         if same(&x, &y, width) {
             return x;
         }

@@ -11,10 +11,10 @@ use Rattle.trials.proofs.policy.trial.Statement.{statement}
 use Rattle.trials.proofs.policy.trial.Tie as tie
 
 abbrev Inv-loop : tie.InvT-loop
-Inv-loop left right width rows kept₀ kept = Policy (systemOf left right width rows) (pickOf kept) × (length kept ≡ 32)
+Inv-loop left right lefts rights width rows kept₀ kept = Policy (systemOf left right width rows) (pickOf kept) × (length kept ≡ 32)
 
 abbrev μ-loop : tie.MeasureT-loop
-μ-loop left right width rows kept₀ kept = height (systemOf left right width rows) raised-limit (pickOf kept)
+μ-loop left right lefts rights width rows kept₀ kept = height (systemOf left right width rows) raised-limit (pickOf kept)
 
 pub trial-spec : {M : Type 1} → statement M
 trial-spec =
@@ -23,7 +23,7 @@ trial-spec =
     Inv-loop
     μ-loop
     (λ c. (c .pre .1, search needs))
-    (λ c κs. (c .before .before .pre .0, c .before .loop .inv .1))
+    (λ c κs. (c .before .before .pre .0, c .before .loop .inv .1, c .before .before .pre .3))
     (λ c κs. highs-size (c .before .evaluate .result) 32 (c .before .evaluate .ensures .size-is))
     (λ c. search needs)
     (λ c.
@@ -35,7 +35,7 @@ trial-spec =
     (λ c κs.
     let start = c .before .before .before .before .before .before in
     let a = start .args in
-    (start .pre .0, values-lows (a .left .now) (a .right .now) (c .before .before .before .before .before .loop .kept) (c .before .before .before .evaluate .result) (a .width) (a .rows) (start .pre .0) (c .before .before .before .evaluate .ensures)))
+    (start .pre .0, values-lows (a .left .now) (a .right .now) (c .before .before .before .before .before .loop .kept) (c .before .before .before .evaluate .result) (a .width) (a .rows) (start .pre .0) (c .before .before .before .evaluate .ensures), start .pre .2, start .pre .3))
     (λ c.
     let a = c .before .before .before .before .before .before .before .before .before .args in
     let v = c .before .before .before .before .before .before .evaluate in

@@ -12,10 +12,10 @@ use Rattle.trials.proofs.values.round_from.Statement.{statement}
 use Rattle.trials.proofs.values.round_from.Tie as tie
 
 abbrev Inv-loop : tie.InvT-loop
-Inv-loop left right picks x width rows out₀ j₀ out j = (j ≤ width) × Filled (λ k v. tropOf (high v) ≡ steppedBy (systemOf left right width rows) (pickOf picks k) k (pointOf (highs x))) 32 j out
+Inv-loop left right rights picks x width rows out₀ j₀ out j = (j ≤ width) × Filled (λ k v. tropOf (high v) ≡ steppedBy (systemOf left right width rows) (pickOf picks k) k (pointOf (highs x))) 32 j out
 
 abbrev μ-loop : tie.MeasureT-loop
-μ-loop left right picks x width rows out₀ j₀ out j = width - j
+μ-loop left right rights picks x width rows out₀ j₀ out j = width - j
 
 pub round-from-spec : {M : Type 1} → statement M
 round-from-spec =

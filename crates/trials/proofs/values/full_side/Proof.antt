@@ -4,8 +4,8 @@ use native.Mathlib.Omega.{arith}
 use Rattle.trials.specs.Rounds.{uppermost, sums}
 use Rattle.trials.proofs.Fold.{uppermost-none, uppermost-more, sum-most, side-end}
 use borrow.Author.Needs.{needs}
-use Rattle.trials.proofs.values.side.Statement.{statement}
-use Rattle.trials.proofs.values.side.Tie as tie
+use Rattle.trials.proofs.values.full_side.Statement.{statement}
+use Rattle.trials.proofs.values.full_side.Tie as tie
 
 abbrev Inv-loop : tie.InvT-loop
 Inv-loop table row x width base best₀ l₀ best l = (l ≤ 32) × (best ≡ uppermost (sums table row x) l)
@@ -13,8 +13,8 @@ Inv-loop table row x width base best₀ l₀ best l = (l ≤ 32) × (best ≡ up
 abbrev μ-loop : tie.MeasureT-loop
 μ-loop table row x width base best₀ l₀ best l = 32 - l
 
-pub side-spec : {M : Type 1} → statement M
-side-spec =
+pub full-side-spec : {M : Type 1} → statement M
+full-side-spec =
     tie.close
     (tie.spec
     Inv-loop

@@ -1,0 +1,29 @@
+-- The ends of a row: two places such that the others are blank.
+use Prim.Native.Nat.{ℕ, _+_, _*_, _/_, _%_, _≤_, _<_}
+use mathlib.Core.Path.{_≡_}
+use mathlib.Core.Bool.{cond}
+use mathlib.Core.List.{List}
+use lib.Dec.{eqb}
+use lib.ListN.{length, getD}
+use Rattle.duality.specs.Height.{total}
+
+-- 1 for an entry, 0 for a blank.
+abbrev pub entry : ℕ → ℕ
+entry k = cond (eqb k 0) 0 1
+
+-- How many of the first n places of a row are not blank.
+abbrev pub entriesIn : List ℕ → ℕ → ℕ → ℕ
+entriesIn table row n = total (λ l. entry (getD table (row * 32 + l) 0)) n
+
+-- Two places as one number, first * 32 + last; this one stands for none.
+abbrev pub wide : ℕ
+wide = 1024
+
+-- Every place of the row but these two is blank.
+pub record RowEnds (table : List ℕ) (row ends : ℕ) : Type 0 where
+  pub others : ends < wide → (l : ℕ) → l < 32 → (l ≡ ends / 32 → ⊥) → (l ≡ ends % 32 → ⊥) → getD table (row * 32 + l) 0 ≡ 0
+
+-- The ends of the first rows of a table.
+pub record EndsOf (table : List ℕ) (rows : ℕ) (ends : List ℕ) : Type 0 where
+  pub size : length ends ≡ 64
+  pub each : (i : ℕ) → i < rows → RowEnds table i (getD ends i 0)
