@@ -1,6 +1,7 @@
 pub mod Agree
 pub mod Trials
 pub mod Heights
+pub mod Ending
 pub mod Descents
 pub mod Halves
 pub mod Marks

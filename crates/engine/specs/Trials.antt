@@ -16,6 +16,7 @@ use Rattle.duality.specs.System.{systemAt}
 use Rattle.duality.specs.Values.{Policy}
 use Rattle.records.specs.Decoded.{Near}
 use Rattle.trials.specs.Tables.{entryOf, pointOf, pickOf, Tables, Ranged}
+use Rattle.trials.specs.Ends.{RowEnds, EndsOf}
 use Rattle.trials.specs.Steps.{Tried}
 
 -- The whole number that an offset number above 0 stands for.
@@ -67,6 +68,13 @@ pub record Ready (n m : ℕ) (left right objective : List ℕ) : Type 0 where
   pub tables : Tables left right (n + 1) (m + 1)
   pub objective-size : length objective ≡ 32
   pub objective-near : (k : ℕ) → Near lead-limit (getD objective k 0)
+
+-- The ends of the rows of both tables; those of the objective's row are told by its array.
+pub record Ended (m : ℕ) (left right objective lefts rights : List ℕ) : Type 0 where
+  pub left-ends : EndsOf left (m + 1) lefts
+  pub right-size : length rights ≡ 64
+  pub right-ends : (i : ℕ) → i < m → RowEnds right i (getD rights i 0)
+  pub objective-ends : RowEnds objective 0 (getD rights m 0)
 
 -- The tables hold the system of the problem at t.
 pub record At (p : Problem) (t : ℤ) (left right : List ℕ) : Type 0 where

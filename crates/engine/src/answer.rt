@@ -3,7 +3,7 @@ ghost use mathlib.Core.Path.{_≡_};
 ghost use Prim.Native.Nat.{_+_, _*_, _<_, _≤_};
 ghost use lib.ListN.{length, getD};
 ghost use Rattle.trials.specs.Tables.{Ranged};
-ghost use Rattle.engine.specs.Trials.{zero-offset, top-offset, lowest-offset, Ready, TriedAt};
+ghost use Rattle.engine.specs.Trials.{zero-offset, top-offset, lowest-offset, Ready, Ended, TriedAt};
 ghost use Rattle.engine.specs.Halving.{Searching};
 ghost use Rattle.engine.specs.Answered.{Coefficients, Copied, Stamps, Settled, Answered};
 use crate::bracket::Bracket;
@@ -19,6 +19,7 @@ use crate::picks::induced;
 use crate::picks::row_picks;
 use crate::picks::variable_picks;
 use records::limits::OFFSET;
+use trials::ends::ends_of;
 use trials::policy::Outcome;
 use trials::values::gap;
 
@@ -116,16 +117,18 @@ fn unbounded(
 fn optimal(
     left: &[u32; 2048],
     right: &mut [u32; 2048],
+    lefts: &[u32; 64],
+    rights: &[u32; 64],
     objective: &[u32; 32],
     n: usize,
     m: usize,
     search: Search,
 ) -> Answer
-    requires { ⌜ Ready n m (now left) (now right) (now objective) × Searching n m (now left) (now right) (now objective) search ⌝ }
+    requires { ⌜ Ready n m (now left) (now right) (now objective) × Searching n m (now left) (now right) (now objective) search × Ended m (now left) (now right) (now objective) (now lefts) (now rights) ⌝ }
     ensures { λ r. ⌜ Settled n m (now (left .entry)) (now (right .entry)) (now (objective .entry)) (r .class) (r .span) (r .trials) (r .stamps) (r .picks) ⌝ }
 {
-    let near = closer(left, right, objective, n, m, search);
-    let least = halve(left, right, objective, n, m, near);
+    let near = closer(left, right, lefts, rights, objective, n, m, search);
+    let least = halve(left, right, lefts, rights, objective, n, m, near);
     raise(right, objective, m, OFFSET);
     let point = least.point;
     let blocking = least.blocking;
@@ -148,13 +151,15 @@ pub fn solve_tables(left: &[u32; 2048], right: &mut [u32; 2048], n: usize, m: us
 {
     let objective = objective_of(right, m);
     let rows = m + 1;
+    let lefts = ends_of(left, rows);
+    let rights = ends_of(right, rows);
     let empty = [rows; 32];
-    let top = attempt(left, right, &objective, n, m, TOP, empty);
+    let top = attempt(left, right, &lefts, &rights, &objective, n, m, TOP, empty);
     let first = top.values;
     if first[0] == 0 {
         return infeasible(left, right, &objective, n, m, top);
     }
-    let found = descend(left, right, &objective, n, m, top);
+    let found = descend(left, right, &lefts, &rights, &objective, n, m, top);
     let values = found.values;
     let picks = found.picks;
     if values[0] != 0 {
@@ -174,5 +179,5 @@ pub fn solve_tables(left: &[u32; 2048], right: &mut [u32; 2048], n: usize, m: us
         kept,
         blocking: picks,
     };
-    optimal(left, right, &objective, n, m, search)
+    optimal(left, right, &lefts, &rights, &objective, n, m, search)
 }

@@ -1,8 +1,9 @@
 // Trials from the top down, at guesses, until one is not possible or the lowest is.
-ghost use Prim.Native.Nat.{_<_, _≤_};
+ghost use Prim.Native.Nat.{_+_, _<_, _≤_};
 ghost use lib.ListN.{getD};
 ghost use Rattle.trials.specs.Tables.{Ranged};
-ghost use Rattle.engine.specs.Trials.{top-offset, lowest-offset, Ready, Steady, TriedAt};
+ghost use Rattle.trials.specs.Ends.{EndsOf};
+ghost use Rattle.engine.specs.Trials.{top-offset, lowest-offset, Ready, Ended, Steady, TriedAt};
 ghost use Rattle.engine.specs.Descent.{EndsAt, Descended};
 use crate::guess::guess;
 use crate::halving::attempt;
@@ -33,6 +34,7 @@ fn clamped(k: u64, reached: u64) -> u64
 fn next_trial(
     left: &[u32; 2048],
     right: &[u32; 2048],
+    lefts: &[u32; 64],
     objective: &[u32; 32],
     n: usize,
     m: usize,
@@ -40,13 +42,13 @@ fn next_trial(
     reached: u64,
     guesses: u64,
 ) -> u64
-    requires { ⌜ Ready n m (now left) (now right) (now objective) × Ranged (now point) × (lowest-offset < reached) ⌝ }
+    requires { ⌜ Ready n m (now left) (now right) (now objective) × Ranged (now point) × (lowest-offset < reached) × EndsOf (now left) (m + 1) (now lefts) ⌝ }
     ensures { λ r. ⌜ (lowest-offset ≤ r) × (r < reached) ⌝ }
 {
     if GUESSES <= guesses {
         return LOWEST;
     }
-    clamped(guess(left, right, objective, n, m, point), reached)
+    clamped(guess(left, right, lefts, objective, n, m, point), reached)
 }
 
 // A trial at t ends the descent: it is not possible, or the lowest.
@@ -74,12 +76,14 @@ pub struct Descent {
 pub fn descend(
     left: &[u32; 2048],
     right: &mut [u32; 2048],
+    lefts: &[u32; 64],
+    rights: &[u32; 64],
     objective: &[u32; 32],
     n: usize,
     m: usize,
     top: Outcome,
 ) -> Descent
-    requires { ⌜ Ready n m (now left) (now right) (now objective) × TriedAt n m (now left) (now right) (now objective) top-offset (top .values) (top .picks) × (0 < getD (top .values) 0 0) ⌝ }
+    requires { ⌜ Ready n m (now left) (now right) (now objective) × TriedAt n m (now left) (now right) (now objective) top-offset (top .values) (top .picks) × (0 < getD (top .values) 0 0) × Ended m (now left) (now right) (now objective) (now lefts) (now rights) ⌝ }
     ensures { λ r. ⌜ Descended n m (now (left .entry)) (now (right .exit)) (now (objective .entry)) r × Ready n m (now (left .entry)) (now (right .exit)) (now (objective .entry)) × Steady m (now (right .entry)) (now (right .exit)) ⌝ }
 {
     let mut reached = TOP;
@@ -87,8 +91,18 @@ pub fn descend(
     let mut kept = top.picks;
     let mut guesses = 0;
     loop {
-        let t = next_trial(left, right, objective, n, m, &point, reached, guesses);
-        let tried = attempt(left, right, objective, n, m, t, kept);
+        let t = next_trial(
+            left,
+            right,
+            lefts,
+            objective,
+            n,
+            m,
+            &point,
+            reached,
+            guesses,
+        );
+        let tried = attempt(left, right, lefts, rights, objective, n, m, t, kept);
         let values = tried.values;
         let picks = tried.picks;
         if ends(values[0], t) {

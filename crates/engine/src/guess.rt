@@ -5,6 +5,7 @@ ghost use mathlib.Core.Path.{_≡_};
 ghost use Prim.Native.Nat.{_+_, _<_, _≤_};
 ghost use lib.ListN.{length};
 ghost use Rattle.records.specs.Decoded.{Near};
+ghost use Rattle.trials.specs.Ends.{EndsOf};
 ghost use Rattle.trials.specs.Tables.{raised-limit, value-limit, side-most, side-least, high, Ranged, Lows, Tables};
 ghost use Rattle.engine.specs.Trials.{Ready};
 use crate::picks::induced;
@@ -47,12 +48,13 @@ pub struct Round {
 fn lift(
     left: &[u32; 2048],
     right: &[u32; 2048],
+    lefts: &[u32; 64],
     targets: &[usize; 64],
     before: [u32; 32],
     width: usize,
     rules: usize,
 ) -> Round
-    requires { ⌜ Tables (now left) (now right) width (rules + 1) × (length (now targets) ≡ 64) × Lows width before ⌝ }
+    requires { ⌜ Tables (now left) (now right) width (rules + 1) × (length (now targets) ≡ 64) × Lows width before × EndsOf (now left) (rules + 1) (now lefts) ⌝ }
     ensures { λ r. ⌜ Lows width (r .heights) ⌝ }
 {
     let mut heights = before;
@@ -61,7 +63,7 @@ fn lift(
     while i < rules {
         let l = targets[i];
         if l < width {
-            let height = asked(side(left, i, &heights, width), right[i * 32 + l]);
+            let height = asked(side(left, lefts[i], i, &heights, width), right[i * 32 + l]);
             if heights[l] < height {
                 heights[l] = height;
                 moved = true;
@@ -76,19 +78,20 @@ fn lift(
 fn lifted(
     left: &[u32; 2048],
     right: &[u32; 2048],
+    lefts: &[u32; 64],
     targets: &[usize; 64],
     start: usize,
     width: usize,
     rules: usize,
 ) -> [u32; 32]
-    requires { ⌜ Tables (now left) (now right) width (rules + 1) × (length (now targets) ≡ 64) × (start < width) ⌝ }
+    requires { ⌜ Tables (now left) (now right) width (rules + 1) × (length (now targets) ≡ 64) × (start < width) × EndsOf (now left) (rules + 1) (now lefts) ⌝ }
     ensures { λ r. ⌜ Lows width r ⌝ }
 {
     let mut heights = [0u32; 32];
     heights[start] = LOW;
     let mut rounds: usize = 0;
     while rounds < 32 {
-        let round = lift(left, right, targets, heights, width, rules);
+        let round = lift(left, right, lefts, targets, heights, width, rules);
         let next = round.heights;
         if !round.moved {
             return next;
@@ -103,20 +106,21 @@ fn lifted(
 pub fn guess(
     left: &[u32; 2048],
     right: &[u32; 2048],
+    lefts: &[u32; 64],
     objective: &[u32; 32],
     n: usize,
     m: usize,
     point: &[u64; 32],
 ) -> u64
-    requires { ⌜ Ready n m (now left) (now right) (now objective) × Ranged (now point) ⌝ }
+    requires { ⌜ Ready n m (now left) (now right) (now objective) × Ranged (now point) × EndsOf (now left) (m + 1) (now lefts) ⌝ }
 {
     let targets = induced(right, point, n + 1, m + 1);
     let target = targets[m];
     if n < target {
         return 0;
     }
-    let heights = lifted(left, right, &targets, target, n + 1, m);
-    let first = side(left, m, &heights, n + 1);
+    let heights = lifted(left, right, lefts, &targets, target, n + 1, m);
+    let first = side(left, lefts[m], m, &heights, n + 1);
     if first == 0 {
         return 0;
     }

@@ -5,7 +5,7 @@ ghost use Prim.Native.Nat.{ℕ, _+_, _*_, _<_, _≤_};
 ghost use lib.ListN.{length, getD};
 ghost use Rattle.definitions.specs.Limits.{lead-limit};
 ghost use Rattle.records.specs.Decoded.{Near};
-ghost use Rattle.engine.specs.Trials.{Trialled, shifted, Raised, Steady, Ready, KeptAt, TriedAt};
+ghost use Rattle.engine.specs.Trials.{Trialled, shifted, Raised, Steady, Ready, Ended, KeptAt, TriedAt};
 ghost use Rattle.engine.specs.Halving.{Searching, Wide, MiddleCounted, remaining, LeastFound};
 use crate::bracket::Bracket;
 use records::limits::OFFSET;
@@ -40,17 +40,19 @@ pub fn raise(right: &mut [u32; 2048], objective: &[u32; 32], row: usize, t: u64)
 pub fn attempt(
     left: &[u32; 2048],
     right: &mut [u32; 2048],
+    lefts: &[u32; 64],
+    rights: &[u32; 64],
     objective: &[u32; 32],
     n: usize,
     m: usize,
     t: u64,
     picks: [usize; 32],
 ) -> Outcome
-    requires { ⌜ Ready n m (now left) (now right) (now objective) × Trialled t × KeptAt n m (now left) (now right) (now objective) t picks ⌝ }
+    requires { ⌜ Ready n m (now left) (now right) (now objective) × Trialled t × KeptAt n m (now left) (now right) (now objective) t picks × Ended m (now left) (now right) (now objective) (now lefts) (now rights) ⌝ }
     ensures { λ r. ⌜ TriedAt n m (now (left .entry)) (now (right .exit)) (now (objective .entry)) t (r .values) (r .picks) × Steady m (now (right .entry)) (now (right .exit)) × Ready n m (now (left .entry)) (now (right .exit)) (now (objective .entry)) ⌝ }
 {
     raise(right, objective, m, t);
-    trial(left, right, picks, n + 1, m + 1)
+    trial(left, right, lefts, rights, picks, n + 1, m + 1)
 }
 
 // The state of a search: the bracket and the trials counted; `reached` is possible, with this point and the strategy that
@@ -83,18 +85,20 @@ impl Search {
 fn try_at(
     left: &[u32; 2048],
     right: &mut [u32; 2048],
+    lefts: &[u32; 64],
+    rights: &[u32; 64],
     objective: &[u32; 32],
     n: usize,
     m: usize,
     search: Search,
     t: u64,
 ) -> Search
-    requires { ⌜ Ready n m (now left) (now right) (now objective) × Searching n m (now left) (now right) (now objective) search × (search .blocked < t) × (t < search .reached) ⌝ }
+    requires { ⌜ Ready n m (now left) (now right) (now objective) × Searching n m (now left) (now right) (now objective) search × (search .blocked < t) × (t < search .reached) × Ended m (now left) (now right) (now objective) (now lefts) (now rights) ⌝ }
     ensures { λ r. ⌜ Searching n m (now (left .entry)) (now (right .exit)) (now (objective .entry)) r × (remaining r < remaining search) × Ready n m (now (left .entry)) (now (right .exit)) (now (objective .entry)) × Steady m (now (right .entry)) (now (right .exit)) ⌝ }
 {
     let mut next = search;
     let kept = search.kept;
-    let tried = attempt(left, right, objective, n, m, t, kept);
+    let tried = attempt(left, right, lefts, rights, objective, n, m, t, kept);
     let values = tried.values;
     let picks = tried.picks;
     if values[0] == 0 {
@@ -112,17 +116,19 @@ fn try_at(
 pub fn closer(
     left: &[u32; 2048],
     right: &mut [u32; 2048],
+    lefts: &[u32; 64],
+    rights: &[u32; 64],
     objective: &[u32; 32],
     n: usize,
     m: usize,
     search: Search,
 ) -> Search
-    requires { ⌜ Ready n m (now left) (now right) (now objective) × Searching n m (now left) (now right) (now objective) search ⌝ }
+    requires { ⌜ Ready n m (now left) (now right) (now objective) × Searching n m (now left) (now right) (now objective) search × Ended m (now left) (now right) (now objective) (now lefts) (now rights) ⌝ }
     ensures { λ r. ⌜ Searching n m (now (left .entry)) (now (right .exit)) (now (objective .entry)) r × Ready n m (now (left .entry)) (now (right .exit)) (now (objective .entry)) × Steady m (now (right .entry)) (now (right .exit)) ⌝ }
 {
     let t = search.blocked + 1;
     if t < search.reached {
-        return try_at(left, right, objective, n, m, search, t);
+        return try_at(left, right, lefts, rights, objective, n, m, search, t);
     }
     search
 }
@@ -131,12 +137,14 @@ pub fn closer(
 fn step(
     left: &[u32; 2048],
     right: &mut [u32; 2048],
+    lefts: &[u32; 64],
+    rights: &[u32; 64],
     objective: &[u32; 32],
     n: usize,
     m: usize,
     search: Search,
 ) -> Search
-    requires { ⌜ Ready n m (now left) (now right) (now objective) × Searching n m (now left) (now right) (now objective) search × Wide search ⌝ }
+    requires { ⌜ Ready n m (now left) (now right) (now objective) × Searching n m (now left) (now right) (now objective) search × Wide search × Ended m (now left) (now right) (now objective) (now lefts) (now rights) ⌝ }
     ensures { λ r. ⌜ Searching n m (now (left .entry)) (now (right .exit)) (now (objective .entry)) r × (remaining r < remaining search) × Ready n m (now (left .entry)) (now (right .exit)) (now (objective .entry)) × Steady m (now (right .entry)) (now (right .exit)) ⌝ }
 {
     let bracket = search.bracket;
@@ -147,7 +155,7 @@ fn step(
     if half <= search.blocked {
         return search.halved(false);
     }
-    try_at(left, right, objective, n, m, search, half)
+    try_at(left, right, lefts, rights, objective, n, m, search, half)
 }
 
 // The least span with the trials made, its point, and a strategy that blocks one below it.
@@ -162,12 +170,14 @@ pub struct Least {
 pub fn halve(
     left: &[u32; 2048],
     right: &mut [u32; 2048],
+    lefts: &[u32; 64],
+    rights: &[u32; 64],
     objective: &[u32; 32],
     n: usize,
     m: usize,
     start: Search,
 ) -> Least
-    requires { ⌜ Ready n m (now left) (now right) (now objective) × Searching n m (now left) (now right) (now objective) start ⌝ }
+    requires { ⌜ Ready n m (now left) (now right) (now objective) × Searching n m (now left) (now right) (now objective) start × Ended m (now left) (now right) (now objective) (now lefts) (now rights) ⌝ }
     ensures { λ r. ⌜ LeastFound n m (now (left .entry)) (now (right .exit)) (now (objective .entry)) (r .span) (r .trials) (r .point) (r .blocking) × Steady m (now (right .entry)) (now (right .exit)) × Ready n m (now (left .entry)) (now (right .exit)) (now (objective .entry)) ⌝ }
 {
     let mut search = start;
@@ -183,6 +193,6 @@ pub fn halve(
                 blocking,
             };
         }
-        search = step(left, right, objective, n, m, search);
+        search = step(left, right, lefts, rights, objective, n, m, search);
     }
 }

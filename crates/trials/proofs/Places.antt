@@ -97,8 +97,11 @@ module _ (table : List ℕ) (row count first last : ℕ) (c : count ≡ entriesI
   -- Two entries.
   pub ends-two : count ≤ 2 → (first ≡ last → ⊥) → RowEnds table row (first * 32 + last)
   ends-two o n = record {
-    others = λ w l b d e. blank-or-entry _ (λ u. omega (arith, three-places f 32 first last l h k b (λ z. n (sym z)) (λ z. d (z ∙ sym (place-first first last k)))
-        (λ z. e (z ∙ sym (place-last first last k))) (entry-some _ p) (entry-some _ q) u));
+    others = λ w l b d e. blank-or-entry _ (λ u. omega (
+      arith,
+      three-places f 32 first last l h k b (λ z. n (sym z)) (λ z. d (z ∙ sym (place-first first last k)))
+          (λ z. e (z ∙ sym (place-last first last k))) (entry-some _ p) (entry-some _ q) u,
+    ));
   }
 
 -- The ends of all rows.

@@ -89,7 +89,13 @@ fn row_ends(table: &[u32; 2048], row: usize) -> u32
     if 31 < after {
         return WIDE;
     }
-    tested(table, row, found.count, before as usize, (31 - after) as usize)
+    tested(
+        table,
+        row,
+        found.count,
+        before as usize,
+        (31 - after) as usize,
+    )
 }
 
 // The ends of the next row, or none after many wide rows.

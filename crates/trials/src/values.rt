@@ -125,7 +125,10 @@ fn stepped(
     ensures { λ r. ⌜ tropOf (high r) ≡ steppedBy (systemOf (now (left .entry)) (now (right .entry)) width rows) pick j (pointOf (highs (now (x .entry)))) ⌝ }
 {
     if pick < rows {
-        given(side(right, rights[pick], pick, x, width), left[pick * 32 + j])
+        given(
+            side(right, rights[pick], pick, x, width),
+            left[pick * 32 + j],
+        )
     } else {
         LOW
     }

@@ -1,6 +1,7 @@
 use native.Mathlib.Omega.{arith}
 use Rattle.engine.proofs.Trials.{steady-trans}
 use Rattle.engine.proofs.Final.{optimal-settled, settled-steady}
+use Rattle.engine.proofs.Ending.{ended-steady}
 use borrow.Author.Needs.{needs}
 use Rattle.engine.proofs.answer.optimal.Statement.{statement}
 use Rattle.engine.proofs.answer.optimal.Tie as tie
@@ -10,7 +11,8 @@ optimal-spec =
     tie.close
     (tie.spec
     (λ c κs. search needs)
-    (λ c κs. search needs)
+    (λ c κs. let start = c .before .before .before in let a = start .args in let e = c .before .closer .ensures in
+    (e .1, e .0, ended-steady (a .m) (a .left .now) (a .right .now) (c .before .closer .last .1 .0) (a .objective .now) (a .lefts .now) (a .rights .now) (start .pre .2) (e .2)))
     (λ c κs. let y = c .before .halve .ensures .2 in (y .tables .rights .size, y .objective-size, search needs, record { lowest = omega arith; highest = omega arith }, y .objective-near))
     (λ c. search needs)
     (λ c. search needs)

@@ -4,15 +4,16 @@ use Rattle.engine.specs.Trials.{top-offset, lowest-offset, Ready, Steady
 use Rattle.engine.specs.Descent.{PossibleAt}
 use Rattle.engine.proofs.Trials.{steady-refl, steady-trans}
 use Rattle.engine.proofs.Descents.{below-trialled, possible-below, possible-steady}
+use Rattle.engine.proofs.Ending.{ended-steady}
 use borrow.Author.Needs.{needs}
 use Rattle.engine.proofs.descent.descend.Statement.{statement}
 use Rattle.engine.proofs.descent.descend.Tie as tie
 
 abbrev Inv-loop : tie.InvT-loop
-Inv-loop left right₀ objective n m reached₀ point₀ kept₀ guesses₀ right reached point kept guesses = Ready n m left right objective × Steady m right₀ right × PossibleAt n m left right objective reached point kept × (guesses + reached ≤ top-offset)
+Inv-loop left right₀ lefts rights objective n m reached₀ point₀ kept₀ guesses₀ right reached point kept guesses = Ready n m left right objective × Steady m right₀ right × PossibleAt n m left right objective reached point kept × (guesses + reached ≤ top-offset)
 
 abbrev μ-loop : tie.MeasureT-loop
-μ-loop left right₀ objective n m reached₀ point₀ kept₀ guesses₀ right reached point kept guesses = reached - lowest-offset
+μ-loop left right₀ lefts rights objective n m reached₀ point₀ kept₀ guesses₀ right reached point kept guesses = reached - lowest-offset
 
 pub descend-spec : {M : Type 1} → statement M
 descend-spec =
@@ -21,8 +22,9 @@ descend-spec =
     Inv-loop
     μ-loop
     (λ c. let p = c .before .before .pre in (p .0, steady-refl, record { low = omega arith; high = omega arith; possible = p .1; finite = p .2 }, omega arith))
-    (λ c κs. let v = c .before .before .loop .inv in (v .0, v .2 .possible .ranged, v .2 .low))
-    (λ c κs. let v = c .before .before .before .before .loop .inv in let e = c .before .next-trial .ensures in let b = below-trialled _ (v .2) (e .0) (e .1) in (v .0, b .0, b .1))
+    (λ c κs. let v = c .before .before .loop .inv in (v .0, v .2 .possible .ranged, v .2 .low, c .before .before .before .before .before .pre .3 .left-ends))
+    (λ c κs. let v = c .before .before .before .before .loop .inv in let e = c .before .next-trial .ensures in let b = below-trialled _ (v .2) (e .0) (e .1) in let start = c .before .before .before .before .before .before .before in let a = start .args in
+    (v .0, b .0, b .1, ended-steady (a .m) (a .left .now) (a .right .now) (c .before .before .before .before .loop .right) (a .objective .now) (a .lefts .now) (a .rights .now) (start .pre .3) (v .1)))
     (λ c. search needs)
     (λ c κs. search needs)
     (λ c. let v = c .before .before .before .before .before .before .before .before .before .loop .inv in let e = c .before .before .before .before .before .before .next-trial .ensures in let f = c .before .before .before .before .attempt .ensures in

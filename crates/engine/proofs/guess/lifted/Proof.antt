@@ -7,10 +7,10 @@ use Rattle.engine.proofs.guess.lifted.Statement.{statement}
 use Rattle.engine.proofs.guess.lifted.Tie as tie
 
 abbrev Inv-loop : tie.InvT-loop
-Inv-loop left right targets start width rules heights₀ rounds₀ heights rounds = (rounds ≤ 32) × Lows width heights
+Inv-loop left right lefts targets start width rules heights₀ rounds₀ heights rounds = (rounds ≤ 32) × Lows width heights
 
 abbrev μ-loop : tie.MeasureT-loop
-μ-loop left right targets start width rules heights₀ rounds₀ heights rounds = 32 - rounds
+μ-loop left right lefts targets start width rules heights₀ rounds₀ heights rounds = 32 - rounds
 
 pub lifted-spec : {M : Type 1} → statement M
 lifted-spec =
