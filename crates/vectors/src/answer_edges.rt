@@ -18,19 +18,19 @@ use answers::answer::AnswerHead;
 use answers::answer::read_answer;
 
 // Where stamp 1 stands in an answer of class 1.
-const STAMP_1: usize = 18;
+const STAMP_1: u64 = 18;
 
 // Where the first and the last pick of two stand in an answer of class 1 for n 1.
-const FIRST_PICK: usize = 22;
+const FIRST_PICK: u64 = 22;
 
-const LAST_PICK: usize = 24;
+const LAST_PICK: u64 = 24;
 
 // The last stamp and the last pick in an answer of class 1 for n 31, and the last pick of class 2 for m 63.
-const STAMP_31: usize = 138;
+const STAMP_31: u64 = 138;
 
-const PICK_31: usize = 204;
+const PICK_31: u64 = 204;
 
-const PICK_63: usize = 140;
+const PICK_63: u64 = 140;
 
 fn show_refused(number: usize, stamps: &[u64; 32], picks: &[u64; 64]) {
     print::counted(b"refused ", number as u64);
@@ -81,7 +81,7 @@ fn show_lists(class: u64, n: usize, m: usize, stamps: &[u64; 32], picks: &[u64; 
 
 // Reads the bytes for a problem's n and m and prints what came of it.
 fn show_bytes(words: &[u8], bytes: &[u8], n: usize, m: usize) {
-    print::edge(b"answer", words);
+    print::edge(b"answer", words, 0);
     let mut stamps = noise::stamps();
     let mut picks = noise::picks();
     let head = read_answer(bytes, n, m, &mut stamps, &mut picks);

@@ -4,22 +4,27 @@
 pub const ROOM: usize = 16906;
 
 // Places of fields. m stands where an answer has its class.
-pub const LENGTH: usize = 0;
+pub const LENGTH: u64 = 0;
 
-pub const KIND: usize = 4;
+pub const KIND: u64 = 4;
 
-pub const N: usize = 6;
+pub const N: u64 = 6;
 
-pub const M: usize = 8;
+pub const M: u64 = 8;
 
-pub const CLASS: usize = 8;
+pub const CLASS: u64 = 8;
 
-pub const SPAN: usize = 10;
+pub const SPAN: u64 = 10;
 
 // Where the leads of a problem, and the stamps or picks of an answer start.
-pub const LEADS: usize = 10;
+pub const LEADS: u64 = 10;
 
-pub const BODY: usize = 14;
+pub const BODY: u64 = 14;
+
+// Widths of fields in a table of cases.
+pub const SHORT: u64 = 2;
+
+pub const WORD: u64 = 4;
 
 // How many leads the largest problem has.
 const LEADS_MOST: usize = 4096;
@@ -28,6 +33,11 @@ const LEADS_MOST: usize = 4096;
 pub const BLANK: u64 = 2147483648;
 
 const FULL: u64 = 4294967296;
+
+// The 4-byte fields of −10080, the least lead, and of the number below it.
+pub const MINUS_10080: u64 = FULL - 10080;
+
+pub const MINUS_10081: u64 = FULL - 10081;
 
 // Bytes, how many of them the record has, and the place after the lists that were put into it.
 pub struct Record {
@@ -94,7 +104,7 @@ fn put_fields(bytes: &mut [u8; ROOM], from: usize, width: usize, list: &[u64]) -
 // Blanks from the first lead on, as many as any problem has; those after the record's size are no part of it.
 fn put_blanks(bytes: &mut [u8; ROOM]) {
     for i in 0..LEADS_MOST {
-        put_word(bytes, LEADS + 4 * i, BLANK);
+        put_word(bytes, LEADS as usize + 4 * i, BLANK);
     }
 }
 
@@ -102,7 +112,7 @@ fn put_blanks(bytes: &mut [u8; ROOM]) {
 // to the anchor.
 fn put_ring(bytes: &mut [u8; ROOM], left: u64, right: u64) {
     for i in 0..32 {
-        let row = LEADS + 256 * i;
+        let row = LEADS as usize + 256 * i;
         put_word(bytes, row + 4 * i, left);
         put_word(bytes, row + 128 + 4 * ((i + 1) % 32), right);
     }
@@ -110,15 +120,24 @@ fn put_ring(bytes: &mut [u8; ROOM], left: u64, right: u64) {
 
 impl Record {
     // The record with a field of 2 bytes at a place.
-    pub fn short(mut self, at: usize, x: u64) -> Record {
-        put_short(&mut self.bytes, at, x);
+    pub fn short(mut self, at: u64, x: u64) -> Record {
+        put_short(&mut self.bytes, at as usize, x);
         self
     }
 
     // The record with a field of 4 bytes at a place.
-    pub fn word(mut self, at: usize, x: u64) -> Record {
-        put_word(&mut self.bytes, at, x);
+    pub fn word(mut self, at: u64, x: u64) -> Record {
+        put_word(&mut self.bytes, at as usize, x);
         self
+    }
+
+    // The record with a field of 2 or of 4 bytes at a place; in another width there is none.
+    pub fn field(self, at: u64, width: u64, x: u64) -> Record {
+        match width {
+            SHORT => self.short(at, x),
+            WORD => self.word(at, x),
+            _ => self,
+        }
     }
 
     // The record with these leads or stamps after what was put before.
@@ -137,11 +156,11 @@ impl Record {
 }
 
 // A record of this size with the right length field and a kind.
-fn framed(size: usize, kind: u64, at: usize) -> Record {
+fn framed(size: usize, kind: u64, at: u64) -> Record {
     let r = Record {
         bytes: zeros(),
         size: size,
-        at: at,
+        at: at as usize,
     };
     let length = if size < 4 { 0 } else { size as u64 - 4 };
     r.word(LENGTH, length).short(KIND, kind)

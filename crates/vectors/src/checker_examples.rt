@@ -29,7 +29,7 @@ fn judged(problem: &[u8; ROOM], size: usize, answer: &[u8; ROOM], answer_size: u
 fn example(words: &[u8], problem: Record, answer: Record) {
     let p = problem.bytes;
     let a = answer.bytes;
-    print::edge(b"checker", words);
+    print::edge(b"checker", words, 0);
     judged(&p, problem.size, &a, answer.size);
     print::end();
 }

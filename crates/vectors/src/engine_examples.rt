@@ -24,7 +24,7 @@ use crate::examples::paper_2;
 use crate::examples::paper_3;
 
 // The place of the question's first lead in the largest problem.
-const QUESTION: usize = 16138;
+const QUESTION: u64 = 16138;
 
 fn letters() {
     show(b"A", a());

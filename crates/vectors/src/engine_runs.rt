@@ -42,7 +42,7 @@ fn found(class: u64, span: u64, trials: u64) {
 pub fn show_in(words: &[u8], problem: Record, room: usize) {
     let bytes = problem.bytes;
     let mut buffer = noise::buffer();
-    print::edge(b"engine", words);
+    print::edge(b"engine", words, 0);
     let solved = solve_whole(&bytes, problem.size, &mut buffer, room);
     match solved {
         Solved::Answered(class, span, trials, size) => {

@@ -16,11 +16,36 @@ pub fn end() {
     text(b"\n");
 }
 
-// The start of a line: what is run, and the edge.
-pub fn edge(entry: &[u8], words: &[u8]) {
+// A byte of a line, shown once no line before it is left to pass over.
+fn byte(x: u8, left: usize) {
+    if left == 0 {
+        text(&[x]);
+    }
+}
+
+// One of the lines of a text; line 0 is the first.
+fn line(lines: &[u8], k: usize) {
+    let mut left = k;
+    let mut i = 0;
+    while i < lines.len() {
+        let x = lines[i];
+        if x == b'\n' {
+            if left == 0 {
+                return;
+            }
+            left -= 1;
+        } else {
+            byte(x, left);
+        }
+        i += 1;
+    }
+}
+
+// The start of a line: what is run, and the edge, which is one of the lines.
+pub fn edge(entry: &[u8], lines: &[u8], k: usize) {
     text(entry);
     text(b", ");
-    text(words);
+    line(lines, k);
     text(b": ");
 }
 

@@ -113,7 +113,7 @@ fn written(words: &[u8], f: Fields) {
     let stamps = f.stamps;
     let picks = f.picks;
     let mut buffer = noise::buffer();
-    print::edge(b"written and read", words);
+    print::edge(b"written and read", words, 0);
     verdict(back_whole(f, &stamps, &picks, &mut buffer));
 }
 
@@ -156,7 +156,7 @@ fn again_whole(bytes: &[u8; ROOM], size: usize, n: usize, m: usize) -> bool {
 // Reads the bytes, writes the answer, and compares.
 fn read(words: &[u8], r: Record, n: usize, m: usize) {
     let bytes = r.bytes;
-    print::edge(b"read and written", words);
+    print::edge(b"read and written", words, 0);
     verdict(again_whole(&bytes, r.size, n, m));
 }
 
@@ -244,7 +244,7 @@ fn shown(words: &[u8], f: Fields) {
     let stamps = f.stamps;
     let picks = f.picks;
     let mut buffer = noise::buffer();
-    print::edge(b"bytes", words);
+    print::edge(b"bytes", words, 0);
     let result = write(f, &stamps, &picks, &mut buffer);
     match result {
         Written::Record(size) => show_bytes(&buffer, size),

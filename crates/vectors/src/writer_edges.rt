@@ -120,7 +120,7 @@ fn show(words: &[u8], f: Fields) {
     let stamps = f.stamps;
     let picks = f.picks;
     let mut buffer = noise::buffer();
-    print::edge(b"writer", words);
+    print::edge(b"writer", words, 0);
     let written = write(f, &stamps, &picks, &mut buffer);
     match written {
         Written::Record(size) => noise::show_written(size, &buffer),
