@@ -1,6 +1,6 @@
 // The engine run on a record: what it answers, and what the checker says of the bytes that it wrote.
 use crate::build::ROOM;
-use crate::build::Record;
+use crate::build::record_of;
 use crate::cut::bytes_within;
 use crate::noise;
 use crate::noise::BUFFER;
@@ -39,23 +39,19 @@ fn found(class: u64, span: u64, trials: u64) {
 }
 
 // Runs the engine with so many bytes of room and prints what came of it.
-pub fn show_in(words: &[u8], problem: Record, room: usize) {
-    let bytes = problem.bytes;
+pub fn run(line: &[u8]) {
+    let r = record_of(line);
+    let bytes = r.bytes;
     let mut buffer = noise::buffer();
-    print::edge(b"engine", words, 0);
-    let solved = solve_whole(&bytes, problem.size, &mut buffer, room);
+    print::edge(b"engine", line);
+    let solved = solve_whole(&bytes, r.size, &mut buffer, r.room);
     match solved {
         Solved::Answered(class, span, trials, size) => {
             found(class, span, trials);
             noise::show_written(size, &buffer);
-            judged(&bytes, problem.size, &buffer, size);
+            judged(&bytes, r.size, &buffer, size);
         }
         Solved::Refused(k) => noise::show_refused(k, &buffer),
     }
     print::end();
-}
-
-// The same with room to spare.
-pub fn show(words: &[u8], problem: Record) {
-    show_in(words, problem, BUFFER);
 }

@@ -1,4 +1,5 @@
 // What the lines are made of.
+use crate::script::words_of;
 use libc::STDOUT_FILENO;
 
 // The offset number of 0.
@@ -16,36 +17,17 @@ pub fn end() {
     text(b"\n");
 }
 
-// A byte of a line, shown once no line before it is left to pass over.
-fn byte(x: u8, left: usize) {
-    if left == 0 {
-        text(&[x]);
-    }
+// The words of a case.
+fn words(line: &[u8]) {
+    let at = words_of(line);
+    text(&line[at..]);
 }
 
-// One of the lines of a text; line 0 is the first.
-fn line(lines: &[u8], k: usize) {
-    let mut left = k;
-    let mut i = 0;
-    while i < lines.len() {
-        let x = lines[i];
-        if x == b'\n' {
-            if left == 0 {
-                return;
-            }
-            left -= 1;
-        } else {
-            byte(x, left);
-        }
-        i += 1;
-    }
-}
-
-// The start of a line: what is run, and the edge, which is one of the lines.
-pub fn edge(entry: &[u8], lines: &[u8], k: usize) {
+// The start of a line: what is run, and the words of its case.
+pub fn edge(entry: &[u8], line: &[u8]) {
     text(entry);
     text(b", ");
-    line(lines, k);
+    words(line);
     text(b": ");
 }
 

@@ -2,17 +2,17 @@ use lib.ListN.{length}
 use Prim.Native.Nat.{_≤_, _-_}
 use native.Mathlib.Omega.{arith}
 use borrow.Author.Needs.{needs}
-use Rattle.vectors.proofs.problem_edges.show_all.Statement.{statement}
-use Rattle.vectors.proofs.problem_edges.show_all.Tie as tie
+use Rattle.vectors.proofs.cases.line_end.Statement.{statement}
+use Rattle.vectors.proofs.cases.line_end.Tie as tie
 
 abbrev Inv-loop : tie.InvT-loop
-Inv-loop lines cases i₀ i = 0 ≤ i
+Inv-loop text from i₀ i = (from ≤ i) × (i ≤ length text)
 
 abbrev μ-loop : tie.MeasureT-loop
-μ-loop lines cases i₀ i = length cases - i
+μ-loop text from i₀ i = length text - i
 
-pub show-all-spec : {M : Type 1} → statement M
-show-all-spec =
+pub line-end-spec : {M : Type 1} → statement M
+line-end-spec =
     tie.close
     (tie.spec
     Inv-loop
@@ -20,7 +20,6 @@ show-all-spec =
     (λ c. search needs)
     (λ c. search needs)
     (λ c. search needs)
-    (λ c κs. search needs)
     (λ c. search needs)
     (λ c. search needs)
     (λ c. search needs)
