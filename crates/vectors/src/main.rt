@@ -1,6 +1,6 @@
 // Document 01's edges and examples, run through the libraries. The cases are the lines of standard input, and what came of
 // each is a line, held to the stored output.
-mod answer_edges;
+mod answer_runs;
 mod build;
 mod cases;
 mod checker_runs;
@@ -8,11 +8,11 @@ mod cut;
 mod engine_runs;
 mod noise;
 mod print;
-mod problem_edges;
+mod problem_runs;
 mod round_trips;
 mod script;
 mod verdicts;
-mod writer_edges;
+mod writer_runs;
 
 fn main() {
     cases::run();

@@ -1,15 +1,10 @@
 // The round trips: what is written reads back as itself, and what is read is written again to the same bytes.
-use crate::build::ROOM;
-use crate::build::record_of;
 use crate::cut::bytes_within;
-use crate::cut::numbers_within;
 use crate::noise;
 use crate::noise::BUFFER;
 use crate::print;
-use crate::writer_edges::Fields;
-use crate::writer_edges::LONGEST;
-use crate::writer_edges::fields_of;
-use crate::writer_edges::write;
+use crate::writer_runs::Fields;
+use crate::writer_runs::write;
 use answers::answer::AnswerHead;
 use answers::roundtrip::read_then_write;
 use answers::roundtrip::write_then_read;
@@ -86,30 +81,15 @@ fn back(f: Fields, stamps: &[u64], picks: &[u64], buffer: &mut [u8]) -> bool {
     same_lists(stamps, picks, &stamps_back, &picks_back)
 }
 
-// The lists cut to their sizes.
-fn back_cut(f: Fields, stamps: &[u64], picks: &[u64], buffer: &mut [u8]) -> bool {
-    let s = numbers_within(f.stamp_count, stamps);
-    let p = numbers_within(f.pick_count, picks);
-    back(f, &stamps[..s], &picks[..p], buffer)
-}
-
-fn back_whole(
-    f: Fields,
-    stamps: &[u64; LONGEST],
-    picks: &[u64; LONGEST],
-    buffer: &mut [u8; BUFFER],
-) -> bool {
-    back_cut(f, stamps, picks, buffer)
+fn back_whole(f: Fields, stamps: &[u64], picks: &[u64], buffer: &mut [u8; BUFFER]) -> bool {
+    back(f, stamps, picks, buffer)
 }
 
 // Writes the fields, reads the record, and compares.
-pub fn run_written(line: &[u8]) {
-    let f = fields_of(line);
-    let stamps = f.stamps;
-    let picks = f.picks;
+pub fn run_written(line: &[u8], f: Fields, stamps: &[u64], picks: &[u64]) {
     let mut buffer = noise::buffer();
     print::edge(b"written and read", line);
-    verdict(back_whole(f, &stamps, &picks, &mut buffer));
+    verdict(back_whole(f, stamps, picks, &mut buffer));
 }
 
 // The first `size` bytes of the buffer are the bytes, and the rest is noise.
@@ -139,21 +119,10 @@ fn again(bytes: &[u8], n: usize, m: usize) -> bool {
     }
 }
 
-fn again_cut(bytes: &[u8], size: usize, n: usize, m: usize) -> bool {
-    let k = bytes_within(size, bytes);
-    again(&bytes[..k], n, m)
-}
-
-fn again_whole(bytes: &[u8; ROOM], size: usize, n: usize, m: usize) -> bool {
-    again_cut(bytes, size, n, m)
-}
-
 // Reads the bytes, writes the answer, and compares.
-pub fn run_read(line: &[u8]) {
-    let r = record_of(line);
-    let bytes = r.bytes;
+pub fn run_read(line: &[u8], bytes: &[u8], n: usize, m: usize) {
     print::edge(b"read and written", line);
-    verdict(again_whole(&bytes, r.size, r.n, r.m));
+    verdict(again(bytes, n, m));
 }
 
 fn show_cut(buffer: &[u8], size: usize) {
@@ -166,13 +135,10 @@ fn show_bytes(buffer: &[u8; BUFFER], size: usize) {
 }
 
 // Writes the fields and prints the record.
-pub fn run_bytes(line: &[u8]) {
-    let f = fields_of(line);
-    let stamps = f.stamps;
-    let picks = f.picks;
+pub fn run_bytes(line: &[u8], f: Fields, stamps: &[u64], picks: &[u64]) {
     let mut buffer = noise::buffer();
     print::edge(b"bytes", line);
-    let result = write(f, &stamps, &picks, &mut buffer);
+    let result = write(f, stamps, picks, &mut buffer);
     match result {
         Written::Record(size) => show_bytes(&buffer, size),
         Written::Refused(k) => print::counted(b"refused ", k as u64),

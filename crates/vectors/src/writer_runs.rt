@@ -1,7 +1,6 @@
 // The answer writer run on fields. Spans and stamps are handed over as offset numbers: 0 is blank, any other k stands for
 // k − 2³¹.
 use crate::cut::bytes_within;
-use crate::cut::numbers_within;
 use crate::noise;
 use crate::noise::BUFFER;
 use crate::print;
@@ -124,39 +123,29 @@ pub fn fields_of(line: &[u8]) -> Fields {
     f
 }
 
-// The lists and the buffer cut to their sizes, and the answer written.
+// The buffer cut to its size, and the answer written.
 fn write_cut(f: Fields, stamps: &[u64], picks: &[u64], buffer: &mut [u8]) -> Written {
-    let s = numbers_within(f.stamp_count, stamps);
-    let p = numbers_within(f.pick_count, picks);
     let room = bytes_within(f.room, buffer);
     write_answer(
         f.class,
         f.span,
-        &stamps[..s],
-        &picks[..p],
+        stamps,
+        picks,
         f.n,
         f.m,
         &mut buffer[..room],
     )
 }
 
-pub fn write(
-    f: Fields,
-    stamps: &[u64; LONGEST],
-    picks: &[u64; LONGEST],
-    buffer: &mut [u8; BUFFER],
-) -> Written {
+pub fn write(f: Fields, stamps: &[u64], picks: &[u64], buffer: &mut [u8; BUFFER]) -> Written {
     write_cut(f, stamps, picks, buffer)
 }
 
 // Writes an answer of the fields and prints what came of it.
-pub fn run(line: &[u8]) {
-    let f = fields_of(line);
-    let stamps = f.stamps;
-    let picks = f.picks;
+pub fn run(line: &[u8], f: Fields, stamps: &[u64], picks: &[u64]) {
     let mut buffer = noise::buffer();
     print::edge(b"writer", line);
-    let written = write(f, &stamps, &picks, &mut buffer);
+    let written = write(f, stamps, picks, &mut buffer);
     match written {
         Written::Record(size) => noise::show_written(size, &buffer),
         Written::Refused(k) => noise::show_refused(k, &buffer),

@@ -1,8 +1,5 @@
 // The problem reader run on a record.
 ghost use Prim.Native.Nat.{_≤_};
-use crate::build::ROOM;
-use crate::build::record_of;
-use crate::cut::bytes_within;
 use crate::noise;
 use crate::print;
 use records::problem::Header;
@@ -40,40 +37,20 @@ fn show_read(n: usize, m: usize, left: &[u32; 2048], right: &[u32; 2048]) {
 
 fn show_refused(number: usize, left: &[u32; 2048], right: &[u32; 2048]) {
     print::counted(b"refused ", number as u64);
-    if !noise::untouched_leads(left) {
-        print::text(b", left table touched");
-    }
-    if !noise::untouched_leads(right) {
-        print::text(b", right table touched");
-    }
+    noise::show_leads(left, b", left table touched");
+    noise::show_leads(right, b", right table touched");
 }
 
 // Reads the bytes and prints what came of it.
-fn show_bytes(bytes: &[u8]) {
+pub fn run(line: &[u8], bytes: &[u8]) {
     let mut left = noise::table();
     let mut right = noise::table();
+    print::edge(b"problem", line);
     let header = read_problem(bytes, &mut left, &mut right);
     match header {
         Header::Fields(n, m) => show_read(n, m, &left, &right),
         Header::Refused(k) => show_refused(k, &left, &right),
     }
-}
-
-// The first `size` bytes are the record.
-fn show_part(bytes: &[u8], size: usize) {
-    let n = bytes_within(size, bytes);
-    show_bytes(&bytes[..n]);
-}
-
-fn show_record(bytes: &[u8; ROOM], size: usize) {
-    show_part(bytes, size);
-}
-
-pub fn run(line: &[u8]) {
-    let r = record_of(line);
-    let bytes = r.bytes;
-    print::edge(b"problem", line);
-    show_record(&bytes, r.size);
     print::end();
 }
 
@@ -100,26 +77,11 @@ fn show_row(table: &[u32; 2048], at: usize)
 }
 
 // Reads the bytes and prints places of both tables.
-fn show_places_of(bytes: &[u8]) {
+pub fn run_places(line: &[u8], bytes: &[u8]) {
     let mut left = noise::table();
     let mut right = noise::table();
+    print::edge(b"problem", line);
     read_problem(bytes, &mut left, &mut right);
     show_places(&left, &right);
-}
-
-fn show_places_within(bytes: &[u8], size: usize) {
-    let n = bytes_within(size, bytes);
-    show_places_of(&bytes[..n]);
-}
-
-fn show_record_places(bytes: &[u8; ROOM], size: usize) {
-    show_places_within(bytes, size);
-}
-
-pub fn run_places(line: &[u8]) {
-    let r = record_of(line);
-    let bytes = r.bytes;
-    print::edge(b"problem", line);
-    show_record_places(&bytes, r.size);
     print::end();
 }

@@ -1,7 +1,4 @@
 // The answer reader run on a record, for the n and m of a problem that are handed over.
-use crate::build::ROOM;
-use crate::build::record_of;
-use crate::cut::bytes_within;
 use crate::noise;
 use crate::print;
 use answers::answer::AnswerHead;
@@ -9,12 +6,8 @@ use answers::answer::read_answer;
 
 fn show_refused(number: usize, stamps: &[u64; 32], picks: &[u64; 64]) {
     print::counted(b"refused ", number as u64);
-    if !noise::untouched(stamps) {
-        print::text(b", stamps touched");
-    }
-    if !noise::untouched(picks) {
-        print::text(b", picks touched");
-    }
+    noise::show_numbers(stamps, b", stamps touched");
+    noise::show_numbers(picks, b", picks touched");
 }
 
 // The first and the last stamp of an answer that was read.
@@ -55,9 +48,10 @@ fn show_lists(class: u64, n: usize, m: usize, stamps: &[u64; 32], picks: &[u64; 
 }
 
 // Reads the bytes for a problem's n and m and prints what came of it.
-fn show_bytes(bytes: &[u8], n: usize, m: usize) {
+pub fn run(line: &[u8], bytes: &[u8], n: usize, m: usize) {
     let mut stamps = noise::stamps();
     let mut picks = noise::picks();
+    print::edge(b"answer", line);
     let head = read_answer(bytes, n, m, &mut stamps, &mut picks);
     match head {
         AnswerHead::Fields(class, span) => {
@@ -66,22 +60,5 @@ fn show_bytes(bytes: &[u8], n: usize, m: usize) {
         }
         AnswerHead::Refused(k) => show_refused(k, &stamps, &picks),
     }
-}
-
-// The first `size` bytes are the record.
-fn show_part(bytes: &[u8], size: usize, n: usize, m: usize) {
-    let k = bytes_within(size, bytes);
-    show_bytes(&bytes[..k], n, m);
-}
-
-fn show_record(bytes: &[u8; ROOM], size: usize, n: usize, m: usize) {
-    show_part(bytes, size, n, m);
-}
-
-pub fn run(line: &[u8]) {
-    let r = record_of(line);
-    let bytes = r.bytes;
-    print::edge(b"answer", line);
-    show_record(&bytes, r.size, r.n, r.m);
     print::end();
 }

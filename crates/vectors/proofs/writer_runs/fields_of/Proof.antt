@@ -1,8 +1,8 @@
 use Prim.Native.Nat.{_≤_, _-_}
 use native.Mathlib.Omega.{arith}
 use borrow.Author.Needs.{needs}
-use Rattle.vectors.proofs.writer_edges.fields_of.Statement.{statement}
-use Rattle.vectors.proofs.writer_edges.fields_of.Tie as tie
+use Rattle.vectors.proofs.writer_runs.fields_of.Statement.{statement}
+use Rattle.vectors.proofs.writer_runs.fields_of.Tie as tie
 
 abbrev Inv-loop : tie.InvT-loop
 Inv-loop line end f₀ x₀ i₀ f x i = 0 ≤ i
