@@ -1,44 +1,28 @@
-// Records built from a few numbers, right or wrong: a run of zeros with fields put into it.
+// Records as the marks of a case say, right or wrong: a run of zeros with fields put into it.
+use crate::script::byte_at;
+use crate::script::minus;
+use crate::script::number_after;
+use crate::script::place_of;
 
 // The room of a record: the largest problem that is tried has n 32 and m 63, 10 + 8 × 33 × 64 bytes.
 pub const ROOM: usize = 16906;
 
-// Places of fields. m stands where an answer has its class.
-pub const LENGTH: usize = 0;
+// Where the leads of a problem start, and how many the largest has.
+const LEADS: usize = 10;
 
-pub const KIND: usize = 4;
-
-pub const N: usize = 6;
-
-pub const M: usize = 8;
-
-pub const CLASS: usize = 8;
-
-pub const SPAN: usize = 10;
-
-// Where the leads of a problem, and the stamps or picks of an answer start.
-pub const LEADS: usize = 10;
-
-pub const BODY: usize = 14;
-
-// How many leads the largest problem has.
 const LEADS_MOST: usize = 4096;
 
-// The field of a blank, and the first number that 4 bytes do not hold.
-pub const BLANK: u64 = 2147483648;
+// The field of a blank.
+const BLANK: u64 = 2147483648;
 
-const FULL: u64 = 4294967296;
-
-// Bytes, how many of them the record has, and the place after the lists that were put into it.
+// Bytes, how many of them the record has, where the next field goes, and what is handed over beside the record.
 pub struct Record {
     pub bytes: [u8; ROOM],
     pub size: usize,
+    pub n: usize,
+    pub m: usize,
+    pub room: usize,
     at: usize,
-}
-
-// The 4-byte field of −x.
-pub fn minus(x: u64) -> u64 {
-    if x < FULL { FULL - x } else { 0 }
 }
 
 // A function of its own, so that no proof looks at the zeros one by one.
@@ -80,17 +64,6 @@ fn put_field(bytes: &mut [u8; ROOM], at: usize, width: usize, x: u64) -> usize {
     at + 4
 }
 
-// Puts fields of one width one after another, and gives the place after them.
-fn put_fields(bytes: &mut [u8; ROOM], from: usize, width: usize, list: &[u64]) -> usize {
-    let mut at = from;
-    let mut i = 0;
-    while i < list.len() {
-        at = put_field(bytes, at, width, list[i]);
-        i += 1;
-    }
-    at
-}
-
 // Blanks from the first lead on, as many as any problem has; those after the record's size are no part of it.
 fn put_blanks(bytes: &mut [u8; ROOM]) {
     for i in 0..LEADS_MOST {
@@ -108,69 +81,90 @@ fn put_ring(bytes: &mut [u8; ROOM], left: u64, right: u64) {
     }
 }
 
+// 31 rules and the question in a ring: moment i + left ≤ moment i + 1 + right, span moment 31 + left − (anchor + right),
+// all other leads blank.
+fn put_ring_problem(bytes: &mut [u8; ROOM], left: u64) {
+    put_blanks(bytes);
+    put_ring(bytes, left, minus(left));
+}
+
 impl Record {
-    // The record with a field of 2 bytes at a place.
-    pub fn short(mut self, at: usize, x: u64) -> Record {
-        put_short(&mut self.bytes, at, x);
-        self
-    }
-
-    // The record with a field of 4 bytes at a place.
-    pub fn word(mut self, at: usize, x: u64) -> Record {
-        put_word(&mut self.bytes, at, x);
-        self
-    }
-
-    // The record with these leads or stamps after what was put before.
-    pub fn words(mut self, list: &[u64]) -> Record {
+    // A field of 2 bytes.
+    fn short(mut self, x: u64) -> Record {
         let at = self.at;
-        self.at = put_fields(&mut self.bytes, at, 4, list);
+        self.at = put_field(&mut self.bytes, at, 2, x);
         self
     }
 
-    // The record with these picks after what was put before.
-    pub fn shorts(mut self, list: &[u64]) -> Record {
+    // A field of 4 bytes.
+    fn word(mut self, x: u64) -> Record {
         let at = self.at;
-        self.at = put_fields(&mut self.bytes, at, 2, list);
+        self.at = put_field(&mut self.bytes, at, 4, x);
         self
+    }
+
+    // Every lead blank.
+    fn blank(mut self) -> Record {
+        put_blanks(&mut self.bytes);
+        self
+    }
+
+    fn ring(mut self, left: u64) -> Record {
+        put_ring_problem(&mut self.bytes, left);
+        self
+    }
+
+    // Marks that say how large the record is and what is handed over beside it.
+    fn told(mut self, mark: u8, x: usize) -> Record {
+        match mark {
+            b'z' => self.size = x,
+            b'@' => self.at = x,
+            b'n' => self.n = x,
+            b'm' => self.m = x,
+            b'b' => self.room = x,
+            _ => (),
+        }
+        self
+    }
+
+    // The record after a mark, with the number before it.
+    fn marked(self, mark: u8, x: u64) -> Record {
+        match mark {
+            b's' => self.short(x),
+            b'w' => self.word(x),
+            b'f' => self.blank(),
+            b'r' => self.ring(x),
+            _ => self.told(mark, x as usize),
+        }
     }
 }
 
-// A record of this size with the right length field and a kind.
-fn framed(size: usize, kind: u64, at: usize) -> Record {
-    let r = Record {
+fn empty() -> Record {
+    Record {
         bytes: zeros(),
-        size: size,
-        at: at,
-    };
-    let length = if size < 4 { 0 } else { size as u64 - 4 };
-    r.word(LENGTH, length).short(KIND, kind)
+        size: 0,
+        n: 0,
+        m: 0,
+        room: 300,
+        at: 0,
+    }
 }
 
-// A problem whose leads are all 0.
-pub fn problem(n: u64, m: u64, size: usize) -> Record {
-    framed(size, 1, LEADS).short(N, n).short(M, m)
-}
-
-// An answer for a problem of this n: its stamps and picks all 0, its span 0 in class 1 and else blank.
-pub fn answer(class: u64, n: u64, size: usize) -> Record {
-    let span = if class == 1 { 0 } else { BLANK };
-    framed(size, 2, BODY)
-        .short(N, n)
-        .short(CLASS, class)
-        .word(SPAN, span)
-}
-
-// A problem whose leads are all blank.
-pub fn blank_problem(n: u64, m: u64, size: usize) -> Record {
-    let mut r = problem(n, m, size);
-    put_blanks(&mut r.bytes);
+// The record of the marks between two places.
+pub fn record_between(line: &[u8], from: usize, to: usize) -> Record {
+    let mut r = empty();
+    let mut x = 0;
+    let mut i = from;
+    while i < to {
+        let byte = byte_at(line, i);
+        r = r.marked(byte, x);
+        x = number_after(x, byte);
+        i += 1;
+    }
     r
 }
 
-// 31 rules and the question in a ring: moment i + left ≤ moment i + 1 + right, span moment 31 + left − (anchor + right).
-pub fn ring(left: u64, right: u64) -> Record {
-    let mut r = blank_problem(31, 31, 8202);
-    put_ring(&mut r.bytes, left, right);
-    r
+// The record of a case that has one.
+pub fn record_of(line: &[u8]) -> Record {
+    record_between(line, 1, place_of(line, b';'))
 }

@@ -1,6 +1,4 @@
 // The engine run on a record: what it answers, and what the checker says of the bytes that it wrote.
-use crate::build::ROOM;
-use crate::build::Record;
 use crate::cut::bytes_within;
 use crate::noise;
 use crate::noise::BUFFER;
@@ -9,26 +7,20 @@ use crate::verdicts;
 use engine::solve::Solved;
 use engine::solve::solve;
 
-// The problem and the buffer cut to their sizes, and the engine run.
-fn solve_cut(problem: &[u8], size: usize, buffer: &mut [u8], room: usize) -> Solved {
-    let p = bytes_within(size, problem);
-    let b = bytes_within(room, buffer);
-    solve(&problem[..p], &mut buffer[..b])
+// The buffer cut to its size, and the engine run.
+fn solve_cut(problem: &[u8], buffer: &mut [u8], room: usize) -> Solved {
+    let n = bytes_within(room, buffer);
+    solve(problem, &mut buffer[..n])
 }
 
-fn solve_whole(
-    problem: &[u8; ROOM],
-    size: usize,
-    buffer: &mut [u8; BUFFER],
-    room: usize,
-) -> Solved {
-    solve_cut(problem, size, buffer, room)
+fn solve_whole(problem: &[u8], buffer: &mut [u8; BUFFER], room: usize) -> Solved {
+    solve_cut(problem, buffer, room)
 }
 
 // The verdict on what was written.
-fn judged(problem: &[u8; ROOM], size: usize, buffer: &[u8; BUFFER], written: usize) {
+fn judged(problem: &[u8], buffer: &[u8; BUFFER], written: usize) {
     print::text(b", ");
-    verdicts::judged(problem, size, buffer, written);
+    verdicts::judged(problem, problem.len(), buffer, written);
 }
 
 // Class, span and trials.
@@ -39,23 +31,17 @@ fn found(class: u64, span: u64, trials: u64) {
 }
 
 // Runs the engine with so many bytes of room and prints what came of it.
-pub fn show_in(words: &[u8], problem: Record, room: usize) {
-    let bytes = problem.bytes;
+pub fn run(line: &[u8], problem: &[u8], room: usize) {
     let mut buffer = noise::buffer();
-    print::edge(b"engine", words);
-    let solved = solve_whole(&bytes, problem.size, &mut buffer, room);
+    print::edge(b"engine", line);
+    let solved = solve_whole(problem, &mut buffer, room);
     match solved {
         Solved::Answered(class, span, trials, size) => {
             found(class, span, trials);
             noise::show_written(size, &buffer);
-            judged(&bytes, problem.size, &buffer, size);
+            judged(problem, &buffer, size);
         }
         Solved::Refused(k) => noise::show_refused(k, &buffer),
     }
     print::end();
-}
-
-// The same with room to spare.
-pub fn show(words: &[u8], problem: Record) {
-    show_in(words, problem, BUFFER);
 }

@@ -1,21 +1,19 @@
-// Document 01's edges and examples, run through the libraries: a line each, held to the stored output.
-mod answer_edges;
+// Document 01's edges and examples, run through the libraries. The cases are the lines of standard input, and what came of
+// each is a line, held to the stored output.
+mod answer_runs;
 mod build;
-mod checker_examples;
+mod cases;
+mod checker_runs;
 mod cut;
-mod engine_examples;
 mod engine_runs;
-mod examples;
 mod noise;
 mod print;
-mod problem_edges;
-mod records_edges;
+mod problem_runs;
 mod round_trips;
+mod script;
 mod verdicts;
-mod writer_edges;
+mod writer_runs;
 
 fn main() {
-    records_edges::run();
-    checker_examples::run();
-    engine_examples::run();
+    cases::run();
 }

@@ -37,7 +37,7 @@ pub fn buffer() -> [u8; BUFFER]
 }
 
 // Every number is noise still.
-pub fn untouched(numbers: &[u64]) -> bool {
+fn untouched(numbers: &[u64]) -> bool {
     let mut i = 0;
     while i < numbers.len() {
         if numbers[i] != NUMBER {
@@ -49,7 +49,7 @@ pub fn untouched(numbers: &[u64]) -> bool {
 }
 
 // Every lead is noise still.
-pub fn untouched_leads(leads: &[u32]) -> bool {
+fn untouched_leads(leads: &[u32]) -> bool {
     let mut i = 0;
     while i < leads.len() {
         if leads[i] != LEAD {
@@ -58,6 +58,19 @@ pub fn untouched_leads(leads: &[u32]) -> bool {
         i += 1;
     }
     true
+}
+
+// Words where not every number, or not every lead, is noise still.
+pub fn show_numbers(numbers: &[u64], words: &[u8]) {
+    if !untouched(numbers) {
+        print::text(words);
+    }
+}
+
+pub fn show_leads(leads: &[u32], words: &[u8]) {
+    if !untouched_leads(leads) {
+        print::text(words);
+    }
 }
 
 // Every byte from a place on is noise still.

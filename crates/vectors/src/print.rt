@@ -1,4 +1,5 @@
 // What the lines are made of.
+use crate::script::words_of;
 use libc::STDOUT_FILENO;
 
 // The offset number of 0.
@@ -16,11 +17,17 @@ pub fn end() {
     text(b"\n");
 }
 
-// The start of a line: what is run, and the edge.
-pub fn edge(entry: &[u8], words: &[u8]) {
+// The words of a case.
+fn words(line: &[u8]) {
+    let at = words_of(line);
+    text(&line[at..]);
+}
+
+// The start of a line: what is run, and the words of its case.
+pub fn edge(entry: &[u8], line: &[u8]) {
     text(entry);
     text(b", ");
-    text(words);
+    words(line);
     text(b": ");
 }
 

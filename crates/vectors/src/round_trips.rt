@@ -1,21 +1,10 @@
 // The round trips: what is written reads back as itself, and what is read is written again to the same bytes.
-use crate::build::BLANK;
-use crate::build::BODY;
-use crate::build::ROOM;
-use crate::build::Record;
-use crate::build::SPAN;
-use crate::build::answer;
 use crate::cut::bytes_within;
-use crate::cut::numbers_within;
 use crate::noise;
 use crate::noise::BUFFER;
 use crate::print;
-use crate::writer_edges::Fields;
-use crate::writer_edges::LONGEST;
-use crate::writer_edges::handed;
-use crate::writer_edges::minus;
-use crate::writer_edges::plus;
-use crate::writer_edges::write;
+use crate::writer_runs::Fields;
+use crate::writer_runs::write;
 use answers::answer::AnswerHead;
 use answers::roundtrip::read_then_write;
 use answers::roundtrip::write_then_read;
@@ -92,29 +81,15 @@ fn back(f: Fields, stamps: &[u64], picks: &[u64], buffer: &mut [u8]) -> bool {
     same_lists(stamps, picks, &stamps_back, &picks_back)
 }
 
-// The lists cut to their sizes.
-fn back_cut(f: Fields, stamps: &[u64], picks: &[u64], buffer: &mut [u8]) -> bool {
-    let s = numbers_within(f.stamp_count, stamps);
-    let p = numbers_within(f.pick_count, picks);
-    back(f, &stamps[..s], &picks[..p], buffer)
-}
-
-fn back_whole(
-    f: Fields,
-    stamps: &[u64; LONGEST],
-    picks: &[u64; LONGEST],
-    buffer: &mut [u8; BUFFER],
-) -> bool {
-    back_cut(f, stamps, picks, buffer)
+fn back_whole(f: Fields, stamps: &[u64], picks: &[u64], buffer: &mut [u8; BUFFER]) -> bool {
+    back(f, stamps, picks, buffer)
 }
 
 // Writes the fields, reads the record, and compares.
-fn written(words: &[u8], f: Fields) {
-    let stamps = f.stamps;
-    let picks = f.picks;
+pub fn run_written(line: &[u8], f: Fields, stamps: &[u64], picks: &[u64]) {
     let mut buffer = noise::buffer();
-    print::edge(b"written and read", words);
-    verdict(back_whole(f, &stamps, &picks, &mut buffer));
+    print::edge(b"written and read", line);
+    verdict(back_whole(f, stamps, picks, &mut buffer));
 }
 
 // The first `size` bytes of the buffer are the bytes, and the rest is noise.
@@ -144,90 +119,10 @@ fn again(bytes: &[u8], n: usize, m: usize) -> bool {
     }
 }
 
-fn again_cut(bytes: &[u8], size: usize, n: usize, m: usize) -> bool {
-    let k = bytes_within(size, bytes);
-    again(&bytes[..k], n, m)
-}
-
-fn again_whole(bytes: &[u8; ROOM], size: usize, n: usize, m: usize) -> bool {
-    again_cut(bytes, size, n, m)
-}
-
 // Reads the bytes, writes the answer, and compares.
-fn read(words: &[u8], r: Record, n: usize, m: usize) {
-    let bytes = r.bytes;
-    print::edge(b"read and written", words);
-    verdict(again_whole(&bytes, r.size, n, m));
-}
-
-fn writes() {
-    written(b"A", handed(1, 1, 1, 0, 0).span(plus(3)).pick(0, 1));
-    written(
-        b"class 1, n 1 m 3",
-        handed(1, 2, 2, 1, 3)
-            .span(minus(645120))
-            .stamp(1, 0)
-            .pick(0, 4)
-            .pick(1, 3),
-    );
-    written(
-        b"class 1, n 31 m 63",
-        handed(1, 32, 32, 31, 63)
-            .span(plus(645120))
-            .stamp(31, minus(2000000))
-            .pick(31, 64),
-    );
-}
-
-fn other_writes() {
-    written(
-        b"class 2, n 31 m 63",
-        handed(2, 0, 64, 31, 63).pick(0, 32).pick(63, 31),
-    );
-    written(
-        b"class 3, n 31 m 63",
-        handed(3, 0, 32, 31, 63).pick(0, 64).pick(31, 63),
-    );
-    written(b"class 3, n 0 m 0", handed(3, 0, 1, 0, 0).pick(0, 1));
-}
-
-fn reads() {
-    read(b"A", answer(1, 0, 20).word(SPAN, 3).short(18, 1), 0, 0);
-    read(
-        b"class 1, n 1 m 3",
-        answer(1, 1, 26)
-            .word(SPAN, 4294322176)
-            .word(18, BLANK)
-            .short(22, 4)
-            .short(24, 3),
-        1,
-        3,
-    );
-    read(
-        b"class 1, n 31 m 63",
-        answer(1, 31, 206)
-            .word(SPAN, 645120)
-            .word(138, 2000000)
-            .short(204, 64),
-        31,
-        63,
-    );
-}
-
-fn other_reads() {
-    read(
-        b"class 2, n 31 m 63",
-        answer(2, 31, 142).short(BODY, 32).short(140, 31),
-        31,
-        63,
-    );
-    read(
-        b"class 3, n 31 m 63",
-        answer(3, 31, 78).short(BODY, 64).short(76, 63),
-        31,
-        63,
-    );
-    read(b"class 3, n 0 m 0", answer(3, 0, 16).short(BODY, 1), 0, 0);
+pub fn run_read(line: &[u8], bytes: &[u8], n: usize, m: usize) {
+    print::edge(b"read and written", line);
+    verdict(again(bytes, n, m));
 }
 
 fn show_cut(buffer: &[u8], size: usize) {
@@ -240,37 +135,13 @@ fn show_bytes(buffer: &[u8; BUFFER], size: usize) {
 }
 
 // Writes the fields and prints the record.
-fn shown(words: &[u8], f: Fields) {
-    let stamps = f.stamps;
-    let picks = f.picks;
+pub fn run_bytes(line: &[u8], f: Fields, stamps: &[u64], picks: &[u64]) {
     let mut buffer = noise::buffer();
-    print::edge(b"bytes", words);
-    let result = write(f, &stamps, &picks, &mut buffer);
+    print::edge(b"bytes", line);
+    let result = write(f, stamps, picks, &mut buffer);
     match result {
         Written::Record(size) => show_bytes(&buffer, size),
         Written::Refused(k) => print::counted(b"refused ", k as u64),
     }
     print::end();
-}
-
-// The bytes of four records.
-fn bytes() {
-    shown(b"A", handed(1, 1, 1, 0, 0).span(plus(3)).pick(0, 1));
-    shown(
-        b"class 1, span -1, stamps 0 and blank, picks 2 and 0",
-        handed(1, 2, 2, 1, 1).span(minus(1)).stamp(1, 0).pick(0, 2),
-    );
-    shown(
-        b"class 2, picks 2 and 1",
-        handed(2, 0, 2, 1, 1).pick(0, 2).pick(1, 1),
-    );
-    shown(b"class 3, picks 0 and 2", handed(3, 0, 2, 1, 1).pick(1, 2));
-}
-
-pub fn run() {
-    writes();
-    other_writes();
-    reads();
-    other_reads();
-    bytes();
 }

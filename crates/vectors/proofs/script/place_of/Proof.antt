@@ -2,17 +2,17 @@ use lib.ListN.{length}
 use Prim.Native.Nat.{_≤_, _-_}
 use native.Mathlib.Omega.{arith}
 use borrow.Author.Needs.{needs}
-use Rattle.vectors.proofs.build.put_fields.Statement.{statement}
-use Rattle.vectors.proofs.build.put_fields.Tie as tie
+use Rattle.vectors.proofs.script.place_of.Statement.{statement}
+use Rattle.vectors.proofs.script.place_of.Tie as tie
 
 abbrev Inv-loop : tie.InvT-loop
-Inv-loop bytes₀ from width list at₀ i₀ bytes at i = 0 ≤ i
+Inv-loop line mark i₀ i = i ≤ length line
 
 abbrev μ-loop : tie.MeasureT-loop
-μ-loop bytes₀ from width list at₀ i₀ bytes at i = length list - i
+μ-loop line mark i₀ i = length line - i
 
-pub put-fields-spec : {M : Type 1} → statement M
-put-fields-spec =
+pub place-of-spec : {M : Type 1} → statement M
+place-of-spec =
     tie.close
     (tie.spec
     Inv-loop
@@ -20,7 +20,6 @@ put-fields-spec =
     (λ c. search needs)
     (λ c. search needs)
     (λ c. search needs)
-    (λ c κs. search needs)
     (λ c. search needs)
     (λ c. search needs)
     (λ c. search needs)

@@ -1,0 +1,64 @@
+// The answer reader run on a record, for the n and m of a problem that are handed over.
+use crate::noise;
+use crate::print;
+use answers::answer::AnswerHead;
+use answers::answer::read_answer;
+
+fn show_refused(number: usize, stamps: &[u64; 32], picks: &[u64; 64]) {
+    print::counted(b"refused ", number as u64);
+    noise::show_numbers(stamps, b", stamps touched");
+    noise::show_numbers(picks, b", picks touched");
+}
+
+// The first and the last stamp of an answer that was read.
+fn show_stamps(stamps: &[u64; 32], last: usize) {
+    print::text(b", stamps ");
+    print::minutes(stamps[0]);
+    print::text(b" to ");
+    if last < stamps.len() {
+        print::minutes(stamps[last]);
+    }
+}
+
+// The first and the last pick.
+fn show_picks(picks: &[u64; 64], last: usize) {
+    print::counted(b", picks ", picks[0]);
+    print::text(b" to ");
+    if last < picks.len() {
+        print::number(picks[last]);
+    }
+}
+
+fn show_read(class: u64, span: u64) {
+    print::counted(b"read, class ", class);
+    print::text(b" span ");
+    print::minutes(span);
+}
+
+// What the class has of stamps and picks.
+fn show_lists(class: u64, n: usize, m: usize, stamps: &[u64; 32], picks: &[u64; 64]) {
+    match class {
+        1 => {
+            show_stamps(stamps, n);
+            show_picks(picks, n);
+        }
+        2 => show_picks(picks, m),
+        _ => show_picks(picks, n),
+    }
+}
+
+// Reads the bytes for a problem's n and m and prints what came of it.
+pub fn run(line: &[u8], bytes: &[u8], n: usize, m: usize) {
+    let mut stamps = noise::stamps();
+    let mut picks = noise::picks();
+    print::edge(b"answer", line);
+    let head = read_answer(bytes, n, m, &mut stamps, &mut picks);
+    match head {
+        AnswerHead::Fields(class, span) => {
+            show_read(class, span);
+            show_lists(class, n, m, &stamps, &picks);
+        }
+        AnswerHead::Refused(k) => show_refused(k, &stamps, &picks),
+    }
+    print::end();
+}
