@@ -144,7 +144,7 @@ folded-within k few = (
 )
 
 -- Two numbers are the same, or not.
-same-or-not : (a b : ℕ) → (a ≡ b) ⊎ (a ≡ b → ⊥)
+pub same-or-not : (a b : ℕ) → (a ≡ b) ⊎ (a ≡ b → ⊥)
 same-or-not a b = ⊎-elim
     (λ (h : a ≤ b). ⊎-elim (λ (k : b ≤ a). inl (omega arith)) (λ (k : a < b). inr (λ e. omega arith)) (nat-le-or-lt b a))
     (λ (h : b < a). inr (λ e. omega arith))

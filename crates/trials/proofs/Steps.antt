@@ -1,5 +1,5 @@
 -- Laws of a step of the policy iteration, and of its end.
-use Prim.Native.Nat.{ℕ, _+_, _*_, _-_, _≤_, _<_}
+use Prim.Native.Nat.{ℕ, _+_, _*_, _-_, _/_, _%_, _≤_, _<_}
 use mathlib.Core.Path.{_≡_, refl, sym, ap, subst, _∙_}
 use mathlib.Core.Bool.{Bool, true, false}
 use mathlib.Core.Logic.{_⊎_, inl, inr, ⊎-elim}
@@ -25,9 +25,11 @@ use Rattle.duality.proofs.Height.{height-falls}
 use Rattle.duality.proofs.Ends.{finished}
 use Rattle.records.specs.Decoded.{Near}
 use Rattle.trials.specs.Tables.{entryOf, systemOf, pointOf, pickOf, raised-limit, value-limit, fold-least, side-least, high, highs, Table, Ranged, Lows, Tables}
+use Rattle.trials.specs.Ends.{RowEnds}
 use Rattle.trials.specs.Rounds.{SideIs, ValuesIs}
-use Rattle.trials.specs.Steps.{Stands, Costs, Gives, lesser, chosenBy, givenBy, Lowered, LoweredAt, LoweredBy, SoughtAt, Sought, FailsNow, Improved, Tried}
+use Rattle.trials.specs.Steps.{Stands, Costs, Gives, lesser, chosenBy, givenBy, LoweredPlace, LoweredOne, LoweredAll, Lowered, LoweredAt, LoweredBy, SoughtAt, Sought, FailsNow, Improved, Tried}
 use Rattle.trials.proofs.Low.{high-zero, high-whole, high-mono, highs-at}
+use Rattle.trials.proofs.Fold.{same-or-not}
 use Rattle.trials.proofs.Small.{near-small}
 use Rattle.trials.proofs.Rounds.{false-not-true, level-ranged, level-lows}
 
@@ -186,6 +188,67 @@ pub lowered-end : (left least chosen : List ℕ) (i top n width : ℕ) (l c : Li
 lowered-end left least chosen i top n width l c w h k =
     let e : n ≡ width = omega arith in subst (λ (z : ℕ). Lowered left i top least chosen z l c) e w
 
+-- One place.
+pub lowered-one : (left least chosen : List ℕ) (i top j g k v : ℕ) → length least ≡ 32 → length chosen ≡ 32 → j < 32
+    → g ≡ givenBy left i top j → k ≡ chosenBy g (getD least j 0) i (getD chosen j 0) → v ≡ lesser g (getD least j 0)
+    → LoweredOne left i top j least chosen (set least j v) (set chosen j k)
+lowered-one left least chosen i top j g k v a b h e d f = record {
+  least-size = length-set least j v ∙ a;
+  chosen-size = length-set chosen j k ∙ b;
+  here = record { value = getD-set-same least j v 0 (omega arith) ∙ rw (f, e); choice = getD-set-same chosen j k 0 (omega arith) ∙ rw (d, e) };
+  other-leasts = λ l n. getD-set-other least j l v 0 n;
+  other-choices = λ l n. getD-set-other chosen j l k 0 n;
+}
+
+-- A whole row.
+pub lowered-all : {left least chosen least′ chosen′ : List ℕ} {i top : ℕ} → Lowered left i top least chosen 32 least′ chosen′
+    → LoweredAll left i top least chosen least′ chosen′
+lowered-all w = record { least-size = w .least-size; chosen-size = w .chosen-size; each = λ j h. inl (record { value = w .leasts j h; choice = w .choices j h }) }
+
+-- What was lowered by a row is not lowered by it again.
+lowered-twice : (g l i c : ℕ) → (lesser g (lesser g l) ≡ lesser g l) × (chosenBy g (lesser g l) i (chosenBy g l i c) ≡ chosenBy g l i c)
+lowered-twice g l i c = ⊎-elim
+    (λ (h : l ≤ g). rw (← lesser-second g l h) (sym (lesser-second g l h), sym (chosen-second g l i (chosenBy g l i c) h)))
+    (λ (h : g < l). rw (← lesser-first g l h) (sym (lesser-second g g (omega arith)), sym (chosen-second g g i (chosenBy g l i c) (omega arith))))
+    (nat-le-or-lt l g)
+
+-- The places at the ends of a row.
+pub lowered-ends : (left least chosen : List ℕ) (i top ends : ℕ) (l c l′ c′ : List ℕ) → RowEnds left i ends → ends < 1024
+    → LoweredOne left i top (ends / 32) least chosen l c → LoweredOne left i top (ends % 32) l c l′ c′ → LoweredAll left i top least chosen l′ c′
+lowered-ends left least chosen i top ends l c l′ c′ r b p q = record {
+  least-size = q .least-size;
+  chosen-size = q .chosen-size;
+  each = λ j h. ⊎-elim
+      (λ (e : j ≡ ends % 32). inl (rw e (⊎-elim twice second (same-or-not (ends % 32) (ends / 32)))))
+      (λ n. ⊎-elim
+      (λ (e : j ≡ ends / 32). inl (rw e (first (λ z. n (e ∙ z)))))
+      (λ m. inr (record {
+        blank = r .others b j h m n;
+        value = q .other-leasts j n ∙ p .other-leasts j m;
+        choice = q .other-choices j n ∙ p .other-choices j m;
+      }))
+      (same-or-not j (ends / 32)))
+      (same-or-not j (ends % 32));
+}
+  where
+    first : (ends / 32 ≡ ends % 32 → ⊥) → LoweredPlace left i top (ends / 32) least chosen l′ c′
+    first n = record { value = q .other-leasts (ends / 32) n ∙ p .here .value; choice = q .other-choices (ends / 32) n ∙ p .here .choice }
+
+    second : (ends % 32 ≡ ends / 32 → ⊥) → LoweredPlace left i top (ends % 32) least chosen l′ c′
+    second n = record {
+      value = q .here .value ∙ ap (lesser (givenBy left i top (ends % 32))) (p .other-leasts (ends % 32) n);
+      choice = q .here .choice ∙ rw (p .other-leasts (ends % 32) n, p .other-choices (ends % 32) n);
+    }
+
+    twice : ends % 32 ≡ ends / 32 → LoweredPlace left i top (ends % 32) least chosen l′ c′
+    twice e =
+        let d = subst (λ (j : ℕ). LoweredPlace left i top j least chosen l c) (sym e) (p .here) in
+        let t = lowered-twice (givenBy left i top (ends % 32)) (getD least (ends % 32) 0) i (getD chosen (ends % 32) 0) in
+        record {
+          value = q .here .value ∙ rw (d .value) (t .0);
+          choice = q .here .choice ∙ rw (d .value, d .choice) (t .1);
+        }
+
 -- ---- the search for failing rows
 
 pub sought-none : (s : System) (x : List ℕ) → length x ≡ 32 → Sought s x 0 x (replicate 32 0)
@@ -241,14 +304,36 @@ module _ (left right x : List ℕ) (width rows n side : ℕ) (t : Tables left ri
                 (nat-le-or-lt n i);
           }
 
+  -- One row more that stands at the variable.
+  sought-stands : (j : ℕ) {least pick : ℕ} → SoughtAt (systemOf left right width rows) (pointOf (highs x)) (getD x j 0) j n least pick
+      → plus (entryOf left n j) (pointOf (highs x) j) ⊑ sideOf (systemOf left right width rows) (entryOf right n) (pointOf (highs x))
+      → SoughtAt (systemOf left right width rows) (pointOf (highs x)) (getD x j 0) j (n + 1) least pick
+  sought-stands j s a = record {
+    low = s .low;
+    picked = s .picked;
+    fails = s .fails;
+    stand = λ e i q. ⊎-elim
+        (λ (z : n ≤ i). let p : n ≡ i = omega arith in
+        subst (λ (i : ℕ). plus (entryOf left i j) (pointOf (highs x) j) ⊑ sideOf (systemOf left right width rows) (entryOf right i) (pointOf (highs x))) p a)
+        (λ (z : i < n). s .stand e i z)
+        (nat-le-or-lt n i);
+  }
+
+  -- One row more that does not hold the variable.
+  sought-blank : (j : ℕ) {least pick : ℕ} → SoughtAt (systemOf left right width rows) (pointOf (highs x)) (getD x j 0) j n least pick
+      → getD left (n * 32 + j) 0 ≡ 0 → SoughtAt (systemOf left right width rows) (pointOf (highs x)) (getD x j 0) j (n + 1) least pick
+  sought-blank j s e = sought-stands j s (rw (e, plus-trop-zero (pointOf (highs x) j) .0) blank-least)
+
   -- One row more that lowers.
   sought-lowered : {least chosen least′ chosen′ : List ℕ} → Sought (systemOf left right width rows) x n least chosen
       → LoweredAt left n side least chosen least′ chosen′ → Sought (systemOf left right width rows) x (n + 1) least′ chosen′
   sought-lowered s w = record {
     least-size = w .lowered .least-size;
     chosen-size = w .lowered .chosen-size;
-    each = λ j b. let k : j < 32 = omega (arith, t .width-most) in
-        sought-at (w .top) (w .gives) j _ _ _ _ (s .each j b) (w .lowered .leasts j k) (w .lowered .choices j k);
+    each = λ j b. ⊎-elim
+        (λ p. sought-at (w .top) (w .gives) j _ _ _ _ (s .each j b) (p .value) (p .choice))
+        (λ p. rw (p .value, p .choice) (sought-blank j (s .each j b) (p .blank)))
+        (w .lowered .each j (omega (arith, t .width-most)));
   }
 
   -- One row more that stands everywhere.
@@ -257,16 +342,7 @@ module _ (left right x : List ℕ) (width rows n side : ℕ) (t : Tables left ri
   sought-passed there s l b = record {
     least-size = s .least-size;
     chosen-size = s .chosen-size;
-    each = λ j k. record {
-      low = s .each j k .low;
-      picked = s .each j k .picked;
-      fails = s .each j k .fails;
-      stand = λ e i q. ⊎-elim
-          (λ (z : n ≤ i). let p : n ≡ i = omega arith in
-          subst (λ (i : ℕ). plus (entryOf left i j) (pointOf (highs x) j) ⊑ sideOf (systemOf left right width rows) (entryOf right i) (pointOf (highs x))) p (all j k))
-          (λ (z : i < n). s .each j k .stand e i z)
-          (nat-le-or-lt n i);
-    };
+    each = λ j k. sought-stands j (s .each j k) (all j k);
   }
     where
       all : (j : ℕ) → j < width → plus (entryOf left n j) (pointOf (highs x) j) ⊑ sideOf (systemOf left right width rows) (entryOf right n) (pointOf (highs x))

@@ -52,11 +52,36 @@ pub record Lowered (left : List ℕ) (i top : ℕ) (least chosen : List ℕ) (n 
   pub later-leasts : (j : ℕ) → n ≤ j → getD least′ j 0 ≡ getD least j 0
   pub later-choices : (j : ℕ) → n ≤ j → getD chosen′ j 0 ≡ getD chosen j 0
 
+-- Row i has lowered the least value of variable j, and is chosen if it did.
+pub record LoweredPlace (left : List ℕ) (i top j : ℕ) (least chosen least′ chosen′ : List ℕ) : Type 0 where
+  pub value : getD least′ j 0 ≡ lesser (givenBy left i top j) (getD least j 0)
+  pub choice : getD chosen′ j 0 ≡ chosenBy (givenBy left i top j) (getD least j 0) i (getD chosen j 0)
+
+-- Row i does not hold variable j, and has left it as it was.
+pub record PassedPlace (left : List ℕ) (i j : ℕ) (least chosen least′ chosen′ : List ℕ) : Type 0 where
+  pub blank : getD left (i * 32 + j) 0 ≡ 0
+  pub value : getD least′ j 0 ≡ getD least j 0
+  pub choice : getD chosen′ j 0 ≡ getD chosen j 0
+
+-- Variable j has had its turn, and the others are as they were.
+pub record LoweredOne (left : List ℕ) (i top j : ℕ) (least chosen least′ chosen′ : List ℕ) : Type 0 where
+  pub least-size : length least′ ≡ 32
+  pub chosen-size : length chosen′ ≡ 32
+  pub here : LoweredPlace left i top j least chosen least′ chosen′
+  pub other-leasts : (k : ℕ) → (k ≡ j → ⊥) → getD least′ k 0 ≡ getD least k 0
+  pub other-choices : (k : ℕ) → (k ≡ j → ⊥) → getD chosen′ k 0 ≡ getD chosen k 0
+
+-- Every variable of row i has had its turn, or is not held by it.
+pub record LoweredAll (left : List ℕ) (i top : ℕ) (least chosen least′ chosen′ : List ℕ) : Type 0 where
+  pub least-size : length least′ ≡ 32
+  pub chosen-size : length chosen′ ≡ 32
+  pub each : (j : ℕ) → j < 32 → LoweredPlace left i top j least chosen least′ chosen′ ⊎ PassedPlace left i j least chosen least′ chosen′
+
 -- The same by a row of this right side.
 pub record LoweredAt (left : List ℕ) (i side : ℕ) (least chosen least′ chosen′ : List ℕ) : Type 0 where
   pub top : ℕ
   pub gives : Gives side top
-  pub lowered : Lowered left i top least chosen 32 least′ chosen′
+  pub lowered : LoweredAll left i top least chosen least′ chosen′
 
 -- Row i with these right and left sides has lowered the least values, unless it stands everywhere.
 pub record LoweredBy (left : List ℕ) (i here there : ℕ) (least chosen least′ chosen′ : List ℕ) : Type 0 where

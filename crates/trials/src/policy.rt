@@ -1,11 +1,12 @@
 // One trial: policy iteration from a strategy that is kept, until no row fails at its values. Values are low numbers here.
 ghost use mathlib.Core.Path.{_≡_};
-ghost use Prim.Native.Nat.{_+_, _*_, _<_, _≤_};
+ghost use Prim.Native.Nat.{_+_, _*_, _/_, _%_, _<_, _≤_};
 ghost use lib.ListN.{length};
 ghost use Rattle.duality.specs.Values.{Policy};
 ghost use Rattle.trials.specs.Tables.{systemOf, pointOf, pickOf, side-most, side-least, high, highs, Lows, Tables};
-ghost use Rattle.trials.specs.Ends.{EndsOf};
-ghost use Rattle.trials.specs.Steps.{Gives, lesser, chosenBy, Lowering, Lowered, LoweringBy, LoweredBy, Sought, Improved, Tried};
+ghost use Rattle.trials.specs.Ends.{RowEnds, EndsOf};
+ghost use Rattle.trials.specs.Steps.{Gives, lesser, chosenBy, Lowering, Lowered, LoweredOne, LoweredAll, LoweringBy, LoweredBy, Sought, Improved, Tried};
+use crate::ends::WIDE;
 use crate::values::HALF;
 use crate::values::evaluate;
 use crate::values::side;
@@ -52,21 +53,62 @@ fn lower_row(left: &[u32; 2048], i: usize, top: u32, least: &mut [u32; 32], chos
     }
 }
 
+// Row i lowers the least value of variable j, and is chosen if it does.
+fn lower_place(
+    left: &[u32; 2048],
+    i: usize,
+    top: u32,
+    j: usize,
+    least: &mut [u32; 32],
+    chosen: &mut [u32; 32],
+)
+    requires { ⌜ Lowering (now left) (now least) (now chosen) i top × (j < 32) ⌝ }
+    ensures { λ _. ⌜ LoweredOne (now (left .entry)) i top j (now (least .entry)) (now (chosen .entry)) (now (least .exit)) (now (chosen .exit)) ⌝ }
+{
+    let given = top - left[i * 32 + j];
+    let was = least[j];
+    chosen[j] = choice(given, was, i as u32, chosen[j]);
+    least[j] = lower(given, was);
+}
+
+// Row i lowers the least values of the variables at its ends: it holds no others.
+fn lower_ends(
+    left: &[u32; 2048],
+    ends: u32,
+    i: usize,
+    top: u32,
+    least: &mut [u32; 32],
+    chosen: &mut [u32; 32],
+)
+    requires { ⌜ Lowering (now left) (now least) (now chosen) i top × RowEnds (now left) i ends × (ends < 1024) ⌝ }
+    ensures { λ _. ⌜ LoweredAll (now (left .entry)) i top (now (least .entry)) (now (chosen .entry)) (now (least .exit)) (now (chosen .exit)) ⌝ }
+{
+    lower_place(left, i, top, (ends / 32) as usize, least, chosen);
+    lower_place(left, i, top, (ends % 32) as usize, least, chosen);
+}
+
 // Row i, with these right and left sides: it lowers nothing where it stands everywhere, as most rows do.
 fn lower_by(
     left: &[u32; 2048],
+    ends: u32,
     i: usize,
     here: u32,
     there: u32,
     least: &mut [u32; 32],
     chosen: &mut [u32; 32],
 )
-    requires { ⌜ LoweringBy (now left) (now least) (now chosen) i here ⌝ }
+    requires { ⌜ LoweringBy (now left) (now least) (now chosen) i here × RowEnds (now left) i ends ⌝ }
     ensures { λ _. ⌜ LoweredBy (now (left .entry)) i here there (now (least .entry)) (now (chosen .entry)) (now (least .exit)) (now (chosen .exit)) ⌝ }
 {
-    if here < there {
-        lower_row(left, i, top_of(here), least, chosen);
+    if there <= here {
+        return;
     }
+    let top = top_of(here);
+    if ends < WIDE {
+        lower_ends(left, ends, i, top, least, chosen);
+        return;
+    }
+    lower_row(left, i, top, least, chosen);
 }
 
 // For every variable the least of its own value and of what the rows give it, and the row that gives it.
@@ -94,7 +136,7 @@ fn cheapest(
     while i < rows {
         let here = side(right, rights[i], i, &x, width);
         let there = side(left, lefts[i], i, &x, width);
-        lower_by(left, i, here, there, &mut least, &mut chosen);
+        lower_by(left, lefts[i], i, here, there, &mut least, &mut chosen);
         i += 1;
     }
     Found { least, chosen }

@@ -26,22 +26,26 @@ cheapest-spec =
     (λ c. search needs)
     (λ c. let p = c .before .before .before .before .before .pre in omega (arith, p .0 .rows-most, p .2 .size))
     (λ c κs. let p = c .before .before .before .before .before .before .before .pre in (omega (arith, p .0 .rows-most), p .0 .width-most, table-raised (p .0 .lefts), p .1, p .2 .each _ (c .before .before .before .before .before .loop-test .taken)))
+    (λ c. search needs)
+    (λ c. let p = c .before .before .before .before .before .before .before .before .pre in omega (arith, p .0 .rows-most, p .2 .size))
     (λ c κs.
-    let start = c .before .before .before .before .before .before .before .before .before .before in
-    let turn = c .before .before .before .before .before .before .before .before .before .loop in
-    let side = c .before .before .before .before .before .side .ensures in
-    record {
-      lefts = start .pre .0 .lefts;
-      least-size = turn .inv .1 .least-size;
-      chosen-size = turn .inv .1 .chosen-size;
-      row-most = omega (arith, start .pre .0 .rows-most);
-      side-high = side .most;
-      side-low = side .least;
-    })
+    let start = c .before .before .before .before .before .before .before .before .before .before .before in
+    let turn = c .before .before .before .before .before .before .before .before .before .before .loop in
+    let side = c .before .before .before .before .before .before .side .ensures in (
+      record {
+        lefts = start .pre .0 .lefts;
+        least-size = turn .inv .1 .least-size;
+        chosen-size = turn .inv .1 .chosen-size;
+        row-most = omega (arith, start .pre .0 .rows-most);
+        side-high = side .most;
+        side-low = side .least;
+      },
+      start .pre .2 .each _ (c .before .before .before .before .before .before .before .before .before .loop-test .taken),
+    ))
     (λ c. search needs)
     (λ c. search needs)
     (λ c.
-    let start = c .before .before .before .before .before .before .before .before .before .before .before in
-    let turn = c .before .before .before .before .before .before .before .before .before .before .loop in
-    (omega arith, sought-more (start .args .left .now) (start .args .right .now) (start .args .t5) (start .args .width) (start .args .rows) (turn .i) _ (start .pre .0) (start .pre .1 .ranged) (c .before .before .before .before .before .before .before .before .before .loop-test .taken) (c .before .before .before .before .before .before .side .ensures) _ (c .before .before .before .side2 .ensures) (turn .inv .1) (c .lower-by .ensures)))
+    let start = c .before .before .before .before .before .before .before .before .before .before .before .before in
+    let turn = c .before .before .before .before .before .before .before .before .before .before .before .loop in
+    (omega arith, sought-more (start .args .left .now) (start .args .right .now) (start .args .t5) (start .args .width) (start .args .rows) (turn .i) _ (start .pre .0) (start .pre .1 .ranged) (c .before .before .before .before .before .before .before .before .before .before .loop-test .taken) (c .before .before .before .before .before .before .before .side .ensures) _ (c .before .before .before .before .side2 .ensures) (turn .inv .1) (c .lower-by .ensures)))
     (λ c. sought-end (c .before .loop .inv .1) (c .before .loop .inv .0) (c .loop-test .left)))
