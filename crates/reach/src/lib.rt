@@ -1,6 +1,6 @@
 // Which variables a start reaches, along a table of arcs: 32 rows of 32, row j for the arcs from variable j; 0 is no arc.
 ghost use mathlib.Core.Path.{_≡_};
-ghost use Prim.Native.Nat.{ℕ, _+_, _*_, _≤_, _<_};
+ghost use Prim.Native.Nat.{_+_, _*_, _≤_, _<_};
 ghost use lib.ListN.{length};
 ghost use Rattle.reach.specs.Marks.{Flags, Anchored, Reached};
 ghost use Rattle.reach.specs.Spreading.{markOf, RowMarked, Spreading};
