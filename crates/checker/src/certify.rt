@@ -17,8 +17,8 @@ ghost use Rattle.checker.specs.Counts.{PickCounts, RowPickCounts, Variab
 use crate::arcs::row_arcs;
 use crate::arcs::variable_arcs;
 use crate::gains::none_gains;
-use reach::anchor;
 use reach::ARCS;
+use reach::anchor;
 use reach::reach;
 use records::limits::STRIDE;
 use records::limits::TABLE;

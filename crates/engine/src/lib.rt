@@ -8,6 +8,5 @@ pub mod halving;
 pub mod input;
 pub mod picks;
 pub mod policy;
-pub mod reach;
 pub mod solve;
 pub mod values;

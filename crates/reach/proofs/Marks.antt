@@ -10,7 +10,7 @@ use native.Mathlib.Nat.{eq-zero-or-pos}
 use lib.Dec.{eqb}
 use lib.ListN.{length, getD, set, replicate, length-set, length-replicate}
 use lib.Seq.{getD-set-same, getD-set-other}
-use borrow.Author.Tests.{eqb-true, eqb-false, ne-eqb}
+use borrow.Author.Tests.{eqb-true, eqb-false, eq-eqb, ne-eqb}
 use Rattle.definitions.specs.Certificate.{Reachable, Anchor, start, onward}
 use Rattle.definitions.proofs.Whole.{nat-le-or-lt}
 use Rattle.duality.proofs.Height.{total-falls}
@@ -54,6 +54,10 @@ pub mark-arc : (mark arc : ℕ) → 0 < arc → 0 < markOf mark arc
 unfolding markOf
 mark-arc mark arc h = rw (ne-eqb arc 0 (omega arith)) (omega arith)
 
+pub mark-same : (mark arc : ℕ) → arc ≡ 0 → markOf mark arc ≡ mark
+unfolding markOf
+mark-same mark arc e = rw (eq-eqb arc 0 e) refl
+
 pub mark-from : (mark arc : ℕ) → 0 < markOf mark arc → (0 < mark) ⊎ (0 < arc)
 unfolding markOf
 mark-from mark arc h = go (eqb arc 0) refl h
@@ -72,7 +76,7 @@ mark-flag mark arc h = go (eqb arc 0)
 
 -- ---- a row
 
-same-or-not : (a b : ℕ) → (a ≡ b) ⊎ (a ≡ b → ⊥)
+pub same-or-not : (a b : ℕ) → (a ≡ b) ⊎ (a ≡ b → ⊥)
 same-or-not a b = go (eqb a b) refl
   where
     go : (t : Bool) → eqb a b ≡ t → (a ≡ b) ⊎ (a ≡ b → ⊥)

@@ -61,7 +61,11 @@ fn spread_round(arcs: &[u32; ARCS], width: usize, marks: [u8; 32], done: [u8; 32
             moved = true;
         }
     }
-    Spread { marks: new, done: spread, moved }
+    Spread {
+        marks: new,
+        done: spread,
+        moved,
+    }
 }
 
 // Marks of the variables that are reachable from the start, by rounds until one has nothing left to spread. A variable

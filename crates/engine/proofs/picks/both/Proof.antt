@@ -1,7 +1,7 @@
 use borrow.Author.Tests.{not-true, not-false, eqb-true, eqb-false}
-use Rattle.engine.proofs.Marks.{both-first, both-second}
-use Rattle.engine.proofs.reach.both.Statement.{statement}
-use Rattle.engine.proofs.reach.both.Tie as tie
+use Rattle.engine.proofs.Shown.{both-first, both-second}
+use Rattle.engine.proofs.picks.both.Statement.{statement}
+use Rattle.engine.proofs.picks.both.Tie as tie
 
 pub both-spec : {M : Type 1} → statement M
 both-spec = tie.close (tie.spec
