@@ -1,10 +1,7 @@
 -- What reach leaves from variable 0 alone, as the picks of an answer ask for it.
-use Prim.Native.Nat.{ℕ, _+_, _*_, _<_}
-use mathlib.Core.Path.{_≡_}
-use mathlib.Core.Logic.{⊎-elim}
+use Prim.Native.Nat.{ℕ, _<_}
 use mathlib.Core.List.{List}
 use native.Mathlib.Omega.{arith}
-use Rattle.definitions.specs.Certificate.{Reachable, Anchor, start, onward}
 use Rattle.duality.proofs.Reach.{reach-keep, reach-map}
 use Rattle.reach.specs.Marks as Reach
 use Rattle.reach.specs.Marks.{Led, Anchored}
