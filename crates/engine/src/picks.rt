@@ -2,8 +2,8 @@
 ghost use mathlib.Core.Path.{_≡_};
 ghost use Prim.Native.Nat.{_+_, _*_, _/_, _%_, _<_, _≤_};
 ghost use lib.ListN.{length};
-ghost use Rattle.engine.specs.Tables.{raised-limit, Table, Ranged};
 ghost use Rattle.reach.specs.Spreading.{markOf};
+ghost use Rattle.engine.specs.Tables.{raised-limit, Table, Ranged};
 ghost use Rattle.engine.specs.Shown.{BothAre, shownPick, arcBy, VariableArcs, ShownVariables, VariablePicks, Column, RowArcs, UsedIs, ShownRows, RowPicks, BestIs, InducedRows};
 use crate::values::plus;
 use reach::ARCS;
@@ -92,7 +92,7 @@ pub fn variable_picks(
     shown_variables(picks, &marks, width, rows)
 }
 
-// An arc, once a row that makes it where its left coefficient is not blank was looked at.
+// An arc, once a row that picks its end was looked at: there is one where the row's left coefficient is not blank.
 fn arc_or(arc: u32, left: u32) -> u32
     ensures { λ r. ⌜ r ≡ markOf arc left ⌝ }
 {
@@ -110,7 +110,7 @@ fn fill_column(arcs: &mut [u32; ARCS], left: &[u32; 2048], base: usize, l: usize
     }
 }
 
-// The arcs of a strategy of rows.
+// The arcs of a strategy of rows, row by row. A pick that is no column of the table leads nowhere.
 fn row_arcs(left: &[u32; 2048], picks: &[usize; 64], width: usize, rows: usize) -> [u32; ARCS]
     requires { ⌜ (length (now left) ≡ 2048) × (length (now picks) ≡ 64) × (width ≤ 32) × (rows ≤ 64) ⌝ }
     ensures { λ r. ⌜ RowArcs (now (left .entry)) (now (picks .entry)) rows (width * 32) r ⌝ }

@@ -19,7 +19,7 @@ pub record RowMarked (arcs : List ℕ) (base k : ℕ) (old new : List ℕ) : Typ
   pub cells : (l : ℕ) → l < k → getD new l 0 ≡ markOf (getD old l 0) (getD arcs (base + l) 0)
   pub others : (l : ℕ) → k ≤ l → getD new l 0 ≡ getD old l 0
 
--- The start is marked, whatever is marked is reachable, and so is marked all to which one that is done leads.
+-- The start is marked, whatever is marked is reachable, and all to which a variable that is done leads is marked.
 pub record Reaching (arcs : List ℕ) (width : ℕ) (start marks done : List ℕ) : Type 0 where
   pub begun : (j : ℕ) → Begins start width j → Marked marks j
   pub only : (j : ℕ) → j < width → Marked marks j → Reachable (Begins start width) (Led arcs width) j
@@ -29,8 +29,8 @@ pub record Reaching (arcs : List ℕ) (width : ℕ) (start marks done : List ℕ
 unfoldable pub undone : ℕ → List ℕ → ℕ
 undone width done = total (λ j. 1 - getD done j 0) width
 
--- A round, once the first k variables have had their turn. From wherever the marks were reached, they still are; if some
--- were spread, fewer variables are not done; if not, each marked one of these k is done.
+-- A round, once the first k variables have had their turn: from whatever start the old marks were reached, the new ones
+-- are; if a variable was made done, fewer are left to do; if none was, each marked one of the first k is done.
 pub record Spreading (arcs : List ℕ) (width : ℕ) (marks done : List ℕ) (k : ℕ) (new spread : List ℕ) (moved : Bool) : Type 0 where
   pub flags : Flags new
   pub done-flags : Flags spread

@@ -38,7 +38,7 @@ fn mark_row(arcs: &[u32; ARCS], base: usize, marks: [u8; 32]) -> [u8; 32]
     new
 }
 
-// Marks, the variables that are done, from which marks were spread, and whether a round has spread any.
+// Marks, which variables are done (they have marked all to which they lead), and whether a round has made one done.
 pub struct Spread {
     pub marks: [u8; 32],
     pub done: [u8; 32],
@@ -68,8 +68,8 @@ fn spread_round(arcs: &[u32; ARCS], width: usize, marks: [u8; 32], done: [u8; 32
     }
 }
 
-// Marks of the variables that are reachable from the start, by rounds until one has nothing left to spread. A variable
-// spreads its marks once, so there are at most as many rounds as variables, and one. Public for `checker`, `engine`.
+// Marks of the variables that are reachable from the start, by rounds until one finds every marked variable done. Each
+// round but the last makes one done, so there are at most as many of these as variables. Public for `checker`, `engine`.
 pub fn reach(arcs: &[u32; ARCS], width: usize, start: [u8; 32]) -> [u8; 32]
     requires { ⌜ (width ≤ 32) × Flags start ⌝ }
     ensures { λ r. ⌜ Reached (now (arcs .entry)) width start r ⌝ }
