@@ -18,10 +18,9 @@ use Rattle.definitions.proofs.Whole.{up, down, whole, subℕ-read, plus-read, n
 use Rattle.definitions.proofs.Tropical.{fin-injective, bot-not-fin}
 use Rattle.duality.proofs.Reach.{reach-keep, reach-map, circuit}
 use Rattle.duality.proofs.Longest.{Entry, entries-end}
+use Rattle.reach.specs.Marks.{Marked, Led, Begins, Anchored, Reached}
 use Rattle.checker.specs.Decides.{Decides}
-use Rattle.checker.specs.Marks.{Marked, Led, Begins, Reached}
 use Rattle.checker.specs.Gains.{arc-zero, weightOf, matrix, Tested}
-use Rattle.checker.specs.Counts.{Anchored}
 use Rattle.checker.proofs.ClosedWalks.{weight-none, weight-some}
 
 -- ---- weights of the table

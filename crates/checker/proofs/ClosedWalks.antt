@@ -16,10 +16,11 @@ use Rattle.definitions.proofs.Whole.{whole, subℕ-read, plus-read}
 use Rattle.definitions.proofs.Tropical.{fin-injective, ⊑-refl, ⊑-trans, ⊑-antisym, below-bot, bot-plus, plus-fin, larger-left, larger-right, larger-least, largest-least, largest-ext}
 use Rattle.duality.specs.Values.{valueAt}
 use Rattle.duality.proofs.Longest.{Gain, still-stable, stable-potential, potential-closed, fixed-or-gains}
+use Rattle.reach.proofs.Marks.{zeros}
 use Rattle.checker.specs.Lists.{most, bestSum, Agree}
 use Rattle.checker.specs.Gains.{arc-zero, arc-most, weightOf, matrix, anywhere, Table, Rounds, NoneGains, SomeGains}
 use Rattle.checker.specs.GainRound.{Values, gainedBy, Rounded}
-use Rattle.checker.proofs.Lists.{most-one, best-floor, best-under, zeros, set-here, set-there, one-more}
+use Rattle.checker.proofs.Lists.{most-one, best-floor, best-under, set-here, set-there, one-more}
 
 -- ---- the larger of two
 

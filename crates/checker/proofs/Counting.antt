@@ -1,16 +1,16 @@
 -- Laws of the picks that count, on the tables.
-use Prim.Native.Nat.{ℕ, zero, suc, _+_, _*_, _-_, _≤_, _<_}
-use mathlib.Core.Path.{_≡_, refl}
+use Prim.Native.Nat.{ℕ, _+_, _*_, _-_, _<_}
+use mathlib.Core.Path.{_≡_}
 use mathlib.Core.Bool.{Bool, not}
-use mathlib.Core.List.{List, _∷_}
+use mathlib.Core.List.{List}
 use mathlib.Core.Logic.{⊎-elim}
 use native.Mathlib.Omega.{arith}
 use native.Mathlib.Nat.{eq-zero-or-pos}
 use lib.Dec.{eqb}
-use lib.ListN.{getD, replicate}
+use lib.ListN.{getD}
 use borrow.Author.Tests.{eqb-false, eqb-true, not-true, not-false}
 use Rattle.checker.specs.Decides.{Decides}
-use Rattle.checker.specs.Counts.{PickCounts, RowPickCounts, Idle, Stands, Anchored}
+use Rattle.checker.specs.Counts.{PickCounts, RowPickCounts, Idle, Stands}
 use Rattle.checker.proofs.Decides.{decides-as}
 
 -- Not 0: above 0.
@@ -23,28 +23,6 @@ nonzero-decides x = record {
   yes = λ e. above-zero (eqb-false x 0 (not-true (eqb x 0) e));
   no = λ e h. let z : x ≡ 0 = eqb-true x 0 (not-false (eqb x 0) e) in omega arith;
 }
-
--- ---- the start
-
-zeros : (n j : ℕ) → _≡_ {A = ℕ} (getD (replicate n 0) j 0) 0
-zeros zero j = refl
-zeros (suc n) zero = refl
-zeros (suc n) (suc j) = zeros n j
-
-pub anchor-marked : Anchored (1 ∷ replicate 31 0)
-anchor-marked = record {
-  flags = record { length-is = refl; flag = flag };
-  anchor = omega arith;
-  only = only;
-}
-  where
-    flag : (j : ℕ) → getD (1 ∷ replicate 31 0) j 0 ≤ 1
-    flag zero = omega arith
-    flag (suc j) = omega (arith, zeros 31 j)
-
-    only : (j : ℕ) → 0 < getD (1 ∷ replicate 31 0) j 0 → j ≡ 0
-    only zero h = refl
-    only (suc j) h = absurd (omega (arith, zeros 31 j))
 
 -- ---- variables
 

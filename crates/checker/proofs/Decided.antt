@@ -6,10 +6,9 @@ use mathlib.Core.Bool.{Bool, true, false, false≢true}
 use mathlib.Core.List.{List, [], _∷_}
 use mathlib.Core.Logic.{_⊎_, inl, inr, ⊎-elim}
 use native.Mathlib.Omega.{arith}
-use native.Mathlib.Numerals.{add-one}
 use native.Mathlib.Nat.{eq-zero-or-pos}
 use lib.Dec.{eqb}
-use lib.ListN.{length, getD, set, replicate, List·getD-eq-default}
+use lib.ListN.{length, getD, replicate, List·getD-eq-default}
 use lib.IntN.{ℤ, pos, subℕ, _-ℤ_}
 use borrow.Author.Tests.{eqb-true, eqb-false}
 use Rattle.definitions.specs.Limits.{signed-half, span-limit, highest-n}
@@ -36,16 +35,15 @@ use Rattle.answers.specs.AnswerReading.{spanNumber, answerReadOf, AnswerRead}
 use Rattle.records.proofs.Tables.{length-listOf, getD-listOf}
 use Rattle.answers.proofs.Passing.{stampsAt-length, picksAt-length}
 use Rattle.answers.proofs.Trips.{stamps-most, picks-most}
+use Rattle.reach.proofs.Marks.{anchor-marked}
+use Rattle.reach.proofs.Existence.{MarksOf, reach-exists}
 use Rattle.checker.specs.Decides.{Decides}
-use Rattle.checker.specs.Marks.{Flags, Reached, markOf, RowMarked, Marking, Reaching, unmarked}
 use Rattle.checker.specs.Gains.{matrix, anywhere, Table, NoneGains, Tested}
 use Rattle.checker.specs.Tables.{Sized, Holds, Picked, Trial, stampsPoint}
 use Rattle.checker.specs.Arcs.{variableArc, VariableArcs, heaviest, RowArcs}
 use Rattle.checker.specs.Counts.{PickCounts, RowPickCounts, VariablesCount, RowsCount}
 use Rattle.checker.specs.Outcome.{Meant, Formed}
 use Rattle.checker.proofs.Decides.{said-yes, said-no}
-use Rattle.checker.proofs.Counting.{anchor-marked}
-use Rattle.checker.proofs.Marks.{row-none, row-more, marking-none, marking-skip, marking-row, reaching-start, reaching-round, reached-done, round-falls}
 use Rattle.checker.proofs.ClosedWalks.{all-or-gain}
 use Rattle.checker.proofs.Variables.{variables-table, variables-not, variables-both}
 use Rattle.checker.proofs.RowStrategy.{rows-table, rows-not, rows-both}
@@ -90,66 +88,6 @@ under p q = ⊎-elim (λ h. ⊎-elim (λ g. yes (λ _. g)) (λ d. no (λ f. d (f
 
 nonzero : (k : ℕ) → Decided (0 < k)
 nonzero k = ⊎-elim (λ (e : k ≡ 0). no (λ h. omega arith)) (λ h. yes h) (eq-zero-or-pos k)
-
--- ---- reach
-
-record RowOf (arcs : List ℕ) (base k : ℕ) (old : List ℕ) : Type 0 where
-  marks : List ℕ
-  row : RowMarked arcs base k old marks
-
-row-exists : (arcs : List ℕ) (base : ℕ) (old : List ℕ) → length old ≡ 32 → (k : ℕ) → k ≤ 32 → RowOf arcs base k old
-row-exists arcs base old e zero h = record { marks = old; row = row-none arcs base old }
-row-exists arcs base old e (suc k) h =
-    let r = row-exists arcs base old e k (omega arith) in
-    record { marks = set (r .marks) k (markOf (getD (r .marks) k 0) (getD arcs (base + k) 0)); row = rw (← add-one k) (row-more (r .row) (omega (arith, r .row .same)) refl) }
-
-record RoundOf (arcs : List ℕ) (width : ℕ) (old : List ℕ) (k : ℕ) : Type 0 where
-  marks : List ℕ
-  marking : Marking arcs width old k marks
-
-round-step : (arcs : List ℕ) (width : ℕ) (old : List ℕ) (k : ℕ) → width ≤ 32 → k < width → RoundOf arcs width old k → RoundOf arcs width old (suc k)
-round-step arcs width old k w h before = ⊎-elim
-    (λ (z : getD (before .marks) k 0 ≡ 0). record { marks = before .marks; marking = rw (← add-one k) (marking-skip (before .marking) z) })
-    (λ (z : 0 < getD (before .marks) k 0).
-    let r = row-exists arcs (k * 32) (before .marks) (before .marking .flags .length-is) 32 (omega arith) in
-    record { marks = r .marks; marking = rw (← add-one k) (marking-row (before .marking) w h (λ e. omega arith) (r .row)) })
-    (eq-zero-or-pos (getD (before .marks) k 0))
-
-round-exists : (arcs : List ℕ) (width : ℕ) (old : List ℕ) → width ≤ 32 → Flags old → (k : ℕ) → k ≤ width → RoundOf arcs width old k
-round-exists arcs width old w f zero h = record { marks = old; marking = marking-none arcs width old f }
-round-exists arcs width old w f (suc k) h = round-step arcs width old k w (omega arith) (round-exists arcs width old w f k (omega arith))
-
-same-or-not : (a b : ℕ) → Decided (a ≡ b)
-same-or-not a b = go (eqb a b) refl
-  where
-    go : (t : Bool) → eqb a b ≡ t → Decided (a ≡ b)
-    go true e = yes (eqb-true a b e)
-    go false e = no (eqb-false a b e)
-
--- Marks of the variables that are reachable from the start.
-pub record MarksOf (arcs : List ℕ) (width : ℕ) (begin : List ℕ) : Type 0 where
-  pub marks : List ℕ
-  pub reached : Reached arcs width begin marks
-
--- One round more, unless it marks nothing new.
-reach-step : {arcs : List ℕ} {width : ℕ} {begin : List ℕ} (marks : List ℕ) → width ≤ 32 → Reaching arcs width begin marks
-    → ((new : List ℕ) → unmarked new width < unmarked marks width → Reaching arcs width begin new → MarksOf arcs width begin)
-    → MarksOf arcs width begin
-reach-step {arcs} {width} {begin} marks w r further = ⊎-elim
-    (λ agree. record { marks = marks; reached = reached-done r (new .marking) agree })
-    (λ d. further (new .marks) (round-falls r (new .marking) d) (reaching-round r (new .marking)))
-    (known (all-decided (λ j. same-or-not (getD marks j 0) (getD (new .marks) j 0)) width))
-  where
-    new : RoundOf arcs width marks width
-    new = round-exists arcs width marks w (r .flags) width (omega arith)
-
-reach-on : (arcs : List ℕ) (width : ℕ) (begin : List ℕ) → width ≤ 32 → (fuel : ℕ) (marks : List ℕ) → unmarked marks width ≤ fuel
-    → Reaching arcs width begin marks → MarksOf arcs width begin
-reach-on arcs width begin w zero marks h r = reach-step marks w r (λ new l q. absurd (omega arith))
-reach-on arcs width begin w (suc fuel) marks h r = reach-step marks w r (λ new l q. reach-on arcs width begin w fuel new (omega arith) q)
-
-pub reach-exists : (arcs : List ℕ) (width : ℕ) (begin : List ℕ) → width ≤ 32 → Flags begin → MarksOf arcs width begin
-reach-exists arcs width begin w f = reach-on arcs width begin w (unmarked begin width) begin (omega arith) (reaching-start arcs width begin f)
 
 -- ---- closed walks
 

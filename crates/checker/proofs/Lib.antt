@@ -1,6 +1,5 @@
 pub mod Decides
 pub mod Lists
-pub mod Marks
 pub mod ArcTables
 pub mod Counting
 pub mod Certified

@@ -7,7 +7,7 @@ use mathlib.Core.Logic.{_⊎_, inl, inr, ⊎-elim}
 use native.Mathlib.Omega.{arith}
 use native.Mathlib.Numerals.{add-one}
 use lib.Dec.{leb}
-use lib.ListN.{length, getD, set, length-set, replicate}
+use lib.ListN.{length, getD, set, length-set}
 use lib.Seq.{getD-set-same, getD-set-other}
 use borrow.Author.Tests.{leb-true, leb-false}
 use Rattle.definitions.proofs.Whole.{nat-le-or-lt}
@@ -74,11 +74,6 @@ module _ (table : List ℕ) (base : ℕ) (x : List ℕ) (floor : ℕ) where
       (nat-le-or-lt (suc k) w)
 
 -- ---- places filled
-
-pub zeros : (n j : ℕ) → _≡_ {A = ℕ} (getD (replicate n 0) j 0) 0
-zeros zero j = refl
-zeros (suc n) zero = refl
-zeros (suc n) (suc j) = zeros n j
 
 -- The place that is set has the value, the others what they had.
 pub set-here : (l : List ℕ) (i v : ℕ) → i < length l → getD (set l i v) i 0 ≡ v

@@ -20,12 +20,12 @@ use Rattle.definitions.proofs.Whole.{whole, subℕ-read, plus-read, minus-read}
 use Rattle.definitions.proofs.Offset.{trop-read}
 use Rattle.duality.specs.Picks.{AtLeastZero}
 use Rattle.records.specs.Decoded.{Near}
+use Rattle.reach.specs.Marks.{Marked, Anchored, Reached}
 use Rattle.checker.specs.Decides.{Decides}
-use Rattle.checker.specs.Marks.{Marked, Reached}
 use Rattle.checker.specs.Gains.{arc-zero, arc-most, weightOf, Table, Tested}
 use Rattle.checker.specs.Tables.{Sized, Holds, Picked, Trial}
 use Rattle.checker.specs.Arcs.{raisedBy, least-lead, fall, fallen, looseArc, rowArc, heaviest, RowArcs}
-use Rattle.checker.specs.Counts.{RowsCount, Anchored}
+use Rattle.checker.specs.Counts.{RowsCount}
 use Rattle.checker.proofs.Decides.{decides-as}
 use Rattle.checker.proofs.Lists.{most-one, most-left, most-right, below-or-last}
 use Rattle.checker.proofs.ArcTables.{heaviest-more}

@@ -17,10 +17,11 @@ use Rattle.definitions.proofs.Whole.{minus-read}
 use Rattle.definitions.proofs.Tropical.{⊑-refl, ⊑-antisym, larger-left, larger-least, largest-ext, bot-plus, plus-bot}
 use Rattle.definitions.proofs.Offset.{trop-zero, trop-fin, trop-read, trop-order, trop-larger, plus-trop}
 use Rattle.records.specs.Decoded.{Near}
+use Rattle.reach.proofs.Marks.{zeros}
 use Rattle.checker.specs.Lists.{most, bestSum}
 use Rattle.checker.specs.Sides.{stamp-drop, lowered, Lowered, side-floor, sideBy, sideOf}
 use Rattle.checker.specs.Tables.{Holds, Stamped, stampsPoint}
-use Rattle.checker.proofs.Lists.{most-one, best-floor, best-under, best-past, zeros, set-here, set-there, one-more}
+use Rattle.checker.proofs.Lists.{most-one, best-floor, best-under, best-past, set-here, set-there, one-more}
 
 larger-blank : (x : Trop) → larger x bot ≡ x
 larger-blank x = ⊑-antisym (larger-least (⊑-refl x) blank-least) (larger-left x bot)

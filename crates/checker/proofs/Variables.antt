@@ -20,12 +20,12 @@ use Rattle.definitions.specs.Verdict.{strategyOf}
 use Rattle.definitions.proofs.Whole.{whole, plus-read, minus-read}
 use Rattle.definitions.proofs.Offset.{trop-fin, trop-read, trop-show}
 use Rattle.records.specs.Decoded.{Near}
+use Rattle.reach.specs.Marks.{Marked, Anchored, Reached}
 use Rattle.checker.specs.Decides.{Decides}
-use Rattle.checker.specs.Marks.{Marked, Reached}
 use Rattle.checker.specs.Gains.{arc-zero, arc-most, weightOf, Table, Tested}
 use Rattle.checker.specs.Tables.{Sized, Holds, Picked, Trial}
 use Rattle.checker.specs.Arcs.{raisedBy, least-lead, lift, lifted, strictArc, variableArc, VariableArcs}
-use Rattle.checker.specs.Counts.{VariablesCount, Anchored}
+use Rattle.checker.specs.Counts.{VariablesCount}
 use Rattle.checker.proofs.Decides.{decides-as}
 use Rattle.checker.proofs.Certified.{weight-show, strict, strict-read, strict-scale, Behind, Shows, certified-not, certified-both}
 

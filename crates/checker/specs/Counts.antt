@@ -3,7 +3,7 @@ use Prim.Native.Nat.{ℕ, suc, _+_, _*_, _<_}
 use mathlib.Core.Path.{_≡_}
 use mathlib.Core.List.{List}
 use lib.ListN.{getD}
-use Rattle.checker.specs.Marks.{Marked, Flags}
+use Rattle.reach.specs.Marks.{Marked}
 
 -- Variable j's pick is a row whose left coefficient for j is not blank.
 pub record PickCounts (left : List ℕ) (pick j : ℕ) : Type 0 where
@@ -32,9 +32,3 @@ Stands left right marks width base pick = (j : ℕ) → j < width → Marked mar
 -- Each row below k stands.
 abbrev pub RowsCount : List ℕ → List ℕ → List ℕ → List ℕ → ℕ → ℕ → Type 0
 RowsCount left right picks marks width k = (i : ℕ) → i < k → Stands left right marks width (i * 32) (getD picks i 0)
-
--- Only variable 0 is marked.
-pub record Anchored (start : List ℕ) : Type 0 where
-  pub flags : Flags start
-  pub anchor : Marked start 0
-  pub only : (j : ℕ) → Marked start j → j ≡ 0

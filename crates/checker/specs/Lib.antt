@@ -2,7 +2,6 @@ pub mod Decides
 pub mod Lists
 pub mod Tables
 pub mod Sides
-pub mod Marks
 pub mod Gains
 pub mod GainRound
 pub mod Arcs

@@ -10,14 +10,13 @@ ghost use Rattle.checker.specs.Gains.{arc-zero};
 ghost use Rattle.checker.specs.Tables.{Sized, Picked, Trial};
 ghost use Rattle.checker.specs.Arcs.{raisedBy, lift, lift-most, lifted, variableArc, VariableArcs, fall, fall-most, fallen, rowArc, heaviest, RowArcs, Column};
 use crate::sums::larger;
+use reach::ARCS;
 use records::limits::LEAD_LIMIT;
 use records::limits::OFFSET;
 use records::limits::STRIDE;
 use records::limits::TABLE;
 
-// The elements of a table of arcs, 32 rows of 32, and the number in it of an arc that weighs 0.
-pub const ARCS: usize = 1024;
-
+// The number in the table of an arc that weighs 0.
 pub const ARC_ZERO: u32 = 2147483648;
 
 // The offset number of the least lead.

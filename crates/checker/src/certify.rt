@@ -12,25 +12,16 @@ ghost use Rattle.definitions.specs.Certificate.{PicksCount, BelowZero, RowPicks
 ghost use Rattle.definitions.specs.Verdict.{strategyOf};
 ghost use Rattle.duality.specs.Picks.{AtLeastZero};
 ghost use Rattle.checker.specs.Decides.{Decides};
-ghost use Rattle.checker.specs.Marks.{Marked, Flags};
 ghost use Rattle.checker.specs.Tables.{Sized, Holds, Picked, Trial};
-ghost use Rattle.checker.specs.Counts.{PickCounts, RowPickCounts, VariablesCount, Idle, Stands, RowsCount, Anchored};
-use crate::arcs::ARCS;
+ghost use Rattle.checker.specs.Counts.{PickCounts, RowPickCounts, VariablesCount, Idle, Stands, RowsCount};
 use crate::arcs::row_arcs;
 use crate::arcs::variable_arcs;
 use crate::gains::none_gains;
-use crate::reach::reach;
+use reach::ARCS;
+use reach::anchor;
+use reach::reach;
 use records::limits::STRIDE;
 use records::limits::TABLE;
-
-// The start of document 01: variable 0, the anchor, alone.
-pub fn anchor() -> [u8; 32]
-    ensures { λ r. ⌜ Anchored r ⌝ }
-{
-    let mut start = [0u8; 32];
-    start[0] = 1;
-    start
-}
 
 // A variable that is not marked, or whose pick counts.
 fn variable_counts(left: &[u32; TABLE], mark: u8, pick: usize, j: usize) -> bool

@@ -2,13 +2,13 @@
 ghost use mathlib.Core.Path.{_≡_};
 ghost use Prim.Native.Nat.{ℕ, _+_, _*_, _≤_, _<_};
 ghost use lib.ListN.{length, getD};
+ghost use Rattle.reach.specs.Marks.{Flags};
 ghost use Rattle.checker.specs.Gains.{arc-zero, arc-most, Table, Tested};
-ghost use Rattle.checker.specs.Marks.{Flags};
 ghost use Rattle.checker.specs.GainRound.{Values, gainedBy, Rounded};
 use crate::arcs::ARC_ZERO;
-use crate::arcs::ARCS;
 use crate::sums::best_sum;
 use crate::sums::values_agree;
+use reach::ARCS;
 use records::limits::STRIDE;
 
 // The value of variable j after a round, 0 where it is not marked.

@@ -5,5 +5,4 @@ pub mod check;
 pub mod gains;
 pub mod input;
 pub mod point;
-pub mod reach;
 pub mod sums;

@@ -116,7 +116,7 @@ module _ (p : Problem) (n m : ℕ) (left right picks out : List ℕ) (held : Hel
   pub variables-agree : AgreeReached p (picksFrom (pickOf picks) (m + 1)) (pickOf out)
   variables-agree j r =
       let q = reaches-arcs r in
-      v .shown .each j (omega (arith, q .1)) ∙ shown-full picks (m + 1) (getD (v .marks) j 0) j (v .reached .marked j (q .0))
+      v .shown .each j (omega (arith, q .1)) ∙ shown-full picks (m + 1) (getD (v .marks) j 0) j (v .reached .marked j (q .0) .1)
 
   reaches-shown : {j : ℕ} → Reachable Anchor (Leads p (picksFrom (pickOf picks) (m + 1))) j → Reachable Anchor (Leads p (pickOf out)) j
   reaches-shown r = reach-keep {L′ = Leads p (pickOf out)} (Reachable Anchor (Leads p (picksFrom (pickOf picks) (m + 1)))) (λ j e. (e, start e))
@@ -124,16 +124,13 @@ module _ (p : Problem) (n m : ℕ) (left right picks out : List ℕ) (held : Hel
 
   -- Elsewhere they are 0.
   pub variables-idle : IdleVariables p (pickOf out)
-  variables-idle j d = ⊎-elim
-      (λ (z : getD (v .marks) j 0 ≡ 0). unmarked z)
-      (λ (h : 0 < getD (v .marks) j 0). absurd (d (reaches-shown (reaches-full (v .reached .reachable j (λ e. omega arith))))))
-      (eq-zero-or-pos (getD (v .marks) j 0))
+  variables-idle j d = ⊎-elim (λ (h : n + 1 ≤ j). v .shown .rest j h) inside (nat-le-or-lt (n + 1) j)
     where
-      unmarked : getD (v .marks) j 0 ≡ 0 → getD out j 0 ≡ 0
-      unmarked z = ⊎-elim
-          (λ (h : n + 1 ≤ j). v .shown .rest j h)
-          (λ (h : j < n + 1). v .shown .each j h ∙ sym (shown-unmarked (m + 1) (getD (v .marks) j 0) (getD picks j 0) z))
-          (nat-le-or-lt (n + 1) j)
+      inside : j < n + 1 → getD out j 0 ≡ 0
+      inside h = ⊎-elim
+          (λ (z : getD (v .marks) j 0 ≡ 0). v .shown .each j h ∙ sym (shown-unmarked (m + 1) (getD (v .marks) j 0) (getD picks j 0) z))
+          (λ (p : 0 < getD (v .marks) j 0). absurd (d (reaches-shown (reaches-full (v .reached .reachable j (h, λ e. omega arith))))))
+          (eq-zero-or-pos (getD (v .marks) j 0))
 
   -- None is above m + 1.
   pub variables-most : (j : ℕ) → getD out j 0 ≤ m + 1

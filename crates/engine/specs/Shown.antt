@@ -4,8 +4,9 @@ use mathlib.Core.Path.{_≡_}
 use mathlib.Core.Bool.{Bool, true, false, cond}
 use mathlib.Core.List.{List}
 use lib.Dec.{eqb, ltb}
-use lib.ListN.{getD}
+use lib.ListN.{length, getD}
 use Rattle.definitions.specs.Tropical.{plus, largest, _⊑_, Finite}
+use Rattle.reach.specs.Spreading.{markOf}
 use Rattle.trials.specs.Tables.{entryOf, pointOf}
 use Rattle.trials.specs.Filled.{Filled}
 use Rattle.trials.specs.Rounds.{sums}
@@ -46,11 +47,6 @@ pub record RowTo (left picks : List ℕ) (rows j l : ℕ) : Type 0 where
   pub picked : getD picks row 0 ≡ l
   pub left-is : getD left (row * 32 + j) 0 ≡ 0 → ⊥
 
--- The test of one row.
-pub record HitsIs (pick l left : ℕ) (r : Bool) : Type 0 where
-  pub yes : r ≡ true → (pick ≡ l) × (left ≡ 0 → ⊥)
-  pub no : r ≡ false → pick ≡ l → left ≡ 0
-
 -- The arc from j to l: not 0 exactly when some row leads there.
 pub record RowArcIs (left picks : List ℕ) (rows j l r : ℕ) : Type 0 where
   pub some : (r ≡ 0 → ⊥) → RowTo left picks rows j l
@@ -60,11 +56,23 @@ pub record RowArcIs (left picks : List ℕ) (rows j l r : ℕ) : Type 0 where
 abbrev pub RowArcs : List ℕ → List ℕ → ℕ → ℕ → List ℕ → Type 0
 RowArcs left picks rows n arcs = Filled (λ k v. RowArcIs left picks rows (k / 32) (k % 32) v) 1024 n arcs
 
+-- The arcs to variable l by a row that picks it and whose left coefficients start at `base`: the first n places of column
+-- l are set where these are not 0, and all others are as they were.
+pub record Column (left : List ℕ) (base l n : ℕ) (old new : List ℕ) : Type 0 where
+  pub same : length new ≡ length old
+  pub cells : (j : ℕ) → j < n → getD new (j * 32 + l) 0 ≡ markOf (getD old (j * 32 + l) 0) (getD left (base + j) 0)
+  pub others : (k : ℕ) → (k % 32 ≡ l → n ≤ k / 32) → getD new k 0 ≡ getD old k 0
+
+-- A test of two numbers: both are above 0.
+pub record BothAre (a b : ℕ) (r : Bool) : Type 0 where
+  pub yes : r ≡ true → (a ≡ 0 → ⊥) × (b ≡ 0 → ⊥)
+  pub no : r ≡ false → (a ≡ 0 → ⊥) → b ≡ 0
+
 -- A marked variable that the row holds on its left.
 pub record UsedBy (left marks : List ℕ) (width i : ℕ) : Type 0 where
   pub at : ℕ
   pub inside : at < width
-  pub marked : Marked marks at
+  pub marked : Marked marks width at
   pub left-is : getD left (i * 32 + at) 0 ≡ 0 → ⊥
 
 -- The mark of a row: not 0 exactly when it is in use.

@@ -7,5 +7,4 @@ pub mod guess;
 pub mod halving;
 pub mod input;
 pub mod picks;
-pub mod reach;
 pub mod solve;

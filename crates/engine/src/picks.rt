@@ -2,17 +2,20 @@
 ghost use mathlib.Core.Path.{_≡_};
 ghost use Prim.Native.Nat.{_+_, _*_, _/_, _%_, _<_, _≤_};
 ghost use lib.ListN.{length};
+ghost use Rattle.reach.specs.Spreading.{markOf};
 ghost use Rattle.trials.specs.Tables.{raised-limit, Table, Ranged};
-ghost use Rattle.engine.specs.Shown.{shownPick, arcBy, VariableArcs, ShownVariables, VariablePicks, HitsIs, RowArcIs, RowArcs, UsedIs, ShownRows, RowPicks, BestIs, InducedRows};
-use crate::reach::both;
-use crate::reach::reach;
+ghost use Rattle.engine.specs.Shown.{BothAre, shownPick, arcBy, VariableArcs, ShownVariables, VariablePicks, Column, RowArcs, UsedIs, ShownRows, RowPicks, BestIs, InducedRows};
 use trials::values::plus;
+use reach::ARCS;
+use reach::anchor;
+use reach::reach;
+use records::limits::STRIDE;
 
 // One less than three quarters of 2³²: a sum of two offset numbers is above it exactly if both are whole.
 const BLANK_MOST: u64 = 3221225471;
 
 // The record's form of a pick below `many`.
-fn shown(many: usize, mark: u32, pick: usize) -> u64
+fn shown(many: usize, mark: u8, pick: usize) -> u64
     requires { ⌜ many ≤ 64 ⌝ }
     ensures { λ r. ⌜ r ≡ shownPick many mark pick ⌝ }
 {
@@ -30,23 +33,38 @@ fn arc_by(right: &[u32; 2048], rows: usize, pick: usize, l: usize) -> u32
     if pick < rows { right[pick * 32 + l] } else { 0 }
 }
 
+// The arcs from variable j, by the row that it picks.
+fn fill_variable(
+    arcs: &mut [u32; ARCS],
+    right: &[u32; 2048],
+    picks: &[usize; 32],
+    rows: usize,
+    j: usize,
+)
+    requires { ⌜ (length (now right) ≡ 2048) × (length (now picks) ≡ 32) × (rows ≤ 64) × (j < 32) × VariableArcs (now right) (now picks) rows (j * 32) (now arcs) ⌝ }
+    ensures { λ _. ⌜ VariableArcs (now (right .entry)) (now (picks .entry)) rows (j * 32 + 32) (now (arcs .exit)) ⌝ }
+{
+    let base = j * STRIDE;
+    let pick = picks[j];
+    for l in 0..STRIDE {
+        arcs[base + l] = arc_by(right, rows, pick, l);
+    }
+}
+
 // The arcs of a strategy of variables.
-fn variable_arcs(right: &[u32; 2048], picks: &[usize; 32], width: usize, rows: usize) -> [u32; 1024]
+fn variable_arcs(right: &[u32; 2048], picks: &[usize; 32], width: usize, rows: usize) -> [u32; ARCS]
     requires { ⌜ (length (now right) ≡ 2048) × (length (now picks) ≡ 32) × (width ≤ 32) × (rows ≤ 64) ⌝ }
     ensures { λ r. ⌜ VariableArcs (now (right .entry)) (now (picks .entry)) rows (width * 32) r ⌝ }
 {
-    let end = width * 32;
-    let mut out = [0u32; 1024];
-    let mut k = 0;
-    while k < end {
-        out[k] = arc_by(right, rows, picks[k / 32], k % 32);
-        k += 1;
+    let mut out = [0u32; ARCS];
+    for j in 0..width {
+        fill_variable(&mut out, right, picks, rows, j);
     }
     out
 }
 
 // The picks of a strategy of variables, by marks.
-fn shown_variables(picks: &[usize; 32], marks: &[u32; 32], width: usize, rows: usize) -> [u64; 64]
+fn shown_variables(picks: &[usize; 32], marks: &[u8; 32], width: usize, rows: usize) -> [u64; 64]
     requires { ⌜ (length (now picks) ≡ 32) × (length (now marks) ≡ 32) × (width ≤ 32) × (rows ≤ 64) ⌝ }
     ensures { λ r. ⌜ ShownVariables (now (picks .entry)) (now (marks .entry)) rows width r ⌝ }
 {
@@ -70,52 +88,55 @@ pub fn variable_picks(
     ensures { λ r. ⌜ VariablePicks (now (right .entry)) (now (picks .entry)) width rows r ⌝ }
 {
     let arcs = variable_arcs(right, picks, width, rows);
-    let marks = reach(&arcs, width);
+    let marks = reach(&arcs, width, anchor());
     shown_variables(picks, &marks, width, rows)
 }
 
-// A row that picks l and holds a variable on its left.
-fn hits(pick: usize, l: usize, left: u32) -> bool
-    ensures { λ r. ⌜ HitsIs pick l left r ⌝ }
+// An arc, once a row that picks its end was looked at: there is one where the row's left coefficient is not blank.
+fn arc_or(arc: u32, left: u32) -> u32
+    ensures { λ r. ⌜ r ≡ markOf arc left ⌝ }
 {
-    if pick != l {
-        return false;
-    }
-    left != 0
+    if left == 0 { arc } else { 1 }
 }
 
-// The arc from variable j to variable l by a strategy of rows.
-fn row_arc(left: &[u32; 2048], picks: &[usize; 64], rows: usize, j: usize, l: usize) -> u32
-    requires { ⌜ (length (now left) ≡ 2048) × (length (now picks) ≡ 64) × (rows ≤ 64) × (j < 32) ⌝ }
-    ensures { λ r. ⌜ RowArcIs (now (left .entry)) (now (picks .entry)) rows j l r ⌝ }
+// The arcs to variable l by a row that picks it and whose left coefficients start at `base`.
+fn fill_column(arcs: &mut [u32; ARCS], left: &[u32; 2048], base: usize, l: usize, width: usize)
+    requires { ⌜ (length (now arcs) ≡ 1024) × (length (now left) ≡ 2048) × (base + 32 ≤ 2048) × (l < 32) × (width ≤ 32) ⌝ }
+    ensures { λ _. ⌜ Column (now (left .entry)) base l width (now (arcs .entry)) (now (arcs .exit)) ⌝ }
 {
-    let mut i = 0;
-    while i < rows {
-        if hits(picks[i], l, left[i * 32 + j]) {
-            return 1;
-        }
-        i += 1;
+    for j in 0..width {
+        let at = j * STRIDE + l;
+        arcs[at] = arc_or(arcs[at], left[base + j]);
     }
-    0
 }
 
-// The arcs of a strategy of rows.
-fn row_arcs(left: &[u32; 2048], picks: &[usize; 64], width: usize, rows: usize) -> [u32; 1024]
+// The arcs of a strategy of rows, row by row. A pick that is no column of the table leads nowhere.
+fn row_arcs(left: &[u32; 2048], picks: &[usize; 64], width: usize, rows: usize) -> [u32; ARCS]
     requires { ⌜ (length (now left) ≡ 2048) × (length (now picks) ≡ 64) × (width ≤ 32) × (rows ≤ 64) ⌝ }
     ensures { λ r. ⌜ RowArcs (now (left .entry)) (now (picks .entry)) rows (width * 32) r ⌝ }
 {
-    let end = width * 32;
-    let mut out = [0u32; 1024];
-    let mut k = 0;
-    while k < end {
-        out[k] = row_arc(left, picks, rows, k / 32, k % 32);
-        k += 1;
+    let mut out = [0u32; ARCS];
+    for i in 0..rows {
+        let l = picks[i];
+        if l < STRIDE {
+            fill_column(&mut out, left, i * STRIDE, l, width);
+        }
     }
     out
 }
 
+// Both numbers are above 0.
+fn both(a: u8, b: u32) -> bool
+    ensures { λ r. ⌜ BothAre a b r ⌝ }
+{
+    if a == 0 {
+        return false;
+    }
+    b != 0
+}
+
 // The mark of a row: it holds a marked variable on its left.
-fn used(left: &[u32; 2048], marks: &[u32; 32], i: usize, width: usize) -> u32
+fn used(left: &[u32; 2048], marks: &[u8; 32], i: usize, width: usize) -> u8
     requires { ⌜ (length (now left) ≡ 2048) × (length (now marks) ≡ 32) × (i < 64) × (width ≤ 32) ⌝ }
     ensures { λ r. ⌜ UsedIs (now (left .entry)) (now (marks .entry)) width i r ⌝ }
 {
@@ -133,7 +154,7 @@ fn used(left: &[u32; 2048], marks: &[u32; 32], i: usize, width: usize) -> u32
 fn shown_rows(
     left: &[u32; 2048],
     picks: &[usize; 64],
-    marks: &[u32; 32],
+    marks: &[u8; 32],
     width: usize,
     rows: usize,
 ) -> [u64; 64]
@@ -155,7 +176,7 @@ pub fn row_picks(left: &[u32; 2048], picks: &[usize; 64], width: usize, rows: us
     ensures { λ r. ⌜ RowPicks (now (left .entry)) (now (picks .entry)) width rows r ⌝ }
 {
     let arcs = row_arcs(left, picks, width, rows);
-    let marks = reach(&arcs, width);
+    let marks = reach(&arcs, width, anchor());
     shown_rows(left, picks, &marks, width, rows)
 }
 

@@ -3,14 +3,13 @@ use mathlib.Core.Path.{_≡_}
 use native.Mathlib.Omega.{arith}
 use borrow.Author.Count.{below-more}
 use lib.ListN.{getD}
-use Rattle.engine.specs.Marks.{Marked}
 use Rattle.engine.proofs.Shown.{used-found, used-none}
 use borrow.Author.Needs.{needs}
 use Rattle.engine.proofs.picks.used.Statement.{statement}
 use Rattle.engine.proofs.picks.used.Tie as tie
 
 abbrev Inv-loop : tie.InvT-loop
-Inv-loop left marks i width j₀ j = (j ≤ width) × ((k : ℕ) → k < j → Marked marks k → getD left (i * 32 + k) 0 ≡ 0)
+Inv-loop left marks i width j₀ j = (j ≤ width) × ((k : ℕ) → k < j → (getD marks k 0 ≡ 0 → ⊥) → getD left (i * 32 + k) 0 ≡ 0)
 
 abbrev μ-loop : tie.MeasureT-loop
 μ-loop left marks i width j₀ j = width - j
@@ -22,7 +21,6 @@ used-spec =
     Inv-loop
     μ-loop
     (λ c. (omega arith, λ k h. absurd (omega arith)))
-    (λ c. search needs)
     (λ c. search needs)
     (λ c. search needs)
     (λ c. search needs)

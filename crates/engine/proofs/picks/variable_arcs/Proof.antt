@@ -1,16 +1,16 @@
-use Prim.Native.Nat.{_≤_, _-_}
-use native.Mathlib.Omega.{arith}
-use Rattle.trials.proofs.Filled.{filled-none, filled-more, filled-end}
-use Rattle.engine.specs.Shown.{VariableArcs}
 use borrow.Author.Needs.{needs}
+use Prim.Native.Nat.{_*_, _-_, _≤_}
+use native.Mathlib.Omega.{arith}
+use Rattle.engine.specs.Shown.{VariableArcs}
+use Rattle.trials.proofs.Filled.{filled-none, filled-end}
 use Rattle.engine.proofs.picks.variable_arcs.Statement.{statement}
 use Rattle.engine.proofs.picks.variable_arcs.Tie as tie
 
 abbrev Inv-loop : tie.InvT-loop
-Inv-loop right picks width rows end out₀ k₀ out k = (k ≤ end) × VariableArcs right picks rows k out
+Inv-loop right picks width rows out₀ j₀ out j = (j ≤ width) × VariableArcs right picks rows (j * 32) out
 
 abbrev μ-loop : tie.MeasureT-loop
-μ-loop right picks width rows end out₀ k₀ out k = end - k
+μ-loop right picks width rows out₀ j₀ out j = width - j
 
 pub variable-arcs-spec : {M : Type 1} → statement M
 variable-arcs-spec =
@@ -18,14 +18,9 @@ variable-arcs-spec =
     (tie.spec
     Inv-loop
     μ-loop
-    (λ c. search needs)
     (λ c. (omega arith, filled-none 1024))
+    (λ c κs. (omega arith, omega arith, omega arith, omega arith, c .before .before .loop .inv .1))
     (λ c. search needs)
-    (λ c. search needs)
-    (λ c κs. search needs)
-    (λ c. search needs)
-    (λ c. search needs)
-    (λ c. search needs)
-    (λ c. search needs)
-    (λ c. (omega arith, filled-more (c .before .before .before .loop .inv .1) (omega arith) (c .arc-by .ensures)))
-    (λ c. filled-end (c .before .loop .inv .1) (c .before .loop .inv .0) (c .loop-test .left)))
+    (λ c. omega arith)
+    (λ c. (omega arith, filled-end (c .fill-variable .ensures) (omega arith) (omega arith)))
+    (λ c. filled-end (c .before .loop .inv .1) (omega arith) (omega arith)))

@@ -1,0 +1,240 @@
+-- Laws of reach: a row marks, a round spreads, fewer variables are left to do, and a round that had none to do has reached
+-- all.
+use Prim.Native.Nat.{ℕ, zero, suc, _+_, _*_, _-_, _≤_, _<_}
+use mathlib.Core.Path.{_≡_, refl, ap, sym, subst, _∙_}
+use mathlib.Core.Bool.{Bool, true, false, cond, false≢true}
+use mathlib.Core.List.{List, _∷_}
+use mathlib.Core.Logic.{_⊎_, inl, inr, ⊎-elim}
+use native.Mathlib.Omega.{arith}
+use native.Mathlib.Nat.{eq-zero-or-pos}
+use lib.Dec.{eqb}
+use lib.ListN.{length, getD, set, replicate, length-set, length-replicate}
+use lib.Seq.{getD-set-same, getD-set-other}
+use borrow.Author.Tests.{eqb-true, eqb-false, eq-eqb, ne-eqb}
+use Rattle.definitions.specs.Certificate.{Reachable, Anchor, start, onward}
+use Rattle.definitions.proofs.Whole.{nat-le-or-lt}
+use Rattle.duality.proofs.Height.{total-falls}
+use Rattle.duality.proofs.Reach.{reach-map}
+use Rattle.reach.specs.Marks.{Marked, Led, Begins, Flags, Anchored, Reached}
+use Rattle.reach.specs.Spreading.{markOf, RowMarked, Reaching, undone, Spreading}
+
+-- ---- the start
+
+pub zeros : (n j : ℕ) → _≡_ {A = ℕ} (getD (replicate n 0) j 0) 0
+zeros zero j = refl
+zeros (suc n) zero = refl
+zeros (suc n) (suc j) = zeros n j
+
+pub zero-flags : Flags (replicate 32 0)
+zero-flags = record { length-is = length-replicate {A = ℕ} 32 0; flag = λ k. omega (arith, zeros 32 k) }
+
+pub anchor-marked : Anchored (1 ∷ replicate 31 0)
+anchor-marked = record { flags = record { length-is = refl; flag = flag }; anchor = omega arith; only = only }
+  where
+    flag : (j : ℕ) → getD (1 ∷ replicate 31 0) j 0 ≤ 1
+    flag zero = omega arith
+    flag (suc j) = omega (arith, zeros 31 j)
+
+    only : (j : ℕ) → 0 < getD (1 ∷ replicate 31 0) j 0 → j ≡ 0
+    only zero h = refl
+    only (suc j) h = absurd (omega (arith, zeros 31 j))
+
+-- ---- one mark
+
+-- A mark stays, and an arc marks; a mark comes from one of the two.
+pub mark-kept : (mark arc : ℕ) → 0 < mark → 0 < markOf mark arc
+unfolding markOf
+mark-kept mark arc h = go (eqb arc 0)
+  where
+    go : (t : Bool) → 0 < cond t mark 1
+    go true = h
+    go false = omega arith
+
+pub mark-arc : (mark arc : ℕ) → 0 < arc → 0 < markOf mark arc
+unfolding markOf
+mark-arc mark arc h = rw (ne-eqb arc 0 (omega arith)) (omega arith)
+
+pub mark-same : (mark arc : ℕ) → arc ≡ 0 → markOf mark arc ≡ mark
+unfolding markOf
+mark-same mark arc e = rw (eq-eqb arc 0 e) refl
+
+pub mark-from : (mark arc : ℕ) → 0 < markOf mark arc → (0 < mark) ⊎ (0 < arc)
+unfolding markOf
+mark-from mark arc h = go (eqb arc 0) refl h
+  where
+    go : (t : Bool) → eqb arc 0 ≡ t → 0 < cond t mark 1 → (0 < mark) ⊎ (0 < arc)
+    go true e h = inl h
+    go false e h = inr (⊎-elim (λ (z : arc ≡ 0). absurd (eqb-false arc 0 e z)) (λ p. p) (eq-zero-or-pos arc))
+
+pub mark-flag : (mark arc : ℕ) → mark ≤ 1 → markOf mark arc ≤ 1
+unfolding markOf
+mark-flag mark arc h = go (eqb arc 0)
+  where
+    go : (t : Bool) → cond t mark 1 ≤ 1
+    go true = h
+    go false = omega arith
+
+-- ---- a row
+
+pub same-or-not : (a b : ℕ) → (a ≡ b) ⊎ (a ≡ b → ⊥)
+same-or-not a b = go (eqb a b) refl
+  where
+    go : (t : Bool) → eqb a b ≡ t → (a ≡ b) ⊎ (a ≡ b → ⊥)
+    go true e = inl (eqb-true a b e)
+    go false e = inr (eqb-false a b e)
+
+pub row-none : (arcs : List ℕ) (base : ℕ) (old : List ℕ) → RowMarked arcs base 0 old old
+row-none arcs base old = record { same = refl; cells = λ l h. absurd (omega arith); others = λ l h. refl }
+
+pub row-more : {arcs : List ℕ} {base k : ℕ} {old new : List ℕ} {v : ℕ} → RowMarked arcs base k old new → k < length new
+    → v ≡ markOf (getD new k 0) (getD arcs (base + k) 0) → RowMarked arcs base (k + 1) old (set new k v)
+row-more {arcs} {base} {k} {old} {new} {v} h b e = record {
+  same = length-set new k v ∙ h .same;
+  cells = λ l m. ⊎-elim
+      (λ (q : k ≤ l). let p : k ≡ l = omega arith in subst (λ (i : ℕ). getD (set new k v) i 0 ≡ markOf (getD old i 0) (getD arcs (base + i) 0)) p here)
+      (λ (q : l < k). getD-set-other new k l v 0 (λ p. omega arith) ∙ h .cells l q)
+      (nat-le-or-lt k l);
+  others = λ l m. getD-set-other new k l v 0 (λ q. omega arith) ∙ h .others l (omega arith);
+}
+  where
+    here : getD (set new k v) k 0 ≡ markOf (getD old k 0) (getD arcs (base + k) 0)
+    here = getD-set-same new k v 0 b ∙ e ∙ ap (λ z. markOf z (getD arcs (base + k) 0)) (h .others k (omega arith))
+
+module _ {arcs : List ℕ} {base : ℕ} {old new : List ℕ} (r : RowMarked arcs base 32 old new) where
+  -- A row keeps the marks,
+  pub row-kept : (l : ℕ) → Marked old l → Marked new l
+  row-kept l m = ⊎-elim (λ (q : 32 ≤ l). rw (r .others l q) m)
+      (λ (q : l < 32). rw (r .cells l q) (mark-kept (getD old l 0) (getD arcs (base + l) 0) m)) (nat-le-or-lt 32 l)
+
+  -- and they are still zeros and ones.
+  pub row-flags : Flags old → Flags new
+  row-flags f = record { length-is = r .same ∙ f .length-is; flag = flag }
+    where
+      flag : (l : ℕ) → getD new l 0 ≤ 1
+      flag l = ⊎-elim (λ (q : 32 ≤ l). rw (r .others l q) (f .flag l))
+          (λ (q : l < 32). rw (r .cells l q) (mark-flag (getD old l 0) (getD arcs (base + l) 0) (f .flag l))) (nat-le-or-lt 32 l)
+
+-- ---- done
+
+module _ {done : List ℕ} (f : Flags done) (k : ℕ) (small : k < 32) where
+  long : k < length done
+  long = omega (arith, f .length-is)
+
+  done-here : getD (set done k 1) k 0 ≡ 1
+  done-here = getD-set-same done k 1 0 long
+
+  done-there : (j : ℕ) → (j ≡ k → ⊥) → getD (set done k 1) j 0 ≡ getD done j 0
+  done-there j d = getD-set-other done k j 1 0 d
+
+  -- With variable k done these are zeros and ones,
+  pub done-flags : Flags (set done k 1)
+  done-flags = record { length-is = length-set done k 1 ∙ f .length-is; flag = flag }
+    where
+      flag : (j : ℕ) → getD (set done k 1) j 0 ≤ 1
+      flag j = ⊎-elim (λ (e : j ≡ k). rw e (omega (arith, done-here))) (λ d. rw (done-there j d) (f .flag j)) (same-or-not j k)
+
+  -- what is done was, or is k,
+  pub done-or : (j : ℕ) → Marked (set done k 1) j → (j ≡ k) ⊎ Marked done j
+  done-or j m = ⊎-elim (λ (e : j ≡ k). inl e) (λ d. inr (rw (done-there j d) at m)) (same-or-not j k)
+
+  -- and if k was not, fewer are left.
+  pub done-fewer : (width : ℕ) → k < width → getD done k 0 ≡ 0 → undone width (set done k 1) < undone width done
+  unfolding undone
+  done-fewer width h z = total-falls _ _ width k (λ j _. most j) h (rw (done-here, z) (omega arith))
+    where
+      most : (j : ℕ) → 1 - getD (set done k 1) j 0 ≤ 1 - getD done j 0
+      most j = ⊎-elim (λ (e : j ≡ k). rw (e, done-here) (omega arith)) (λ d. rw (done-there j d) (omega arith)) (same-or-not j k)
+
+-- ---- reach on the way
+
+pub reaching-start : (arcs : List ℕ) (width : ℕ) (begin : List ℕ) → Reaching arcs width begin begin (replicate 32 0)
+reaching-start arcs width begin = record {
+  begun = λ j s. s .marked;
+  only = λ j b h. start (record { inside = b; marked = h });
+  onward = λ j l m. absurd (omega (arith, zeros 32 j));
+}
+
+-- A marked variable marks all to which it leads, and is done.
+pub reaching-row : {arcs : List ℕ} {width : ℕ} {begin marks done more : List ℕ} {k : ℕ} → width ≤ 32 → k < width → Flags done → Marked marks k
+    → RowMarked arcs (k * 32) 32 marks more → Reaching arcs width begin marks done → Reaching arcs width begin more (set done k 1)
+reaching-row {arcs} {width} {begin} {marks} {done} {more} {k} w b f marked r h = record {
+  begun = λ j s. row-kept r j (h .begun j s);
+  only = λ l m q. ⊎-elim
+      (λ p. h .only l m p)
+      (λ p. onward (h .only k b marked) (record { from = b; to = m; arc = p }))
+      (mark-from (getD marks l 0) (getD arcs (k * 32 + l) 0) (rw (r .cells l (omega arith)) at q));
+  onward = λ j l m led. ⊎-elim (λ (e : j ≡ k). here l (rw e at led)) (λ d. row-kept r l (h .onward j l d led)) (done-or f k (omega arith) j m);
+}
+  where
+    here : (l : ℕ) → Led arcs width k l → Marked more l
+    here l led = rw (r .cells l (omega (arith, led .to))) (mark-arc (getD marks l 0) (getD arcs (k * 32 + l) 0) (led .arc))
+
+-- Where every marked variable is done, all is reached.
+pub reaching-done : {arcs : List ℕ} {width : ℕ} {begin marks done : List ℕ} → Flags marks → Reaching arcs width begin marks done
+    → ((j : ℕ) → j < width → Marked marks j → Marked done j) → Reached arcs width begin marks
+reaching-done {arcs} {width} {begin} {marks} {done} f h all = record { flags = f; marked = marked; only = h .only }
+  where
+    marked : (j : ℕ) → Reachable (Begins begin width) (Led arcs width) j → Marked marks j
+    marked j (start s) = h .begun j s
+    marked j (onward {j = i} q led) = h .onward i j (all i (led .from) (marked i q)) led
+
+-- ---- a round
+
+pub spreading-none : (arcs : List ℕ) (width : ℕ) (marks done : List ℕ) → Flags marks → Flags done → Spreading arcs width marks done 0 marks done false
+spreading-none arcs width marks done f g = record {
+  flags = f;
+  done-flags = g;
+  reaching = λ s h. h;
+  most = omega arith;
+  fewer = λ e. absurd (false≢true e);
+  still = λ e j h. absurd (omega arith);
+}
+
+-- A variable that is not marked, or is done, is passed.
+pub spreading-skip : {arcs : List ℕ} {width : ℕ} {marks done : List ℕ} {k : ℕ} {new spread : List ℕ} {moved : Bool}
+    → Spreading arcs width marks done k new spread moved → getD new k 0 ≤ getD spread k 0 → Spreading arcs width marks done (k + 1) new spread moved
+spreading-skip {k = k} {new = new} {spread = spread} h b = record {
+  flags = h .flags;
+  done-flags = h .done-flags;
+  reaching = h .reaching;
+  most = h .most;
+  fewer = h .fewer;
+  still = λ e j l m. ⊎-elim
+      (λ (q : k ≤ j). let p : k ≡ j = omega arith in subst (λ (i : ℕ). Marked new i → Marked spread i) p (λ n. omega arith) m)
+      (λ (q : j < k). h .still e j q m)
+      (nat-le-or-lt k j);
+}
+
+-- Another spreads its marks.
+pub spreading-row : {arcs : List ℕ} {width : ℕ} {marks done : List ℕ} {k : ℕ} {new spread more : List ℕ} {moved : Bool}
+    → Spreading arcs width marks done k new spread moved → width ≤ 32 → k < width → getD spread k 0 < getD new k 0
+    → RowMarked arcs (k * 32) 32 new more → Spreading arcs width marks done (k + 1) more (set spread k 1) true
+spreading-row {arcs} {width} {marks} {done} {k} {new} {spread} {more} h w b due r =
+    let small : k < 32 = omega arith in
+    let fewer = done-fewer (h .done-flags) k small width b (omega (arith, h .flags .flag k)) in
+    record {
+      flags = row-flags r (h .flags);
+      done-flags = done-flags (h .done-flags) k small;
+      reaching = λ s q. reaching-row w b (h .done-flags) (omega arith) r (h .reaching s q);
+      most = omega (arith, fewer, h .most);
+      fewer = λ _. omega (arith, fewer, h .most);
+      still = λ e. absurd (false≢true (sym e));
+    }
+
+-- A round that has spread nothing: all is reached.
+pub spreading-reached : {arcs : List ℕ} {width : ℕ} {begin marks done new spread : List ℕ} {moved : Bool} → Reaching arcs width begin marks done
+    → Spreading arcs width marks done width new spread moved → moved ≡ false → Reached arcs width begin new
+spreading-reached {begin = begin} h s e = reaching-done (s .flags) (s .reaching begin h) (s .still e)
+
+-- ---- from the anchor
+
+-- What is reached from variable 0 alone is reachable from the anchor, and what is reachable from it is reached.
+module _ {arcs : List ℕ} {width : ℕ} {begin marks : List ℕ} (anchored : Anchored begin) (reached : Reached arcs width begin marks) where
+  pub reached-anchor : (j : ℕ) → j < width → Marked marks j → Reachable Anchor (Led arcs width) j
+  reached-anchor j b m = reach-map (λ j s. anchored .only j (s .marked)) (λ j l h. h) (reached .only j b m)
+
+  pub anchor-reached : 0 < width → (j : ℕ) → Reachable Anchor (Led arcs width) j → Marked marks j
+  anchor-reached w j r = reached .marked j (reach-map (λ j e. begins j e) (λ j l h. h) r)
+    where
+      begins : (j : ℕ) → j ≡ 0 → Begins begin width j
+      begins j e = record { inside = omega arith; marked = rw e (anchored .anchor) }

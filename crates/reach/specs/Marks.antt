@@ -1,0 +1,38 @@
+-- Reach over a table of arcs: marks, the start, and what reach must leave.
+use Prim.Native.Nat.{ℕ, _+_, _*_, _≤_, _<_}
+use mathlib.Core.Path.{_≡_}
+use mathlib.Core.List.{List}
+use lib.ListN.{length, getD}
+use Rattle.definitions.specs.Certificate.{Reachable}
+
+-- Place j is marked.
+abbrev pub Marked : List ℕ → ℕ → Type 0
+Marked marks j = 0 < getD marks j 0
+
+-- Variable j leads to variable l: the table, in rows of 32, has an arc there.
+pub record Led (arcs : List ℕ) (width j l : ℕ) : Type 0 where
+  pub from : j < width
+  pub to : l < width
+  pub arc : 0 < getD arcs (j * 32 + l) 0
+
+-- The start: the variables that are marked at first.
+pub record Begins (start : List ℕ) (width j : ℕ) : Type 0 where
+  pub inside : j < width
+  pub marked : Marked start j
+
+-- Marks are 32 zeros and ones.
+pub record Flags (marks : List ℕ) : Type 0 where
+  pub length-is : length marks ≡ 32
+  pub flag : (k : ℕ) → getD marks k 0 ≤ 1
+
+-- Only variable 0 is marked.
+pub record Anchored (start : List ℕ) : Type 0 where
+  pub flags : Flags start
+  pub anchor : Marked start 0
+  pub only : (j : ℕ) → Marked start j → j ≡ 0
+
+-- Of the first `width` places those are marked to which arcs lead from the start, and no others.
+pub record Reached (arcs : List ℕ) (width : ℕ) (start marks : List ℕ) : Type 0 where
+  pub flags : Flags marks
+  pub marked : (j : ℕ) → Reachable (Begins start width) (Led arcs width) j → Marked marks j
+  pub only : (j : ℕ) → j < width → Marked marks j → Reachable (Begins start width) (Led arcs width) j

@@ -1,0 +1,40 @@
+-- Reach on the way: variables mark all to which they lead, each once; one that has is done.
+use Prim.Native.Nat.{ℕ, _+_, _-_, _≤_, _<_}
+use mathlib.Core.Path.{_≡_}
+use mathlib.Core.Bool.{Bool, true, false, cond}
+use mathlib.Core.List.{List}
+use lib.Dec.{eqb}
+use lib.ListN.{length, getD}
+use Rattle.definitions.specs.Certificate.{Reachable}
+use Rattle.duality.specs.Height.{total}
+use Rattle.reach.specs.Marks.{Marked, Led, Begins, Flags}
+
+-- The mark of a place to which an arc leads, or not, from a marked one.
+unfoldable pub markOf : ℕ → ℕ → ℕ
+markOf mark arc = cond (eqb arc 0) mark 1
+
+-- The first k places are marked by the arcs of a row; the others are as they were.
+pub record RowMarked (arcs : List ℕ) (base k : ℕ) (old new : List ℕ) : Type 0 where
+  pub same : length new ≡ length old
+  pub cells : (l : ℕ) → l < k → getD new l 0 ≡ markOf (getD old l 0) (getD arcs (base + l) 0)
+  pub others : (l : ℕ) → k ≤ l → getD new l 0 ≡ getD old l 0
+
+-- The start is marked, whatever is marked is reachable, and all to which a variable that is done leads is marked.
+pub record Reaching (arcs : List ℕ) (width : ℕ) (start marks done : List ℕ) : Type 0 where
+  pub begun : (j : ℕ) → Begins start width j → Marked marks j
+  pub only : (j : ℕ) → j < width → Marked marks j → Reachable (Begins start width) (Led arcs width) j
+  pub onward : (j l : ℕ) → Marked done j → Led arcs width j l → Marked marks l
+
+-- How many of the first `width` variables are not done.
+unfoldable pub undone : ℕ → List ℕ → ℕ
+undone width done = total (λ j. 1 - getD done j 0) width
+
+-- A round, once the first k variables have had their turn: from whatever start the old marks were reached, the new ones
+-- are; if a variable was made done, fewer are left to do; if none was, each marked one of the first k is done.
+pub record Spreading (arcs : List ℕ) (width : ℕ) (marks done : List ℕ) (k : ℕ) (new spread : List ℕ) (moved : Bool) : Type 0 where
+  pub flags : Flags new
+  pub done-flags : Flags spread
+  pub reaching : (start : List ℕ) → Reaching arcs width start marks done → Reaching arcs width start new spread
+  pub most : undone width spread ≤ undone width done
+  pub fewer : moved ≡ true → undone width spread < undone width done
+  pub still : moved ≡ false → (j : ℕ) → j < k → Marked new j → Marked spread j
