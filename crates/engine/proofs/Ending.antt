@@ -43,6 +43,10 @@ ended-steady m left right right′ objective lefts rights e s = record {
   objective-ends = e .objective-ends;
 }
 
+-- The ends of the rules.
+pub ended-rules : (m : ℕ) (left right objective lefts rights : List ℕ) → Ended m left right objective lefts rights → EndsOf right m rights
+ended-rules m left right objective lefts rights e = record { size = e .right-size; each = e .right-ends }
+
 -- The raised table has these ends.
 pub raised-ends : (m t : ℕ) (left right right′ objective lefts rights : List ℕ) → Ended m left right objective lefts rights
     → Raised right objective m t 32 right′ → EndsOf right′ (m + 1) rights

@@ -1,5 +1,5 @@
 -- The heights of a guess, low numbers, stay in range as they rise.
-use Prim.Native.Nat.{ℕ, _+_, _≤_, _<_}
+use Prim.Native.Nat.{ℕ, _+_, _-_, _≤_, _<_}
 use mathlib.Core.Path.{_≡_, refl, subst, _∙_}
 use mathlib.Core.Logic.{_⊎_, ⊎-elim}
 use mathlib.Core.List.{List, map}
@@ -10,6 +10,7 @@ use Rattle.definitions.proofs.Whole.{nat-le-or-lt}
 use Rattle.records.specs.Decoded.{Near}
 use Rattle.records.proofs.LeadTables.{near-zero}
 use Rattle.trials.specs.Tables.{value-limit, low-half, high, highs, Ranged, Lows}
+use Rattle.trials.specs.Filled.{Filled}
 use Rattle.trials.proofs.Filled.{zeros-at}
 use Rattle.trials.proofs.Low.{high-zero, high-whole, highs-at, highs-size}
 
@@ -19,6 +20,21 @@ near-blank = rw high-zero (near-zero value-limit)
 
 pub near-height : (k : ℕ) → low-half ≤ k + value-limit → k ≤ low-half + value-limit → Near value-limit (high k)
 near-height k h g = let e = high-whole k (omega arith) in record { hi = omega arith; lo = λ p. omega arith }
+
+-- A value as a low number.
+pub near-lowered : (k : ℕ) → 0 < k → Near value-limit k → Near value-limit (high (k - low-half))
+near-lowered k h n = let l = n .lo h in near-height (k - low-half) (omega arith) (omega (arith, n .hi))
+
+-- Low numbers that a loop has filled in.
+pub lows-filled : (width : ℕ) {j : ℕ} {x : List ℕ} → Filled (λ k v. Near value-limit (high v)) 32 j x → j ≤ width → width ≤ j → Lows width x
+lows-filled width {j} {x} f h g = record {
+  size = f .size-is;
+  ranged = record {
+    size = length-map x high ∙ f .size-is;
+    near = λ k. rw (highs-at x k) (⊎-elim (λ (b : j ≤ k). rw (f .rest k b) near-blank) (f .each k) (nat-le-or-lt j k));
+  };
+  rest = λ k b. f .rest k (omega arith);
+}
 
 -- A height rises.
 ranged-set : (x : List ℕ) (l v : ℕ) → Ranged (highs x) → l < 32 → Near value-limit (high v) → Ranged (highs (set x l v))

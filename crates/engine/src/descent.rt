@@ -1,8 +1,7 @@
 // Trials from the top down, at guesses, until one is not possible or the lowest is.
-ghost use Prim.Native.Nat.{_+_, _<_, _≤_};
+ghost use Prim.Native.Nat.{_<_, _≤_};
 ghost use lib.ListN.{getD};
 ghost use Rattle.trials.specs.Tables.{Ranged};
-ghost use Rattle.trials.specs.Ends.{EndsOf};
 ghost use Rattle.engine.specs.Trials.{top-offset, lowest-offset, Ready, Ended, Steady, TriedAt};
 ghost use Rattle.engine.specs.Descent.{EndsAt, Descended};
 use crate::guess::guess;
@@ -35,6 +34,7 @@ fn next_trial(
     left: &[u32; 2048],
     right: &[u32; 2048],
     lefts: &[u32; 64],
+    rights: &[u32; 64],
     objective: &[u32; 32],
     n: usize,
     m: usize,
@@ -42,13 +42,13 @@ fn next_trial(
     reached: u64,
     guesses: u64,
 ) -> u64
-    requires { ⌜ Ready n m (now left) (now right) (now objective) × Ranged (now point) × (lowest-offset < reached) × EndsOf (now left) (m + 1) (now lefts) ⌝ }
+    requires { ⌜ Ready n m (now left) (now right) (now objective) × Ranged (now point) × (lowest-offset < reached) × Ended m (now left) (now right) (now objective) (now lefts) (now rights) ⌝ }
     ensures { λ r. ⌜ (lowest-offset ≤ r) × (r < reached) ⌝ }
 {
     if GUESSES <= guesses {
         return LOWEST;
     }
-    clamped(guess(left, right, lefts, objective, n, m, point), reached)
+    clamped(guess(left, right, lefts, rights, objective, n, m, point), reached)
 }
 
 // A trial at t ends the descent: it is not possible, or the lowest.
@@ -95,6 +95,7 @@ pub fn descend(
             left,
             right,
             lefts,
+            rights,
             objective,
             n,
             m,

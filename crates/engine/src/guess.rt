@@ -5,11 +5,11 @@ ghost use mathlib.Core.Path.{_≡_};
 ghost use Prim.Native.Nat.{_+_, _<_, _≤_};
 ghost use lib.ListN.{length};
 ghost use Rattle.records.specs.Decoded.{Near};
-ghost use Rattle.trials.specs.Ends.{EndsOf};
-ghost use Rattle.trials.specs.Tables.{raised-limit, value-limit, side-most, side-least, high, Ranged, Lows, Tables};
-ghost use Rattle.engine.specs.Trials.{Ready};
-use crate::picks::induced;
+ghost use Rattle.trials.specs.Ends.{RowEnds, EndsOf};
+ghost use Rattle.trials.specs.Tables.{raised-limit, value-limit, side-most, side-least, high, highs, Table, Ranged, Lows, Tables};
+ghost use Rattle.engine.specs.Trials.{Ready, Ended};
 use records::limits::OFFSET;
+use trials::ends::WIDE;
 use trials::policy::raised;
 use trials::values::HALF;
 use trials::values::LOW;
@@ -18,6 +18,17 @@ use trials::values::side;
 
 // Heights from −2²⁵ to 2²⁵ are kept, as low numbers.
 const FARTHEST: u32 = 33554432;
+
+// The low number of a value.
+fn lower(k: u64) -> u32
+    requires { ⌜ Near value-limit k ⌝ }
+    ensures { λ r. ⌜ Near value-limit (high r) ⌝ }
+{
+    if k == 0 {
+        return 0;
+    }
+    (k - LOW as u64) as u32
+}
 
 // The height that a row of this left side asks of its target, whose right coefficient is this; blank where there is none or
 // it is out of range.
@@ -36,6 +47,66 @@ fn asked(side: u32, right: u32) -> u32
         return 0;
     }
     height
+}
+
+// A point's values as low numbers.
+fn lowered(point: &[u64; 32], width: usize) -> [u32; 32]
+    requires { ⌜ Ranged (now point) × (width ≤ 32) ⌝ }
+    ensures { λ r. ⌜ Lows width r ⌝ }
+{
+    let mut out = [0u32; 32];
+    let mut j = 0;
+    while j < width {
+        out[j] = lower(point[j]);
+        j += 1;
+    }
+    out
+}
+
+// The first place of a row, from one on, at which coefficient and value have this sum; 32 where there is none.
+fn place(right: &[u32; 2048], row: usize, x: &[u32; 32], sum: u32, from: usize) -> usize
+    requires { ⌜ (row < 64) × Table raised-limit (now right) × Ranged (highs (now x)) × (length (now x) ≡ 32) ⌝ }
+{
+    let base = row * 32;
+    let mut l = from;
+    while l < 32 {
+        if right[base + l] + x[l] == sum {
+            return l;
+        }
+        l += 1;
+    }
+    32
+}
+
+// A right variable that attains the right side of a row; 32 where that is blank.
+fn target(right: &[u32; 2048], ends: u32, row: usize, x: &[u32; 32], width: usize) -> usize
+    requires { ⌜ (row < 64) × (width ≤ 32) × Table raised-limit (now right) × Lows width (now x) × RowEnds (now right) row ends ⌝ }
+{
+    let best = side(right, ends, row, x, width);
+    if best == 0 {
+        return 32;
+    }
+    place(right, row, x, best + HALF, (ends / 32 % 32) as usize)
+}
+
+// The targets of the rules.
+fn targets_of(
+    right: &[u32; 2048],
+    rights: &[u32; 64],
+    x: &[u32; 32],
+    width: usize,
+    rules: usize,
+) -> [usize; 64]
+    requires { ⌜ (width ≤ 32) × (rules ≤ 64) × Table raised-limit (now right) × Lows width (now x) × EndsOf (now right) rules (now rights) ⌝ }
+    ensures { λ r. ⌜ length r ≡ 64 ⌝ }
+{
+    let mut out = [0usize; 64];
+    let mut i = 0;
+    while i < rules {
+        out[i] = target(right, rights[i], i, x, width);
+        i += 1;
+    }
+    out
 }
 
 // Heights after a round, and whether one rose.
@@ -107,22 +178,24 @@ pub fn guess(
     left: &[u32; 2048],
     right: &[u32; 2048],
     lefts: &[u32; 64],
+    rights: &[u32; 64],
     objective: &[u32; 32],
     n: usize,
     m: usize,
     point: &[u64; 32],
 ) -> u64
-    requires { ⌜ Ready n m (now left) (now right) (now objective) × Ranged (now point) × EndsOf (now left) (m + 1) (now lefts) ⌝ }
+    requires { ⌜ Ready n m (now left) (now right) (now objective) × Ranged (now point) × Ended m (now left) (now right) (now objective) (now lefts) (now rights) ⌝ }
 {
-    let targets = induced(right, point, n + 1, m + 1);
-    let target = targets[m];
-    if n < target {
+    let x = lowered(point, n + 1);
+    let start = target(right, WIDE, m, &x, n + 1);
+    if n < start {
         return 0;
     }
-    let heights = lifted(left, right, lefts, &targets, target, n + 1, m);
+    let targets = targets_of(right, rights, &x, n + 1, m);
+    let heights = lifted(left, right, lefts, &targets, start, n + 1, m);
     let first = side(left, lefts[m], m, &heights, n + 1);
     if first == 0 {
         return 0;
     }
-    raised(first) + OFFSET - plus(objective[target], 1)
+    raised(first) + OFFSET - plus(objective[start], 1)
 }

@@ -200,7 +200,7 @@ fn best(right: &[u32; 2048], row: usize, x: &[u64; 32], width: usize) -> usize
     pick
 }
 
-// The strategy of rows that a point induces. Public for `answer`, `guess`.
+// The strategy of rows that a point induces. Public for `answer`.
 pub fn induced(right: &[u32; 2048], x: &[u64; 32], width: usize, rows: usize) -> [usize; 64]
     requires { ⌜ (width ≤ 32) × (rows ≤ 64) × Table raised-limit (now right) × Ranged (now x) ⌝ }
     ensures { λ r. ⌜ InducedRows (now (right .entry)) (now (x .entry)) width rows r ⌝ }

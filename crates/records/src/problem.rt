@@ -153,6 +153,18 @@ fn row_of(bytes: &[u8], at: usize, count: usize) -> [u32; STRIDE]
     row
 }
 
+// n + 1 leads from a place of the bytes, then blanks. Rows of the full width have a call of their own, which is compiled for
+// that length.
+fn leads_of(bytes: &[u8], at: usize, n: usize) -> [u32; STRIDE]
+    requires { ⌜ (n ≤ 31) × (at + 4 * (n + 1) ≤ length (now bytes)) ⌝ }
+    ensures { λ r. ⌜ RowOf (λ j. leadAt (now (bytes .entry)) (at + 4 * j)) (n + 1) r ⌝ }
+{
+    if n == MOST_VARIABLES {
+        return row_of(bytes, at, STRIDE);
+    }
+    row_of(bytes, at, n + 1)
+}
+
 // A row is copied into a table, from an element on.
 fn put_row(row: &[u32; STRIDE], table: &mut [u32], base: usize)
     requires { ⌜ (length (now row) ≡ 32) × (base + 32 ≤ length (now table)) ⌝ }
@@ -178,7 +190,7 @@ fn read_row(bytes: &[u8], at: usize, n: usize, table: &mut [u32], base: usize)
     requires { ⌜ (n ≤ 31) × (at + 4 * (n + 1) ≤ length (now bytes)) × (base + 32 ≤ length (now table)) ⌝ }
     ensures { λ _. ⌜ Filled (rowCell (now (bytes .entry)) at n) base 32 (now (table .entry)) (now (table .exit)) ⌝ }
 {
-    let row = row_of(bytes, at, n + 1);
+    let row = leads_of(bytes, at, n);
     put_row(&row, table, base);
 }
 

@@ -22,7 +22,7 @@ descend-spec =
     Inv-loop
     μ-loop
     (λ c. let p = c .before .before .pre in (p .0, steady-refl, record { low = omega arith; high = omega arith; possible = p .1; finite = p .2 }, omega arith))
-    (λ c κs. let v = c .before .before .loop .inv in (v .0, v .2 .possible .ranged, v .2 .low, c .before .before .before .before .before .pre .3 .left-ends))
+    (λ c κs. let v = c .before .before .loop .inv in (v .0, v .2 .possible .ranged, v .2 .low, let start = c .before .before .before .before .before in let a = start .args in ended-steady (a .m) (a .left .now) (a .right .now) (c .before .before .loop .right) (a .objective .now) (a .lefts .now) (a .rights .now) (start .pre .3) (v .1)))
     (λ c κs. let v = c .before .before .before .before .loop .inv in let e = c .before .next-trial .ensures in let b = below-trialled _ (v .2) (e .0) (e .1) in let start = c .before .before .before .before .before .before .before in let a = start .args in
     (v .0, b .0, b .1, ended-steady (a .m) (a .left .now) (a .right .now) (c .before .before .before .before .loop .right) (a .objective .now) (a .lefts .now) (a .rights .now) (start .pre .3) (v .1)))
     (λ c. search needs)

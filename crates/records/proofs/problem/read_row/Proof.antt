@@ -6,7 +6,6 @@ use Rattle.records.proofs.problem.read_row.Tie as tie
 pub read-row-spec : {M : Type 1} → statement M
 read-row-spec =
     tie.close (tie.spec
-    (λ c. search needs)
     (λ c κs. search needs)
     (λ c κs. search needs)
     (λ c. search needs)
