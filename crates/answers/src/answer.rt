@@ -67,7 +67,7 @@ fn judge_header(
 }
 
 // The first bytes of an answer and its size: class and span, or the first of refusals 4 and 8 to 11. A byte past the
-// end counts as 0.
+// end counts as 0. Public for the checker's `input`.
 pub fn read_answer_header(bytes: &[u8], size: usize, n: usize, m: usize) -> AnswerHead
     ensures { λ r. ⌜ r ≡ answerHeadOf (now (bytes .entry)) size n m ⌝ }
 {
@@ -83,7 +83,7 @@ pub fn read_answer_header(bytes: &[u8], size: usize, n: usize, m: usize) -> Answ
     }
 }
 
-// Stamp i, an offset number, has its form: stamp 0 is 0, the others are blank or within their limit.
+// Stamp i, an offset number, has its form: stamp 0 is 0, the others are blank or within their limit. Public for `writer`.
 pub fn stamp_fits(i: usize, k: u64) -> bool
     ensures { λ r. ⌜ r ≡ stampFits i (tropOf k) ⌝ }
 {

@@ -10,7 +10,7 @@ ghost use Rattle.definitions.specs.Limits.{highest-n, highest-m};
 ghost use Rattle.definitions.specs.Offset.{tropOf};
 ghost use Rattle.definitions.specs.AnswerRecord.{known-class, stampCount, pickCount, highestPick, answerSize, spanFits};
 
-// The class is 1, 2 or 3.
+// The class is 1, 2 or 3. Public for `writer`.
 pub fn known_class(class: u64) -> bool
     ensures { λ r. ⌜ r ≡ known-class class ⌝ }
 {
@@ -55,7 +55,8 @@ pub fn highest_pick(class: u64, n: usize, m: usize) -> u64
     }
 }
 
-// The span, an offset number, has the form of its class: whole and within its limit for least, else blank.
+// The span, an offset number, has the form of its class: whole and within its limit for least, else blank. Public for
+// `answer`, `writer`.
 pub fn span_fits(class: u64, span: u64) -> bool
     ensures { λ r. ⌜ r ≡ spanFits class (tropOf span) ⌝ }
 {
@@ -73,7 +74,7 @@ pub fn answer_size(class: u64, n: usize, m: usize) -> usize
     ANSWER_HEADER + 4 * stamp_count(class, n) + 2 * pick_count(class, n, m)
 }
 
-// The kind is an answer's, and the class is one that answers have.
+// The kind is an answer's, and the class is one that answers have. Public for `answer`.
 pub fn known_record(kind: u64, class: u64) -> bool
     ensures { λ r. ⌜ r ≡ (eqb kind 2 && known-class class) ⌝ }
 {

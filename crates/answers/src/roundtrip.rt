@@ -14,7 +14,7 @@ ghost use Rattle.answers.specs.Fields.{fieldsOf};
 ghost use Rattle.answers.specs.AnswerWriting.{AnswerWritten};
 ghost use Rattle.answers.specs.RoundTrips.{WrittenThenRead, ReadThenWritten};
 
-// An answer written and read back: the writer's refusal, or the same class, span, stamps and picks.
+// An answer written and read back: the writer's refusal, or the same class, span, stamps and picks. Public for `vectors`.
 pub fn write_then_read(
     class: u64,
     span: u64,
@@ -53,7 +53,8 @@ fn write_counted(
     write_answer(class, span, &stamps[..s], &picks[..p], n, m, buffer)
 }
 
-// An answer read and written back: the reader's refusal, 7 where the buffer is too short, or the same bytes.
+// An answer read and written back: the reader's refusal, 7 where the buffer is too short, or the same bytes. Public for
+// `vectors`.
 pub fn read_then_write(bytes: &[u8], n: usize, m: usize, buffer: &mut [u8]) -> Written
     ensures { λ r. ⌜ ReadThenWritten (now (bytes .entry)) n m r (now (buffer .entry)) (now (buffer .exit)) ⌝ }
 {

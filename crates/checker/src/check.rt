@@ -78,7 +78,7 @@ fn certify(
     }
 }
 
-// The number with which a problem was refused.
+// The number with which a problem was refused. Public for `input`.
 pub fn problem_refusal(header: Header) -> usize
     ensures { λ r. ⌜ r ≡ problemRefused header ⌝ }
 {
@@ -88,7 +88,7 @@ pub fn problem_refusal(header: Header) -> usize
     }
 }
 
-// The number with which an answer was refused.
+// The number with which an answer was refused. Public for `input`.
 pub fn answer_refusal(head: AnswerHead) -> usize
     ensures { λ r. ⌜ r ≡ answerRefused head ⌝ }
 {

@@ -39,7 +39,7 @@ fn cut_place(input: &[u8]) -> usize
 }
 
 // The verdict on an input that was kept whole.
-pub fn judge_whole(input: &[u8]) -> Verdict
+fn judge_whole(input: &[u8]) -> Verdict
     ensures { λ r. ⌜ Judged (problemPart (now (input .entry))) (answerPart (now (input .entry))) (verdictOf r) ⌝ }
 {
     let cut = cut_place(input);

@@ -5,7 +5,7 @@ ghost use lib.ListN.{length};
 ghost use Rattle.checker.specs.Decides.{Decides};
 ghost use Rattle.checker.specs.Lists.{most, bestSum, Summable, Agree};
 
-// The larger of two numbers.
+// The larger of two numbers. Public for `arcs`.
 pub fn larger(a: u32, b: u32) -> u32
     ensures { λ r. ⌜ r ≡ most a b ⌝ }
 {

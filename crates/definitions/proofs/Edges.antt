@@ -7,6 +7,8 @@ use lib.IntN.{ℤ, pos, negsuc}
 use Rattle.definitions.specs.Tropical.{Trop, bot, fin}
 use Rattle.definitions.specs.Bytes.{numAt, numsAt, signed, tropField, tropAt, all, blank-or-within, whole-within}
 use Rattle.definitions.specs.ProblemRecord.{headerRefusal, problemRefusal, leadsOf}
+use Rattle.definitions.specs.Verdict.{checkRefusal}
+use Rattle.definitions.specs.Solved.{engineRefusal}
 use Rattle.definitions.specs.AnswerRecord.{Answer, answerHeaderRefusal, answerRefusal, answerOf, writerRefusal, rightCounts, formRefusal, spanFits, stampsFit, picksFit, is-zero, is-blank}
 
 -- A problem's bytes and its refusal.
@@ -152,3 +154,12 @@ handed =
 handed-refused : map (λ d. writerRefusal (d .answer) (d .n) (d .m) (d .room)) handed ≡ map (λ d. d .number) handed
 unfolding handed writerRefusal rightCounts formRefusal spanFits stampsFit picksFit is-zero is-blank all blank-or-within whole-within
 handed-refused = refl
+
+-- The engine looks at the problem before the room, the checker at the problem before the answer.
+engine-order : engineRefusal [] 0 ≡ 1
+unfolding engineRefusal problemRefusal headerRefusal numAt
+engine-order = refl
+
+check-order : checkRefusal [] [] ≡ 1
+unfolding checkRefusal problemRefusal headerRefusal numAt
+check-order = refl

@@ -142,6 +142,7 @@ pub record ReadBy (engine : Engine) (read : Reader) (p buffer : List ℕ) : Type
   pub size : ℕ
   pub answer : Answer
   pub result-is : engine .result p buffer ≡ answered (answer .class) (answer .span) trials size
+  pub written-is : engine .buffer p buffer ≡ written buffer (answerBytes (nField p) answer)
   pub reads : read (take size (engine .buffer p buffer)) (nField p) (mField p) ≡ fields answer
 
 abbrev pub EngineReadsBack : Engine → Reader → Type 0

@@ -48,7 +48,10 @@ fn next_trial(
     if GUESSES <= guesses {
         return LOWEST;
     }
-    clamped(guess(left, right, lefts, rights, objective, n, m, point), reached)
+    clamped(
+        guess(left, right, lefts, rights, objective, n, m, point),
+        reached,
+    )
 }
 
 // A trial at t ends the descent: it is not possible, or the lowest.

@@ -68,8 +68,8 @@ pub struct Search {
 }
 
 impl Search {
-    // The trial at the middle, with this outcome, is counted. Public for `halving`.
-    pub fn halved(mut self, possible: bool) -> Search
+    // The trial at the middle, with this outcome, is counted.
+    fn halved(mut self, possible: bool) -> Search
         requires { ⌜ Trialled (self .bracket .low) × Trialled (self .bracket .high) × (self .trials ≤ 2000000) ⌝ }
         ensures { λ r. ⌜ MiddleCounted self possible r ⌝ }
     {

@@ -5,11 +5,11 @@ ghost use lib.ListN.{length};
 ghost use Rattle.reach.specs.Spreading.{markOf};
 ghost use Rattle.trials.specs.Tables.{raised-limit, Table, Ranged};
 ghost use Rattle.engine.specs.Shown.{BothAre, shownPick, arcBy, VariableArcs, ShownVariables, VariablePicks, Column, RowArcs, UsedIs, ShownRows, RowPicks, BestIs, InducedRows};
-use trials::values::plus;
 use reach::ARCS;
 use reach::anchor;
 use reach::reach;
 use records::limits::STRIDE;
+use trials::values::plus;
 
 // One less than three quarters of 2³²: a sum of two offset numbers is above it exactly if both are whole.
 const BLANK_MOST: u64 = 3221225471;

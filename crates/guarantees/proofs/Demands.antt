@@ -3,7 +3,9 @@
 -- Each theorem holds for all functions on bytes that do what the contracts of the code say they do:
 --   an engine whose result and buffer are those that document 01 gives (`EngineSolves`; the contract of `solve`),
 --   a checker whose verdict is the one that document 01 gives (`CheckerJudges`; the contract of `check`),
---   readers and a writer whose results are those of the bytes and of the fields (the contracts of the records).
+--   readers and a writer whose results are those of the bytes and of the fields (the contracts of the records),
+--   programs whose output is the one of the bytes that were read (`ProgramsAnswer`; the contracts of what they call).
+-- `Contracts` has the laws from the code's contracts to these words; PROMISES says what is assumed.
 use Prim.Native.Nat.{ℕ, _≤_}
 use mathlib.Core.Path.{_≡_}
 use mathlib.Core.List.{List}

@@ -143,6 +143,7 @@ engine-reads-back engine solves read reads p buffer b c w long =
       size = answerSize (e .class) (nField p) (mField p);
       answer = e .answer;
       result-is = rw (ans .class-is, ans .span-is) (e .result-is);
+      written-is = e .buffer-is;
       reads = rw (e .buffer-is, record-stands p buffer w (e .answer) ans) (reads-itself read reads p w (e .answer) ans);
     }
 

@@ -21,6 +21,7 @@ pub fn copy(buf: &mut [u8], at: usize, text: &[u8]) -> usize
 }
 
 // Appends `text` at place `at` and gives the next place. Where there is no room nothing is written, and the place stays.
+// Public for `writer`.
 pub fn append(buf: &mut [u8], at: usize, text: &[u8]) -> usize
     ensures { λ r. ⌜ Appended (now (buf .entry)) at (now (text .entry)) (now (buf .exit)) r ⌝ }
 {

@@ -18,7 +18,7 @@ pub struct Writer<'a> {
     at: usize,
 }
 
-// The writer on a slice, at a place of it.
+// The writer on a slice, at a place of it. Public with the form, as the next three.
 pub fn made<'a>(buf: &'a mut [u8], at: usize) -> Writer<'a>
     ensures { λ r. ⌜ (r .buf ≡ buf .entry) × (r .at ≡ at) ⌝ }
 {
@@ -53,14 +53,14 @@ pub fn write(buf: &mut [u8], at: usize, text: &[u8]) -> usize
     place(w)
 }
 
-// What the span program puts out for a problem that is answered: the record.
+// What the span program puts out for a problem that is answered: the record. Public for `span`.
 pub fn write_record(buf: &mut [u8], answer: &[u8]) -> usize
     ensures { λ r. ⌜ Output (now (buf .entry)) (now (answer .entry)) (now (buf .exit)) r ⌝ }
 {
     write(buf, 0, answer)
 }
 
-// What the span program puts out for a refusal: its line.
+// What the span program puts out for a refusal: its line. Public for `span`.
 pub fn write_refused(buf: &mut [u8], number: usize) -> usize
     ensures { λ r. ⌜ Output (now (buf .entry)) (refusedLine number) (now (buf .exit)) r × (length (refusedLine number) ≤ line-most) ⌝ }
 {
@@ -69,7 +69,8 @@ pub fn write_refused(buf: &mut [u8], number: usize) -> usize
     write(buf, 0, &line[..size])
 }
 
-// What the verdict program puts out: the line of refusal `refusal`, or of class and span where it is 0.
+// What the verdict program puts out: the line of refusal `refusal`, or of class and span where it is 0. Public for
+// `verdict`.
 pub fn write_verdict(buf: &mut [u8], refusal: usize, class: u64, span: u64) -> usize
     ensures { λ r. ⌜ Output (now (buf .entry)) (verdictLine (verdictOf refusal class span)) (now (buf .exit)) r × (length (verdictLine (verdictOf refusal class span)) ≤ line-most) ⌝ }
 {

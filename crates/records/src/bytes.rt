@@ -12,7 +12,7 @@ fn wide(x: u8) -> u64
 }
 
 // The byte at a place, 0 past the end.
-pub fn byte_at(s: &[u8], at: usize) -> u64
+fn byte_at(s: &[u8], at: usize) -> u64
     ensures { λ r. ⌜ (r ≡ getD (now (s .entry)) at 0) × (r < 256) ⌝ }
 {
     if at < s.len() { wide(s[at]) } else { 0 }
