@@ -153,6 +153,13 @@ level-last left right picks x width rows i h k f = let e : i ≡ width = omega a
 
 -- ---- the test of two arrays
 
+-- One place more that is the same, where none was another.
+pub same-more : (x y : List ℕ) (n count r : ℕ) → (count ≡ 0 → SameUpTo n x y) → (r ≡ 0 → getD x n 0 ≡ getD y n 0) → count + r ≡ 0 → SameUpTo (n + 1) x y
+same-more x y n count r s e z j h = ⊎-elim
+    (λ (b : n ≤ j). let p : n ≡ j = omega arith in subst (λ (i : ℕ). getD x i 0 ≡ getD y i 0) p (e (omega arith)))
+    (λ (b : j < n). s (omega arith) j b)
+    (nat-le-or-lt n j)
+
 pub same-highs : (n : ℕ) (x y : List ℕ) → SameUpTo n x y → SameUpTo n (highs x) (highs y)
 same-highs n x y s j h = highs-at x j ∙ ap high (s j h) ∙ sym (highs-at y j)
 

@@ -177,19 +177,25 @@ fn exits(picks: &[usize; 32], width: usize, rows: usize) -> [u32; 32]
     out
 }
 
-// The two arrays agree at the first `width` places.
-fn same(x: &[u32; 32], y: &[u32; 32], width: usize) -> bool
-    requires { ⌜ (length (now x) ≡ 32) × (length (now y) ≡ 32) × (width ≤ 32) ⌝ }
-    ensures { λ r. ⌜ (r ≡ true → SameUpTo width (now (x .entry)) (now (y .entry))) ⌝ }
+// 1 where two numbers differ, else 0.
+fn differs(a: u32, b: u32) -> u32
+    ensures { λ r. ⌜ (r ≤ 1) × (r ≡ 0 → a ≡ b) ⌝ }
 {
+    if a == b { 0 } else { 1 }
+}
+
+// The two arrays agree. All places are compared, so that the loop has no branch.
+fn same(x: &[u32; 32], y: &[u32; 32]) -> bool
+    requires { ⌜ (length (now x) ≡ 32) × (length (now y) ≡ 32) ⌝ }
+    ensures { λ r. ⌜ (r ≡ true → SameUpTo 32 (now (x .entry)) (now (y .entry))) ⌝ }
+{
+    let mut count = 0;
     let mut j = 0;
-    while j < width {
-        if x[j] != y[j] {
-            return false;
-        }
+    while j < 32 {
+        count += differs(x[j], y[j]);
         j += 1;
     }
-    true
+    count == 0
 }
 
 // The values of a strategy: rounds until one changes nothing, at most as many as there are variables.
@@ -209,7 +215,7 @@ pub fn evaluate(
     let mut i = 0;
     while i < width {
         let y = round_from(left, right, rights, picks, &x, width, rows);
-        if same(&x, &y, width) {
+        if same(&x, &y) {
             return x;
         }
         x = y;

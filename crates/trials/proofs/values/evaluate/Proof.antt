@@ -24,9 +24,9 @@ evaluate-spec =
     (λ c. let a = c .before .args in (omega arith, level-start (a .left .now) (a .right .now) (a .picks .now) _ (a .width) (a .rows) (c .exits .ensures)))
     (λ c κs. let a = c .before .before .before .before .args in let p = c .before .before .before .before .pre in
     (p .0, p .1, level-lows (a .left .now) (a .right .now) (a .picks .now) (c .before .before .loop .x) (a .width) (a .rows) _ (p .0) (c .before .before .loop .inv .0) (c .before .before .loop .inv .1), p .2))
-    (λ c κs. (highs-size (c .before .before .before .before .before .loop .x) 32 (c .before .before .before .before .before .loop .inv .1 .size-is), highs-size (c .before .before .round-from .result) 32 (c .before .before .round-from .ensures .size-is), c .before .before .before .before .before .before .before .pre .0 .width-most))
+    (λ c κs. (highs-size (c .before .before .before .before .before .loop .x) 32 (c .before .before .before .before .before .loop .inv .1 .size-is), highs-size (c .before .before .round-from .result) 32 (c .before .before .round-from .ensures .size-is)))
     (λ c. let a = c .before .before .before .before .before .before .before .before .before .args in
-    level-still (a .left .now) (a .right .now) (a .picks .now) _ _ (a .width) (a .rows) _ (c .before .before .before .before .before .before .before .loop .inv .0) (c .before .before .before .before .before .before .before .loop .inv .1) (c .before .before .before .before .round-from .ensures) (same-highs (a .width) (c .before .before .before .before .before .before .before .loop .x) (c .before .before .before .before .round-from .result) (c .before .same .ensures (c .if1 .taken))))
+    level-still (a .left .now) (a .right .now) (a .picks .now) _ _ (a .width) (a .rows) _ (c .before .before .before .before .before .before .before .loop .inv .0) (c .before .before .before .before .before .before .before .loop .inv .1) (c .before .before .before .before .round-from .ensures) (same-highs (a .width) (c .before .before .before .before .before .before .before .loop .x) (c .before .before .before .before .round-from .result) (λ j h. c .before .same .ensures (c .if1 .taken) j (omega (arith, c .before .before .before .before .before .before .before .before .before .pre .0 .width-most)))))
     (λ c. search needs)
     (λ c. search needs)
     (λ c. let a = c .before .before .before .before .before .before .before .before .before .args in
