@@ -1,4 +1,4 @@
--- What one read adds to what is kept.
+-- What reading adds to what is kept.
 use Prim.Native.Nat.{ℕ, _-_}
 use mathlib.Core.Path.{_≡_}
 use mathlib.Core.List.{List}

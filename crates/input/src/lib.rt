@@ -44,7 +44,7 @@ fn read_some(kept: &mut [u8], size: u64) -> u64
 // Reads standard input to its end, keeps its first 20,000 bytes, and gives its size. A failed read counts as the end.
 // Public for `span`, `verdict`.
 pub fn read_all(kept: &mut [u8; KEPT]) -> u64
-    ensures { λ r. ⌜ r ≤ 8589938688 ⌝ }
+    ensures { λ r. ⌜ (r ≤ 8589938688) × Came (now (kept .entry)) 0 r (now (kept .exit)) ⌝ }
 {
     let mut size = 0;
     while size < ENOUGH {

@@ -1,10 +1,13 @@
 use borrow.Author.Needs.{needs}
+use native.Mathlib.Omega.{arith}
 use Prim.Native.Nat.{_-_, _≤_}
+use Rattle.input.specs.Came.{Came}
+use Rattle.input.proofs.Coming.{came-none, came-more}
 use Rattle.input.proofs.read_all.Statement.{statement}
 use Rattle.input.proofs.read_all.Tie as tie
 
 abbrev Inv-loop : tie.InvT-loop
-Inv-loop kept₀ size₀ kept size = size ≤ 8589938688
+Inv-loop kept₀ size₀ kept size = (size ≤ 8589938688) × Came kept₀ 0 size kept
 
 abbrev μ-loop : tie.MeasureT-loop
 μ-loop kept₀ size₀ kept size = 8589938688 - size
@@ -15,10 +18,10 @@ read-all-spec =
     (tie.spec
     Inv-loop
     μ-loop
-    (λ c. search needs)
+    (λ c. (omega arith, came-none _))
     (λ c κs. search needs)
+    (λ c. (omega arith, came-more (c .before .before .before .before .loop .inv .1) (c .before .read-some .ensures .1) (omega arith)))
     (λ c. search needs)
     (λ c. search needs)
-    (λ c. search needs)
-    (λ c. search needs)
+    (λ c. (omega arith, came-more (c .before .before .before .before .loop .inv .1) (c .before .read-some .ensures .1) (omega arith)))
     (λ c. search needs))
