@@ -9,6 +9,10 @@ pub mod Shown
 pub mod Variables
 pub mod RowsOf
 pub mod Form
+pub mod Shared
+pub mod Infeasible
+pub mod Unbounded
+pub mod Optimal
 pub mod Final
 pub mod Outcomes
 pub mod Inputs

@@ -2,26 +2,19 @@
 use Prim.Native.Nat.{ℕ, _<_}
 use mathlib.Core.List.{List}
 use native.Mathlib.Omega.{arith}
-use Rattle.duality.proofs.Reach.{reach-keep, reach-map}
+use Rattle.duality.proofs.Reach.{reach-keep}
 use Rattle.reach.specs.Marks as Reach
 use Rattle.reach.specs.Marks.{Led, Anchored}
 use Rattle.reach.proofs.Marks.{reached-anchor, anchor-reached}
-use Rattle.engine.specs.Marks.{ArcIn, Reached}
+use Rattle.engine.specs.Marks.{Reached}
 use Rattle.trials.proofs.Filled.{positive}
-
--- An arc is not 0 where it is above 0.
-led-arc : {arcs : List ℕ} {width : ℕ} (j l : ℕ) → Led arcs width j l → ArcIn arcs width j l
-led-arc j l h = record { from = h .from; to = h .to; arc = λ e. omega (arith, h .arc, e) }
-
-arc-led : {arcs : List ℕ} {width : ℕ} (j l : ℕ) → ArcIn arcs width j l → Led arcs width j l
-arc-led j l a = record { from = a .from; to = a .to; arc = positive _ (a .arc) }
 
 -- Marks of what is reached from the anchor alone mark exactly what is reachable from it.
 pub from-anchor : {arcs : List ℕ} {width : ℕ} {begin marks : List ℕ} → Anchored begin → 0 < width → Reach.Reached arcs width begin marks
     → Reached arcs width marks
 from-anchor {arcs} {width} {begin} {marks} anchored w reached = record {
-  reachable = λ l m. reach-map (λ j e. e) led-arc (reached-anchor anchored reached l (m .0) (positive _ (m .1)));
+  reachable = λ l m. reached-anchor anchored reached l (m .0) (positive _ (m .1));
   marked = λ l r.
-      let q = reach-keep {L′ = Led arcs width} (λ j. j < width) (λ j e. (e, omega (arith, e, w))) (λ j l _ a. (arc-led j l a, a .to)) r in
+      let q = reach-keep {L′ = Led arcs width} (λ j. j < width) (λ j e. (e, omega (arith, e, w))) (λ j l _ a. (a, a .to)) r in
       (q .1, λ e. omega (arith, anchor-reached anchored reached w l (q .0), e));
 }

@@ -16,8 +16,9 @@ use Rattle.duality.specs.Picks.{picksFrom, AgreeInUse}
 use Rattle.duality.proofs.Reach.{reach-keep, reach-map}
 use Rattle.trials.specs.Tables.{pickOf}
 use Rattle.engine.specs.Trials.{Held}
-use Rattle.engine.specs.Marks.{ArcIn}
+use Rattle.reach.specs.Marks.{Led}
 use Rattle.engine.specs.Shown.{RowTo, RowArcIs, UsedBy, RowShown, RowPicks}
+use Rattle.trials.proofs.Filled.{positive}
 use Rattle.engine.proofs.Shown.{shown-unmarked}
 use Rattle.engine.proofs.Variables.{finite-offset, offset-finite, full-picked, full-read, shown-full, shown-most}
 
@@ -32,9 +33,9 @@ module _ (p : Problem) (n m : ℕ) (left right picks out : List ℕ) (held : Hel
       (v .arcs-are .each (j * 32 + l) (omega arith)))
 
   -- An arc of the table is a lead of the strategy,
-  arc-leads : (j l : ℕ) → ArcIn (v .arcs) (n + 1) j l → RowLeads p (picksFrom (pickOf picks) (n + 1)) j l
+  arc-leads : (j l : ℕ) → Led (v .arcs) (n + 1) j l → RowLeads p (picksFrom (pickOf picks) (n + 1)) j l
   arc-leads j l a =
-      let t = arcs-at j l (a .from) (omega (arith, a .to)) .some (a .arc) in
+      let t = arcs-at j l (a .from) (omega (arith, a .to)) .some (λ e. omega (arith, a .arc, e)) in
       let h : getD picks (t .row) 0 < n + 1 = omega (arith, t .picked, a .to) in
       record {
         row = t .row;
@@ -44,7 +45,7 @@ module _ (p : Problem) (n m : ℕ) (left right picks out : List ℕ) (held : Hel
       }
 
   -- and back.
-  leads-arc : (j l : ℕ) → j ≤ n → RowLeads p (picksFrom (pickOf picks) (n + 1)) j l → ArcIn (v .arcs) (n + 1) j l × (l ≤ n)
+  leads-arc : (j l : ℕ) → j ≤ n → RowLeads p (picksFrom (pickOf picks) (n + 1)) j l → Led (v .arcs) (n + 1) j l × (l ≤ n)
   leads-arc j l h a =
       let r = full-read (pickOf picks) (n + 1) (a .row) l (a .picked) in
       let t : RowTo left picks (m + 1) j l = record {
@@ -53,14 +54,14 @@ module _ (p : Problem) (n m : ℕ) (left right picks out : List ℕ) (held : Hel
         picked = r .0;
         left-is = offset-finite _ (subst Finite (sym (held .left-is (a .row) j (omega (arith, a .inside, held .m-is)) h)) (a .left));
       } in (
-        record { from = omega arith; to = r .1; arc = λ z. arcs-at j l (omega arith) (omega arith) .none z t },
+        record { from = omega arith; to = r .1; arc = positive _ (λ z. arcs-at j l (omega arith) (omega arith) .none z t) },
         omega arith,
       )
 
-  reaches-full : {j : ℕ} → Reachable Anchor (ArcIn (v .arcs) (n + 1)) j → Reachable Anchor (RowLeads p (picksFrom (pickOf picks) (n + 1))) j
+  reaches-full : {j : ℕ} → Reachable Anchor (Led (v .arcs) (n + 1)) j → Reachable Anchor (RowLeads p (picksFrom (pickOf picks) (n + 1))) j
   reaches-full r = reach-map (λ j e. e) arc-leads r
 
-  reaches-arcs : {j : ℕ} → Reachable Anchor (RowLeads p (picksFrom (pickOf picks) (n + 1))) j → Reachable Anchor (ArcIn (v .arcs) (n + 1)) j × (j ≤ n)
+  reaches-arcs : {j : ℕ} → Reachable Anchor (RowLeads p (picksFrom (pickOf picks) (n + 1))) j → Reachable Anchor (Led (v .arcs) (n + 1)) j × (j ≤ n)
   reaches-arcs r = reach-keep (λ j. j ≤ n) (λ j e. (e, omega arith)) leads-arc r
 
   -- They agree at every row in use.

@@ -22,8 +22,9 @@ use Rattle.duality.specs.Picks.{picksFrom, AgreeReached}
 use Rattle.duality.proofs.Reach.{reach-keep, reach-map}
 use Rattle.trials.specs.Tables.{entryOf, pickOf}
 use Rattle.engine.specs.Trials.{Held}
-use Rattle.engine.specs.Marks.{ArcIn}
+use Rattle.reach.specs.Marks.{Led}
 use Rattle.engine.specs.Shown.{shownPick, arcBy, VariablePicks}
+use Rattle.trials.proofs.Filled.{positive}
 use Rattle.engine.proofs.Shown.{shown-unmarked, shown-picked, shown-none, arc-picked, arc-none}
 
 -- ---- offset numbers
@@ -77,21 +78,21 @@ module _ (p : Problem) (n m : ℕ) (left right picks out : List ℕ) (held : Hel
       v .arcs-are .each (j * 32 + l) (omega arith) ∙ ap₂ (λ (i z : ℕ). arcBy right (m + 1) (getD picks i 0) z) e d
 
   -- An arc of the table is a lead of the strategy,
-  arc-leads : (j l : ℕ) → ArcIn (v .arcs) (n + 1) j l → Leads p (picksFrom (pickOf picks) (m + 1)) j l
+  arc-leads : (j l : ℕ) → Led (v .arcs) (n + 1) j l → Leads p (picksFrom (pickOf picks) (m + 1)) j l
   arc-leads j l a = ⊎-elim
-      (λ (h : m + 1 ≤ getD picks j 0). absurd (a .arc (arcs-at j l (a .from) (omega (arith, a .to)) ∙ sym (arc-none right (m + 1) (getD picks j 0) l h))))
+      (λ (h : m + 1 ≤ getD picks j 0). absurd (omega (arith, a .arc, arcs-at j l (a .from) (omega (arith, a .to)) ∙ sym (arc-none right (m + 1) (getD picks j 0) l h))))
       (λ (h : getD picks j 0 < m + 1).
       let e = arcs-at j l (a .from) (omega (arith, a .to)) ∙ sym (arc-picked right (m + 1) (getD picks j 0) l h) in
       record {
         row = getD picks j 0;
         picked = full-picked (pickOf picks) (m + 1) j h;
         inside = omega (arith, a .to, held .n-is);
-        right = subst Finite (held .right-is (getD picks j 0) l (omega arith) (omega (arith, a .to))) (finite-offset _ (λ z. a .arc (e ∙ z)));
+        right = subst Finite (held .right-is (getD picks j 0) l (omega arith) (omega (arith, a .to))) (finite-offset _ (λ z. omega (arith, a .arc, e ∙ z)));
       })
       (nat-le-or-lt (m + 1) (getD picks j 0))
 
   -- and back.
-  leads-arc : (j l : ℕ) → j ≤ n → Leads p (picksFrom (pickOf picks) (m + 1)) j l → ArcIn (v .arcs) (n + 1) j l × (l ≤ n)
+  leads-arc : (j l : ℕ) → j ≤ n → Leads p (picksFrom (pickOf picks) (m + 1)) j l → Led (v .arcs) (n + 1) j l × (l ≤ n)
   leads-arc j l h a =
       let r = full-read (pickOf picks) (m + 1) j (a .row) (a .picked) in
       let i : l ≤ n = omega (arith, a .inside, held .n-is) in
@@ -101,15 +102,15 @@ module _ (p : Problem) (n m : ℕ) (left right picks out : List ℕ) (held : Hel
         record {
           from = omega arith;
           to = omega arith;
-          arc = λ z. offset-finite _ g (arc-picked right (m + 1) (getD picks j 0) l q ∙ sym (arcs-at j l (omega arith) (omega arith)) ∙ z);
+          arc = positive _ (λ z. offset-finite _ g (arc-picked right (m + 1) (getD picks j 0) l q ∙ sym (arcs-at j l (omega arith) (omega arith)) ∙ z));
         },
         i,
       )
 
-  reaches-full : {j : ℕ} → Reachable Anchor (ArcIn (v .arcs) (n + 1)) j → Reachable Anchor (Leads p (picksFrom (pickOf picks) (m + 1))) j
+  reaches-full : {j : ℕ} → Reachable Anchor (Led (v .arcs) (n + 1)) j → Reachable Anchor (Leads p (picksFrom (pickOf picks) (m + 1))) j
   reaches-full r = reach-map (λ j e. e) arc-leads r
 
-  reaches-arcs : {j : ℕ} → Reachable Anchor (Leads p (picksFrom (pickOf picks) (m + 1))) j → Reachable Anchor (ArcIn (v .arcs) (n + 1)) j × (j ≤ n)
+  reaches-arcs : {j : ℕ} → Reachable Anchor (Leads p (picksFrom (pickOf picks) (m + 1))) j → Reachable Anchor (Led (v .arcs) (n + 1)) j × (j ≤ n)
   reaches-arcs r = reach-keep (λ j. j ≤ n) (λ j e. (e, omega arith)) leads-arc r
 
   -- They agree wherever the strategy reaches.

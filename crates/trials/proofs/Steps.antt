@@ -1,22 +1,20 @@
 -- Laws of a step of the policy iteration, and of its end.
-use Prim.Native.Nat.{ℕ, _+_, _*_, _-_, _/_, _%_, _≤_, _<_}
+use Prim.Native.Nat.{ℕ, _+_, _*_, _≤_, _<_}
 use mathlib.Core.Path.{_≡_, refl, sym, ap, subst, _∙_}
 use mathlib.Core.Bool.{Bool, true, false}
 use mathlib.Core.Logic.{_⊎_, inl, inr, ⊎-elim}
 use mathlib.Core.List.{List}
 use native.Mathlib.Omega.{arith}
-use native.Mathlib.Nat.{eq-zero-or-pos}
 use lib.ListN.{length, getD, set, replicate, length-set, length-replicate}
-use borrow.Author.Tests.{lt-ltb, le-ltb}
 use lib.Seq.{getD-set-same, getD-set-other}
-use Rattle.definitions.specs.Limits.{signed-half, lead-limit}
+use Rattle.definitions.specs.Limits.{lead-limit}
 use Rattle.definitions.specs.Tropical.{Trop, plus, largest, _⊑_, blank-least}
 use Rattle.definitions.specs.Problem.{Point}
 use Rattle.definitions.specs.Certificate.{Strategy}
 use Rattle.definitions.specs.Offset.{tropOf}
 use Rattle.definitions.proofs.Whole.{nat-le-or-lt}
 use Rattle.definitions.proofs.Tropical.{⊑-trans, largest-above, largest-ext}
-use Rattle.definitions.proofs.Offset.{trop-order, plus-trop, plus-trop-zero}
+use Rattle.definitions.proofs.Offset.{trop-order, plus-trop-zero}
 use Rattle.duality.specs.System.{System, sideOf}
 use Rattle.duality.specs.Values.{values, Policy, Fails, Switched, Switch}
 use Rattle.duality.specs.Height.{Bounded, height}
@@ -24,230 +22,13 @@ use Rattle.duality.proofs.Policy.{next-policy}
 use Rattle.duality.proofs.Height.{height-falls}
 use Rattle.duality.proofs.Ends.{finished}
 use Rattle.records.specs.Decoded.{Near}
-use Rattle.trials.specs.Tables.{entryOf, systemOf, pointOf, pickOf, raised-limit, value-limit, fold-least, side-least, high, highs, Table, Ranged, Lows, Tables}
-use Rattle.trials.specs.Ends.{RowEnds}
+use Rattle.trials.specs.Tables.{entryOf, systemOf, pointOf, pickOf, raised-limit, value-limit, high, highs, Table, Ranged, Lows, Tables}
 use Rattle.trials.specs.Rounds.{SideIs, ValuesIs}
-use Rattle.trials.specs.Steps.{Stands, Costs, Gives, lesser, chosenBy, givenBy, LoweredPlace, LoweredOne, LoweredAll, Lowered, LoweredAt, LoweredBy, SoughtAt, Sought, FailsNow, Improved, Tried}
-use Rattle.trials.proofs.Low.{high-zero, high-whole, high-mono, highs-at}
-use Rattle.trials.proofs.Fold.{same-or-not}
+use Rattle.trials.specs.Steps.{Stands, Gives, lesser, chosenBy, givenBy, LoweredAt, LoweredBy, SoughtAt, Sought, FailsNow, Improved, Tried}
+use Rattle.trials.proofs.Low.{high-zero, high-mono, highs-at}
 use Rattle.trials.proofs.Small.{near-small}
 use Rattle.trials.proofs.Rounds.{false-not-true, level-ranged, level-lows}
-
--- ---- what a row gives a variable
-
--- A row that does not hold the variable stands there, whatever its value.
-pub cost-never : (side : ℕ) → Costs side 0 8589934592
-cost-never side = record {
-  fails = λ v n h. absurd (omega (arith, n .hi));
-  stands = λ v n h. rw (plus-trop-zero (tropOf v) .0) blank-least;
-}
-
--- A blank right side gives blank.
-pub cost-blank : (left : ℕ) → Near lead-limit left → (left ≡ 0 → ⊥) → Costs 0 left 0
-cost-blank left n d = record { fails = fails; stands = λ v m h. let e : v ≡ 0 = omega arith in rw (e, plus-trop-zero (tropOf left) .1) blank-least }
-  where
-    p : 0 < left
-    p = ⊎-elim (λ e. absurd (d e)) (λ q. q) (eq-zero-or-pos left)
-
-    fails : (v : ℕ) → Near value-limit v → 0 < v → Stands 0 left v → ⊥
-    fails v m h s =
-        let a = n .lo p in
-        let b = m .lo h in
-        let o : left + v - signed-half ≤ 0 = trop-order (left + v - signed-half) 0 .0 (rw (plus-trop left v p h (omega arith)) at s) in
-        omega arith
-
--- A whole right side gives the difference.
-pub cost-whole : (side left : ℕ) → Near lead-limit left → (left ≡ 0 → ⊥) → fold-least ≤ side → Costs side left (side + signed-half - left)
-cost-whole side left n d k = record { fails = fails; stands = λ v m h. ⊎-elim (blank v) (stands v m h) (eq-zero-or-pos v) }
-  where
-    p : 0 < left
-    p = ⊎-elim (λ e. absurd (d e)) (λ q. q) (eq-zero-or-pos left)
-
-    fails : (v : ℕ) → Near value-limit v → side + signed-half - left < v → Stands side left v → ⊥
-    fails v m h s =
-        let a = n .lo p in
-        let q : 0 < v = omega arith in
-        let b = m .lo q in
-        let o : left + v - signed-half ≤ side = trop-order (left + v - signed-half) side .0 (rw (plus-trop left v p q (omega arith)) at s) in
-        omega (arith, n .hi)
-
-    blank : (v : ℕ) → v ≡ 0 → Stands side left v
-    blank v e = rw (e, plus-trop-zero (tropOf left) .1) blank-least
-
-    stands : (v : ℕ) → Near value-limit v → v ≤ side + signed-half - left → 0 < v → Stands side left v
-    stands v m h q =
-        let a = n .lo p in
-        let b = m .lo q in
-        rw (plus-trop left v p q (omega arith)) (trop-order (left + v - signed-half) side .1 (omega (arith, n .hi)))
-
--- ---- the same on low numbers
-
--- A row that does not hold the variable stands there: its top is above every value.
-never-lower : (side top v : ℕ) → signed-half ≤ top → Near value-limit (high v) → v ≤ top
-never-lower side top v h m = ⊎-elim (λ (z : v ≡ 0). omega arith) (λ (q : 0 < v). omega (arith, high-whole v q, m .hi)) (eq-zero-or-pos v)
-
-never-fails : (side top v : ℕ) → signed-half ≤ top → Near value-limit (high v) → top - 0 < v → ⊥
-never-fails side top v h m l = omega (arith, never-lower side top v h m)
-
-stands-blank : (side v : ℕ) → Near value-limit (high v) → Stands (high side) 0 (high v)
-stands-blank side v m = cost-never (high side) .stands (high v) m (omega (arith, m .hi))
-
-not-zero : {k : ℕ} → 0 < k → k ≡ 0 → ⊥
-not-zero h e = omega arith
-
--- A blank right side.
-pub gives-blank : Gives 0 2147503648
-gives-blank = record {
-  fails = λ left v n m h s. ⊎-elim
-      (λ (z : left ≡ 0). never-fails 0 2147503648 v (omega arith) m (omega arith))
-      (λ (p : 0 < left). cost-blank left n (not-zero p) .fails (high v) m (omega (arith, high-whole v (omega arith))) (rw high-zero at s))
-      (eq-zero-or-pos left);
-  stands = λ left v n m h. ⊎-elim
-      (λ (z : left ≡ 0). rw z (stands-blank 0 v m))
-      (λ (p : 0 < left). rw high-zero (cost-blank left n (not-zero p) .stands (high v) m (none left v n m h p)))
-      (eq-zero-or-pos left);
-}
-  where
-    none : (left v : ℕ) → Near lead-limit left → Near value-limit (high v) → v ≤ 2147503648 - left → 0 < left → high v ≤ 0
-    none left v n m h p = ⊎-elim
-        (λ (z : v ≡ 0). let e : high v ≡ 0 = rw z high-zero in omega arith)
-        (λ (q : 0 < v). let e : high v ≡ v + 1073741824 = high-whole v q in absurd (omega (arith, m .lo (omega arith), n .lo p)))
-        (eq-zero-or-pos v)
-
--- A whole right side.
-pub gives-whole : (side : ℕ) → side-least ≤ side → Gives side (side + signed-half)
-gives-whole side k = record {
-  fails = λ left v n m h s. ⊎-elim
-      (λ (z : left ≡ 0). never-fails side (side + signed-half) v (omega arith) m (omega arith))
-      (λ (p : 0 < left). costs left n p .fails (high v) m (omega (arith, up, high-whole v (omega arith), n .hi)) s)
-      (eq-zero-or-pos left);
-  stands = λ left v n m h. ⊎-elim
-      (λ (z : left ≡ 0). rw z (stands-blank side v m))
-      (λ (p : 0 < left). costs left n p .stands (high v) m (most left v n h))
-      (eq-zero-or-pos left);
-}
-  where
-    up : high side ≡ side + 1073741824
-    up = high-whole side (omega arith)
-
-    costs : (left : ℕ) → Near lead-limit left → 0 < left → Costs (high side) left (high side + signed-half - left)
-    costs left n p = cost-whole (high side) left n (not-zero p) (omega (arith, up))
-
-    most : (left v : ℕ) → Near lead-limit left → v ≤ side + signed-half - left → high v ≤ high side + signed-half - left
-    most left v n h = ⊎-elim
-        (λ (z : v ≡ 0). let e : high v ≡ 0 = rw z high-zero in omega arith)
-        (λ (q : 0 < v). omega (arith, up, high-whole v q, n .hi))
-        (eq-zero-or-pos v)
-
--- ---- a row lowers the least values
-
-pub lesser-first : (a b : ℕ) → a < b → a ≡ lesser a b
-lesser-first a b h = rw (lt-ltb a b h)
-
-pub lesser-second : (a b : ℕ) → b ≤ a → b ≡ lesser a b
-lesser-second a b h = rw (le-ltb a b h)
-
-pub chosen-first : (a b i k : ℕ) → a < b → i ≡ chosenBy a b i k
-chosen-first a b i k h = rw (lt-ltb a b h)
-
-pub chosen-second : (a b i k : ℕ) → b ≤ a → k ≡ chosenBy a b i k
-chosen-second a b i k h = rw (le-ltb a b h)
-
-pub lowered-none : {left least chosen : List ℕ} {i top : ℕ} → length least ≡ 32 → length chosen ≡ 32 → Lowered left i top least chosen 0 least chosen
-lowered-none e f = record {
-  least-size = e;
-  chosen-size = f;
-  leasts = λ j h. absurd (omega arith);
-  choices = λ j h. absurd (omega arith);
-  later-leasts = λ j h. refl;
-  later-choices = λ j h. refl;
-}
-
-pub lowered-more : (left least chosen : List ℕ) (i top n g k v : ℕ) (l c : List ℕ) → Lowered left i top least chosen n l c → n < 32
-    → g ≡ givenBy left i top n → k ≡ chosenBy g (getD l n 0) i (getD c n 0) → v ≡ lesser g (getD l n 0)
-    → Lowered left i top least chosen (n + 1) (set l n v) (set c n k)
-lowered-more left least chosen i top n g k v l c w h e d f = record {
-  least-size = length-set l n v ∙ w .least-size;
-  chosen-size = length-set c n k ∙ w .chosen-size;
-  leasts = λ j b. ⊎-elim
-      (λ (q : n ≤ j). let p : n ≡ j = omega arith in subst (λ (j : ℕ). getD (set l n v) j 0 ≡ lesser (givenBy left i top j) (getD least j 0)) p
-      (getD-set-same l n v 0 (omega (arith, w .least-size)) ∙ rw (f, e, w .later-leasts n (omega arith))))
-      (λ (q : j < n). getD-set-other l n j v 0 (λ p. omega arith) ∙ w .leasts j q)
-      (nat-le-or-lt n j);
-  choices = λ j b. ⊎-elim
-      (λ (q : n ≤ j). let p : n ≡ j = omega arith in subst (λ (j : ℕ). getD (set c n k) j 0 ≡ chosenBy (givenBy left i top j) (getD least j 0) i (getD chosen j 0)) p
-      (getD-set-same c n k 0 (omega (arith, w .chosen-size)) ∙ rw (d, e, w .later-leasts n (omega arith), w .later-choices n (omega arith))))
-      (λ (q : j < n). getD-set-other c n j k 0 (λ p. omega arith) ∙ w .choices j q)
-      (nat-le-or-lt n j);
-  later-leasts = λ j b. getD-set-other l n j v 0 (λ p. omega arith) ∙ w .later-leasts j (omega arith);
-  later-choices = λ j b. getD-set-other c n j k 0 (λ p. omega arith) ∙ w .later-choices j (omega arith);
-}
-
-pub lowered-end : (left least chosen : List ℕ) (i top n width : ℕ) (l c : List ℕ) → Lowered left i top least chosen n l c → n ≤ width → width ≤ n
-    → Lowered left i top least chosen width l c
-lowered-end left least chosen i top n width l c w h k =
-    let e : n ≡ width = omega arith in subst (λ (z : ℕ). Lowered left i top least chosen z l c) e w
-
--- One place.
-pub lowered-one : (left least chosen : List ℕ) (i top j g k v : ℕ) → length least ≡ 32 → length chosen ≡ 32 → j < 32
-    → g ≡ givenBy left i top j → k ≡ chosenBy g (getD least j 0) i (getD chosen j 0) → v ≡ lesser g (getD least j 0)
-    → LoweredOne left i top j least chosen (set least j v) (set chosen j k)
-lowered-one left least chosen i top j g k v a b h e d f = record {
-  least-size = length-set least j v ∙ a;
-  chosen-size = length-set chosen j k ∙ b;
-  here = record { value = getD-set-same least j v 0 (omega arith) ∙ rw (f, e); choice = getD-set-same chosen j k 0 (omega arith) ∙ rw (d, e) };
-  other-leasts = λ l n. getD-set-other least j l v 0 n;
-  other-choices = λ l n. getD-set-other chosen j l k 0 n;
-}
-
--- A whole row.
-pub lowered-all : {left least chosen least′ chosen′ : List ℕ} {i top : ℕ} → Lowered left i top least chosen 32 least′ chosen′
-    → LoweredAll left i top least chosen least′ chosen′
-lowered-all w = record { least-size = w .least-size; chosen-size = w .chosen-size; each = λ j h. inl (record { value = w .leasts j h; choice = w .choices j h }) }
-
--- What was lowered by a row is not lowered by it again.
-lowered-twice : (g l i c : ℕ) → (lesser g (lesser g l) ≡ lesser g l) × (chosenBy g (lesser g l) i (chosenBy g l i c) ≡ chosenBy g l i c)
-lowered-twice g l i c = ⊎-elim
-    (λ (h : l ≤ g). rw (← lesser-second g l h) (sym (lesser-second g l h), sym (chosen-second g l i (chosenBy g l i c) h)))
-    (λ (h : g < l). rw (← lesser-first g l h) (sym (lesser-second g g (omega arith)), sym (chosen-second g g i (chosenBy g l i c) (omega arith))))
-    (nat-le-or-lt l g)
-
--- The places at the ends of a row.
-pub lowered-ends : (left least chosen : List ℕ) (i top ends : ℕ) (l c l′ c′ : List ℕ) → RowEnds left i ends → ends < 1024
-    → LoweredOne left i top (ends / 32) least chosen l c → LoweredOne left i top (ends % 32) l c l′ c′ → LoweredAll left i top least chosen l′ c′
-lowered-ends left least chosen i top ends l c l′ c′ r b p q = record {
-  least-size = q .least-size;
-  chosen-size = q .chosen-size;
-  each = λ j h. ⊎-elim
-      (λ (e : j ≡ ends % 32). inl (rw e (⊎-elim twice second (same-or-not (ends % 32) (ends / 32)))))
-      (λ n. ⊎-elim
-      (λ (e : j ≡ ends / 32). inl (rw e (first (λ z. n (e ∙ z)))))
-      (λ m. inr (record {
-        blank = r .others b j h m n;
-        value = q .other-leasts j n ∙ p .other-leasts j m;
-        choice = q .other-choices j n ∙ p .other-choices j m;
-      }))
-      (same-or-not j (ends / 32)))
-      (same-or-not j (ends % 32));
-}
-  where
-    first : (ends / 32 ≡ ends % 32 → ⊥) → LoweredPlace left i top (ends / 32) least chosen l′ c′
-    first n = record { value = q .other-leasts (ends / 32) n ∙ p .here .value; choice = q .other-choices (ends / 32) n ∙ p .here .choice }
-
-    second : (ends % 32 ≡ ends / 32 → ⊥) → LoweredPlace left i top (ends % 32) least chosen l′ c′
-    second n = record {
-      value = q .here .value ∙ ap (lesser (givenBy left i top (ends % 32))) (p .other-leasts (ends % 32) n);
-      choice = q .here .choice ∙ rw (p .other-leasts (ends % 32) n, p .other-choices (ends % 32) n);
-    }
-
-    twice : ends % 32 ≡ ends / 32 → LoweredPlace left i top (ends % 32) least chosen l′ c′
-    twice e =
-        let d = subst (λ (j : ℕ). LoweredPlace left i top j least chosen l c) (sym e) (p .here) in
-        let t = lowered-twice (givenBy left i top (ends % 32)) (getD least (ends % 32) 0) i (getD chosen (ends % 32) 0) in
-        record {
-          value = q .here .value ∙ rw (d .value) (t .0);
-          choice = q .here .choice ∙ rw (d .value, d .choice) (t .1);
-        }
+use Rattle.trials.proofs.Lowering.{lesser-first, lesser-second, chosen-first, chosen-second}
 
 -- ---- the search for failing rows
 

@@ -1,4 +1,4 @@
-use Rattle.engine.proofs.Final.{infeasible-settled}
+use Rattle.engine.proofs.Infeasible.{infeasible-settled}
 use borrow.Author.Needs.{needs}
 use Rattle.engine.proofs.answer.infeasible.Statement.{statement}
 use Rattle.engine.proofs.answer.infeasible.Tie as tie

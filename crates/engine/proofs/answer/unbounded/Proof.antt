@@ -1,4 +1,4 @@
-use Rattle.engine.proofs.Final.{unbounded-settled, lowest-ready}
+use Rattle.engine.proofs.Unbounded.{unbounded-settled, lowest-ready}
 use borrow.Author.Needs.{needs}
 use Rattle.engine.proofs.answer.unbounded.Statement.{statement}
 use Rattle.engine.proofs.answer.unbounded.Tie as tie

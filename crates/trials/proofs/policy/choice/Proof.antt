@@ -1,4 +1,4 @@
-use Rattle.trials.proofs.Steps.{chosen-first, chosen-second}
+use Rattle.trials.proofs.Lowering.{chosen-first, chosen-second}
 use Rattle.trials.proofs.policy.choice.Statement.{statement}
 use Rattle.trials.proofs.policy.choice.Tie as tie
 

@@ -1,4 +1,4 @@
-use Rattle.trials.proofs.Steps.{lesser-first, lesser-second}
+use Rattle.trials.proofs.Lowering.{lesser-first, lesser-second}
 use Rattle.trials.proofs.policy.lower.Statement.{statement}
 use Rattle.trials.proofs.policy.lower.Tie as tie
 

@@ -1,6 +1,6 @@
 use mathlib.Core.Path.{refl}
 use native.Mathlib.Omega.{arith}
-use Rattle.trials.proofs.Steps.{lowered-all}
+use Rattle.trials.proofs.Lowering.{lowered-all}
 use borrow.Author.Needs.{needs}
 use Rattle.trials.proofs.policy.lower_by.Statement.{statement}
 use Rattle.trials.proofs.policy.lower_by.Tie as tie

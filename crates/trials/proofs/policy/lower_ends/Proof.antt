@@ -1,6 +1,6 @@
 use Prim.Native.Nat.{_/_, _%_}
 use native.Mathlib.Omega.{arith}
-use Rattle.trials.proofs.Steps.{lowered-ends}
+use Rattle.trials.proofs.Lowering.{lowered-ends}
 use borrow.Author.Needs.{needs}
 use Rattle.trials.proofs.policy.lower_ends.Statement.{statement}
 use Rattle.trials.proofs.policy.lower_ends.Tie as tie

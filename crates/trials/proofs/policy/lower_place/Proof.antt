@@ -1,7 +1,7 @@
 use Prim.Native.Nat.{_+_, _*_}
 use mathlib.Core.Path.{refl}
 use native.Mathlib.Omega.{arith}
-use Rattle.trials.proofs.Steps.{lowered-one}
+use Rattle.trials.proofs.Lowering.{lowered-one}
 use borrow.Author.Needs.{needs}
 use Rattle.trials.proofs.policy.lower_place.Statement.{statement}
 use Rattle.trials.proofs.policy.lower_place.Tie as tie

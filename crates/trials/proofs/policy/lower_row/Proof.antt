@@ -2,7 +2,7 @@ use Prim.Native.Nat.{_≤_, _+_, _*_, _-_}
 use mathlib.Core.Path.{refl}
 use native.Mathlib.Omega.{arith}
 use Rattle.trials.specs.Steps.{Lowered}
-use Rattle.trials.proofs.Steps.{lowered-none, lowered-more, lowered-end}
+use Rattle.trials.proofs.Lowering.{lowered-none, lowered-more, lowered-end}
 use borrow.Author.Needs.{needs}
 use Rattle.trials.proofs.policy.lower_row.Statement.{statement}
 use Rattle.trials.proofs.policy.lower_row.Tie as tie

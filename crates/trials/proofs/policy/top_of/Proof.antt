@@ -1,4 +1,4 @@
-use Rattle.trials.proofs.Steps.{gives-blank, gives-whole}
+use Rattle.trials.proofs.Given.{gives-blank, gives-whole}
 use Rattle.trials.proofs.Filled.{positive}
 use native.Mathlib.Omega.{arith}
 use borrow.Author.Needs.{needs}
