@@ -12,11 +12,12 @@ use Rattle.definitions.specs.Solved as Solved
 use Rattle.definitions.proofs.Whole.{nat-le-or-lt}
 use Rattle.duality.specs.Within.{Within}
 use Rattle.records.specs.Decoded.{Decoded}
-use Rattle.engine.specs.Trials.{Steady, Question, Ready}
-use Rattle.engine.specs.Answered.{Coefficients, Copied, Settled, Answered}
+use Rattle.search.specs.Trials.{Steady, Question, Ready}
+use Rattle.engine.specs.Answered.{Coefficients, Settled, Answered}
+use Rattle.search.specs.Trials.{Copied}
 use Rattle.trials.proofs.Small.{near-small}
 use Rattle.trials.proofs.Steps.{table-raised}
-use Rattle.engine.proofs.Trials.{question-steady}
+use Rattle.search.proofs.Trials.{question-steady}
 use Rattle.engine.proofs.RowsOf.{rows-most}
 
 -- An answer of the problem in tables that differ in the objective's row alone.

@@ -23,10 +23,10 @@ use Rattle.duality.proofs.Numbers.{below-infeasible}
 use Rattle.duality.proofs.Classes.{infeasible-exactly}
 use Rattle.duality.proofs.Unused.{infeasible-unused}
 use Rattle.trials.specs.Tables.{pickOf}
-use Rattle.engine.specs.Trials.{wholeOf, zero-offset, top-offset, Raised, Question, Ready, TriedAt}
+use Rattle.search.specs.Trials.{wholeOf, zero-offset, top-offset, Raised, Question, Ready, TriedAt}
 use Rattle.engine.specs.Shown.{VariablePicks}
 use Rattle.engine.specs.Answered.{answerIn, Settled}
-use Rattle.engine.proofs.Trials.{raised-held, tried-blocks}
+use Rattle.search.proofs.Trials.{raised-held, tried-blocks}
 use Rattle.engine.proofs.Variables.{variables-agree, variables-idle, variables-most}
 use Rattle.engine.proofs.Form.{picks-fit, stamps-fit, no-stamps-fit, cut-count}
 use Rattle.engine.proofs.Shared.{enough, blocked-unattainable, same-count, cut-64, fits-64}

@@ -1,9 +1,3 @@
-pub mod Agree
-pub mod Trials
-pub mod Heights
-pub mod Ending
-pub mod Descents
-pub mod Halves
 pub mod Marks
 pub mod Shown
 pub mod Variables

@@ -35,11 +35,11 @@ use Rattle.duality.proofs.Stamps.{stamps-at-most-32}
 use Rattle.duality.proofs.Unused.{optimal-unused}
 use Rattle.trials.specs.Tables.{pointOf, pickOf}
 use Rattle.trials.specs.Steps.{Tried}
-use Rattle.engine.specs.Trials.{wholeOf, zero-offset, Raised, Question, Ready}
-use Rattle.engine.specs.Halving.{LeastFound}
+use Rattle.search.specs.Trials.{wholeOf, zero-offset, Raised, Question, Ready}
+use Rattle.search.specs.Halving.{LeastFound}
 use Rattle.engine.specs.Shown.{VariablePicks}
 use Rattle.engine.specs.Answered.{Stamps, answerIn, Settled}
-use Rattle.engine.proofs.Trials.{raised-held}
+use Rattle.search.proofs.Trials.{raised-held}
 use Rattle.engine.proofs.Variables.{variables-agree, variables-idle, variables-most}
 use Rattle.engine.proofs.Form.{cut-point, picks-fit, stamps-fit, cut-count, cut-count-map}
 use Rattle.engine.proofs.Shared.{enough, blocked-unattainable, same-count, cut-64, fits-64}

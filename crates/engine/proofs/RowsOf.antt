@@ -15,7 +15,7 @@ use Rattle.definitions.proofs.Whole.{nat-le-or-lt}
 use Rattle.duality.specs.Picks.{picksFrom, AgreeInUse}
 use Rattle.duality.proofs.Reach.{reach-keep, reach-map}
 use Rattle.trials.specs.Tables.{pickOf}
-use Rattle.engine.specs.Trials.{Held}
+use Rattle.search.specs.Trials.{Held}
 use Rattle.reach.specs.Marks.{Led}
 use Rattle.engine.specs.Shown.{RowTo, RowArcIs, UsedBy, RowShown, RowPicks}
 use Rattle.trials.proofs.Filled.{positive}

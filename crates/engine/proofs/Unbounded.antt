@@ -29,11 +29,11 @@ use Rattle.duality.proofs.Numbers.{above-unbounded}
 use Rattle.duality.proofs.Classes.{unbounded-exactly}
 use Rattle.duality.proofs.Unused.{unbounded-unused}
 use Rattle.trials.specs.Tables.{systemOf, pointOf, pickOf}
-use Rattle.engine.specs.Trials.{wholeOf, zero-offset, lowest-offset, Trialled, Raised, Question, Ready, TriedAt}
+use Rattle.search.specs.Trials.{wholeOf, zero-offset, lowest-offset, Trialled, Raised, Question, Ready, TriedAt}
 use Rattle.engine.specs.Shown.{RowPicks, InducedRows}
 use Rattle.engine.specs.Answered.{answerIn, Settled}
-use Rattle.engine.proofs.Agree.{Agree, agree-side}
-use Rattle.engine.proofs.Trials.{agree-raised, raised-ready, raised-held, question-steady, tried-solution}
+use Rattle.search.proofs.Agree.{Agree, agree-side}
+use Rattle.search.proofs.Trials.{agree-raised, raised-ready, raised-held, question-steady, tried-solution}
 use Rattle.engine.proofs.RowsOf.{rows-agree, rows-idle, rows-most}
 use Rattle.engine.proofs.Form.{picks-fit, stamps-fit, no-stamps-fit, cut-count}
 use Rattle.engine.proofs.Shared.{enough, first-inside, same-count, cut-64, fits-64}

@@ -1,5 +1,5 @@
 -- The engine's answer, on tables.
-use Prim.Native.Nat.{ℕ, _+_, _*_, _≤_}
+use Prim.Native.Nat.{ℕ, _≤_}
 use mathlib.Core.Path.{_≡_}
 use mathlib.Core.List.{List, map}
 use lib.ListN.{getD, take}
@@ -13,7 +13,7 @@ use Rattle.duality.specs.Within.{Within}
 use Rattle.records.specs.Decoded.{Decoded}
 use Rattle.trials.specs.Tables.{Table}
 use Rattle.trials.specs.Filled.{Filled}
-use Rattle.engine.specs.Trials.{Question}
+use Rattle.search.specs.Trials.{Question}
 
 -- Tables of n + 1 variables and m + 1 rows within the leads' limit.
 pub record Coefficients (n m : ℕ) (left right : List ℕ) : Type 0 where
@@ -21,10 +21,6 @@ pub record Coefficients (n m : ℕ) (left right : List ℕ) : Type 0 where
   pub m-most : m ≤ highest-m
   pub lefts : Table lead-limit left
   pub rights : Table lead-limit right
-
--- The row of the objective, copied.
-abbrev pub Copied : List ℕ → ℕ → ℕ → List ℕ → Type 0
-Copied right row n out = Filled (λ l v. v ≡ getD right (row * 32 + l) 0) 32 n out
 
 -- Stamps: each value less that of variable 0.
 abbrev pub Stamps : List ℕ → ℕ → List ℕ → Type 0

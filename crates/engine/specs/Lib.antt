@@ -1,6 +1,3 @@
-pub mod Trials
-pub mod Descent
-pub mod Halving
 pub mod Marks
 pub mod Shown
 pub mod Answered

@@ -1,10 +1,6 @@
 // The engine: the least span of a problem in bytes, by bisection over trials on two tables, each decided by policy iteration.
 // Document 01, "The engine".
 pub mod answer;
-pub mod bracket;
-pub mod descent;
-pub mod guess;
-pub mod halving;
 pub mod input;
 pub mod picks;
 pub mod solve;

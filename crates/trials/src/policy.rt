@@ -178,7 +178,7 @@ fn improve(
     Step { picks: next, moved }
 }
 
-// The offset number of a low one. Public for the engine's `guess`.
+// The offset number of a low one. Public for `search::guess`.
 pub fn raised(k: u32) -> u64
     ensures { λ r. ⌜ r ≡ high k ⌝ }
 {
@@ -206,7 +206,7 @@ pub struct Outcome {
 }
 
 // Policy iteration from a strategy that is kept, until no row fails at its values or variable 0 has none left.
-// Public for the engine's `halving`.
+// Public for `search::halving`.
 pub fn trial(
     left: &[u32; 2048],
     right: &[u32; 2048],

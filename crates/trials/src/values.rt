@@ -29,7 +29,7 @@ fn larger(a: u32, b: u32) -> u32
     if a <= b { b } else { a }
 }
 
-// A coefficient plus a value. Public for the engine's `guess`, `picks`.
+// A coefficient plus a value. Public for `search::guess`, `engine::picks`.
 pub fn plus(a: u32, b: u64) -> u64
     requires { ⌜ a + b ≤ 18446744073709551615 ⌝ }
     ensures { λ r. ⌜ r ≡ a + b ⌝ }
@@ -71,7 +71,7 @@ fn end_side(table: &[u32; 2048], ends: u32, row: usize, x: &[u32; 32], width: us
     fold(larger(table[base + first] + x[first], table[base + last] + x[last]))
 }
 
-// One side of a row at low values, by its ends or whole. Public for `policy` and for the engine's `guess`.
+// One side of a row at low values, by its ends or whole. Public for `policy` and for `search::guess`.
 pub fn side(table: &[u32; 2048], ends: u32, row: usize, x: &[u32; 32], width: usize) -> u32
     requires { ⌜ (row < 64) × (width ≤ 32) × Table raised-limit (now table) × Lows width (now x) × RowEnds (now table) row ends ⌝ }
     ensures { λ r. ⌜ SideIs (now (table .entry)) row (highs (now (x .entry))) width r ⌝ }

@@ -2,7 +2,7 @@ use Prim.Native.Nat.{_≤_, _-_}
 use native.Mathlib.Omega.{arith}
 use Rattle.trials.proofs.Filled.{filled-none, filled-more, filled-end}
 use mathlib.Core.Path.{refl}
-use Rattle.engine.specs.Answered.{Copied}
+use Rattle.search.specs.Trials.{Copied}
 use borrow.Author.Needs.{needs}
 use Rattle.engine.proofs.answer.objective_of.Statement.{statement}
 use Rattle.engine.proofs.answer.objective_of.Tie as tie

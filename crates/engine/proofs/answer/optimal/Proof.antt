@@ -1,8 +1,8 @@
 use native.Mathlib.Omega.{arith}
-use Rattle.engine.proofs.Trials.{steady-trans}
+use Rattle.search.proofs.Trials.{steady-trans}
 use Rattle.engine.proofs.Optimal.{optimal-settled}
 use Rattle.engine.proofs.Final.{settled-steady}
-use Rattle.engine.proofs.Ending.{ended-steady}
+use Rattle.search.proofs.Ending.{ended-steady}
 use borrow.Author.Needs.{needs}
 use Rattle.engine.proofs.answer.optimal.Statement.{statement}
 use Rattle.engine.proofs.answer.optimal.Tie as tie

@@ -1,9 +1,9 @@
 use native.Mathlib.Omega.{arith}
 use Rattle.trials.proofs.Filled.{positive}
-use Rattle.engine.proofs.Trials.{kept-none, steady-trans}
-use Rattle.engine.proofs.Halves.{searching-start}
+use Rattle.search.proofs.Trials.{kept-none, steady-trans}
+use Rattle.search.proofs.Halves.{searching-start}
 use Rattle.engine.proofs.Final.{coefficients-ready, answered-by}
-use Rattle.engine.proofs.Ending.{ended-start, ended-steady}
+use Rattle.search.proofs.Ending.{ended-start, ended-steady}
 use borrow.Author.Needs.{needs}
 use Rattle.engine.proofs.answer.solve_tables.Statement.{statement}
 use Rattle.engine.proofs.answer.solve_tables.Tie as tie
