@@ -1,11 +1,11 @@
 -- What the code's tests of a class say of the definitions by class, and the tests of form on offset numbers.
-use Prim.Native.Nat.{ℕ, zero, suc, _+_, _-_, _≤_, _<_}
+use Prim.Native.Nat.{ℕ, zero, suc, _+_, _≤_, _<_}
 use mathlib.Core.Path.{_≡_, refl}
-use mathlib.Core.Bool.{true, false, _&&_}
+use mathlib.Core.Bool.{true, false, _&&_, Bool, cond}
 use native.Mathlib.Omega.{arith}
 use lib.Dec.{eqb}
 use borrow.Author.Tests.{eq-eqb, ne-eqb}
-use Rattle.definitions.specs.Limits.{signed-half, span-limit, stamp-limit}
+use Rattle.definitions.specs.Limits.{signed-half, span-limit, stamp-limit, highest-n, highest-m}
 use Rattle.definitions.specs.Bytes.{whole-within, blank-or-within}
 use Rattle.definitions.specs.Offset.{tropOf}
 use Rattle.definitions.specs.AnswerRecord.{known-class, stampCount, pickCount, highestPick, spanFits}
@@ -77,3 +77,19 @@ kind-answer kind class e = rw (eq-eqb kind 2 e)
 
 pub kind-other : (kind class : ℕ) → (kind ≡ 2 → ⊥) → false ≡ (eqb kind 2 && known-class class)
 kind-other kind class e = rw (ne-eqb kind 2 e)
+
+-- ---- how many there are at most
+
+pub stamps-most : (class n : ℕ) → n ≤ highest-n → stampCount class n ≤ 32
+stamps-most class n h = go (eqb class 1)
+  where
+    go : (t : Bool) → cond t (suc n) 0 ≤ 32
+    go true = omega arith
+    go false = omega arith
+
+pub picks-most : (class n m : ℕ) → n ≤ highest-n → m ≤ highest-m → pickCount class n m ≤ 64
+picks-most class n m h k = go (eqb class 2)
+  where
+    go : (t : Bool) → cond t (suc m) (suc n) ≤ 64
+    go true = omega arith
+    go false = omega arith

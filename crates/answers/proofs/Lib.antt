@@ -2,7 +2,6 @@ pub mod ByClass
 pub mod Passing
 pub mod Reading
 pub mod Padding
+pub mod Heads
 pub mod Judging
-pub mod Writing
-pub mod Trips
 pub mod Meaning

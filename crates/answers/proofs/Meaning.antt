@@ -14,7 +14,7 @@ use Rattle.answers.specs.declared.answer.AnswerHead.{AnswerHead}
 use Rattle.answers.proofs.Passing.{trop-at, stampsAt-length, picksAt-length}
 use Rattle.answers.proofs.Padding.{padded-take}
 use Rattle.answers.proofs.Judging.{stamps-meant, picks-meant}
-use Rattle.answers.proofs.Trips.{stamps-most, picks-most}
+use Rattle.answers.proofs.ByClass.{stamps-most, picks-most}
 
 module _ {s : List ℕ} {n m : ℕ} {head : AnswerHead} {stamps-before stamps picks-before picks : List ℕ}
     (read : AnswerRead s n m head stamps-before stamps picks-before picks) (accepted : answerRefusal s n m ≡ 0) where

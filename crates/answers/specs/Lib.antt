@@ -1,4 +1,2 @@
 pub mod Fields
 pub mod AnswerReading
-pub mod AnswerWriting
-pub mod RoundTrips

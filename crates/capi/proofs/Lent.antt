@@ -16,7 +16,7 @@ use Rattle.definitions.proofs.Put.{put-nil, put-more, length-put}
 use Rattle.answers.specs.declared.answer.AnswerHead.{AnswerHead}
 use Rattle.answers.specs.declared.answer.AnswerHead.the-variants as Heads
 use Rattle.answers.specs.AnswerReading.{AnswerRead, answerReadOf, headBy, spanNumber}
-use Rattle.answers.proofs.Trips.{fields-by, refused-by}
+use Rattle.answers.proofs.Heads.{fields-by, refused-by}
 use Rattle.capi.specs.Numbers.{ReadsAs, PlacesAs, stamp-places, pick-places, fieldsNumber, low-byte, low-half}
 
 -- The first i numbers are copied.

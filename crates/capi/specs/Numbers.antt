@@ -14,9 +14,9 @@ use Rattle.definitions.specs.Solved as Results
 use Rattle.definitions.specs.Solved.{Solves}
 use Rattle.answers.specs.Fields.{Padded, stampsOf, picksOf}
 use Rattle.answers.specs.AnswerReading.{spanNumber}
-use Rattle.answers.specs.AnswerWriting.{unlessRefused}
-use Rattle.answers.specs.declared.writer.Written.{Written}
-use Rattle.answers.specs.declared.writer.Written.the-variants.{Record, Refused}
+use Rattle.writing.specs.AnswerWriting.{unlessRefused}
+use Rattle.writing.specs.declared.writer.Written.{Written}
+use Rattle.writing.specs.declared.writer.Written.the-variants.{Record, Refused}
 use Rattle.engine.specs.declared.solve.Solved.{Solved}
 use Rattle.engine.specs.declared.solve.Solved.the-variants.{Answered}
 use Rattle.checker.specs.declared.check.Verdict.{Verdict}

@@ -8,8 +8,8 @@ ghost use Rattle.answers.specs.Fields.{fieldsOf};
 ghost use Rattle.capi.specs.Numbers.{WritesAs, SmallRecord, ReadsAs, PlacesAs, numberOf, low-byte, low-half, fieldsNumber};
 use answers::answer::AnswerHead;
 use answers::answer::read_answer;
-use answers::writer::Written;
-use answers::writer::write_answer;
+use writing::writer::Written;
+use writing::writer::write_answer;
 
 // What `span_read` is lent for stamps and for picks, and its result where that is fewer.
 const STAMP_PLACES: usize = 32;

@@ -34,7 +34,7 @@ use Rattle.answers.specs.Fields.{Padded, stampsOf, picksOf}
 use Rattle.answers.specs.AnswerReading.{spanNumber, answerReadOf, AnswerRead}
 use Rattle.records.proofs.Tables.{length-listOf, getD-listOf}
 use Rattle.answers.proofs.Passing.{stampsAt-length, picksAt-length}
-use Rattle.answers.proofs.Trips.{stamps-most, picks-most}
+use Rattle.answers.proofs.ByClass.{stamps-most, picks-most}
 use Rattle.reach.proofs.Marks.{anchor-marked}
 use Rattle.reach.proofs.Existence.{MarksOf, reach-exists}
 use Rattle.checker.specs.Decides.{Decides}

@@ -19,13 +19,13 @@ use Rattle.definitions.proofs.Refusals.{or-else-suc, or-else-none, WriterFits, 
 use Rattle.definitions.proofs.Solved.{answers-taken}
 use Rattle.records.specs.declared.problem.Header.{Header}
 use Rattle.records.specs.declared.problem.Header.the-variants as Headers
-use Rattle.answers.specs.declared.writer.Written.{Written}
-use Rattle.answers.specs.declared.writer.Written.the-variants as Writes
+use Rattle.writing.specs.declared.writer.Written.{Written}
+use Rattle.writing.specs.declared.writer.Written.the-variants as Writes
 use Rattle.records.specs.Decoded.{Decoded}
 use Rattle.records.specs.Tables.{leftTable, rightTable, ProblemRead}
 use Rattle.records.specs.ProblemHeader.{headerBy}
 use Rattle.answers.specs.Fields.{fieldsOf}
-use Rattle.answers.specs.AnswerWriting.{AnswerWritten, writtenBy, writtenOf, unlessRefused}
+use Rattle.writing.specs.AnswerWriting.{AnswerWritten, writtenBy, writtenOf, unlessRefused}
 use Rattle.records.proofs.LeadTables.{problem-decoded}
 use Rattle.records.proofs.ProblemHeader.{answer-fields, answer-refused}
 use Rattle.engine.specs.declared.solve.Solved.{Solved}

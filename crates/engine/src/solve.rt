@@ -9,11 +9,11 @@ use crate::answer::Answer;
 use crate::answer::solve_tables;
 use answers::class::pick_count;
 use answers::class::stamp_count;
-use answers::limits::ANSWER_MOST;
-use answers::writer::Written;
-use answers::writer::write_answer;
 use records::problem::Header;
 use records::problem::read_problem;
+use writing::limits::ANSWER_MOST;
+use writing::writer::Written;
+use writing::writer::write_answer;
 
 // What the engine answers: refused with the number, or answered with class, the span's offset number, trials and the
 // record's length.

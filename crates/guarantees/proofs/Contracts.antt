@@ -22,7 +22,7 @@ use Rattle.records.specs.Tables.{ProblemRead}
 use Rattle.answers.specs.Fields.{fieldsOf}
 use Rattle.answers.specs.AnswerReading.{AnswerRead, answerReadOf, headBy, spanNumber}
 use Rattle.records.proofs.LeadTables.{problem-decoded}
-use Rattle.answers.proofs.Trips.{counted}
+use Rattle.writing.proofs.Trips.{counted}
 use Rattle.engine.specs.declared.solve.Solved as Code
 use Rattle.engine.specs.Outcome.{solvedOf}
 use Rattle.checker.specs.declared.check.Verdict as Code′

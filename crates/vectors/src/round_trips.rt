@@ -6,9 +6,9 @@ use crate::print;
 use crate::writer_runs::Fields;
 use crate::writer_runs::write;
 use answers::answer::AnswerHead;
-use answers::roundtrip::read_then_write;
-use answers::roundtrip::write_then_read;
-use answers::writer::Written;
+use writing::roundtrip::read_then_write;
+use writing::roundtrip::write_then_read;
+use writing::writer::Written;
 
 fn verdict(same: bool) {
     if same {

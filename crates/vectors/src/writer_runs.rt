@@ -7,8 +7,8 @@ use crate::print;
 use crate::script::byte_at;
 use crate::script::number_after;
 use crate::script::place_of;
-use answers::writer::Written;
-use answers::writer::write_answer;
+use writing::writer::Written;
+use writing::writer::write_answer;
 
 // The offset number of 0.
 const ZERO: u64 = 2147483648;

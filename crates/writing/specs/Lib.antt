@@ -1,0 +1,2 @@
+pub mod AnswerWriting
+pub mod RoundTrips
