@@ -83,7 +83,8 @@ pub fn read_answer_header(bytes: &[u8], size: usize, n: usize, m: usize) -> Answ
     }
 }
 
-// Stamp i, an offset number, has its form: stamp 0 is 0, the others are blank or within their limit. Public for `writer`.
+// Stamp i, an offset number, has its form: stamp 0 is 0, the others are blank or within their limit. Public for
+// `writing::writer`.
 pub fn stamp_fits(i: usize, k: u64) -> bool
     ensures { λ r. ⌜ r ≡ stampFits i (tropOf k) ⌝ }
 {

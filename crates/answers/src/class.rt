@@ -10,7 +10,7 @@ ghost use Rattle.definitions.specs.Limits.{highest-n, highest-m};
 ghost use Rattle.definitions.specs.Offset.{tropOf};
 ghost use Rattle.definitions.specs.AnswerRecord.{known-class, stampCount, pickCount, highestPick, answerSize, spanFits};
 
-// The class is 1, 2 or 3. Public for `writer`.
+// The class is 1, 2 or 3. Public for `writing::writer`.
 pub fn known_class(class: u64) -> bool
     ensures { λ r. ⌜ r ≡ known-class class ⌝ }
 {
@@ -21,7 +21,7 @@ pub fn known_class(class: u64) -> bool
 }
 
 // How many stamps an answer of this class has: n + 1 for least, else none.
-// Public for `engine::solve`, `answer`, `roundtrip`, `writer`.
+// Public for `answer`, `writing` and `engine::solve`.
 pub fn stamp_count(class: u64, n: usize) -> usize
     requires { ⌜ n ≤ highest-n ⌝ }
     ensures { λ r. ⌜ (r ≡ stampCount class n) × (r ≤ 32) ⌝ }
@@ -33,7 +33,7 @@ pub fn stamp_count(class: u64, n: usize) -> usize
 }
 
 // How many picks: one a row for bottomless, else one a moment.
-// Public for `engine::solve`, `answer`, `roundtrip`, `writer`.
+// Public for `answer`, `writing` and `engine::solve`.
 pub fn pick_count(class: u64, n: usize, m: usize) -> usize
     requires { ⌜ (n ≤ highest-n) × (m ≤ highest-m) ⌝ }
     ensures { λ r. ⌜ (r ≡ pickCount class n m) × (r ≤ 64) ⌝ }
@@ -44,7 +44,8 @@ pub fn pick_count(class: u64, n: usize, m: usize) -> usize
     }
 }
 
-// The highest pick: 1 + a moment's number for bottomless, else m + 1, the question. Public for `answer`, `writer`.
+// The highest pick: 1 + a moment's number for bottomless, else m + 1, the question. Public for `answer` and
+// `writing::writer`.
 pub fn highest_pick(class: u64, n: usize, m: usize) -> u64
     requires { ⌜ (n ≤ highest-n) × (m ≤ highest-m) ⌝ }
     ensures { λ r. ⌜ r ≡ highestPick class n m ⌝ }
@@ -56,7 +57,7 @@ pub fn highest_pick(class: u64, n: usize, m: usize) -> u64
 }
 
 // The span, an offset number, has the form of its class: whole and within its limit for least, else blank. Public for
-// `answer`, `writer`.
+// `answer` and `writing::writer`.
 pub fn span_fits(class: u64, span: u64) -> bool
     ensures { λ r. ⌜ r ≡ spanFits class (tropOf span) ⌝ }
 {
@@ -66,7 +67,7 @@ pub fn span_fits(class: u64, span: u64) -> bool
     }
 }
 
-// The size of an answer record. Public for `answer`, `writer`.
+// The size of an answer record. Public for `answer` and `writing::writer`.
 pub fn answer_size(class: u64, n: usize, m: usize) -> usize
     requires { ⌜ (n ≤ highest-n) × (m ≤ highest-m) ⌝ }
     ensures { λ r. ⌜ (r ≡ answerSize class n m) × (r ≤ 270) ⌝ }

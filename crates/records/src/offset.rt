@@ -8,7 +8,7 @@ ghost use Rattle.definitions.specs.Limits.{signed-full};
 ghost use Rattle.definitions.specs.Bytes.{whole-within, blank-or-within};
 ghost use Rattle.definitions.specs.Offset.{tropOf, off};
 
-// The offset number of a 4-byte field, and the field of an offset number. Public for `answers`.
+// The offset number of a 4-byte field, and the field of an offset number. Public for `answers`, `writing`.
 pub fn offset(w: u64) -> u64
     ensures { λ r. ⌜ (r ≡ off w) × (r < signed-full) ⌝ }
 {
