@@ -1,10 +1,3 @@
-pub mod Decides
-pub mod Lists
-pub mod ArcTables
-pub mod Counting
-pub mod Certified
-pub mod Variables
-pub mod RowStrategy
 pub mod Acceptance
 pub mod Answers
 pub mod Verdicts
@@ -19,5 +12,3 @@ pub mod Demand3
 pub mod Holding
 pub mod Potentials
 pub mod Starred
-pub mod Sides
-pub mod ClosedWalks

@@ -1,11 +1,3 @@
-pub mod Decides
-pub mod Lists
-pub mod Tables
-pub mod Sides
-pub mod Gains
-pub mod GainRound
-pub mod Arcs
-pub mod Counts
 pub mod Outcome
 pub mod ClassHolds
 pub mod LongInput

@@ -1,0 +1,61 @@
+-- Laws of the picks that count, on the tables.
+use Prim.Native.Nat.{ℕ, _+_, _*_, _-_, _<_}
+use mathlib.Core.Path.{_≡_}
+use mathlib.Core.Bool.{Bool, not}
+use mathlib.Core.List.{List}
+use mathlib.Core.Logic.{⊎-elim}
+use native.Mathlib.Omega.{arith}
+use native.Mathlib.Nat.{eq-zero-or-pos}
+use lib.Dec.{eqb}
+use lib.ListN.{getD}
+use borrow.Author.Tests.{eqb-false, eqb-true, not-true, not-false}
+use Rattle.certificates.specs.Decides.{Decides}
+use Rattle.certificates.specs.Counts.{PickCounts, RowPickCounts, Idle, Stands}
+use Rattle.certificates.proofs.Decides.{decides-as}
+
+-- Not 0: above 0.
+pub above-zero : {k : ℕ} → (k ≡ 0 → ⊥) → 0 < k
+above-zero {k} d = ⊎-elim (λ e. absurd (d e)) (λ h. h) (eq-zero-or-pos k)
+
+-- The test `x != 0`.
+pub nonzero-decides : (x : ℕ) → Decides (0 < x) (not (eqb x 0))
+nonzero-decides x = record {
+  yes = λ e. above-zero (eqb-false x 0 (not-true (eqb x 0) e));
+  no = λ e h. let z : x ≡ 0 = eqb-true x 0 (not-false (eqb x 0) e) in omega arith;
+}
+
+-- ---- variables
+
+pub pick-none : {left : List ℕ} {pick mark j : ℕ} → (mark ≡ 0 → ⊥) → pick ≡ 0 → (0 < mark → PickCounts left pick j) → ⊥
+pick-none d e h = let c = h (above-zero d) in omega (arith, c .picked)
+
+pub pick-decides : (left : List ℕ) {pick mark : ℕ} (j : ℕ) → (mark ≡ 0 → ⊥) → (pick ≡ 0 → ⊥)
+    → Decides (0 < mark → PickCounts left pick j) (not (eqb (getD left ((pick - 1) * 32 + j) 0) 0))
+pick-decides left {pick} {mark} j d e = decides-as
+    (λ h _. record { row = pick - 1; picked = omega (arith, above-zero e); some = h })
+    (λ f. let c = f (above-zero d) in let q : pick - 1 ≡ c .row = omega (arith, c .picked) in rw q (c .some))
+    (nonzero-decides (getD left ((pick - 1) * 32 + j) 0))
+
+-- ---- rows
+
+pub row-none : {right : List ℕ} {pick base : ℕ} → pick ≡ 0 → RowPickCounts right pick base → ⊥
+row-none e c = omega (arith, c .picked)
+
+pub row-decides : (right : List ℕ) {pick : ℕ} (base : ℕ) → (pick ≡ 0 → ⊥)
+    → Decides (RowPickCounts right pick base) (not (eqb (getD right (base + (pick - 1)) 0) 0))
+row-decides right {pick} base e = decides-as
+    (λ h. record { variable = pick - 1; picked = omega (arith, above-zero e); some = h })
+    (λ c. let q : pick - 1 ≡ c .variable = omega (arith, c .picked) in rw q (c .some))
+    (nonzero-decides (getD right (base + (pick - 1)) 0))
+
+-- An idle row stands,
+pub idle-stands : (left right marks : List ℕ) {width base pick : ℕ} → Idle left marks base width → Stands left right marks width base pick
+idle-stands left right marks h j b k l = absurd (omega (arith, h j b k))
+
+-- any other exactly when its pick counts.
+pub used-stands : (left right marks : List ℕ) {width base pick : ℕ} {r : Bool} → (Idle left marks base width → ⊥)
+    → Decides (RowPickCounts right pick base) r → Decides (Stands left right marks width base pick) r
+used-stands left right marks {width} {base} {pick} d c = record {
+  yes = λ e j b k l. c .yes e;
+  no = λ e h. d (λ j b k. ⊎-elim (λ z. z) (λ l. absurd (c .no e (h j b k l))) (eq-zero-or-pos (getD left (base + j) 0)));
+}

@@ -1,0 +1,9 @@
+pub mod Decides
+pub mod Lists
+pub mod ArcTables
+pub mod Counting
+pub mod Certified
+pub mod Variables
+pub mod RowStrategy
+pub mod Sides
+pub mod ClosedWalks

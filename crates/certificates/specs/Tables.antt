@@ -1,0 +1,43 @@
+-- What the tests ask of the two tables of a problem, of stamps and of picks: lengths and ranges.
+use Prim.Native.Nat.{ℕ, suc, _≤_, _<_}
+use mathlib.Core.Path.{_≡_}
+use mathlib.Core.List.{List}
+use lib.ListN.{length, getD}
+use Rattle.definitions.specs.Limits.{highest-n, highest-m, lead-limit, stamp-limit, span-limit}
+use Rattle.definitions.specs.Problem.{Problem, Point}
+use Rattle.definitions.specs.Offset.{tropOf}
+use Rattle.records.specs.Decoded.{Near, Decoded}
+
+-- Two tables of coefficients for n + 1 variables and m + 1 rows, whatever problem they hold.
+pub record Sized (left right : List ℕ) (n m : ℕ) : Type 0 where
+  pub n-most : n ≤ highest-n
+  pub m-most : m ≤ highest-m
+  pub left-length : length left ≡ 2048
+  pub right-length : length right ≡ 2048
+  pub left-near : (k : ℕ) → Near lead-limit (getD left k 0)
+  pub right-near : (k : ℕ) → Near lead-limit (getD right k 0)
+
+-- The tables hold this problem of n + 1 variables and m + 1 rows.
+pub record Holds (p : Problem) (left right : List ℕ) (n m : ℕ) : Type 0 where
+  pub n-is : p .n ≡ n
+  pub m-is : p .m ≡ m
+  pub decoded : Decoded p left right
+
+-- The point that stamps, as offset numbers, stand for.
+unfoldable pub stampsPoint : List ℕ → Point
+stampsPoint x j = tropOf (getD x j 0)
+
+-- Stamps within their limit.
+pub record Stamped (x : List ℕ) : Type 0 where
+  pub length-is : length x ≡ 32
+  pub near : (k : ℕ) → Near stamp-limit (getD x k 0)
+
+-- Picks, none above the highest.
+pub record Picked (picks : List ℕ) (highest : ℕ) : Type 0 where
+  pub length-is : length picks ≡ 64
+  pub none-above : (k : ℕ) → getD picks k 0 ≤ highest
+
+-- A number t, as an offset number, at which the closed walks are tested: a span, or one more or less.
+pub record Trial (t : ℕ) : Type 0 where
+  pub some : 0 < t
+  pub near : Near (suc span-limit) t

@@ -1,0 +1,161 @@
+// A strategy judged: picks that count, and closed walks at a trial t. Document 01 asks of classes 1 and 3 that every reached
+// variable has a pick that counts and every reached closed walk weighs below zero, of class 2 that every row in use picks
+// and every reached closed walk weighs zero or more.
+ghost use mathlib.Core.Path.{_≡_};
+ghost use Prim.Native.Nat.{ℕ, suc, _+_, _*_, _≤_, _<_};
+ghost use lib.IntN.{ℤ};
+ghost use lib.ListN.{length, getD};
+ghost use Rattle.definitions.specs.Tropical.{fin};
+ghost use Rattle.definitions.specs.Offset.{tropOf};
+ghost use Rattle.definitions.specs.Problem.{Problem};
+ghost use Rattle.definitions.specs.Certificate.{PicksCount, BelowZero, RowPicksCount};
+ghost use Rattle.definitions.specs.Verdict.{strategyOf};
+ghost use Rattle.duality.specs.Picks.{AtLeastZero};
+ghost use Rattle.certificates.specs.Decides.{Decides};
+ghost use Rattle.certificates.specs.Tables.{Sized, Holds, Picked, Trial};
+ghost use Rattle.certificates.specs.Counts.{PickCounts, RowPickCounts, VariablesCount, Idle, Stands, RowsCount};
+use crate::arcs::row_arcs;
+use crate::arcs::variable_arcs;
+use crate::gains::none_gains;
+use reach::ARCS;
+use reach::anchor;
+use reach::reach;
+use records::limits::STRIDE;
+use records::limits::TABLE;
+
+// A variable that is not marked, or whose pick counts.
+fn variable_counts(left: &[u32; TABLE], mark: u8, pick: usize, j: usize) -> bool
+    requires { ⌜ (pick ≤ 64) × (j < 32) ⌝ }
+    ensures { λ r. ⌜ Decides (0 < mark → PickCounts (now (left .entry)) pick j) r ⌝ }
+{
+    if mark == 0 {
+        return true;
+    }
+    if pick == 0 {
+        return false;
+    }
+    let at = (pick - 1) * STRIDE + j;
+    left[at] != 0
+}
+
+// Every marked variable has a pick that counts.
+fn variables_count(left: &[u32; TABLE], picks: &[u64; 64], marks: &[u8; 32], width: usize) -> bool
+    requires { ⌜ Picked (now picks) 64 × (width ≤ 32) ⌝ }
+    ensures { λ r. ⌜ Decides (VariablesCount (now (left .entry)) (now (picks .entry)) (now (marks .entry)) width) r ⌝ }
+{
+    for j in 0..width {
+        if !variable_counts(left, marks[j], picks[j] as usize, j) {
+            return false;
+        }
+    }
+    true
+}
+
+// A strategy of variables, judged at t. Public for the checker's `check`.
+pub fn certify_variables(
+    left: &[u32; TABLE],
+    right: &[u32; TABLE],
+    n: usize,
+    m: usize,
+    picks: &[u64; 64],
+    t: u64,
+) -> bool
+    requires { ⌜ Sized (now left) (now right) n m × Trial t × Picked (now picks) (m + 1) ⌝ }
+    ensures { λ r. ⌜ ((p : Problem) (z : ℤ) → Holds p (now (left .entry)) (now (right .entry)) n m → tropOf t ≡ fin z → Decides (PicksCount p (strategyOf (now (picks .entry))) × BelowZero p (strategyOf (now (picks .entry))) z) r) ⌝ }
+{
+    let width = n + 1;
+    let mut arcs = [0u32; ARCS];
+    variable_arcs(&mut arcs, left, right, n, m, picks, t);
+    let marks = reach(&arcs, width, anchor());
+    if !variables_count(left, picks, &marks, width) {
+        return false;
+    }
+    none_gains(&arcs, &marks, width)
+}
+
+// The row that starts at `base` has no left coefficient of a marked variable.
+fn row_idle(left: &[u32; TABLE], marks: &[u8; 32], base: usize, width: usize) -> bool
+    requires { ⌜ (base + width ≤ 2048) × (width ≤ 32) ⌝ }
+    ensures { λ r. ⌜ Decides (Idle (now (left .entry)) (now (marks .entry)) base width) r ⌝ }
+{
+    for j in 0..width {
+        if marks[j] != 0 {
+            if left[base + j] != 0 {
+                return false;
+            }
+        }
+    }
+    true
+}
+
+// The row's pick counts.
+fn row_picks(right: &[u32; TABLE], base: usize, pick: usize) -> bool
+    requires { ⌜ (base + 32 ≤ 2048) × (pick ≤ 32) ⌝ }
+    ensures { λ r. ⌜ Decides (RowPickCounts (now (right .entry)) pick base) r ⌝ }
+{
+    if pick == 0 {
+        return false;
+    }
+    let at = base + (pick - 1);
+    right[at] != 0
+}
+
+// A row that is idle, or whose pick counts.
+fn row_stands(
+    left: &[u32; TABLE],
+    right: &[u32; TABLE],
+    marks: &[u8; 32],
+    width: usize,
+    base: usize,
+    pick: usize,
+) -> bool
+    requires { ⌜ (base + 32 ≤ 2048) × (width ≤ 32) × (pick ≤ 32) ⌝ }
+    ensures { λ r. ⌜ Decides (Stands (now (left .entry)) (now (right .entry)) (now (marks .entry)) width base pick) r ⌝ }
+{
+    if row_idle(left, marks, base, width) {
+        return true;
+    }
+    row_picks(right, base, pick)
+}
+
+// Every row in use has a pick that counts.
+fn rows_count(
+    left: &[u32; TABLE],
+    right: &[u32; TABLE],
+    picks: &[u64; 64],
+    marks: &[u8; 32],
+    width: usize,
+    rows: usize,
+) -> bool
+    requires { ⌜ Picked (now picks) 32 × (width ≤ 32) × (rows ≤ 64) ⌝ }
+    ensures { λ r. ⌜ Decides (RowsCount (now (left .entry)) (now (right .entry)) (now (picks .entry)) (now (marks .entry)) width rows) r ⌝ }
+{
+    for i in 0..rows {
+        if !row_stands(left, right, marks, width, i * STRIDE, picks[i] as usize) {
+            return false;
+        }
+    }
+    true
+}
+
+// A strategy of rows, judged at t. Public for the checker's `check`.
+pub fn certify_rows(
+    left: &[u32; TABLE],
+    right: &[u32; TABLE],
+    n: usize,
+    m: usize,
+    picks: &[u64; 64],
+    t: u64,
+) -> bool
+    requires { ⌜ Sized (now left) (now right) n m × Trial t × Picked (now picks) (n + 1) ⌝ }
+    ensures { λ r. ⌜ ((p : Problem) (z : ℤ) → Holds p (now (left .entry)) (now (right .entry)) n m → tropOf t ≡ fin z → Decides (RowPicksCount p (strategyOf (now (picks .entry))) × AtLeastZero p (strategyOf (now (picks .entry))) z) r) ⌝ }
+{
+    let width = n + 1;
+    let mut arcs = [0u32; ARCS];
+    row_arcs(&mut arcs, left, right, n, m, picks, t);
+    let marks = reach(&arcs, width, anchor());
+    if !rows_count(left, right, picks, &marks, width, m + 1) {
+        return false;
+    }
+    none_gains(&arcs, &marks, width)
+}
