@@ -5,14 +5,14 @@ ghost use mathlib.Core.Path.{_≡_};
 ghost use Prim.Native.Nat.{_+_, _<_, _≤_};
 ghost use lib.ListN.{length};
 ghost use Rattle.records.specs.Decoded.{Near};
-ghost use Rattle.trials.specs.Ends.{RowEnds, EndsOf};
+ghost use Rattle.trials.specs.Ends.{EndsOf};
 ghost use Rattle.trials.specs.Tables.{raised-limit, value-limit, side-most, side-least, high, highs, Table, Ranged, Lows, Tables};
 ghost use Rattle.search.specs.Trials.{Ready, Ended};
 use records::limits::OFFSET;
-use trials::ends::WIDE;
 use trials::policy::raised;
 use trials::values::HALF;
 use trials::values::LOW;
+use trials::values::full_side;
 use trials::values::plus;
 use trials::values::side;
 
@@ -78,15 +78,14 @@ fn place(right: &[u32; 2048], row: usize, x: &[u32; 32], sum: u32, from: usize) 
     32
 }
 
-// A right variable that attains the right side of a row; 32 where that is blank.
-fn target(right: &[u32; 2048], ends: u32, row: usize, x: &[u32; 32], width: usize) -> usize
-    requires { ⌜ (row < 64) × (width ≤ 32) × Table raised-limit (now right) × Lows width (now x) × RowEnds (now right) row ends ⌝ }
+// A right variable, from a place on, that attains the right side of a row; 32 where that is blank.
+fn target(right: &[u32; 2048], row: usize, x: &[u32; 32], best: u32, from: usize) -> usize
+    requires { ⌜ (row < 64) × Table raised-limit (now right) × Ranged (highs (now x)) × (length (now x) ≡ 32) × (best ≤ side-most) ⌝ }
 {
-    let best = side(right, ends, row, x, width);
     if best == 0 {
         return 32;
     }
-    place(right, row, x, best + HALF, (ends / 32 % 32) as usize)
+    place(right, row, x, best + HALF, from)
 }
 
 // The targets of the rules.
@@ -103,7 +102,9 @@ fn targets_of(
     let mut out = [0usize; 64];
     let mut i = 0;
     while i < rules {
-        out[i] = target(right, rights[i], i, x, width);
+        let ends = rights[i];
+        let best = side(right, ends, i, x, width);
+        out[i] = target(right, i, x, best, (ends / 32 % 32) as usize);
         i += 1;
     }
     out
@@ -187,7 +188,8 @@ pub fn guess(
     requires { ⌜ Ready n m (now left) (now right) (now objective) × Ranged (now point) × Ended m (now left) (now right) (now objective) (now lefts) (now rights) ⌝ }
 {
     let x = lowered(point, n + 1);
-    let start = target(right, WIDE, m, &x, n + 1);
+    let best = full_side(right, m, &x, n + 1);
+    let start = target(right, m, &x, best, 0);
     if n < start {
         return 0;
     }

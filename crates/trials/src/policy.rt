@@ -117,25 +117,26 @@ pub struct Found {
     pub chosen: [u32; 32],
 }
 
-// The cheapest rows at low values.
+// The cheapest rows at low values. The point is lent, not handed over: a copy would be taken apart into single numbers, and
+// the sides no longer be vectors.
 fn cheapest(
     left: &[u32; 2048],
     right: &[u32; 2048],
     lefts: &[u32; 64],
     rights: &[u32; 64],
-    x: [u32; 32],
+    x: &[u32; 32],
     width: usize,
     rows: usize,
 ) -> Found
-    requires { ⌜ Tables (now left) (now right) width rows × Lows width x × EndsOf (now left) rows (now lefts) × EndsOf (now right) rows (now rights) ⌝ }
-    ensures { λ r. ⌜ Sought (systemOf (now (left .entry)) (now (right .entry)) width rows) x rows (r .least) (r .chosen) ⌝ }
+    requires { ⌜ Tables (now left) (now right) width rows × Lows width (now x) × EndsOf (now left) rows (now lefts) × EndsOf (now right) rows (now rights) ⌝ }
+    ensures { λ r. ⌜ Sought (systemOf (now (left .entry)) (now (right .entry)) width rows) (now (x .entry)) rows (r .least) (r .chosen) ⌝ }
 {
-    let mut least = x;
+    let mut least = *x;
     let mut chosen = [0u32; 32];
     let mut i = 0;
     while i < rows {
-        let here = side(right, rights[i], i, &x, width);
-        let there = side(left, lefts[i], i, &x, width);
+        let here = side(right, rights[i], i, x, width);
+        let there = side(left, lefts[i], i, x, width);
         lower_by(left, lefts[i], i, here, there, &mut least, &mut chosen);
         i += 1;
     }
@@ -154,13 +155,13 @@ fn improve(
     right: &[u32; 2048],
     lefts: &[u32; 64],
     rights: &[u32; 64],
-    x: [u32; 32],
+    x: &[u32; 32],
     picks: [usize; 32],
     width: usize,
     rows: usize,
 ) -> Step
-    requires { ⌜ Tables (now left) (now right) width rows × Lows width x × EndsOf (now left) rows (now lefts) × EndsOf (now right) rows (now rights) ⌝ }
-    ensures { λ r. ⌜ Improved (systemOf (now (left .entry)) (now (right .entry)) width rows) (pointOf (highs x)) (pickOf picks) (pickOf (r .picks)) (r .moved) width × (length (r .picks) ≡ 32) ⌝ }
+    requires { ⌜ Tables (now left) (now right) width rows × Lows width (now x) × EndsOf (now left) rows (now lefts) × EndsOf (now right) rows (now rights) ⌝ }
+    ensures { λ r. ⌜ Improved (systemOf (now (left .entry)) (now (right .entry)) width rows) (pointOf (highs (now (x .entry)))) (pickOf picks) (pickOf (r .picks)) (r .moved) width × (length (r .picks) ≡ 32) ⌝ }
 {
     let found = cheapest(left, right, lefts, rights, x, width, rows);
     let least = found.least;
@@ -229,7 +230,7 @@ pub fn trial(
                 picks: kept,
             };
         }
-        let step = improve(left, right, lefts, rights, x, kept, width, rows);
+        let step = improve(left, right, lefts, rights, &x, kept, width, rows);
         if !step.moved {
             return Outcome {
                 values,

@@ -45,8 +45,8 @@ fn fold(k: u32) -> u32
 }
 
 // One side of a row at low values: the largest of coefficient + variable. All 32 places are looked at, whatever the width:
-// past it there are blanks.
-fn full_side(table: &[u32; 2048], row: usize, x: &[u32; 32], width: usize) -> u32
+// past it there are blanks. Public for `search::guess`.
+pub fn full_side(table: &[u32; 2048], row: usize, x: &[u32; 32], width: usize) -> u32
     requires { ⌜ (row < 64) × (width ≤ 32) × Table raised-limit (now table) × Lows width (now x) ⌝ }
     ensures { λ r. ⌜ SideIs (now (table .entry)) row (highs (now (x .entry))) width r ⌝ }
 {

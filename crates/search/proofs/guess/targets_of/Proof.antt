@@ -23,6 +23,8 @@ targets-of-spec =
     (λ c. let p = c .before .before .pre in omega (arith, p .1, p .4 .size))
     (λ c κs. let p = c .before .before .before .pre in (omega (arith, p .1), p .0, p .2, p .3, p .4 .each _ (c .before .loop-test .taken)))
     (λ c. search needs)
+    (λ c κs. let p = c .before .before .before .before .pre in (omega (arith, p .1), p .2, p .3 .ranged, p .3 .size, c .side .ensures .most))
+    (λ c. search needs)
     (λ c. search needs)
     (λ c. search needs)
     (λ c. search needs)

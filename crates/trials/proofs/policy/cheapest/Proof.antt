@@ -8,10 +8,10 @@ use Rattle.trials.proofs.policy.cheapest.Statement.{statement}
 use Rattle.trials.proofs.policy.cheapest.Tie as tie
 
 abbrev Inv-loop : tie.InvT-loop
-Inv-loop left right lefts rights width rows x least₀ chosen₀ i₀ least chosen i = (i ≤ rows) × Sought (systemOf left right width rows) x i least chosen
+Inv-loop left right lefts rights x width rows least₀ chosen₀ i₀ least chosen i = (i ≤ rows) × Sought (systemOf left right width rows) x i least chosen
 
 abbrev μ-loop : tie.MeasureT-loop
-μ-loop left right lefts rights width rows x least₀ chosen₀ i₀ least chosen i = rows - i
+μ-loop left right lefts rights x width rows least₀ chosen₀ i₀ least chosen i = rows - i
 
 pub cheapest-spec : {M : Type 1} → statement M
 cheapest-spec =
@@ -19,19 +19,19 @@ cheapest-spec =
     (tie.spec
     Inv-loop
     μ-loop
-    (λ c. (omega arith, sought-none _ _ (c .pre .1 .size)))
+    (λ c. (omega arith, sought-none _ _ (c .before .pre .1 .size)))
     (λ c. search needs)
-    (λ c. let p = c .before .before .pre in omega (arith, p .0 .rows-most, p .3 .size))
-    (λ c κs. let p = c .before .before .before .before .pre in (omega (arith, p .0 .rows-most), p .0 .width-most, p .0 .rights, p .1, p .3 .each _ (c .before .before .loop-test .taken)))
+    (λ c. let p = c .before .before .before .pre in omega (arith, p .0 .rows-most, p .3 .size))
+    (λ c κs. let p = c .before .before .before .before .pre in (omega (arith, p .0 .rows-most), p .0 .width-most, p .0 .rights, p .1, p .3 .each _ (c .before .loop-test .taken)))
     (λ c. search needs)
     (λ c. let p = c .before .before .before .before .before .pre in omega (arith, p .0 .rows-most, p .2 .size))
-    (λ c κs. let p = c .before .before .before .before .before .before .before .pre in (omega (arith, p .0 .rows-most), p .0 .width-most, table-raised (p .0 .lefts), p .1, p .2 .each _ (c .before .before .before .before .before .loop-test .taken)))
+    (λ c κs. let p = c .before .before .before .before .before .before .pre in (omega (arith, p .0 .rows-most), p .0 .width-most, table-raised (p .0 .lefts), p .1, p .2 .each _ (c .before .before .before .loop-test .taken)))
     (λ c. search needs)
-    (λ c. let p = c .before .before .before .before .before .before .before .before .pre in omega (arith, p .0 .rows-most, p .2 .size))
+    (λ c. let p = c .before .before .before .before .before .before .before .pre in omega (arith, p .0 .rows-most, p .2 .size))
     (λ c κs.
-    let start = c .before .before .before .before .before .before .before .before .before .before .before in
-    let turn = c .before .before .before .before .before .before .before .before .before .before .loop in
-    let side = c .before .before .before .before .before .before .side .ensures in (
+    let start = c .before .before .before .before .before .before .before .before .before .before in
+    let turn = c .before .before .before .before .before .before .before .before .loop in
+    let side = c .before .before .before .before .before .side .ensures in (
       record {
         lefts = start .pre .0 .lefts;
         least-size = turn .inv .1 .least-size;
@@ -40,12 +40,12 @@ cheapest-spec =
         side-high = side .most;
         side-low = side .least;
       },
-      start .pre .2 .each _ (c .before .before .before .before .before .before .before .before .before .loop-test .taken),
+      start .pre .2 .each _ (c .before .before .before .before .before .before .before .loop-test .taken),
     ))
     (λ c. search needs)
     (λ c. search needs)
     (λ c.
-    let start = c .before .before .before .before .before .before .before .before .before .before .before .before in
-    let turn = c .before .before .before .before .before .before .before .before .before .before .before .loop in
-    (omega arith, sought-more (start .args .left .now) (start .args .right .now) (start .args .t5) (start .args .width) (start .args .rows) (turn .i) _ (start .pre .0) (start .pre .1 .ranged) (c .before .before .before .before .before .before .before .before .before .before .loop-test .taken) (c .before .before .before .before .before .before .before .side .ensures) _ (c .before .before .before .before .side2 .ensures) (turn .inv .1) (c .lower-by .ensures)))
+    let start = c .before .before .before .before .before .before .before .before .before .before .before in
+    let turn = c .before .before .before .before .before .before .before .before .before .loop in
+    (omega arith, sought-more (start .args .left .now) (start .args .right .now) (start .args .x .now) (start .args .width) (start .args .rows) (turn .i) _ (start .pre .0) (start .pre .1 .ranged) (c .before .before .before .before .before .before .before .before .loop-test .taken) (c .before .before .before .before .before .before .side .ensures) _ (c .before .before .before .before .side2 .ensures) (turn .inv .1) (c .lower-by .ensures)))
     (λ c. sought-end (c .before .loop .inv .1) (c .before .loop .inv .0) (c .loop-test .left)))

@@ -33,26 +33,26 @@ trial-spec =
     let s = systemOf (a .left .now) (a .right .now) (a .width) (a .rows) in
     tried-as s (highs (v .result)) _ (turn .kept) (c .before .raised-all .ensures) (stop-tried s (v .result) (turn .kept) (turn .inv .1) (turn .inv .0) (v .ensures) (c .if1 .taken)))
     (λ c κs.
-    let start = c .before .before .before .before .before .before in
+    let start = c .before .before .before .before .before .before .before in
     let a = start .args in
-    (start .pre .0, values-lows (a .left .now) (a .right .now) (c .before .before .before .before .before .loop .kept) (c .before .before .before .evaluate .result) (a .width) (a .rows) (start .pre .0) (c .before .before .before .evaluate .ensures), start .pre .2, start .pre .3))
-    (λ c.
-    let a = c .before .before .before .before .before .before .before .before .before .args in
-    let v = c .before .before .before .before .before .before .evaluate in
-    let turn = c .before .before .before .before .before .before .before .before .loop in
-    let step = c .before .before .improve in
-    tried-as (systemOf (a .left .now) (a .right .now) (a .width) (a .rows)) (highs (v .result)) _ (turn .kept) (c .before .before .before .before .raised-all .ensures)
-    (step-tried (a .left .now) (a .right .now) (highs (v .result)) (turn .kept) (step .result .picks) (a .width) (a .rows) _ (turn .inv .1) (turn .inv .0) (v .ensures) (step .ensures .0) (not-true _ (c .if2 .taken))))
-    (λ c.
-    let start = c .before .before .before .before .before .before .before .before .before .before in
-    let a = start .args in
-    let v = c .before .before .before .before .before .before .before .evaluate in
-    let turn = c .before .before .before .before .before .before .before .before .before .loop in
-    let step = c .before .before .before .improve in
-    step-lower (a .left .now) (a .right .now) (highs (v .result)) (turn .kept) (step .result .picks) (a .width) (a .rows) _ (start .pre .0) (turn .inv .0) (v .ensures) (step .ensures .0) (not-false _ (c .before .if2 .left)))
+    (start .pre .0, values-lows (a .left .now) (a .right .now) (c .before .before .before .before .before .before .loop .kept) (c .before .before .before .before .evaluate .result) (a .width) (a .rows) (start .pre .0) (c .before .before .before .before .evaluate .ensures), start .pre .2, start .pre .3))
     (λ c.
     let a = c .before .before .before .before .before .before .before .before .before .before .args in
     let v = c .before .before .before .before .before .before .before .evaluate in
     let turn = c .before .before .before .before .before .before .before .before .before .loop in
+    let step = c .before .before .improve in
+    tried-as (systemOf (a .left .now) (a .right .now) (a .width) (a .rows)) (highs (v .result)) _ (turn .kept) (c .before .before .before .before .before .raised-all .ensures)
+    (step-tried (a .left .now) (a .right .now) (highs (v .result)) (turn .kept) (step .result .picks) (a .width) (a .rows) _ (turn .inv .1) (turn .inv .0) (v .ensures) (step .ensures .0) (not-true _ (c .if2 .taken))))
+    (λ c.
+    let start = c .before .before .before .before .before .before .before .before .before .before .before in
+    let a = start .args in
+    let v = c .before .before .before .before .before .before .before .before .evaluate in
+    let turn = c .before .before .before .before .before .before .before .before .before .before .loop in
+    let step = c .before .before .before .improve in
+    step-lower (a .left .now) (a .right .now) (highs (v .result)) (turn .kept) (step .result .picks) (a .width) (a .rows) _ (start .pre .0) (turn .inv .0) (v .ensures) (step .ensures .0) (not-false _ (c .before .if2 .left)))
+    (λ c.
+    let a = c .before .before .before .before .before .before .before .before .before .before .before .args in
+    let v = c .before .before .before .before .before .before .before .before .evaluate in
+    let turn = c .before .before .before .before .before .before .before .before .before .before .loop in
     let step = c .before .before .before .improve in
     (step-policy (a .left .now) (a .right .now) (highs (v .result)) (turn .kept) (step .result .picks) (a .width) (a .rows) _ (turn .inv .0) (v .ensures) (step .ensures .0), step .ensures .1)))
