@@ -19,9 +19,9 @@ use Rattle.definitions.proofs.Tropical.{fin-injective, bot-not-fin}
 use Rattle.duality.proofs.Reach.{reach-keep, reach-map, circuit}
 use Rattle.duality.proofs.Longest.{Entry, entries-end}
 use Rattle.reach.specs.Marks.{Marked, Led, Begins, Anchored, Reached}
-use Rattle.certificates.specs.Decides.{Decides}
-use Rattle.certificates.specs.Gains.{arc-zero, weightOf, matrix, Tested}
-use Rattle.certificates.proofs.ClosedWalks.{weight-none, weight-some}
+use Rattle.walks.specs.Decides.{Decides}
+use Rattle.walks.specs.Gains.{arc-zero, weightOf, matrix, Tested}
+use Rattle.walks.proofs.ClosedWalks.{weight-none, weight-some}
 
 -- ---- weights of the table
 
@@ -215,7 +215,7 @@ module _ {arcs : List ℕ} {N : ℕ} {Leads : ℕ → ℕ → Type 0} {A : ℕ �
   -- The first test alone, and both.
   pub certified-not : {c : Bool} → Decides ((j : ℕ) → j < N → Marked marks j → Counts j) c → c ≡ false
       → Decides (((j : ℕ) → Reachable Anchor Leads j → Counts j) × ((w : ℤ) → Circuit Anchor Leads A w → Good w)) false
-  certified-not counts c = Rattle.certificates.proofs.Decides.said-no (λ h. uncounted counts c (h .0))
+  certified-not counts c = Rattle.walks.proofs.Decides.said-no (λ h. uncounted counts c (h .0))
 
   pub certified-both : {c g : Bool} → Decides ((j : ℕ) → j < N → Marked marks j → Counts j) c → c ≡ true → Tested arcs marks N g
       → Decides (((j : ℕ) → Reachable Anchor Leads j → Counts j) × ((w : ℤ) → Circuit Anchor Leads A w → Good w)) g

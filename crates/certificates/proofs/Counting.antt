@@ -9,9 +9,9 @@ use native.Mathlib.Nat.{eq-zero-or-pos}
 use lib.Dec.{eqb}
 use lib.ListN.{getD}
 use borrow.Author.Tests.{eqb-false, eqb-true, not-true, not-false}
-use Rattle.certificates.specs.Decides.{Decides}
+use Rattle.walks.specs.Decides.{Decides}
 use Rattle.certificates.specs.Counts.{PickCounts, RowPickCounts, Idle, Stands}
-use Rattle.certificates.proofs.Decides.{decides-as}
+use Rattle.walks.proofs.Decides.{decides-as}
 
 -- Not 0: above 0.
 pub above-zero : {k : ℕ} → (k ≡ 0 → ⊥) → 0 < k

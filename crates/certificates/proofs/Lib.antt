@@ -1,9 +1,5 @@
-pub mod Decides
-pub mod Lists
-pub mod ArcTables
 pub mod Counting
 pub mod Certified
 pub mod Variables
 pub mod RowStrategy
 pub mod Sides
-pub mod ClosedWalks

@@ -21,15 +21,15 @@ use Rattle.definitions.proofs.Offset.{trop-read}
 use Rattle.duality.specs.Picks.{AtLeastZero}
 use Rattle.records.specs.Decoded.{Near}
 use Rattle.reach.specs.Marks.{Marked, Anchored, Reached}
-use Rattle.certificates.specs.Decides.{Decides}
-use Rattle.certificates.specs.Gains.{arc-zero, arc-most, weightOf, Table, Tested}
-use Rattle.certificates.specs.Tables.{Sized, Holds, Picked, Trial}
-use Rattle.certificates.specs.Arcs.{raisedBy, least-lead, fall, fallen, looseArc, rowArc, heaviest, RowArcs}
+use Rattle.walks.specs.Decides.{Decides}
+use Rattle.walks.specs.Gains.{arc-zero, arc-most, weightOf, Table, Tested}
+use Rattle.walks.specs.Tables.{Sized, Holds, Picked, Trial}
+use Rattle.walks.specs.Arcs.{raisedBy, least-lead, fall, fallen, looseArc, rowArc, heaviest, RowArcs}
 use Rattle.certificates.specs.Counts.{RowsCount}
-use Rattle.certificates.proofs.Decides.{decides-as}
-use Rattle.certificates.proofs.Lists.{most-one, most-left, most-right, below-or-last}
-use Rattle.certificates.proofs.ArcTables.{heaviest-more}
-use Rattle.certificates.proofs.ClosedWalks.{weight-some}
+use Rattle.walks.proofs.Decides.{decides-as}
+use Rattle.walks.proofs.Lists.{most-one, most-left, most-right, below-or-last}
+use Rattle.walks.proofs.ArcTables.{heaviest-more}
+use Rattle.walks.proofs.ClosedWalks.{weight-some}
 use Rattle.certificates.proofs.Certified.{weight-show, weight-read, loose, loose-read, loose-scale, Heavier, Behind, Shows, certified-not, certified-both}
 use Rattle.certificates.proofs.Variables.{finite-trop, trop-some, raise-is, raise-near}
 

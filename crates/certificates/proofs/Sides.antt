@@ -18,10 +18,10 @@ use Rattle.definitions.proofs.Tropical.{⊑-refl, ⊑-antisym, larger-left, lar
 use Rattle.definitions.proofs.Offset.{trop-zero, trop-fin, trop-read, trop-order, trop-larger, plus-trop}
 use Rattle.records.specs.Decoded.{Near}
 use Rattle.reach.proofs.Marks.{zeros}
-use Rattle.certificates.specs.Lists.{most, bestSum}
+use Rattle.walks.specs.Lists.{most, bestSum}
 use Rattle.certificates.specs.Sides.{stamp-drop, lowered, Lowered, side-floor, sideBy, sideOf}
-use Rattle.certificates.specs.Tables.{Holds, Stamped, stampsPoint}
-use Rattle.certificates.proofs.Lists.{most-one, best-floor, best-under, best-past, set-here, set-there, one-more}
+use Rattle.walks.specs.Tables.{Holds, Stamped, stampsPoint}
+use Rattle.walks.proofs.Lists.{most-one, best-floor, best-under, best-past, set-here, set-there, one-more}
 
 larger-blank : (x : Trop) → larger x bot ≡ x
 larger-blank x = ⊑-antisym (larger-least (⊑-refl x) blank-least) (larger-left x bot)

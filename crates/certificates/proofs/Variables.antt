@@ -21,12 +21,12 @@ use Rattle.definitions.proofs.Whole.{whole, plus-read, minus-read}
 use Rattle.definitions.proofs.Offset.{trop-fin, trop-read, trop-show}
 use Rattle.records.specs.Decoded.{Near}
 use Rattle.reach.specs.Marks.{Marked, Anchored, Reached}
-use Rattle.certificates.specs.Decides.{Decides}
-use Rattle.certificates.specs.Gains.{arc-zero, arc-most, weightOf, Table, Tested}
-use Rattle.certificates.specs.Tables.{Sized, Holds, Picked, Trial}
-use Rattle.certificates.specs.Arcs.{raisedBy, least-lead, lift, lifted, strictArc, variableArc, VariableArcs}
+use Rattle.walks.specs.Decides.{Decides}
+use Rattle.walks.specs.Gains.{arc-zero, arc-most, weightOf, Table, Tested}
+use Rattle.walks.specs.Tables.{Sized, Holds, Picked, Trial}
+use Rattle.walks.specs.Arcs.{raisedBy, least-lead, lift, lifted, strictArc, variableArc, VariableArcs}
 use Rattle.certificates.specs.Counts.{VariablesCount}
-use Rattle.certificates.proofs.Decides.{decides-as}
+use Rattle.walks.proofs.Decides.{decides-as}
 use Rattle.certificates.proofs.Certified.{weight-show, strict, strict-read, strict-scale, Behind, Shows, certified-not, certified-both}
 
 -- ---- coefficients

@@ -1,8 +1,2 @@
-pub mod Decides
-pub mod Lists
-pub mod Tables
 pub mod Sides
-pub mod Gains
-pub mod GainRound
-pub mod Arcs
 pub mod Counts

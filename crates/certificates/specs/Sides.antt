@@ -8,7 +8,7 @@ use lib.Dec.{eqb}
 use lib.ListN.{length, getD}
 use Rattle.definitions.specs.Limits.{lead-limit, stamp-limit}
 use Rattle.records.specs.Decoded.{Near}
-use Rattle.certificates.specs.Lists.{bestSum}
+use Rattle.walks.specs.Lists.{bestSum}
 
 -- A stamp lowered; blank stays 0.
 abbrev pub stamp-drop : ℕ

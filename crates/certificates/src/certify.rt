@@ -11,17 +11,17 @@ ghost use Rattle.definitions.specs.Problem.{Problem};
 ghost use Rattle.definitions.specs.Certificate.{PicksCount, BelowZero, RowPicksCount};
 ghost use Rattle.definitions.specs.Verdict.{strategyOf};
 ghost use Rattle.duality.specs.Picks.{AtLeastZero};
-ghost use Rattle.certificates.specs.Decides.{Decides};
-ghost use Rattle.certificates.specs.Tables.{Sized, Holds, Picked, Trial};
+ghost use Rattle.walks.specs.Decides.{Decides};
+ghost use Rattle.walks.specs.Tables.{Sized, Holds, Picked, Trial};
 ghost use Rattle.certificates.specs.Counts.{PickCounts, RowPickCounts, VariablesCount, Idle, Stands, RowsCount};
-use crate::arcs::row_arcs;
-use crate::arcs::variable_arcs;
-use crate::gains::none_gains;
 use reach::ARCS;
 use reach::anchor;
 use reach::reach;
 use records::limits::STRIDE;
 use records::limits::TABLE;
+use walks::arcs::row_arcs;
+use walks::arcs::variable_arcs;
+use walks::gains::none_gains;
 
 // A variable that is not marked, or whose pick counts.
 fn variable_counts(left: &[u32; TABLE], mark: u8, pick: usize, j: usize) -> bool

@@ -8,13 +8,13 @@ ghost use Rattle.definitions.specs.Tropical.{fin};
 ghost use Rattle.definitions.specs.Problem.{Problem, Keeps, value, whole};
 ghost use Rattle.definitions.specs.Offset.{tropOf};
 ghost use Rattle.records.specs.Decoded.{Near};
-ghost use Rattle.certificates.specs.Decides.{Decides};
-ghost use Rattle.certificates.specs.Tables.{Sized, Holds, Stamped, stampsPoint};
+ghost use Rattle.walks.specs.Decides.{Decides};
+ghost use Rattle.walks.specs.Tables.{Sized, Holds, Stamped, stampsPoint};
 ghost use Rattle.certificates.specs.Sides.{lowered, Lowered, sideOf, RowSized};
-use crate::sums::best_sum;
 use records::limits::OFFSET;
 use records::limits::STRIDE;
 use records::limits::TABLE;
+use walks::sums::best_sum;
 
 // What stamps are lowered by, so that their sums with coefficients stay below 2³².
 const STAMP_DROP: u32 = 1073741824;

@@ -21,10 +21,10 @@ use Rattle.duality.specs.Picks.{NoneAbove, AtLeastZero}
 use Rattle.duality.specs.Within.{Within}
 use Rattle.duality.proofs.Numbers.{infeasible-below, below-infeasible, unbounded-above, above-unbounded, top-enough}
 use Rattle.records.specs.Decoded.{Near}
-use Rattle.certificates.specs.Decides.{Decides}
-use Rattle.certificates.specs.Tables.{Holds, Picked, Trial, stampsPoint}
+use Rattle.walks.specs.Decides.{Decides}
+use Rattle.walks.specs.Tables.{Holds, Picked, Trial, stampsPoint}
 use Rattle.checker.specs.Outcome.{Span, Meant}
-use Rattle.certificates.proofs.Decides.{said-no, decides-as}
+use Rattle.walks.proofs.Decides.{said-no, decides-as}
 
 -- ---- problems in the tables are small
 

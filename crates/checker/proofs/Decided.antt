@@ -37,14 +37,14 @@ use Rattle.answers.proofs.Passing.{stampsAt-length, picksAt-length}
 use Rattle.answers.proofs.ByClass.{stamps-most, picks-most}
 use Rattle.reach.proofs.Marks.{anchor-marked}
 use Rattle.reach.proofs.Existence.{MarksOf, reach-exists}
-use Rattle.certificates.specs.Decides.{Decides}
-use Rattle.certificates.specs.Gains.{matrix, anywhere, Table, NoneGains, Tested}
-use Rattle.certificates.specs.Tables.{Sized, Holds, Picked, Trial, stampsPoint}
-use Rattle.certificates.specs.Arcs.{variableArc, VariableArcs, heaviest, RowArcs}
+use Rattle.walks.specs.Decides.{Decides}
+use Rattle.walks.specs.Gains.{matrix, anywhere, Table, NoneGains, Tested}
+use Rattle.walks.specs.Tables.{Sized, Holds, Picked, Trial, stampsPoint}
+use Rattle.walks.specs.Arcs.{variableArc, VariableArcs, heaviest, RowArcs}
 use Rattle.certificates.specs.Counts.{PickCounts, RowPickCounts, VariablesCount, RowsCount}
 use Rattle.checker.specs.Outcome.{Meant, Formed}
-use Rattle.certificates.proofs.Decides.{said-yes, said-no}
-use Rattle.certificates.proofs.ClosedWalks.{all-or-gain}
+use Rattle.walks.proofs.Decides.{said-yes, said-no}
+use Rattle.walks.proofs.ClosedWalks.{all-or-gain}
 use Rattle.certificates.proofs.Variables.{variables-table, variables-not, variables-both}
 use Rattle.certificates.proofs.RowStrategy.{rows-table, rows-not, rows-both}
 use Rattle.checker.proofs.Acceptance.{trial-below, optimal-broken, optimal-other, optimal-picks, trial-below-is, top-trial, top-trial-is, lowest-trial, lowest-trial-is, infeasible-at, unbounded-at, by-optimal, by-unbounded, by-infeasible, highest-row, highest-variable, class-other}

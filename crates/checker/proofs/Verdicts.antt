@@ -18,9 +18,9 @@ use Rattle.records.specs.Tables.{leftTable, rightTable, ProblemRead}
 use Rattle.records.specs.ProblemHeader.{headerBy}
 use Rattle.answers.specs.AnswerReading.{headBy, spanNumber, answerReadOf}
 use Rattle.records.proofs.LeadTables.{problem-decoded}
-use Rattle.certificates.specs.Tables.{Sized, Holds}
+use Rattle.walks.specs.Tables.{Sized, Holds}
 use Rattle.checker.specs.Outcome as Outcome
-use Rattle.certificates.specs.Decides.{Decides}
+use Rattle.walks.specs.Decides.{Decides}
 use Rattle.checker.specs.Outcome.{problemRefused, answerRefused, Meant, Answered}
 use Rattle.checker.proofs.Answers.{HeadRead}
 

@@ -17,7 +17,7 @@ use Rattle.answers.specs.declared.answer.AnswerHead.the-variants as Heads
 use Rattle.records.specs.Decoded.{Near}
 use Rattle.checker.specs.declared.check.Verdict.{Verdict}
 use Rattle.checker.specs.declared.check.Verdict.the-variants.{Accepted as Certified, Refused}
-use Rattle.certificates.specs.Tables.{Stamped, Picked}
+use Rattle.walks.specs.Tables.{Stamped, Picked}
 
 -- Document 01's verdict for each case: accepted with class and span, or refused with the number.
 unfoldable pub verdictOf : Verdict → Verdicts.Verdict

@@ -1,6 +1,6 @@
 use borrow.Author.Needs.{needs}
 use Rattle.certificates.proofs.Counting.{row-none, row-decides}
-use Rattle.certificates.proofs.Decides.{said-no}
+use Rattle.walks.proofs.Decides.{said-no}
 use Rattle.certificates.proofs.certify.row_picks.Statement.{statement}
 use Rattle.certificates.proofs.certify.row_picks.Tie as tie
 

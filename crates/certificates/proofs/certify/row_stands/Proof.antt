@@ -1,6 +1,6 @@
 use borrow.Author.Needs.{needs}
 use Rattle.certificates.proofs.Counting.{idle-stands, used-stands}
-use Rattle.certificates.proofs.Decides.{said-yes}
+use Rattle.walks.proofs.Decides.{said-yes}
 use Rattle.certificates.proofs.certify.row_stands.Statement.{statement}
 use Rattle.certificates.proofs.certify.row_stands.Tie as tie
 

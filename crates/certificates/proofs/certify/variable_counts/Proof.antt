@@ -1,6 +1,6 @@
 use borrow.Author.Needs.{needs}
 use Rattle.certificates.proofs.Counting.{pick-none, pick-decides}
-use Rattle.certificates.proofs.Decides.{said-yes, said-no}
+use Rattle.walks.proofs.Decides.{said-yes, said-no}
 use native.Mathlib.Omega.{arith}
 use Rattle.certificates.proofs.certify.variable_counts.Statement.{statement}
 use Rattle.certificates.proofs.certify.variable_counts.Tie as tie

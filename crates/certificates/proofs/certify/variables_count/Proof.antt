@@ -1,6 +1,6 @@
 use borrow.Author.Needs.{needs}
 use Rattle.certificates.specs.Counts.{VariablesCount}
-use Rattle.certificates.proofs.Decides.{said-yes, said-no}
+use Rattle.walks.proofs.Decides.{said-yes, said-no}
 use borrow.Author.Tests.{not-true, not-false}
 use borrow.Author.Count.{below-more}
 use native.Mathlib.Omega.{arith}

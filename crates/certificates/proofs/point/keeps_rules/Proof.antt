@@ -1,7 +1,7 @@
 use borrow.Author.Needs.{needs}
 use Rattle.certificates.proofs.Sides.{low-small, row-kept, row-broken}
-use Rattle.certificates.proofs.Decides.{said-yes, said-no}
-use Rattle.certificates.specs.Tables.{Holds, stampsPoint}
+use Rattle.walks.proofs.Decides.{said-yes, said-no}
+use Rattle.walks.specs.Tables.{Holds, stampsPoint}
 use Rattle.definitions.specs.Problem.{Problem, Keeps}
 use borrow.Author.Count.{below-more}
 use native.Mathlib.Omega.{arith}

@@ -1,6 +1,6 @@
 use borrow.Author.Needs.{needs}
 use Rattle.certificates.proofs.Sides.{side-none, side-some}
-use Rattle.certificates.proofs.Lists.{best-floor}
+use Rattle.walks.proofs.Lists.{best-floor}
 use Rattle.certificates.specs.Sides.{stamp-drop, sideOf, side-floor}
 use mathlib.Core.Path.{sym, ap, _∙_}
 use native.Mathlib.Omega.{arith}

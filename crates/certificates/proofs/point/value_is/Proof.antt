@@ -1,7 +1,7 @@
 use borrow.Author.Needs.{needs}
 use Rattle.definitions.specs.Limits.{signed-half}
 use Rattle.certificates.proofs.Sides.{low-small, first-blank, second-blank, value-read, side-small}
-use Rattle.certificates.proofs.Decides.{said-no}
+use Rattle.walks.proofs.Decides.{said-no}
 use borrow.Author.Tests.{eqb-true, eqb-false}
 use mathlib.Core.Path.{sym, _∙_}
 use native.Mathlib.Omega.{arith}

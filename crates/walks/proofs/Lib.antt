@@ -1,0 +1,4 @@
+pub mod Decides
+pub mod Lists
+pub mod ArcTables
+pub mod ClosedWalks

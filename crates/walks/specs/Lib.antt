@@ -1,0 +1,6 @@
+pub mod Decides
+pub mod Lists
+pub mod Tables
+pub mod Gains
+pub mod GainRound
+pub mod Arcs
