@@ -150,22 +150,26 @@ engine-reads-back engine solves read reads p buffer b c w long =
 -- ---- the checker's own call on it
 
 -- A verdict on bytes of the right form that are accepted names their class and span.
-pub names-itself : (p s : List ℕ) (a : Answer) → checkRefusal p s ≡ 0 → answerFor p s ≡ a → Accepted (problemOf p) a → {v : Verdict} → Judged p s v
+names-itself : (p s : List ℕ) (a : Answer) → checkRefusal p s ≡ 0 → answerFor p s ≡ a → Accepted (problemOf p) a → {v : Verdict} → Judged p s v
     → v ≡ accepted (a .class) (a .span)
 names-itself p s a right back h (turned-away e) = absurd (let z : suc _ ≡ 0 = sym e ∙ right in omega arith)
 names-itself p s a right back h (certified e g) = ap (λ (x : Answer). accepted (x .class) (x .span)) back
 names-itself p s a right back h (uncertified e g) = absurd (g (subst (λ (x : Answer). Accepted (problemOf p) x) (sym back) h))
 
--- A true checker accepts the bytes of an answer that is accepted.
-pub accepts-it : (check : Checker) → CheckerJudges check → (p : List ℕ) → Bytes p → WithinLayout p → {class : ℕ} {span : Trop} {trials : ℕ} (a : Answer)
-    → Answers (problemOf p) class span trials a → check p (answerBytes (nField p) a) ≡ accepted class span
+-- A verdict on the record of an answer to the problem: accepted, with the answer's class and span.
+pub verdict-on : (p : List ℕ) → WithinLayout p → {class : ℕ} {span : Trop} {trials : ℕ} (a : Answer) → Answers (problemOf p) class span trials a
+    → {v : Verdict} → Judged p (answerBytes (nField p) a) v → v ≡ accepted class span
 unfolding checkRefusal
-accepts-it check judges p b w a ans =
+verdict-on p w a ans j =
     let f = answer-takes p w a ans in
     let s = answerBytes (nField p) a in
     let right : checkRefusal p s ≡ 0 = or-else-none (problemRefusal p) _ .1 (w, answer-accepted a (nField p) (mField p) answer-most f) in
-    names-itself p s a right (answer-back a (nField p) (mField p) answer-most f) (ans .accepted) (judges p s b (answer-bytes (nField p) a))
-    ∙ ap₂ accepted (ans .class-is) (ans .span-is)
+    names-itself p s a right (answer-back a (nField p) (mField p) answer-most f) (ans .accepted) j ∙ ap₂ accepted (ans .class-is) (ans .span-is)
+
+-- A true checker accepts the bytes of an answer that is accepted.
+pub accepts-it : (check : Checker) → CheckerJudges check → (p : List ℕ) → Bytes p → WithinLayout p → {class : ℕ} {span : Trop} {trials : ℕ} (a : Answer)
+    → Answers (problemOf p) class span trials a → check p (answerBytes (nField p) a) ≡ accepted class span
+accepts-it check judges p b w a ans = verdict-on p w a ans (judges p (answerBytes (nField p) a) b (answer-bytes (nField p) a))
 
 pub own-answers : (engine : Engine) → EngineSolves engine → (check : Checker) → CheckerJudges check → OwnAnswers engine check
 own-answers engine solves check judges p buffer b c w long =

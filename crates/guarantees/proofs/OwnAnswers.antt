@@ -12,7 +12,7 @@ use Rattle.definitions.specs.Bytes.{Bytes, numAt}
 use Rattle.definitions.specs.ProblemRecord.{WithinLayout, problemRefusal, problemOf, nField, mField}
 use Rattle.definitions.specs.AnswerRecord.{Answer, answerRefusal, answerOf, answerSize, answerBytes, written, classField}
 use Rattle.definitions.specs.Verdict as Verdicts
-use Rattle.definitions.specs.Verdict.{Verdict, accepted, checkRefusal, Judged}
+use Rattle.definitions.specs.Verdict.{Verdict, accepted, Judged}
 use Rattle.definitions.specs.Solved as Results
 use Rattle.definitions.specs.Solved.{Solved, answered, Answers, Solves, solved, engineRefusal}
 use Rattle.definitions.proofs.Inputs.{header-passes}
@@ -31,7 +31,7 @@ use Rattle.engine.specs.declared.solve.Solved as Declared
 use Rattle.engine.specs.declared.solve.Solved.the-variants.{Refused, Answered}
 use Rattle.engine.specs.Outcome.{solvedOf}
 use Rattle.guarantees.specs.OwnAnswers.{OwnVerdict, OwnReading}
-use Rattle.guarantees.proofs.Engine.{answer-takes, result-parts, record-stands, names-itself}
+use Rattle.guarantees.proofs.Engine.{answer-takes, result-parts, record-stands, verdict-on}
 
 -- The engine answered: the record of an answer stands at the buffer's start.
 pub record Wrote (p before : List ℕ) (class : ℕ) (span : Trop) (trials size : ℕ) (after : List ℕ) : Type 0 where
@@ -99,14 +99,10 @@ own-inside h e = own-wrote h e .inside
 -- The checker accepts it.
 pub own-verdict : {p before after : List ℕ} {r : Declared.Solved} {class span trials size : ℕ} → Solves p before (solvedOf r) after → r ≡ Answered class span trials size
     → {v : Verdict} → Judged p (take size after) v → OwnVerdict p before v after
-unfolding solvedOf checkRefusal
+unfolding solvedOf
 own-verdict {p} {before} {after} {r} {class} {span} {trials} {size} h e {v} j =
     let w = own-wrote h e in
-    let a = w .answer in
-    let f = answer-takes p (w .within) a (w .answers) in
-    let right : checkRefusal p (answerBytes (nField p) a) ≡ 0 = or-else-none (problemRefusal p) _ .1 (w .within, answer-accepted a (nField p) (mField p) answer-most f) in
-    let named : v ≡ accepted class (tropOf span) =
-    names-itself p (answerBytes (nField p) a) a right (answer-back a (nField p) (mField p) answer-most f) (w .answers .accepted) (rw (w .bytes) at j) ∙ ap₂ accepted (w .answers .class-is) (w .answers .span-is) in
+    let named : v ≡ accepted class (tropOf span) = verdict-on p (w .within) (w .answer) (w .answers) (rw (w .bytes) at j) in
     rw named (OwnVerdict.own (w .none) (rw e at h) (rw named at j))
 
 -- The reader gives class and span.

@@ -1,1 +1,2 @@
 pub mod OwnAnswers
+pub mod Pipe
