@@ -1,6 +1,6 @@
 //! The families of problems that are measured.
 
-use crate::random::Random;
+use random::Random;
 
 pub const BLANK: i32 = i32::MIN;
 
@@ -72,7 +72,7 @@ impl Family {
 
 /// A hidden plan of one day: the anchor at 0, the others within 24 hours.
 fn day(random: &mut Random, variables: usize) -> Vec<i32> {
-    let mut plan: Vec<i32> = (0..variables).map(|_| random.within(0, 1_440)).collect();
+    let mut plan: Vec<i32> = (0..variables).map(|_| random.lead(0, 1_440)).collect();
     plan[0] = 0;
     plan
 }
@@ -97,17 +97,17 @@ fn ward(random: &mut Random, n: usize, m: usize) -> Draft {
     let plan = day(random, n + 1);
     for (left, right) in &mut draft.rows[..m] {
         for place in few(random, n + 1) {
-            left[place] = random.within(-30, 120);
+            left[place] = random.lead(-30, 120);
         }
         let side = largest(left, &plan).unwrap_or(0);
         for place in few(random, n + 1) {
-            right[place] = (side - plan[place] + random.within(0, 60)).clamp(-10_080, 10_080);
+            right[place] = (side - plan[place] + random.lead(0, 60)).clamp(-10_080, 10_080);
         }
     }
     let (first, second) = &mut draft.rows[m];
     for _ in 0..3 {
-        first[random.below(n + 1)] = random.within(-30, 30);
-        second[random.below(n + 1)] = random.within(-30, 30);
+        first[random.below(n + 1)] = random.lead(-30, 30);
+        second[random.below(n + 1)] = random.lead(-30, 30);
     }
     draft
 }
@@ -118,7 +118,7 @@ fn contradiction(random: &mut Random, n: usize, m: usize) -> Draft {
     let mut sum = 0;
     let links = n.min(m - 1);
     for link in 0..links {
-        let gap = random.within(5, 40);
+        let gap = random.lead(5, 40);
         sum += gap;
         let (left, right) = &mut draft.rows[link];
         left.fill(BLANK);
@@ -137,11 +137,11 @@ fn contradiction(random: &mut Random, n: usize, m: usize) -> Draft {
 /// Every coefficient within an hour; a hidden plan keeps the rules.
 fn dense_small(random: &mut Random, n: usize, m: usize) -> Draft {
     let mut draft = Draft::new(n, m);
-    let mut plan: Vec<i32> = (0..=n).map(|_| random.within(-30, 30)).collect();
+    let mut plan: Vec<i32> = (0..=n).map(|_| random.lead(-30, 30)).collect();
     plan[0] = 0;
     for (left, right) in &mut draft.rows {
         for coefficient in left.iter_mut().chain(right.iter_mut()) {
-            *coefficient = random.within(-60, 60);
+            *coefficient = random.lead(-60, 60);
         }
     }
     for (left, right) in &mut draft.rows[..m] {
@@ -159,7 +159,7 @@ fn dense_full(random: &mut Random, n: usize, m: usize) -> Draft {
     let mut draft = Draft::new(n, m);
     for (left, right) in &mut draft.rows {
         for coefficient in left.iter_mut().chain(right.iter_mut()) {
-            *coefficient = random.within(-10_080, 10_080);
+            *coefficient = random.lead(-10_080, 10_080);
         }
     }
     draft

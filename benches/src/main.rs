@@ -7,7 +7,6 @@
 mod agree;
 mod engines;
 mod families;
-mod random;
 mod table;
 mod timing;
 mod worst;

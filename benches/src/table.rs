@@ -5,8 +5,8 @@ use std::hint::black_box;
 use crate::agree;
 use crate::engines::{library, library_accepts, unproved_accepts, Solve, UNPROVED};
 use crate::families::{Family, FAMILIES};
-use crate::random::Random;
 use crate::timing::{microseconds, Call, Effort};
+use random::Random;
 
 const SEED: u64 = 4_202;
 
@@ -18,7 +18,7 @@ struct Set {
 }
 
 fn set(effort: Effort, family: Family, n: usize, m: usize) -> Set {
-    let mut random = Random(SEED + n as u64);
+    let mut random = Random::new(SEED + n as u64);
     let mut set = Set { problems: Vec::new(), answers: Vec::new(), trials: 0.0 };
     while set.problems.len() < effort.problems {
         let problem = family.draft(&mut random, n, m).bytes();

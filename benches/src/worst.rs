@@ -4,7 +4,7 @@ use std::time::Instant;
 
 use crate::agree;
 use crate::families::{Draft, BLANK, FAMILIES};
-use crate::random::Random;
+use random::Random;
 
 const SEED: u64 = 3_000;
 
@@ -23,10 +23,10 @@ fn time(problem: &[u8]) -> f64 {
 fn coefficient(random: &mut Random) -> i32 {
     match random.below(6) {
         0 | 1 => BLANK,
-        2 => random.within(-3, 3),
-        3 => random.within(-60, 60),
+        2 => random.lead(-3, 3),
+        3 => random.lead(-60, 60),
         4 => [-10_080, 10_080][random.below(2)],
-        _ => random.within(-10_080, 10_080),
+        _ => random.lead(-10_080, 10_080),
     }
 }
 
@@ -49,7 +49,7 @@ fn changed(random: &mut Random, draft: &Draft) -> Draft {
             4 | 5 => {
                 let side = if random.below(2) == 0 { &mut draft.rows[row].0 } else { &mut draft.rows[row].1 };
                 if side[place] != BLANK {
-                    side[place] = (side[place] + random.within(-2, 2)).clamp(-10_080, 10_080);
+                    side[place] = (side[place] + random.lead(-2, 2)).clamp(-10_080, 10_080);
                 }
             }
             6 | 7 => draft.rows[row].0[place] = coefficient(random),
@@ -62,7 +62,7 @@ fn changed(random: &mut Random, draft: &Draft) -> Draft {
 /// Climbs from a problem of each family in turn, and prints the worst.
 pub fn search(seconds: f64) {
     println!("worst case of {} at n = 31, m = 63; seed {SEED}; {seconds} s of hill climbing", span::raw::BEHIND);
-    let mut random = Random(SEED);
+    let mut random = Random::new(SEED);
     let climbs = 2 * FAMILIES.len() + 4;
     let mut worst = (0.0, Vec::new());
     let mut tried = 0u64;

@@ -1,7 +1,7 @@
 //! Random problems and tables.
 
 use crate::paper::{counts, highest_pick, largest, Answer, Minute, Problem, Row};
-use crate::random::Random;
+use random::Random;
 
 /// What a random problem is made of.
 #[derive(Clone, Copy)]

@@ -10,7 +10,6 @@ mod exhaustive;
 mod generate;
 mod paper;
 mod programs;
-mod random;
 mod second;
 mod suites;
 mod tally;

@@ -22,10 +22,10 @@ use Rattle.definitions.proofs.RoundTrip.{size-most}
 use Rattle.records.specs.declared.problem.Header.{Header}
 use Rattle.records.specs.declared.problem.Header.the-variants as Headers
 use Rattle.answers.specs.declared.answer.AnswerHead.{AnswerHead}
-use Rattle.records.specs.ProblemHeader.{headerOf}
+use Rattle.records.specs.ProblemHeader.{problemRefused, headerOf}
 use Rattle.answers.specs.AnswerReading.{headBy, answerHeadOf, spanNumber}
 use Rattle.records.proofs.ProblemHeader.{header-fits, header-refuses, product-most}
-use Rattle.checker.specs.Outcome.{problemRefused, answerRefused}
+use Rattle.checker.specs.Outcome.{answerRefused}
 use Rattle.checker.specs.LongInput.{Longer}
 use Rattle.checker.proofs.Verdicts.{turned}
 

@@ -15,13 +15,13 @@ use Rattle.records.specs.declared.problem.Header.the-variants as Headers
 use Rattle.answers.specs.declared.answer.AnswerHead.{AnswerHead}
 use Rattle.answers.specs.declared.answer.AnswerHead.the-variants as Heads
 use Rattle.records.specs.Tables.{leftTable, rightTable, ProblemRead}
-use Rattle.records.specs.ProblemHeader.{headerBy}
+use Rattle.records.specs.ProblemHeader.{headerBy, problemRefused}
 use Rattle.answers.specs.AnswerReading.{headBy, spanNumber, answerReadOf}
 use Rattle.records.proofs.LeadTables.{problem-decoded}
 use Rattle.walks.specs.Tables.{Sized, Holds}
 use Rattle.checker.specs.Outcome as Outcome
 use Rattle.walks.specs.Decides.{Decides}
-use Rattle.checker.specs.Outcome.{problemRefused, answerRefused, Meant, Answered}
+use Rattle.checker.specs.Outcome.{answerRefused, Meant, Answered}
 use Rattle.checker.proofs.Answers.{HeadRead}
 
 -- ---- problems

@@ -10,8 +10,6 @@ use Rattle.definitions.specs.Problem.{Problem}
 use Rattle.definitions.specs.AnswerRecord.{Answer, known-class, highestPick, answerRefusal, answerOf}
 use Rattle.definitions.specs.Verdict as Verdicts
 use Rattle.definitions.specs.Verdict.{Accepted, not-certified, pointOf, strategyOf}
-use Rattle.records.specs.declared.problem.Header.{Header}
-use Rattle.records.specs.declared.problem.Header.the-variants as Headers
 use Rattle.answers.specs.declared.answer.AnswerHead.{AnswerHead}
 use Rattle.answers.specs.declared.answer.AnswerHead.the-variants as Heads
 use Rattle.records.specs.Decoded.{Near}
@@ -24,11 +22,7 @@ unfoldable pub verdictOf : Verdict → Verdicts.Verdict
 verdictOf (Certified class span) = Verdicts.accepted class (tropOf span)
 verdictOf (Refused k) = Verdicts.refused k
 
--- The number with which reading refused, 0 where it did not.
-unfoldable pub problemRefused : Header → ℕ
-problemRefused (Headers.Fields n m) = 0
-problemRefused (Headers.Refused k) = k
-
+-- The number with which reading an answer refused, 0 where it did not.
 unfoldable pub answerRefused : AnswerHead → ℕ
 answerRefused (Heads.Fields class span) = 0
 answerRefused (Heads.Refused k) = k

@@ -12,7 +12,7 @@ ghost use Rattle.definitions.specs.Certificate.{AcceptedOptimal};
 ghost use Rattle.definitions.specs.Verdict.{Accepted, Judged, strategyOf};
 ghost use Rattle.walks.specs.Decides.{Decides};
 ghost use Rattle.walks.specs.Tables.{Sized, Holds, Stamped, Picked, stampsPoint};
-ghost use Rattle.checker.specs.Outcome.{verdictOf, problemRefused, answerRefused, Span, Meant, Formed, Answered};
+ghost use Rattle.checker.specs.Outcome.{verdictOf, answerRefused, Span, Meant, Formed, Answered};
 use answers::answer::AnswerHead;
 use answers::answer::read_answer;
 use answers::limits::SPAN_LIMIT;
@@ -24,6 +24,7 @@ use records::limits::NOT_CERTIFIED;
 use records::limits::OFFSET;
 use records::limits::TABLE;
 use records::problem::Header;
+use records::problem::problem_refusal;
 use records::problem::read_problem;
 
 // What the checker answers: accepted, with class and the span's offset number, or refused, with the number.
@@ -75,16 +76,6 @@ fn certify(
         2 => certify_rows(left, right, n, m, picks, OFFSET - SPAN_LIMIT - 1),
         3 => certify_variables(left, right, n, m, picks, OFFSET + SPAN_LIMIT),
         _ => false,
-    }
-}
-
-// The number with which a problem was refused. Public for `input`.
-pub fn problem_refusal(header: Header) -> usize
-    ensures { λ r. ⌜ r ≡ problemRefused header ⌝ }
-{
-    match header {
-        Header::Fields(_, _) => 0,
-        Header::Refused(k) => k,
     }
 }
 

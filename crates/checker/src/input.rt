@@ -12,7 +12,6 @@ ghost use Rattle.checker.specs.LongInput.{Longer};
 use crate::check::Verdict;
 use crate::check::answer_refusal;
 use crate::check::check;
-use crate::check::problem_refusal;
 use answers::answer::AnswerHead;
 use answers::answer::read_answer_header;
 use records::bytes::word_at;
@@ -20,6 +19,7 @@ use records::limits::KEPT;
 use records::limits::LENGTH_BYTES;
 use records::limits::TABLE;
 use records::problem::Header;
+use records::problem::problem_refusal;
 use records::problem::read_header;
 use records::problem::read_problem;
 

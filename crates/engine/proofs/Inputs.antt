@@ -15,10 +15,10 @@ use Rattle.definitions.proofs.Inputs.{kept-whole, kept-at, header-agrees}
 use Rattle.definitions.proofs.Refusals.{or-else-suc}
 use Rattle.records.specs.declared.problem.Header.{Header}
 use Rattle.records.specs.declared.problem.Header.the-variants as Headers
-use Rattle.records.specs.ProblemHeader.{headerOf}
+use Rattle.records.specs.ProblemHeader.{problemRefused, headerOf}
 use Rattle.records.proofs.ProblemHeader.{header-fits, header-refuses, product-most}
 use Rattle.engine.specs.declared.solve.Solved.the-variants as Results′
-use Rattle.engine.specs.Outcome.{solvedOf, refusedBy}
+use Rattle.engine.specs.Outcome.{solvedOf}
 use Rattle.engine.proofs.Outcomes.{refuses-with}
 
 pub kept-solves : (kept : List ℕ) {size : ℕ} {before : List ℕ} {r : Results.Solved} {after : List ℕ} → Solves (take size kept) before r after
@@ -27,8 +27,8 @@ kept-solves kept {before = before} {r} {after} s input k h = subst (λ (x : List
 
 -- A longer one is refused by its header: no problem is that long.
 pub long-refused : {kept input : List ℕ} {size : ℕ} {before : List ℕ} {header : Header} {r : ℕ} → KeptOf kept size input → kept-bytes < size
-    → header ≡ headerOf kept size → r ≡ refusedBy header → Solves input before (solvedOf (Results′.Refused r)) before
-unfolding solvedOf refusedBy problemRefusal
+    → header ≡ headerOf kept size → r ≡ problemRefused header → Solves input before (solvedOf (Results′.Refused r)) before
+unfolding solvedOf problemRefused problemRefusal
 long-refused {kept} {input} {size} {before} {header} {r} k h e g = go header refl
   where
     go : (x : Header) → header ≡ x → Solves input before (Results.refused r) before
@@ -39,5 +39,5 @@ long-refused {kept} {input} {size} {before} {header} {r} k h e g = go header ref
         let q = header-refuses kept size e f in
         let same : headerRefusal input (length input) ≡ j = ap (headerRefusal input) (k .size-is) ∙ header-agrees input kept (λ i b. kept-at k h i (omega arith)) size ∙ q .0 in
         let some : 0 < headerRefusal input (length input) = omega (arith, q .1) in
-        let number : r ≡ j = g ∙ ap refusedBy f in
+        let number : r ≡ j = g ∙ ap problemRefused f in
         refuses-with input before r (or-else-suc (headerRefusal input (length input)) _ some ∙ same ∙ sym number) (omega (arith, q .1))

@@ -23,7 +23,7 @@ use Rattle.writing.specs.declared.writer.Written.{Written}
 use Rattle.writing.specs.declared.writer.Written.the-variants as Writes
 use Rattle.records.specs.Decoded.{Decoded}
 use Rattle.records.specs.Tables.{leftTable, rightTable, ProblemRead}
-use Rattle.records.specs.ProblemHeader.{headerBy}
+use Rattle.records.specs.ProblemHeader.{headerBy, problemRefused}
 use Rattle.answers.specs.Fields.{fieldsOf}
 use Rattle.writing.specs.AnswerWriting.{AnswerWritten, writtenBy, writtenOf, unlessRefused}
 use Rattle.records.proofs.LeadTables.{problem-decoded}
@@ -32,7 +32,7 @@ use Rattle.engine.specs.declared.solve.Solved.{Solved}
 use Rattle.engine.specs.declared.solve.Solved.the-variants as Results′
 use Rattle.engine.specs.Answered.{answerIn, Coefficients}
 use Rattle.engine.specs.Answered as Tables
-use Rattle.engine.specs.Outcome.{solvedOf, refusedBy, FoundFor, WroteFor}
+use Rattle.engine.specs.Outcome.{solvedOf, FoundFor, WroteFor}
 
 -- ---- writing what was found
 
@@ -110,12 +110,12 @@ refuses-with p before zero e h = absurd (omega arith)
 refuses-with p before (suc k) e h = turned-away (problem-first p (length before) (rw e h) ∙ e)
 
 -- A problem that is refused.
-pub refuses-problem : (p before : List ℕ) {header : Header} {k r : ℕ} → header ≡ headerBy (problemRefusal p) (nField p) (mField p) → header ≡ Headers.Refused k → r ≡ refusedBy header
+pub refuses-problem : (p before : List ℕ) {header : Header} {k r : ℕ} → header ≡ headerBy (problemRefusal p) (nField p) (mField p) → header ≡ Headers.Refused k → r ≡ problemRefused header
     → Solves p before (solvedOf (Results′.Refused r)) before
-unfolding solvedOf refusedBy
+unfolding solvedOf problemRefused
 refuses-problem p before {header} {k} {r} e f g =
     let h = answer-refused (problemRefusal p) (nField p) (mField p) e f in
-    let q : r ≡ k = g ∙ ap refusedBy f in
+    let q : r ≡ k = g ∙ ap problemRefused f in
     rw q (refuses-with p before k (h .0) (h .1))
 
 -- A buffer that is too short.

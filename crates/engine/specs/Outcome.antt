@@ -7,8 +7,6 @@ use Rattle.definitions.specs.Limits.{highest-n, highest-m}
 use Rattle.definitions.specs.Offset.{tropOf}
 use Rattle.definitions.specs.AnswerRecord.{stampCount, pickCount, answerSize, answerBytes, writerRefusal, written}
 use Rattle.definitions.specs.Solved as Results
-use Rattle.records.specs.declared.problem.Header.{Header}
-use Rattle.records.specs.declared.problem.Header.the-variants as Headers
 use Rattle.engine.specs.declared.solve.Solved.{Solved}
 use Rattle.engine.specs.declared.solve.Solved.the-variants.{Refused, Answered}
 use Rattle.engine.specs.Answered.{answerIn}
@@ -17,11 +15,6 @@ use Rattle.engine.specs.Answered.{answerIn}
 unfoldable pub solvedOf : Solved → Results.Solved
 solvedOf (Refused k) = Results.refused k
 solvedOf (Answered class span trials size) = Results.answered class (tropOf span) trials size
-
--- The number with which a problem was refused, 0 where it was not.
-unfoldable pub refusedBy : Header → ℕ
-refusedBy (Headers.Fields n m) = 0
-refusedBy (Headers.Refused k) = k
 
 -- What was found is such as the writer takes, with a buffer of `room` bytes.
 pub record FoundFor (n m room class span : ℕ) (stamps picks : List ℕ) : Type 0 where

@@ -9,9 +9,9 @@ ghost use Rattle.definitions.specs.Programs.{KeptOf};
 ghost use Rattle.definitions.specs.Solved.{Solves};
 ghost use Rattle.engine.specs.Outcome.{solvedOf};
 use crate::solve::Solved;
-use crate::solve::problem_refusal;
 use crate::solve::solve;
 use records::limits::KEPT;
+use records::problem::problem_refusal;
 use records::problem::read_header;
 
 // The same on a slice.

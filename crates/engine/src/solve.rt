@@ -4,12 +4,13 @@ ghost use Prim.Native.Nat.{_≤_};
 ghost use lib.ListN.{length};
 ghost use Rattle.definitions.specs.Limits.{answer-most};
 ghost use Rattle.definitions.specs.Solved.{Solves};
-ghost use Rattle.engine.specs.Outcome.{solvedOf, refusedBy, FoundFor, WroteFor};
+ghost use Rattle.engine.specs.Outcome.{solvedOf, FoundFor, WroteFor};
 use crate::answer::Answer;
 use crate::answer::solve_tables;
 use answers::class::pick_count;
 use answers::class::stamp_count;
 use records::problem::Header;
+use records::problem::problem_refusal;
 use records::problem::read_problem;
 use writing::limits::ANSWER_MOST;
 use writing::writer::Written;
@@ -20,16 +21,6 @@ use writing::writer::write_answer;
 pub enum Solved {
     Refused(usize),
     Answered(u64, u64, u64, usize),
-}
-
-// The number with which a problem was refused. Public for `input`.
-pub fn problem_refusal(header: Header) -> usize
-    ensures { λ r. ⌜ r ≡ refusedBy header ⌝ }
-{
-    match header {
-        Header::Fields(_, _) => 0,
-        Header::Refused(k) => k,
-    }
 }
 
 // Writes the answer's record, and says what was found.

@@ -14,6 +14,11 @@ unfoldable pub headerBy : ℕ → ℕ → ℕ → Header
 headerBy zero n m = Fields n m
 headerBy (suc k) n m = Refused (suc k)
 
+-- The number with which a problem was refused, 0 where it was not.
+unfoldable pub problemRefused : Header → ℕ
+problemRefused (Fields n m) = 0
+problemRefused (Refused k) = k
+
 -- What the first bytes of a problem and its size answer.
 unfoldable pub headerOf : List ℕ → ℕ → Header
 headerOf s size = headerBy (headerRefusal s size) (nField s) (mField s)

@@ -6,7 +6,7 @@ ghost use lib.ListN.{length, getD};
 ghost use Rattle.definitions.specs.Limits.{lead-limit};
 ghost use Rattle.definitions.specs.Bytes.{tropField, blank-or-within};
 ghost use Rattle.definitions.specs.ProblemRecord.{problemSize};
-ghost use Rattle.records.specs.ProblemHeader.{headerBy, headerOf, judged, countsJudged};
+ghost use Rattle.records.specs.ProblemHeader.{headerBy, problemRefused, headerOf, judged, countsJudged};
 ghost use Rattle.records.specs.Tables.{runFits, leadAt, ProblemRead};
 ghost use Rattle.records.specs.Filling.{rowCell, RowOf, Filled, Framed, Tabled};
 use crate::bytes::short_at;
@@ -99,6 +99,16 @@ pub fn read_header(bytes: &[u8], size: usize) -> Header
     let n = short_at(bytes, 6) as usize;
     let m = short_at(bytes, 8) as usize;
     answered(judge(size, length, kind, n, m), n, m)
+}
+
+// The number with which a problem was refused. Public for checker and engine.
+pub fn problem_refusal(header: Header) -> usize
+    ensures { λ r. ⌜ r ≡ problemRefused header ⌝ }
+{
+    match header {
+        Header::Fields(_, _) => 0,
+        Header::Refused(k) => k,
+    }
 }
 
 // A 4-byte field holds a lead: blank, or within the limit.

@@ -4,8 +4,8 @@
 use super::{checked, expected_check};
 use crate::generate::any;
 use crate::paper::{self, mend_length};
-use crate::random::Random;
 use crate::tally::Tally;
+use random::Random;
 
 /// The engine on any bytes and a buffer of any length: the refusal that document 01 says and nothing written, or an
 /// answer and nothing written after it.

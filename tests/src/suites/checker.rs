@@ -4,8 +4,8 @@
 use super::{answered, checked, expected_check};
 use crate::generate::{self, any, changed, table};
 use crate::paper::{self, Minute, Outcome, Problem, Row};
-use crate::random::Random;
 use crate::tally::Tally;
+use random::Random;
 
 fn judge(tally: &mut Tally, what: &str, problem: &[u8], answer: &[u8]) {
     let found = checked(problem, answer);

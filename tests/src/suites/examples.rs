@@ -3,8 +3,8 @@
 use super::{answered, checked, expected_check};
 use crate::exhaustive;
 use crate::paper::{read_problem, Answer, Outcome, Problem, Row};
-use crate::random::Random;
 use crate::tally::{hex, Tally};
+use random::Random;
 
 /// A list of n + 1 leads with some that are not blank.
 fn list(n: usize, leads: &[(usize, i64)]) -> Vec<Option<i64>> {

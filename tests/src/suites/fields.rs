@@ -3,8 +3,8 @@
 use super::bytes::{harmed, seen};
 use crate::generate::any;
 use crate::paper::{self, Minute};
-use crate::random::Random;
 use crate::tally::Tally;
+use random::Random;
 
 const OFFSET: i64 = 1 << 31;
 

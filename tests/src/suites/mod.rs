@@ -10,9 +10,9 @@ pub mod tables;
 pub mod unproved;
 
 use crate::paper::{self, Outcome, Problem};
-use crate::random::Random;
 use crate::second;
 use crate::tally::Tally;
+use random::Random;
 
 pub fn outcome_of(outcome: span::Outcome) -> Outcome {
     match outcome {

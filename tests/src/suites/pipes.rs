@@ -5,8 +5,8 @@ use super::{expected_check, outcome_of};
 use crate::generate::{self, any, changed, Shape};
 use crate::paper::{self, mend_length, Outcome, Problem};
 use crate::programs;
-use crate::random::Random;
 use crate::tally::Tally;
+use random::Random;
 
 /// The verdict program's cut: by the first length field, where it is whole and does not reach past the input.
 fn cut(input: &[u8]) -> (&[u8], &[u8]) {

@@ -4,8 +4,8 @@ use super::answered;
 use crate::exhaustive;
 use crate::generate::{self, Shape};
 use crate::paper::{Minute, Problem, Row};
-use crate::random::Random;
 use crate::tally::Tally;
+use random::Random;
 
 /// Hands over every problem of a size whose leads are blank or within ±w.
 pub fn every_problem(n: usize, m: usize, w: i64, mut visit: impl FnMut(&Problem)) {

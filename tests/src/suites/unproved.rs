@@ -6,8 +6,8 @@ use super::expected_check;
 use crate::exhaustive;
 use crate::generate::{self, any, changed, Shape};
 use crate::paper::{self, Outcome, Problem};
-use crate::random::Random;
 use crate::tally::Tally;
+use random::Random;
 
 type Engine = fn(&[u8], &mut [u8]) -> Result<Answered, u8>;
 

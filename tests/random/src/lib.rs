@@ -1,12 +1,15 @@
 //! Numbers from a fixed seed (splitmix64).
 
+#[derive(Clone)]
 pub struct Random(u64);
 
 impl Random {
+    /// From a seed.
     pub fn new(seed: u64) -> Random {
         Random(seed)
     }
 
+    /// A number of 64 bits.
     pub fn next(&mut self) -> u64 {
         self.0 = self.0.wrapping_add(0x9E37_79B9_7F4A_7C15);
         let mut z = self.0;
@@ -25,11 +28,17 @@ impl Random {
         low + (self.next() % (high - low + 1) as u64) as i64
     }
 
+    /// The same, for a coefficient.
+    pub fn lead(&mut self, low: i32, high: i32) -> i32 {
+        self.within(low.into(), high.into()) as i32
+    }
+
     /// True in `part` of `whole` cases.
     pub fn chance(&mut self, part: usize, whole: usize) -> bool {
         self.below(whole) < part
     }
 
+    /// Fills bytes with numbers.
     pub fn fill(&mut self, bytes: &mut [u8]) {
         for byte in bytes {
             *byte = self.next() as u8;

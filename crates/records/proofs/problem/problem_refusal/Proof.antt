@@ -1,8 +1,8 @@
 use borrow.Author.Needs.{needs}
-use Rattle.checker.specs.Outcome.{problemRefused}
+use Rattle.records.specs.ProblemHeader.{problemRefused}
 use mathlib.Core.Path.{sym, ap}
-use Rattle.checker.proofs.check.problem_refusal.Statement.{statement}
-use Rattle.checker.proofs.check.problem_refusal.Tie as tie
+use Rattle.records.proofs.problem.problem_refusal.Statement.{statement}
+use Rattle.records.proofs.problem.problem_refusal.Tie as tie
 
 returns : tie.Need-returns
 unfolding problemRefused
