@@ -17,7 +17,8 @@ use Rattle.definitions.specs.Certificate.{Reachable, Anchor, Walk, stop, step, 
 use Rattle.definitions.proofs.Whole.{up, down, whole, subℕ-read, plus-read, neg-read}
 use Rattle.definitions.proofs.Tropical.{fin-injective, bot-not-fin}
 use Rattle.duality.proofs.Reach.{reach-keep, reach-map, circuit}
-use Rattle.duality.proofs.Longest.{Entry, entries-end}
+use Rattle.duality.proofs.Longest.{entries-end}
+use Rattle.duality.specs.Gains.{Entry}
 use Rattle.reach.specs.Marks.{Marked, Led, Begins, Anchored, Reached}
 use Rattle.walks.specs.Decides.{Decides}
 use Rattle.walks.specs.Gains.{arc-zero, weightOf, matrix, Tested}

@@ -21,7 +21,7 @@ pub record RowPickCounts (right : List ℕ) (pick base : ℕ) : Type 0 where
 abbrev pub VariablesCount : List ℕ → List ℕ → List ℕ → ℕ → Type 0
 VariablesCount left picks marks k = (j : ℕ) → j < k → Marked marks j → PickCounts left (getD picks j 0) j
 
--- The row that starts at `base` has no left coefficient of a marked variable below k.
+-- The row that starts at `base` has only blank left coefficients of marked variables below k.
 abbrev pub Idle : List ℕ → List ℕ → ℕ → ℕ → Type 0
 Idle left marks base k = (j : ℕ) → j < k → Marked marks j → getD left (base + j) 0 ≡ 0
 

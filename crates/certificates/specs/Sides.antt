@@ -35,7 +35,7 @@ sideBy best = cond (eqb best side-floor) 0 (best - stamp-drop)
 unfoldable pub sideOf : List ℕ → ℕ → List ℕ → ℕ
 sideOf table base x = sideBy (bestSum table base x side-floor 32)
 
--- A row and lowered stamps in range.
+-- A row in range, and lowered stamps not above theirs.
 pub record RowSized (table : List ℕ) (base : ℕ) (x : List ℕ) : Type 0 where
   pub in-table : base + 32 ≤ length table
   pub cells : (k : ℕ) → Near lead-limit (getD table k 0)

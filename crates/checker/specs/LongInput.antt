@@ -1,4 +1,4 @@
--- An input that is longer than what was kept of it.
+-- An input of which the first 20,000 bytes were kept; asked only where it is longer.
 use Prim.Native.Nat.{ℕ, _<_}
 use mathlib.Core.Path.{_≡_}
 use mathlib.Core.List.{List}

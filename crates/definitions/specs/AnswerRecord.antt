@@ -54,7 +54,7 @@ is-blank (fin z) = false
 unfoldable pub spanFits : ℕ → Trop → Bool
 spanFits class span = cond (eqb class class-optimal) (whole-within span-limit span) (is-blank span)
 
--- The stamps' form: stamp 0 is 0, the others are blank or within ±2,000,000.
+-- The stamps' form: stamp 0 is 0, the others are blank or within ±2,000,000. Classes 2 and 3 have none.
 unfoldable pub stampsFit : List Trop → Bool
 stampsFit [] = true
 stampsFit (anchor ∷ others) = is-zero anchor && all (blank-or-within stamp-limit) others

@@ -29,19 +29,27 @@ pub record Engine : Type 0 where
   pub result : List ℕ → List ℕ → Solved
   pub buffer : List ℕ → List ℕ → List ℕ
 
--- A problem reader: the refusal for its bytes, 0 for none, and the problem.
+-- A problem reader that was lent two tables: for bytes the refusal, 0 for none, the problem, and the tables afterwards.
 pub record ProblemReader : Type 0 where
+  pub lent-left : List ℕ
+  pub lent-right : List ℕ
   pub number : List ℕ → ℕ
   pub problem : List ℕ → Problem
+  pub left : List ℕ → List ℕ
+  pub right : List ℕ → List ℕ
 
 -- What an answer reader answers: the refusal, or the fields.
 pub data Reading : Type 0 where
   refusal : ℕ → Reading
   fields : Answer → Reading
 
--- An answer reader: for bytes and the problem's n and m.
-abbrev pub Reader : Type 0
-Reader = List ℕ → ℕ → ℕ → Reading
+-- An answer reader that was lent two arrays: for bytes and the problem's n and m what it answers, and the arrays afterwards.
+pub record Reader : Type 0 where
+  pub lent-stamps : List ℕ
+  pub lent-picks : List ℕ
+  pub reading : List ℕ → ℕ → ℕ → Reading
+  pub stamps : List ℕ → ℕ → ℕ → List ℕ
+  pub picks : List ℕ → ℕ → ℕ → List ℕ
 
 -- An answer writer: for fields, the problem's n and m and a lent buffer, the refusal, 0 for none, and the buffer
 -- afterwards.
@@ -56,9 +64,8 @@ Program = List ℕ → ℕ → List ℕ
 
 -- ---- demand 1
 
--- Bytes outside the layouts get the first refusal that applies, and a lent buffer is then untouched. The only premise on
--- a string is that it is one of bytes: no entry relies on somebody having looked beforehand. (That readers leave lent arrays
--- as they are stands in their contracts: here a reader is a function of the bytes.)
+-- Bytes outside the layouts get the first refusal that applies, and what was lent is then untouched. The only premise on
+-- a string is that it is one of bytes: no entry relies on somebody having looked beforehand.
 pub record EngineRefuses (engine : Engine) : Type 0 where
   pub first-refusal :
       (p buffer : List ℕ) → Bytes p → Bytes buffer → (k : ℕ) → engineRefusal p (length buffer) ≡ suc k
@@ -71,12 +78,18 @@ abbrev pub CheckerRefuses : Checker → Type 0
 CheckerRefuses check =
     (p a : List ℕ) → Bytes p → Bytes a → (k : ℕ) → checkRefusal p a ≡ suc k → check p a ≡ refused (suc k)
 
-abbrev pub ProblemReaderRefuses : ProblemReader → Type 0
-ProblemReaderRefuses read = (p : List ℕ) → Bytes p → read .number p ≡ problemRefusal p
+pub record ProblemReaderRefuses (read : ProblemReader) : Type 0 where
+  pub number-is : (p : List ℕ) → Bytes p → read .number p ≡ problemRefusal p
+  pub untouched :
+      (p : List ℕ) → Bytes p → (k : ℕ) → problemRefusal p ≡ suc k
+      → (read .left p ≡ read .lent-left) × (read .right p ≡ read .lent-right)
 
-abbrev pub ReaderRefuses : Reader → Type 0
-ReaderRefuses read =
-    (s : List ℕ) → Bytes s → (n m k : ℕ) → answerRefusal s n m ≡ suc k → read s n m ≡ refusal (suc k)
+pub record ReaderRefuses (read : Reader) : Type 0 where
+  pub first-refusal :
+      (s : List ℕ) → Bytes s → (n m k : ℕ) → answerRefusal s n m ≡ suc k → read .reading s n m ≡ refusal (suc k)
+  pub untouched :
+      (s : List ℕ) → Bytes s → (n m k : ℕ) → answerRefusal s n m ≡ suc k
+      → (read .stamps s n m ≡ read .lent-stamps) × (read .picks s n m ≡ read .lent-picks)
 
 pub record WriterRefuses (write : Writer) : Type 0 where
   pub number-is :
@@ -87,7 +100,7 @@ pub record WriterRefuses (write : Writer) : Type 0 where
       → write .buffer a n m buffer ≡ buffer
 
 -- The program as a whole takes every string of bytes, and puts out what document 01 says, though it holds only 20,000 bytes
--- and counts no further than 2³³.
+-- and may stop counting from 2³³ on.
 pub record ProgramsAnswer (span verdict : Program) : Type 0 where
   pub span-output :
       (kept : List ℕ) → Bytes kept → length kept ≡ kept-bytes → (size : ℕ) (input : List ℕ) → ReadFrom kept size input
@@ -129,7 +142,7 @@ abbrev pub ReadsProblems : ProblemReader → Type 0
 ReadsProblems read = (p : List ℕ) → Bytes p → WithinLayout p → ReadsProblem read p
 
 abbrev pub ReadsFields : Reader → Type 0
-ReadsFields read = (s : List ℕ) → Bytes s → (n m : ℕ) → answerRefusal s n m ≡ 0 → read s n m ≡ fields (answerOf s n m)
+ReadsFields read = (s : List ℕ) → Bytes s → (n m : ℕ) → answerRefusal s n m ≡ 0 → read .reading s n m ≡ fields (answerOf s n m)
 
 abbrev pub WritesRecord : Writer → Type 0
 WritesRecord write =
@@ -143,7 +156,7 @@ pub record ReadBy (engine : Engine) (read : Reader) (p buffer : List ℕ) : Type
   pub answer : Answer
   pub result-is : engine .result p buffer ≡ answered (answer .class) (answer .span) trials size
   pub written-is : engine .buffer p buffer ≡ written buffer (answerBytes (nField p) answer)
-  pub reads : read (take size (engine .buffer p buffer)) (nField p) (mField p) ≡ fields answer
+  pub reads : read .reading (take size (engine .buffer p buffer)) (nField p) (mField p) ≡ fields answer
 
 abbrev pub EngineReadsBack : Engine → Reader → Type 0
 EngineReadsBack engine read =
@@ -154,13 +167,13 @@ EngineReadsBack engine read =
 abbrev pub ReadsBack : Reader → Writer → Type 0
 ReadsBack read write =
     (a : Answer) (n m : ℕ) (buffer : List ℕ) → Bytes buffer → write .number a n m buffer ≡ 0
-    → read (take (answerSize (a .class) n m) (write .buffer a n m buffer)) n m ≡ fields a
+    → read .reading (take (answerSize (a .class) n m) (write .buffer a n m buffer)) n m ≡ fields a
 
 -- Every answer record read is written again to the same bytes, and every byte after the record stays.
 abbrev pub WritesBack : Reader → Writer → Type 0
 WritesBack read write =
     (s : List ℕ) → Bytes s → (n m : ℕ) (a : Answer) (buffer : List ℕ) → Bytes buffer → answer-most ≤ length buffer
-    → read s n m ≡ fields a → (write .number a n m buffer ≡ 0) × (write .buffer a n m buffer ≡ written buffer s)
+    → read .reading s n m ≡ fields a → (write .number a n m buffer ≡ 0) × (write .buffer a n m buffer ≡ written buffer s)
 
 -- ---- demand 3
 

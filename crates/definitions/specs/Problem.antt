@@ -15,7 +15,7 @@ pub record Problem : Type 0 where
   pub left : ℕ → ℕ → Trop
   pub right : ℕ → ℕ → Trop
 
--- A point (plan): a whole number or blank for each variable, without limit; read at 0 to n.
+-- A point: a whole number or blank for each variable, without limit; read at 0 to n. A plan is a point with the anchor at 0.
 abbrev pub Point : Type 0
 Point = ℕ → Trop
 

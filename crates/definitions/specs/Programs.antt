@@ -105,13 +105,13 @@ pub data SpanOutput (input : List ℕ) : List ℕ → Type 0 where
 -- ---- long inputs
 
 -- Both programs count all input and keep the first 20,000 bytes of it. An input of this size whose first 20,000 bytes are
--- the kept ones; of a shorter input only the first `size` kept bytes belong to it. The programs hold 20,000 bytes, so such
--- an input exists, and what holds of every such input needs no more than the two.
+-- the kept ones; of a shorter input only the first `size` kept bytes belong to it. So what a
+-- program puts out depends on the kept bytes and the size alone.
 pub record KeptOf (kept : List ℕ) (size : ℕ) (input : List ℕ) : Type 0 where
   pub size-is : length input ≡ size
   pub begins : take kept-bytes input ≡ take kept-bytes (take size kept)
 
--- Counting stops at 2³³ bytes: a length field is below half of that, so that nothing changes from there on.
+-- A program may stop counting from 2³³ bytes on: a length field is below half of that, so that nothing changes there.
 abbrev pub read-most : ℕ
 read-most = 2 * signed-full
 

@@ -48,7 +48,7 @@ pub record Answers (p : Problem) (class : ℕ) (span : Trop) (trials : ℕ) (a :
   pub idle-rows : class ≡ class-unbounded → IdleRows p (strategyOf (a .picks))
   pub accepted : Accepted p a
 
--- What the engine answers: refused with the number, or answered with class, span, trials and the record's length.
+-- What the engine answers: refused with the number, or answered with class, span, trials and the record's size.
 pub data Solved : Type 0 where
   refused : ℕ → Solved
   answered : ℕ → Trop → ℕ → ℕ → Solved

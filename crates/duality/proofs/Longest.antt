@@ -12,12 +12,8 @@ use Rattle.definitions.specs.Certificate.{Walk, stop, step}
 use Rattle.definitions.proofs.Whole.{whole, plus-read, nat-le-or-lt, le-or-lt}
 use Rattle.definitions.proofs.Tropical.{blank-or-finite, ⊑-refl, ⊑-trans, ⊑-of-eq, ⊑-antisym, fin-below, finite-above, below-bot, zero-plus, plus-twice, plus-fin, Parts, plus-above, plus-mono, plus-cancel, larger-left, larger-right, larger-one, larger-least, larger-mono, largest-above, largest-least, largest-mono, largest-ext, Attains, largest-at}
 use Rattle.duality.specs.Values.{valueAt}
+use Rattle.duality.specs.Gains.{Entry, Gain}
 use Rattle.duality.proofs.Walks.{Inside, NoGain, Looped, looped, walk-keep}
-
--- The arcs of a matrix: its entries that are not blank, to a variable below N.
-pub record Entry (W : ℕ → ℕ → Trop) (N j l : ℕ) (w : ℤ) : Type 0 where
-  pub inside : l < N
-  pub entry : W j l ≡ fin w
 
 -- A walk of at most k arcs from j to an exit, worth at least v.
 pub record Way (W : ℕ → ℕ → Trop) (exits : ℕ → Trop) (N k j : ℕ) (v : ℤ) : Type 0 where
@@ -33,19 +29,6 @@ pub record Way (W : ℕ → ℕ → Trop) (exits : ℕ → Trop) (N k j : ℕ) (
 -- Numbers below N that each arc of the matrix bounds: a potential.
 pub record Potential (W : ℕ → ℕ → Trop) (N : ℕ) (e : ℕ → Trop) : Type 0 where
   pub bounds : (j l : ℕ) → j < N → l < N → plus (W j l) (e l) ⊑ e j
-
--- A closed walk of 1 to N arcs above zero, and a way to it from j.
-pub record Gain (W : ℕ → ℕ → Trop) (N j : ℕ) : Type 0 where
-  pub at : ℕ
-  pub way-arcs : ℕ
-  pub way-weight : ℤ
-  pub way : Walk (Entry W N) j at way-arcs way-weight
-  pub arcs : ℕ
-  pub weight : ℤ
-  pub some : 0 < arcs
-  pub most : arcs ≤ N
-  pub gains : pos 0 <ℤ weight
-  pub loop : Walk (Entry W N) at at arcs weight
 
 -- The numbers e are unchanged by a round.
 pub record Stable (W : ℕ → ℕ → Trop) (exits : ℕ → Trop) (N : ℕ) (e : ℕ → Trop) : Type 0 where

@@ -19,7 +19,8 @@ use Rattle.definitions.proofs.Tropical.{fin-injective, fin-below, ⊑-of-eq, pl
 use Rattle.duality.specs.System.{Arc, systemAt}
 use Rattle.duality.specs.Values.{valueAt, weights, exits, values, Policy}
 use Rattle.duality.specs.Within.{Within}
-use Rattle.duality.proofs.Longest.{Entry, Way, value-way, way-value}
+use Rattle.duality.proofs.Longest.{Way, value-way, way-value}
+use Rattle.duality.specs.Gains.{Entry}
 use Rattle.duality.proofs.Weights.{entry-arc, arc-entry}
 use Rattle.duality.proofs.Height.{Floored, exit-floor}
 

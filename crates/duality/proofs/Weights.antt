@@ -14,7 +14,8 @@ use Rattle.definitions.proofs.Tropical.{bot-not-fin, fin-injective, ⊑-of-eq, 
 use Rattle.duality.specs.System.{System, sideOf, Arc}
 use Rattle.duality.specs.Values.{valueAt, difference, weightBy, exitBy, weights, exits, valuesAfter, values}
 use Rattle.duality.proofs.Walks.{walk-change}
-use Rattle.duality.proofs.Longest.{Entry, Stable, exit-value, round-least, value-still, value-fixed, still-stable}
+use Rattle.duality.proofs.Longest.{Stable, exit-value, round-least, value-still, value-fixed, still-stable}
+use Rattle.duality.specs.Gains.{Entry}
 
 -- ---- differences
 

@@ -5,3 +5,4 @@ pub mod Picks
 pub mod Within
 pub mod Induced
 pub mod Classes
+pub mod Gains

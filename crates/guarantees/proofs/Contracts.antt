@@ -4,6 +4,7 @@
 use Prim.Native.Nat.{ℕ, zero, suc, _+_, _*_, _≤_}
 use mathlib.Core.Path.{_≡_, refl, ap, sym, _∙_}
 use mathlib.Core.List.{List}
+use native.Mathlib.Omega.{arith}
 use lib.ListN.{getD, take}
 use Rattle.definitions.specs.Offset.{tropOf}
 use Rattle.definitions.specs.Problem.{Problem}
@@ -53,7 +54,14 @@ problemIn (Headers.Refused k) left right = record { n = 0; m = 0; left = λ i j.
 
 module _ (header : List ℕ → Header) (left right : List ℕ → List ℕ) (left₀ right₀ : List ℕ) (contract : (p : List ℕ) → Bytes p → ProblemRead p left₀ right₀ (header p) (left p) (right p)) where
   abbrev pub problemReader : ProblemReader
-  problemReader = record { number = λ p. numberOf (header p); problem = λ p. problemIn (header p) (left p) (right p) }
+  problemReader = record {
+    lent-left = left₀;
+    lent-right = right₀;
+    number = λ p. numberOf (header p);
+    problem = λ p. problemIn (header p) (left p) (right p);
+    left = left;
+    right = right;
+  }
 
   header-number : (k n m : ℕ) → numberOf (headerBy k n m) ≡ k
   unfolding numberOf headerBy
@@ -61,7 +69,10 @@ module _ (header : List ℕ → Header) (left right : List ℕ → List ℕ) (le
   header-number (suc k) n m = refl
 
   pub problem-reader-refuses : ProblemReaderRefuses problemReader
-  problem-reader-refuses p b = ap numberOf (contract p b .result) ∙ header-number (problemRefusal p) _ _
+  problem-reader-refuses = record {
+    number-is = λ p b. ap numberOf (contract p b .result) ∙ header-number (problemRefusal p) _ _;
+    untouched = λ p b k e. (contract p b .left-kept (omega arith), contract p b .right-kept (omega arith));
+  }
 
   pub problem-reader-reads : ReadsProblems problemReader
   unfolding problemIn headerBy problemOf
@@ -86,13 +97,22 @@ readingOf (Heads.Fields class span) stamps picks n m = fields (fieldsOf class sp
 module _ (head : List ℕ → ℕ → ℕ → AnswerHead) (stamps picks : List ℕ → ℕ → ℕ → List ℕ) (stamps₀ picks₀ : List ℕ)
     (contract : (s : List ℕ) → Bytes s → (n m : ℕ) → AnswerRead s n m (head s n m) stamps₀ (stamps s n m) picks₀ (picks s n m)) where
   abbrev pub reader : Reader
-  reader s n m = readingOf (head s n m) (stamps s n m) (picks s n m) n m
+  reader = record {
+    lent-stamps = stamps₀;
+    lent-picks = picks₀;
+    reading = λ s n m. readingOf (head s n m) (stamps s n m) (picks s n m) n m;
+    stamps = stamps;
+    picks = picks;
+  }
 
   pub reader-refuses : ReaderRefuses reader
   unfolding readingOf answerReadOf headBy
-  reader-refuses s b n m k e =
-      let told : head s n m ≡ Heads.Refused (suc k) = contract s b n m .answered ∙ rw e refl in
-      rw told refl
+  reader-refuses = record {
+    first-refusal = λ s b n m k e.
+        let told : head s n m ≡ Heads.Refused (suc k) = contract s b n m .answered ∙ rw e refl in
+        rw told refl;
+    untouched = λ s b n m k e. contract s b n m .kept (λ z. omega arith);
+  }
 
   pub reader-reads : ReadsFields reader
   unfolding readingOf answerReadOf headBy

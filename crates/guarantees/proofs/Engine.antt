@@ -128,7 +128,7 @@ record-stands p buffer w {class} a ans =
 
 -- It reads back as itself.
 reads-itself : (read : Reader) → ReadsFields read → (p : List ℕ) → WithinLayout p → {class : ℕ} {span : Trop} {trials : ℕ} (a : Answer)
-    → Answers (problemOf p) class span trials a → read (answerBytes (nField p) a) (nField p) (mField p) ≡ fields a
+    → Answers (problemOf p) class span trials a → read .reading (answerBytes (nField p) a) (nField p) (mField p) ≡ fields a
 reads-itself read reads p w a ans =
     let f = answer-takes p w a ans in
     reads (answerBytes (nField p) a) (answer-bytes (nField p) a) (nField p) (mField p) (answer-accepted a (nField p) (mField p) answer-most f)

@@ -45,6 +45,7 @@ pub span-then-verdict : (p out line : List ℕ) → WithinLayout p → SpanOutpu
 span-then-verdict p out line w (Programs.refusal e) v = absurd (let z : suc _ ≡ 0 = sym e ∙ w in omega arith)
 span-then-verdict p out line w (Programs.answer a e ans) v =
     record {
+      within = w;
       class = _;
       span = _;
       trials = _;

@@ -23,13 +23,13 @@ reads-back read write reads refuses writes a n m buffer c e =
     rw (writes a n m buffer c taken, stands) (reads (answerBytes n a) (answer-bytes n a) n m (back .0) ∙ ap fields (back .1))
 
 -- What a reader gives as fields was not refused.
-pub read-fields : (read : Reader) → ReaderRefuses read → ReadsFields read → (s : List ℕ) → Bytes s → (n m : ℕ) (a : Answer) → read s n m ≡ fields a
+pub read-fields : (read : Reader) → ReaderRefuses read → ReadsFields read → (s : List ℕ) → Bytes s → (n m : ℕ) (a : Answer) → read .reading s n m ≡ fields a
     → (answerRefusal s n m ≡ 0) × (answerOf s n m ≡ a)
 read-fields read refuses reads s b n m a e = go (answerRefusal s n m) refl
   where
     go : (k : ℕ) → answerRefusal s n m ≡ k → (answerRefusal s n m ≡ 0) × (answerOf s n m ≡ a)
     go zero h = let g : fields (answerOf s n m) ≡ fields a = sym (reads s b n m h) ∙ e in (h, cc)
-    go (suc k) h = let g : refusal (suc k) ≡ fields a = sym (refuses s b n m k h) ∙ e in absurd (let z : _≡_ {A = ℕ} 0 1 = cc in omega arith)
+    go (suc k) h = let g : refusal (suc k) ≡ fields a = sym (refuses .first-refusal s b n m k h) ∙ e in absurd (let z : _≡_ {A = ℕ} 0 1 = cc in omega arith)
 
 pub writes-back : (read : Reader) (write : Writer) → ReaderRefuses read → ReadsFields read → WriterRefuses write → WritesRecord write → WritesBack read write
 writes-back read write refuses reads refuses′ writes s b n m a buffer c long e =

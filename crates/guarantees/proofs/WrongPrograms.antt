@@ -138,7 +138,7 @@ pub buffer-left :
     (engine : Engine) (read : Reader) → ReaderRefuses read → ReadsFields read → ((p buffer : List ℕ) → engine .buffer p buffer ≡ buffer) → EngineReadsBack engine read → ⊥
 buffer-left engine read refuses reads left back =
     let r = back (example-A .problem) zeros bytes-A bytes-zeros within-A long-zeros in
-    let e : read (take (r .size) zeros) _ _ ≡ fields (r .answer) = rw (left (example-A .problem) zeros) at (r .reads) in
+    let e : read .reading (take (r .size) zeros) _ _ ≡ fields (r .answer) = rw (left (example-A .problem) zeros) at (r .reads) in
     let f = answer-fits (take (r .size) zeros) _ _ .0 (read-fields read refuses reads (take (r .size) zeros) (bytes-take (r .size) bytes-zeros) _ _ (r .answer) e .0) in
     omega (arith, f .size-enough, f .length-is, zero-length (r .size))
 

@@ -15,7 +15,8 @@ use Rattle.definitions.specs.Tropical.{Trop, bot, fin, plus, blank-least, whole
 use Rattle.definitions.proofs.Whole.{whole, subℕ-read, plus-read}
 use Rattle.definitions.proofs.Tropical.{fin-injective, ⊑-refl, ⊑-trans, ⊑-antisym, below-bot, bot-plus, plus-fin, larger-left, larger-right, larger-least, largest-least, largest-ext}
 use Rattle.duality.specs.Values.{valueAt}
-use Rattle.duality.proofs.Longest.{Gain, still-stable, stable-potential, potential-closed, fixed-or-gains}
+use Rattle.duality.proofs.Longest.{still-stable, stable-potential, potential-closed, fixed-or-gains}
+use Rattle.duality.specs.Gains.{Gain}
 use Rattle.reach.proofs.Marks.{zeros}
 use Rattle.walks.specs.Lists.{most, bestSum, Agree}
 use Rattle.walks.specs.Gains.{arc-zero, arc-most, weightOf, matrix, anywhere, Table, Rounds, NoneGains, SomeGains}

@@ -13,11 +13,12 @@ use Rattle.walks.specs.Gains.{arc-zero}
 unfoldable pub raisedBy : ℕ → ℕ → ℕ → ℕ
 raisedBy t m i = cond (eqb i m) t signed-half
 
--- The offset number of the least lead. Coefficients enter as what they are above it, so that an entry stays below 2³².
+-- The offset number of the least lead. The coefficient that is added last enters as what it is above it, so that an entry
+-- stays below 2³².
 abbrev pub least-lead : ℕ
 least-lead = 2147473568
 
--- Classes 1 and 3. An arc of weight w stands in the table for 32 w + 1: a closed walk of at most 32 arcs then weighs at
+-- Classes 1 and 3. An arc of weight w stands in the table for 32 w + 1: a closed walk of 1 to 32 arcs then weighs at
 -- most 0 exactly when it weighed below 0. From variable j with left coefficient a by a row raised by r, all but the right
 -- coefficient:
 unfoldable pub lift : ℕ → ℕ → ℕ
@@ -40,11 +41,11 @@ unfoldable pub variableArc : List ℕ → List ℕ → ℕ → ℕ → ℕ → �
 variableArc left right m t zero j l = 0
 variableArc left right m t (suc i) j l = strictArc (getD left (i * 32 + j) 0) (raisedBy t m i) (getD right (i * 32 + l) 0)
 
--- The table of a strategy of variables.
-pub record VariableArcs (left right : List ℕ) (m t : ℕ) (picks : List ℕ) (width rows : ℕ) (arcs : List ℕ) : Type 0 where
+-- The table of a strategy of variables, once the first k variables have had their turn.
+pub record VariableArcs (left right : List ℕ) (m t : ℕ) (picks : List ℕ) (width k : ℕ) (arcs : List ℕ) : Type 0 where
   pub length-is : length arcs ≡ 1024
   pub cells :
-      (j l : ℕ) → j < rows → l < width
+      (j l : ℕ) → j < k → l < width
       → getD arcs (j * 32 + l) 0 ≡ variableArc left right m t (getD picks j 0) j l
 
 -- Class 2. An arc of weight w stands in the table for −w. By a row raised by r to a variable with right coefficient b,
@@ -69,7 +70,7 @@ unfoldable pub rowArc : List ℕ → List ℕ → ℕ → ℕ → List ℕ → �
 rowArc left right m t picks i j l =
     cond (eqb (getD picks i 0) (suc l)) (looseArc (getD left (i * 32 + j) 0) (raisedBy t m i) (getD right (i * 32 + l) 0)) 0
 
--- The heaviest by the first k rows.
+-- The largest entry by the first k rows: by document 01's weights, the lightest arc.
 unfoldable pub heaviest : List ℕ → List ℕ → ℕ → ℕ → List ℕ → ℕ → ℕ → ℕ → ℕ
 heaviest left right m t picks zero j l = 0
 heaviest left right m t picks (suc k) j l = most (heaviest left right m t picks k j l) (rowArc left right m t picks k j l)
@@ -81,8 +82,8 @@ pub record RowArcs (left right : List ℕ) (m t : ℕ) (picks : List ℕ) (width
       (j l : ℕ) → j < width → l < width
       → getD arcs (j * 32 + l) 0 ≡ heaviest left right m t picks k j l
 
--- A column of the table, once the first k variables have had their turn: each entry there is at least f; the others are
--- as they were.
+-- A column of the table, once the first k variables have had their turn: each of its first k entries is the larger of
+-- what it was and f; the others are as they were.
 pub record Column (f : ℕ → ℕ) (l k : ℕ) (old new : List ℕ) : Type 0 where
   pub same : length new ≡ length old
   pub cells : (j : ℕ) → j < k → getD new (j * 32 + l) 0 ≡ most (getD old (j * 32 + l) 0) (f j)

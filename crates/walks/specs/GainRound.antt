@@ -8,7 +8,7 @@ use lib.ListN.{length, getD}
 use Rattle.walks.specs.Lists.{bestSum}
 use Rattle.walks.specs.Gains.{arc-zero, arc-most}
 
--- Values that a round may start from: those after fewer than 32 rounds.
+-- Values that a round may start from: none above what 32 rounds can give.
 pub record Values (width : ℕ) (e : List ℕ) : Type 0 where
   pub length-is : length e ≡ 32
   pub small : (j : ℕ) → j < width → getD e j 0 ≤ 32 * arc-most

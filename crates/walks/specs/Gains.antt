@@ -1,5 +1,7 @@
--- Closed walks over a table of arcs. An arc of weight w stands in the table as w + 2³¹, 0 is no arc. The values of the
--- rounds start at 0 and never fall, so they are plain numbers; with an entry added they stay below 2³².
+-- Closed walks over a table of arcs. An arc stands in the table as 2³¹ plus its weight, 0 is no arc. The weight here is the
+-- table's: 32 w + 1 in classes 1 and 3 and −w in class 2, for document 01's weight w (Arcs), so that in each class a closed
+-- walk above zero is one that must not be. The values of the rounds start at 0 and never fall, so they are plain numbers;
+-- with an entry added they stay below 2³².
 use Prim.Native.Nat.{ℕ, suc, _+_, _*_, _≤_, _<_}
 use mathlib.Core.Path.{_≡_}
 use mathlib.Core.Bool.{Bool, true, false, cond}
@@ -12,7 +14,7 @@ use Rattle.definitions.specs.Limits.{lead-limit, span-limit, signed-half}
 use Rattle.definitions.specs.Tropical.{Trop, bot, fin}
 use Rattle.definitions.specs.Certificate.{Walk}
 use Rattle.duality.specs.Values.{valueAt}
-use Rattle.duality.proofs.Longest.{Entry, Gain}
+use Rattle.duality.specs.Gains.{Entry, Gain}
 
 -- The number in the table of an arc that weighs 0.
 abbrev pub arc-zero : ℕ
@@ -34,7 +36,7 @@ matrix arcs marks j l = cond (eqb (getD marks j 0) 0) bot (weightOf (getD arcs (
 unfoldable pub anywhere : ℕ → Trop
 anywhere j = fin (pos 0)
 
--- The table has its entries in range.
+-- The table has no entry above its range.
 pub record Table (arcs : List ℕ) (width : ℕ) : Type 0 where
   pub width-most : width ≤ 32
   pub length-is : length arcs ≡ 1024
@@ -50,7 +52,7 @@ pub record Rounds (arcs marks : List ℕ) (width i : ℕ) (e : List ℕ) : Type 
       → ((j : ℕ) → j < width → valueAt (matrix arcs marks) anywhere width (suc k) j ≡ valueAt (matrix arcs marks) anywhere width k j)
       → ⊥
 
--- No closed walk weighs above zero.
+-- No closed walk over arcs from marked variables weighs above zero.
 abbrev pub NoneGains : List ℕ → List ℕ → ℕ → Type 0
 NoneGains arcs marks width = (j n : ℕ) (w : ℤ) → j < width → Walk (Entry (matrix arcs marks) width) j j n w → w ≤ℤ pos 0
 
@@ -59,7 +61,8 @@ pub record SomeGains (arcs marks : List ℕ) (width : ℕ) : Type 0 where
   pub from : ℕ
   pub gain : Gain (matrix arcs marks) width from
 
--- What the test of closed walks says. The two answers are no opposites: yes speaks of all closed walks, no of a short one.
+-- What the test of closed walks says. Neither answer is worded as the other's opposite: yes speaks of all closed walks, no
+-- of a short one.
 pub record Tested (arcs marks : List ℕ) (width : ℕ) (r : Bool) : Type 0 where
   pub yes : r ≡ true → NoneGains arcs marks width
   pub no : r ≡ false → SomeGains arcs marks width

@@ -15,7 +15,7 @@ unfoldable pub bestSum : List ℕ → ℕ → List ℕ → ℕ → ℕ → ℕ
 bestSum table base x floor zero = floor
 bestSum table base x floor (suc k) = most (bestSum table base x floor k) (getD table (base + k) 0 + getD x k 0)
 
--- What the sums ask of their lists: both are long enough, and no element is so large that a sum would reach 2³².
+-- What the sums ask of their lists: the table is long enough, x has 32 places, and no element is so large that a sum would reach 2³².
 pub record Summable (table : List ℕ) (base : ℕ) (x : List ℕ) (width : ℕ) : Type 0 where
   pub in-table : base + width ≤ length table
   pub in-x : width ≤ 32

@@ -37,7 +37,7 @@ pub record Picked (picks : List ℕ) (highest : ℕ) : Type 0 where
   pub length-is : length picks ≡ 64
   pub none-above : (k : ℕ) → getD picks k 0 ≤ highest
 
--- A number t, as an offset number, at which the closed walks are tested: a span, or one more or less.
+-- A number t, as an offset number, at which the closed walks are tested: a trial, or a span less one.
 pub record Trial (t : ℕ) : Type 0 where
   pub some : 0 < t
   pub near : Near (suc span-limit) t
