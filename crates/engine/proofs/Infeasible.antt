@@ -24,7 +24,7 @@ use Rattle.duality.proofs.Classes.{infeasible-exactly}
 use Rattle.duality.proofs.Unused.{infeasible-unused}
 use Rattle.trials.specs.Tables.{pickOf}
 use Rattle.search.specs.Trials.{wholeOf, zero-offset, top-offset, Raised, Question, Ready, TriedAt}
-use Rattle.engine.specs.Shown.{VariablePicks}
+use Rattle.picks.specs.Shown.{VariablePicks}
 use Rattle.engine.specs.Answered.{answerIn, Settled}
 use Rattle.search.proofs.Trials.{raised-held, tried-blocks}
 use Rattle.engine.proofs.Variables.{variables-agree, variables-idle, variables-most}

@@ -1,7 +1,3 @@
-pub mod Marks
-pub mod Shown
-pub mod Variables
-pub mod RowsOf
 pub mod Form
 pub mod Shared
 pub mod Infeasible
@@ -10,3 +6,5 @@ pub mod Optimal
 pub mod Final
 pub mod Outcomes
 pub mod Inputs
+pub mod Variables
+pub mod RowsOf

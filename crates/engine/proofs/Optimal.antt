@@ -37,7 +37,7 @@ use Rattle.trials.specs.Tables.{pointOf, pickOf}
 use Rattle.trials.specs.Steps.{Tried}
 use Rattle.search.specs.Trials.{wholeOf, zero-offset, Raised, Question, Ready}
 use Rattle.search.specs.Halving.{LeastFound}
-use Rattle.engine.specs.Shown.{VariablePicks}
+use Rattle.picks.specs.Shown.{VariablePicks}
 use Rattle.engine.specs.Answered.{Stamps, answerIn, Settled}
 use Rattle.search.proofs.Trials.{raised-held}
 use Rattle.engine.proofs.Variables.{variables-agree, variables-idle, variables-most}

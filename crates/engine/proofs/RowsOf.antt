@@ -17,9 +17,9 @@ use Rattle.duality.proofs.Reach.{reach-keep, reach-map}
 use Rattle.trials.specs.Tables.{pickOf}
 use Rattle.search.specs.Trials.{Held}
 use Rattle.reach.specs.Marks.{Led}
-use Rattle.engine.specs.Shown.{RowTo, RowArcIs, UsedBy, RowShown, RowPicks}
+use Rattle.picks.specs.Shown.{RowTo, RowArcIs, UsedBy, RowShown, RowPicks}
 use Rattle.trials.proofs.Filled.{positive}
-use Rattle.engine.proofs.Shown.{shown-unmarked}
+use Rattle.picks.proofs.Shown.{shown-unmarked}
 use Rattle.engine.proofs.Variables.{finite-offset, offset-finite, full-picked, full-read, shown-full, shown-most}
 
 module _ (p : Problem) (n m : ℕ) (left right picks out : List ℕ) (held : Held p n m left right) (small : n ≤ 31)

@@ -30,7 +30,7 @@ use Rattle.duality.proofs.Classes.{unbounded-exactly}
 use Rattle.duality.proofs.Unused.{unbounded-unused}
 use Rattle.trials.specs.Tables.{systemOf, pointOf, pickOf}
 use Rattle.search.specs.Trials.{wholeOf, zero-offset, lowest-offset, Trialled, Raised, Question, Ready, TriedAt}
-use Rattle.engine.specs.Shown.{RowPicks, InducedRows}
+use Rattle.picks.specs.Shown.{RowPicks, InducedRows}
 use Rattle.engine.specs.Answered.{answerIn, Settled}
 use Rattle.search.proofs.Agree.{Agree, agree-side}
 use Rattle.search.proofs.Trials.{agree-raised, raised-ready, raised-held, question-steady, tried-solution}

@@ -23,9 +23,9 @@ use Rattle.duality.proofs.Reach.{reach-keep, reach-map}
 use Rattle.trials.specs.Tables.{entryOf, pickOf}
 use Rattle.search.specs.Trials.{Held}
 use Rattle.reach.specs.Marks.{Led}
-use Rattle.engine.specs.Shown.{shownPick, arcBy, VariablePicks}
+use Rattle.picks.specs.Shown.{shownPick, arcBy, VariablePicks}
 use Rattle.trials.proofs.Filled.{positive}
-use Rattle.engine.proofs.Shown.{shown-unmarked, shown-picked, shown-none, arc-picked, arc-none}
+use Rattle.picks.proofs.Shown.{shown-unmarked, shown-picked, shown-none, arc-picked, arc-none}
 
 -- ---- offset numbers
 

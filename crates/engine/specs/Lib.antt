@@ -1,4 +1,2 @@
-pub mod Marks
-pub mod Shown
 pub mod Answered
 pub mod Outcome

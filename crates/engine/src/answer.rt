@@ -7,9 +7,9 @@ ghost use Rattle.search.specs.Trials.{zero-offset, top-offset, lowest-offset, R
 ghost use Rattle.search.specs.Halving.{Searching};
 ghost use Rattle.engine.specs.Answered.{Coefficients, Stamps, Settled, Answered};
 ghost use Rattle.search.specs.Trials.{Copied};
-use crate::picks::induced;
-use crate::picks::row_picks;
-use crate::picks::variable_picks;
+use picks::tables::induced;
+use picks::tables::row_picks;
+use picks::tables::variable_picks;
 use records::limits::OFFSET;
 use search::bracket::Bracket;
 use search::descent::LOWEST;

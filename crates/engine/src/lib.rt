@@ -2,5 +2,4 @@
 // Document 01, "The engine".
 pub mod answer;
 pub mod input;
-pub mod picks;
 pub mod solve;

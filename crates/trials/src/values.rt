@@ -29,7 +29,7 @@ fn larger(a: u32, b: u32) -> u32
     if a <= b { b } else { a }
 }
 
-// A coefficient plus a value. Public for `search::guess`, `engine::picks`.
+// A coefficient plus a value. Public for `search::guess`, `picks::tables`.
 pub fn plus(a: u32, b: u64) -> u64
     requires { ⌜ a + b ≤ 18446744073709551615 ⌝ }
     ensures { λ r. ⌜ r ≡ a + b ⌝ }
