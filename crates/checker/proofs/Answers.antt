@@ -23,7 +23,7 @@ use Rattle.answers.specs.declared.answer.AnswerHead.{AnswerHead}
 use Rattle.answers.specs.declared.answer.AnswerHead.the-variants as Heads
 use Rattle.records.specs.Decoded.{Near}
 use Rattle.answers.specs.AnswerReading.{headBy, spanNumber, answerReadOf, AnswerRead}
-use Rattle.records.proofs.LeadTables.{near-within}
+use Rattle.records.proofs.Near.{near-within}
 use Rattle.answers.proofs.Judging.{span-meant}
 use Rattle.answers.proofs.Meaning.{stamps-point, picks-strategy}
 use Rattle.checker.specs.Outcome.{Span, Meant, Formed}

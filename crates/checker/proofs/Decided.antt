@@ -29,10 +29,10 @@ use Rattle.definitions.proofs.Refusals.{answer-fits}
 use Rattle.duality.specs.Picks.{AtLeastZero}
 use Rattle.duality.specs.Values.{valueAt}
 use Rattle.duality.proofs.Longest.{exit-value, stable-potential, still-stable, potential-closed}
-use Rattle.records.specs.Tables.{leftTable, rightTable}
+use Rattle.leads.specs.Tables.{leftTable, rightTable}
 use Rattle.answers.specs.Fields.{Padded, stampsOf, picksOf}
 use Rattle.answers.specs.AnswerReading.{spanNumber, answerReadOf, AnswerRead}
-use Rattle.records.proofs.Tables.{length-listOf, getD-listOf}
+use Rattle.leads.proofs.Tables.{length-listOf, getD-listOf}
 use Rattle.answers.proofs.Passing.{stampsAt-length, picksAt-length}
 use Rattle.answers.proofs.ByClass.{stamps-most, picks-most}
 use Rattle.reach.proofs.Marks.{anchor-marked}
@@ -50,7 +50,7 @@ use Rattle.certificates.proofs.RowStrategy.{rows-table, rows-not, rows-both}
 use Rattle.checker.proofs.Acceptance.{trial-below, optimal-broken, optimal-other, optimal-picks, trial-below-is, top-trial, top-trial-is, lowest-trial, lowest-trial-is, infeasible-at, unbounded-at, by-optimal, by-unbounded, by-infeasible, highest-row, highest-variable, class-other}
 use Rattle.checker.proofs.Answers.{HeadRead, read-means, read-formed}
 use Rattle.checker.proofs.Verdicts.{holds-sized}
-use Rattle.records.proofs.LeadTables.{problem-decoded}
+use Rattle.leads.proofs.LeadTables.{problem-decoded}
 
 -- P holds or not, with the answer as a Boolean.
 pub record Decided (P : Type 0) : Type 0 where

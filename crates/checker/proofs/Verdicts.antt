@@ -14,10 +14,10 @@ use Rattle.records.specs.declared.problem.Header.{Header}
 use Rattle.records.specs.declared.problem.Header.the-variants as Headers
 use Rattle.answers.specs.declared.answer.AnswerHead.{AnswerHead}
 use Rattle.answers.specs.declared.answer.AnswerHead.the-variants as Heads
-use Rattle.records.specs.Tables.{leftTable, rightTable, ProblemRead}
+use Rattle.leads.specs.Tables.{leftTable, rightTable, ProblemRead}
 use Rattle.records.specs.ProblemHeader.{headerBy, problemRefused}
 use Rattle.answers.specs.AnswerReading.{headBy, spanNumber, answerReadOf}
-use Rattle.records.proofs.LeadTables.{problem-decoded}
+use Rattle.leads.proofs.LeadTables.{problem-decoded}
 use Rattle.walks.specs.Tables.{Sized, Holds}
 use Rattle.checker.specs.Outcome as Outcome
 use Rattle.walks.specs.Decides.{Decides}

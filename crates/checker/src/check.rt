@@ -20,12 +20,12 @@ use certificates::certify::certify_rows;
 use certificates::certify::certify_variables;
 use certificates::point::keeps_rules;
 use certificates::point::value_is;
+use leads::reader::read_problem;
 use records::limits::NOT_CERTIFIED;
 use records::limits::OFFSET;
 use records::limits::TABLE;
 use records::problem::Header;
 use records::problem::problem_refusal;
-use records::problem::read_problem;
 
 // What the checker answers: accepted, with class and the span's offset number, or refused, with the number.
 pub enum Verdict {

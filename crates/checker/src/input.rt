@@ -14,6 +14,7 @@ use crate::check::answer_refusal;
 use crate::check::check;
 use answers::answer::AnswerHead;
 use answers::answer::read_answer_header;
+use leads::reader::read_problem;
 use records::bytes::word_at;
 use records::limits::KEPT;
 use records::limits::LENGTH_BYTES;
@@ -21,7 +22,6 @@ use records::limits::TABLE;
 use records::problem::Header;
 use records::problem::problem_refusal;
 use records::problem::read_header;
-use records::problem::read_problem;
 
 // Where an input is cut: by its first length field where that is whole and reaches no further than the input.
 fn cut_place(input: &[u8]) -> usize

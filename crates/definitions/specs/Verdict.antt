@@ -46,11 +46,6 @@ unfoldable pub accepts : Verdict → Bool
 accepts (accepted class span) = true
 accepts (refused k) = false
 
--- The number of a verdict: that of its refusal, 0 where it gives none.
-unfoldable pub refusalOf : Verdict → ℕ
-refusalOf (accepted class span) = 0
-refusalOf (refused k) = k
-
 -- The answer that the bytes a mean for the problem in the bytes p.
 abbrev pub answerFor : List ℕ → List ℕ → Answer
 answerFor p a = answerOf a (nField p) (mField p)

@@ -22,11 +22,11 @@ use Rattle.records.specs.declared.problem.Header.the-variants as Headers
 use Rattle.writing.specs.declared.writer.Written.{Written}
 use Rattle.writing.specs.declared.writer.Written.the-variants as Writes
 use Rattle.records.specs.Decoded.{Decoded}
-use Rattle.records.specs.Tables.{leftTable, rightTable, ProblemRead}
+use Rattle.leads.specs.Tables.{leftTable, rightTable, ProblemRead}
 use Rattle.records.specs.ProblemHeader.{headerBy, problemRefused}
 use Rattle.answers.specs.Fields.{fieldsOf}
 use Rattle.writing.specs.AnswerWriting.{AnswerWritten, writtenBy, writtenOf, unlessRefused}
-use Rattle.records.proofs.LeadTables.{problem-decoded}
+use Rattle.leads.proofs.LeadTables.{problem-decoded}
 use Rattle.records.proofs.ProblemHeader.{answer-fields, answer-refused}
 use Rattle.engine.specs.declared.solve.Solved.{Solved}
 use Rattle.engine.specs.declared.solve.Solved.the-variants as Results′

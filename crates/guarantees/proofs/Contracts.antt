@@ -1,6 +1,6 @@
 -- The contracts of the code meet the premises of the demands. Each law takes functions of which an entry's contract holds, and
--- shows the statement that the demands rest on. (A program's `answer` and the writer need none: their contracts say it as it
--- stands.)
+-- shows the statement that the demands rest on. (A program's `answer` needs none: its contract says it as it stands. The
+-- writer's says it for every answer that can be handed over, with span and stamps by offset numbers.)
 use Prim.Native.Nat.{ℕ, zero, suc, _+_, _*_, _≤_}
 use mathlib.Core.Path.{_≡_, refl, ap, sym, _∙_}
 use mathlib.Core.List.{List}
@@ -19,10 +19,10 @@ use Rattle.records.specs.declared.problem.Header.the-variants as Headers
 use Rattle.answers.specs.declared.answer.AnswerHead.{AnswerHead}
 use Rattle.answers.specs.declared.answer.AnswerHead.the-variants as Heads
 use Rattle.records.specs.ProblemHeader.{headerBy}
-use Rattle.records.specs.Tables.{ProblemRead}
+use Rattle.leads.specs.Tables.{ProblemRead}
 use Rattle.answers.specs.Fields.{fieldsOf}
 use Rattle.answers.specs.AnswerReading.{AnswerRead, answerReadOf, headBy, spanNumber}
-use Rattle.records.proofs.LeadTables.{problem-decoded}
+use Rattle.leads.proofs.LeadTables.{problem-decoded}
 use Rattle.writing.proofs.Trips.{counted}
 use Rattle.engine.specs.declared.solve.Solved as Code
 use Rattle.engine.specs.Outcome.{solvedOf}

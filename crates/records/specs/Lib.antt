@@ -1,4 +1,2 @@
 pub mod Decoded
 pub mod ProblemHeader
-pub mod Tables
-pub mod Filling

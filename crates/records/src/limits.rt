@@ -19,10 +19,8 @@ pub const OFFSET: u64 = 2147483648;
 
 pub const FULL: u64 = 4294967296;
 
-// The offset number of 0, and the limit of leads, in 32 bits.
+// The offset number of 0 in 32 bits.
 pub const OFFSET_32: u32 = OFFSET as u32;
-
-pub const LEAD_LIMIT_32: u32 = LEAD_LIMIT as u32;
 
 // The lent tables: rows of 32 columns, 64 of them.
 pub const STRIDE: usize = 32;

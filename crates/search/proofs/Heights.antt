@@ -8,7 +8,7 @@ use lib.ListN.{length, getD, set, replicate, length-set, length-replicate, lengt
 use lib.Seq.{getD-set-same, getD-set-other}
 use Rattle.definitions.proofs.Whole.{nat-le-or-lt}
 use Rattle.records.specs.Decoded.{Near}
-use Rattle.records.proofs.LeadTables.{near-zero}
+use Rattle.records.proofs.Near.{near-zero}
 use Rattle.trials.specs.Tables.{value-limit, low-half, high, highs, Ranged, Lows}
 use Rattle.trials.specs.Filled.{Filled}
 use Rattle.trials.proofs.Filled.{zeros-at}

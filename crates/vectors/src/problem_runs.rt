@@ -2,8 +2,8 @@
 ghost use Prim.Native.Nat.{_≤_};
 use crate::noise;
 use crate::print;
+use leads::reader::read_problem;
 use records::problem::Header;
-use records::problem::read_problem;
 
 fn wide(x: u32) -> u64 {
     x as u64

@@ -1,0 +1,4 @@
+pub mod Leads
+pub mod Tables
+pub mod ReadProblem
+pub mod LeadTables

@@ -1,0 +1,47 @@
+-- The lent tables of leads, as offset numbers: 64 rows of 32 columns, row after row. Every place is determined: past n, past
+-- m there is 0, which is blank.
+use Prim.Native.Nat.{ℕ, _/_, _%_, _<_}
+use mathlib.Core.Path.{_≡_}
+use mathlib.Core.Bool.{Bool, cond, _&&_}
+use mathlib.Core.List.{List, map}
+use lib.Dec.{leb}
+use Rattle.definitions.specs.Limits.{lead-limit, signed-bytes}
+use Rattle.definitions.specs.Bytes.{numAt, numsAt, tropField, all, blank-or-within}
+use Rattle.definitions.specs.Offset.{off}
+use Rattle.definitions.specs.ProblemRecord.{nField, mField, leftPlace, rightPlace, listOf, problemRefusal, WithinLayout}
+use Rattle.records.specs.declared.problem.Header.{Header}
+use Rattle.records.specs.ProblemHeader.{headerBy}
+
+-- Each of `count` leads from a place on is blank or within the limit.
+abbrev pub runFits : List ℕ → ℕ → ℕ → Bool
+runFits s count at = all (blank-or-within lead-limit) (map tropField (numsAt signed-bytes count s at))
+
+-- The columns of a row, and the elements of a table.
+abbrev pub stride : ℕ
+stride = 32
+
+abbrev pub table-size : ℕ
+table-size = 2048
+
+-- The offset number of the lead at a place.
+abbrev pub leadAt : List ℕ → ℕ → ℕ
+leadAt s at = off (numAt signed-bytes s at)
+
+-- Element k of a table whose row i has its lead j at `place i j`.
+unfoldable pub cell : (ℕ → ℕ → ℕ) → List ℕ → ℕ → ℕ → ℕ → ℕ
+cell place s n m k = cond (leb (k / stride) m && leb (k % stride) n) (leadAt s (place (k / stride) (k % stride))) 0
+
+-- The table of the left leads, and that of the right leads.
+unfoldable pub leftTable : List ℕ → List ℕ
+leftTable s = listOf (cell (leftPlace (nField s)) s (nField s) (mField s)) table-size
+
+unfoldable pub rightTable : List ℕ → List ℕ
+rightTable s = listOf (cell (rightPlace (nField s)) s (nField s) (mField s)) table-size
+
+-- What reading a problem into two tables leaves: the answer, and both tables, as they were where the problem is refused.
+pub record ProblemRead (s left right : List ℕ) (r : Header) (left′ right′ : List ℕ) : Type 0 where
+  pub result : r ≡ headerBy (problemRefusal s) (nField s) (mField s)
+  pub left-kept : 0 < problemRefusal s → left′ ≡ left
+  pub right-kept : 0 < problemRefusal s → right′ ≡ right
+  pub left-read : WithinLayout s → left′ ≡ leftTable s
+  pub right-read : WithinLayout s → right′ ≡ rightTable s
