@@ -1,10 +1,2 @@
-pub mod Form
-pub mod Shared
-pub mod Infeasible
-pub mod Unbounded
-pub mod Optimal
-pub mod Final
 pub mod Outcomes
 pub mod Inputs
-pub mod Variables
-pub mod RowsOf

@@ -3,7 +3,7 @@ use Prim.Native.Nat.{ℕ}
 use mathlib.Core.List.{List}
 use denote.Ref.{now, at-last}
 use Rattle.output.specs.declared.writer.Writer.{Writer}
-use Rattle.output.specs.Text.{appended, placeAfter}
+use Rattle.printing.specs.Text.{appended, placeAfter}
 
 -- The same borrow, with the bytes at the writer's place where there is room for them, and the next place.
 -- `at-last x l` is the reference x, its pointer and its ghost name with it, at the list l.

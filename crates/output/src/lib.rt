@@ -1,4 +1,2 @@
 // What the two programs put out: records and lines, byte for byte. Document 01, "Two programs".
-pub mod lines;
-pub mod text;
 pub mod writer;

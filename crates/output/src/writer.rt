@@ -1,15 +1,15 @@
 // What the programs put out: a record or a line, appended through a writer. The writer borrows a lent slice and holds the
 // next place in it. Each function over it takes it apart and leaves the work to `append`; `write`, with plain parameters,
 // stands above them.
-use crate::lines::LINE_MOST;
-use crate::lines::refused_line;
-use crate::lines::verdict_line;
-use crate::text::append;
+use printing::lines::LINE_MOST;
+use printing::lines::refused_line;
+use printing::lines::verdict_line;
+use printing::text::append;
 ghost use mathlib.Core.Path.{_≡_};
 ghost use Prim.Native.Nat.{_≤_};
 ghost use lib.ListN.{length};
 ghost use Rattle.definitions.specs.Programs.{refusedLine, verdictLine};
-ghost use Rattle.output.specs.Text.{Appended, Output, line-most, verdictOf};
+ghost use Rattle.printing.specs.Text.{Appended, Output, line-most, verdictOf};
 ghost use Rattle.output.specs.Written.{written};
 
 // A lent slice, and the place in it where the next record or line goes.

@@ -77,7 +77,7 @@ fn shown_variables(picks: &[usize; 32], marks: &[u8; 32], width: usize, rows: us
     out
 }
 
-// The picks of a strategy of variables; those of variables that are not reachable are 0. Public for the engine's `answer`.
+// The picks of a strategy of variables; those of variables that are not reachable are 0. Public for `classes::answer`.
 pub fn variable_picks(
     right: &[u32; 2048],
     picks: &[usize; 32],
@@ -170,7 +170,7 @@ fn shown_rows(
     out
 }
 
-// The picks of a strategy of rows; those of rows that are not in use are 0. Public for the engine's `answer`.
+// The picks of a strategy of rows; those of rows that are not in use are 0. Public for `classes::answer`.
 pub fn row_picks(left: &[u32; 2048], picks: &[usize; 64], width: usize, rows: usize) -> [u64; 64]
     requires { ⌜ (length (now left) ≡ 2048) × (length (now picks) ≡ 64) × (width ≤ 32) × (0 < width) × (rows ≤ 64) ⌝ }
     ensures { λ r. ⌜ RowPicks (now (left .entry)) (now (picks .entry)) width rows r ⌝ }
@@ -200,7 +200,7 @@ fn best(right: &[u32; 2048], row: usize, x: &[u64; 32], width: usize) -> usize
     pick
 }
 
-// The strategy of rows that a point induces. Public for the engine's `answer`.
+// The strategy of rows that a point induces. Public for `classes::answer`.
 pub fn induced(right: &[u32; 2048], x: &[u64; 32], width: usize, rows: usize) -> [usize; 64]
     requires { ⌜ (width ≤ 32) × (rows ≤ 64) × Table raised-limit (now right) × Ranged (now x) ⌝ }
     ensures { λ r. ⌜ InducedRows (now (right .entry)) (now (x .entry)) width rows r ⌝ }

@@ -75,7 +75,7 @@ pub struct Descent {
     pub picks: [usize; 32],
 }
 
-// Trials from the top, which is possible, down to the last. Public for the engine's `answer`.
+// Trials from the top, which is possible, down to the last. Public for `classes::answer`.
 pub fn descend(
     left: &[u32; 2048],
     right: &mut [u32; 2048],

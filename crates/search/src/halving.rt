@@ -23,7 +23,7 @@ fn shift(k: u32, t: u64) -> u32
     (k as u64 + t - OFFSET) as u32
 }
 
-// The objective's row of the right table, raised by t. Public for the engine's `answer`.
+// The objective's row of the right table, raised by t. Public for `classes::answer`.
 pub fn raise(right: &mut [u32; 2048], objective: &[u32; 32], row: usize, t: u64)
     requires { ⌜ (length (now right) ≡ 2048) × (length (now objective) ≡ 32) × (row < 64) × Trialled t × ((k : ℕ) → Near lead-limit (getD (now objective) k 0)) ⌝ }
     ensures { λ _. ⌜ Raised (now (right .entry)) (now (objective .entry)) row t 32 (now (right .exit)) ⌝ }
@@ -36,7 +36,7 @@ pub fn raise(right: &mut [u32; 2048], objective: &[u32; 32], row: usize, t: u64)
     }
 }
 
-// One trial at t, from a strategy that is kept there. Public for `descent` and for the engine's `answer`.
+// One trial at t, from a strategy that is kept there. Public for `descent` and for `classes::answer`.
 pub fn attempt(
     left: &[u32; 2048],
     right: &mut [u32; 2048],
@@ -112,7 +112,7 @@ fn try_at(
     next
 }
 
-// A trial one above what is blocked: there the search ends if the last guess was right. Public for the engine's `answer`.
+// A trial one above what is blocked: there the search ends if the last guess was right. Public for `classes::answer`.
 pub fn closer(
     left: &[u32; 2048],
     right: &mut [u32; 2048],
@@ -166,7 +166,7 @@ pub struct Least {
     pub blocking: [usize; 32],
 }
 
-// Halvings until the bracket is 1 wide; its high is the least span. Public for the engine's `answer`.
+// Halvings until the bracket is 1 wide; its high is the least span. Public for `classes::answer`.
 pub fn halve(
     left: &[u32; 2048],
     right: &mut [u32; 2048],

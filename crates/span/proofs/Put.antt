@@ -19,7 +19,7 @@ use Rattle.engine.specs.Outcome.{solvedOf}
 use Rattle.engine.specs.declared.solve.Solved.{Solved}
 use Rattle.engine.specs.declared.solve.Solved.the-variants.{Refused, Answered}
 use Rattle.guarantees.proofs.Engine.{record-stands, answer-takes}
-use Rattle.output.specs.Text.{Output}
+use Rattle.printing.specs.Text.{Output}
 use Rattle.span.specs.Shown.{out-most, Shown, shownRecord}
 
 -- With a buffer that is long enough the engine's refusal is the problem's.

@@ -82,7 +82,7 @@ pub fn side(table: &[u32; 2048], ends: u32, row: usize, x: &[u32; 32], width: us
     full_side(table, row, x, width)
 }
 
-// An offset number less another. Public for the engine's `answer`.
+// An offset number less another. Public for `classes::answer`.
 pub fn gap(side: u64, left: u64) -> u64
     requires { ⌜ (side ≤ fold-limit) × (0 < side → fold-least ≤ side) × (left ≤ signed-half + lead-limit) ⌝ }
     ensures { λ r. ⌜ (tropOf r ≡ difference (tropOf side) (tropOf left)) ⌝ }

@@ -9,8 +9,8 @@ use Rattle.definitions.specs.Programs.{verdictLine, VerdictOutput, problemPart,
 use Rattle.definitions.specs.Verdict.{Verdict, refused, Judged, turned-away, certified, uncertified}
 use Rattle.checker.specs.Outcome.{verdictOf}
 use Rattle.checker.specs.declared.check.Verdict.the-variants.{Accepted, Refused}
-use Rattle.output.specs.Text.{Output, line-most}
-use Rattle.output.specs.Text as Text
+use Rattle.printing.specs.Text.{Output, line-most}
+use Rattle.printing.specs.Text as Text
 
 -- No verdict refuses with number 0, which stands for none.
 some-refusal : {p a : List ℕ} {v : Verdict} → Judged p a v → v ≡ refused 0 → ⊥

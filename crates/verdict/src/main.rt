@@ -7,13 +7,13 @@ ghost use lib.ListN.{length, take};
 ghost use Rattle.definitions.specs.Programs.{ReadFrom, VerdictOutput, verdictLine};
 ghost use Rattle.definitions.specs.Verdict.{refused};
 ghost use Rattle.checker.specs.Outcome.{verdictOf};
-ghost use Rattle.output.specs.Text.{line-most};
+ghost use Rattle.printing.specs.Text.{line-most};
 use checker::check::Verdict;
 use checker::input::judge_input;
 use input::read_all;
 use libc::STDOUT_FILENO;
-use output::lines::LINE_MOST;
 use output::writer::write_verdict;
+use printing::lines::LINE_MOST;
 use records::limits::KEPT;
 
 // Puts the line of a verdict at the front of a buffer, and gives its size.

@@ -42,16 +42,16 @@ use denote.Triple.Walked.{says, Stays, stay-none-slice, walkOf, goes-none-slice,
 use denote.Exit.{yes}
 use denote.Signature.{plain, namedLft}
 use denote.Signature.Struct.{inStruct, makes}
-use Rattle.output.specs.Text.{Appended}
+use Rattle.printing.specs.Text.{Appended}
 use Rattle.output.specs.declared.writer.Writer.{Writer}
 use Rattle.output.proofs.writer.Writer as T
 use Rattle.output.proofs.writer.Writer.Laws as T′
 use Rattle.output.proofs.Held.{writer-spent, writer-spent-goes}
 use Rattle.output.proofs.Again.{LentAgain, lends-again, comes-back}
-use Rattle.output.proofs.text.append as append
-use Rattle.output.proofs.text.append.Symbol as append-def
-use Rattle.output.proofs.text.append.Symbol.{name as #records·text·append}
-use Rattle.output.proofs.text.append.Met as append-thm
+use Rattle.printing.proofs.text.append as append
+use Rattle.printing.proofs.text.append.Symbol as append-def
+use Rattle.printing.proofs.text.append.Symbol.{name as #records·text·append}
+use Rattle.printing.proofs.text.append.Met as append-thm
 use Rattle.output.proofs.writer.added.Key.{name as #records·output·added}
 use Rattle.output.proofs.writer.added as added
 use Rattle.output.proofs.writer.added.Statement as stated
@@ -183,4 +183,4 @@ added-spec 𝓤 H 𝓜 𝓖 𝓡 =
     entered 𝓤 H (tripleOf 𝓤 H (𝓖 .A) added.signature (added.spec 𝓤 H (𝓖 .A) (𝓜 .mem) (𝓡 .run)))
     (tables 𝓤 H 𝓜 𝓡 code.env .C) (tables 𝓤 H 𝓜 𝓡 code.env .Λ) #records·output·added code.function (code.unfolded 𝓤 H 𝓜 𝓡)
     (added-meets 𝓤 H (𝓖 .A) (givenOf 𝓤 H 𝓜 𝓖) (𝓜 .mem) (𝓡 .run) (tablesOf 𝓤 H 𝓜 (tables 𝓤 H 𝓜 𝓡 code.env))
-    (cited 𝓤 H (Append 𝓤 H (𝓖 .A) (𝓜 .mem) (𝓡 .run)) 𝓜 𝓡 code.env #records·text·append append-def.routine code.calls-output·text·append (append-thm.met 𝓤 H 𝓜 𝓖 𝓡)))
+    (cited 𝓤 H (Append 𝓤 H (𝓖 .A) (𝓜 .mem) (𝓡 .run)) 𝓜 𝓡 code.env #records·text·append append-def.routine code.calls-printing·text·append (append-thm.met 𝓤 H 𝓜 𝓖 𝓡)))

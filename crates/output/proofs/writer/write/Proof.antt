@@ -40,9 +40,9 @@ use denote.Triple.Walked.{says, Stays, stay-none, stay-none-slice, gave-slice, w
 use denote.Exit.{yes}
 use denote.Signature.{plain}
 use Rattle.output.specs.declared.writer.Writer.{Writer}
-use Rattle.output.specs.Text.{Appended, appended, placeAfter}
+use Rattle.printing.specs.Text.{Appended, appended, placeAfter}
 use Rattle.output.specs.Written.{written}
-use Rattle.output.proofs.Appending.{length-appended}
+use Rattle.printing.proofs.Appending.{length-appended}
 use Rattle.output.proofs.writer.Writer as T
 use Rattle.output.proofs.writer.Writer.Laws as T′
 use Rattle.output.proofs.writer.made as fresh

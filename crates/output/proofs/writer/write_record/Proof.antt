@@ -1,5 +1,5 @@
 use borrow.Author.Needs.{needs}
-use Rattle.output.proofs.Appending.{output-of}
+use Rattle.printing.proofs.Appending.{output-of}
 use Rattle.output.proofs.writer.write_record.Statement.{statement}
 use Rattle.output.proofs.writer.write_record.Tie as tie
 

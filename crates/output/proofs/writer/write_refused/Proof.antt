@@ -2,7 +2,7 @@ use borrow.Author.Needs.{needs}
 use mathlib.Core.Path.{sym}
 use native.Mathlib.Omega.{arith}
 use lib.Seq.{length-take-le}
-use Rattle.output.proofs.Appending.{output-line}
+use Rattle.printing.proofs.Appending.{output-line}
 use Rattle.output.proofs.writer.write_refused.Statement.{statement}
 use Rattle.output.proofs.writer.write_refused.Tie as tie
 

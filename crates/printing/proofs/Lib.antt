@@ -1,0 +1,4 @@
+pub mod Appending
+pub mod Copy
+pub mod Decimals
+pub mod Printing

@@ -1,0 +1,90 @@
+-- The lines that the programs print, by the cases of the code that puts them.
+use Prim.Native.Nat.{ℕ, zero, suc, _-_, _≤_, _<_}
+use mathlib.Core.Path.{_≡_, refl}
+use mathlib.Core.List.{List, [], _∷_, _++_}
+use native.Mathlib.Omega.{arith}
+use lib.ListN.{length}
+use lib.IntN.{pos, negsuc}
+use borrow.Author.Tests.{eq-eqb, ne-eqb}
+use Rattle.definitions.specs.Limits.{signed-half}
+use Rattle.definitions.specs.Tropical.{Trop}
+use Rattle.definitions.specs.Offset.{tropOf}
+use Rattle.definitions.specs.Verdict.{accepted, refused, not-certified}
+use Rattle.definitions.specs.Programs.{decimal, wholeDecimal, spanDecimal, text-least, text-bottomless, text-none, text-not-certified, newline, classWords, refusedLine, verdictLine}
+use Rattle.definitions.proofs.Offset.{trop-zero, trop-show}
+use Rattle.printing.specs.Text.{Putting, verdictOf}
+use Rattle.printing.proofs.Copy.{put-nothing, put-then}
+
+-- ---- a span
+
+-- A blank span has no digits.
+pub span-blank : (l : List ℕ) (at span : ℕ) → span ≡ 0 → Putting l at (spanDecimal (tropOf span)) l at
+unfolding spanDecimal
+span-blank l at span e = rw (e, trop-zero) (put-nothing l at)
+
+-- A span of 0 or more is its number.
+pub span-up : {l : List ℕ} {at span : ℕ} {after : List ℕ} {next : ℕ} → Putting l at (decimal (span - signed-half)) after next → signed-half ≤ span
+    → Putting l at (spanDecimal (tropOf span)) after next
+unfolding spanDecimal wholeDecimal
+span-up {span = span} p h = rw (trop-show span (pos (span - signed-half)) (omega arith) (omega arith)) p
+
+-- A negative span is a minus and its number.
+pub span-down : {l : List ℕ} {at span : ℕ} {mid : List ℕ} {next : ℕ} {after : List ℕ} {end : ℕ} → Putting l at (45 ∷ []) mid next
+    → Putting mid next (decimal (signed-half - span)) after end → (span ≡ 0 → ⊥) → span < signed-half → at ≤ length l → Putting l at (spanDecimal (tropOf span)) after end
+unfolding spanDecimal wholeDecimal
+span-down {span = span} p q n h inside =
+    let e : suc (signed-half - span - 1) ≡ signed-half - span = omega arith in
+    rw (trop-show span (negsuc (signed-half - span - 1)) (omega arith) (omega arith), e) (put-then p q inside)
+
+-- ---- the class
+
+module _ {l : List ℕ} {at : ℕ} (class : ℕ) (span : Trop) {after : List ℕ} {next : ℕ} where
+  -- Class 1 is least.
+  pub words-least : Putting l at (text-least ++ spanDecimal span) after next → class ≡ 1 → Putting l at (classWords class span) after next
+  unfolding classWords
+  words-least p e = rw (eq-eqb class 1 e) p
+
+  -- Class 2 is bottomless.
+  pub words-bottomless : Putting l at text-bottomless after next → class ≡ 2 → Putting l at (classWords class span) after next
+  unfolding classWords
+  words-bottomless p e = rw (ne-eqb class 1 (omega arith), eq-eqb class 2 e) p
+
+  -- Any other is none.
+  pub words-none : Putting l at text-none after next → (class ≡ 1 → ⊥) → (class ≡ 2 → ⊥) → Putting l at (classWords class span) after next
+  unfolding classWords
+  words-none p m n = rw (ne-eqb class 1 m, ne-eqb class 2 n) p
+
+-- ---- lines
+
+-- Words, then a part, then the newline.
+pub line-puts : {l a one : List ℕ} {i : ℕ} {b two : List ℕ} {j : ℕ} {after : List ℕ} {next : ℕ} → Putting l 0 a one i → Putting one i b two j → Putting two j newline after next
+    → i ≤ length one → Putting l 0 (a ++ (b ++ newline)) after next
+line-puts p q r inside = put-then p (put-then q r inside) (omega arith)
+
+-- The verdict of refusal 0 accepts, with class and span.
+pub verdict-none : (class span : ℕ) → verdictOf zero class span ≡ accepted class (tropOf span)
+unfolding verdictOf
+verdict-none class span = refl
+
+-- The verdict of any other refusal is that refusal.
+pub verdict-some : (k class span : ℕ) → verdictOf (suc k) class span ≡ refused (suc k)
+unfolding verdictOf
+verdict-some k class span = rw (ne-eqb (suc k) 0 (omega arith))
+
+-- Refusal 0 is none: the line of class and span.
+pub verdict-accepted : {l : List ℕ} (refusal class span : ℕ) {after : List ℕ} {next : ℕ} → Putting l 0 (verdictLine (accepted class (tropOf span))) after next → refusal ≡ 0
+    → Putting l 0 (verdictLine (verdictOf refusal class span)) after next
+unfolding verdictOf
+verdict-accepted refusal class span p e = rw (eq-eqb refusal 0 e) p
+
+-- Refusal 14 is printed in words.
+pub verdict-uncertified : {l : List ℕ} (refusal class span : ℕ) {after : List ℕ} {next : ℕ} → Putting l 0 (text-not-certified ++ newline) after next → refusal ≡ not-certified
+    → Putting l 0 (verdictLine (verdictOf refusal class span)) after next
+unfolding verdictOf verdictLine
+verdict-uncertified refusal class span p e = rw (ne-eqb refusal 0 (omega arith), eq-eqb refusal not-certified e) p
+
+-- Any other by its number.
+pub verdict-refused : {l : List ℕ} (refusal class span : ℕ) {after : List ℕ} {next : ℕ} → Putting l 0 (refusedLine refusal) after next → (refusal ≡ 0 → ⊥) → (refusal ≡ not-certified → ⊥)
+    → Putting l 0 (verdictLine (verdictOf refusal class span)) after next
+unfolding verdictOf verdictLine
+verdict-refused refusal class span p m n = rw (ne-eqb refusal 0 m, ne-eqb refusal not-certified n) p
