@@ -21,7 +21,7 @@ unfoldable pub engineRefusal : List ℕ → ℕ → ℕ
 engineRefusal p room = or-else (problemRefusal p) (first (record { applies = ltb room answer-most; number = 7 } ∷ []))
 
 -- The class, span and trials of a problem: least s, bottomless or none, by its plans alone. The count is document 01's for
--- that class and span.
+-- that class and span; how many trials a run makes is not said here.
 pub data Found (p : Problem) : ℕ → Trop → ℕ → Type 0 where
   optimal : {s : ℤ} → Optimal p s → Found p class-optimal (fin s) (trials-optimal s)
   unbounded : Unbounded p → Found p class-unbounded bot trials-unbounded

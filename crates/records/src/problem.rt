@@ -17,7 +17,7 @@ pub enum Header {
     Refused(usize),
 }
 
-// How many leads a problem has, from n and m within their limits. Public for `leads`.
+// How many leads a problem has, from n and m within their limits. Public for `leads::reader`.
 pub fn lead_count(n: usize, m: usize) -> usize
     requires { ⌜ (n ≤ 31) × (m ≤ 63) ⌝ }
     ensures { λ r. ⌜ (r ≡ 2 * ((n + 1) * (m + 1))) × (r ≤ 4096) ⌝ }
@@ -89,7 +89,7 @@ pub fn read_header(bytes: &[u8], size: usize) -> Header
     answered(judge(size, length, kind, n, m), n, m)
 }
 
-// The number with which a problem was refused. Public for checker and engine.
+// The number with which a problem was refused. Public for `checker`, `engine`.
 pub fn problem_refusal(header: Header) -> usize
     ensures { λ r. ⌜ r ≡ problemRefused header ⌝ }
 {
