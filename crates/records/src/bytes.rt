@@ -27,6 +27,15 @@ pub fn short_at(s: &[u8], at: usize) -> u64
     byte_at(s, at) + 256 * byte_at(s, b)
 }
 
+// A field of 2 bytes that lies inside the string. Public for `answers::answer`.
+pub fn short_in(s: &[u8], at: usize) -> u64
+    requires { ⌜ at + 2 ≤ length (now s) ⌝ }
+    ensures { λ r. ⌜ (r ≡ numAt 2 (now (s .entry)) at) × (r < 65536) ⌝ }
+{
+    let b = at + 1;
+    wide(s[at]) + 256 * wide(s[b])
+}
+
 // A field of 4 bytes. Public for `problem`, `answers::answer` and `checker::input`.
 pub fn word_at(s: &[u8], at: usize) -> u64
     requires { ⌜ at < 4294967296 ⌝ }

@@ -3,7 +3,9 @@ use crate::limits::FULL;
 use crate::limits::OFFSET;
 use crate::limits::OFFSET_32;
 ghost use mathlib.Core.Path.{_≡_};
-ghost use Prim.Native.Nat.{_<_};
+ghost use mathlib.Core.Bool.{cond};
+ghost use Prim.Native.Nat.{_+_, _<_};
+ghost use lib.Dec.{leb};
 ghost use Rattle.definitions.specs.Limits.{signed-full};
 ghost use Rattle.definitions.specs.Bytes.{whole-within, blank-or-within};
 ghost use Rattle.definitions.specs.Offset.{tropOf, off};
@@ -25,6 +27,24 @@ pub fn offset_32(w: u32) -> u32
     } else {
         w - OFFSET_32
     }
+}
+
+// The later of two 4-byte fields, the one with the larger offset number. As fields they are compared with their signs, for
+// which the processor has vectors; offset numbers it has first to turn into fields. Public for `trials`, `walks`,
+// `certificates`.
+pub fn later(a: u32, b: u32) -> u32
+    requires { ⌜ (a < signed-full) × (b < signed-full) ⌝ }
+    ensures { λ r. ⌜ (off r ≡ cond (leb (off a) (off b)) (off b) (off a)) × (r < signed-full) ⌝ }
+{
+    if offset_32(a) <= offset_32(b) { b } else { a }
+}
+
+// A 4-byte field with a number added to its offset number. Public for `walks`, `certificates`.
+pub fn raised(w: u32, d: u32) -> u32
+    requires { ⌜ (w < signed-full) × (off w + d < signed-full) ⌝ }
+    ensures { λ r. ⌜ (off r ≡ off w + d) × (r < signed-full) ⌝ }
+{
+    std::num::wrapping_add_u32(w, d)
 }
 
 // The number is whole and within ±limit. Public for `answers::class`.
