@@ -5,6 +5,7 @@ use mathlib.Core.Bool.{Bool, true, false, cond, _&&_, and-eq-true-iff}
 use mathlib.Core.List.{List}
 use mathlib.Core.Logic.{_⊎_, ⊎-elim}
 use native.Mathlib.Omega.{arith}
+use native.Mathlib.Nat.{mul-le-mul-right}
 use lib.Dec.{leb}
 use lib.ListN.{length, getD, List·getD-eq-default}
 use borrow.Author.Tests.{le-leb, lt-leb, leb-true}
@@ -16,7 +17,7 @@ use Rattle.definitions.proofs.Whole.{nat-le-or-lt}
 use Rattle.definitions.proofs.Bytes.{numAt-bound}
 use Rattle.definitions.proofs.Offset.{trop-off}
 use Rattle.definitions.proofs.Refusals.{ProblemFits, problem-fits, left-within, right-within}
-use Rattle.leads.specs.Tables.{cell, leadAt, leftTable, rightTable, table-size}
+use Rattle.leads.specs.Tables.{cell, leadAt, leftTable, rightTable, table-size, Laid}
 use Rattle.records.specs.Decoded.{Near, Decoded}
 use Rattle.records.proofs.Near.{near-zero, near-within}
 use Rattle.leads.proofs.Tables.{length-listOf, getD-listOf}
@@ -149,3 +150,38 @@ unfolding rightTable
 right-blank s i j g h p =
     getD-listOf (cell (rightPlace (nField s)) s (nField s) (mField s)) 2048 (i * 32 + j) (omega arith)
     ∙ cell-blank (rightPlace (nField s)) s (nField s) (mField s) i j h p
+
+-- ---- leads where they stand
+
+module _ {s : List ℕ} {n m : ℕ} (l : Laid s n m) where
+  -- Row i ends inside the bytes.
+  pub row-inside : (i : ℕ) → i ≤ m → leftPlace n i 0 + 8 * (n + 1) ≤ length s
+  row-inside i h = omega (arith, l .size-is, mul-le-mul-right {m = i + 1} {n = m + 1} (n + 1) (omega arith))
+
+  module _ (i j : ℕ) (row : i ≤ m) (column : j ≤ n) where
+    -- The elements of the tables are the leads in the bytes.
+    pub left-lead : getD (leftTable s) (i * 32 + j) 0 ≡ leadAt s (leftPlace n i j)
+    unfolding leftTable
+    left-lead = rw (l .n-is, l .m-is) (getD-listOf (cell (leftPlace n) s n m) 2048 (i * 32 + j) (omega (arith, l .n-most, l .m-most))
+        ∙ cell-lead (leftPlace n) s n m i j row column (l .n-most))
+
+    pub right-lead : getD (rightTable s) (i * 32 + j) 0 ≡ leadAt s (rightPlace n i j)
+    unfolding rightTable
+    right-lead = rw (l .n-is, l .m-is) (getD-listOf (cell (rightPlace n) s n m) 2048 (i * 32 + j) (omega (arith, l .n-most, l .m-most))
+        ∙ cell-lead (rightPlace n) s n m i j row column (l .n-most))
+
+    -- They are blank or within the limit.
+    pub left-lead-near : Near lead-limit (leadAt s (leftPlace n i j))
+    left-lead-near = rw left-lead at (left-near s (l .bytes) (l .within) (i * 32 + j))
+
+    pub right-lead-near : Near lead-limit (leadAt s (rightPlace n i j))
+    right-lead-near = rw right-lead at (right-near s (l .bytes) (l .within) (i * 32 + j))
+
+    -- They stand for the problem's coefficients.
+    pub left-lead-means : tropOf (leadAt s (leftPlace n i j)) ≡ problemOf s .left i j
+    unfolding problemOf
+    left-lead-means = rw (l .n-is) (lead-means s (leftPlace n i j) (l .bytes))
+
+    pub right-lead-means : tropOf (leadAt s (rightPlace n i j)) ≡ problemOf s .right i j
+    unfolding problemOf
+    right-lead-means = rw (l .n-is) (lead-means s (rightPlace n i j) (l .bytes))

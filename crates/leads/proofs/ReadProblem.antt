@@ -1,35 +1,31 @@
--- What reading a problem leaves, on each of its three ways out: refused by its header, refused by a lead, read.
+-- What judging and reading a problem answer: refused by its header, refused by a lead, within the layout.
 use Prim.Native.Nat.{ℕ, suc, _+_, _*_, _<_}
-use mathlib.Core.Path.{_≡_, refl}
+use mathlib.Core.Path.{_≡_, refl, sym}
 use mathlib.Core.Bool.{true, false}
 use mathlib.Core.List.{List}
 use native.Mathlib.Omega.{arith}
 use lib.ListN.{length}
 use Rattle.definitions.specs.Limits.{problem-header}
-use Rattle.definitions.specs.ProblemRecord.{nField, mField, leftPlace, rightPlace, leadsOf, headerRefusal, problemRefusal}
-use Rattle.definitions.proofs.Refusals.{or-else-suc}
+use Rattle.definitions.specs.Bytes.{Bytes}
+use Rattle.definitions.specs.ProblemRecord.{nField, mField, leftPlace, rightPlace, leadsOf, headerRefusal, problemRefusal, WithinLayout, problemSize}
+use Rattle.definitions.proofs.Refusals.{or-else-suc, problem-fits}
 use Rattle.records.specs.declared.problem.Header.{Header}
 use Rattle.records.specs.declared.problem.Header.the-variants.{Fields, Refused}
 use Rattle.records.specs.ProblemHeader.{headerBy, headerOf}
-use Rattle.leads.specs.Tables.{runFits, cell, leftTable, rightTable, ProblemRead}
-use Rattle.leads.specs.Filling.{Tabled}
-use Rattle.records.proofs.ProblemHeader.{HeaderFits, header-refuses, header-fields}
+use Rattle.leads.specs.Tables.{runFits, cell, leftTable, rightTable, problemHeader, Laid, ProblemRead}
+use Rattle.leads.specs.Filling.{Framed, Tabled}
+use Rattle.records.proofs.ProblemHeader.{HeaderFits, header-refuses, header-fields, answer-fields, answer-refused}
 use Rattle.leads.proofs.Tables.{is-listOf}
 
+-- ---- judging
+
 -- The header is refused.
-pub refused-header : (s : List ℕ) {r : Header} {k : ℕ} {left right : List ℕ} → r ≡ headerOf s (length s) → r ≡ Refused k → ProblemRead s left right r left right
+pub refused-header : (s : List ℕ) {r : Header} {k : ℕ} → r ≡ headerOf s (length s) → r ≡ Refused k → r ≡ problemHeader s
 unfolding problemRefusal headerOf
 refused-header s e f =
     let g = header-refuses s (length s) e f in
-    let some : 0 < headerRefusal s (length s) = omega arith in
-    let same : problemRefusal s ≡ headerRefusal s (length s) = or-else-suc (headerRefusal s (length s)) _ some in
-    record {
-      result = rw same e;
-      left-kept = λ h. refl;
-      right-kept = λ h. refl;
-      left-read = λ w. absurd (omega arith);
-      right-read = λ w. absurd (omega arith);
-    }
+    let same : problemRefusal s ≡ headerRefusal s (length s) = or-else-suc (headerRefusal s (length s)) _ (omega arith) in
+    rw same e
 
 module _ (s : List ℕ) {n m count : ℕ} (h : HeaderFits s (length s) n m) (c : count ≡ 2 * ((n + 1) * (m + 1))) where
   -- The run that is judged is all leads.
@@ -39,38 +35,61 @@ module _ (s : List ℕ) {n m count : ℕ} (h : HeaderFits s (length s) n m) (c :
       rw (all-leads, h .n-is, h .m-is)
 
   -- A lead does not fit: refusal 6.
-  refusal-six : false ≡ runFits s count problem-header → problemRefusal s ≡ 6
-  unfolding problemRefusal leadsOf
-  refusal-six e = rw (h .none, ← run-leads, ← e)
+  pub refused-lead : false ≡ runFits s count problem-header → Refused 6 ≡ problemHeader s
+  unfolding problemRefusal leadsOf headerBy
+  refused-lead e = rw (h .none, ← run-leads, ← e)
 
   -- Every lead fits: no refusal.
-  refusal-none : true ≡ runFits s count problem-header → problemRefusal s ≡ 0
+  pub judged-fields : true ≡ runFits s count problem-header → Fields n m ≡ problemHeader s
   unfolding problemRefusal leadsOf
-  refusal-none e = rw (h .none, ← run-leads, ← e)
+  judged-fields e =
+      let none : problemRefusal s ≡ 0 = rw (h .none, ← run-leads, ← e) in
+      rw (h .n-is, h .m-is) (header-fields (problemRefusal s) (nField s) (mField s) none)
 
-  -- A lead is refused.
-  pub refused-lead : {left right : List ℕ} → false ≡ runFits s count problem-header → ProblemRead s left right (Refused 6) left right
-  unfolding headerBy
-  refused-lead e =
-      let six : problemRefusal s ≡ 6 = refusal-six e in
-      record {
-        result = rw six;
-        left-kept = λ q. refl;
-        right-kept = λ q. refl;
-        left-read = λ w. absurd (omega arith);
-        right-read = λ w. absurd (omega arith);
-      }
+-- Fields are the answer for a problem within the layout.
+pub laid : {s : List ℕ} {r : Header} {n m : ℕ} → Bytes s → r ≡ problemHeader s → r ≡ Fields n m → Laid s n m
+laid {s} b e f =
+    let g = answer-fields (problemRefusal s) (nField s) (mField s) e f in
+    let p = problem-fits s .0 (g .0) in
+    record {
+      bytes = b;
+      within = g .0;
+      n-is = sym (g .1);
+      m-is = sym (g .2);
+      n-most = omega (arith, g .1, p .n-most);
+      m-most = omega (arith, g .2, p .m-most);
+      size-is = rw (g .1, g .2) (p .size-is);
+    }
 
-  -- The problem is read.
-  pub problem-read : {left right left′ right′ : List ℕ} → true ≡ runFits s count problem-header
-      → Tabled s n m 2048 left′ right′ → ProblemRead s left right (Fields n m) left′ right′
-  unfolding leftTable rightTable
-  problem-read {left′ = left′} {right′} e t =
-      let none : problemRefusal s ≡ 0 = refusal-none e in
-      record {
-        result = rw (h .n-is, h .m-is) (header-fields (problemRefusal s) (nField s) (mField s) none);
-        left-kept = λ q. absurd (omega arith);
-        right-kept = λ q. absurd (omega arith);
-        left-read = λ w. rw (← h .n-is, ← h .m-is) (is-listOf (cell (leftPlace n) s n m) 2048 left′ (t .left-size) (t .lefts));
-        right-read = λ w. rw (← h .n-is, ← h .m-is) (is-listOf (cell (rightPlace n) s n m) 2048 right′ (t .right-size) (t .rights));
-      }
+-- ---- reading
+
+-- The problem is refused.
+pub refused-read : (s : List ℕ) {r : Header} {k : ℕ} {left right : List ℕ} → r ≡ problemHeader s → r ≡ Refused k → ProblemRead s left right r left right
+refused-read s e f =
+    let g = answer-refused (problemRefusal s) (nField s) (mField s) e f in
+    record { result = e; left-kept = λ h. refl; right-kept = λ h. refl; left-read = λ w. absurd (omega arith); right-read = λ w. absurd (omega arith) }
+
+-- Both tables are filled.
+pub left-tabled : {s : List ℕ} {n m : ℕ} {left right : List ℕ} → Laid s n m → Tabled s n m 2048 left right → left ≡ leftTable s
+unfolding leftTable
+left-tabled {s} {n} {m} {left} l t = rw (l .n-is, l .m-is) (is-listOf (cell (leftPlace n) s n m) 2048 left (t .left-size) (t .lefts))
+
+pub right-tabled : {s : List ℕ} {n m : ℕ} {left right : List ℕ} → Laid s n m → Tabled s n m 2048 left right → right ≡ rightTable s
+unfolding rightTable
+right-tabled {s} {n} {m} {right = right} l t = rw (l .n-is, l .m-is) (is-listOf (cell (rightPlace n) s n m) 2048 right (t .right-size) (t .rights))
+
+-- The problem is read.
+pub problem-read : {s : List ℕ} {r : Header} {n m : ℕ} {left right left′ right′ : List ℕ} → Laid s n m → r ≡ problemHeader s
+    → Tabled s n m 2048 left′ right′ → ProblemRead s left right r left′ right′
+problem-read l e t =
+    record {
+      result = e;
+      left-kept = λ q. absurd (omega (arith, l .within));
+      right-kept = λ q. absurd (omega (arith, l .within));
+      left-read = λ w. left-tabled l t;
+      right-read = λ w. right-tabled l t;
+    }
+
+-- What reading the tables asks.
+pub laid-framed : {s : List ℕ} {n m : ℕ} {left right : List ℕ} → Laid s n m → length left ≡ 2048 → length right ≡ 2048 → Framed s n m left right
+laid-framed l e f = record { n-most = l .n-most; m-most = l .m-most; holds = omega (arith, l .size-is); left-room = e; right-room = f }

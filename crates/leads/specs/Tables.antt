@@ -1,14 +1,15 @@
 -- The lent tables of leads, as offset numbers: 64 rows of 32 columns, row after row. Every place is determined: past n, past
 -- m there is 0, which is blank.
-use Prim.Native.Nat.{ℕ, _/_, _%_, _<_}
+use Prim.Native.Nat.{ℕ, _/_, _%_, _≤_, _<_}
 use mathlib.Core.Path.{_≡_}
 use mathlib.Core.Bool.{Bool, cond, _&&_}
 use mathlib.Core.List.{List, map}
 use lib.Dec.{leb}
-use Rattle.definitions.specs.Limits.{lead-limit, signed-bytes}
-use Rattle.definitions.specs.Bytes.{numAt, numsAt, tropField, all, blank-or-within}
+use lib.ListN.{length}
+use Rattle.definitions.specs.Limits.{highest-n, highest-m, lead-limit, signed-bytes}
+use Rattle.definitions.specs.Bytes.{Bytes, numAt, numsAt, tropField, all, blank-or-within}
 use Rattle.definitions.specs.Offset.{off}
-use Rattle.definitions.specs.ProblemRecord.{nField, mField, leftPlace, rightPlace, listOf, problemRefusal, WithinLayout}
+use Rattle.definitions.specs.ProblemRecord.{problemSize, nField, mField, leftPlace, rightPlace, listOf, problemRefusal, WithinLayout}
 use Rattle.records.specs.declared.problem.Header.{Header}
 use Rattle.records.specs.ProblemHeader.{headerBy}
 
@@ -38,9 +39,23 @@ leftTable s = listOf (cell (leftPlace (nField s)) s (nField s) (mField s)) table
 unfoldable pub rightTable : List ℕ → List ℕ
 rightTable s = listOf (cell (rightPlace (nField s)) s (nField s) (mField s)) table-size
 
+-- What judging a problem answers: n and m, or the first of refusals 1 to 6 that applies.
+abbrev pub problemHeader : List ℕ → Header
+problemHeader s = headerBy (problemRefusal s) (nField s) (mField s)
+
+-- The bytes of a problem within the layout, of n + 1 variables and m + 1 rows.
+pub record Laid (s : List ℕ) (n m : ℕ) : Type 0 where
+  pub bytes : Bytes s
+  pub within : WithinLayout s
+  pub n-is : nField s ≡ n
+  pub m-is : mField s ≡ m
+  pub n-most : n ≤ highest-n
+  pub m-most : m ≤ highest-m
+  pub size-is : length s ≡ problemSize n m
+
 -- What reading a problem into two tables leaves: the answer, and both tables, as they were where the problem is refused.
 pub record ProblemRead (s left right : List ℕ) (r : Header) (left′ right′ : List ℕ) : Type 0 where
-  pub result : r ≡ headerBy (problemRefusal s) (nField s) (mField s)
+  pub result : r ≡ problemHeader s
   pub left-kept : 0 < problemRefusal s → left′ ≡ left
   pub right-kept : 0 < problemRefusal s → right′ ≡ right
   pub left-read : WithinLayout s → left′ ≡ leftTable s

@@ -5,7 +5,8 @@ ghost use mathlib.Core.Bool.{cond};
 ghost use lib.ListN.{length, getD};
 ghost use Rattle.definitions.specs.Limits.{lead-limit};
 ghost use Rattle.definitions.specs.Bytes.{tropField, blank-or-within};
-ghost use Rattle.leads.specs.Tables.{runFits, leadAt, ProblemRead};
+ghost use Rattle.definitions.specs.ProblemRecord.{leftPlace};
+ghost use Rattle.leads.specs.Tables.{runFits, leadAt, problemHeader, ProblemRead};
 ghost use Rattle.leads.specs.Filling.{rowCell, RowOf, Filled, Framed, Tabled};
 use records::bytes::word_in;
 use records::limits::LEAD_BYTES;
@@ -61,6 +62,22 @@ fn leads_fit(bytes: &[u8], count: usize) -> bool
     misfits == 0
 }
 
+// The lead at a place of the bytes, as an offset number. Public for `walks::arcs`, `certificates::certify`.
+pub fn lead_in(bytes: &[u8], at: usize) -> u32
+    requires { ⌜ at + 4 ≤ length (now bytes) ⌝ }
+    ensures { λ r. ⌜ (r ≡ leadAt (now (bytes .entry)) at) × (r < 4294967296) ⌝ }
+{
+    offset_32(word_in(bytes, at))
+}
+
+// Where the leads of row i start, in a problem of n + 1 variables. Public for `walks::arcs`, `certificates`.
+pub fn row_place(n: usize, i: usize) -> usize
+    requires { ⌜ (n ≤ 31) × (i ≤ 63) ⌝ }
+    ensures { λ r. ⌜ (r ≡ leftPlace n i 0) × (r ≤ 16138) ⌝ }
+{
+    PROBLEM_HEADER + 2 * LEAD_BYTES * (i * (n + 1))
+}
+
 // `count` leads from a place of the bytes, then blanks.
 fn row_of(bytes: &[u8], at: usize, count: usize) -> [u32; STRIDE]
     requires { ⌜ (count ≤ 32) × (at + 4 * count ≤ length (now bytes)) ⌝ }
@@ -69,7 +86,7 @@ fn row_of(bytes: &[u8], at: usize, count: usize) -> [u32; STRIDE]
     let mut row = [0u32; STRIDE];
     let mut from = at;
     for j in 0..count {
-        row[j] = offset_32(word_in(bytes, from));
+        row[j] = lead_in(bytes, from);
         from += LEAD_BYTES;
     }
     row
@@ -131,8 +148,9 @@ fn read_rows(bytes: &[u8], n: usize, m: usize, left: &mut [u32], right: &mut [u3
     }
 }
 
-// The leads of n + 1 variables in m + 1 rows, into both tables; what lies past them is blank.
-fn read_tables(bytes: &[u8], n: usize, m: usize, left: &mut [u32], right: &mut [u32])
+// The leads of n + 1 variables in m + 1 rows, into both tables; what lies past them is blank. Public for the checker's
+// `check`.
+pub fn read_tables(bytes: &[u8], n: usize, m: usize, left: &mut [u32], right: &mut [u32])
     requires { ⌜ Framed (now bytes) n m (now left) (now right) ⌝ }
     ensures { λ _. ⌜ Tabled (now (bytes .entry)) n m 2048 (now (left .exit)) (now (right .exit)) ⌝ }
 {
@@ -142,10 +160,10 @@ fn read_tables(bytes: &[u8], n: usize, m: usize, left: &mut [u32], right: &mut [
     clear(right, used, TABLE - used);
 }
 
-// A problem from its bytes, into two lent tables: n and m, with the leads as offset numbers in rows of 32, or the first of
-// refusals 1 to 6 that applies. A refused problem leaves both tables as they are.
-pub fn read_problem(bytes: &[u8], left: &mut [u32; TABLE], right: &mut [u32; TABLE]) -> Header
-    ensures { λ r. ⌜ ProblemRead (now (bytes .entry)) (now (left .entry)) (now (right .entry)) r (now (left .exit)) (now (right .exit)) ⌝ }
+// The header of a problem within the layout: n and m, or the first of refusals 1 to 6 that applies. Public for the checker's
+// `check` and `input`.
+pub fn judge_problem(bytes: &[u8]) -> Header
+    ensures { λ r. ⌜ r ≡ problemHeader (now (bytes .entry)) ⌝ }
 {
     let header = read_header(bytes, bytes.len());
     let Header::Fields(n, m) = header else {
@@ -154,6 +172,18 @@ pub fn read_problem(bytes: &[u8], left: &mut [u32; TABLE], right: &mut [u32; TAB
     if !leads_fit(bytes, lead_count(n, m)) {
         return Header::Refused(6);
     }
+    header
+}
+
+// A problem from its bytes, into two lent tables: n and m, with the leads as offset numbers in rows of 32, or the first of
+// refusals 1 to 6 that applies. A refused problem leaves both tables as they are.
+pub fn read_problem(bytes: &[u8], left: &mut [u32; TABLE], right: &mut [u32; TABLE]) -> Header
+    ensures { λ r. ⌜ ProblemRead (now (bytes .entry)) (now (left .entry)) (now (right .entry)) r (now (left .exit)) (now (right .exit)) ⌝ }
+{
+    let header = judge_problem(bytes);
+    let Header::Fields(n, m) = header else {
+        return header;
+    };
     read_tables(bytes, n, m, left, right);
     header
 }

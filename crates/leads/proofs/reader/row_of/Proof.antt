@@ -3,7 +3,7 @@ use mathlib.Core.Path.{_≡_}
 use native.Mathlib.Omega.{arith}
 use Rattle.leads.specs.Tables.{leadAt}
 use Rattle.leads.specs.Filling.{RowOf}
-use Rattle.leads.proofs.Tables.{row-none, row-more, row-end, lead-read}
+use Rattle.leads.proofs.Tables.{row-none, row-more, row-end}
 use borrow.Author.Needs.{needs}
 use Rattle.leads.proofs.reader.row_of.Statement.{statement}
 use Rattle.leads.proofs.reader.row_of.Tie as tie
@@ -22,16 +22,15 @@ row-of-spec =
     μ-loop
     (λ c. (omega arith, omega arith, row-none))
     (λ c κs. search needs)
-    (λ c κs. search needs)
     (λ c. search needs)
     (λ c. search needs)
     (λ c. search needs)
     (λ c. search needs)
     (λ c. search needs)
     (λ c.
-    let turn = c .before .before .before .loop in (
+    let turn = c .before .before .loop in (
       omega arith,
       omega arith,
-      row-more (turn .inv .2) (omega arith) (lead-read _ (c .before .word-in .ensures .0) (c .offset-32 .ensures .0) (turn .inv .1)),
+      row-more (turn .inv .2) (omega arith) (rw (turn .inv .1) at (c .lead-in .ensures .0)),
     ))
     (λ c. search row-end))
