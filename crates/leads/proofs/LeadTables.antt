@@ -185,3 +185,11 @@ module _ {s : List ℕ} {n m : ℕ} (l : Laid s n m) where
     pub right-lead-means : tropOf (leadAt s (rightPlace n i j)) ≡ problemOf s .right i j
     unfolding problemOf
     right-lead-means = rw (l .n-is) (lead-means s (rightPlace n i j) (l .bytes))
+
+  -- The leads of row i, which start at a place, are blank or within the limit.
+  module _ (i at j : ℕ) (row : i ≤ m) (place : at ≡ leftPlace n i 0) (column : j ≤ n) where
+    pub left-near-at : Near lead-limit (leadAt s (at + 4 * j))
+    left-near-at = let e : at + 4 * j ≡ leftPlace n i j = omega arith in rw e (left-lead-near i j row column)
+
+    pub right-near-at : Near lead-limit (leadAt s (at + 4 * (n + 1) + 4 * j))
+    right-near-at = let e : at + 4 * (n + 1) + 4 * j ≡ rightPlace n i j = omega arith in rw e (right-lead-near i j row column)

@@ -100,3 +100,7 @@ filled-more {f} {base} {k} {old} {new} {v} h b e = record {
   before = λ i l. set-there new (base + k) i v (λ q. omega arith) ∙ h .before i l;
   cells = one-more k (λ l m. set-there new (base + k) (base + l) v (λ q. omega arith) ∙ h .cells l m) (set-here new (base + k) v b ∙ e);
 }
+
+-- As many elements as were asked.
+pub filled-count : {f : ℕ → ℕ} {base count k : ℕ} {old new : List ℕ} → count ≡ k → Filled f base k old new → Filled f base count old new
+filled-count e h = rw e h

@@ -5,12 +5,16 @@ ghost use Prim.Native.Nat.{ℕ, suc, _+_, _*_, _≤_, _<_};
 ghost use lib.ListN.{length, getD};
 ghost use Rattle.definitions.specs.Limits.{signed-half, lead-limit, span-limit};
 ghost use Rattle.records.specs.Decoded.{Near};
+ghost use Rattle.leads.specs.Tables.{leadAt, leftTable, rightTable, Laid};
 ghost use Rattle.walks.specs.Lists.{Filled};
 ghost use Rattle.walks.specs.Gains.{arc-zero};
 ghost use Rattle.walks.specs.Tables.{Sized, Picked, Trial};
 ghost use Rattle.walks.specs.Arcs.{raisedBy, lift, lift-most, lifted, variableArc, VariableArcs, fall, fall-most, fallen, rowArc, heaviest, RowArcs, Column};
 use crate::sums::larger;
+use leads::reader::lead_in;
+use leads::reader::row_place;
 use reach::ARCS;
+use records::limits::LEAD_BYTES;
 use records::limits::LEAD_LIMIT;
 use records::limits::OFFSET;
 use records::limits::STRIDE;
@@ -52,21 +56,43 @@ fn lifted_by(up: u32, b: u32) -> u32
     }
 }
 
-// The entries from one variable, whose row of the table starts at `from`, by the row that starts at `base`.
-fn fill_lifted(
+// The entries from one variable, whose row of the table starts at `from`, by a row whose right leads start at a place of the
+// bytes.
+fn fill_run(
     arcs: &mut [u32; ARCS],
     from: usize,
-    right: &[u32; TABLE],
-    base: usize,
+    bytes: &[u8],
+    at: usize,
     width: usize,
     up: u32,
 )
-    requires { ⌜ (length (now arcs) ≡ 1024) × (from + width ≤ 1024) × (base + width ≤ 2048) × (up ≤ lift-most) × ((k : ℕ) → Near lead-limit (getD (now right) k 0)) ⌝ }
-    ensures { λ _. ⌜ Filled (λ l. lifted up (getD (now (right .entry)) (base + l) 0)) from width (now (arcs .entry)) (now (arcs .exit)) ⌝ }
+    requires { ⌜ (length (now arcs) ≡ 1024) × (from + width ≤ 1024) × (at + 4 * width ≤ length (now bytes)) × (up ≤ lift-most) × ((l : ℕ) → l < width → Near lead-limit (leadAt (now bytes) (at + 4 * l))) ⌝ }
+    ensures { λ _. ⌜ Filled (λ l. lifted up (leadAt (now (bytes .entry)) (at + 4 * l))) from width (now (arcs .entry)) (now (arcs .exit)) ⌝ }
 {
+    let mut place = at;
     for l in 0..width {
-        arcs[from + l] = lifted_by(up, right[base + l]);
+        arcs[from + l] = lifted_by(up, lead_in(bytes, place));
+        place += LEAD_BYTES;
     }
+}
+
+// The same. Rows of the full width have a call of their own, which is compiled for that length.
+fn fill_lifted(
+    arcs: &mut [u32; ARCS],
+    from: usize,
+    bytes: &[u8],
+    at: usize,
+    width: usize,
+    up: u32,
+)
+    requires { ⌜ (length (now arcs) ≡ 1024) × (from + width ≤ 1024) × (at + 4 * width ≤ length (now bytes)) × (up ≤ lift-most) × ((l : ℕ) → l < width → Near lead-limit (leadAt (now bytes) (at + 4 * l))) ⌝ }
+    ensures { λ _. ⌜ Filled (λ l. lifted up (leadAt (now (bytes .entry)) (at + 4 * l))) from width (now (arcs .entry)) (now (arcs .exit)) ⌝ }
+{
+    if width == STRIDE {
+        fill_run(arcs, from, bytes, at, STRIDE, up);
+        return;
+    }
+    fill_run(arcs, from, bytes, at, width, up);
 }
 
 // No entries from one variable.
@@ -82,16 +108,15 @@ fn fill_none(arcs: &mut [u32; ARCS], from: usize, width: usize)
 // The entries from variable j by the row that it picks.
 fn fill_variable(
     arcs: &mut [u32; ARCS],
-    left: &[u32; TABLE],
-    right: &[u32; TABLE],
+    bytes: &[u8],
     n: usize,
     m: usize,
     t: u64,
     pick: usize,
     j: usize,
 )
-    requires { ⌜ Sized (now left) (now right) n m × Trial t × (length (now arcs) ≡ 1024) × (pick ≤ m + 1) × (j ≤ n) ⌝ }
-    ensures { λ _. ⌜ Filled (variableArc (now (left .entry)) (now (right .entry)) m t pick j) (j * 32) (n + 1) (now (arcs .entry)) (now (arcs .exit)) ⌝ }
+    requires { ⌜ Laid (now bytes) n m × Trial t × (length (now arcs) ≡ 1024) × (pick ≤ m + 1) × (j ≤ n) ⌝ }
+    ensures { λ _. ⌜ Filled (variableArc (leftTable (now (bytes .entry))) (rightTable (now (bytes .entry))) m t pick j) (j * 32) (n + 1) (now (arcs .entry)) (now (arcs .exit)) ⌝ }
 {
     let width = n + 1;
     let from = j * STRIDE;
@@ -100,37 +125,30 @@ fn fill_variable(
         return;
     }
     let i = pick - 1;
-    let base = i * STRIDE;
-    let a = left[base + j];
+    let at = row_place(n, i);
+    let a = lead_in(bytes, at + LEAD_BYTES * j);
     if a == 0 {
         fill_none(arcs, from, width);
         return;
     }
-    fill_lifted(
-        arcs,
-        from,
-        right,
-        base,
-        width,
-        lift_of(a, raise_of(t, m, i)),
-    );
+    let up = lift_of(a, raise_of(t, m, i));
+    fill_lifted(arcs, from, bytes, at + LEAD_BYTES * width, width, up);
 }
 
-// The table of a strategy of variables. Public for `certificates::certify`.
+// The table of a strategy of variables, for a problem as bytes. Public for `certificates::certify`.
 pub fn variable_arcs(
     arcs: &mut [u32; ARCS],
-    left: &[u32; TABLE],
-    right: &[u32; TABLE],
+    bytes: &[u8],
     n: usize,
     m: usize,
     picks: &[u64; 64],
     t: u64,
 )
-    requires { ⌜ Sized (now left) (now right) n m × Trial t × (length (now arcs) ≡ 1024) × Picked (now picks) (m + 1) ⌝ }
-    ensures { λ _. ⌜ VariableArcs (now (left .entry)) (now (right .entry)) m t (now (picks .entry)) (n + 1) (n + 1) (now (arcs .exit)) ⌝ }
+    requires { ⌜ Laid (now bytes) n m × Trial t × (length (now arcs) ≡ 1024) × Picked (now picks) (m + 1) ⌝ }
+    ensures { λ _. ⌜ VariableArcs (leftTable (now (bytes .entry))) (rightTable (now (bytes .entry))) m t (now (picks .entry)) (n + 1) (n + 1) (now (arcs .exit)) ⌝ }
 {
     for j in 0..n + 1 {
-        fill_variable(arcs, left, right, n, m, t, picks[j] as usize, j);
+        fill_variable(arcs, bytes, n, m, t, picks[j] as usize, j);
     }
 }
 

@@ -1,4 +1,5 @@
 use borrow.Author.Needs.{needs}
+use Rattle.leads.proofs.LeadTables.{row-inside, left-near-at, right-near-at}
 use Rattle.walks.proofs.ArcTables.{fill-idle, fill-blank, fill-arcs}
 use Rattle.walks.specs.Arcs.{lift}
 use mathlib.Core.Path.{_≡_, ap, _∙_}
@@ -16,17 +17,31 @@ fill-variable-spec =
     (λ c κs. search needs)
     (λ c. fill-idle _ _ _ _ _ (c .before .before .if1 .taken) (c .fill-none .ensures))
     (λ c. search needs)
-    (λ c. search needs)
-    (λ c. search needs)
-    (λ c. search needs)
-    (λ c. search needs)
     (λ c κs. search needs)
-    (λ c. let e : c .before .before .before .before .before .args .pick ≡ suc (c .before .before .before .before .before .args .pick - 1) = omega arith in
-    fill-blank _ _ _ _ _ e (c .before .before .if2 .taken) (c .fill-none2 .ensures))
-    (λ c κs. search needs)
-    (λ c κs. let start = c .before .before .before .before .before in
-    (start .pre .0 .left-near ((start .args .pick - 1) * 32 + start .args .j), omega (arith, c .before .before .if2 .left), c .raise-of .ensures .1, c .raise-of .ensures .2))
+    (λ c. search needs)
+    (λ c. search needs)
+    (λ c κs. let start = c .before .before .before in
+    omega (arith, row-inside (start .pre .0) (start .args .pick - 1) (omega arith)))
     (λ c κs. search needs)
     (λ c. let start = c .before .before .before .before .before .before .before in
     let e : start .args .pick ≡ suc (start .args .pick - 1) = omega arith in
-    fill-arcs _ _ _ _ _ e (c .before .before .before .before .if2 .left) (c .before .lift-of .ensures .0 ∙ ap (lift _) (c .before .before .raise-of .ensures .0)) (c .fill-lifted .ensures)))
+    fill-blank (start .pre .0) (omega arith) (c .before .before .before .before .row-place .ensures .0) _ e (omega arith) (c .before .before .before .lead-in .ensures .0) (c .before .before .if2 .taken) (c .fill-none2 .ensures))
+    (λ c κs. search needs)
+    (λ c κs. let start = c .before .before .before .before .before .before in
+    let lead = c .before .before .lead-in in
+    let near = left-near-at (start .pre .0) (start .args .pick - 1) (c .before .before .before .row-place .result) (start .args .j) (omega arith) (c .before .before .before .row-place .ensures .0) (omega arith) in
+    (rw (← lead .ensures .0) at near, omega (arith, c .before .if2 .left), c .raise-of .ensures .1, c .raise-of .ensures .2))
+    (λ c. search needs)
+    (λ c. search needs)
+    (λ c κs. let start = c .before .before .before .before .before .before .before .before in
+    let place = c .before .before .before .before .before .row-place in (
+      omega arith,
+      omega arith,
+      omega (arith, row-inside (start .pre .0) (start .args .pick - 1) (omega arith)),
+      omega arith,
+      λ l h. right-near-at (start .pre .0) (start .args .pick - 1) (place .result) l (omega arith) (place .ensures .0) (omega arith),
+    ))
+    (λ c. let start = c .before .before .before .before .before .before .before .before .before in
+    let e : start .args .pick ≡ suc (start .args .pick - 1) = omega arith in
+    fill-arcs (start .pre .0) (omega arith) (c .before .before .before .before .before .before .row-place .ensures .0) _ e (omega arith) (c .before .before .before .before .before .lead-in .ensures .0) (c .before .before .before .before .if2 .left)
+    (c .before .before .lift-of .ensures .0 ∙ ap (lift _) (c .before .before .before .raise-of .ensures .0)) (c .fill-lifted .ensures)))
