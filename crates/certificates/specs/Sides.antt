@@ -1,14 +1,15 @@
 -- One side of a row at a point, on offset numbers. Stamps enter lowered by 2³⁰, so that their sums with coefficients stay
 -- below 2³².
-use Prim.Native.Nat.{ℕ, _+_, _-_, _≤_, _<_}
+use Prim.Native.Nat.{ℕ, zero, suc, _+_, _*_, _-_, _≤_, _<_}
 use mathlib.Core.Path.{_≡_}
 use mathlib.Core.Bool.{cond}
 use mathlib.Core.List.{List}
 use lib.Dec.{eqb}
 use lib.ListN.{length, getD}
-use Rattle.definitions.specs.Limits.{lead-limit, stamp-limit}
+use Rattle.definitions.specs.Limits.{lead-limit, stamp-limit, signed-bytes}
 use Rattle.records.specs.Decoded.{Near}
-use Rattle.walks.specs.Lists.{bestSum}
+use Rattle.leads.specs.Tables.{leadAt}
+use Rattle.walks.specs.Lists.{most}
 
 -- A stamp lowered; blank stays 0.
 abbrev pub stamp-drop : ℕ
@@ -27,16 +28,25 @@ pub record Lowered (stamps : List ℕ) (k : ℕ) (x : List ℕ) : Type 0 where
 abbrev pub side-floor : ℕ
 side-floor = 2684354560
 
+-- The leads from a place of the bytes on.
+abbrev pub run : List ℕ → ℕ → ℕ → ℕ
+run s at l = leadAt s (at + signed-bytes * l)
+
+-- The largest of the floor and the first k sums: a coefficient and an element of x.
+unfoldable pub bestSum : (ℕ → ℕ) → List ℕ → ℕ → ℕ
+bestSum f x zero = side-floor
+bestSum f x (suc k) = most (bestSum f x k) (f k + getD x k 0)
+
 -- The side as an offset number: the largest sum, blank where all sums are.
 abbrev pub sideBy : ℕ → ℕ
 sideBy best = cond (eqb best side-floor) 0 (best - stamp-drop)
 
--- All 32 places count: past the variables the stamps are blank.
-unfoldable pub sideOf : List ℕ → ℕ → List ℕ → ℕ
-sideOf table base x = sideBy (bestSum table base x side-floor 32)
+unfoldable pub sideOf : (ℕ → ℕ) → List ℕ → ℕ → ℕ
+sideOf f x k = sideBy (bestSum f x k)
 
--- A row in range, and lowered stamps not above theirs.
-pub record RowSized (table : List ℕ) (base : ℕ) (x : List ℕ) : Type 0 where
-  pub in-table : base + 32 ≤ length table
-  pub cells : (k : ℕ) → Near lead-limit (getD table k 0)
+-- `count` leads from a place on, inside the bytes and in range, and lowered stamps not above theirs.
+pub record RowSized (s : List ℕ) (at count : ℕ) (x : List ℕ) : Type 0 where
+  pub inside : at + signed-bytes * count ≤ length s
+  pub few : count ≤ 32
+  pub leads : (l : ℕ) → l < count → Near lead-limit (run s at l)
   pub points : (l : ℕ) → getD x l 0 ≤ stamp-drop + stamp-limit

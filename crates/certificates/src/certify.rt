@@ -9,14 +9,19 @@ ghost use Rattle.definitions.specs.Tropical.{fin};
 ghost use Rattle.definitions.specs.Offset.{tropOf};
 ghost use Rattle.definitions.specs.Problem.{Problem};
 ghost use Rattle.definitions.specs.Certificate.{PicksCount, BelowZero, RowPicksCount};
+ghost use Rattle.definitions.specs.ProblemRecord.{problemOf};
 ghost use Rattle.definitions.specs.Verdict.{strategyOf};
 ghost use Rattle.duality.specs.Picks.{AtLeastZero};
+ghost use Rattle.leads.specs.Tables.{leftTable, Laid};
 ghost use Rattle.walks.specs.Decides.{Decides};
 ghost use Rattle.walks.specs.Tables.{Sized, Holds, Picked, Trial};
 ghost use Rattle.certificates.specs.Counts.{PickCounts, RowPickCounts, VariablesCount, Idle, Stands, RowsCount};
+use leads::reader::lead_in;
+use leads::reader::row_place;
 use reach::ARCS;
 use reach::anchor;
 use reach::reach;
+use records::limits::LEAD_BYTES;
 use records::limits::STRIDE;
 use records::limits::TABLE;
 use walks::arcs::row_arcs;
@@ -24,9 +29,9 @@ use walks::arcs::variable_arcs;
 use walks::gains::none_gains;
 
 // A variable that is not marked, or whose pick counts.
-fn variable_counts(left: &[u32; TABLE], mark: u8, pick: usize, j: usize) -> bool
-    requires { ⌜ (pick ≤ 64) × (j < 32) ⌝ }
-    ensures { λ r. ⌜ Decides (0 < mark → PickCounts (now (left .entry)) pick j) r ⌝ }
+fn variable_counts(bytes: &[u8], n: usize, m: usize, mark: u8, pick: usize, j: usize) -> bool
+    requires { ⌜ Laid (now bytes) n m × (pick ≤ m + 1) × (j ≤ n) ⌝ }
+    ensures { λ r. ⌜ Decides (0 < mark → PickCounts (leftTable (now (bytes .entry))) pick j) r ⌝ }
 {
     if mark == 0 {
         return true;
@@ -34,40 +39,33 @@ fn variable_counts(left: &[u32; TABLE], mark: u8, pick: usize, j: usize) -> bool
     if pick == 0 {
         return false;
     }
-    let at = (pick - 1) * STRIDE + j;
-    left[at] != 0
+    let at = row_place(n, pick - 1);
+    lead_in(bytes, at + LEAD_BYTES * j) != 0
 }
 
 // Every marked variable has a pick that counts.
-fn variables_count(left: &[u32; TABLE], picks: &[u64; 64], marks: &[u8; 32], width: usize) -> bool
-    requires { ⌜ Picked (now picks) 64 × (width ≤ 32) ⌝ }
-    ensures { λ r. ⌜ Decides (VariablesCount (now (left .entry)) (now (picks .entry)) (now (marks .entry)) width) r ⌝ }
+fn variables_count(bytes: &[u8], n: usize, m: usize, picks: &[u64; 64], marks: &[u8; 32]) -> bool
+    requires { ⌜ Laid (now bytes) n m × Picked (now picks) (m + 1) ⌝ }
+    ensures { λ r. ⌜ Decides (VariablesCount (leftTable (now (bytes .entry))) (now (picks .entry)) (now (marks .entry)) (n + 1)) r ⌝ }
 {
-    for j in 0..width {
-        if !variable_counts(left, marks[j], picks[j] as usize, j) {
+    for j in 0..n + 1 {
+        if !variable_counts(bytes, n, m, marks[j], picks[j] as usize, j) {
             return false;
         }
     }
     true
 }
 
-// A strategy of variables, judged at t. Public for the checker's `check`.
-pub fn certify_variables(
-    left: &[u32; TABLE],
-    right: &[u32; TABLE],
-    n: usize,
-    m: usize,
-    picks: &[u64; 64],
-    t: u64,
-) -> bool
-    requires { ⌜ Sized (now left) (now right) n m × Trial t × Picked (now picks) (m + 1) ⌝ }
-    ensures { λ r. ⌜ ((p : Problem) (z : ℤ) → Holds p (now (left .entry)) (now (right .entry)) n m → tropOf t ≡ fin z → Decides (PicksCount p (strategyOf (now (picks .entry))) × BelowZero p (strategyOf (now (picks .entry))) z) r) ⌝ }
+// A strategy of variables, judged at t, for a problem as bytes. Public for the checker's `check`.
+pub fn certify_variables(bytes: &[u8], n: usize, m: usize, picks: &[u64; 64], t: u64) -> bool
+    requires { ⌜ Laid (now bytes) n m × Trial t × Picked (now picks) (m + 1) ⌝ }
+    ensures { λ r. ⌜ ((z : ℤ) → tropOf t ≡ fin z → Decides (PicksCount (problemOf (now (bytes .entry))) (strategyOf (now (picks .entry))) × BelowZero (problemOf (now (bytes .entry))) (strategyOf (now (picks .entry))) z) r) ⌝ }
 {
     let width = n + 1;
     let mut arcs = [0u32; ARCS];
-    variable_arcs(&mut arcs, left, right, n, m, picks, t);
+    variable_arcs(&mut arcs, bytes, n, m, picks, t);
     let marks = reach(&arcs, width, anchor());
-    if !variables_count(left, picks, &marks, width) {
+    if !variables_count(bytes, n, m, picks, &marks) {
         return false;
     }
     none_gains(&arcs, &marks, width)

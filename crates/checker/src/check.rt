@@ -6,12 +6,13 @@ ghost use lib.ListN.{length, getD};
 ghost use Rattle.definitions.specs.Limits.{signed-half, span-limit};
 ghost use Rattle.definitions.specs.Tropical.{fin};
 ghost use Rattle.definitions.specs.Offset.{tropOf};
-ghost use Rattle.definitions.specs.Problem.{Problem};
+ghost use Rattle.definitions.specs.ProblemRecord.{problemOf};
 ghost use Rattle.definitions.specs.AnswerRecord.{Answer, highestPick};
-ghost use Rattle.definitions.specs.Certificate.{AcceptedOptimal};
+ghost use Rattle.definitions.specs.Certificate.{AcceptedOptimal, AcceptedUnbounded};
 ghost use Rattle.definitions.specs.Verdict.{Accepted, Judged, strategyOf};
+ghost use Rattle.leads.specs.Tables.{Laid};
 ghost use Rattle.walks.specs.Decides.{Decides};
-ghost use Rattle.walks.specs.Tables.{Sized, Holds, Stamped, Picked, stampsPoint};
+ghost use Rattle.walks.specs.Tables.{Stamped, Picked, stampsPoint};
 ghost use Rattle.checker.specs.Outcome.{verdictOf, answerRefused, Span, Meant, Formed, Answered};
 use answers::answer::AnswerHead;
 use answers::answer::read_answer;
@@ -20,7 +21,8 @@ use certificates::certify::certify_rows;
 use certificates::certify::certify_variables;
 use certificates::point::keeps_rules;
 use certificates::point::value_is;
-use leads::reader::read_problem;
+use leads::reader::judge_problem;
+use leads::reader::read_tables;
 use records::limits::NOT_CERTIFIED;
 use records::limits::OFFSET;
 use records::limits::TABLE;
@@ -36,31 +38,40 @@ pub enum Verdict {
 // Class 1, least: the point keeps the rules, its value is the span, and the picks show that none is smaller: judged at
 // the span less 1.
 fn certify_optimal(
-    left: &[u32; TABLE],
-    right: &[u32; TABLE],
+    problem: &[u8],
     n: usize,
     m: usize,
     stamps: &[u64; 32],
     picks: &[u64; 64],
     span: u64,
 ) -> bool
-    requires { ⌜ Sized (now left) (now right) n m × Stamped (now stamps) × (getD (now stamps) 0 0 ≡ signed-half) × Picked (now picks) (m + 1) × Span span ⌝ }
-    ensures { λ r. ⌜ ((p : Problem) (z : ℤ) → Holds p (now (left .entry)) (now (right .entry)) n m → tropOf span ≡ fin z → Decides (AcceptedOptimal p z (stampsPoint (now (stamps .entry))) (strategyOf (now (picks .entry)))) r) ⌝ }
+    requires { ⌜ Laid (now problem) n m × Stamped (now stamps) × (getD (now stamps) 0 0 ≡ signed-half) × Picked (now picks) (m + 1) × Span span ⌝ }
+    ensures { λ r. ⌜ ((z : ℤ) → tropOf span ≡ fin z → Decides (AcceptedOptimal (problemOf (now (problem .entry))) z (stampsPoint (now (stamps .entry))) (strategyOf (now (picks .entry)))) r) ⌝ }
 {
-    if !keeps_rules(left, right, n, m, stamps) {
+    if !keeps_rules(problem, n, m, stamps) {
         return false;
     }
-    if !value_is(left, right, n, m, stamps, span) {
+    if !value_is(problem, n, m, stamps, span) {
         return false;
     }
-    certify_variables(left, right, n, m, picks, span - 1)
+    certify_variables(problem, n, m, picks, span - 1)
 }
 
-// What document 01 lists for the answer's class holds. Class 2 is judged at the lowest trial, class 3 at the top trial: a
-// closed walk that uses the objective then weighs below zero, or above.
+// Class 2, bottomless: judged at the lowest trial, on tables: a closed walk that uses the objective then weighs below zero.
+fn certify_unbounded(problem: &[u8], n: usize, m: usize, picks: &[u64; 64]) -> bool
+    requires { ⌜ Laid (now problem) n m × Picked (now picks) (n + 1) ⌝ }
+    ensures { λ r. ⌜ Decides (AcceptedUnbounded (problemOf (now (problem .entry))) (strategyOf (now (picks .entry)))) r ⌝ }
+{
+    let mut left = [0u32; TABLE];
+    let mut right = [0u32; TABLE];
+    read_tables(problem, n, m, &mut left, &mut right);
+    certify_rows(&left, &right, n, m, picks, OFFSET - SPAN_LIMIT - 1)
+}
+
+// What document 01 lists for the answer's class holds. Class 3 is judged at the top trial: a closed walk that uses the
+// objective then weighs above zero.
 fn certify(
-    left: &[u32; TABLE],
-    right: &[u32; TABLE],
+    problem: &[u8],
     n: usize,
     m: usize,
     class: u64,
@@ -68,13 +79,13 @@ fn certify(
     stamps: &[u64; 32],
     picks: &[u64; 64],
 ) -> bool
-    requires { ⌜ Sized (now left) (now right) n m × Formed n m class span (now stamps) (now picks) ⌝ }
-    ensures { λ r. ⌜ ((p : Problem) (a : Answer) → Holds p (now (left .entry)) (now (right .entry)) n m → Meant a class span (now (stamps .entry)) (now (picks .entry)) → Decides (Accepted p a) r) ⌝ }
+    requires { ⌜ Laid (now problem) n m × Formed n m class span (now stamps) (now picks) ⌝ }
+    ensures { λ r. ⌜ ((a : Answer) → Meant a class span (now (stamps .entry)) (now (picks .entry)) → Decides (Accepted (problemOf (now (problem .entry))) a) r) ⌝ }
 {
     match class {
-        1 => certify_optimal(left, right, n, m, stamps, picks, span),
-        2 => certify_rows(left, right, n, m, picks, OFFSET - SPAN_LIMIT - 1),
-        3 => certify_variables(left, right, n, m, picks, OFFSET + SPAN_LIMIT),
+        1 => certify_optimal(problem, n, m, stamps, picks, span),
+        2 => certify_unbounded(problem, n, m, picks),
+        3 => certify_variables(problem, n, m, picks, OFFSET + SPAN_LIMIT),
         _ => false,
     }
 }
@@ -89,16 +100,10 @@ pub fn answer_refusal(head: AnswerHead) -> usize
     }
 }
 
-// The verdict on an answer for the problem in the tables.
-fn check_answer(
-    left: &[u32; TABLE],
-    right: &[u32; TABLE],
-    n: usize,
-    m: usize,
-    answer: &[u8],
-) -> Verdict
-    requires { ⌜ Sized (now left) (now right) n m ⌝ }
-    ensures { λ r. ⌜ ((p : Problem) → Holds p (now (left .entry)) (now (right .entry)) n m → Answered p n m (now (answer .entry)) (verdictOf r)) ⌝ }
+// The verdict on an answer for a problem within the layout.
+fn check_answer(problem: &[u8], n: usize, m: usize, answer: &[u8]) -> Verdict
+    requires { ⌜ Laid (now problem) n m ⌝ }
+    ensures { λ r. ⌜ Answered (problemOf (now (problem .entry))) n m (now (answer .entry)) (verdictOf r) ⌝ }
 {
     let mut stamps = [0u64; 32];
     let mut picks = [0u64; 64];
@@ -106,7 +111,7 @@ fn check_answer(
     let AnswerHead::Fields(class, span) = head else {
         return Verdict::Refused(answer_refusal(head));
     };
-    if certify(left, right, n, m, class, span, &stamps, &picks) {
+    if certify(problem, n, m, class, span, &stamps, &picks) {
         return Verdict::Accepted(class, span);
     }
     Verdict::Refused(NOT_CERTIFIED)
@@ -116,11 +121,9 @@ fn check_answer(
 pub fn check(problem: &[u8], answer: &[u8]) -> Verdict
     ensures { λ r. ⌜ Judged (now (problem .entry)) (now (answer .entry)) (verdictOf r) ⌝ }
 {
-    let mut left = [0u32; TABLE];
-    let mut right = [0u32; TABLE];
-    let header = read_problem(problem, &mut left, &mut right);
+    let header = judge_problem(problem);
     let Header::Fields(n, m) = header else {
         return Verdict::Refused(problem_refusal(header));
     };
-    check_answer(&left, &right, n, m, answer)
+    check_answer(problem, n, m, answer)
 }

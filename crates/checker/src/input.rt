@@ -14,11 +14,10 @@ use crate::check::answer_refusal;
 use crate::check::check;
 use answers::answer::AnswerHead;
 use answers::answer::read_answer_header;
-use leads::reader::read_problem;
+use leads::reader::judge_problem;
 use records::bytes::word_at;
 use records::limits::KEPT;
 use records::limits::LENGTH_BYTES;
-use records::limits::TABLE;
 use records::problem::Header;
 use records::problem::problem_refusal;
 use records::problem::read_header;
@@ -64,9 +63,7 @@ fn judge_long(kept: &[u8], size: usize, end: usize) -> Verdict
     let Header::Fields(n, m) = header else {
         return Verdict::Refused(problem_refusal(header));
     };
-    let mut left = [0u32; TABLE];
-    let mut right = [0u32; TABLE];
-    let whole = read_problem(&kept[..end], &mut left, &mut right);
+    let whole = judge_problem(&kept[..end]);
     let Header::Fields(_, _) = whole else {
         return Verdict::Refused(problem_refusal(whole));
     };

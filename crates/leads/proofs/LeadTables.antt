@@ -170,13 +170,6 @@ module _ {s : List ℕ} {n m : ℕ} (l : Laid s n m) where
     right-lead = rw (l .n-is, l .m-is) (getD-listOf (cell (rightPlace n) s n m) 2048 (i * 32 + j) (omega (arith, l .n-most, l .m-most))
         ∙ cell-lead (rightPlace n) s n m i j row column (l .n-most))
 
-    -- They are blank or within the limit.
-    pub left-lead-near : Near lead-limit (leadAt s (leftPlace n i j))
-    left-lead-near = rw left-lead at (left-near s (l .bytes) (l .within) (i * 32 + j))
-
-    pub right-lead-near : Near lead-limit (leadAt s (rightPlace n i j))
-    right-lead-near = rw right-lead at (right-near s (l .bytes) (l .within) (i * 32 + j))
-
     -- They stand for the problem's coefficients.
     pub left-lead-means : tropOf (leadAt s (leftPlace n i j)) ≡ problemOf s .left i j
     unfolding problemOf
@@ -186,10 +179,16 @@ module _ {s : List ℕ} {n m : ℕ} (l : Laid s n m) where
     unfolding problemOf
     right-lead-means = rw (l .n-is) (lead-means s (rightPlace n i j) (l .bytes))
 
-  -- The leads of row i, which start at a place, are blank or within the limit.
+  -- The leads of row i, which start at a place: elements of the tables, blank or within the limit.
   module _ (i at j : ℕ) (row : i ≤ m) (place : at ≡ leftPlace n i 0) (column : j ≤ n) where
+    pub left-lead-at : getD (leftTable s) (i * 32 + j) 0 ≡ leadAt s (at + 4 * j)
+    left-lead-at = let e : at + 4 * j ≡ leftPlace n i j = omega arith in rw e (left-lead i j row column)
+
+    pub right-lead-at : getD (rightTable s) (i * 32 + j) 0 ≡ leadAt s (at + 4 * (n + 1) + 4 * j)
+    right-lead-at = let e : at + 4 * (n + 1) + 4 * j ≡ rightPlace n i j = omega arith in rw e (right-lead i j row column)
+
     pub left-near-at : Near lead-limit (leadAt s (at + 4 * j))
-    left-near-at = let e : at + 4 * j ≡ leftPlace n i j = omega arith in rw e (left-lead-near i j row column)
+    left-near-at = rw left-lead-at at (left-near s (l .bytes) (l .within) (i * 32 + j))
 
     pub right-near-at : Near lead-limit (leadAt s (at + 4 * (n + 1) + 4 * j))
-    right-near-at = let e : at + 4 * (n + 1) + 4 * j ≡ rightPlace n i j = omega arith in rw e (right-lead-near i j row column)
+    right-near-at = rw right-lead-at at (right-near s (l .bytes) (l .within) (i * 32 + j))

@@ -9,9 +9,9 @@ use native.Mathlib.Numerals.{add-one}
 use lib.Dec.{eqb}
 use lib.ListN.{length, getD, set, length-set}
 use borrow.Author.Tests.{eqb-true, eqb-false, eq-eqb, ne-eqb}
-use Rattle.definitions.specs.ProblemRecord.{leftPlace, rightPlace}
+use Rattle.definitions.specs.ProblemRecord.{leftPlace}
 use Rattle.leads.specs.Tables.{leadAt, leftTable, rightTable, Laid}
-use Rattle.leads.proofs.LeadTables.{left-lead, right-lead}
+use Rattle.leads.proofs.LeadTables.{left-lead-at, right-lead-at}
 use Rattle.walks.specs.Lists.{most, Filled}
 use Rattle.walks.specs.Arcs.{raisedBy, lift, lifted, strictArc, variableArc, VariableArcs, fall, fallen, looseArc, rowArc, heaviest, RowArcs, Column}
 use Rattle.walks.proofs.Lists.{most-zero, set-here, set-there, one-more, below-or-last}
@@ -63,27 +63,20 @@ fill-idle left right m t j e h = filled-as (λ l b. rw e (sym (variable-none lef
 
 -- Variable j by row i of a problem as bytes, the row that it picks: the row's leads start at a place.
 module _ {s : List ℕ} {n m : ℕ} (laid : Laid s n m) {i at : ℕ} (row : i ≤ m) (place : at ≡ leftPlace n i 0) where
-  left-is : {j a : ℕ} → j ≤ n → a ≡ leadAt s (at + 4 * j) → getD (leftTable s) (i * 32 + j) 0 ≡ a
-  left-is {j} column lead =
-      let e : at + 4 * j ≡ leftPlace n i j = omega arith in
-      left-lead laid i j row column ∙ sym (rw e at lead)
-
-  right-is : {l : ℕ} → l ≤ n → getD (rightTable s) (i * 32 + l) 0 ≡ leadAt s (at + 4 * (n + 1) + 4 * l)
-  right-is {l} column =
-      let e : at + 4 * (n + 1) + 4 * l ≡ rightPlace n i l = omega arith in
-      rw e (right-lead laid i l row column)
+  left-is : (j : ℕ) {a : ℕ} → j ≤ n → a ≡ leadAt s (at + 4 * j) → getD (leftTable s) (i * 32 + j) 0 ≡ a
+  left-is j column lead = left-lead-at laid i at j row place column ∙ sym lead
 
   module _ (t : ℕ) {j pick a base : ℕ} {old new : List ℕ} (picked : pick ≡ suc i) (column : j ≤ n) (lead : a ≡ leadAt s (at + 4 * j)) where
     -- Its left coefficient is blank.
     pub fill-blank : a ≡ 0 → Filled (λ _. 0) base (n + 1) old new → Filled (variableArc (leftTable s) (rightTable s) m t pick j) base (n + 1) old new
-    fill-blank z h = filled-as (λ l b. rw picked (sym (variable-blank (leftTable s) (rightTable s) m t i j l (left-is column lead ∙ z)))) h
+    fill-blank z h = filled-as (λ l b. rw picked (sym (variable-blank (leftTable s) (rightTable s) m t i j l (left-is j column lead ∙ z)))) h
 
     -- It is whole.
     pub fill-arcs : {up : ℕ} → (a ≡ 0 → ⊥) → up ≡ lift a (raisedBy t m i) → Filled (λ l. lifted up (leadAt s (at + 4 * (n + 1) + 4 * l))) base (n + 1) old new
         → Filled (variableArc (leftTable s) (rightTable s) m t pick j) base (n + 1) old new
     fill-arcs {up} d u h = filled-as
-        (λ l b. rw (picked, u) (sym (variable-lifted (leftTable s) (rightTable s) m t i j l (λ z. d (sym (left-is column lead) ∙ z))
-        ∙ rw (left-is column lead, right-is {l = l} (omega arith)) refl)))
+        (λ l b. rw (picked, u) (sym (variable-lifted (leftTable s) (rightTable s) m t i j l (λ z. d (sym (left-is j column lead) ∙ z))
+        ∙ rw (left-is j column lead, right-lead-at laid i at l row place (omega arith)) refl)))
         h
 
 pub variable-rows-none : (left right : List ℕ) (m t : ℕ) (picks : List ℕ) (width : ℕ) (arcs : List ℕ) → length arcs ≡ 1024

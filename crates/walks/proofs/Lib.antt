@@ -1,4 +1,5 @@
 pub mod Decides
 pub mod Lists
+pub mod Holding
 pub mod ArcTables
 pub mod ClosedWalks

@@ -58,14 +58,7 @@ fn lifted_by(up: u32, b: u32) -> u32
 
 // The entries from one variable, whose row of the table starts at `from`, by a row whose right leads start at a place of the
 // bytes.
-fn fill_run(
-    arcs: &mut [u32; ARCS],
-    from: usize,
-    bytes: &[u8],
-    at: usize,
-    width: usize,
-    up: u32,
-)
+fn fill_run(arcs: &mut [u32; ARCS], from: usize, bytes: &[u8], at: usize, width: usize, up: u32)
     requires { ⌜ (length (now arcs) ≡ 1024) × (from + width ≤ 1024) × (at + 4 * width ≤ length (now bytes)) × (up ≤ lift-most) × ((l : ℕ) → l < width → Near lead-limit (leadAt (now bytes) (at + 4 * l))) ⌝ }
     ensures { λ _. ⌜ Filled (λ l. lifted up (leadAt (now (bytes .entry)) (at + 4 * l))) from width (now (arcs .entry)) (now (arcs .exit)) ⌝ }
 {
@@ -77,14 +70,7 @@ fn fill_run(
 }
 
 // The same. Rows of the full width have a call of their own, which is compiled for that length.
-fn fill_lifted(
-    arcs: &mut [u32; ARCS],
-    from: usize,
-    bytes: &[u8],
-    at: usize,
-    width: usize,
-    up: u32,
-)
+fn fill_lifted(arcs: &mut [u32; ARCS], from: usize, bytes: &[u8], at: usize, width: usize, up: u32)
     requires { ⌜ (length (now arcs) ≡ 1024) × (from + width ≤ 1024) × (at + 4 * width ≤ length (now bytes)) × (up ≤ lift-most) × ((l : ℕ) → l < width → Near lead-limit (leadAt (now bytes) (at + 4 * l))) ⌝ }
     ensures { λ _. ⌜ Filled (λ l. lifted up (leadAt (now (bytes .entry)) (at + 4 * l))) from width (now (arcs .entry)) (now (arcs .exit)) ⌝ }
 {

@@ -1,7 +1,9 @@
 use borrow.Author.Needs.{needs}
+use Rattle.leads.proofs.LeadTables.{row-inside, left-lead-at}
 use Rattle.certificates.proofs.Counting.{pick-none, pick-decides}
 use Rattle.walks.proofs.Decides.{said-yes, said-no}
 use native.Mathlib.Omega.{arith}
+use Prim.Native.Nat.{_-_}
 use Rattle.certificates.proofs.certify.variable_counts.Statement.{statement}
 use Rattle.certificates.proofs.certify.variable_counts.Tie as tie
 
@@ -12,8 +14,11 @@ variable-counts-spec =
     (λ c. said-yes (λ h. absurd (omega arith)))
     (λ c. said-no (pick-none (c .before .if1 .left) (c .if2 .taken)))
     (λ c. search needs)
+    (λ c κs. search needs)
     (λ c. search needs)
     (λ c. search needs)
-    (λ c. search needs)
-    (λ c. search needs)
-    (λ c. pick-decides _ _ (c .before .before .if1 .left) (c .before .if2 .left)))
+    (λ c κs. let start = c .before .before .before .before in
+    omega (arith, row-inside (start .pre .0) (start .args .pick - 1) (omega arith)))
+    (λ c. let start = c .before .before .before .before .before in
+    let e = left-lead-at (start .pre .0) (start .args .pick - 1) (c .before .row-place .result) (start .args .j) (omega arith) (c .before .row-place .ensures .0) (omega arith) in
+    rw (c .lead-in .ensures .0, ← e) (pick-decides _ _ (c .before .before .before .if1 .left) (c .before .before .if2 .left))))
