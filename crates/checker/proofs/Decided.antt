@@ -49,7 +49,7 @@ use Rattle.certificates.proofs.Variables.{variables-table, variables-not, varia
 use Rattle.certificates.proofs.RowStrategy.{rows-table, rows-not, rows-both}
 use Rattle.checker.proofs.Acceptance.{trial-below, optimal-broken, optimal-other, optimal-picks, trial-below-is, top-trial, top-trial-is, lowest-trial, lowest-trial-is, infeasible-at, unbounded-at, by-optimal, by-unbounded, by-infeasible, highest-row, highest-variable, class-other}
 use Rattle.checker.proofs.Answers.{HeadRead, read-means, read-formed}
-use Rattle.checker.proofs.Verdicts.{holds-sized}
+use Rattle.walks.proofs.Holding.{holds-sized}
 use Rattle.leads.proofs.LeadTables.{problem-decoded}
 
 -- P holds or not, with the answer as a Boolean.

@@ -4,7 +4,7 @@ use mathlib.Core.Path.{_≡_, refl, ap, sym, _∙_}
 use mathlib.Core.Bool.{Bool, true, false}
 use mathlib.Core.List.{List}
 use native.Mathlib.Omega.{arith}
-use Rattle.definitions.specs.Bytes.{Bytes, or-else}
+use Rattle.definitions.specs.Bytes.{or-else}
 use Rattle.definitions.specs.Offset.{tropOf}
 use Rattle.definitions.specs.Problem.{Problem}
 use Rattle.definitions.specs.ProblemRecord.{nField, mField, problemRefusal, WithinLayout, problemOf}
@@ -14,29 +14,14 @@ use Rattle.records.specs.declared.problem.Header.{Header}
 use Rattle.records.specs.declared.problem.Header.the-variants as Headers
 use Rattle.answers.specs.declared.answer.AnswerHead.{AnswerHead}
 use Rattle.answers.specs.declared.answer.AnswerHead.the-variants as Heads
-use Rattle.leads.specs.Tables.{leftTable, rightTable, ProblemRead}
 use Rattle.records.specs.ProblemHeader.{headerBy, problemRefused}
 use Rattle.answers.specs.AnswerReading.{headBy, spanNumber, answerReadOf}
-use Rattle.leads.proofs.LeadTables.{problem-decoded}
-use Rattle.walks.specs.Tables.{Sized, Holds}
 use Rattle.checker.specs.Outcome as Outcome
 use Rattle.walks.specs.Decides.{Decides}
 use Rattle.checker.specs.Outcome.{answerRefused, Meant, Answered}
 use Rattle.checker.proofs.Answers.{HeadRead}
 
 -- ---- problems
-
--- Tables that hold a problem are sized for it.
-pub holds-sized : {p : Problem} {left right : List ℕ} {n m : ℕ} → Holds p left right n m → Sized left right n m
-holds-sized h =
-    record {
-      n-most = omega (arith, h .n-is, h .decoded .n-most);
-      m-most = omega (arith, h .m-is, h .decoded .m-most);
-      left-length = h .decoded .left-length;
-      right-length = h .decoded .right-length;
-      left-near = h .decoded .left-near;
-      right-near = h .decoded .right-near;
-    }
 
 -- What reading a problem that is not refused leaves.
 pub record HeaderRead (s : List ℕ) (n m : ℕ) : Type 0 where
@@ -53,15 +38,6 @@ pub header-read : (s : List ℕ) {header : Header} {n m : ℕ} → header ≡ he
 header-read s e f =
     let r = header-fields (problemRefusal s) (nField s) (mField s) (sym e ∙ f) in
     record { none = r .0; n-is = r .1; m-is = r .2 }
-
-pub problem-held : {s left right : List ℕ} {header : Header} {left′ right′ : List ℕ} {n m : ℕ} → Bytes s → ProblemRead s left right header left′ right′
-    → HeaderRead s n m → Holds (problemOf s) left′ right′ n m
-unfolding problemOf
-problem-held {s = s} b r h = record {
-  n-is = sym (h .n-is);
-  m-is = sym (h .m-is);
-  decoded = rw (r .left-read (h .none), r .right-read (h .none)) (problem-decoded s b (h .none));
-}
 
 -- ---- verdicts
 

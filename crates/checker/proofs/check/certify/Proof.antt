@@ -1,5 +1,6 @@
 use borrow.Author.Needs.{needs}
-use Rattle.checker.proofs.Acceptance.{top-trial-is, lowest-trial-is, infeasible-at, unbounded-at, by-optimal, by-unbounded, by-infeasible, highest-row, highest-variable, class-other}
+use Rattle.walks.proofs.Holding.{laid-holds}
+use Rattle.checker.proofs.Acceptance.{top-trial-is, infeasible-at, by-optimal, by-unbounded, by-infeasible, highest-row, highest-variable, class-other}
 use native.Mathlib.Omega.{arith}
 use Rattle.checker.proofs.check.certify.Statement.{statement}
 use Rattle.checker.proofs.check.certify.Tie as tie
@@ -8,21 +9,17 @@ pub certify-spec : {M : Type 1} → statement M
 certify-spec =
     tie.close
     (tie.spec
-    (λ c κs. let f = c .before .pre .1 in
-    let a = c .before .args in
-    (c .before .pre .0, f .stamped, f .anchored (c .match .keys1), rw (highest-row (a .n) (a .m) (a .class) (λ e. omega (arith, c .match .keys1))) at (f .picked), f .whole-span (c .match .keys1)))
+    (λ c κs. let f = c .before .before .pre .1 in
+    let a = c .before .before .args in
+    (c .before .before .pre .0, f .stamped, f .anchored (c .match .keys1), rw (highest-row (a .n) (a .m) (a .class) (λ e. omega (arith, c .match .keys1))) at (f .picked), f .whole-span (c .match .keys1)))
+    (λ c κs. let a = c .before .before .args in
+    (c .before .before .pre .0, rw (highest-variable (a .n) (a .m) (a .class) (c .match .keys2)) at (c .before .before .pre .1 .picked)))
     (λ c. search needs)
-    (λ c. search needs)
-    (λ c κs. let a = c .before .args in
-    (c .before .pre .0, record { some = omega arith; near = record { hi = omega arith; lo = λ _. omega arith } }, rw (highest-variable (a .n) (a .m) (a .class) (c .match .keys2)) at (c .before .pre .1 .picked)))
-    (λ c. search needs)
-    (λ c κs. let a = c .before .args in
-    (c .before .pre .0, record { some = omega arith; near = record { hi = omega arith; lo = λ _. omega arith } }, rw (highest-row (a .n) (a .m) (a .class) (λ e. omega (arith, c .match .keys3))) at (c .before .pre .1 .picked)))
-    (λ c. λ p a h e. by-optimal e (c .before .match .keys1) (c .before .before .pre .1 .whole-span (c .before .match .keys1)) (λ z f. c .certify-optimal .ensures p z h f))
-    (λ c. λ p a h e.
-    let g = c .before .before .args in
-    by-unbounded e (c .before .match .keys2) (unbounded-at h (rw (highest-variable (g .n) (g .m) (g .class) (c .before .match .keys2)) at (c .before .before .pre .1 .picked)) (c .certify-rows .ensures p _ h lowest-trial-is)))
-    (λ c. λ p a h e.
-    let g = c .before .before .args in
-    by-infeasible e (c .before .match .keys3) (infeasible-at h (rw (highest-row (g .n) (g .m) (g .class) (λ k. omega (arith, c .before .match .keys3))) at (c .before .before .pre .1 .picked)) (c .certify-variables .ensures p _ h top-trial-is)))
-    (λ c. λ p a h e. absurd (class-other (c .before .pre .1 .class-known) (c .match .rest .0 .0 .1) (c .match .rest .0 .1) (c .match .rest .1))))
+    (λ c κs. let a = c .before .before .args in
+    (c .before .before .pre .0, record { some = omega arith; near = record { hi = omega arith; lo = λ _. omega arith } }, rw (highest-row (a .n) (a .m) (a .class) (λ e. omega (arith, c .match .keys3))) at (c .before .before .pre .1 .picked)))
+    (λ c. λ a e. by-optimal e (c .before .match .keys1) (c .before .before .before .pre .1 .whole-span (c .before .match .keys1)) (c .certify-optimal .ensures))
+    (λ c. λ a e. by-unbounded e (c .before .match .keys2) (c .certify-unbounded .ensures))
+    (λ c. λ a e.
+    let g = c .before .before .before .args in
+    by-infeasible e (c .before .match .keys3) (infeasible-at (laid-holds (c .before .before .before .pre .0)) (rw (highest-row (g .n) (g .m) (g .class) (λ k. omega (arith, c .before .match .keys3))) at (c .before .before .before .pre .1 .picked)) (c .certify-variables .ensures _ top-trial-is)))
+    (λ c. λ a e. absurd (class-other (c .before .before .pre .1 .class-known) (c .match .rest .0 .0 .1) (c .match .rest .0 .1) (c .match .rest .1))))

@@ -1,4 +1,5 @@
 use borrow.Author.Needs.{needs}
+use Rattle.walks.proofs.Holding.{laid-holds}
 use Rattle.checker.proofs.Acceptance.{optimal-broken, optimal-other, optimal-picks, optimal-at}
 use borrow.Author.Tests.{not-true, not-false}
 use native.Mathlib.Omega.{arith}
@@ -10,11 +11,13 @@ certify-optimal-spec =
     tie.close
     (tie.spec
     (λ c κs. search needs)
-    (λ c. λ p z h e. optimal-broken h _ (c .before .keeps-rules .ensures p h) (not-true _ (c .if1 .taken)))
-    (λ c κs. (c .before .before .pre .0, c .before .before .pre .1, omega (arith, c .before .before .pre .4 .near .hi)))
-    (λ c. λ p z h e. optimal-other h _ (c .before .value-is .ensures p z h e) (not-true _ (c .if2 .taken)))
+    (λ c. λ z e. optimal-broken (laid-holds (c .before .before .before .pre .0)) _ (c .before .keeps-rules .ensures) (not-true _ (c .if1 .taken)))
+    (λ c κs. (c .before .before .before .pre .0, c .before .before .before .pre .1, omega (arith, c .before .before .before .pre .4 .near .hi)))
+    (λ c. λ z e. optimal-other (laid-holds (c .before .before .before .before .before .pre .0)) _ (c .before .value-is .ensures z e) (not-true _ (c .if2 .taken)))
     (λ c. search needs)
     (λ c κs.
-    let s = c .before .before .before .before .pre .4 in
-    (c .before .before .before .before .pre .0, record { some = omega (arith, s .near .lo (s .some)); near = record { hi = omega (arith, s .near .hi); lo = λ h. omega (arith, s .near .lo (s .some)) } }, c .before .before .before .before .pre .3))
-    (λ c. λ p z h e. optimal-picks h _ (c .before .before .before .before .before .pre .2) (c .before .before .before .before .keeps-rules .ensures p h) (not-false _ (c .before .before .before .if1 .left)) (c .before .before .value-is .ensures p z h e) (not-false _ (c .before .if2 .left)) (optimal-at (c .before .before .before .before .before .pre .4) e (λ y f. c .certify-variables .ensures p y h f))))
+    let start = c .before .before .before .before .before in
+    let s = start .pre .4 in
+    (start .pre .0, record { some = omega (arith, s .near .lo (s .some)); near = record { hi = omega (arith, s .near .hi); lo = λ h. omega (arith, s .near .lo (s .some)) } }, start .pre .3))
+    (λ c. λ z e. let start = c .before .before .before .before .before .before in
+    optimal-picks (laid-holds (start .pre .0)) _ (start .pre .2) (c .before .before .before .before .keeps-rules .ensures) (not-false _ (c .before .before .before .if1 .left)) (c .before .before .value-is .ensures z e) (not-false _ (c .before .if2 .left)) (optimal-at (start .pre .4) e (λ y f. c .certify-variables .ensures y f))))

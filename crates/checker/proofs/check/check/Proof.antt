@@ -1,5 +1,6 @@
 use borrow.Author.Needs.{needs}
-use Rattle.checker.proofs.Verdicts.{judged-problem, header-read, problem-held, holds-sized, judged-answer}
+use Rattle.leads.proofs.ReadProblem.{laid}
+use Rattle.checker.proofs.Verdicts.{judged-problem, header-read, judged-answer}
 use Rattle.checker.specs.Outcome.{verdictOf}
 use Rattle.definitions.specs.Bytes.{Bytes}
 use Rattle.checker.proofs.check.check.Statement.{statement}
@@ -7,7 +8,7 @@ use Rattle.checker.proofs.check.check.Tie as tie
 
 returns : tie.Need-returns
 unfolding verdictOf
-returns c = judged-problem _ _ (c .before .before .before .read-problem .ensures .result) (c .before .enum-told .given .1) (c .problem-refusal .ensures)
+returns c = judged-problem _ _ (c .before .before .before .judge-problem .ensures) (c .before .enum-told .given .1) (c .problem-refusal .ensures)
 
 pub check-spec : {M : Type 1} → statement M
 check-spec =
@@ -18,8 +19,6 @@ check-spec =
     (λ c. search needs)
     (λ c κs. search needs)
     returns
-    (λ c κs. let bytes : Bytes (c .before .before .before .before .before .before .before .before .before .before .args .problem .now) = record { byte = λ i. c .before .before .before .before .before .before .before .before .before .shared-slice-known .given i .fits } in
-    holds-sized (problem-held bytes (c .before .before .before .before .before .read-problem .ensures) (header-read _ (c .before .before .before .before .before .read-problem .ensures .result) (c .before .before .before .header .given .1))))
-    (λ c. let bytes : Bytes (c .before .before .before .before .before .before .before .before .before .before .before .args .problem .now) = record { byte = λ i. c .before .before .before .before .before .before .before .before .before .before .shared-slice-known .given i .fits } in
-    let read = header-read _ (c .before .before .before .before .before .before .read-problem .ensures .result) (c .before .before .before .before .header .given .1) in
-    judged-answer _ _ read (c .check-answer .ensures _ (problem-held bytes (c .before .before .before .before .before .before .read-problem .ensures) read))))
+    (λ c κs. let bytes : Bytes (c .before .before .before .before .before .before .args .problem .now) = record { byte = λ i. c .before .before .before .before .before .shared-slice-known .given i .fits } in
+    laid bytes (c .before .before .before .judge-problem .ensures) (c .before .header .given .1))
+    (λ c. judged-answer _ _ (header-read _ (c .before .before .before .before .judge-problem .ensures) (c .before .before .header .given .1)) (c .check-answer .ensures)))

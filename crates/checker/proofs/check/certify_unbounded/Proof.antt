@@ -1,0 +1,32 @@
+use borrow.Author.Needs.{needs}
+use Prim.Native.Nat.{ℕ}
+use mathlib.Core.List.{List}
+use Rattle.definitions.specs.ProblemRecord.{problemOf}
+use Rattle.leads.specs.Tables.{Laid}
+use Rattle.leads.specs.Filling.{Tabled}
+use Rattle.walks.specs.Tables.{Holds}
+use Rattle.leads.proofs.ReadProblem.{laid-framed, left-tabled, right-tabled}
+use Rattle.walks.proofs.Holding.{laid-holds, holds-sized}
+use Rattle.checker.proofs.Acceptance.{lowest-trial-is, unbounded-at}
+use native.Mathlib.Omega.{arith}
+use Rattle.checker.proofs.check.certify_unbounded.Statement.{statement}
+use Rattle.checker.proofs.check.certify_unbounded.Tie as tie
+
+-- Tables that were filled from the bytes of a problem hold it.
+tables-held : {s : List ℕ} {n m : ℕ} {left right : List ℕ} → Laid s n m → Tabled s n m 2048 left right → Holds (problemOf s) left right n m
+tables-held l t = rw (left-tabled l t, right-tabled l t) (laid-holds l)
+
+pub certify-unbounded-spec : {M : Type 1} → statement M
+certify-unbounded-spec =
+    tie.close
+    (tie.spec
+    (λ c. search needs)
+    (λ c. search needs)
+    (λ c κs. laid-framed (c .before .before .before .pre .0) (search needs) (search needs))
+    (λ c. search needs)
+    (λ c. search needs)
+    (λ c κs. let start = c .before .before .before .before .before .before .before .before in
+    (holds-sized (tables-held (start .pre .0) (c .before .before .before .before .read-tables .ensures)), record { some = omega arith; near = record { hi = omega arith; lo = λ _. omega arith } }, start .pre .1))
+    (λ c. let start = c .before .before .before .before .before .before .before .before .before in
+    let held = tables-held (start .pre .0) (c .before .before .before .before .before .read-tables .ensures) in
+    unbounded-at held (start .pre .1) (c .certify-rows .ensures _ _ held lowest-trial-is)))
