@@ -1,17 +1,20 @@
 -- The cascade of refusals 12 and 13, and the answer whose body the reader judges.
-use Prim.Native.Nat.{ℕ, zero, suc, _≤_}
+use Prim.Native.Nat.{ℕ, zero, suc, _+_, _≤_}
 use mathlib.Core.Path.{_≡_, refl, ap₂, sym, _∙_}
 use mathlib.Core.Bool.{Bool, true, false}
 use mathlib.Core.List.{List, [], _∷_, map}
 use native.Mathlib.Omega.{arith}
+use lib.Dec.{eqb}
 use lib.ListN.{length}
-use Rattle.definitions.specs.Limits.{highest-n, highest-m, signed-bytes, signed-full, span-place, answer-header}
+use borrow.Author.Tests.{eqb-true}
+use Rattle.definitions.specs.Limits.{highest-n, highest-m, length-bytes, signed-bytes, signed-full, span-place, answer-kind, answer-header}
 use Rattle.definitions.specs.Bytes.{Bytes, numAt, tropField, tropAt, or-else}
 use Rattle.definitions.specs.Offset.{tropOf, off}
-use Rattle.definitions.specs.AnswerRecord.{Answer, spanFits, stampsFit, picksFit, highestPick, formRefusal, stampCount, pickCount, classField, answerOf, answerHeaderRefusal, answerRefusal}
+use Rattle.definitions.specs.ProblemRecord.{lengthField, kindField, nField}
+use Rattle.definitions.specs.AnswerRecord.{Answer, known-class, answerSize, spanFits, stampsFit, picksFit, highestPick, formRefusal, stampCount, pickCount, classField, answerOf, answerHeaderRefusal, answerRefusal}
 use Rattle.definitions.proofs.Bytes.{numAt-bound, Below, numsAt-below}
 use Rattle.definitions.proofs.Offset.{trop-off}
-use Rattle.definitions.proofs.Refusals.{limits-clause}
+use Rattle.definitions.proofs.Refusals.{limits-clause, enough-clause, equal-clause, both-clause}
 use Rattle.answers.specs.Fields.{Padded, bodyOf, stampsAt, picksAt, stampsOf, picksOf}
 use Rattle.answers.specs.AnswerReading.{spanNumber, headBy, answerHeadOf, answerReadOf, AnswerRead}
 use Rattle.answers.specs.declared.answer.AnswerHead.{AnswerHead}
@@ -76,6 +79,7 @@ pub record HeadRight (s : List ℕ) (n m class span : ℕ) : Type 0 where
   pub span-is : span ≡ spanNumber s
   pub n-most : n ≤ highest-n
   pub m-most : m ≤ highest-m
+  pub size-is : length s ≡ answerSize class n m
 
 -- Fields come from no refusal.
 fields-by : (k class span : ℕ) {c w : ℕ} → Fields c w ≡ headBy k class span → (k ≡ 0) × (c ≡ class) × (w ≡ span)
@@ -94,8 +98,19 @@ pub head-right : (s : List ℕ) (n m : ℕ) {head : AnswerHead} {class span : �
 unfolding answerHeadOf answerHeaderRefusal
 head-right s n m e f =
     let h = fields-by (answerHeaderRefusal s (length s) n m) (classField s) (spanNumber s) (sym f ∙ e) in
-    let l = limits-clause n m _ _ .0 (h .0) in
-    record { header = h .0; class-is = h .1; span-is = h .2; n-most = l .0 .0; m-most = l .0 .1 }
+    let a = limits-clause n m _ _ .0 (h .0) in
+    let b = enough-clause (length s) answer-header _ _ .0 (a .1) in
+    let c = equal-clause (lengthField s + length-bytes) (length s) _ _ .0 (b .1) in
+    let d = both-clause (eqb (kindField s) answer-kind) (known-class (classField s)) _ _ .0 (c .1) in
+    let g = both-clause (eqb (nField s) n) (eqb (length s) (answerSize (classField s) n m)) _ _ .0 (d .1) in
+    record {
+      header = h .0;
+      class-is = h .1;
+      span-is = h .2;
+      n-most = a .0 .0;
+      m-most = a .0 .1;
+      size-is = rw (h .1) (eqb-true (length s) (answerSize (classField s) n m) (g .0 .1));
+    }
 
 -- The header is refused.
 pub read-turned-away : (s : List ℕ) (n m : ℕ) {head : AnswerHead} {k : ℕ} {stamps picks : List ℕ} → head ≡ answerHeadOf s (length s) n m → head ≡ Refused k

@@ -8,18 +8,22 @@ use crate::class::stamp_count;
 use crate::limits::ANSWER_HEADER;
 use crate::limits::STAMP_LIMIT;
 use records::bytes::short_at;
+use records::bytes::short_in;
 use records::bytes::word_at;
+use records::bytes::word_in;
 use records::limits::MOST_INEQUALITIES;
 use records::limits::MOST_VARIABLES;
 use records::limits::OFFSET;
 use records::offset::blank_or_within;
 use records::offset::offset;
+use records::offset::offset_32;
 ghost use mathlib.Core.Path.{_≡_};
 ghost use mathlib.Core.List.{map};
 ghost use Prim.Native.Nat.{_<_, _≤_, _+_, _*_};
+ghost use lib.ListN.{length};
 ghost use Rattle.definitions.specs.Bytes.{numAt};
 ghost use Rattle.definitions.specs.Offset.{tropOf, off};
-ghost use Rattle.definitions.specs.AnswerRecord.{stampsFit, picksFit, formRefusal};
+ghost use Rattle.definitions.specs.AnswerRecord.{answerSize, stampsFit, picksFit, formRefusal};
 ghost use Rattle.answers.specs.Fields.{bodyOf, stampsAt, picksAt, stampFits, Padded};
 ghost use Rattle.answers.specs.AnswerReading.{headerJudged, answerHeadOf, AnswerRead};
 
@@ -94,17 +98,17 @@ pub fn stamp_fits(i: usize, k: u64) -> bool
     }
 }
 
-// The stamp at a place of the bytes.
+// The stamp at a place that lies inside the bytes.
 fn stamp_at(bytes: &[u8], i: usize) -> u64
-    requires { ⌜ i < 64 ⌝ }
+    requires { ⌜ 14 + 4 * i + 4 ≤ length (now bytes) ⌝ }
     ensures { λ r. ⌜ (r ≡ off (numAt 4 (now (bytes .entry)) (14 + 4 * i))) × (r < 4294967296) ⌝ }
 {
-    offset(word_at(bytes, ANSWER_HEADER + 4 * i))
+    offset_32(word_in(bytes, ANSWER_HEADER + 4 * i)) as u64
 }
 
 // The stamps in the bytes have their form.
 fn stamps_fit_at(bytes: &[u8], count: usize) -> bool
-    requires { ⌜ count ≤ 64 ⌝ }
+    requires { ⌜ 14 + 4 * count ≤ length (now bytes) ⌝ }
     ensures { λ r. ⌜ r ≡ stampsFit (map tropOf (stampsAt (now (bytes .entry)) count)) ⌝ }
 {
     let mut i: usize = 0;
@@ -117,17 +121,17 @@ fn stamps_fit_at(bytes: &[u8], count: usize) -> bool
     true
 }
 
-// The pick at a place of the bytes, behind so many stamps.
+// The pick at a place that lies inside the bytes, behind so many stamps.
 fn pick_at(bytes: &[u8], stamps: usize, i: usize) -> u64
-    requires { ⌜ (stamps ≤ 64) × (i < 64) ⌝ }
+    requires { ⌜ 14 + 4 * stamps + 2 * i + 2 ≤ length (now bytes) ⌝ }
     ensures { λ r. ⌜ (r ≡ numAt 2 (now (bytes .entry)) (14 + 4 * stamps + 2 * i)) × (r < 65536) ⌝ }
 {
-    short_at(bytes, ANSWER_HEADER + 4 * stamps + 2 * i)
+    short_in(bytes, ANSWER_HEADER + 4 * stamps + 2 * i)
 }
 
 // No pick in the bytes is above the highest.
 fn picks_fit_at(bytes: &[u8], stamps: usize, count: usize, highest: u64) -> bool
-    requires { ⌜ (stamps ≤ 64) × (count ≤ 64) ⌝ }
+    requires { ⌜ 14 + 4 * stamps + 2 * count ≤ length (now bytes) ⌝ }
     ensures { λ r. ⌜ r ≡ picksFit highest (picksAt (now (bytes .entry)) stamps count) ⌝ }
 {
     let mut i: usize = 0;
@@ -142,7 +146,7 @@ fn picks_fit_at(bytes: &[u8], stamps: usize, count: usize, highest: u64) -> bool
 
 // The first of refusals 12 and 13 that applies to the body of an answer whose header is right, 0 where none does.
 fn judge_body(bytes: &[u8], class: u64, span: u64, n: usize, m: usize) -> usize
-    requires { ⌜ (n ≤ 31) × (m ≤ 63) ⌝ }
+    requires { ⌜ (n ≤ 31) × (m ≤ 63) × (length (now bytes) ≡ answerSize class n m) ⌝ }
     ensures { λ r. ⌜ r ≡ formRefusal (bodyOf (now (bytes .entry)) class span n m) n m ⌝ }
 {
     if !span_fits(class, span) {
@@ -161,7 +165,7 @@ fn judge_body(bytes: &[u8], class: u64, span: u64, n: usize, m: usize) -> usize
 
 // The stamps in the bytes, and 0 behind them.
 fn stamps_from(bytes: &[u8], count: usize) -> [u64; 32]
-    requires { ⌜ count ≤ 32 ⌝ }
+    requires { ⌜ (count ≤ 32) × (14 + 4 * count ≤ length (now bytes)) ⌝ }
     ensures { λ r. ⌜ Padded 32 (stampsAt (now (bytes .entry)) count) r ⌝ }
 {
     let mut out = [0u64; 32];
@@ -175,7 +179,7 @@ fn stamps_from(bytes: &[u8], count: usize) -> [u64; 32]
 
 // The picks in the bytes behind so many stamps, and 0 behind them.
 fn picks_from(bytes: &[u8], stamps: usize, count: usize) -> [u64; 64]
-    requires { ⌜ (stamps ≤ 64) × (count ≤ 64) ⌝ }
+    requires { ⌜ (count ≤ 64) × (14 + 4 * stamps + 2 * count ≤ length (now bytes)) ⌝ }
     ensures { λ r. ⌜ Padded 64 (picksAt (now (bytes .entry)) stamps count) r ⌝ }
 {
     let mut out = [0u64; 64];

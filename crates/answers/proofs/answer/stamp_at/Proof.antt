@@ -1,6 +1,5 @@
 use Rattle.definitions.specs.Offset.{off}
-use mathlib.Core.Path.{ap}
-use mathlib.Core.Path.{_∙_}
+use mathlib.Core.Path.{ap, _∙_}
 use borrow.Author.Needs.{needs}
 use Rattle.answers.proofs.answer.stamp_at.Statement.{statement}
 use Rattle.answers.proofs.answer.stamp_at.Tie as tie
@@ -12,4 +11,5 @@ stamp-at-spec =
     (λ c. search needs)
     (λ c κs. search needs)
     (λ c κs. search needs)
-    (λ c. (c .offset .ensures .0 ∙ ap off (c .before .word-at .ensures .0), c .offset .ensures .1)))
+    (λ c. search needs)
+    (λ c. (c .offset-32 .ensures .0 ∙ ap off (c .before .word-in .ensures .0), c .offset-32 .ensures .1)))
