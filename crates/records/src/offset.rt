@@ -17,7 +17,8 @@ pub fn offset(w: u64) -> u64
     (w % FULL + OFFSET) % FULL
 }
 
-// The same in 32 bits. Public for `leads::reader`.
+// The same in 32 bits. Public for `leads::reader`, `answers::answer`, `trials::values`, `walks::gains`,
+// `certificates::point`.
 pub fn offset_32(w: u32) -> u32
     requires { ⌜ w < signed-full ⌝ }
     ensures { λ r. ⌜ (r ≡ off w) × (r < signed-full) ⌝ }
