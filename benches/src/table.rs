@@ -64,16 +64,15 @@ pub fn print(effort: Effort) {
     println!("All engines agreed on class, span and trials, and both checkers accepted every answer.");
     println!();
     let sets: Vec<(Family, Set)> = FAMILIES.into_iter().map(|family| (family, set(effort, family, 31, 63))).collect();
-    let solve_times = solving(effort, &sets);
-    checking(effort, &sets, &solve_times);
+    solving(effort, &sets);
+    checking(effort, &sets);
     growth(effort);
 }
 
-/// A line a family; the library's times.
-fn solving(effort: Effort, sets: &[(Family, Set)]) -> Vec<f64> {
+/// A line a family.
+fn solving(effort: Effort, sets: &[(Family, Set)]) {
     let names = UNPROVED.map(|(name, _)| name).join("  ");
     println!("solve                        trials  library  {names}  ratio  to halving");
-    let mut times = Vec::new();
     for (family, set) in sets {
         let [(_, a), (_, b), (_, c), (_, d)] = UNPROVED;
         let calls = [library_solves(set), solves(set, a), solves(set, b), solves(set, c), solves(set, d)];
@@ -90,24 +89,23 @@ fn solving(effort: Effort, sets: &[(Family, Set)]) -> Vec<f64> {
             .collect();
         let (name, trials, columns) = (family.name(), set.trials, columns.join("  "));
         println!("{name:<28} {trials:>6.1} {time:>8.1}  {columns}  {ratio:>5.2} {to_halving:>11.2}");
-        times.push(time);
     }
     println!(
         "ratio: the library's time by that of the fastest unproved engine in the line, and of the faster by halving"
     );
     println!();
-    times
 }
 
-fn checking(effort: Effort, sets: &[(Family, Set)], solve_times: &[f64]) {
+/// A line a family; `solve` is measured again, turn about with `check`, so that the part is of one stretch of time.
+fn checking(effort: Effort, sets: &[(Family, Set)]) {
     println!("check                        library  unproved  ratio  part of solve");
-    for ((family, set), solve_time) in sets.iter().zip(solve_times) {
-        let calls = [checks(set, library_accepts), checks(set, unproved_accepts)];
-        let [time, other] = microseconds(effort, set.problems.len(), calls);
-        let (ratio, part) = (time / other, time / solve_time);
+    for (family, set) in sets {
+        let calls = [checks(set, library_accepts), checks(set, unproved_accepts), library_solves(set)];
+        let [time, other, solve] = microseconds(effort, set.problems.len(), calls);
+        let (ratio, part) = (time / other, time / solve);
         println!("{:<28} {time:>7.1} {other:>9.1} {ratio:>6.2} {part:>14.3}", family.name());
     }
-    println!("part of solve: the library's check by the library's solve of the same problem");
+    println!("part of solve: the library's check by the library's solve of the same problems, turn about");
     println!();
 }
 
