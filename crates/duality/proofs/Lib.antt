@@ -3,6 +3,7 @@ pub mod Walks
 pub mod Reach
 pub mod Weak
 pub mod Longest
+pub mod Sweeps
 pub mod Weights
 pub mod Policy
 pub mod Ends

@@ -1,4 +1,4 @@
--- Walks along any arcs: joined, mapped, folded, and made short. A walk of at least N arcs among N variables repeats
+-- Walks along any arcs: joined, mapped, folded, turned round, and made short. A walk of at least N arcs among N variables repeats
 -- one (pigeonhole), so it contains a closed walk of 1 to N arcs; taking it out leaves a walk with the same ends. Where
 -- closed walks gain nothing, every walk has one with the same ends, fewer than N arcs and at least its weight.
 use Prim.Native.Nat.{ℕ, zero, suc, _+_, _≤_, _<_}
@@ -95,6 +95,16 @@ walk-keep P f h (step {j = j} {l = l} {w = w} a p) =
 pub walk-change : {A B : ℕ → ℕ → ℤ → Type 0} → ((j l : ℕ) (w : ℤ) → A j l w → B j l w)
     → {j k n : ℕ} {w : ℤ} → Walk A j k n w → Walk B j k n w
 walk-change f p = walk-keep (λ _. Unit) (λ j l w _ a. (f j l w a, tt)) tt p .0
+
+-- A walk backwards, where an arc has one the other way; a property of variables is carried along.
+pub walk-back : {A B : ℕ → ℕ → ℤ → Type 0} (P : ℕ → Type 0)
+    → ((j l : ℕ) (w : ℤ) → P j → A j l w → B l j w × P l)
+    → {j k n : ℕ} {w : ℤ} → P j → Walk A j k n w → Walk B k j n w
+walk-back P f h stop = stop
+walk-back P f h (step {j = j} {l = l} {n = n} {w = w} {v = v} a p) =
+    let s = f j l w h a in
+    walk-as (omega arith) (omega (whole, plus-read v (w +ℤ pos 0), plus-read w (pos 0), plus-read w v))
+    (walk-append (walk-back P f (s .1) p) (step (s .0) stop))
 
 -- ---- the variables of a walk
 
