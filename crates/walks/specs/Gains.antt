@@ -1,7 +1,6 @@
 -- Closed walks over a table of arcs. An arc stands in the table as 2³¹ plus its weight, 0 is no arc. The weight here is the
 -- table's: 32 w + 1 in classes 1 and 3 and −w in class 2, for document 01's weight w (Arcs), so that in each class a closed
--- walk above zero is one that must not be. The values of the rounds start at 0 and never fall, so they are plain numbers;
--- with an entry added they stay below 2³².
+-- walk above zero is one that must not be.
 use Prim.Native.Nat.{ℕ, suc, _+_, _*_, _≤_, _<_}
 use mathlib.Core.Path.{_≡_}
 use mathlib.Core.Bool.{Bool, true, false, cond}
@@ -13,7 +12,6 @@ use lib.Signed.{_≤ℤ_}
 use Rattle.definitions.specs.Limits.{lead-limit, span-limit, signed-half}
 use Rattle.definitions.specs.Tropical.{Trop, bot, fin}
 use Rattle.definitions.specs.Certificate.{Walk}
-use Rattle.duality.specs.Values.{valueAt}
 use Rattle.duality.specs.Gains.{Entry, Gain}
 
 -- The number in the table of an arc that weighs 0.
@@ -32,7 +30,7 @@ weightOf k = cond (eqb k 0) bot (fin (subℕ k arc-zero))
 unfoldable pub matrix : List ℕ → List ℕ → ℕ → ℕ → Trop
 matrix arcs marks j l = cond (eqb (getD marks j 0) 0) bot (weightOf (getD arcs (j * 32 + l) 0))
 
--- Walks may end anywhere, at 0.
+-- Walks may start and end anywhere, at 0.
 unfoldable pub anywhere : ℕ → Trop
 anywhere j = fin (pos 0)
 
@@ -41,16 +39,6 @@ pub record Table (arcs : List ℕ) (width : ℕ) : Type 0 where
   pub width-most : width ≤ 32
   pub length-is : length arcs ≡ 1024
   pub cells : (j l : ℕ) → j < width → l < width → getD arcs (j * 32 + l) 0 ≤ arc-zero + arc-most
-
--- The values after i rounds, and that the last of these rounds changed something.
-pub record Rounds (arcs marks : List ℕ) (width i : ℕ) (e : List ℕ) : Type 0 where
-  pub length-is : length e ≡ 32
-  pub level : (j : ℕ) → j < width → valueAt (matrix arcs marks) anywhere width i j ≡ fin (pos (getD e j 0))
-  pub small : (j : ℕ) → j < width → getD e j 0 ≤ i * arc-most
-  pub moved :
-      (k : ℕ) → suc k ≡ i
-      → ((j : ℕ) → j < width → valueAt (matrix arcs marks) anywhere width (suc k) j ≡ valueAt (matrix arcs marks) anywhere width k j)
-      → ⊥
 
 -- No closed walk over arcs from marked variables weighs above zero.
 abbrev pub NoneGains : List ℕ → List ℕ → ℕ → Type 0
