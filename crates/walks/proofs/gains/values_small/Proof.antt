@@ -9,8 +9,6 @@ use lib.ListN.{getD}
 use Prim.Native.Nat.{ℕ, _-_, _≤_, _<_}
 use Rattle.walks.proofs.gains.values_small.Statement.{statement}
 use Rattle.walks.proofs.gains.values_small.Tie as tie
-use Rattle.walks.proofs.gains.values_small.Reads as reads
-use Rattle.walks.proofs.gains.values_small.Lts as lts
 
 abbrev Inv-loop : tie.InvT-loop
 Inv-loop f width small₀ j₀ small j = (j ≤ 32) × (width ≤ 32) × Decides ((l : ℕ) → l < j → l < width → getD f l 0 ≤ value-limit) small
@@ -18,54 +16,26 @@ Inv-loop f width small₀ j₀ small j = (j ≤ 32) × (width ≤ 32) × Decides
 abbrev μ-loop : tie.MeasureT-loop
 μ-loop f width small₀ j₀ small j = 32 - j
 
--- src/gains.rt:65:5
-loop-holds : tie.Need-loop-holds Inv-loop μ-loop
-loop-holds c = (omega arith, omega arith, all-none _)
-
--- src/gains.rt:67:16
-mul-if2 : tie.Need-mul-if2 Inv-loop μ-loop
-mul-if2 c = search needs
-
--- src/gains.rt:67:16
-element-copy-out-if2 : tie.Need-element-copy-out-if2 Inv-loop μ-loop
-element-copy-out-if2 c = search needs
-
--- src/gains.rt:65:9
-add-j : tie.Need-add-j Inv-loop μ-loop
-add-j c = search needs
-
--- src/gains.rt:65:5
-loop-less : tie.Need-loop-less Inv-loop μ-loop
-loop-less c = search needs
-
--- src/gains.rt:65:5
-loop-again : tie.Need-loop-again Inv-loop μ-loop
-loop-again c = (
-  omega arith,
-  omega arith,
-  ⊎-elim
-      (λ w. rw (w .3) (all-fails _ _ (λ h. omega (arith, h (w .0 .taken), w .2 .taken))))
-      (λ s. ⊎-elim
-      (λ w. rw (w .3) (all-more _ _ (c .before .before .loop .inv .2) (λ _. w .2 .left)))
-      (λ w. rw (w .1) (all-more _ _ (c .before .before .loop .inv .2) (λ h. absurd (omega (arith, w .0 .left)))))
-      s)
-      (c .if1 .came),
-)
-
--- src/gains.rt:60:1
-returns : tie.Need-returns Inv-loop μ-loop
-returns c = let e : c .before .loop .j ≡ 32 = omega arith in decides-as (λ h l b. h l (omega arith) b) (λ h l _ b. h l b) (c .before .loop .inv .2)
-
 pub values-small-spec : {M : Type 1} → statement M
 values-small-spec =
     tie.close
     (tie.spec
     Inv-loop
     μ-loop
-    loop-holds
-    mul-if2
-    element-copy-out-if2
-    add-j
-    loop-less
-    loop-again
-    returns)
+    (λ c. (omega arith, omega arith, all-none _))
+    (λ c. search needs)
+    (λ c. search needs)
+    (λ c. search needs)
+    (λ c. search needs)
+    (λ c. (
+      omega arith,
+      omega arith,
+      ⊎-elim
+          (λ w. rw (w .3) (all-fails _ _ (λ h. omega (arith, h (w .0 .taken), w .2 .taken))))
+          (λ s. ⊎-elim
+          (λ w. rw (w .3) (all-more _ _ (c .before .before .loop .inv .2) (λ _. w .2 .left)))
+          (λ w. rw (w .1) (all-more _ _ (c .before .before .loop .inv .2) (λ h. absurd (omega (arith, w .0 .left)))))
+          s)
+          (c .if1 .came),
+    ))
+    (λ c. let e : c .before .loop .j ≡ 32 = omega arith in decides-as (λ h l b. h l (omega arith) b) (λ h l _ b. h l b) (c .before .loop .inv .2)))

@@ -8,8 +8,6 @@ use lib.ListN.{getD}
 use Prim.Native.Nat.{ℕ, _-_, _≤_, _<_}
 use Rattle.walks.proofs.sums.values_agree.Statement.{statement}
 use Rattle.walks.proofs.sums.values_agree.Tie as tie
-use Rattle.walks.proofs.sums.values_agree.Reads as reads
-use Rattle.walks.proofs.sums.values_agree.Lts as lts
 
 abbrev Inv-loop : tie.InvT-loop
 Inv-loop a b width agree₀ j₀ agree j = (j ≤ 32) × (width ≤ 32) × Decides ((l : ℕ) → l < j → l < width → getD a l 0 ≡ getD b l 0) agree
@@ -17,64 +15,28 @@ Inv-loop a b width agree₀ j₀ agree j = (j ≤ 32) × (width ≤ 32) × Decid
 abbrev μ-loop : tie.MeasureT-loop
 μ-loop a b width agree₀ j₀ agree j = 32 - j
 
--- src/sums.rt:36:5
-loop-holds : tie.Need-loop-holds Inv-loop μ-loop
-loop-holds c = (omega arith, omega arith, all-none _)
-
--- src/sums.rt:38:16
-mul-if2 : tie.Need-mul-if2 Inv-loop μ-loop
-mul-if2 c = search needs
-
--- src/sums.rt:38:16
-element-copy-out-if2 : tie.Need-element-copy-out-if2 Inv-loop μ-loop
-element-copy-out-if2 c = search needs
-
--- src/sums.rt:38:24
-mul-if2-2 : tie.Need-mul-if2-2 Inv-loop μ-loop
-mul-if2-2 c = search needs
-
--- src/sums.rt:38:24
-element-copy-out-if2-2 : tie.Need-element-copy-out-if2-2 Inv-loop μ-loop
-element-copy-out-if2-2 c = search needs
-
--- src/sums.rt:36:9
-add-j : tie.Need-add-j Inv-loop μ-loop
-add-j c = search needs
-
--- src/sums.rt:36:5
-loop-less : tie.Need-loop-less Inv-loop μ-loop
-loop-less c = search needs
-
--- src/sums.rt:36:5
-loop-again : tie.Need-loop-again Inv-loop μ-loop
-loop-again c = (
-  omega arith,
-  omega arith,
-  ⊎-elim
-      (λ w. rw (w .4) (all-fails _ _ (λ h. w .3 .taken (h (w .0 .taken)))))
-      (λ s. ⊎-elim
-      (λ w. rw (w .4) (all-more _ _ (c .before .before .loop .inv .2) (λ _. w .3 .left)))
-      (λ w. rw (w .1) (all-more _ _ (c .before .before .loop .inv .2) (λ h. absurd (omega (arith, w .0 .left)))))
-      s)
-      (c .if1 .came),
-)
-
--- src/sums.rt:31:1
-returns : tie.Need-returns Inv-loop μ-loop
-returns c = let e : c .before .loop .j ≡ 32 = omega arith in decides-as (λ h l b. h l (omega arith) b) (λ h l _ b. h l b) (c .before .loop .inv .2)
-
 pub values-agree-spec : {M : Type 1} → statement M
 values-agree-spec =
     tie.close
     (tie.spec
     Inv-loop
     μ-loop
-    loop-holds
-    mul-if2
-    element-copy-out-if2
-    mul-if2-2
-    element-copy-out-if2-2
-    add-j
-    loop-less
-    loop-again
-    returns)
+    (λ c. (omega arith, omega arith, all-none _))
+    (λ c. search needs)
+    (λ c. search needs)
+    (λ c. search needs)
+    (λ c. search needs)
+    (λ c. search needs)
+    (λ c. search needs)
+    (λ c. (
+      omega arith,
+      omega arith,
+      ⊎-elim
+          (λ w. rw (w .4) (all-fails _ _ (λ h. w .3 .taken (h (w .0 .taken)))))
+          (λ s. ⊎-elim
+          (λ w. rw (w .4) (all-more _ _ (c .before .before .loop .inv .2) (λ _. w .3 .left)))
+          (λ w. rw (w .1) (all-more _ _ (c .before .before .loop .inv .2) (λ h. absurd (omega (arith, w .0 .left)))))
+          s)
+          (c .if1 .came),
+    ))
+    (λ c. let e : c .before .loop .j ≡ 32 = omega arith in decides-as (λ h l b. h l (omega arith) b) (λ h l _ b. h l b) (c .before .loop .inv .2)))
