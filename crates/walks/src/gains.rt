@@ -56,20 +56,17 @@ fn push_round(arcs: &[u32; ARCS], marks: &[u8; 32], width: usize, f: [u32; 32]) 
     new
 }
 
-// No value is above the limit. All places are looked at, those past the width without effect.
+// No value is above the limit.
 fn values_small(f: &[u32; 32], width: usize) -> bool
     requires { ⌜ width ≤ 32 ⌝ }
     ensures { λ r. ⌜ Decides (Small width (now (f .entry))) r ⌝ }
 {
-    let mut small = true;
-    for j in 0..STRIDE {
-        if j < width {
-            if f[j] > VALUE_LIMIT {
-                small = false;
-            }
+    for j in 0..width {
+        if f[j] > VALUE_LIMIT {
+            return false;
         }
     }
-    small
+    true
 }
 
 // No closed walk from a marked variable weighs above zero: rounds until one changes nothing, at most as many as variables.

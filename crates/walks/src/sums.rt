@@ -4,7 +4,6 @@ ghost use Prim.Native.Nat.{_+_, _≤_, _<_};
 ghost use lib.ListN.{length};
 ghost use Rattle.walks.specs.Decides.{Decides};
 ghost use Rattle.walks.specs.Lists.{most, bestSum, Summable, Agree};
-use records::limits::STRIDE;
 
 // The larger of two numbers. Public for `arcs`.
 pub fn larger(a: u32, b: u32) -> u32
@@ -26,19 +25,15 @@ pub fn best_sum(table: &[u32], base: usize, x: &[u32; 32], width: usize, floor: 
     best
 }
 
-// Two lists of values agree in their first `width` elements. All 32 are looked at, those past the width without effect: a
-// loop of known length has no test of its own. Public for `gains`.
+// Two lists of values agree in their first `width` elements. Public for `gains`.
 pub fn values_agree(a: &[u32; 32], b: &[u32; 32], width: usize) -> bool
     requires { ⌜ width ≤ 32 ⌝ }
     ensures { λ r. ⌜ Decides (Agree (now (a .entry)) (now (b .entry)) width) r ⌝ }
 {
-    let mut agree = true;
-    for j in 0..STRIDE {
-        if j < width {
-            if a[j] != b[j] {
-                agree = false;
-            }
+    for j in 0..width {
+        if a[j] != b[j] {
+            return false;
         }
     }
-    agree
+    true
 }
