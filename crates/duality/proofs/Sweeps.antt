@@ -1,16 +1,15 @@
 -- Longest walks by rounds in place, over any matrix, exits and number N of variables: in a round each variable in turn
 -- raises the others by its arcs, and what it raised counts in the round already. Such a round does at least what a round
--- of Bellman–Ford does, and never exceeds a potential. So where no closed walk gains, N − 1 rounds find the longest walks
--- and the next changes nothing.
+-- of Bellman–Ford does, and never exceeds a potential. So where no closed walk gains, N − 1 rounds find the longest walks.
 use Prim.Native.Nat.{ℕ, zero, suc, _+_, _-_, _≤_, _<_}
 use mathlib.Core.Path.{_≡_, sym, subst}
 use mathlib.Core.Logic.{_⊎_, inl, inr, ⊎-elim}
 use native.Mathlib.Omega.{arith}
 use lib.IntN.{ℤ, pos}
-use Rattle.definitions.specs.Tropical.{Trop, bot, plus, _⊑_, blank-least, larger}
+use Rattle.definitions.specs.Tropical.{Trop, plus, _⊑_, larger}
 use Rattle.definitions.specs.Certificate.{Walk, stop}
 use Rattle.definitions.proofs.Whole.{nat-le-or-lt}
-use Rattle.definitions.proofs.Tropical.{⊑-refl, ⊑-trans, ⊑-of-eq, ⊑-antisym, bot-plus, plus-mono, larger-left, larger-right, larger-least}
+use Rattle.definitions.proofs.Tropical.{⊑-refl, ⊑-trans, plus-mono, larger-left, larger-right, larger-least}
 use Rattle.duality.specs.Values.{valueAt}
 use Rattle.duality.specs.Gains.{Entry, Gain}
 use Rattle.duality.proofs.Walks.{walk-back}
@@ -73,11 +72,11 @@ module _ {W : ℕ → ℕ → Trop} {N k : ℕ} {x y : ℕ → Trop} (s : Swept 
       (λ (q : j < k). ⊑-trans (s .bounds j l q h) (g l h))
       (nat-le-or-lt k j)
 
-  -- A variable without arcs raises nothing.
-  pub swept-skip : ((l : ℕ) → l < N → W l k ≡ bot) → Swept W N (k + 1) x y
-  swept-skip n = record {
+  -- The next variable would raise nothing.
+  pub swept-kept : k < N → ((l : ℕ) → l < N → plus (W l k) (y k) ⊑ y l) → Swept W N (k + 1) x y
+  swept-kept b q = record {
     grows = s .grows;
-    bounds = bounds-more (λ l h. ⊑-refl (y l)) (λ l h. rw (n l h, bot-plus) blank-least);
+    bounds = bounds-more (λ l h. ⊑-refl (y l)) (λ l h. ⊑-trans (plus-mono (⊑-refl (W l k)) (s .grows k b)) (q l h));
     under = s .under;
   }
 
@@ -93,18 +92,17 @@ module _ {W : ℕ → ℕ → Trop} {N k : ℕ} {x y : ℕ → Trop} (s : Swept 
       above : (l : ℕ) → l < N → y l ⊑ z l
       above l h = rw (q l h) (larger-left (y l) _)
 
--- A whole round that changes nothing leaves a potential.
-pub swept-still : {W : ℕ → ℕ → Trop} {N : ℕ} {x y : ℕ → Trop} → Swept W N N x y → ((l : ℕ) → l < N → y l ≡ x l) → Potential W N x
-swept-still s q = record { bounds = λ j l h i. rw (q j h) at (s .bounds l j i h) }
-
 -- ---- rounds
 
+-- The values after k rounds of Bellman–Ford are those after one more.
+abbrev pub Fixed : (ℕ → ℕ → Trop) → (ℕ → Trop) → ℕ → ℕ → Type 0
+Fixed W exits N k = (j : ℕ) → j < N → valueAt W exits N (suc k) j ≡ valueAt W exits N k j
+
 -- The numbers x after i rounds from the exits: at least the values after i rounds of Bellman–Ford, at most any potential
--- that is at least the exits; and the last of these rounds changed something, so the values before it were not fixed.
+-- that is at least the exits.
 pub record Climbed (W : ℕ → ℕ → Trop) (exits : ℕ → Trop) (N i : ℕ) (x : ℕ → Trop) : Type 0 where
   pub lower : (j : ℕ) → j < N → valueAt W exits N i j ⊑ x j
   pub upper : (e : ℕ → Trop) → Potential W N e → ((j : ℕ) → j < N → exits j ⊑ e j) → (j : ℕ) → j < N → x j ⊑ e j
-  pub moved : (k : ℕ) → suc k ≡ i → ((j : ℕ) → j < N → valueAt W exits N (suc k) j ≡ valueAt W exits N k j) → ⊥
 
 module _ (W : ℕ → ℕ → Trop) (exits : ℕ → Trop) (N : ℕ) where
   -- The first n values are fixed from N − 1 rounds on, or a closed walk gains.
@@ -126,42 +124,21 @@ module _ (W : ℕ → ℕ → Trop) (exits : ℕ → Trop) (N : ℕ) where
   -- The start: the exits.
   pub climbed-start : {x : ℕ → Trop} → ((j : ℕ) → j < N → x j ≡ exits j) → Climbed W exits N 0 x
   unfolding valueAt
-  climbed-start q = record {
-    lower = λ j h. rw (q j h) (⊑-refl (exits j));
-    upper = λ e p u j h. rw (q j h) (u j h);
-    moved = λ k e. absurd (omega arith);
-  }
+  climbed-start q = record { lower = λ j h. rw (q j h) (⊑-refl (exits j)); upper = λ e p u j h. rw (q j h) (u j h) }
 
   module _ {i : ℕ} {x : ℕ → Trop} (c : Climbed W exits N i x) where
-    -- Where the values are fixed, at most they are reached.
-    pub climbed-under : (k : ℕ) → ((j : ℕ) → j < N → valueAt W exits N (suc k) j ≡ valueAt W exits N k j)
-        → (j : ℕ) → j < N → x j ⊑ valueAt W exits N k j
+    -- One more round.
+    pub climbed-more : {y : ℕ → Trop} → Swept W N N x y → Climbed W exits N (suc i) y
+    climbed-more {y} s = record {
+      lower = λ j h. round-least W exits N i j
+          (⊑-trans (exit-value W exits N i j) (⊑-trans (c .lower j h) (s .grows j h)))
+          (λ l b. ⊑-trans (plus-mono (⊑-refl (W j l)) (c .lower l b)) (s .bounds l j b h));
+      upper = λ e p u. s .under e p (c .upper e p u);
+    }
+
+    -- Fixed values are not exceeded.
+    pub climbed-under : (k : ℕ) → Fixed W exits N k → (j : ℕ) → j < N → x j ⊑ valueAt W exits N k j
     climbed-under k f = c .upper (valueAt W exits N k) (stable-potential W exits N (still-stable W exits N k f)) (λ j h. exit-value W exits N k j)
-
-    -- A round that changes something.
-    pub climbed-more : {y : ℕ → Trop} → Swept W N N x y → (((j : ℕ) → j < N → y j ≡ x j) → ⊥) → Climbed W exits N (suc i) y
-    climbed-more {y} s d = record { lower = lower; upper = upper; moved = moved }
-      where
-        lower : (j : ℕ) → j < N → valueAt W exits N (suc i) j ⊑ y j
-        lower j h = round-least W exits N i j
-            (⊑-trans (exit-value W exits N i j) (⊑-trans (c .lower j h) (s .grows j h)))
-            (λ l b. ⊑-trans (plus-mono (⊑-refl (W j l)) (c .lower l b)) (s .bounds l j b h))
-
-        upper : (e : ℕ → Trop) → Potential W N e → ((j : ℕ) → j < N → exits j ⊑ e j) → (j : ℕ) → j < N → y j ⊑ e j
-        upper e p u = s .under e p (c .upper e p u)
-
-        moved : (k : ℕ) → suc k ≡ suc i → ((j : ℕ) → j < N → valueAt W exits N (suc k) j ≡ valueAt W exits N k j) → ⊥
-        moved k q f =
-            let e : k ≡ i = omega arith in
-            let g : (j : ℕ) → j < N → valueAt W exits N (suc i) j ≡ valueAt W exits N i j = rw e at f in
-            let top : (j : ℕ) → j < N → y j ⊑ valueAt W exits N i j =
-            s .under (valueAt W exits N i) (stable-potential W exits N (still-stable W exits N i g)) (climbed-under i g) in
-            d (λ j h. ⊑-antisym (⊑-trans (top j h) (c .lower j h)) (s .grows j h))
-
-    -- As many rounds as variables, each with a change: a closed walk gains.
-    pub climbed-end : i ≡ N → 0 < N → SomeGain W N
-    climbed-end q h =
-        ⊎-elim (λ f. absurd (c .moved (i - 1) (omega arith) f)) (λ g. g) (all-fixed-or-gains (i - 1) N (omega arith) (omega arith))
 
     -- A number above all values: a closed walk gains.
     pub climbed-beyond : (b : Trop) → ((j : ℕ) → j < N → valueAt W exits N (N - 1) j ⊑ b) → 0 < N

@@ -1,5 +1,5 @@
--- The closed-walk test: a push of numbers is a push of tropical numbers; a round without change shows that no closed walk
--- weighs above zero; a value above the limit, or as many rounds as variables, each with a change, show a short one that does.
+-- The closed-walk test: fields that are raised are tropical numbers that are raised; a round in which nothing moved shows
+-- that no closed walk weighs above zero; a value above the limit, or more rounds than variables, show a short one that does.
 use Prim.Native.Nat.{ℕ, zero, suc, _+_, _*_, _-_, _%_, _≤_, _<_}
 use mathlib.Core.Path.{_≡_, refl, ap, sym, _∙_}
 use mathlib.Core.Bool.{Bool, true, false, cond, false≢true}
@@ -17,15 +17,15 @@ use Rattle.definitions.specs.Limits.{signed-half, signed-full}
 use Rattle.definitions.specs.Offset.{off}
 use Rattle.definitions.specs.Tropical.{Trop, bot, fin, plus, _⊑_, blank-least, whole-least, larger}
 use Rattle.definitions.proofs.Whole.{whole, subℕ-read, plus-read, nat-le-or-lt}
-use Rattle.definitions.proofs.Tropical.{fin-injective, fin-below, finite-fin, ⊑-refl, ⊑-trans, ⊑-antisym, bot-plus, plus-fin, plus-mono, larger-left, larger-right, larger-least}
+use Rattle.definitions.proofs.Tropical.{fin-below, finite-fin, ⊑-refl, ⊑-trans, ⊑-antisym, bot-plus, plus-fin, plus-mono, larger-left, larger-right, larger-least}
 use Rattle.duality.specs.Values.{valueAt}
 use Rattle.duality.proofs.Longest.{round-least, potential-closed}
-use Rattle.duality.proofs.Sweeps.{SomeGain, entries-back, gain-back, Swept, swept-none, swept-skip, swept-more, swept-still, Climbed, all-fixed-or-gains, climbed-start, climbed-more, climbed-end, climbed-beyond}
-use Rattle.reach.proofs.Marks.{zeros}
-use Rattle.walks.specs.Lists.{most, Agree}
+use Rattle.duality.proofs.Sweeps.{SomeGain, entries-back, gain-back, swept-none, swept-kept, swept-more, Climbed, all-fixed-or-gains, climbed-start, climbed-more, climbed-under, climbed-beyond}
+use Rattle.reach.specs.Marks.{Marked}
+use Rattle.reach.proofs.Marks.{zeros, same-or-not}
 use Rattle.walks.specs.Gains.{arc-zero, arc-most, weightOf, matrix, anywhere, Table, NoneGains, SomeGains, Tested}
-use Rattle.walks.specs.GainRound.{value-limit, Small, Values, endValue, Pushed, backward, level, Pushing, Rounds}
-use Rattle.walks.proofs.Lists.{most-one, set-here, set-there, one-more}
+use Rattle.walks.specs.GainRound.{value-limit, Small, endValue, Pushed, backward, level, Ready, Pushing, Rounds}
+use Rattle.walks.proofs.Lists.{most-one, most-left, set-here, set-there, one-more}
 
 -- ---- weights
 
@@ -166,69 +166,125 @@ module _ (arcs marks : List ℕ) (width : ℕ) (table : Table arcs width) where
   unfolding matrix
   marked j l n = rw (ne-eqb (getD marks j 0) 0 n)
 
-  pub pushing-none : {f : List ℕ} → Values width f → Pushing arcs marks width f 0 f
-  pushing-none {f} v = record {
-    length-is = v .length-is;
-    small = λ l h. omega (arith, v .small l h);
-    swept = swept-none (backward arcs marks) width (level f);
+  pub pushing-none : {values done : List ℕ} → Ready arcs marks width values done → Pushing arcs marks width values done 0 values done false
+  pushing-none {values} r = record {
+    length-is = r .length-is;
+    done-length = r .done-length;
+    small = λ l h. omega (arith, r .small l h);
+    held = r .held;
+    swept = swept-none (backward arcs marks) width (level values);
+    passed = λ j h. absurd (omega arith);
+    others = λ j h. refl;
+    still = λ e j l h. absurd (omega arith);
+    moves = λ e. absurd (false≢true e);
   }
 
-  pub pushing-skip : {f new : List ℕ} {k : ℕ} → Pushing arcs marks width f k new → getD marks k 0 ≡ 0 → Pushing arcs marks width f (k + 1) new
-  pushing-skip {k = k} p z = record {
-    length-is = p .length-is;
-    small = λ l h. omega (arith, p .small l h);
-    swept = swept-skip (p .swept) (λ l h. unmarked k l z);
-  }
+  module _ {values done new pushed : List ℕ} {k : ℕ} {moved : Bool} (p : Pushing arcs marks width values done k new pushed moved) (b : k < width) where
+    -- A variable that would raise nothing.
+    kept : ((l : ℕ) → l < width → plus (matrix arcs marks k l) (level new k) ⊑ level new l)
+        → (Marked marks k → getD values k 0 < getD pushed k 0) → Pushing arcs marks width values done (k + 1) new pushed moved
+    kept q s = record {
+      length-is = p .length-is;
+      done-length = p .done-length;
+      small = λ l h. omega (arith, p .small l h);
+      held = p .held;
+      swept = swept-kept (p .swept) b q;
+      passed = one-more k (p .passed) s;
+      others = λ j h. p .others j (omega arith);
+      still = λ e j l c h. one-more {P = λ j. plus (matrix arcs marks j l) (level new j) ⊑ level new l} k (λ j d. p .still e j l d h) (q l h) j c;
+      moves = p .moves;
+    }
 
-  -- A marked variable raises the values at the ends of its arcs.
-  pub pushing-row : {f old new : List ℕ} {k : ℕ} → Pushing arcs marks width f k old → k < width → (getD marks k 0 ≡ 0 → ⊥)
-      → Pushed arcs (k * 32) (getD old k 0) 32 old new → Pushing arcs marks width f (k + 1) new
-  pushing-row {f} {old} {new} {k} p b n r = record {
-    length-is = r .same ∙ p .length-is;
-    small = λ l h. let m = most-one (getD old l 0) (getD old k 0 + getD arcs (k * 32 + l) 0 - arc-zero) in
-        ⊎-elim (λ q. omega (arith, cell l h, p .small k b, table .cells k l b h)) (λ q. omega (arith, cell l h, p .small l h)) m;
-    swept = swept-more (p .swept) b (λ l h. ap (λ v. fin (pos v)) (cell l h)
-        ∙ end-level (getD old l 0) (getD old k 0) (getD arcs (k * 32 + l) 0) (omega (arith, p .small k b, table .width-most))
-        ∙ ap (λ w. larger (level old l) (plus w (level old k))) (sym (marked k l n)));
-  }
-    where
-      cell : (l : ℕ) → l < width → getD new l 0 ≡ endValue (getD old l 0) (getD old k 0) (getD arcs (k * 32 + l) 0)
+    -- One that is not marked.
+    pub pushing-unmarked : getD marks k 0 ≡ 0 → Pushing arcs marks width values done (k + 1) new pushed moved
+    pushing-unmarked z = kept (λ l h. rw (unmarked k l z, bot-plus) blank-least) (λ m. absurd (omega arith))
+
+    -- One that has raised the ends of its arcs with its value.
+    pub pushing-held : getD new k 0 < getD pushed k 0 → Pushing arcs marks width values done (k + 1) new pushed moved
+    pushing-held c = kept (λ l h. p .held k l (getD new k 0) b h c) (λ m. omega (whole, fin-below (p .swept .grows k b)))
+
+    module _ {more : List ℕ} (n : getD marks k 0 ≡ 0 → ⊥) (r : Pushed arcs (k * 32) (getD new k 0) 32 new more) where
+      -- The values after the push,
+      cell : (l : ℕ) → l < width → getD more l 0 ≡ endValue (getD new l 0) (getD new k 0) (getD arcs (k * 32 + l) 0)
       cell l h = r .cells l (omega (arith, table .width-most)) (omega (arith, p .small l h, table .width-most))
           (omega (arith, p .small k b, table .cells k l b h, table .width-most))
 
+      -- as tropical numbers,
+      raised-level : (l : ℕ) → l < width → level more l ≡ larger (level new l) (plus (matrix arcs marks k l) (level new k))
+      raised-level l h =
+          ap (λ v. fin (pos v)) (cell l h)
+          ∙ end-level (getD new l 0) (getD new k 0) (getD arcs (k * 32 + l) 0) (omega (arith, p .small k b, table .width-most))
+          ∙ ap (λ w. larger (level new l) (plus w (level new k))) (sym (marked k l n))
+
+      -- none of them less than before.
+      rises : (l : ℕ) → l < width → getD new l 0 ≤ getD more l 0
+      rises l h = omega (arith, cell l h, most-left (getD new l 0) (getD new k 0 + getD arcs (k * 32 + l) 0 - arc-zero))
+
+      -- What the variable has raised the ends of its arcs with.
+      row-held : (j l v : ℕ) → j < width → l < width → v < getD (set pushed k (getD new k 0 + 1)) j 0
+          → plus (matrix arcs marks j l) (fin (pos v)) ⊑ level more l
+      row-held j l v c h i = ⊎-elim
+          (λ (e : j ≡ k).
+          let u : v ≤ getD new k 0 = omega (arith, rw (e, set-here pushed k (getD new k 0 + 1) (omega (arith, p .done-length, table .width-most))) at i) in
+          rw (e, raised-level l h) (⊑-trans (plus-mono (⊑-refl (matrix arcs marks k l)) (whole-least (omega whole))) (larger-right (level new l) _)))
+          (λ (e : j ≡ k → ⊥).
+          rw (raised-level l h) (⊑-trans (p .held j l v c h (rw (set-there pushed k j (getD new k 0 + 1) e) at i)) (larger-left (level new l) _)))
+          (same-or-not j k)
+
+      -- A marked variable raises the values at the ends of its arcs.
+      pub pushing-row : getD pushed k 0 ≤ getD new k 0 → Pushing arcs marks width values done (k + 1) more (set pushed k (getD new k 0 + 1)) true
+      pushing-row u = record {
+        length-is = r .same ∙ p .length-is;
+        done-length = length-set pushed k (getD new k 0 + 1) ∙ p .done-length;
+        small = λ l h. let m = most-one (getD new l 0) (getD new k 0 + getD arcs (k * 32 + l) 0 - arc-zero) in
+            ⊎-elim (λ q. omega (arith, cell l h, p .small k b, table .cells k l b h)) (λ q. omega (arith, cell l h, p .small l h)) m;
+        held = row-held;
+        swept = swept-more (p .swept) b raised-level;
+        passed = one-more k
+            (λ j h m. rw (set-there pushed k j (getD new k 0 + 1) (λ e. omega arith)) (p .passed j h m))
+            (λ m. rw (set-here pushed k (getD new k 0 + 1) (omega (arith, p .done-length, table .width-most))) (omega (whole, fin-below (p .swept .grows k b))));
+        others = λ j h. set-there pushed k j (getD new k 0 + 1) (λ e. omega arith) ∙ p .others j (omega arith);
+        still = λ e. absurd (false≢true (sym e));
+        moves = λ e h. omega (arith, h k b (omega arith), p .others k (omega arith), rises k b);
+      }
+
   -- ---- rounds
 
-  same-level : (f new : List ℕ) (j : ℕ) → level new j ≡ level f j → getD f j 0 ≡ getD new j 0
-  same-level f new j e = let q : pos (getD new j 0) ≡ pos (getD f j 0) = fin-injective e in omega whole
-
-  -- Lists that agree stand for the same.
-  agree-level : (f new : List ℕ) → Agree f new width → (j : ℕ) → j < width → level new j ≡ level f j
-  agree-level f new d j b = ap (λ v. fin (pos v)) (sym (d j b))
-
-  pub rounds-start : Rounds arcs marks width 0 (replicate 32 0)
+  pub rounds-start : Rounds arcs marks width 0 (replicate 32 0) (replicate 32 0)
   unfolding anywhere
   rounds-start = record {
-    values = record { length-is = refl; small = λ j b. rw (zeros 32 j) (omega arith) };
+    ready = record {
+      length-is = refl;
+      done-length = refl;
+      small = λ j b. rw (zeros 32 j) (omega arith);
+      held = λ j l v b c h. absurd (omega (arith, zeros 32 j));
+    };
     climbed = climbed-start (backward arcs marks) anywhere width (λ j b. ap (λ k. fin (pos k)) (zeros 32 j));
+    passed = λ k e. absurd (omega arith);
+    moved = λ k e. absurd (omega arith);
   }
 
-  -- A round without change.
-  pub rounds-still : {f new : List ℕ} → Pushing arcs marks width f width new → Agree f new width → NoneGains arcs marks width
-  rounds-still {f} {new} p d j n w b r =
-      potential-closed (swept-still (p .swept) (agree-level f new d)) b (finite-fin (pos (getD f j 0))) (entries-back {W = matrix arcs marks} b r)
+  -- A round in which nothing moved.
+  pub rounds-still : {values done new pushed : List ℕ} {moved : Bool} → Pushing arcs marks width values done width new pushed moved
+      → moved ≡ false → NoneGains arcs marks width
+  rounds-still {new = new} p e j n w b r =
+      potential-closed {e = level new} (record { bounds = λ j l h i. p .still e l j i h }) b (finite-fin (pos (getD new j 0))) (entries-back {W = matrix arcs marks} b r)
 
-  -- A round with a change.
-  next-climbed : {i : ℕ} {f new : List ℕ} → Rounds arcs marks width i f → Pushing arcs marks width f width new
-      → (Agree f new width → ⊥) → Climbed (backward arcs marks) anywhere width (suc i) (level new)
-  next-climbed {f = f} {new = new} r p d =
-      climbed-more (backward arcs marks) anywhere width (r .climbed) (p .swept) (λ q. d (λ j b. same-level f new j (q j b)))
-
-  pub rounds-more : {i : ℕ} {f new : List ℕ} → Rounds arcs marks width i f → Pushing arcs marks width f width new
-      → (Agree f new width → ⊥) → Small width new → Rounds arcs marks width (i + 1) new
-  rounds-more r p d s = record {
-    values = record { length-is = p .length-is; small = s };
-    climbed = rw add-one (next-climbed r p d);
+  -- One in which something did.
+  pub rounds-more : {i : ℕ} {values done new pushed : List ℕ} {moved : Bool} → Rounds arcs marks width i values done
+      → Pushing arcs marks width values done width new pushed moved → moved ≡ true → Small width new → Rounds arcs marks width (i + 1) new pushed
+  rounds-more {i} {values} {done} {new} {pushed} r p t s = record {
+    ready = record { length-is = p .length-is; done-length = p .done-length; small = s; held = p .held };
+    climbed = rw add-one next;
+    passed = λ k e j v b m h.
+        let f : k ≡ i = omega arith in
+        let low : fin (pos v) ⊑ level values j = ⊑-trans (rw f at h) (r .climbed .lower j b) in
+        omega (whole, fin-below low, p .passed j b m);
+    moved = λ k e f. p .moves t (λ j b m. r .passed k (omega arith) j (getD new j 0) b m (climbed-under (backward arcs marks) anywhere width next k f j b));
   }
+    where
+      next : Climbed (backward arcs marks) anywhere width (suc i) (level new)
+      next = climbed-more (backward arcs marks) anywhere width (r .climbed) (p .swept)
 
   -- Some closed walk gains.
   some-gains : SomeGain (backward arcs marks) width → SomeGains arcs marks width
@@ -252,15 +308,17 @@ module _ (arcs marks : List ℕ) (width : ℕ) (table : Table arcs width) where
       more = omega (whole, plus-read (pos arc-most) (pos (i * arc-most)))
 
   -- A value above the limit.
-  pub rounds-beyond : {i : ℕ} {f new : List ℕ} → Rounds arcs marks width i f → Pushing arcs marks width f width new
-      → (Agree f new width → ⊥) → (Small width new → ⊥) → 0 < width → SomeGains arcs marks width
-  rounds-beyond r p d s h = some-gains (climbed-beyond (backward arcs marks) anywhere width (next-climbed r p d) (fin (pos value-limit))
+  pub rounds-beyond : {i : ℕ} {values done new pushed : List ℕ} {moved : Bool} → Rounds arcs marks width i values done
+      → Pushing arcs marks width values done width new pushed moved → (Small width new → ⊥) → 0 < width → SomeGains arcs marks width
+  rounds-beyond r p s h = some-gains (climbed-beyond (backward arcs marks) anywhere width
+      (climbed-more (backward arcs marks) anywhere width (r .climbed) (p .swept)) (fin (pos value-limit))
       (λ j b. ⊑-trans (value-most (width - 1) j b) (whole-least (omega (whole, table .width-most)))) h
       (λ q. s (λ j b. omega (whole, fin-below (q j b)))))
 
-  -- As many rounds as variables, each with a change.
-  pub rounds-end : {i : ℕ} {f : List ℕ} → Rounds arcs marks width i f → i ≡ width → 0 < width → SomeGains arcs marks width
-  rounds-end r q h = some-gains (climbed-end (backward arcs marks) anywhere width (r .climbed) q h)
+  -- More rounds than variables, in each of which something moved.
+  pub rounds-end : {i : ℕ} {values done : List ℕ} → Rounds arcs marks width i values done → i ≡ width + 1 → 0 < width → SomeGains arcs marks width
+  rounds-end r q h = ⊎-elim (λ f. absurd (r .moved (width - 1) (omega arith) f)) some-gains
+      (all-fixed-or-gains (backward arcs marks) anywhere width (width - 1) width (omega arith) (omega arith))
 
   -- Below k every value of the matrix is fixed, or a closed walk gains. For `checker`.
   pub all-or-gain : (i k : ℕ) → k ≤ width → width ≤ suc i

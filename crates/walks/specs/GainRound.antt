@@ -1,14 +1,18 @@
--- The rounds of the closed-walk test, in place: each marked variable in turn raises the values at the ends of its arcs.
+-- The rounds of the closed-walk test, in place: each marked variable in turn raises the values at the ends of its arcs,
+-- unless it did so with the value that it has.
 -- A value is what the heaviest walk found so far weighs that ends there. Values start at 0 and never fall, so they are plain
 -- numbers; none is above a limit where a round starts, so that none wraps in it.
-use Prim.Native.Nat.{ℕ, _+_, _*_, _-_, _≤_, _<_}
+use Prim.Native.Nat.{ℕ, suc, _+_, _*_, _-_, _≤_, _<_}
 use mathlib.Core.Path.{_≡_}
+use mathlib.Core.Bool.{Bool, true, false}
 use mathlib.Core.List.{List}
 use lib.ListN.{length, getD}
 use lib.IntN.{pos}
 use Rattle.definitions.specs.Limits.{signed-full}
-use Rattle.definitions.specs.Tropical.{Trop, fin}
-use Rattle.duality.proofs.Sweeps.{turned, Swept, Climbed}
+use Rattle.definitions.specs.Tropical.{Trop, fin, plus, _⊑_}
+use Rattle.duality.specs.Values.{valueAt}
+use Rattle.duality.proofs.Sweeps.{turned, Swept, Fixed, Climbed}
+use Rattle.reach.specs.Marks.{Marked}
 use Rattle.walks.specs.Lists.{most}
 use Rattle.walks.specs.Gains.{arc-zero, arc-most, matrix, anywhere}
 
@@ -18,12 +22,7 @@ value-limit = 32 * arc-most
 
 -- The first `width` values are within the limit.
 abbrev pub Small : ℕ → List ℕ → Type 0
-Small width f = (l : ℕ) → l < width → getD f l 0 ≤ value-limit
-
--- Values that a round may start from.
-pub record Values (width : ℕ) (f : List ℕ) : Type 0 where
-  pub length-is : length f ≡ 32
-  pub small : Small width f
+Small width values = (l : ℕ) → l < width → getD values l 0 ≤ value-limit
 
 -- The value at the end of an arc: the larger of what it was and, where that is above 0, the start's value with the arc's weight.
 abbrev pub endValue : ℕ → ℕ → ℕ → ℕ
@@ -43,15 +42,37 @@ backward arcs marks = turned (matrix arcs marks)
 
 -- What a place's value stands for.
 abbrev pub level : List ℕ → ℕ → Trop
-level f l = fin (pos (getD f l 0))
+level values l = fin (pos (getD values l 0))
 
--- A round, once the first k variables have had their turn.
-pub record Pushing (arcs marks : List ℕ) (width : ℕ) (old : List ℕ) (k : ℕ) (new : List ℕ) : Type 0 where
+-- What a round may start from: values within the limit, and for each variable that it has raised the ends of its arcs
+-- with every value below `done`.
+pub record Ready (arcs marks : List ℕ) (width : ℕ) (values done : List ℕ) : Type 0 where
+  pub length-is : length values ≡ 32
+  pub done-length : length done ≡ 32
+  pub small : Small width values
+  pub held :
+      (j l v : ℕ) → j < width → l < width → v < getD done j 0 → plus (matrix arcs marks j l) (fin (pos v)) ⊑ level values l
+
+-- A round, once the first k variables have had their turn. Each marked one of them has raised the ends of its arcs with its
+-- value; if nothing moved, with the value that it still has; if something did, a marked variable had not yet.
+pub record Pushing (arcs marks : List ℕ) (width : ℕ) (values done : List ℕ) (k : ℕ) (new pushed : List ℕ) (moved : Bool) : Type 0 where
   pub length-is : length new ≡ 32
+  pub done-length : length pushed ≡ 32
   pub small : (l : ℕ) → l < width → getD new l 0 ≤ value-limit + k * arc-most
-  pub swept : Swept (backward arcs marks) width k (level old) (level new)
+  pub held :
+      (j l v : ℕ) → j < width → l < width → v < getD pushed j 0 → plus (matrix arcs marks j l) (fin (pos v)) ⊑ level new l
+  pub swept : Swept (backward arcs marks) width k (level values) (level new)
+  pub passed : (j : ℕ) → j < k → Marked marks j → getD values j 0 < getD pushed j 0
+  pub others : (j : ℕ) → k ≤ j → getD pushed j 0 ≡ getD done j 0
+  pub still : moved ≡ false → (j l : ℕ) → j < k → l < width → plus (matrix arcs marks j l) (level new j) ⊑ level new l
+  pub moves : moved ≡ true → ((j : ℕ) → j < width → Marked marks j → getD new j 0 < getD done j 0) → ⊥
 
--- The values after i rounds, each of which changed something.
-pub record Rounds (arcs marks : List ℕ) (width i : ℕ) (f : List ℕ) : Type 0 where
-  pub values : Values width f
-  pub climbed : Climbed (backward arcs marks) anywhere width i (level f)
+-- The state after i rounds, in each of which something moved: all values of one round less have been used, and the last
+-- round would not have moved anything had the values been fixed two rounds before.
+pub record Rounds (arcs marks : List ℕ) (width i : ℕ) (values done : List ℕ) : Type 0 where
+  pub ready : Ready arcs marks width values done
+  pub climbed : Climbed (backward arcs marks) anywhere width i (level values)
+  pub passed :
+      (k : ℕ) → suc k ≡ i → (j v : ℕ) → j < width → Marked marks j
+      → fin (pos v) ⊑ valueAt (backward arcs marks) anywhere width k j → v < getD done j 0
+  pub moved : (k : ℕ) → suc (suc k) ≡ i → Fixed (backward arcs marks) anywhere width k → ⊥

@@ -27,7 +27,3 @@ pub record Filled (f : ℕ → ℕ) (base count : ℕ) (old new : List ℕ) : Ty
   pub same : length new ≡ length old
   pub before : (k : ℕ) → k < base → getD new k 0 ≡ getD old k 0
   pub cells : (l : ℕ) → l < count → getD new (base + l) 0 ≡ f l
-
--- Two lists agree in their first `width` elements.
-abbrev pub Agree : List ℕ → List ℕ → ℕ → Type 0
-Agree a b width = (j : ℕ) → j < width → getD a j 0 ≡ getD b j 0

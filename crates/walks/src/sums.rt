@@ -1,9 +1,6 @@
-// The larger of two, the largest of sums, and the test whether two lists of values agree.
+// The larger of two, and the largest of sums.
 ghost use mathlib.Core.Path.{_≡_};
-ghost use Prim.Native.Nat.{_+_, _≤_, _<_};
-ghost use lib.ListN.{length};
-ghost use Rattle.walks.specs.Decides.{Decides};
-ghost use Rattle.walks.specs.Lists.{most, bestSum, Summable, Agree};
+ghost use Rattle.walks.specs.Lists.{most, bestSum, Summable};
 
 // The larger of two numbers. Public for `arcs`.
 pub fn larger(a: u32, b: u32) -> u32
@@ -13,7 +10,7 @@ pub fn larger(a: u32, b: u32) -> u32
 }
 
 // The largest of `floor` and the sums of the table's elements from `base` on with those of x.
-// Public for `gains`, `certificates::point`.
+// Public for `certificates::point`.
 pub fn best_sum(table: &[u32], base: usize, x: &[u32; 32], width: usize, floor: u32) -> u32
     requires { ⌜ Summable (now table) base (now x) width ⌝ }
     ensures { λ r. ⌜ r ≡ bestSum (now (table .entry)) base (now (x .entry)) floor width ⌝ }
@@ -23,17 +20,4 @@ pub fn best_sum(table: &[u32], base: usize, x: &[u32; 32], width: usize, floor: 
         best = larger(best, table[base + l] + x[l]);
     }
     best
-}
-
-// Two lists of values agree in their first `width` elements. Public for `gains`.
-pub fn values_agree(a: &[u32; 32], b: &[u32; 32], width: usize) -> bool
-    requires { ⌜ width ≤ 32 ⌝ }
-    ensures { λ r. ⌜ Decides (Agree (now (a .entry)) (now (b .entry)) width) r ⌝ }
-{
-    for j in 0..width {
-        if a[j] != b[j] {
-            return false;
-        }
-    }
-    true
 }

@@ -1,5 +1,5 @@
 use borrow.Author.Needs.{needs}
-use Rattle.walks.proofs.ClosedWalks.{pushing-none, pushing-skip, pushing-row}
+use Rattle.walks.proofs.ClosedWalks.{pushing-none, pushing-unmarked, pushing-held, pushing-row}
 use Rattle.walks.specs.GainRound.{Pushing}
 use mathlib.Core.Logic.{⊎-elim}
 use mathlib.Core.Path.{_≡_}
@@ -9,10 +9,10 @@ use Rattle.walks.proofs.gains.push_round.Statement.{statement}
 use Rattle.walks.proofs.gains.push_round.Tie as tie
 
 abbrev Inv-loop : tie.InvT-loop
-Inv-loop arcs marks width new₀ j₀ new j = (j ≤ width) × (width ≤ 32) × Pushing arcs marks width new₀ j new
+Inv-loop arcs marks width new₀ pushed₀ moved₀ j₀ new pushed moved j = (j ≤ width) × (width ≤ 32) × Pushing arcs marks width new₀ pushed₀ j new pushed moved
 
 abbrev μ-loop : tie.MeasureT-loop
-μ-loop arcs marks width new₀ j₀ new j = width - j
+μ-loop arcs marks width new₀ pushed₀ moved₀ j₀ new pushed moved j = width - j
 
 pub push-round-spec : {M : Type 1} → statement M
 push-round-spec =
@@ -25,15 +25,25 @@ push-round-spec =
     (λ c. search needs)
     (λ c. search needs)
     (λ c. search needs)
-    (λ c κs. (omega arith, c .before .before .before .loop .inv .2 .length-is))
+    (λ c. search needs)
+    (λ c. search needs)
+    (λ c. search needs)
+    (λ c. search needs)
+    (λ c κs. (omega arith, c .before .before .before .before .loop .inv .2 .length-is))
+    (λ c. omega (arith, c .before .before .before .before .before .loop .inv .2 .small (c .before .before .before .before .before .loop .j) (c .before .before .before .before .loop-test .taken)))
+    (λ c. search needs)
+    (λ c. search needs)
     (λ c. search needs)
     (λ c. search needs)
     (λ c. (
       omega arith,
       omega arith,
       ⊎-elim
-          (λ w. rw (w .2) (pushing-row _ _ _ (c .before .before .before .before .pre .0) (c .before .before .before .loop .inv .2) (omega arith) (w .0 .taken) (w .1 .ensures)))
-          (λ w. rw (w .1) (pushing-skip _ _ _ (c .before .before .before .before .pre .0) (c .before .before .before .loop .inv .2) (w .0 .left)))
+          (λ w. rw (w .3, w .4, w .5) (pushing-row _ _ _ (c .before .before .before .before .pre .0) (c .before .before .before .loop .inv .2) (omega arith) (w .0 .taken) (w .2 .ensures) (w .1 .taken)))
+          (λ s. ⊎-elim
+          (λ w. rw (w .2, w .3, w .4) (pushing-held _ _ _ (c .before .before .before .before .pre .0) (c .before .before .before .loop .inv .2) (omega arith) (w .1 .left)))
+          (λ w. rw (w .1, w .2, w .3) (pushing-unmarked _ _ _ (c .before .before .before .before .pre .0) (c .before .before .before .loop .inv .2) (omega arith) (w .0 .left)))
+          s)
           (c .if1 .came),
     ))
     (λ c. let e : c .before .loop .j ≡ c .before .before .args .width = omega arith in rw e at (c .before .loop .inv .2)))
