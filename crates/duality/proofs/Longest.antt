@@ -13,6 +13,7 @@ use Rattle.definitions.proofs.Whole.{whole, plus-read, nat-le-or-lt, le-or-lt}
 use Rattle.definitions.proofs.Tropical.{blank-or-finite, ⊑-refl, ⊑-trans, ⊑-of-eq, ⊑-antisym, fin-below, finite-above, below-bot, zero-plus, plus-twice, plus-fin, Parts, plus-above, plus-mono, plus-cancel, larger-left, larger-right, larger-one, larger-least, larger-mono, largest-above, largest-least, largest-mono, largest-ext, Attains, largest-at}
 use Rattle.duality.specs.Values.{valueAt}
 use Rattle.duality.specs.Gains.{Entry, Gain}
+use Rattle.duality.specs.Sweeps.{Potential}
 use Rattle.duality.proofs.Walks.{Inside, NoGain, Looped, looped, walk-keep}
 
 -- A walk of at most k arcs from j to an exit, worth at least v.
@@ -25,10 +26,6 @@ pub record Way (W : ℕ → ℕ → Trop) (exits : ℕ → Trop) (N k j : ℕ) (
   pub exit-is : exits end ≡ fin exit
   pub worth : v ≤ℤ (weight +ℤ exit)
   pub walk : Walk (Entry W N) j end arcs weight
-
--- Numbers below N that each arc of the matrix bounds: a potential.
-pub record Potential (W : ℕ → ℕ → Trop) (N : ℕ) (e : ℕ → Trop) : Type 0 where
-  pub bounds : (j l : ℕ) → j < N → l < N → plus (W j l) (e l) ⊑ e j
 
 -- The numbers e are unchanged by a round.
 pub record Stable (W : ℕ → ℕ → Trop) (exits : ℕ → Trop) (N : ℕ) (e : ℕ → Trop) : Type 0 where

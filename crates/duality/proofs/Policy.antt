@@ -13,7 +13,8 @@ use Rattle.definitions.proofs.Whole.{whole, le-or-lt}
 use Rattle.definitions.proofs.Tropical.{blank-or-finite, ⊑-refl, ⊑-trans, ⊑-of-not, zero-plus, plus-twice, plus-mono, plus-cancel-left, largest-above, Attains, largest-attained}
 use Rattle.duality.specs.System.{System, Arc}
 use Rattle.duality.specs.Values.{valueAt, weightBy, exitBy, weights, exits, values, Policy, Switched, Switch}
-use Rattle.duality.proofs.Longest.{entries-end, Potential, potential-walk, Stable, value-under, stable-potential, stable-exit}
+use Rattle.duality.specs.Sweeps.{Potential}
+use Rattle.duality.proofs.Longest.{entries-end, potential-walk, Stable, value-under, stable-potential, stable-exit}
 use Rattle.duality.specs.Gains.{Entry}
 use Rattle.duality.proofs.Weights.{difference-back, weight-picked, exit-picked, entries-arcs, arcs-entries, values-stable}
 

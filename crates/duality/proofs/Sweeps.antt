@@ -12,14 +12,11 @@ use Rattle.definitions.proofs.Whole.{nat-le-or-lt}
 use Rattle.definitions.proofs.Tropical.{⊑-refl, ⊑-trans, plus-mono, larger-left, larger-right, larger-least}
 use Rattle.duality.specs.Values.{valueAt}
 use Rattle.duality.specs.Gains.{Entry, Gain}
+use Rattle.duality.specs.Sweeps.{turned, Potential, Swept, Fixed, Climbed}
 use Rattle.duality.proofs.Walks.{walk-back}
-use Rattle.duality.proofs.Longest.{Potential, entries-end, exit-value, round-least, still-stable, stable-potential, fixed-or-gains}
+use Rattle.duality.proofs.Longest.{entries-end, exit-value, round-least, still-stable, stable-potential, fixed-or-gains}
 
 -- ---- the matrix turned round
-
--- The matrix with each arc the other way.
-abbrev pub turned : (ℕ → ℕ → Trop) → ℕ → ℕ → Trop
-turned W j l = W l j
 
 -- A closed walk of 1 to N arcs above zero, somewhere.
 pub record SomeGain (W : ℕ → ℕ → Trop) (N : ℕ) : Type 0 where
@@ -52,13 +49,6 @@ gain-back {W} {N} s =
     }
 
 -- ---- a round in place
-
--- The numbers x have become y once the first k variables raised the others: none fell, each arc from one of these
--- variables is bounded by the number at its end, and no potential above x is exceeded.
-pub record Swept (W : ℕ → ℕ → Trop) (N k : ℕ) (x y : ℕ → Trop) : Type 0 where
-  pub grows : (l : ℕ) → l < N → x l ⊑ y l
-  pub bounds : (j l : ℕ) → j < k → l < N → plus (W l j) (x j) ⊑ y l
-  pub under : (e : ℕ → Trop) → Potential W N e → ((l : ℕ) → l < N → x l ⊑ e l) → (l : ℕ) → l < N → y l ⊑ e l
 
 pub swept-none : (W : ℕ → ℕ → Trop) (N : ℕ) (x : ℕ → Trop) → Swept W N 0 x x
 swept-none W N x = record { grows = λ l h. ⊑-refl (x l); bounds = λ j l b h. absurd (omega arith); under = λ e p u. u }
@@ -93,16 +83,6 @@ module _ {W : ℕ → ℕ → Trop} {N k : ℕ} {x y : ℕ → Trop} (s : Swept 
       above l h = rw (q l h) (larger-left (y l) _)
 
 -- ---- rounds
-
--- The values after k rounds of Bellman–Ford are those after one more.
-abbrev pub Fixed : (ℕ → ℕ → Trop) → (ℕ → Trop) → ℕ → ℕ → Type 0
-Fixed W exits N k = (j : ℕ) → j < N → valueAt W exits N (suc k) j ≡ valueAt W exits N k j
-
--- The numbers x after i rounds from the exits: at least the values after i rounds of Bellman–Ford, at most any potential
--- that is at least the exits.
-pub record Climbed (W : ℕ → ℕ → Trop) (exits : ℕ → Trop) (N i : ℕ) (x : ℕ → Trop) : Type 0 where
-  pub lower : (j : ℕ) → j < N → valueAt W exits N i j ⊑ x j
-  pub upper : (e : ℕ → Trop) → Potential W N e → ((j : ℕ) → j < N → exits j ⊑ e j) → (j : ℕ) → j < N → x j ⊑ e j
 
 module _ (W : ℕ → ℕ → Trop) (exits : ℕ → Trop) (N : ℕ) where
   -- The first n values are fixed from N − 1 rounds on, or a closed walk gains.

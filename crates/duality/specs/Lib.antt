@@ -6,3 +6,4 @@ pub mod Within
 pub mod Induced
 pub mod Classes
 pub mod Gains
+pub mod Sweeps

@@ -19,8 +19,9 @@ use Rattle.definitions.specs.Tropical.{Trop, bot, fin, plus, _⊑_, blank-least
 use Rattle.definitions.proofs.Whole.{whole, subℕ-read, plus-read, nat-le-or-lt}
 use Rattle.definitions.proofs.Tropical.{fin-below, finite-fin, ⊑-refl, ⊑-trans, ⊑-antisym, bot-plus, plus-fin, plus-mono, larger-left, larger-right, larger-least}
 use Rattle.duality.specs.Values.{valueAt}
+use Rattle.duality.specs.Sweeps.{Climbed}
 use Rattle.duality.proofs.Longest.{round-least, potential-closed}
-use Rattle.duality.proofs.Sweeps.{SomeGain, entries-back, gain-back, swept-none, swept-kept, swept-more, Climbed, all-fixed-or-gains, climbed-start, climbed-more, climbed-under, climbed-beyond}
+use Rattle.duality.proofs.Sweeps.{SomeGain, entries-back, gain-back, swept-none, swept-kept, swept-more, all-fixed-or-gains, climbed-start, climbed-more, climbed-under, climbed-beyond}
 use Rattle.reach.specs.Marks.{Marked}
 use Rattle.reach.proofs.Marks.{zeros, same-or-not}
 use Rattle.walks.specs.Gains.{arc-zero, arc-most, weightOf, matrix, anywhere, Table, NoneGains, SomeGains, Tested}

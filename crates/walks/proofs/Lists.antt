@@ -1,17 +1,16 @@
--- Laws of the lists that loops leave: sums, places filled one after another, lists that agree.
-use Prim.Native.Nat.{ℕ, zero, suc, _+_, _≤_, _<_}
+-- Laws of the lists that loops leave: the larger of two, places filled one after another.
+use Prim.Native.Nat.{ℕ, _+_, _≤_, _<_}
 use mathlib.Core.Path.{_≡_, refl, sym, subst, _∙_}
 use mathlib.Core.Bool.{Bool, true, false, cond}
 use mathlib.Core.List.{List}
 use mathlib.Core.Logic.{_⊎_, inl, inr, ⊎-elim}
 use native.Mathlib.Omega.{arith}
-use native.Mathlib.Numerals.{add-one}
 use lib.Dec.{leb}
 use lib.ListN.{length, getD, set, length-set}
 use lib.Seq.{getD-set-same, getD-set-other}
 use borrow.Author.Tests.{leb-true, leb-false}
 use Rattle.definitions.proofs.Whole.{nat-le-or-lt}
-use Rattle.walks.specs.Lists.{most, bestSum, Filled}
+use Rattle.walks.specs.Lists.{most, Filled}
 
 -- ---- the larger of two
 
@@ -32,46 +31,6 @@ most-right a b = ⊎-elim (λ h. omega arith) (λ h. omega arith) (most-one a b)
 
 pub most-zero : (a : ℕ) → most a 0 ≡ a
 most-zero a = ⊎-elim (λ h. omega arith) (λ h. omega arith) (most-one a 0)
-
--- ---- sums
-
-module _ (table : List ℕ) (base : ℕ) (x : List ℕ) (floor : ℕ) where
-  pub best-none : bestSum table base x floor 0 ≡ floor
-  unfolding bestSum
-  best-none = refl
-
-  pub best-more : (k : ℕ) → bestSum table base x floor (k + 1) ≡ most (bestSum table base x floor k) (getD table (base + k) 0 + getD x k 0)
-  unfolding bestSum
-  best-more k = rw add-one
-
-  -- The largest is at least the floor.
-  pub best-floor : (k : ℕ) → floor ≤ bestSum table base x floor k
-  unfolding bestSum
-  best-floor zero = omega arith
-  best-floor (suc k) = omega (arith, best-floor k, most-left (bestSum table base x floor k) (getD table (base + k) 0 + getD x k 0))
-
-  -- It is at most what the floor and all sums are.
-  pub best-under : (k bound : ℕ) → floor ≤ bound → ((l : ℕ) → l < k → getD table (base + l) 0 + getD x l 0 ≤ bound)
-      → bestSum table base x floor k ≤ bound
-  unfolding bestSum
-  best-under zero bound f h = f
-  best-under (suc k) bound f h =
-      let i : bestSum table base x floor k ≤ bound = best-under k bound f (λ l b. h l (omega arith)) in
-      let j : getD table (base + k) 0 + getD x k 0 ≤ bound = h k (omega arith) in
-      ⊎-elim (λ q. omega arith) (λ q. omega arith) (most-one (bestSum table base x floor k) (getD table (base + k) 0 + getD x k 0))
-
-  -- Sums that are at most the floor change nothing.
-  pub best-past : (w k : ℕ) → w ≤ k → ((l : ℕ) → w ≤ l → getD table (base + l) 0 + getD x l 0 ≤ floor) → bestSum table base x floor k ≡ bestSum table base x floor w
-  unfolding bestSum
-  best-past w zero b h = let e : w ≡ 0 = omega arith in rw e refl
-  best-past w (suc k) b h = ⊎-elim
-      (λ (q : suc k ≤ w). let e : w ≡ suc k = omega arith in rw e refl)
-      (λ (q : w < suc k).
-      let i = best-past w k (omega arith) h in
-      let f = best-floor k in
-      let s = h k (omega arith) in
-      ⊎-elim (λ r. omega arith) (λ r. omega arith) (most-one (bestSum table base x floor k) (getD table (base + k) 0 + getD x k 0)))
-      (nat-le-or-lt (suc k) w)
 
 -- ---- places filled
 

@@ -11,7 +11,7 @@ use lib.IntN.{pos}
 use Rattle.definitions.specs.Limits.{signed-full}
 use Rattle.definitions.specs.Tropical.{Trop, fin, plus, _⊑_}
 use Rattle.duality.specs.Values.{valueAt}
-use Rattle.duality.proofs.Sweeps.{turned, Swept, Fixed, Climbed}
+use Rattle.duality.specs.Sweeps.{turned, Swept, Fixed, Climbed}
 use Rattle.reach.specs.Marks.{Marked}
 use Rattle.walks.specs.Lists.{most}
 use Rattle.walks.specs.Gains.{arc-zero, arc-most, matrix, anywhere}

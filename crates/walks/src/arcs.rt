@@ -6,11 +6,10 @@ ghost use lib.ListN.{length, getD};
 ghost use Rattle.definitions.specs.Limits.{signed-half, lead-limit, span-limit};
 ghost use Rattle.records.specs.Decoded.{Near};
 ghost use Rattle.leads.specs.Tables.{leadAt, leftTable, rightTable, Laid};
-ghost use Rattle.walks.specs.Lists.{Filled};
+ghost use Rattle.walks.specs.Lists.{most, Filled};
 ghost use Rattle.walks.specs.Gains.{arc-zero};
 ghost use Rattle.walks.specs.Tables.{Sized, Picked, Trial};
 ghost use Rattle.walks.specs.Arcs.{raisedBy, lift, lift-most, lifted, variableArc, VariableArcs, fall, fall-most, fallen, rowArc, heaviest, RowArcs, Column};
-use crate::sums::larger;
 use leads::reader::lead_in;
 use leads::reader::row_place;
 use reach::ARCS;
@@ -19,9 +18,6 @@ use records::limits::LEAD_LIMIT;
 use records::limits::OFFSET;
 use records::limits::STRIDE;
 use records::limits::TABLE;
-
-// The number in the table of an arc that weighs 0.
-pub const ARC_ZERO: u32 = 2147483648;
 
 // The offset number of the least lead.
 const LEAST_LEAD: u32 = 2147473568;
@@ -154,6 +150,13 @@ fn fallen_by(down: u32, a: u32) -> u32
     ensures { λ r. ⌜ r ≡ fallen down a ⌝ }
 {
     if a == 0 { 0 } else { down + (a - LEAST_LEAD) }
+}
+
+// The larger of two numbers.
+fn larger(a: u32, b: u32) -> u32
+    ensures { λ r. ⌜ r ≡ most a b ⌝ }
+{
+    if a <= b { b } else { a }
 }
 
 // The entries by one row, whose left coefficients start at `base`, to variable l: each where it is the heaviest so far.

@@ -1,4 +1,3 @@
 // The arcs of a strategy as a table, and the test of its closed walks. Document 01, "The checker".
 pub mod arcs;
 pub mod gains;
-pub mod sums;

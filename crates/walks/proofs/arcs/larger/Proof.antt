@@ -1,7 +1,7 @@
 use borrow.Author.Tests.{le-leb, lt-leb}
 use Rattle.walks.specs.Lists.{most}
-use Rattle.walks.proofs.sums.larger.Statement.{statement}
-use Rattle.walks.proofs.sums.larger.Tie as tie
+use Rattle.walks.proofs.arcs.larger.Statement.{statement}
+use Rattle.walks.proofs.arcs.larger.Tie as tie
 
 returns : tie.Need-returns
 unfolding most
