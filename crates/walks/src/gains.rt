@@ -33,58 +33,42 @@ fn end_value(was: u32, by: u32, arc: u32) -> u32
     later(was, wrapping_add_u32(offset_32(by), arc))
 }
 
-// The values, raised by the arcs from `base` on of a variable with the value `by`. All places are raised, whatever the
+// The values are raised by the arcs from `base` on of a variable with the value `by`. All places are raised, whatever the
 // width: a loop of known length is several times as fast, and values past the width say nothing.
-fn push(arcs: &[u32; ARCS], base: usize, values: [u32; 32], by: u32) -> [u32; 32]
-    requires { ⌜ (base + 32 ≤ 1024) × (length values ≡ 32) ⌝ }
-    ensures { λ r. ⌜ Pushed (now (arcs .entry)) base by 32 values r ⌝ }
+fn push(arcs: &[u32; ARCS], base: usize, by: u32, values: &mut [u32; 32])
+    requires { ⌜ (base + 32 ≤ 1024) × (length (now values) ≡ 32) ⌝ }
+    ensures { λ _. ⌜ Pushed (now (arcs .entry)) base by 32 (now (values .entry)) (now (values .exit)) ⌝ }
 {
-    let mut new = values;
     for l in 0..STRIDE {
-        new[l] = end_value(new[l], by, arcs[base + l]);
+        values[l] = end_value(values[l], by, arcs[base + l]);
     }
-    new
 }
 
-// Values, for each variable one more than the value with which it last raised others (0 for none), and whether one did in a
-// round.
-pub struct Pushes {
-    pub values: [u32; 32],
-    pub done: [u32; 32],
-    pub moved: bool,
-}
-
-// A round: each marked variable raises the values at the ends of its arcs, unless it has done so with this value. Values of
-// this round count in it already.
+// A round: each marked variable raises the values at the ends of its arcs, unless it has done so with this value; `done` has
+// for each variable one more than the value with which it last did, 0 for none. Values of this round count in it already.
+// The result says whether one raised others.
 fn push_round(
     arcs: &[u32; ARCS],
     marks: &[u8; 32],
     width: usize,
-    values: [u32; 32],
-    done: [u32; 32],
-) -> Pushes
-    requires { ⌜ Table (now arcs) width × Flags (now marks) × Ready (now arcs) (now marks) width values done ⌝ }
-    ensures { λ r. ⌜ Pushing (now (arcs .entry)) (now (marks .entry)) width values done width (r .values) (r .done) (r .moved) ⌝ }
+    values: &mut [u32; 32],
+    done: &mut [u32; 32],
+) -> bool
+    requires { ⌜ Table (now arcs) width × Flags (now marks) × Ready (now arcs) (now marks) width (now values) (now done) ⌝ }
+    ensures { λ r. ⌜ Pushing (now (arcs .entry)) (now (marks .entry)) width (now (values .entry)) (now (done .entry)) width (now (values .exit)) (now (done .exit)) r ⌝ }
 {
-    let mut new = values;
-    let mut pushed = done;
     let mut moved = false;
     for j in 0..width {
         if marks[j] != 0 {
-            if pushed[j] <= new[j] {
-                let by = new[j];
-                let more = push(arcs, j * STRIDE, new, by);
-                new = more;
-                pushed[j] = by + 1;
+            let by = values[j];
+            if done[j] <= by {
+                push(arcs, j * STRIDE, by, values);
+                done[j] = by + 1;
                 moved = true;
             }
         }
     }
-    Pushes {
-        values: new,
-        done: pushed,
-        moved,
-    }
+    moved
 }
 
 // No value is above the limit.
@@ -109,17 +93,12 @@ pub fn none_gains(arcs: &[u32; ARCS], marks: &[u8; 32], width: usize) -> bool
     let mut values = [0u32; 32];
     let mut done = [0u32; 32];
     for _ in 0..width + 1 {
-        let next = push_round(arcs, marks, width, values, done);
-        if !next.moved {
+        if !push_round(arcs, marks, width, &mut values, &mut done) {
             return true;
         }
-        let new = next.values;
-        if !values_small(&new, width) {
+        if !values_small(&values, width) {
             return false;
         }
-        let pushed = next.done;
-        values = new;
-        done = pushed;
     }
     false
 }

@@ -21,22 +21,23 @@ none-gains-spec =
     μ-loop
     (λ c. search needs)
     (λ c. (omega arith, omega arith, rounds-start _ _ _ (c .pre .0)))
-    (λ c κs. (c .before .before .pre .0, c .before .before .pre .1, c .before .loop .inv .2 .ready))
-    (λ c. tested-yes (rounds-still _ _ _ (c .before .before .before .before .before .pre .0) (c .before .before .push-round .ensures) (not-true _ (c .if1 .taken))))
+    (λ c κs. let at = c .before .before .before in
+    (at .before .pre .0, at .before .pre .1, at .loop .inv .2 .ready))
+    (λ c. tested-yes (rounds-still _ _ _ (c .before .before .before .before .before .before .pre .0) (c .before .push-round .ensures) (not-true _ (c .if1 .taken))))
     (λ c κs. search needs)
-    (λ c. let round = c .before .before .before .before .before .before in
-    let at = round .before .before in
+    (λ c. let round = c .before .before .before .before in
+    let at = round .before .before .before .before in
     tested-no (rounds-beyond _ _ _ (at .before .pre .0) (at .loop .inv .2) (round .push-round .ensures)
     (c .before .values-small .ensures .no (not-true _ (c .if2 .taken)))
     (at .before .pre .2)))
     (λ c. search needs)
     (λ c. omega arith)
-    (λ c. let round = c .before .before .before .before .before .before .before in
-    let at = round .before .before in (
+    (λ c. let round = c .before .before .before .before in
+    let at = round .before .before .before .before in (
       omega arith,
       omega arith,
       rounds-more _ _ _ (at .before .pre .0) (at .loop .inv .2) (round .push-round .ensures)
-          (not-false _ (c .before .before .before .before .before .if1 .left))
-          (c .before .before .values-small .ensures .yes (not-false _ (c .before .if2 .left))),
+          (not-false _ (c .before .before .before .if1 .left))
+          (c .before .values-small .ensures .yes (not-false _ (c .if2 .left))),
     ))
     (λ c. tested-no (rounds-end _ _ _ (c .before .before .pre .0) (c .before .loop .inv .2) (omega arith) (c .before .before .pre .2))))

@@ -3,15 +3,16 @@ use Rattle.walks.proofs.ClosedWalks.{pushed-none, pushed-more}
 use Rattle.walks.specs.GainRound.{Pushed}
 use mathlib.Core.Path.{_≡_}
 use native.Mathlib.Omega.{arith}
+use lib.ListN.{length, length-set}
 use Prim.Native.Nat.{_-_, _≤_}
 use Rattle.walks.proofs.gains.push.Statement.{statement}
 use Rattle.walks.proofs.gains.push.Tie as tie
 
 abbrev Inv-loop : tie.InvT-loop
-Inv-loop arcs base by new₀ l₀ new l = (l ≤ 32) × Pushed arcs base by l new₀ new
+Inv-loop arcs base by values₀ l₀ values l = (l ≤ 32) × (length values ≡ 32) × Pushed arcs base by l values₀ values
 
 abbrev μ-loop : tie.MeasureT-loop
-μ-loop arcs base by new₀ l₀ new l = 32 - l
+μ-loop arcs base by values₀ l₀ values l = 32 - l
 
 pub push-spec : {M : Type 1} → statement M
 push-spec =
@@ -19,7 +20,7 @@ push-spec =
     (tie.spec
     Inv-loop
     μ-loop
-    (λ c. (omega arith, pushed-none _ _ _ _))
+    (λ c. (omega arith, c .pre .1, pushed-none _ _ _ _))
     (λ c. search needs)
     (λ c. search needs)
     (λ c. search needs)
@@ -30,5 +31,5 @@ push-spec =
     (λ c. search needs)
     (λ c. search needs)
     (λ c. search needs)
-    (λ c. (omega arith, pushed-more (c .before .before .before .loop .inv .1) (omega (arith, c .before .before .before .loop .inv .1 .same)) (c .end-value .ensures)))
-    (λ c. let e : c .before .loop .l ≡ 32 = omega arith in rw e at (c .before .loop .inv .1)))
+    (λ c. (omega arith, simp length-set (omega arith), pushed-more (c .before .before .before .before .loop .inv .2) (omega arith) (c .end-value .ensures)))
+    (λ c. let e : c .before .loop .l ≡ 32 = omega arith in rw e at (c .before .loop .inv .2)))

@@ -9,10 +9,10 @@ use Rattle.walks.proofs.gains.push_round.Statement.{statement}
 use Rattle.walks.proofs.gains.push_round.Tie as tie
 
 abbrev Inv-loop : tie.InvT-loop
-Inv-loop arcs marks width new₀ pushed₀ moved₀ j₀ new pushed moved j = (j ≤ width) × (width ≤ 32) × Pushing arcs marks width new₀ pushed₀ j new pushed moved
+Inv-loop arcs marks width values₀ done₀ moved₀ j₀ values done moved j = (j ≤ width) × (width ≤ 32) × Pushing arcs marks width values₀ done₀ j values done moved
 
 abbrev μ-loop : tie.MeasureT-loop
-μ-loop arcs marks width new₀ pushed₀ moved₀ j₀ new pushed moved j = width - j
+μ-loop arcs marks width values₀ done₀ moved₀ j₀ values done moved j = width - j
 
 pub push-round-spec : {M : Type 1} → statement M
 push-round-spec =
@@ -27,10 +27,8 @@ push-round-spec =
     (λ c. search needs)
     (λ c. search needs)
     (λ c. search needs)
-    (λ c. search needs)
-    (λ c. search needs)
-    (λ c κs. (omega arith, c .before .before .before .before .loop .inv .2 .length-is))
-    (λ c. omega (arith, c .before .before .before .before .before .loop .inv .2 .small (c .before .before .before .before .before .loop .j) (c .before .before .before .before .loop-test .taken)))
+    (λ c κs. (omega arith, c .before .before .before .before .before .before .before .loop .inv .2 .length-is))
+    (λ c. omega (arith, c .before .before .before .before .before .before .before .before .loop .inv .2 .small (c .before .before .before .before .before .before .before .before .loop .j) (c .before .before .before .before .before .before .before .loop-test .taken)))
     (λ c. search needs)
     (λ c. search needs)
     (λ c. search needs)
@@ -39,9 +37,9 @@ push-round-spec =
       omega arith,
       omega arith,
       ⊎-elim
-          (λ w. rw (w .3, w .4, w .5) (pushing-row _ _ _ (c .before .before .before .before .pre .0) (c .before .before .before .loop .inv .2) (omega arith) (w .0 .taken) (w .2 .ensures) (w .1 .taken)))
+          (λ w. rw (w .6, w .7, w .8) (pushing-row _ _ _ (c .before .before .before .before .pre .0) (c .before .before .before .loop .inv .2) (omega arith) (w .0 .taken) (w .5 .ensures) (w .3 .taken)))
           (λ s. ⊎-elim
-          (λ w. rw (w .2, w .3, w .4) (pushing-held _ _ _ (c .before .before .before .before .pre .0) (c .before .before .before .loop .inv .2) (omega arith) (w .1 .left)))
+          (λ w. rw (w .4, w .5, w .6) (pushing-held _ _ _ (c .before .before .before .before .pre .0) (c .before .before .before .loop .inv .2) (omega arith) (w .3 .left)))
           (λ w. rw (w .1, w .2, w .3) (pushing-unmarked _ _ _ (c .before .before .before .before .pre .0) (c .before .before .before .loop .inv .2) (omega arith) (w .0 .left)))
           s)
           (c .if1 .came),
