@@ -11,7 +11,7 @@ pub record PickCounts (left : List ℕ) (pick j : ℕ) : Type 0 where
   pub picked : pick ≡ suc row
   pub some : 0 < getD left (row * 32 + j) 0
 
--- Row i's pick, whose right coefficients start at `base`, is a variable with a coefficient that is not blank.
+-- The pick of the row whose right coefficients start at `base` is a variable whose right coefficient there is not blank.
 pub record RowPickCounts (right : List ℕ) (pick base : ℕ) : Type 0 where
   pub variable : ℕ
   pub picked : pick ≡ suc variable
@@ -25,7 +25,7 @@ VariablesCount left picks marks k = (j : ℕ) → j < k → Marked marks j → P
 abbrev pub Idle : List ℕ → List ℕ → ℕ → ℕ → Type 0
 Idle left marks base k = (j : ℕ) → j < k → Marked marks j → getD left (base + j) 0 ≡ 0
 
--- If the row is in use, its pick counts.
+-- If the row that starts at `base` is in use (a marked variable has a left coefficient there that is not blank), its pick counts.
 abbrev pub Stands : List ℕ → List ℕ → List ℕ → ℕ → ℕ → ℕ → Type 0
 Stands left right marks width base pick = (j : ℕ) → j < width → Marked marks j → 0 < getD left (base + j) 0 → RowPickCounts right pick base
 

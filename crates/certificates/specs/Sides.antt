@@ -11,24 +11,25 @@ use Rattle.records.specs.Decoded.{Near}
 use Rattle.leads.specs.Tables.{leadAt}
 use Rattle.walks.specs.Lists.{most}
 
--- A stamp lowered; blank stays 0.
+-- What stamps are lowered by: 2³⁰.
 abbrev pub stamp-drop : ℕ
 stamp-drop = 1073741824
 
+-- A stamp lowered; blank stays 0.
 unfoldable pub lowered : ℕ → ℕ
 lowered k = cond (eqb k 0) 0 (k - stamp-drop)
 
--- The first k stamps, lowered, then blanks.
+-- The first k stamps, lowered, then blanks: 32 places.
 pub record Lowered (stamps : List ℕ) (k : ℕ) (x : List ℕ) : Type 0 where
   pub length-is : length x ≡ 32
   pub cells : (l : ℕ) → l < k → getD x l 0 ≡ lowered (getD stamps l 0)
   pub blanks : (l : ℕ) → k ≤ l → getD x l 0 ≡ 0
 
--- Two whole numbers in range have a sum above this, a whole number and blank one below it.
+-- A lead and a lowered stamp in range have a sum above this, 2³¹ + 2²⁹, where both are whole, and below it where one is blank.
 abbrev pub side-floor : ℕ
 side-floor = 2684354560
 
--- The leads from a place of the bytes on.
+-- Lead l of those from a place of the bytes on, as an offset number.
 abbrev pub run : List ℕ → ℕ → ℕ → ℕ
 run s at l = leadAt s (at + signed-bytes * l)
 
@@ -37,14 +38,15 @@ unfoldable pub bestSum : (ℕ → ℕ) → List ℕ → ℕ → ℕ
 bestSum f x zero = side-floor
 bestSum f x (suc k) = most (bestSum f x k) (f k + getD x k 0)
 
--- The side as an offset number: the largest sum, blank where all sums are.
+-- The side as an offset number: blank where each sum has a blank in it, else the largest sum, less what two offset numbers add
+-- up to too much.
 abbrev pub sideBy : ℕ → ℕ
 sideBy best = cond (eqb best side-floor) 0 (best - stamp-drop)
 
 unfoldable pub sideOf : (ℕ → ℕ) → List ℕ → ℕ → ℕ
 sideOf f x k = sideBy (bestSum f x k)
 
--- `count` leads from a place on, inside the bytes and in range, and lowered stamps not above theirs.
+-- At most 32 leads from a place on, inside the bytes and in range, and lowered stamps, none above the highest.
 pub record RowSized (s : List ℕ) (at count : ℕ) (x : List ℕ) : Type 0 where
   pub inside : at + signed-bytes * count ≤ length s
   pub few : count ≤ 32

@@ -8,12 +8,14 @@ use Rattle.duality.specs.Values.{valueAt}
 abbrev pub turned : (ℕ → ℕ → Trop) → ℕ → ℕ → Trop
 turned W j l = W l j
 
--- Numbers below N that each arc of the matrix bounds: a potential.
+-- Numbers for the variables below N: for each arc between these, its weight with the number at its end is at most the
+-- number at its start. A potential.
 pub record Potential (W : ℕ → ℕ → Trop) (N : ℕ) (e : ℕ → Trop) : Type 0 where
   pub bounds : (j l : ℕ) → j < N → l < N → plus (W j l) (e l) ⊑ e j
 
--- The numbers x have become y once the first k variables raised the others: none fell, each arc from one of these
--- variables is bounded by the number at its end, and no potential above x is exceeded.
+-- The numbers x have become y once each of the first k variables raised the starts of the arcs that lead to it: none fell;
+-- for each such arc, its weight with the old number at its end is at most the new number at its start; and no potential that
+-- is at least x is exceeded.
 pub record Swept (W : ℕ → ℕ → Trop) (N k : ℕ) (x y : ℕ → Trop) : Type 0 where
   pub grows : (l : ℕ) → l < N → x l ⊑ y l
   pub bounds : (j l : ℕ) → j < k → l < N → plus (W l j) (x j) ⊑ y l

@@ -12,7 +12,7 @@ use Rattle.definitions.proofs.Refusals.{or-else-suc, problem-fits}
 use Rattle.records.specs.declared.problem.Header.{Header}
 use Rattle.records.specs.declared.problem.Header.the-variants.{Fields, Refused}
 use Rattle.records.specs.ProblemHeader.{headerBy, headerOf}
-use Rattle.leads.specs.Tables.{runFits, cell, leftTable, rightTable, problemHeader, Laid, ProblemRead}
+use Rattle.leads.specs.Tables.{runFits, cell, leftTable, rightTable, problemJudged, Laid, ProblemRead}
 use Rattle.leads.specs.Filling.{Framed, Tabled}
 use Rattle.records.proofs.ProblemHeader.{HeaderFits, header-refuses, header-fields, answer-fields, answer-refused}
 use Rattle.leads.proofs.Tables.{is-listOf}
@@ -20,7 +20,7 @@ use Rattle.leads.proofs.Tables.{is-listOf}
 -- ---- judging
 
 -- The header is refused.
-pub refused-header : (s : List ℕ) {r : Header} {k : ℕ} → r ≡ headerOf s (length s) → r ≡ Refused k → r ≡ problemHeader s
+pub refused-header : (s : List ℕ) {r : Header} {k : ℕ} → r ≡ headerOf s (length s) → r ≡ Refused k → r ≡ problemJudged s
 unfolding problemRefusal headerOf
 refused-header s e f =
     let g = header-refuses s (length s) e f in
@@ -35,19 +35,19 @@ module _ (s : List ℕ) {n m count : ℕ} (h : HeaderFits s (length s) n m) (c :
       rw (all-leads, h .n-is, h .m-is)
 
   -- A lead does not fit: refusal 6.
-  pub refused-lead : false ≡ runFits s count problem-header → Refused 6 ≡ problemHeader s
+  pub refused-lead : false ≡ runFits s count problem-header → Refused 6 ≡ problemJudged s
   unfolding problemRefusal leadsOf headerBy
   refused-lead e = rw (h .none, ← run-leads, ← e)
 
   -- Every lead fits: no refusal.
-  pub judged-fields : true ≡ runFits s count problem-header → Fields n m ≡ problemHeader s
+  pub judged-fields : true ≡ runFits s count problem-header → Fields n m ≡ problemJudged s
   unfolding problemRefusal leadsOf
   judged-fields e =
       let none : problemRefusal s ≡ 0 = rw (h .none, ← run-leads, ← e) in
       rw (h .n-is, h .m-is) (header-fields (problemRefusal s) (nField s) (mField s) none)
 
 -- Fields are the answer for a problem within the layout.
-pub laid : {s : List ℕ} {r : Header} {n m : ℕ} → Bytes s → r ≡ problemHeader s → r ≡ Fields n m → Laid s n m
+pub laid : {s : List ℕ} {r : Header} {n m : ℕ} → Bytes s → r ≡ problemJudged s → r ≡ Fields n m → Laid s n m
 laid {s} b e f =
     let g = answer-fields (problemRefusal s) (nField s) (mField s) e f in
     let p = problem-fits s .0 (g .0) in
@@ -64,7 +64,7 @@ laid {s} b e f =
 -- ---- reading
 
 -- The problem is refused.
-pub refused-read : (s : List ℕ) {r : Header} {k : ℕ} {left right : List ℕ} → r ≡ problemHeader s → r ≡ Refused k → ProblemRead s left right r left right
+pub refused-read : (s : List ℕ) {r : Header} {k : ℕ} {left right : List ℕ} → r ≡ problemJudged s → r ≡ Refused k → ProblemRead s left right r left right
 refused-read s e f =
     let g = answer-refused (problemRefusal s) (nField s) (mField s) e f in
     record { result = e; left-kept = λ h. refl; right-kept = λ h. refl; left-read = λ w. absurd (omega arith); right-read = λ w. absurd (omega arith) }
@@ -79,7 +79,7 @@ unfolding rightTable
 right-tabled {s} {n} {m} {right = right} l t = rw (l .n-is, l .m-is) (is-listOf (cell (rightPlace n) s n m) 2048 right (t .right-size) (t .rights))
 
 -- The problem is read.
-pub problem-read : {s : List ℕ} {r : Header} {n m : ℕ} {left right left′ right′ : List ℕ} → Laid s n m → r ≡ problemHeader s
+pub problem-read : {s : List ℕ} {r : Header} {n m : ℕ} {left right left′ right′ : List ℕ} → Laid s n m → r ≡ problemJudged s
     → Tabled s n m 2048 left′ right′ → ProblemRead s left right r left′ right′
 problem-read l e t =
     record {

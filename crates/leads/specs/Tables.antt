@@ -28,7 +28,7 @@ table-size = 2048
 abbrev pub leadAt : List ℕ → ℕ → ℕ
 leadAt s at = off (numAt signed-bytes s at)
 
--- Element k of a table whose row i has its lead j at `place i j`.
+-- Element k of a table whose row i has its lead j at `place i j`; 0 past row m and past column n.
 unfoldable pub cell : (ℕ → ℕ → ℕ) → List ℕ → ℕ → ℕ → ℕ → ℕ
 cell place s n m k = cond (leb (k / stride) m && leb (k % stride) n) (leadAt s (place (k / stride) (k % stride))) 0
 
@@ -40,10 +40,10 @@ unfoldable pub rightTable : List ℕ → List ℕ
 rightTable s = listOf (cell (rightPlace (nField s)) s (nField s) (mField s)) table-size
 
 -- What judging a problem answers: n and m, or the first of refusals 1 to 6 that applies.
-abbrev pub problemHeader : List ℕ → Header
-problemHeader s = headerBy (problemRefusal s) (nField s) (mField s)
+abbrev pub problemJudged : List ℕ → Header
+problemJudged s = headerBy (problemRefusal s) (nField s) (mField s)
 
--- The bytes of a problem within the layout, of n + 1 variables and m + 1 rows.
+-- The bytes of a problem within the layout, of n + 1 variables and m + 1 rows. The last three follow from the others.
 pub record Laid (s : List ℕ) (n m : ℕ) : Type 0 where
   pub bytes : Bytes s
   pub within : WithinLayout s
@@ -53,9 +53,10 @@ pub record Laid (s : List ℕ) (n m : ℕ) : Type 0 where
   pub m-most : m ≤ highest-m
   pub size-is : length s ≡ problemSize n m
 
--- What reading a problem into two tables leaves: the answer, and both tables, as they were where the problem is refused.
+-- What reading a problem into two tables leaves: the answer; both tables as they were where the problem is refused, else its
+-- left and its right leads.
 pub record ProblemRead (s left right : List ℕ) (r : Header) (left′ right′ : List ℕ) : Type 0 where
-  pub result : r ≡ problemHeader s
+  pub result : r ≡ problemJudged s
   pub left-kept : 0 < problemRefusal s → left′ ≡ left
   pub right-kept : 0 < problemRefusal s → right′ ≡ right
   pub left-read : WithinLayout s → left′ ≡ leftTable s

@@ -13,10 +13,10 @@ use Rattle.walks.specs.Gains.{arc-zero}
 unfoldable pub raisedBy : ℕ → ℕ → ℕ → ℕ
 raisedBy t m i = cond (eqb i m) t signed-half
 
--- The offset number of the least lead. The coefficient that is added last enters as what it is above it, so that an entry
+-- The offset number of the least lead. The coefficient that is added last enters as what it is above it, so that the last sum
 -- stays below 2³².
 abbrev pub least-lead : ℕ
-least-lead = 2147473568
+least-lead = signed-half - lead-limit
 
 -- Classes 1 and 3. An arc of weight w stands in the table for 32 w + 1: a closed walk of 1 to 32 arcs then weighs at
 -- most 0 exactly when it weighed below 0. From variable j with left coefficient a by a row raised by r, all but the right
@@ -32,11 +32,11 @@ lift-most = arc-zero + 32 * suc span-limit + 1
 unfoldable pub lifted : ℕ → ℕ → ℕ
 lifted up b = cond (eqb b 0) 0 (up + 32 * (b - least-lead))
 
--- The entry for left coefficient a, raise r, right coefficient b: none where one of them is blank.
+-- The entry for left coefficient a, raise r, right coefficient b: none where a or b is blank.
 unfoldable pub strictArc : ℕ → ℕ → ℕ → ℕ
 strictArc a r b = cond (eqb a 0) 0 (lifted (lift a r) b)
 
--- The entry from variable j to variable l by the row that j picks.
+-- The entry from variable j to variable l by the row that j picks: none where it picks none.
 unfoldable pub variableArc : List ℕ → List ℕ → ℕ → ℕ → ℕ → ℕ → ℕ → ℕ
 variableArc left right m t zero j l = 0
 variableArc left right m t (suc i) j l = strictArc (getD left (i * 32 + j) 0) (raisedBy t m i) (getD right (i * 32 + l) 0)
@@ -61,11 +61,11 @@ fall-most = arc-zero + suc span-limit
 unfoldable pub fallen : ℕ → ℕ → ℕ
 fallen down a = cond (eqb a 0) 0 (down + (a - least-lead))
 
--- The entry for left coefficient a, raise r, right coefficient b: none where one of them is blank.
+-- The entry for left coefficient a, raise r, right coefficient b: none where a or b is blank.
 unfoldable pub looseArc : ℕ → ℕ → ℕ → ℕ
 looseArc a r b = cond (eqb b 0) 0 (fallen (fall b r) a)
 
--- The entry from variable j to variable l by row i, which picks l or not.
+-- The entry from variable j to variable l by row i: none unless the row picks l.
 unfoldable pub rowArc : List ℕ → List ℕ → ℕ → ℕ → List ℕ → ℕ → ℕ → ℕ → ℕ
 rowArc left right m t picks i j l =
     cond (eqb (getD picks i 0) (suc l)) (looseArc (getD left (i * 32 + j) 0) (raisedBy t m i) (getD right (i * 32 + l) 0)) 0

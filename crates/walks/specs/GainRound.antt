@@ -16,7 +16,7 @@ use Rattle.reach.specs.Marks.{Marked}
 use Rattle.walks.specs.Lists.{most}
 use Rattle.walks.specs.Gains.{arc-zero, arc-most, matrix, anywhere}
 
--- No walk of fewer than 32 arcs weighs more.
+-- No walk of at most 32 arcs weighs more.
 abbrev pub value-limit : ℕ
 value-limit = 32 * arc-most
 
@@ -24,7 +24,8 @@ value-limit = 32 * arc-most
 abbrev pub Small : ℕ → List ℕ → Type 0
 Small width values = (l : ℕ) → l < width → getD values l 0 ≤ value-limit
 
--- The value at the end of an arc: the larger of what it was and, where that is above 0, the start's value with the arc's weight.
+-- The value at the end of an arc: the larger of what it was and the start's value with the arc's weight, this cut off at 0.
+-- Where there is no arc it stays, as a start's value is below 2³¹.
 abbrev pub endValue : ℕ → ℕ → ℕ → ℕ
 endValue was by arc = most was (by + arc - arc-zero)
 
@@ -45,7 +46,7 @@ abbrev pub level : List ℕ → ℕ → Trop
 level values l = fin (pos (getD values l 0))
 
 -- What a round may start from: values within the limit, and for each variable that it has raised the ends of its arcs
--- with every value below `done`.
+-- with every value below `done`: one more than the value with which it last did, 0 for none.
 pub record Ready (arcs marks : List ℕ) (width : ℕ) (values done : List ℕ) : Type 0 where
   pub length-is : length values ≡ 32
   pub done-length : length done ≡ 32
@@ -53,8 +54,10 @@ pub record Ready (arcs marks : List ℕ) (width : ℕ) (values done : List ℕ) 
   pub held :
       (j l v : ℕ) → j < width → l < width → v < getD done j 0 → plus (matrix arcs marks j l) (fin (pos v)) ⊑ level values l
 
--- A round, once the first k variables have had their turn. Each marked one of them has raised the ends of its arcs with its
--- value; if nothing moved, with the value that it still has; if something did, a marked variable had not yet.
+-- A round, once the first k variables have had their turn. Each marked one of them has raised the ends of its arcs with at
+-- least the value that it had when the round started; `pushed` says of the new values what `done` said of the old; no value is
+-- more than k arcs above the limit. If nothing moved, the first k have raised with the values that they have now; if something
+-- moved, not every marked variable had, before the round, raised with the value that it has now.
 pub record Pushing (arcs marks : List ℕ) (width : ℕ) (values done : List ℕ) (k : ℕ) (new pushed : List ℕ) (moved : Bool) : Type 0 where
   pub length-is : length new ≡ 32
   pub done-length : length pushed ≡ 32
@@ -67,8 +70,9 @@ pub record Pushing (arcs marks : List ℕ) (width : ℕ) (values done : List ℕ
   pub still : moved ≡ false → (j l : ℕ) → j < k → l < width → plus (matrix arcs marks j l) (level new j) ⊑ level new l
   pub moves : moved ≡ true → ((j : ℕ) → j < width → Marked marks j → getD new j 0 < getD done j 0) → ⊥
 
--- The state after i rounds, in each of which something moved: all values of one round less have been used, and the last
--- round would not have moved anything had the values been fixed two rounds before.
+-- After i rounds that moved something: a round may start; the values lie between those of i rounds of Bellman–Ford and every
+-- potential that is at least 0; each marked variable has raised with its value of i − 1 rounds of Bellman–Ford; and those of
+-- i − 2 rounds are not fixed, else the last round had moved nothing.
 pub record Rounds (arcs marks : List ℕ) (width i : ℕ) (values done : List ℕ) : Type 0 where
   pub ready : Ready arcs marks width values done
   pub climbed : Climbed (backward arcs marks) anywhere width i (level values)

@@ -1,6 +1,6 @@
 -- Closed walks over a table of arcs. An arc stands in the table as 2³¹ plus its weight, 0 is no arc. The weight here is the
--- table's: 32 w + 1 in classes 1 and 3 and −w in class 2, for document 01's weight w (Arcs), so that in each class a closed
--- walk above zero is one that must not be.
+-- table's: 32 w + 1 in classes 1 and 3 and −w in class 2, for document 01's weight w, raised by t on the objective's arcs (Arcs),
+-- so that in each class some closed walk is above zero exactly when there is one that must not be.
 use Prim.Native.Nat.{ℕ, suc, _+_, _*_, _≤_, _<_}
 use mathlib.Core.Path.{_≡_}
 use mathlib.Core.Bool.{Bool, true, false, cond}
@@ -30,11 +30,11 @@ weightOf k = cond (eqb k 0) bot (fin (subℕ k arc-zero))
 unfoldable pub matrix : List ℕ → List ℕ → ℕ → ℕ → Trop
 matrix arcs marks j l = cond (eqb (getD marks j 0) 0) bot (weightOf (getD arcs (j * 32 + l) 0))
 
--- Walks may start and end anywhere, at 0.
+-- An exit of 0 at every variable: walks may end anywhere, those over turned arcs may start anywhere.
 unfoldable pub anywhere : ℕ → Trop
 anywhere j = fin (pos 0)
 
--- The table has no entry above its range.
+-- A table of 32 × 32 entries, of which `width` rows and columns are used: no arc there weighs more than the heaviest.
 pub record Table (arcs : List ℕ) (width : ℕ) : Type 0 where
   pub width-most : width ≤ 32
   pub length-is : length arcs ≡ 1024

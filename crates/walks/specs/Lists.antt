@@ -10,7 +10,7 @@ use lib.ListN.{length, getD}
 unfoldable pub most : ℕ → ℕ → ℕ
 most a b = cond (leb a b) b a
 
--- From `base` on, `count` elements are those of f; before it everything is as it was.
+-- From `base` on, `count` elements are those of f; before it everything is as it was, and the length is the same.
 pub record Filled (f : ℕ → ℕ) (base count : ℕ) (old new : List ℕ) : Type 0 where
   pub same : length new ≡ length old
   pub before : (k : ℕ) → k < base → getD new k 0 ≡ getD old k 0

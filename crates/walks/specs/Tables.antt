@@ -37,7 +37,8 @@ pub record Picked (picks : List ℕ) (highest : ℕ) : Type 0 where
   pub length-is : length picks ≡ 64
   pub none-above : (k : ℕ) → getD picks k 0 ≤ highest
 
--- A number t, as an offset number, at which the closed walks are tested: a trial, or a span less one.
+-- A number t, as an offset number, at which the closed walks are tested: a span less one in class 1, the lowest trial in class 2,
+-- the top trial in class 3. So it is whole, and no further from 0 than the lowest trial.
 pub record Trial (t : ℕ) : Type 0 where
   pub some : 0 < t
   pub near : Near (suc span-limit) t

@@ -21,7 +21,7 @@ use std::num::wrapping_add_u32;
 // No arc weighs more: 32 times two leads and a trial, and one.
 const ARC_MOST: u64 = 32 * (2 * LEAD_LIMIT + 64 * LEAD_LIMIT + 1) + 1;
 
-// No walk of fewer than 32 arcs weighs more.
+// No walk of at most 32 arcs weighs more.
 const VALUE_LIMIT: u32 = (32 * ARC_MOST) as u32;
 
 // The value at the end of an arc: the larger of what it was and the start's with the arc's weight. The start's value as an

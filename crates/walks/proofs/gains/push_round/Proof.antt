@@ -37,7 +37,7 @@ push-round-spec =
       omega arith,
       omega arith,
       ⊎-elim
-          (λ w. rw (w .6, w .7, w .8) (pushing-row _ _ _ (c .before .before .before .before .pre .0) (c .before .before .before .loop .inv .2) (omega arith) (w .0 .taken) (w .5 .ensures) (w .3 .taken)))
+          (λ w. rw (w .6, w .7, w .8) (pushing-row _ _ _ (c .before .before .before .before .pre .0) (c .before .before .before .loop .inv .2) (omega arith) (w .0 .taken) (w .5 .ensures) (omega (arith, w .3 .taken))))
           (λ s. ⊎-elim
           (λ w. rw (w .4, w .5, w .6) (pushing-held _ _ _ (c .before .before .before .before .pre .0) (c .before .before .before .loop .inv .2) (omega arith) (w .3 .left)))
           (λ w. rw (w .1, w .2, w .3) (pushing-unmarked _ _ _ (c .before .before .before .before .pre .0) (c .before .before .before .loop .inv .2) (omega arith) (w .0 .left)))
