@@ -25,7 +25,9 @@ use Rattle.duality.proofs.Sweeps.{SomeGain, entries-back, gain-back, swept-none
 use Rattle.reach.specs.Marks.{Marked}
 use Rattle.reach.proofs.Marks.{zeros, same-or-not}
 use Rattle.walks.specs.Gains.{arc-zero, arc-most, weightOf, matrix, anywhere, Table, NoneGains, SomeGains, Tested}
+use Rattle.walks.specs.Order.{past, Ordered}
 use Rattle.walks.specs.GainRound.{value-limit, Small, endValue, Pushed, backward, level, Ready, Pushing, Rounds}
+use Rattle.walks.proofs.Order.{past-most}
 use Rattle.walks.proofs.Lists.{most-one, most-left, set-here, set-there, one-more}
 
 -- ---- weights
@@ -248,6 +250,26 @@ module _ (arcs marks : List ℕ) (width : ℕ) (table : Table arcs width) where
         still = λ e. absurd (false≢true (sym e));
         moves = λ e h. omega (arith, h k b (omega arith), p .others k (omega arith), rises k b);
       }
+
+  -- Variables that are not marked are passed over.
+  pub pushing-over : {values done new pushed : List ℕ} {k : ℕ} {moved : Bool} (j : ℕ) → Pushing arcs marks width values done k new pushed moved → k ≤ j → j ≤ width
+      → ((i : ℕ) → k ≤ i → i < j → Marked marks i → ⊥) → Pushing arcs marks width values done j new pushed moved
+  pushing-over {k = k} zero p h b none = let e : k ≡ 0 = omega arith in rw e at p
+  pushing-over {k = k} (suc j) p h b none = ⊎-elim
+      (λ (l : suc j ≤ k). let e : k ≡ suc j = omega arith in rw e at p)
+      (λ (l : k < suc j).
+      rw (← add-one) (pushing-unmarked (pushing-over j p (omega arith) (omega arith) (λ i c d. none i c (omega arith))) (omega arith)
+      (⊎-elim (λ e. e) (λ q. absurd (none j (omega arith) (omega arith) q)) (eq-zero-or-pos (getD marks j 0)))))
+      (nat-le-or-lt (suc j) k)
+
+  -- A variable of the order has its turn once those before it have had theirs; at the end all have.
+  module _ {places : List ℕ} {count : ℕ} (o : Ordered marks width places count) {values done new pushed : List ℕ} {i : ℕ} {moved : Bool}
+      (p : Pushing arcs marks width values done (past places i) new pushed moved) where
+    pub pushing-turn : i < count → Pushing arcs marks width values done (getD places i 0) new pushed moved
+    pushing-turn h = pushing-over (getD places i 0) p (o .ascending i h) (omega (arith, o .inside i h)) (λ j. o .between i j h)
+
+    pub pushing-all : i ≡ count → Pushing arcs marks width values done width new pushed moved
+    pushing-all e = pushing-over width p (past-most o i (omega arith)) (omega arith) (rw (← e) at (o .after))
 
   -- ---- rounds
 

@@ -4,12 +4,15 @@
 // No, at a value above the limit, or after one round more than there are variables: unless a short closed walk weighs above
 // zero, no value exceeds the heaviest walk of fewer arcs than variables, so many rounds find it, and one more passes it on.
 ghost use mathlib.Core.Path.{_≡_};
+ghost use mathlib.Core.Bool.{cond};
 ghost use Prim.Native.Nat.{_+_, _≤_, _<_};
+ghost use lib.Dec.{eqb};
 ghost use lib.ListN.{length};
 ghost use Rattle.definitions.specs.Limits.{signed-full};
 ghost use Rattle.reach.specs.Marks.{Flags};
 ghost use Rattle.walks.specs.Decides.{Decides};
 ghost use Rattle.walks.specs.Gains.{arc-zero, Table, Tested};
+ghost use Rattle.walks.specs.Order.{Ordered};
 ghost use Rattle.walks.specs.GainRound.{Small, endValue, Pushed, Ready, Pushing};
 use reach::ARCS;
 use records::limits::LEAD_LIMIT;
@@ -44,28 +47,59 @@ fn push(arcs: &[u32; ARCS], base: usize, by: u32, values: &mut [u32; 32])
     }
 }
 
-// A round: each marked variable raises the values at the ends of its arcs, unless it has done so with this value; `done` has
-// for each variable one more than the value with which it last did, 0 for none. Values of this round count in it already.
-// The result says whether one raised others.
+// The marked variables in order, and how many they are.
+pub struct Order {
+    pub places: [usize; 32],
+    pub count: usize,
+}
+
+// A count, with one more where there is a mark.
+fn counted(count: usize, mark: u8) -> usize
+    requires { ⌜ count ≤ 32 ⌝ }
+    ensures { λ r. ⌜ r ≡ cond (eqb mark 0) count (count + 1) ⌝ }
+{
+    if mark == 0 { count } else { count + 1 }
+}
+
+// The marked variables in order: each variable takes the next place, and keeps it if it is marked. So there is no branch here,
+// and none on marks in the rounds.
+fn order_of(marks: &[u8; 32], width: usize) -> Order
+    requires { ⌜ Flags (now marks) × (width ≤ 32) ⌝ }
+    ensures { λ r. ⌜ Ordered (now (marks .entry)) width (r .places) (r .count) ⌝ }
+{
+    let mut places = [0usize; 32];
+    let mut count = 0;
+    for j in 0..width {
+        places[count] = j;
+        count = counted(count, marks[j]);
+    }
+    Order { places, count }
+}
+
+// A round: each variable of an order of those that are marked raises the values at the ends of its arcs, unless it has done so
+// with this value; `done` has for each variable one more than the value with which it last did, 0 for none. Values of this
+// round count in it already. The result says whether one raised others. The marks are those that the order is of, and are not
+// looked at again.
 fn push_round(
     arcs: &[u32; ARCS],
     marks: &[u8; 32],
+    places: &[usize; 32],
+    count: usize,
     width: usize,
     values: &mut [u32; 32],
     done: &mut [u32; 32],
 ) -> bool
-    requires { ⌜ Table (now arcs) width × Flags (now marks) × Ready (now arcs) (now marks) width (now values) (now done) ⌝ }
+    requires { ⌜ Table (now arcs) width × Ordered (now marks) width (now places) count × Ready (now arcs) (now marks) width (now values) (now done) ⌝ }
     ensures { λ r. ⌜ Pushing (now (arcs .entry)) (now (marks .entry)) width (now (values .entry)) (now (done .entry)) width (now (values .exit)) (now (done .exit)) r ⌝ }
 {
     let mut moved = false;
-    for j in 0..width {
-        if marks[j] != 0 {
-            let by = values[j];
-            if done[j] <= by {
-                push(arcs, j * STRIDE, by, values);
-                done[j] = by + 1;
-                moved = true;
-            }
+    for i in 0..count {
+        let j = places[i];
+        let by = values[j];
+        if done[j] <= by {
+            push(arcs, j * STRIDE, by, values);
+            done[j] = by + 1;
+            moved = true;
         }
     }
     moved
@@ -90,10 +124,13 @@ pub fn none_gains(arcs: &[u32; ARCS], marks: &[u8; 32], width: usize) -> bool
     requires { ⌜ Table (now arcs) width × Flags (now marks) × (0 < width) ⌝ }
     ensures { λ r. ⌜ Tested (now (arcs .entry)) (now (marks .entry)) width r ⌝ }
 {
+    let order = order_of(marks, width);
+    let places = order.places;
+    let count = order.count;
     let mut values = [0u32; 32];
     let mut done = [0u32; 32];
     for _ in 0..width + 1 {
-        if !push_round(arcs, marks, width, &mut values, &mut done) {
+        if !push_round(arcs, marks, &places, count, width, &mut values, &mut done) {
             return true;
         }
         if !values_small(&values, width) {

@@ -8,10 +8,10 @@ use Rattle.walks.proofs.gains.none_gains.Statement.{statement}
 use Rattle.walks.proofs.gains.none_gains.Tie as tie
 
 abbrev Inv-loop : tie.InvT-loop
-Inv-loop arcs marks width values₀ done₀ counter₀ end values done counter = (counter ≤ width + 1) × (width ≤ 32) × Rounds arcs marks width counter values done
+Inv-loop arcs marks width places count values₀ done₀ counter₀ end values done counter = (counter ≤ width + 1) × (width ≤ 32) × Rounds arcs marks width counter values done
 
 abbrev μ-loop : tie.MeasureT-loop
-μ-loop arcs marks width values₀ done₀ counter₀ end values done counter = width + 1 - counter
+μ-loop arcs marks width places count values₀ done₀ counter₀ end values done counter = width + 1 - counter
 
 pub none-gains-spec : {M : Type 1} → statement M
 none-gains-spec =
@@ -19,25 +19,24 @@ none-gains-spec =
     (tie.spec
     Inv-loop
     μ-loop
+    (λ c κs. (c .pre .1, omega (arith, c .pre .0 .width-most)))
     (λ c. search needs)
-    (λ c. (omega arith, omega arith, rounds-start _ _ _ (c .pre .0)))
-    (λ c κs. let at = c .before .before .before in
-    (at .before .pre .0, at .before .pre .1, at .loop .inv .2 .ready))
-    (λ c. tested-yes (rounds-still _ _ _ (c .before .before .before .before .before .before .pre .0) (c .before .push-round .ensures) (not-true _ (c .if1 .taken))))
+    (λ c. (omega arith, omega (arith, c .before .before .pre .0 .width-most), rounds-start _ _ _ (c .before .before .pre .0)))
+    (λ c κs. (c .before .before .before .before .before .before .before .pre .0, c .before .before .before .before .before .before .order-of .ensures, c .before .before .before .before .loop .inv .2 .ready))
+    (λ c. tested-yes (rounds-still _ _ _ (c .before .before .before .before .before .before .before .before .before .pre .0) (c .before .push-round .ensures) (not-true _ (c .if1 .taken))))
     (λ c κs. search needs)
-    (λ c. let round = c .before .before .before .before in
-    let at = round .before .before .before .before in
-    tested-no (rounds-beyond _ _ _ (at .before .pre .0) (at .loop .inv .2) (round .push-round .ensures)
+    (λ c. let start = c .before .before .before .before .before .before .before .before .before .before .before .before in
+    tested-no (rounds-beyond _ _ _ (start .pre .0) (c .before .before .before .before .before .before .before .before .before .loop .inv .2) (c .before .before .before .before .push-round .ensures)
     (c .before .values-small .ensures .no (not-true _ (c .if2 .taken)))
-    (at .before .pre .2)))
+    (start .pre .2)))
     (λ c. search needs)
     (λ c. omega arith)
-    (λ c. let round = c .before .before .before .before in
-    let at = round .before .before .before .before in (
+    (λ c. (
       omega arith,
       omega arith,
-      rounds-more _ _ _ (at .before .pre .0) (at .loop .inv .2) (round .push-round .ensures)
+      rounds-more _ _ _ (c .before .before .before .before .before .before .before .before .before .before .before .before .pre .0) (c .before .before .before .before .before .before .before .before .before .loop .inv .2) (c .before .before .before .before .push-round .ensures)
           (not-false _ (c .before .before .before .if1 .left))
           (c .before .values-small .ensures .yes (not-false _ (c .if2 .left))),
     ))
-    (λ c. tested-no (rounds-end _ _ _ (c .before .before .pre .0) (c .before .loop .inv .2) (omega arith) (c .before .before .pre .2))))
+    (λ c. let start = c .before .before .before .before in
+    tested-no (rounds-end _ _ _ (start .pre .0) (c .before .loop .inv .2) (omega arith) (start .pre .2))))
