@@ -11,12 +11,12 @@ use native.Mathlib.Numerals.{add-one}
 use lib.Dec.{leb}
 use lib.ListN.{getD}
 use borrow.Author.Tests.{leb-true, leb-false, lt-ltb, le-ltb, le-leb, lt-leb}
-use Rattle.definitions.specs.Limits.{signed-half}
+use Rattle.definitions.specs.Limits.{signed-half, signed-full}
 use Rattle.definitions.specs.Tropical.{Trop, bot, plus, larger, largest, _⊑_, blank-least}
-use Rattle.definitions.specs.Offset.{tropOf}
+use Rattle.definitions.specs.Offset.{tropOf, off}
 use Rattle.definitions.proofs.Whole.{nat-le-or-lt}
 use Rattle.definitions.proofs.Tropical.{⊑-refl, ⊑-antisym, larger-left, larger-right, larger-least, largest-above, largest-least, largest-ext}
-use Rattle.definitions.proofs.Offset.{trop-zero, trop-order, plus-trop, plus-trop-zero}
+use Rattle.definitions.proofs.Offset.{off-off, trop-zero, trop-order, plus-trop, plus-trop-zero}
 use Rattle.records.specs.Decoded.{Near}
 use Rattle.trials.specs.Tables.{raised-limit, value-limit, fold-limit, low-fold, side-most, side-least, high, highs, Table, Ranged, Lows}
 use Rattle.trials.specs.Ends.{RowEnds}
@@ -129,6 +129,21 @@ pub uppermost-more : (f : ℕ → ℕ) (k best r : ℕ) → best ≡ uppermost f
 unfolding uppermost
 uppermost-more f k best r e d = d ∙ rw (e, add-one, uppermost)
 
+-- The same where the numbers are given as fields.
+pub uppermost-field : (f : ℕ → ℕ) (k best w r : ℕ) → off best ≡ uppermost f k → off w ≡ f k → off r ≡ upper (off best) (off w) → off r ≡ uppermost f (k + 1)
+uppermost-field f k best w r e d g = uppermost-more f k (off best) (off r) e (g ∙ rw d)
+
+-- A field stands for the number that it was made of.
+pub field-back : (v w : ℕ) → v < signed-full → w ≡ off v → off w ≡ v
+field-back v w h e = ap off e ∙ off-off v h
+
+-- A low value has 32 bits.
+pub low-fits : (x : List ℕ) → Ranged (highs x) → (l : ℕ) → getD x l 0 < signed-full
+low-fits x g l = ⊎-elim
+    (λ (z : getD x l 0 ≡ 0). omega arith)
+    (λ (q : 0 < getD x l 0). omega (arith, high-whole (getD x l 0) q, highs-at x l, g .near l .hi))
+    (eq-zero-or-pos (getD x l 0))
+
 -- The sum of a coefficient and a low value has 32 bits.
 pub sum-most : (table x : List ℕ) → Table raised-limit table → Ranged (highs x) → (row l : ℕ) → sums table row x l ≤ 3255435105
 sum-most table x t g row l = ⊎-elim
@@ -172,12 +187,12 @@ module _ (table : List ℕ) (row : ℕ) (x : List ℕ) (width : ℕ) (t : Table 
   adds-blank l e = rw e (plus-trop-zero (tropOf (getD (highs x) l 0)) .0)
 
   -- A number that stands for the largest is the side, once folded.
-  side-is : (best r : ℕ) → r ≡ folded best → best ≤ 3255435105 → tropOf (high (folded best)) ≡ largest adds width → SideIs table row (highs x) width r
-  side-is best r d few e = rw d (record { is = e; most = folded-within best few .0; least = folded-within best few .1 })
+  side-is : (best : ℕ) → best ≤ 3255435105 → tropOf (high (folded best)) ≡ largest adds width → SideIs table row (highs x) width (folded best)
+  side-is best few e = record { is = e; most = folded-within best few .0; least = folded-within best few .1 }
 
   -- What the loop ends with.
-  pub side-end : (l best r : ℕ) → l ≤ 32 → 32 ≤ l → best ≡ uppermost (sums table row x) l → r ≡ folded best → SideIs table row (highs x) width r
-  side-end l best r h k e d = side-is best r d
+  pub side-end : (l best : ℕ) → l ≤ 32 → 32 ≤ l → best ≡ uppermost (sums table row x) l → SideIs table row (highs x) width (folded best)
+  side-end l best h k e = side-is best
       (rw eq (uppermost-most (sums table row x) 32 3255435105 (λ l b. sum-most table x t (g .ranged) row l)))
       (rw eq (folded-uppermost (sums table row x) 32 ∙ largest-ext _ _ 32 (λ l b. adds-folded l) ∙ largest-rest adds width w adds-past))
     where
@@ -189,9 +204,9 @@ module _ (table : List ℕ) (row : ℕ) (x : List ℕ) (width : ℕ) (t : Table 
   adds-under l = ⊎-elim (λ (b : width ≤ l). subst (λ (z : Trop). z ⊑ largest adds width) (sym (adds-past l b)) blank-least) (largest-above adds width l) (nat-le-or-lt width l)
 
   -- The larger of the sums at the ends is the side.
-  pub side-ends : (ends best r : ℕ) → RowEnds table row ends → ends < 1024 → best ≡ upper (sums table row x (ends / 32)) (sums table row x (ends % 32))
-      → r ≡ folded best → SideIs table row (highs x) width r
-  side-ends ends best r n h e d = side-is best r d
+  pub side-ends : (ends best : ℕ) → RowEnds table row ends → ends < 1024 → best ≡ upper (sums table row x (ends / 32)) (sums table row x (ends % 32))
+      → SideIs table row (highs x) width (folded best)
+  side-ends ends best n h e = side-is best
       (rw e (either (leb (sums table row x (ends / 32)) (sums table row x (ends % 32))) (sum-most table x t (g .ranged) row (ends % 32)) (sum-most table x t (g .ranged) row (ends / 32))))
       (rw e (folded-upper _ _ ∙ ap (λ (z : Trop). larger z (tropOf (high (folded (sums table row x (ends % 32)))))) (adds-folded (ends / 32)) ∙ ap (larger (adds (ends / 32))) (adds-folded (ends % 32)) ∙ both))
     where

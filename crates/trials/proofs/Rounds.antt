@@ -12,19 +12,20 @@ use lib.IntN.{pos}
 use borrow.Author.Tests.{lt-ltb, le-ltb}
 use Rattle.definitions.specs.Limits.{signed-half, lead-limit}
 use Rattle.definitions.specs.Tropical.{Trop, fin, plus}
-use Rattle.definitions.specs.Problem.{Point}
 use Rattle.definitions.specs.Offset.{tropOf}
 use Rattle.definitions.proofs.Whole.{nat-le-or-lt}
 use Rattle.definitions.proofs.Tropical.{largest-ext}
-use Rattle.definitions.proofs.Offset.{trop-zero, trop-fin, trop-minus, trop-show}
+use Rattle.definitions.proofs.Offset.{trop-zero, trop-fin, trop-minus, trop-show, tropOf-injective}
 use Rattle.duality.specs.System.{System}
 use Rattle.duality.specs.Values.{difference, valueAt, exitBy, valuesAfter, values}
 use Rattle.duality.proofs.Weights.{difference-bot, exit-picked, exit-terminal, round-picked, round-terminal, values-still}
 use Rattle.records.specs.Decoded.{Near}
-use Rattle.trials.specs.Tables.{entryOf, systemOf, pointOf, pickOf, raised-limit, value-limit, low-half, side-least, high, highs, Ranged, Lows, Tables}
-use Rattle.trials.specs.Rounds.{SideIs, steppedBy, Stepped, Exits, Level, ValuesIs, SameUpTo}
+use Rattle.trials.specs.Tables.{entryOf, systemOf, pointOf, pickOf, raised-limit, value-limit, low-half, low-fold, side-most, side-least, high, highs, Ranged, Lows, Tables}
+use Rattle.trials.specs.Rounds.{folded, PickedSum, PickedLeft, PickedSums, PickedLefts, steppedBy, Stepped, Exits, Level, ValuesIs, SameUpTo}
+use Rattle.trials.specs.Filled.{Filled}
 use Rattle.trials.proofs.Filled.{filled-map}
-use Rattle.trials.proofs.Low.{high-zero, high-whole, high-blank, highs-at, highs-size}
+use Rattle.trials.proofs.Low.{high-zero, high-whole, high-blank, highs-at, highs-size, filled-highs}
+use Rattle.trials.proofs.Fold.{folded-low, folded-high}
 use Rattle.trials.proofs.Small.{near-small, small-near, small-more, rounds-small}
 
 -- ---- one variable
@@ -61,18 +62,53 @@ zero-is = trop-show signed-half (pos 0) (omega arith) (omega arith)
 pub low-zero-is : tropOf (high low-half) ≡ fin (pos 0)
 low-zero-is = let e : high low-half ≡ signed-half = omega (arith, high-whole low-half (omega arith)) in rw e zero-is
 
--- A variable that picks a row.
-pub stepped-picked : (left right x : List ℕ) (width rows i j s a r : ℕ) → i < rows → SideIs right i x width s
-    → tropOf r ≡ difference (tropOf (high s)) (tropOf (getD left (i * 32 + j) 0))
-    → tropOf r ≡ steppedBy (systemOf left right width rows) i j (pointOf x)
-unfolding steppedBy
-stepped-picked left right x width rows i j s a r h si e = rw (lt-ltb i rows h) (e ∙ ap (λ (z : Trop). difference z (tropOf (getD left (i * 32 + j) 0))) (si .is))
+-- The row that a variable picks, or none: what the round makes of it.
+round-at : (left right x : List ℕ) (width rows i j s l r : ℕ) → PickedSum right x width rows i s → PickedLeft left rows i j l
+    → tropOf r ≡ difference (tropOf (high (folded s))) (tropOf l) → tropOf r ≡ steppedBy (systemOf left right width rows) i j (pointOf (highs x))
+unfolding steppedBy difference
+round-at left right x width rows i j s l r p q e = ⊎-elim
+    (λ (t : rows ≤ i).
+    let f : folded s ≡ low-half = omega (arith, p .none t, folded-high {limit = low-fold} s (omega (arith, p .none t))) in
+    rw (le-ltb i rows t) (e ∙ rw (f, q .none t, low-zero-is, zero-is)))
+    (λ (t : i < rows). rw (lt-ltb i rows t) (e ∙ rw (q .row t) (ap (λ (z : Trop). difference z (tropOf (getD left (i * 32 + j) 0))) (p .row t .is))))
+    (nat-le-or-lt rows i)
 
--- A variable that picks none.
-pub stepped-terminal : (left right : List ℕ) (width rows i j : ℕ) (x : Point) → rows ≤ i
-    → tropOf (high low-half) ≡ steppedBy (systemOf left right width rows) i j x
-unfolding steppedBy
-stepped-terminal left right width rows i j x h = rw (le-ltb i rows h) low-zero-is
+-- Nothing, where both are blank.
+round-blank : (r l : ℕ) → tropOf (high r) ≡ difference (tropOf (high (folded 0))) (tropOf l) → r ≡ 0
+round-blank r l e =
+    let f : high (folded 0) ≡ 0 = ap high (folded-low {limit = low-fold} 0 (omega arith)) ∙ high-zero in
+    high-blank r (tropOf-injective (high r) 0 (rw f at e ∙ sym (gap-blank-side l)))
+
+module _ (left right picks x : List ℕ) (width rows : ℕ) (t : Tables left right width rows) (sums lefts : List ℕ)
+    (p : PickedSums right picks x width rows width sums) (q : PickedLefts left picks rows width lefts) where
+  -- The sums, once folded, are sides, and the others are coefficients.
+  pub picked-fits : (j : ℕ) → (folded (getD sums j 0) ≤ side-most) × (0 < folded (getD sums j 0) → side-least ≤ folded (getD sums j 0)) × (getD lefts j 0 ≤ signed-half + lead-limit)
+  picked-fits j = ⊎-elim
+      (λ (b : width ≤ j).
+      let f : folded (getD sums j 0) ≡ 0 = ap folded (p .rest j b) ∙ folded-low {limit = low-fold} 0 (omega arith) in
+      (omega arith, λ z. absurd (omega arith), omega (arith, q .rest j b)))
+      (λ (b : j < width). ⊎-elim
+      (λ (n : rows ≤ pickOf picks j).
+      let e : getD sums j 0 ≡ signed-half + low-half = p .each j b .none n in
+      let f : folded (getD sums j 0) ≡ low-half = omega (arith, folded-high {limit = low-fold} (getD sums j 0) (omega arith)) in
+      (omega arith, λ z. omega arith, omega (arith, q .each j b .none n)))
+      (λ (n : pickOf picks j < rows).
+      let s = p .each j b .row n in
+      (s .most, s .least, omega (arith, q .each j b .row n, t .lefts .near (pickOf picks j * 32 + j) .hi)))
+      (nat-le-or-lt rows (pickOf picks j)))
+      (nat-le-or-lt width j)
+
+  -- The array that the loop makes of them is that after a round.
+  pub round-end : {n : ℕ} {out : List ℕ} → Filled (λ j v. tropOf (high v) ≡ difference (tropOf (high (folded (getD sums j 0)))) (tropOf (getD lefts j 0))) 32 n out
+      → n ≤ 32 → 32 ≤ n → Stepped (systemOf left right width rows) (pickOf picks) (pointOf (highs x)) (highs out)
+  round-end {n} {out} f h k = filled-highs {xs = out} (record {
+    size-is = f .size-is;
+    each = λ j b. round-at left right x width rows (pickOf picks j) j _ _ _ (p .each j b) (q .each j b) (f .each j (omega (arith, t .width-most)));
+    rest = λ j b. ⊎-elim
+        (λ (m : n ≤ j). f .rest j m)
+        (λ (m : j < n). round-blank (getD out j 0) (getD lefts j 0) (rw (p .rest j b) at (f .each j m)))
+        (nat-le-or-lt n j);
+  })
 
 pub exit-none : (rows i : ℕ) → i < rows → tropOf (high 0) ≡ exitBy (systemOf [] [] 0 rows) i
 exit-none rows i h = rw high-zero trop-zero ∙ sym (exit-picked (systemOf [] [] 0 rows) i h)

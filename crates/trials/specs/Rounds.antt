@@ -13,7 +13,7 @@ use Rattle.definitions.specs.Certificate.{Strategy}
 use Rattle.definitions.specs.Offset.{tropOf}
 use Rattle.duality.specs.System.{System, sideOf}
 use Rattle.duality.specs.Values.{difference, exits, valuesAfter, values}
-use Rattle.trials.specs.Tables.{entryOf, pointOf, high, low-fold, side-most, side-least}
+use Rattle.trials.specs.Tables.{entryOf, pointOf, low-half, high, highs, low-fold, side-most, side-least}
 use Rattle.trials.specs.Filled.{Filled}
 
 -- The larger of two numbers, and the largest of f 0, …, f (k − 1).
@@ -41,6 +41,22 @@ pub record SideIs (table : List ℕ) (row : ℕ) (x : List ℕ) (width r : ℕ) 
   pub is : tropOf (high r) ≡ largest (λ l. plus (entryOf table row l) (pointOf x l)) width
   pub most : r ≤ side-most
   pub least : 0 < r → side-least ≤ r
+
+-- The largest sum in the row that a variable picks, and its left coefficient there. Where it picks none, both stand for 0.
+pub record PickedSum (right x : List ℕ) (width rows pick r : ℕ) : Type 0 where
+  pub row : pick < rows → SideIs right pick (highs x) width (folded r)
+  pub none : rows ≤ pick → r ≡ signed-half + low-half
+
+pub record PickedLeft (left : List ℕ) (rows pick j r : ℕ) : Type 0 where
+  pub row : pick < rows → r ≡ getD left (pick * 32 + j) 0
+  pub none : rows ≤ pick → r ≡ signed-half
+
+-- The same for the first n variables.
+abbrev pub PickedSums : List ℕ → List ℕ → List ℕ → ℕ → ℕ → ℕ → List ℕ → Type 0
+PickedSums right picks x width rows n sums = Filled (λ j v. PickedSum right x width rows (getD picks j 0) v) 32 n sums
+
+abbrev pub PickedLefts : List ℕ → List ℕ → ℕ → ℕ → List ℕ → Type 0
+PickedLefts left picks rows n lefts = Filled (λ j v. PickedLeft left rows (getD picks j 0) j v) 32 n lefts
 
 -- What a round makes of variable j with pick i at the point x: the right side of row i less its left coefficient, or 0
 -- where i is no row.

@@ -10,9 +10,12 @@ ghost use Rattle.definitions.specs.Offset.{tropOf};
 ghost use Rattle.duality.specs.Values.{difference, exitBy};
 ghost use Rattle.trials.specs.Tables.{systemOf, pointOf, pickOf, raised-limit, fold-limit, fold-least, side-most, side-least, high, highs, Table, Lows, Tables};
 ghost use Rattle.trials.specs.Ends.{RowEnds, EndsOf};
-ghost use Rattle.trials.specs.Rounds.{upper, folded, SideIs, steppedBy, Stepped, Exits, ValuesIs, SameUpTo};
+ghost use Rattle.trials.specs.Rounds.{upper, folded, SideIs, PickedSum, PickedLeft, PickedSums, PickedLefts, Stepped, Exits, ValuesIs, SameUpTo};
 use crate::ends::WIDE;
 use records::limits::OFFSET;
+use records::offset::later;
+use records::offset::offset_32;
+use records::offset::raised;
 
 // The low number of 0, and the offset of coefficients.
 pub const LOW: u32 = 1073741824;
@@ -44,31 +47,50 @@ fn fold(k: u32) -> u32
     if k < FOLD { 0 } else { k - HALF }
 }
 
-// One side of a row at low values: the largest of coefficient + variable. All 32 places are looked at, whatever the width:
-// past it there are blanks. Public for `search::guess`.
-pub fn full_side(table: &[u32; 2048], row: usize, x: &[u32; 32], width: usize) -> u32
+// The largest of coefficient + variable in a row, at low values. All 32 places are looked at, whatever the width: past it
+// there are blanks. The sums are compared as fields, with their signs: for these the processor has vectors.
+fn full_sum(table: &[u32; 2048], row: usize, x: &[u32; 32], width: usize) -> u32
     requires { ⌜ (row < 64) × (width ≤ 32) × Table raised-limit (now table) × Lows width (now x) ⌝ }
-    ensures { λ r. ⌜ SideIs (now (table .entry)) row (highs (now (x .entry))) width r ⌝ }
+    ensures { λ r. ⌜ SideIs (now (table .entry)) row (highs (now (x .entry))) width (folded r) ⌝ }
 {
     let base = row * 32;
-    let mut best = 0;
+    let mut best = offset_32(0);
     let mut l = 0;
     while l < 32 {
-        best = larger(best, table[base + l] + x[l]);
+        best = later(best, raised(offset_32(x[l]), table[base + l]));
         l += 1;
     }
-    fold(best)
+    offset_32(best)
 }
 
-// The side of a row by its ends: the larger of two sums.
-fn end_side(table: &[u32; 2048], ends: u32, row: usize, x: &[u32; 32], width: usize) -> u32
+// The same by the row's ends: the larger of two sums.
+fn end_sum(table: &[u32; 2048], ends: u32, row: usize, x: &[u32; 32], width: usize) -> u32
     requires { ⌜ (row < 64) × (width ≤ 32) × Table raised-limit (now table) × Lows width (now x) × RowEnds (now table) row ends × (ends < 1024) ⌝ }
-    ensures { λ r. ⌜ SideIs (now (table .entry)) row (highs (now (x .entry))) width r ⌝ }
+    ensures { λ r. ⌜ SideIs (now (table .entry)) row (highs (now (x .entry))) width (folded r) ⌝ }
 {
     let base = row * 32;
     let first = (ends / 32) as usize;
     let last = (ends % 32) as usize;
-    fold(larger(table[base + first] + x[first], table[base + last] + x[last]))
+    larger(table[base + first] + x[first], table[base + last] + x[last])
+}
+
+// The same by its ends or whole.
+fn row_sum(table: &[u32; 2048], ends: u32, row: usize, x: &[u32; 32], width: usize) -> u32
+    requires { ⌜ (row < 64) × (width ≤ 32) × Table raised-limit (now table) × Lows width (now x) × RowEnds (now table) row ends ⌝ }
+    ensures { λ r. ⌜ SideIs (now (table .entry)) row (highs (now (x .entry))) width (folded r) ⌝ }
+{
+    if ends < WIDE {
+        return end_sum(table, ends, row, x, width);
+    }
+    full_sum(table, row, x, width)
+}
+
+// One side of a row at low values. Public for `search::guess`.
+pub fn full_side(table: &[u32; 2048], row: usize, x: &[u32; 32], width: usize) -> u32
+    requires { ⌜ (row < 64) × (width ≤ 32) × Table raised-limit (now table) × Lows width (now x) ⌝ }
+    ensures { λ r. ⌜ SideIs (now (table .entry)) row (highs (now (x .entry))) width r ⌝ }
+{
+    fold(full_sum(table, row, x, width))
 }
 
 // One side of a row at low values, by its ends or whole. Public for `policy` and for `search::guess`.
@@ -77,7 +99,7 @@ pub fn side(table: &[u32; 2048], ends: u32, row: usize, x: &[u32; 32], width: us
     ensures { λ r. ⌜ SideIs (now (table .entry)) row (highs (now (x .entry))) width r ⌝ }
 {
     if ends < WIDE {
-        return end_side(table, ends, row, x, width);
+        return fold(end_sum(table, ends, row, x, width));
     }
     full_side(table, row, x, width)
 }
@@ -110,31 +132,68 @@ fn given(side: u32, left: u32) -> u32
     side + HALF - left
 }
 
-// What a round makes of one variable: by the row that it picks, or 0 where it picks none.
-fn stepped(
-    left: &[u32; 2048],
+// The largest sum in the row that a variable picks, or one that stands for 0 where it picks none.
+fn picked_sum(
     right: &[u32; 2048],
     rights: &[u32; 64],
     pick: usize,
-    j: usize,
     x: &[u32; 32],
     width: usize,
     rows: usize,
 ) -> u32
-    requires { ⌜ Tables (now left) (now right) width rows × Lows width (now x) × (j < width) × EndsOf (now right) rows (now rights) ⌝ }
-    ensures { λ r. ⌜ tropOf (high r) ≡ steppedBy (systemOf (now (left .entry)) (now (right .entry)) width rows) pick j (pointOf (highs (now (x .entry)))) ⌝ }
+    requires { ⌜ (rows ≤ 64) × (width ≤ 32) × Table raised-limit (now right) × Lows width (now x) × EndsOf (now right) rows (now rights) ⌝ }
+    ensures { λ r. ⌜ PickedSum (now (right .entry)) (now (x .entry)) width rows pick r ⌝ }
 {
     if pick < rows {
-        given(
-            side(right, rights[pick], pick, x, width),
-            left[pick * 32 + j],
-        )
+        row_sum(right, rights[pick], pick, x, width)
     } else {
-        LOW
+        HALF + LOW
     }
 }
 
-// One round: every variable by its pick.
+// The left coefficient of variable j there, or 0.
+fn picked_left(left: &[u32; 2048], pick: usize, j: usize, rows: usize) -> u32
+    requires { ⌜ (rows ≤ 64) × Table lead-limit (now left) × (j < 32) ⌝ }
+    ensures { λ r. ⌜ PickedLeft (now (left .entry)) rows pick j r ⌝ }
+{
+    if pick < rows {
+        left[pick * 32 + j]
+    } else {
+        HALF
+    }
+}
+
+// What a round is made of, for every variable: a sum, not folded yet, and a left coefficient.
+pub struct Picked {
+    pub sums: [u32; 32],
+    pub lefts: [u32; 32],
+}
+
+fn picked_rows(
+    left: &[u32; 2048],
+    right: &[u32; 2048],
+    rights: &[u32; 64],
+    picks: &[usize; 32],
+    x: &[u32; 32],
+    width: usize,
+    rows: usize,
+) -> Picked
+    requires { ⌜ Tables (now left) (now right) width rows × (length (now picks) ≡ 32) × Lows width (now x) × EndsOf (now right) rows (now rights) ⌝ }
+    ensures { λ r. ⌜ PickedSums (now (right .entry)) (now (picks .entry)) (now (x .entry)) width rows width (r .sums) × PickedLefts (now (left .entry)) (now (picks .entry)) rows width (r .lefts) ⌝ }
+{
+    let mut sums = [0u32; 32];
+    let mut lefts = [0u32; 32];
+    let mut j = 0;
+    while j < width {
+        let pick = picks[j];
+        sums[j] = picked_sum(right, rights, pick, x, width, rows);
+        lefts[j] = picked_left(left, pick, j, rows);
+        j += 1;
+    }
+    Picked { sums, lefts }
+}
+
+// One round: every variable by its pick. The sums are folded all at once, as vectors: one by one they would be branches.
 fn round_from(
     left: &[u32; 2048],
     right: &[u32; 2048],
@@ -147,10 +206,13 @@ fn round_from(
     requires { ⌜ Tables (now left) (now right) width rows × (length (now picks) ≡ 32) × Lows width (now x) × EndsOf (now right) rows (now rights) ⌝ }
     ensures { λ r. ⌜ Stepped (systemOf (now (left .entry)) (now (right .entry)) width rows) (pickOf (now (picks .entry))) (pointOf (highs (now (x .entry)))) (highs r) ⌝ }
 {
+    let picked = picked_rows(left, right, rights, picks, x, width, rows);
+    let sums = picked.sums;
+    let lefts = picked.lefts;
     let mut out = [0u32; 32];
     let mut j = 0;
-    while j < width {
-        out[j] = stepped(left, right, rights, picks[j], j, x, width, rows);
+    while j < 32 {
+        out[j] = given(fold(sums[j]), lefts[j]);
         j += 1;
     }
     out

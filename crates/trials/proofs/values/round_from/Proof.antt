@@ -1,21 +1,23 @@
 use Prim.Native.Nat.{_≤_, _-_}
 use mathlib.Core.Path.{_≡_}
 use native.Mathlib.Omega.{arith}
+use lib.ListN.{getD}
 use Rattle.definitions.specs.Offset.{tropOf}
-use Rattle.trials.specs.Tables.{systemOf, pointOf, pickOf, high, highs}
+use Rattle.duality.specs.Values.{difference}
+use Rattle.trials.specs.Tables.{high}
 use Rattle.trials.specs.Filled.{Filled}
-use Rattle.trials.specs.Rounds.{steppedBy}
-use Rattle.trials.proofs.Filled.{filled-none, filled-more, filled-end}
-use Rattle.trials.proofs.Low.{filled-highs}
+use Rattle.trials.specs.Rounds.{folded}
+use Rattle.trials.proofs.Filled.{filled-none, filled-more}
+use Rattle.trials.proofs.Rounds.{picked-fits, round-end}
 use borrow.Author.Needs.{needs}
 use Rattle.trials.proofs.values.round_from.Statement.{statement}
 use Rattle.trials.proofs.values.round_from.Tie as tie
 
 abbrev Inv-loop : tie.InvT-loop
-Inv-loop left right rights picks x width rows out₀ j₀ out j = (j ≤ width) × Filled (λ k v. tropOf (high v) ≡ steppedBy (systemOf left right width rows) (pickOf picks k) k (pointOf (highs x))) 32 j out
+Inv-loop left right rights picks x width rows sums lefts out₀ j₀ out j = (j ≤ 32) × Filled (λ k v. tropOf (high v) ≡ difference (tropOf (high (folded (getD sums k 0)))) (tropOf (getD lefts k 0))) 32 j out
 
 abbrev μ-loop : tie.MeasureT-loop
-μ-loop left right rights picks x width rows out₀ j₀ out j = width - j
+μ-loop left right rights picks x width rows sums lefts out₀ j₀ out j = 32 - j
 
 pub round-from-spec : {M : Type 1} → statement M
 round-from-spec =
@@ -23,13 +25,25 @@ round-from-spec =
     (tie.spec
     Inv-loop
     μ-loop
+    (λ c κs. search needs)
     (λ c. (omega arith, filled-none 32))
     (λ c. search needs)
     (λ c. search needs)
     (λ c κs. search needs)
     (λ c. search needs)
     (λ c. search needs)
+    (λ c κs.
+    let start = c .before .before .before .before .before .before in
+    let a = start .args in
+    let rows = c .before .before .before .before .before .picked-rows in
+    rw (c .fold .ensures) (picked-fits (a .left .now) (a .right .now) (a .picks .now) (a .x .now) (a .width) (a .rows) (start .pre .0) (rows .result .sums) (rows .result .lefts) (rows .ensures .0) (rows .ensures .1) _))
     (λ c. search needs)
     (λ c. search needs)
-    (λ c. (omega arith, filled-more (c .before .before .before .loop .inv .1) (omega arith) (c .stepped .ensures)))
-    (λ c. filled-highs (filled-end (c .before .loop .inv .1) (omega arith) (omega arith))))
+    (λ c. search needs)
+    (λ c. search needs)
+    (λ c. (omega arith, filled-more (c .before .before .before .loop .inv .1) (omega arith) (rw (c .before .fold .ensures) at (c .given .ensures))))
+    (λ c.
+    let start = c .before .before .before .before .before in
+    let a = start .args in
+    let rows = c .before .before .before .before .picked-rows in
+    round-end (a .left .now) (a .right .now) (a .picks .now) (a .x .now) (a .width) (a .rows) (start .pre .0) (rows .result .sums) (rows .result .lefts) (rows .ensures .0) (rows .ensures .1) (c .before .loop .inv .1) (omega arith) (omega arith)))

@@ -2,11 +2,11 @@ use Prim.Native.Nat.{_/_, _%_}
 use native.Mathlib.Omega.{arith}
 use Rattle.trials.proofs.Fold.{sum-most, side-ends}
 use borrow.Author.Needs.{needs}
-use Rattle.trials.proofs.values.end_side.Statement.{statement}
-use Rattle.trials.proofs.values.end_side.Tie as tie
+use Rattle.trials.proofs.values.end_sum.Statement.{statement}
+use Rattle.trials.proofs.values.end_sum.Tie as tie
 
-pub end-side-spec : {M : Type 1} → statement M
-end-side-spec =
+pub end-sum-spec : {M : Type 1} → statement M
+end-sum-spec =
     tie.close
     (tie.spec
     (λ c. search needs)
@@ -25,5 +25,4 @@ end-side-spec =
     (λ c. search needs)
     (λ c. let start = c .before .before .before .before in let a = start .args in omega (arith, sum-most (a .table .now) (a .x .now) (start .pre .2) (start .pre .3 .ranged) (a .row) (a .ends % 32)))
     (λ c κs. search needs)
-    (λ c κs. search needs)
-    (λ c. let start = c .before .before .before .before .before .before in let a = start .args in side-ends (a .table .now) (a .row) (a .x .now) (a .width) (start .pre .2) (start .pre .3) (start .pre .1) (a .ends) _ _ (start .pre .4) (start .pre .5) (c .before .larger .ensures) (c .fold .ensures)))
+    (λ c. let start = c .before .before .before .before .before in let a = start .args in side-ends (a .table .now) (a .row) (a .x .now) (a .width) (start .pre .2) (start .pre .3) (start .pre .1) (a .ends) _ (start .pre .4) (start .pre .5) (c .larger .ensures)))
