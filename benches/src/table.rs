@@ -64,15 +64,16 @@ pub fn print(effort: Effort) {
     println!("All engines agreed on class, span and trials, and both checkers accepted every answer.");
     println!();
     let sets: Vec<(Family, Set)> = FAMILIES.into_iter().map(|family| (family, set(effort, family, 31, 63))).collect();
-    solving(effort, &sets);
-    checking(effort, &sets);
+    let solve_times = solving(effort, &sets);
+    checking(effort, &sets, &solve_times);
     growth(effort);
 }
 
-/// A line a family.
-fn solving(effort: Effort, sets: &[(Family, Set)]) {
+/// A line a family; the library's times.
+fn solving(effort: Effort, sets: &[(Family, Set)]) -> Vec<f64> {
     let names = UNPROVED.map(|(name, _)| name).join("  ");
     println!("solve                        trials  library  {names}  ratio  to halving");
+    let mut times = Vec::new();
     for (family, set) in sets {
         let [(_, a), (_, b), (_, c), (_, d)] = UNPROVED;
         let calls = [library_solves(set), solves(set, a), solves(set, b), solves(set, c), solves(set, d)];
@@ -89,23 +90,29 @@ fn solving(effort: Effort, sets: &[(Family, Set)]) {
             .collect();
         let (name, trials, columns) = (family.name(), set.trials, columns.join("  "));
         println!("{name:<28} {trials:>6.1} {time:>8.1}  {columns}  {ratio:>5.2} {to_halving:>11.2}");
+        times.push(time);
     }
     println!(
         "ratio: the library's time by that of the fastest unproved engine in the line, and of the faster by halving"
     );
     println!();
+    times
 }
 
-/// A line a family; `solve` is measured again, turn about with `check`, so that the part is of one stretch of time.
-fn checking(effort: Effort, sets: &[(Family, Set)]) {
-    println!("check                        library  unproved  ratio  part of solve");
-    for (family, set) in sets {
-        let calls = [checks(set, library_accepts), checks(set, unproved_accepts), library_solves(set)];
-        let [time, other, solve] = microseconds(effort, set.problems.len(), calls);
-        let (ratio, part) = (time / other, time / solve);
-        println!("{:<28} {time:>7.1} {other:>9.1} {ratio:>6.2} {part:>14.3}", family.name());
+/// A line a family. `check` is measured a second time, turn about with `solve`: what the processor has learnt of the branches
+/// of a check is then lost between two rounds of checks, as it is where a check is one call among others.
+fn checking(effort: Effort, sets: &[(Family, Set)], solve_times: &[f64]) {
+    println!("check                        library  unproved  ratio  part of solve  turn about with solve  part");
+    for ((family, set), solve_time) in sets.iter().zip(solve_times) {
+        let count = set.problems.len();
+        let calls = [checks(set, library_accepts), checks(set, unproved_accepts)];
+        let [time, other] = microseconds(effort, count, calls);
+        let [among, solve] = microseconds(effort, count, [checks(set, library_accepts), library_solves(set)]);
+        let (ratio, part, part_among) = (time / other, time / solve_time, among / solve);
+        let name = family.name();
+        println!("{name:<28} {time:>7.1} {other:>9.1} {ratio:>6.2} {part:>14.3} {among:>22.1} {part_among:>5.3}");
     }
-    println!("part of solve: the library's check by the library's solve of the same problems, turn about");
+    println!("part of solve: the library's check by the library's solve of the same problems");
     println!();
 }
 

@@ -20,7 +20,7 @@ use records::limits::STRIDE;
 use records::limits::TABLE;
 
 // The offset number of the least lead.
-const LEAST_LEAD: u32 = 2147473568;
+const LEAST_LEAD: u32 = (OFFSET - LEAD_LIMIT) as u32;
 
 // What row i is raised by: t for the objective, 0 for an inequality.
 fn raise_of(t: u64, m: usize, i: usize) -> u64
