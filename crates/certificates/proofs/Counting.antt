@@ -11,11 +11,8 @@ use lib.ListN.{getD}
 use borrow.Author.Tests.{eqb-false, eqb-true, not-true, not-false}
 use Rattle.walks.specs.Decides.{Decides}
 use Rattle.certificates.specs.Counts.{PickCounts, RowPickCounts, Idle, Stands}
+use Rattle.walks.proofs.Lists.{above-zero}
 use Rattle.walks.proofs.Decides.{decides-as}
-
--- Not 0: above 0.
-pub above-zero : {k : ℕ} → (k ≡ 0 → ⊥) → 0 < k
-above-zero {k} d = ⊎-elim (λ e. absurd (d e)) (λ h. h) (eq-zero-or-pos k)
 
 -- The test `x != 0`.
 pub nonzero-decides : (x : ℕ) → Decides (0 < x) (not (eqb x 0))

@@ -2,4 +2,3 @@ pub mod Counting
 pub mod Certified
 pub mod Variables
 pub mod RowStrategy
-pub mod Sides

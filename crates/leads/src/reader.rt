@@ -70,7 +70,8 @@ pub fn lead_in(bytes: &[u8], at: usize) -> u32
     offset_32(word_in(bytes, at))
 }
 
-// Where the leads of row i start, in a problem of n + 1 variables. Public for `walks::arcs`, `certificates`.
+// Where the leads of row i start, in a problem of n + 1 variables. Public for `walks::arcs`, `points`,
+// `certificates::certify`.
 pub fn row_place(n: usize, i: usize) -> usize
     requires { ⌜ (n ≤ 31) × (i ≤ 63) ⌝ }
     ensures { λ r. ⌜ (r ≡ leftPlace n i 0) × (r ≤ 16138) ⌝ }

@@ -55,7 +55,7 @@ fn wide_32(x: u8) -> u32
 }
 
 // A field of 4 bytes that lies inside the string, in 32 bits: the loops over leads become vector code. Public for
-// `leads::reader`, `answers::answer`, `certificates::point`.
+// `leads::reader`, `answers::answer`, `points`.
 pub fn word_in(s: &[u8], at: usize) -> u32
     requires { ⌜ at + 4 ≤ length (now s) ⌝ }
     ensures { λ r. ⌜ (r ≡ numAt 4 (now (s .entry)) at) × (r < 4294967296) ⌝ }

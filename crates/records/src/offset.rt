@@ -18,7 +18,7 @@ pub fn offset(w: u64) -> u64
 }
 
 // The same in 32 bits. Public for `leads::reader`, `answers::answer`, `trials::values`, `walks::gains`,
-// `certificates::point`.
+// `points`.
 pub fn offset_32(w: u32) -> u32
     requires { ⌜ w < signed-full ⌝ }
     ensures { λ r. ⌜ (r ≡ off w) × (r < signed-full) ⌝ }
@@ -32,7 +32,7 @@ pub fn offset_32(w: u32) -> u32
 
 // The later of two 4-byte fields, the one with the larger offset number. As fields they are compared with their signs, for
 // which the processor has vectors; offset numbers it has first to turn into fields. Public for `trials`, `walks`,
-// `certificates`.
+// `points`.
 pub fn later(a: u32, b: u32) -> u32
     requires { ⌜ (a < signed-full) × (b < signed-full) ⌝ }
     ensures { λ r. ⌜ (off r ≡ cond (leb (off a) (off b)) (off b) (off a)) × (r < signed-full) ⌝ }
@@ -40,7 +40,7 @@ pub fn later(a: u32, b: u32) -> u32
     if offset_32(a) <= offset_32(b) { b } else { a }
 }
 
-// A 4-byte field with a number added to its offset number. Public for `walks`, `certificates`.
+// A 4-byte field with a number added to its offset number. Public for `trials`, `points`.
 pub fn raised(w: u32, d: u32) -> u32
     requires { ⌜ (w < signed-full) × (off w + d < signed-full) ⌝ }
     ensures { λ r. ⌜ (off r ≡ off w + d) × (r < signed-full) ⌝ }

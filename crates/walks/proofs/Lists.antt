@@ -5,12 +5,19 @@ use mathlib.Core.Bool.{Bool, true, false, cond}
 use mathlib.Core.List.{List}
 use mathlib.Core.Logic.{_⊎_, inl, inr, ⊎-elim}
 use native.Mathlib.Omega.{arith}
+use native.Mathlib.Nat.{eq-zero-or-pos}
 use lib.Dec.{leb}
 use lib.ListN.{length, getD, set, length-set}
 use lib.Seq.{getD-set-same, getD-set-other}
 use borrow.Author.Tests.{leb-true, leb-false}
 use Rattle.definitions.proofs.Whole.{nat-le-or-lt}
 use Rattle.walks.specs.Lists.{most, Filled}
+
+-- ---- numbers
+
+-- Not 0: above 0.
+pub above-zero : {k : ℕ} → (k ≡ 0 → ⊥) → 0 < k
+above-zero {k} d = ⊎-elim (λ e. absurd (d e)) (λ h. h) (eq-zero-or-pos k)
 
 -- ---- the larger of two
 

@@ -34,7 +34,7 @@ past-none places = refl
 
 pub past-more : (places : List ℕ) (i : ℕ) → past places (i + 1) ≡ getD places i 0 + 1
 unfolding past
-past-more places i = rw (add-one, add-one) refl
+past-more places i = let e : i + 1 ≡ suc i = omega arith in rw e (omega arith)
 
 -- One past the last place is at most the width.
 pub past-most : {marks : List ℕ} {width : ℕ} {places : List ℕ} {count : ℕ} → Ordered marks width places count → (i : ℕ) → i ≤ count → past places i ≤ width

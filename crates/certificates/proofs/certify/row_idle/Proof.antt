@@ -1,7 +1,7 @@
 use borrow.Author.Needs.{needs}
 use Rattle.certificates.specs.Counts.{Idle}
 use mathlib.Core.Logic.{⊎-elim}
-use Rattle.certificates.proofs.Counting.{above-zero}
+use Rattle.walks.proofs.Lists.{above-zero}
 use Rattle.walks.proofs.Decides.{said-yes, said-no}
 use borrow.Author.Count.{below-more}
 use native.Mathlib.Omega.{arith}
