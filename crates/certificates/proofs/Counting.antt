@@ -1,6 +1,6 @@
 -- Laws of the picks that count, on the tables.
 use Prim.Native.Nat.{ℕ, _+_, _*_, _-_, _<_}
-use mathlib.Core.Path.{_≡_}
+use mathlib.Core.Path.{_≡_, subst}
 use mathlib.Core.Bool.{Bool, not}
 use mathlib.Core.List.{List}
 use mathlib.Core.Logic.{⊎-elim}
@@ -10,8 +10,10 @@ use lib.Dec.{eqb}
 use lib.ListN.{getD}
 use borrow.Author.Tests.{eqb-false, eqb-true, not-true, not-false}
 use Rattle.walks.specs.Decides.{Decides}
-use Rattle.certificates.specs.Counts.{PickCounts, RowPickCounts, Idle, Stands}
+use Rattle.certificates.specs.Counts.{PickCounts, RowPickCounts, VariablesCount, PlacesCount, Idle, Stands}
+use Rattle.walks.specs.Order.{Ordered}
 use Rattle.walks.proofs.Lists.{above-zero}
+use Rattle.walks.proofs.Order.{found}
 use Rattle.walks.proofs.Decides.{decides-as}
 
 -- The test `x != 0`.
@@ -23,15 +25,22 @@ nonzero-decides x = record {
 
 -- ---- variables
 
-pub pick-none : {left : List ℕ} {pick mark j : ℕ} → (mark ≡ 0 → ⊥) → pick ≡ 0 → (0 < mark → PickCounts left pick j) → ⊥
-pick-none d e h = let c = h (above-zero d) in omega (arith, c .picked)
+pub pick-none : {left : List ℕ} {pick j : ℕ} → pick ≡ 0 → PickCounts left pick j → ⊥
+pick-none e c = omega (arith, c .picked)
 
-pub pick-decides : (left : List ℕ) {pick mark : ℕ} (j : ℕ) → (mark ≡ 0 → ⊥) → (pick ≡ 0 → ⊥)
-    → Decides (0 < mark → PickCounts left pick j) (not (eqb (getD left ((pick - 1) * 32 + j) 0) 0))
-pick-decides left {pick} {mark} j d e = decides-as
-    (λ h _. record { row = pick - 1; picked = omega (arith, above-zero e); some = h })
-    (λ f. let c = f (above-zero d) in let q : pick - 1 ≡ c .row = omega (arith, c .picked) in rw q (c .some))
+pub pick-decides : (left : List ℕ) {pick : ℕ} (j : ℕ) → (pick ≡ 0 → ⊥) → Decides (PickCounts left pick j) (not (eqb (getD left ((pick - 1) * 32 + j) 0) 0))
+pick-decides left {pick} j e = decides-as
+    (λ h. record { row = pick - 1; picked = omega (arith, above-zero e); some = h })
+    (λ c. let q : pick - 1 ≡ c .row = omega (arith, c .picked) in rw q (c .some))
     (nonzero-decides (getD left ((pick - 1) * 32 + j) 0))
+
+-- The picks of all marked variables count exactly when those of an order of them do.
+pub order-counts : {left : List ℕ} (picks : List ℕ) {marks : List ℕ} {width : ℕ} {places : List ℕ} {count : ℕ} {r : Bool} → Ordered marks width places count
+    → Decides (PlacesCount left picks places count) r → Decides (VariablesCount left picks marks width) r
+order-counts {left} picks o d = decides-as
+    (λ h j b m. let f = found o j m b in subst (λ k. PickCounts left (getD picks k 0) k) (f .is) (h (f .at) (f .inside)))
+    (λ h i b. h _ (o .inside i b) (o .marked i b))
+    d
 
 -- ---- rows
 

@@ -21,6 +21,10 @@ pub record RowPickCounts (right : List ℕ) (pick base : ℕ) : Type 0 where
 abbrev pub VariablesCount : List ℕ → List ℕ → List ℕ → ℕ → Type 0
 VariablesCount left picks marks k = (j : ℕ) → j < k → Marked marks j → PickCounts left (getD picks j 0) j
 
+-- So has each variable of the first `count` places of an order.
+abbrev pub PlacesCount : List ℕ → List ℕ → List ℕ → ℕ → Type 0
+PlacesCount left picks places count = (i : ℕ) → i < count → PickCounts left (getD picks (getD places i 0) 0) (getD places i 0)
+
 -- The row that starts at `base` has only blank left coefficients of marked variables below k.
 abbrev pub Idle : List ℕ → List ℕ → ℕ → ℕ → Type 0
 Idle left marks base k = (j : ℕ) → j < k → Marked marks j → getD left (base + j) 0 ≡ 0

@@ -15,7 +15,7 @@ ghost use Rattle.duality.specs.Picks.{AtLeastZero};
 ghost use Rattle.leads.specs.Tables.{leftTable, Laid};
 ghost use Rattle.walks.specs.Decides.{Decides};
 ghost use Rattle.walks.specs.Tables.{Sized, Holds, Picked, Trial};
-ghost use Rattle.certificates.specs.Counts.{PickCounts, RowPickCounts, VariablesCount, Idle, Stands, RowsCount};
+ghost use Rattle.certificates.specs.Counts.{PickCounts, RowPickCounts, PlacesCount, Idle, Stands, RowsCount};
 use leads::reader::lead_in;
 use leads::reader::row_place;
 use reach::ARCS;
@@ -27,15 +27,13 @@ use records::limits::TABLE;
 use walks::arcs::row_arcs;
 use walks::arcs::variable_arcs;
 use walks::gains::none_gains;
+use walks::gains::order_of;
 
-// A variable that is not marked, or whose pick counts.
-fn variable_counts(bytes: &[u8], n: usize, m: usize, mark: u8, pick: usize, j: usize) -> bool
+// A variable's pick counts.
+fn variable_counts(bytes: &[u8], n: usize, m: usize, pick: usize, j: usize) -> bool
     requires { ⌜ Laid (now bytes) n m × (pick ≤ m + 1) × (j ≤ n) ⌝ }
-    ensures { λ r. ⌜ Decides (0 < mark → PickCounts (leftTable (now (bytes .entry))) pick j) r ⌝ }
+    ensures { λ r. ⌜ Decides (PickCounts (leftTable (now (bytes .entry))) pick j) r ⌝ }
 {
-    if mark == 0 {
-        return true;
-    }
     if pick == 0 {
         return false;
     }
@@ -43,13 +41,21 @@ fn variable_counts(bytes: &[u8], n: usize, m: usize, mark: u8, pick: usize, j: u
     lead_in(bytes, at + LEAD_BYTES * j) != 0
 }
 
-// Every marked variable has a pick that counts.
-fn variables_count(bytes: &[u8], n: usize, m: usize, picks: &[u64; 64], marks: &[u8; 32]) -> bool
-    requires { ⌜ Laid (now bytes) n m × Picked (now picks) (m + 1) ⌝ }
-    ensures { λ r. ⌜ Decides (VariablesCount (leftTable (now (bytes .entry))) (now (picks .entry)) (now (marks .entry)) (n + 1)) r ⌝ }
+// The pick of each variable of an order counts.
+fn variables_count(
+    bytes: &[u8],
+    n: usize,
+    m: usize,
+    picks: &[u64; 64],
+    places: &[usize; 32],
+    count: usize,
+) -> bool
+    requires { ⌜ Laid (now bytes) n m × Picked (now picks) (m + 1) × (count ≤ 32) × ((i : ℕ) → i < count → getD (now places) i 0 ≤ n) ⌝ }
+    ensures { λ r. ⌜ Decides (PlacesCount (leftTable (now (bytes .entry))) (now (picks .entry)) (now (places .entry)) count) r ⌝ }
 {
-    for j in 0..n + 1 {
-        if !variable_counts(bytes, n, m, marks[j], picks[j] as usize, j) {
+    for i in 0..count {
+        let j = places[i];
+        if !variable_counts(bytes, n, m, picks[j] as usize, j) {
             return false;
         }
     }
@@ -65,7 +71,9 @@ pub fn certify_variables(bytes: &[u8], n: usize, m: usize, picks: &[u64; 64], t:
     let mut arcs = [0u32; ARCS];
     variable_arcs(&mut arcs, bytes, n, m, picks, t);
     let marks = reach(&arcs, width, anchor());
-    if !variables_count(bytes, n, m, picks, &marks) {
+    let order = order_of(&marks, width);
+    let places = order.places;
+    if !variables_count(bytes, n, m, picks, &places, order.count) {
         return false;
     }
     none_gains(&arcs, &marks, width)

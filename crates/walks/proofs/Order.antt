@@ -104,3 +104,30 @@ module _ {marks : List ℕ} {j : ℕ} {places : List ℕ} {count : ℕ} (o : Ord
       (λ (z : getD marks j 0 ≡ 0). let q : r ≡ count = e ∙ rw (eq-eqb (getD marks j 0) 0 z) refl in rw q (order-kept z))
       (λ (h : 0 < getD marks j 0). let q : r ≡ count + 1 = e ∙ rw (ne-eqb (getD marks j 0) 0 (omega arith)) refl in rw q (order-more (λ z. omega arith)))
       (eq-zero-or-pos (getD marks j 0))
+
+-- ---- a marked variable is in the order
+
+-- Its place.
+pub record Found (places : List ℕ) (count j : ℕ) : Type 0 where
+  pub at : ℕ
+  pub inside : at < count
+  pub is : getD places at 0 ≡ j
+
+module _ {marks : List ℕ} {width : ℕ} {places : List ℕ} {count : ℕ} (o : Ordered marks width places count) (j : ℕ) (m : Marked marks j) where
+  -- Looked for from the last place down.
+  found-below : (k : ℕ) → k ≤ count → j < past places k → Found places count j
+  unfolding past
+  found-below zero h b = absurd (omega arith)
+  found-below (suc k) h b = ⊎-elim
+      (λ (l : getD places k 0 ≤ j). record { at = k; inside = omega arith; is = omega arith })
+      (λ (l : j < getD places k 0). ⊎-elim
+      (λ (p : past places k ≤ j). absurd (o .between k j (omega arith) p l m))
+      (λ (p : j < past places k). found-below k (omega arith) p)
+      (nat-le-or-lt (past places k) j))
+      (nat-le-or-lt (getD places k 0) j)
+
+  pub found : j < width → Found places count j
+  found b = ⊎-elim
+      (λ (p : past places count ≤ j). absurd (o .after j p b m))
+      (λ (p : j < past places count). found-below count (omega arith) p)
+      (nat-le-or-lt (past places count) j)

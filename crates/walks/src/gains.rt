@@ -62,8 +62,8 @@ fn counted(count: usize, mark: u8) -> usize
 }
 
 // The marked variables in order: each variable takes the next place, and keeps it if it is marked. So there is no branch here,
-// and none on marks in the rounds.
-fn order_of(marks: &[u8; 32], width: usize) -> Order
+// and none on marks in the rounds. Public for `certificates::certify`.
+pub fn order_of(marks: &[u8; 32], width: usize) -> Order
     requires { ⌜ Flags (now marks) × (width ≤ 32) ⌝ }
     ensures { λ r. ⌜ Ordered (now (marks .entry)) width (r .places) (r .count) ⌝ }
 {

@@ -1,7 +1,7 @@
 use borrow.Author.Needs.{needs}
 use Rattle.leads.proofs.LeadTables.{row-inside, left-lead-at}
 use Rattle.certificates.proofs.Counting.{pick-none, pick-decides}
-use Rattle.walks.proofs.Decides.{said-yes, said-no}
+use Rattle.walks.proofs.Decides.{said-no}
 use native.Mathlib.Omega.{arith}
 use Prim.Native.Nat.{_-_}
 use Rattle.certificates.proofs.certify.variable_counts.Statement.{statement}
@@ -11,14 +11,13 @@ pub variable-counts-spec : {M : Type 1} → statement M
 variable-counts-spec =
     tie.close
     (tie.spec
-    (λ c. said-yes (λ h. absurd (omega arith)))
-    (λ c. said-no (pick-none (c .before .if1 .left) (c .if2 .taken)))
+    (λ c. said-no (pick-none (c .if1 .taken)))
     (λ c. search needs)
     (λ c κs. search needs)
     (λ c. search needs)
     (λ c. search needs)
-    (λ c κs. let start = c .before .before .before .before in
+    (λ c κs. let start = c .before .before .before in
     omega (arith, row-inside (start .pre .0) (start .args .pick - 1) (omega arith)))
-    (λ c. let start = c .before .before .before .before .before in
+    (λ c. let start = c .before .before .before .before in
     let e = left-lead-at (start .pre .0) (start .args .pick - 1) (c .before .row-place .result) (start .args .j) (omega arith) (c .before .row-place .ensures .0) (omega arith) in
-    rw (c .lead-in .ensures .0, ← e) (pick-decides _ _ (c .before .before .before .if1 .left) (c .before .before .if2 .left))))
+    rw (c .lead-in .ensures .0, ← e) (pick-decides _ _ (c .before .before .if1 .left))))
