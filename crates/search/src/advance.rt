@@ -42,11 +42,11 @@ fn highest_trial(search: Search) -> u64
     requires { ⌜ Budgeted search × (search .blocked + 1 < search .reached) ⌝ }
     ensures { λ r. ⌜ Affordable search r ⌝ }
 {
-    let half = search.room / 2;
-    if search.reached <= search.blocked + half {
+    let step = search.room / 2;
+    if search.reached <= search.blocked + step {
         return search.reached - 1;
     }
-    search.blocked + half
+    search.blocked + step
 }
 
 // The next trial: one below a span, within the budget.
