@@ -16,17 +16,20 @@ use Rattle.definitions.specs.Solved.{Answers, IdleVariables}
 use Rattle.definitions.proofs.Offset.{trop-zero}
 use Rattle.definitions.proofs.Refusals.{form-fits}
 use Rattle.duality.specs.System.{Blocks, systemAt}
-use Rattle.duality.specs.Within.{Within, upper}
+use Rattle.duality.specs.Within.{upper}
 use Rattle.duality.specs.Picks.{picksFrom}
 use Rattle.duality.proofs.Picks.{picks-joined, picks-none-above, block-picks}
 use Rattle.duality.proofs.Numbers.{below-infeasible}
 use Rattle.duality.proofs.Classes.{infeasible-exactly}
 use Rattle.duality.proofs.Unused.{infeasible-unused}
 use Rattle.trials.specs.Tables.{pickOf}
-use Rattle.search.specs.Trials.{wholeOf, zero-offset, top-offset, Raised, Question, Ready, TriedAt}
+use Rattle.frames.specs.declared.frame.Frame.{Frame}
+use Rattle.frames.specs.Frames.{wholeOf, zero-offset, top-offset, Raised, Holds, Ready}
+use Rattle.frames.proofs.Raising.{raised-held, holds-within}
+use Rattle.search.specs.declared.state.Search.{Search}
+use Rattle.search.specs.State.{Searched}
 use Rattle.picks.specs.Shown.{VariablePicks}
 use Rattle.classes.specs.Answered.{answerIn, Settled}
-use Rattle.search.proofs.Trials.{raised-held, tried-blocks}
 use Rattle.classes.proofs.Variables.{variables-agree, variables-idle, variables-most}
 use Rattle.classes.proofs.Form.{picks-fit, stamps-fit, no-stamps-fit, cut-count}
 use Rattle.classes.proofs.Shared.{enough, blocked-unattainable, same-count, cut-64, fits-64}
@@ -40,34 +43,43 @@ none-form n m stamps out h l f = (
 )
 
 -- The trial at 645,120 is not possible: none.
-pub infeasible-settled : (n m : ℕ) (left right right′ objective x picks out stamps : List ℕ) → Ready n m left right objective
-    → TriedAt n m left right objective top-offset x picks → getD x 0 0 ≡ 0
-    → Raised right objective m zero-offset 32 right′ → VariablePicks right′ picks (n + 1) (m + 1) out
-    → Settled n m left right objective 3 0 1 stamps out
-infeasible-settled n m left right right′ objective x picks out stamps y f z r v = record { answers = answers }
+pub infeasible-settled : (f : Frame) (left right right′ : List ℕ) (s : Search) (out stamps : List ℕ) → Ready f left right
+    → Searched f left right s → s .blocked ≡ top-offset
+    → Raised right (f .objective) (f .m) zero-offset 32 right′ → VariablePicks right′ (s .blocking) (f .n + 1) (f .m + 1) out
+    → Settled f left right (record { class = 3; span = 0; trials = 1; made = s .made; stamps = stamps; picks = out })
+infeasible-settled f left right right′ s out stamps y z e r v = record { answers = answers; made-most = z .numbers .made-most }
   where
-    answers : (p : Problem) → Question p n m left right objective → Within p lead-limit → Answers p 3 (tropOf 0) 1 (answerIn n m 3 0 stamps out)
-    answers p q w =
-        let held = raised-held p n m left right objective right′ q y r in
-        let b : Blocks (systemAt p (upper span-limit)) Anchor (pickOf picks) = tried-blocks p (wholeOf top-offset) x picks (f .tried p q) z in
-        let c = block-picks p (upper span-limit) (picks-joined (pickOf picks) (suc (p .m)) (suc (p .n))) b in
-        let g = below-infeasible p lead-limit span-limit (picksFrom (pickOf picks) (suc (p .m))) w (enough p n (q .n-is) (y .n-most))
-        (picks-none-above (pickOf picks) (suc (p .m)) (suc (p .n))) (c .0) (c .1) in
-        let k : AcceptedInfeasible p (picksFrom (pickOf picks) (m + 1)) =
-        subst (λ (i : ℕ). AcceptedInfeasible p (picksFrom (pickOf picks) i)) (sym (same-count (p .m) m (q .m-is))) g in
-        let a = infeasible-unused (variables-agree p n m left right′ picks out held (y .n-most) v) k in
+    n : ℕ
+    n = f .n
+
+    m : ℕ
+    m = f .m
+
+    answers : (p : Problem) → Holds p f left right → Answers p 3 (tropOf 0) 1 (answerIn n m 3 0 stamps out)
+    answers p q =
+        let w = holds-within q y in
+        let held = raised-held p f left right right′ q y r in
+        let b : Blocks (systemAt p (upper span-limit)) Anchor (pickOf (s .blocking)) =
+        subst (λ (t : ℕ). Blocks (systemAt p (wholeOf t)) Anchor (pickOf (s .blocking))) e
+        (z .known p q .impossible (omega (arith, z .known p q .floored .is))) in
+        let c = block-picks p (upper span-limit) (picks-joined (pickOf (s .blocking)) (suc (p .m)) (suc (p .n))) b in
+        let g = below-infeasible p lead-limit span-limit (picksFrom (pickOf (s .blocking)) (suc (p .m))) w (enough p n (q .n-is) (y .n-most))
+        (picks-none-above (pickOf (s .blocking)) (suc (p .m)) (suc (p .n))) (c .0) (c .1) in
+        let k : AcceptedInfeasible p (picksFrom (pickOf (s .blocking)) (m + 1)) =
+        subst (λ (i : ℕ). AcceptedInfeasible p (picksFrom (pickOf (s .blocking)) i)) (sym (same-count (p .m) m (q .m-is))) g in
+        let a = infeasible-unused (variables-agree p n m left right′ (s .blocking) out held (y .n-most) v) k in
         let i : Infeasible p = infeasible-exactly p lead-limit span-limit w (enough p n (q .n-is) (y .n-most)) .1
-        (blocked-unattainable p (upper span-limit) (pickOf picks) b) in
+        (blocked-unattainable p (upper span-limit) (pickOf (s .blocking)) b) in
         let cut = cut-64 n out (omega (arith, y .n-most)) (v .shown) in
         let form = none-form n m stamps out (y .n-most) (v .shown .size-is)
-        (fits-64 (suc m) n out (omega (arith, y .n-most)) (v .shown) (λ j. omega (arith, variables-most p n m left right′ picks out held (y .n-most) v j))) in
+        (fits-64 (suc m) n out (omega (arith, y .n-most)) (v .shown) (λ j. omega (arith, variables-most p n m left right′ (s .blocking) out held (y .n-most) v j))) in
         record {
           found = rw trop-zero (Solved.infeasible i);
           class-is = refl;
           span-is = refl;
           counts = rw (q .n-is, q .m-is) (form .0);
           form = rw (q .n-is, q .m-is) (form .1);
-          idle-variables = λ _. subst (λ (s : Strategy). IdleVariables p s) (sym cut) (variables-idle p n m left right′ picks out held (y .n-most) v);
+          idle-variables = λ _. subst (λ (s : Strategy). IdleVariables p s) (sym cut) (variables-idle p n m left right′ (s .blocking) out held (y .n-most) v);
           idle-rows = λ e. absurd (omega arith);
           accepted = Verdict.infeasible refl (subst (AcceptedInfeasible p) (sym cut) a);
         }

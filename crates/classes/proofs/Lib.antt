@@ -1,3 +1,4 @@
+pub mod Settling
 pub mod Form
 pub mod Shared
 pub mod Infeasible

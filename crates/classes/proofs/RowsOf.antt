@@ -15,14 +15,14 @@ use Rattle.definitions.proofs.Whole.{nat-le-or-lt}
 use Rattle.duality.specs.Picks.{picksFrom, AgreeInUse}
 use Rattle.duality.proofs.Reach.{reach-keep, reach-map}
 use Rattle.trials.specs.Tables.{pickOf}
-use Rattle.search.specs.Trials.{Held}
+use Rattle.frames.specs.Frames.{LeftHeld}
 use Rattle.reach.specs.Marks.{Led}
 use Rattle.picks.specs.Shown.{RowTo, RowArcIs, UsedBy, RowShown, RowPicks}
 use Rattle.trials.proofs.Filled.{positive}
 use Rattle.picks.proofs.Shown.{shown-unmarked}
 use Rattle.classes.proofs.Variables.{finite-offset, offset-finite, full-picked, full-read, shown-full, shown-most}
 
-module _ (p : Problem) (n m : ℕ) (left right picks out : List ℕ) (held : Held p n m left right) (small : n ≤ 31)
+module _ (p : Problem) (n m : ℕ) (left picks out : List ℕ) (held : LeftHeld p n m left) (small : n ≤ 31)
     (v : RowPicks left picks (n + 1) (m + 1) out) where
   arcs-at : (j l : ℕ) → j < n + 1 → l < 32 → RowArcIs left picks (m + 1) j l (getD (v .arcs) (j * 32 + l) 0)
   arcs-at j l h k =

@@ -1,6 +1,6 @@
 -- What the answers of the three classes share.
-use Prim.Native.Nat.{ℕ, suc, _+_, _≤_, _<_}
-use mathlib.Core.Path.{_≡_}
+use Prim.Native.Nat.{ℕ, suc, _+_, _*_, _≤_, _<_}
+use mathlib.Core.Path.{_≡_, refl}
 use mathlib.Core.Bool.{true}
 use mathlib.Core.List.{List}
 use native.Mathlib.Omega.{arith}
@@ -14,17 +14,24 @@ use Rattle.definitions.specs.AnswerRecord.{picksFit}
 use Rattle.definitions.specs.Verdict as Verdict
 use Rattle.definitions.specs.Verdict.{strategyOf}
 use Rattle.definitions.specs.Solved as Solved
+use Rattle.definitions.proofs.Offset.{trop-fin}
 use Rattle.duality.specs.System.{Blocks, systemAt}
 use Rattle.duality.specs.Within.{Enough}
 use Rattle.duality.proofs.Weak.{not-solved-and-blocked}
-use Rattle.duality.proofs.Attain.{attainable-solution}
+use Rattle.duality.proofs.Attain.{attainable-solution, solution-attainable}
 use Rattle.duality.proofs.Numbers.{top-enough}
-use Rattle.trials.specs.Tables.{pickOf}
+use Rattle.trials.specs.Tables.{pointOf, pickOf}
 use Rattle.trials.specs.Filled.{Filled}
+use Rattle.frames.specs.Frames.{wholeOf}
+use Rattle.search.specs.State.{PointAt}
 use Rattle.classes.proofs.Form.{cut-at, cut-strategy, picks-fit}
 
+-- 64 times the largest size is enough.
+pub enough-of : (p : Problem) (n b : ℕ) → p .n ≡ n → n ≤ 31 → Enough (p .n) b (64 * b)
+enough-of p n b e h = top-enough (p .n) b (omega (arith, e))
+
 pub enough : (p : Problem) (n : ℕ) → p .n ≡ n → n ≤ 31 → Enough (p .n) lead-limit span-limit
-enough p n e h = top-enough (p .n) lead-limit (omega (arith, e))
+enough p n e h = enough-of p n lead-limit e h
 
 pub first-inside : (p : Problem) (t : ℤ) → 0 < systemAt p t .variables
 unfolding systemAt
@@ -33,6 +40,17 @@ first-inside p t = omega arith
 -- Where a strategy blocks, nothing is attainable.
 pub blocked-unattainable : (p : Problem) (t : ℤ) (τ : Strategy) → Blocks (systemAt p t) Anchor τ → Attainable p t → ⊥
 blocked-unattainable p t τ b a = not-solved-and-blocked (systemAt p t) Anchor (attainable-solution p t a) (record { strategy = τ; blocks = b })
+
+-- A point that shows t possible attains it.
+pub point-attainable : (p : Problem) (t : ℕ) (x : List ℕ) → PointAt p t x → Attainable p (wholeOf t)
+point-attainable p t x a = solution-attainable p (wholeOf t) (record {
+  point = pointOf x;
+  solves = a .solves;
+  at = 0;
+  inside = first-inside p (wholeOf t);
+  started = refl;
+  finite = record { whole = wholeOf (getD x 0 0); is = trop-fin (getD x 0 0) (a .finite) };
+})
 
 -- The number of rows, or of variables, in both forms.
 pub same-count : (k n : ℕ) → k ≡ n → n + 1 ≡ suc k

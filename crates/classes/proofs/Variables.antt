@@ -21,7 +21,7 @@ use Rattle.definitions.proofs.Offset.{trop-zero, trop-fin}
 use Rattle.duality.specs.Picks.{picksFrom, AgreeReached}
 use Rattle.duality.proofs.Reach.{reach-keep, reach-map}
 use Rattle.trials.specs.Tables.{entryOf, pickOf}
-use Rattle.search.specs.Trials.{Held}
+use Rattle.frames.specs.Frames.{Held}
 use Rattle.reach.specs.Marks.{Led}
 use Rattle.picks.specs.Shown.{shownPick, arcBy, VariablePicks}
 use Rattle.trials.proofs.Filled.{positive}

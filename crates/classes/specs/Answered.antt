@@ -3,24 +3,17 @@ use Prim.Native.Nat.{ℕ, _≤_}
 use mathlib.Core.Path.{_≡_}
 use mathlib.Core.List.{List, map}
 use lib.ListN.{getD, take}
-use Rattle.definitions.specs.Limits.{highest-n, highest-m, lead-limit}
+use Rattle.definitions.specs.Limits.{most-trials}
 use Rattle.definitions.specs.Problem.{Problem}
 use Rattle.definitions.specs.Offset.{tropOf}
 use Rattle.definitions.specs.AnswerRecord.{Answer, stampCount, pickCount}
 use Rattle.definitions.specs.Solved.{Answers}
 use Rattle.duality.specs.Values.{difference}
-use Rattle.duality.specs.Within.{Within}
 use Rattle.records.specs.Decoded.{Decoded}
-use Rattle.trials.specs.Tables.{Table}
 use Rattle.trials.specs.Filled.{Filled}
-use Rattle.search.specs.Trials.{Question}
-
--- Tables of n + 1 variables and m + 1 rows within the leads' limit.
-pub record Coefficients (n m : ℕ) (left right : List ℕ) : Type 0 where
-  pub n-most : n ≤ highest-n
-  pub m-most : m ≤ highest-m
-  pub lefts : Table lead-limit left
-  pub rights : Table lead-limit right
+use Rattle.frames.specs.declared.frame.Frame.{Frame}
+use Rattle.frames.specs.Frames.{Holds}
+use Rattle.classes.specs.declared.answer.Answer as Tables
 
 -- Stamps: each value less that of variable 0.
 abbrev pub Stamps : List ℕ → ℕ → List ℕ → Type 0
@@ -35,10 +28,11 @@ answerIn n m class span stamps picks = record {
   picks = take (pickCount class n m) picks;
 }
 
--- An answer of the problem that stands in the tables and the objective's array.
-pub record Settled (n m : ℕ) (left right objective : List ℕ) (class span trials : ℕ) (stamps picks : List ℕ) : Type 0 where
-  pub answers : (p : Problem) → Question p n m left right objective → Within p lead-limit
-      → Answers p class (tropOf span) trials (answerIn n m class span stamps picks)
+-- An answer of the problem that stands in the tables and the frame; the trials made are few.
+pub record Settled (f : Frame) (left right : List ℕ) (a : Tables.Answer) : Type 0 where
+  pub answers : (p : Problem) → Holds p f left right
+      → Answers p (a .class) (tropOf (a .span)) (a .trials) (answerIn (f .n) (f .m) (a .class) (a .span) (a .stamps) (a .picks))
+  pub made-most : a .made ≤ most-trials
 
 -- An answer of the problem in the tables.
 pub record Answered (n m : ℕ) (left right : List ℕ) (class span trials : ℕ) (stamps picks : List ℕ) : Type 0 where

@@ -30,7 +30,8 @@ use Rattle.leads.proofs.LeadTables.{problem-decoded}
 use Rattle.records.proofs.ProblemHeader.{answer-fields, answer-refused}
 use Rattle.engine.specs.declared.solve.Solved.{Solved}
 use Rattle.engine.specs.declared.solve.Solved.the-variants as Results′
-use Rattle.classes.specs.Answered.{answerIn, Coefficients}
+use Rattle.classes.specs.Answered.{answerIn}
+use Rattle.frames.specs.Frames.{Coefficients}
 use Rattle.classes.specs.Answered as Tables
 use Rattle.engine.specs.Outcome.{solvedOf, FoundFor, WroteFor}
 

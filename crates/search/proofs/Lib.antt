@@ -1,6 +1,4 @@
-pub mod Agree
 pub mod Trials
-pub mod Heights
-pub mod Ending
-pub mod Descents
+pub mod Budget
+pub mod Moves
 pub mod Halves

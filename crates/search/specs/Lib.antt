@@ -1,3 +1,2 @@
-pub mod Trials
-pub mod Descent
+pub mod State
 pub mod Halving

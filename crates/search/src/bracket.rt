@@ -2,7 +2,7 @@
 ghost use mathlib.Core.Path.{_≡_};
 ghost use Prim.Native.Nat.{_+_, _/_};
 ghost use Rattle.definitions.specs.Bisection.{middle, next};
-ghost use Rattle.search.specs.Trials.{wholeOf, Trialled};
+ghost use Rattle.frames.specs.Frames.{wholeOf, Trialled};
 ghost use Rattle.search.specs.Halving.{bracketOf, Between};
 
 // Between a `low` that is not possible and a `high` that is.

@@ -1,6 +1,6 @@
-// The search for the least span on two tables: trials at guesses from the top down, then the middles of a bracket.
-// Document 01, "The engine" (Algorithm 1).
+// The search for the least span: a state that holds what is reached and what is blocked, one trial at a time within a budget, and
+// the halving of document 01, "The engine" (Algorithm 1).
+pub mod advance;
 pub mod bracket;
-pub mod descent;
-pub mod guess;
 pub mod halving;
+pub mod state;

@@ -179,15 +179,15 @@ fn improve(
     Step { picks: next, moved }
 }
 
-// The offset number of a low one. Public for `search::guess`.
+// The offset number of a low one. Public for `guesses::guess`.
 pub fn raised(k: u32) -> u64
     ensures { λ r. ⌜ r ≡ high k ⌝ }
 {
     if k == 0 { 0 } else { k as u64 + 1073741824 }
 }
 
-// Low values as offset numbers.
-fn raised_all(x: &[u32; 32]) -> [u64; 32]
+// Low values as offset numbers. Public for `search::advance`.
+pub fn raised_all(x: &[u32; 32]) -> [u64; 32]
     requires { ⌜ length (now x) ≡ 32 ⌝ }
     ensures { λ r. ⌜ r ≡ highs (now (x .entry)) ⌝ }
 {
@@ -207,7 +207,7 @@ pub struct Outcome {
 }
 
 // Policy iteration from a strategy that is kept, until no row fails at its values or variable 0 has none left.
-// Public for `search::halving`.
+// Public for `search::state`.
 pub fn trial(
     left: &[u32; 2048],
     right: &[u32; 2048],

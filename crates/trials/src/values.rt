@@ -32,7 +32,7 @@ fn larger(a: u32, b: u32) -> u32
     if a <= b { b } else { a }
 }
 
-// A coefficient plus a value. Public for `search::guess`, `picks::tables`.
+// A coefficient plus a value. Public for `guesses::guess`, `picks::tables`.
 pub fn plus(a: u32, b: u64) -> u64
     requires { ⌜ a + b ≤ 18446744073709551615 ⌝ }
     ensures { λ r. ⌜ r ≡ a + b ⌝ }
@@ -85,7 +85,7 @@ fn row_sum(table: &[u32; 2048], ends: u32, row: usize, x: &[u32; 32], width: usi
     full_sum(table, row, x, width)
 }
 
-// One side of a row at low values. Public for `search::guess`.
+// One side of a row at low values. Public for `guesses`.
 pub fn full_side(table: &[u32; 2048], row: usize, x: &[u32; 32], width: usize) -> u32
     requires { ⌜ (row < 64) × (width ≤ 32) × Table raised-limit (now table) × Lows width (now x) ⌝ }
     ensures { λ r. ⌜ SideIs (now (table .entry)) row (highs (now (x .entry))) width r ⌝ }
@@ -93,7 +93,7 @@ pub fn full_side(table: &[u32; 2048], row: usize, x: &[u32; 32], width: usize) -
     fold(full_sum(table, row, x, width))
 }
 
-// One side of a row at low values, by its ends or whole. Public for `policy` and for `search::guess`.
+// One side of a row at low values, by its ends or whole. Public for `policy` and for `guesses`.
 pub fn side(table: &[u32; 2048], ends: u32, row: usize, x: &[u32; 32], width: usize) -> u32
     requires { ⌜ (row < 64) × (width ≤ 32) × Table raised-limit (now table) × Lows width (now x) × RowEnds (now table) row ends ⌝ }
     ensures { λ r. ⌜ SideIs (now (table .entry)) row (highs (now (x .entry))) width r ⌝ }

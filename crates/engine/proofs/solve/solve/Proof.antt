@@ -20,13 +20,13 @@ write-found-requires : tie.Need-write-found-requires
 write-found-requires c κs =
     let bytes : Bytes (c .before .before .before .before .before .before .before .before .before .before .before .before .before .args .problem .now) = record { byte = λ i. c .before .before .before .before .before .before .before .before .before .before .before .before .shared-slice-known .given i .fits } in
     let read = read-problem bytes (c .before .before .before .before .before .before .before .before .read-problem .ensures) (c .before .before .before .before .before .before .header .given .1) in
-    read-found (c .before .before .before .before .before .before .before .before .before .before .before .before .before .args .problem .now) (c .before .before .before .before .before .before .before .before .before .before .before .before .before .args .answer .now) read (c .before .before .before .before .if1 .left) (c .before .solve-tables .ensures)
+    read-found (c .before .before .before .before .before .before .before .before .before .before .before .before .before .args .problem .now) (c .before .before .before .before .before .before .before .before .before .before .before .before .before .args .answer .now) read (c .before .before .before .before .if1 .left) (c .before .solve-tables .ensures .0)
 
 returns-3 : tie.Need-returns-3
 returns-3 c =
     let bytes : Bytes (c .before .before .before .before .before .before .before .before .before .before .before .before .before .before .before .before .args .problem .now) = record { byte = λ i. c .before .before .before .before .before .before .before .before .before .before .before .before .before .before .before .shared-slice-known .given i .fits } in
     let read = read-problem bytes (c .before .before .before .before .before .before .before .before .before .before .before .read-problem .ensures) (c .before .before .before .before .before .before .before .before .before .header .given .1) in
-    solves-it _ _ read (c .before .before .before .before .before .before .before .if1 .left) (c .before .before .before .before .solve-tables .ensures) (c .before .before .write-found .ensures)
+    solves-it _ _ read (c .before .before .before .before .before .before .before .if1 .left) (c .before .before .before .before .solve-tables .ensures .0) (c .before .before .write-found .ensures)
 
 pub solve-spec : {M : Type 1} → statement M
 solve-spec =

@@ -1,18 +1,63 @@
+use Rattle.search.proofs.Halves.{bracketed-start, bracketed-on, bracketed-halved, bracket-falls, bracketed-end, wider}
+use Rattle.search.specs.Halving.{Bracketed}
+use Rattle.search.specs.State.{Searched}
+use Rattle.frames.proofs.Raising.{reraised-refl, reraised-trans}
+use Rattle.frames.specs.Frames.{Reraised}
+use borrow.Author.Tests.{leb-true, leb-false}
 use native.Mathlib.Omega.{arith}
-use Rattle.search.specs.Trials.{Ready, Steady}
-use Rattle.search.specs.Halving.{Searching, remaining}
-use Rattle.search.proofs.Trials.{steady-refl, steady-trans}
-use Rattle.search.proofs.Halves.{searching-end, wider}
-use Rattle.search.proofs.Ending.{ended-steady}
+use Prim.Native.Nat.{_-_}
 use borrow.Author.Needs.{needs}
 use Rattle.search.proofs.halving.halve.Statement.{statement}
 use Rattle.search.proofs.halving.halve.Tie as tie
+use Rattle.search.proofs.halving.halve.Reads as reads
+use Rattle.search.proofs.halving.halve.Lts as lts
+use Rattle.search.proofs.advance.settle.Reads as settle-reads
+use Rattle.search.proofs.bracket.Bracket.middle.Reads as middle-reads
+use Rattle.search.proofs.bracket.Bracket.next.Reads as next-reads
 
 abbrev Inv-halving : tie.InvT-halving
-Inv-halving left right₀ lefts rights objective n m search₀ right search = Ready n m left right objective × Searching n m left right objective search × Steady m right₀ right
+Inv-halving left right₀ frame search₀ bracket₀ trials₀ right search bracket trials = Reraised frame left right₀ right × Searched frame left right search × Bracketed search (bracket .low) (bracket .high) trials
 
 abbrev μ-halving : tie.MeasureT-halving
-μ-halving left right₀ lefts rights objective n m search₀ right search = remaining search
+μ-halving left right₀ frame search₀ bracket₀ trials₀ right search bracket trials = bracket .high - bracket .low
+
+-- src/halving.rt:34:5
+halving-holds : tie.Need-halving-holds Inv-halving μ-halving
+halving-holds c = let p = c .pre in (reraised-refl (p .0), p .1, bracketed-start _ (p .2) (p .3) (p .1 .numbers .lowest))
+
+-- src/halving.rt:35:12
+sub-if1 : tie.Need-sub-if1 Inv-halving μ-halving
+sub-if1 c = let v = c .before .halving .inv in omega (arith, v .2 .low-most, v .1 .numbers .apart, v .2 .high-least)
+
+-- src/halving.rt:46:13
+middle-requires : tie.Need-middle-requires Inv-halving μ-halving
+middle-requires c κs = let v = c .before .before .halving .inv in (record { lowest = omega (arith, v .2 .lowest); highest = omega (arith, v .2 .highest, v .2 .low-most, v .1 .numbers .apart, v .2 .high-least) }, record { lowest = omega (arith, v .2 .lowest, v .2 .low-most, v .1 .numbers .apart, v .2 .high-least); highest = omega (arith, v .2 .highest) })
+
+-- src/halving.rt:47:9
+settle-requires : tie.Need-settle-requires Inv-halving μ-halving
+settle-requires c κs = let v = c .before .before .before .before .halving .inv in (v .0 .ready, v .1, omega (arith, v .2 .high-least, v .2 .highest))
+
+-- src/halving.rt:48:9
+next-requires : tie.Need-next-requires Inv-halving μ-halving
+next-requires c κs = let v = c .before .before .before .before .before .before .halving .inv in (record { lowest = omega (arith, v .2 .lowest); highest = omega (arith, v .2 .highest, v .2 .low-most, v .1 .numbers .apart, v .2 .high-least) }, record { lowest = omega (arith, v .2 .lowest, v .2 .low-most, v .1 .numbers .apart, v .2 .high-least); highest = omega (arith, v .2 .highest) })
+
+-- src/halving.rt:49:9
+add-trials : tie.Need-add-trials Inv-halving μ-halving
+add-trials c = let v = c .before .before .before .before .before .before .before .halving .inv in omega (arith, v .2 .few)
+
+-- src/halving.rt:34:5
+halving-less : tie.Need-halving-less Inv-halving μ-halving
+halving-less c = let turn = c .before .before .before .before .before .before .before .halving in let v = turn .inv in let w = wider (turn .bracket .low) (turn .bracket .high) (omega (arith, v .2 .low-most, v .1 .numbers .apart, v .2 .high-least)) (c .before .before .before .before .before .if1 .left) in let a = c .before .before .settle .ensures .0 in
+    bracket-falls _ _ _ _ _ _ _ w (a .searched .numbers .apart) (bracketed-on a (v .2)) (c .before .before .before .before .middle .ensures .1 .is) _ (c .next .ensures)
+
+-- src/halving.rt:34:5
+halving-again : tie.Need-halving-again Inv-halving μ-halving
+halving-again c = let turn = c .before .before .before .before .before .before .before .halving in let v = turn .inv in let w = wider (turn .bracket .low) (turn .bracket .high) (omega (arith, v .2 .low-most, v .1 .numbers .apart, v .2 .high-least)) (c .before .before .before .before .before .if1 .left) in let e = c .before .before .settle .ensures in let a = e .0 in
+    (reraised-trans (v .0) (a .raised), a .searched, bracketed-halved _ _ _ _ _ _ _ w (a .searched .numbers .apart) (bracketed-on a (v .2)) (c .before .before .before .before .middle .ensures .1 .is) _ (e .1) (leb-true _ _) (leb-false _ _) (c .next .ensures))
+
+-- src/halving.rt:24:1
+returns : tie.Need-returns Inv-halving μ-halving
+returns c = let start = c .before .before .before .before .before in let a = start .args in let turn = c .before .before .before .before .halving in let v = turn .inv in bracketed-end (a .frame) (a .left .now) (a .right .now) (turn .right) (turn .search) (turn .bracket .low) (turn .bracket .high) (turn .trials) (v .0) (v .1) (v .2) (c .before .before .if1 .taken)
 
 pub halve-spec : {M : Type 1} → statement M
 halve-spec =
@@ -20,11 +65,12 @@ halve-spec =
     (tie.spec
     Inv-halving
     μ-halving
-    (λ c. (c .pre .0, c .pre .1, steady-refl))
-    (λ c. search needs)
-    (λ c κs. let start = c .before .before .before .before .before in let a = start .args in let turn = c .before .before .before .before .halving in let v = turn .inv in
-    (v .0, v .1, wider _ _ (omega (arith, v .1 .low-most, v .1 .apart, v .1 .high-least)) (c .before .if1 .left), ended-steady (a .m) (a .left .now) (a .right .now) (turn .right) (a .objective .now) (a .lefts .now) (a .rights .now) (start .pre .2) (v .2)))
-    (λ c. c .step .ensures .1)
-    (λ c. let e = c .step .ensures in (e .2, e .0, steady-trans (c .before .before .before .before .before .halving .inv .2) (e .3)))
-    (λ c. let a = c .before .before .before .before .before .before .args in let v = c .before .before .before .before .before .halving .inv in let s = c .before .before .before .before .before .halving .search in
-    (searching-end (a .n) (a .m) (a .left .now) (c .before .before .before .before .before .halving .right) (a .objective .now) s (v .1) (c .before .before .if1 .taken), v .2, v .0)))
+    halving-holds
+    sub-if1
+    middle-requires
+    settle-requires
+    next-requires
+    add-trials
+    halving-less
+    halving-again
+    returns)

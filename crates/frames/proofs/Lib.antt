@@ -1,0 +1,5 @@
+pub mod Agree
+pub mod Ending
+pub mod Raising
+pub mod Framing
+pub mod Floors

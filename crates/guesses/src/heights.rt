@@ -1,0 +1,176 @@
+// Heights that the rules ask for where each row keeps to one target, a right variable that attains its right side at a point.
+// Values are low numbers here. Nothing is promised of them but their range: a pass over the rows, or a trial, decides.
+ghost use mathlib.Core.Path.{_≡_};
+ghost use Prim.Native.Nat.{_+_, _<_, _≤_};
+ghost use lib.ListN.{length};
+ghost use Rattle.records.specs.Decoded.{Near};
+ghost use Rattle.trials.specs.Ends.{EndsOf};
+ghost use Rattle.trials.specs.Tables.{raised-limit, value-limit, side-most, side-least, high, highs, Table, Ranged, Lows, Tables};
+use trials::values::HALF;
+use trials::values::LOW;
+use trials::values::side;
+
+// Heights from −2²⁵ to 2²⁵ are kept, as low numbers.
+const FARTHEST: u32 = 33554432;
+
+// The low number of a value.
+fn low_of(k: u64) -> u32
+    requires { ⌜ Near value-limit k ⌝ }
+    ensures { λ r. ⌜ Near value-limit (high r) ⌝ }
+{
+    if k == 0 {
+        return 0;
+    }
+    (k - LOW as u64) as u32
+}
+
+// The height itself where it is in range, else blank. Public for `guess`.
+pub fn in_range(height: u32) -> u32
+    ensures { λ r. ⌜ Near value-limit (high r) ⌝ }
+{
+    if height < LOW - FARTHEST {
+        return 0;
+    }
+    if LOW + FARTHEST < height {
+        return 0;
+    }
+    height
+}
+
+// The height that a row of this left side asks of its target, whose right coefficient is this; blank where there is none or
+// it is out of range.
+fn asked(side: u32, right: u32) -> u32
+    requires { ⌜ (side ≤ side-most) × (0 < side → side-least ≤ side) × Near raised-limit right ⌝ }
+    ensures { λ r. ⌜ Near value-limit (high r) ⌝ }
+{
+    if side == 0 {
+        return 0;
+    }
+    in_range(side + HALF - right)
+}
+
+// A point's values as low numbers. Public for `guess`.
+pub fn lowered(point: &[u64; 32], width: usize) -> [u32; 32]
+    requires { ⌜ Ranged (now point) × (width ≤ 32) ⌝ }
+    ensures { λ r. ⌜ Lows width r ⌝ }
+{
+    let mut out = [0u32; 32];
+    let mut j = 0;
+    while j < width {
+        out[j] = low_of(point[j]);
+        j += 1;
+    }
+    out
+}
+
+// The first place of a row, from one on, at which coefficient and value have this sum; 32 where there is none.
+fn place(right: &[u32; 2048], row: usize, x: &[u32; 32], sum: u32, from: usize) -> usize
+    requires { ⌜ (row < 64) × Table raised-limit (now right) × Ranged (highs (now x)) × (length (now x) ≡ 32) ⌝ }
+{
+    let base = row * 32;
+    let mut l = from;
+    while l < 32 {
+        if right[base + l] + x[l] == sum {
+            return l;
+        }
+        l += 1;
+    }
+    32
+}
+
+// A right variable, from a place on, that attains the right side of a row; 32 where that is blank. Public for `guess`.
+pub fn target(right: &[u32; 2048], row: usize, x: &[u32; 32], best: u32, from: usize) -> usize
+    requires { ⌜ (row < 64) × Table raised-limit (now right) × Ranged (highs (now x)) × (length (now x) ≡ 32) × (best ≤ side-most) ⌝ }
+{
+    if best == 0 {
+        return 32;
+    }
+    place(right, row, x, best + HALF, from)
+}
+
+// The targets of the rules. Public for `guess`.
+pub fn targets_of(
+    right: &[u32; 2048],
+    rights: &[u32; 64],
+    x: &[u32; 32],
+    width: usize,
+    rules: usize,
+) -> [usize; 64]
+    requires { ⌜ (width ≤ 32) × (rules ≤ 64) × Table raised-limit (now right) × Lows width (now x) × EndsOf (now right) rules (now rights) ⌝ }
+    ensures { λ r. ⌜ length r ≡ 64 ⌝ }
+{
+    let mut out = [0usize; 64];
+    let mut i = 0;
+    while i < rules {
+        let ends = rights[i];
+        let best = side(right, ends, i, x, width);
+        out[i] = target(right, i, x, best, (ends / 32 % 32) as usize);
+        i += 1;
+    }
+    out
+}
+
+// Heights after a round, and whether one rose.
+pub struct Round {
+    pub heights: [u32; 32],
+    pub moved: bool,
+}
+
+// One round over the rules: targets rise to what is asked of them.
+fn rise(
+    left: &[u32; 2048],
+    right: &[u32; 2048],
+    lefts: &[u32; 64],
+    targets: &[usize; 64],
+    before: [u32; 32],
+    width: usize,
+    rules: usize,
+) -> Round
+    requires { ⌜ Tables (now left) (now right) width (rules + 1) × (length (now targets) ≡ 64) × Lows width before × EndsOf (now left) (rules + 1) (now lefts) ⌝ }
+    ensures { λ r. ⌜ Lows width (r .heights) ⌝ }
+{
+    let mut heights = before;
+    let mut moved = false;
+    let mut i = 0;
+    while i < rules {
+        let l = targets[i];
+        if l < width {
+            let height = asked(side(left, lefts[i], i, &heights, width), right[i * 32 + l]);
+            if heights[l] < height {
+                heights[l] = height;
+                moved = true;
+            }
+        }
+        i += 1;
+    }
+    Round { heights, moved }
+}
+
+// The heights that the rules ask for where the variable `start` is at 0: rounds until one changes nothing. Public
+// for `guess`.
+pub fn risen(
+    left: &[u32; 2048],
+    right: &[u32; 2048],
+    lefts: &[u32; 64],
+    targets: &[usize; 64],
+    start: usize,
+    width: usize,
+    rules: usize,
+) -> [u32; 32]
+    requires { ⌜ Tables (now left) (now right) width (rules + 1) × (length (now targets) ≡ 64) × (start < width) × EndsOf (now left) (rules + 1) (now lefts) ⌝ }
+    ensures { λ r. ⌜ Lows width r ⌝ }
+{
+    let mut heights = [0u32; 32];
+    heights[start] = LOW;
+    let mut rounds: usize = 0;
+    while rounds < 32 {
+        let round = rise(left, right, lefts, targets, heights, width, rules);
+        let next = round.heights;
+        if !round.moved {
+            return next;
+        }
+        heights = next;
+        rounds += 1;
+    }
+    heights
+}

@@ -1,0 +1,30 @@
+// A pass over the rows: whether a point solves the system in two tables.
+ghost use Rattle.trials.specs.Ends.{EndsOf};
+ghost use Rattle.trials.specs.Tables.{systemOf, pointOf, highs, Lows, Tables};
+ghost use Rattle.guesses.specs.Guess.{Stand};
+use trials::values::side;
+
+// Every row stands at the point: its left side is at most its right side. Public for `search::advance`.
+pub fn rows_stand(
+    left: &[u32; 2048],
+    right: &[u32; 2048],
+    lefts: &[u32; 64],
+    rights: &[u32; 64],
+    x: &[u32; 32],
+    width: usize,
+    rows: usize,
+) -> bool
+    requires { ⌜ Tables (now left) (now right) width rows × Lows width (now x) × EndsOf (now left) rows (now lefts) × EndsOf (now right) rows (now rights) ⌝ }
+    ensures { λ r. ⌜ Stand (systemOf (now (left .entry)) (now (right .entry)) width rows) (pointOf (highs (now (x .entry)))) r ⌝ }
+{
+    let mut i = 0;
+    while i < rows {
+        let here = side(right, rights[i], i, x, width);
+        let there = side(left, lefts[i], i, x, width);
+        if here < there {
+            return false;
+        }
+        i += 1;
+    }
+    true
+}
