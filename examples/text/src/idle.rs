@@ -35,6 +35,7 @@ pub fn warnings(problem: &Problem) -> Vec<Remark> {
 mod tests {
     use super::*;
     use crate::parse;
+    use crate::problem::Lead;
 
     fn problem(rules: &str) -> Problem {
         parse::problem(&format!("moments: a, b, c\n{rules}\nspan: from a to b\n")).expect("a good text")
@@ -53,6 +54,20 @@ mod tests {
         }
         for rule in ["a <= nothing", "a + 1 <= a", "a <= b", "later of a, b <= a", "anchor <= a"] {
             assert!(!says_nothing(&problem(rule).rules[0]), "{rule}");
+        }
+    }
+
+    /// On every rule of the anchor and one moment with leads blank or -1 to 1, against plans that are far enough apart.
+    #[test]
+    fn a_rule_says_nothing_exactly_when_every_plan_keeps_it() {
+        let leads = [None, Some(-1), Some(0), Some(1)];
+        let plans = [None, Some(-9), Some(-1), Some(0), Some(1), Some(9)];
+        let side = |leads: [Lead; 2], plan: Lead| leads[0].max(leads[1].zip(plan).map(|(lead, minute)| lead + minute));
+        for number in 0..256 {
+            let [a, b, c, d] = [1, 4, 16, 64].map(|place| leads[number / place % 4]);
+            let rule = Row { line: 1, text: String::new(), left: vec![a, b], right: vec![c, d] };
+            let kept = plans.iter().all(|plan| side([a, b], *plan) <= side([c, d], *plan));
+            assert_eq!(says_nothing(&rule), kept, "{rule:?}");
         }
     }
 

@@ -8,6 +8,7 @@ use crate::{repository, text};
 /// Every example's bytes are those of its text, and the programs give the answer that it expects, without a warning.
 #[test]
 fn every_example_is_answered_as_it_expects() {
+    let _turn = Scratch::new("examples");
     let mut count = 0;
     for entry in fs::read_dir(repository().join("examples/problems")).expect("the problems' folder") {
         let path = entry.expect("a file").path();
@@ -39,6 +40,7 @@ fn the_text_of_the_readme_is_answered_as_it_expects() {
 
 #[test]
 fn other_words_have_a_status_of_their_own() {
+    let _turn = Scratch::new("words");
     for words in [&["judge"][..], &["run"], &[], &["run", "a", "b"]] {
         let told = text(words);
         assert_eq!((told.status, told.out.as_str()), (Some(2), ""), "{told:?}");

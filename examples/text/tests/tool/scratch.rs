@@ -1,11 +1,11 @@
-//! A folder of its own for each test, removed at the test's end.
+//! A turn and a folder of its own for each test; the folder is removed at the test's end.
 
 use std::fs;
 use std::os::unix::fs::PermissionsExt;
 use std::path::{Path, PathBuf};
 use std::sync::{Mutex, MutexGuard, PoisonError};
 
-/// Tests that write programs run one at a time: a program that another thread's child still has open cannot be run.
+/// Tests run one at a time: a program that was just written cannot be run while another test's child has it open.
 static ONE_AT_A_TIME: Mutex<()> = Mutex::new(());
 
 pub struct Scratch {
