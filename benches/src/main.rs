@@ -11,6 +11,14 @@ mod table;
 mod timing;
 mod worst;
 
+// What is measured goes by the name `span`: the product's package, or the unproved engine in its place.
+#[cfg(all(feature = "archive", feature = "stand-in"))]
+compile_error!("the archive or the stand-in is measured, not both: --no-default-features --features stand-in");
+#[cfg(feature = "stand-in")]
+extern crate stand_in as span;
+
+const MEASURED: &str = if cfg!(feature = "stand-in") { "the unproved stand-in" } else { "the archive" };
+
 fn main() {
     let words: Vec<String> = std::env::args().skip(1).collect();
     let words: Vec<&str> = words.iter().map(String::as_str).collect();

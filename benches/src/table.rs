@@ -56,7 +56,7 @@ fn checks(set: &Set, accepts: fn(&[u8], &[u8]) -> bool) -> Call<'_> {
 }
 
 pub fn print(effort: Effort) {
-    println!("measured: {}; n = 31, m = 63; seed {SEED}; {} problems a family", span::raw::BEHIND, effort.problems);
+    println!("measured: {}; n = 31, m = 63; seed {SEED}; {} problems a family", crate::MEASURED, effort.problems);
     println!(
         "Microseconds: the shortest of many calls, turn about, as a mean over the problems. Buffers were not cleared"
     );

@@ -61,7 +61,7 @@ fn changed(random: &mut Random, draft: &Draft) -> Draft {
 
 /// Climbs from a problem of each family in turn, and prints the worst.
 pub fn search(seconds: f64) {
-    println!("worst case of {} at n = 31, m = 63; seed {SEED}; {seconds} s of hill climbing", span::raw::BEHIND);
+    println!("worst case of {} at n = 31, m = 63; seed {SEED}; {seconds} s of hill climbing", crate::MEASURED);
     let mut random = Random::new(SEED);
     let climbs = 2 * FAMILIES.len() + 4;
     let mut worst = (0.0, Vec::new());

@@ -14,15 +14,26 @@ mod second;
 mod suites;
 mod tally;
 
+// What is tried goes by the name `span`: the product's package, or the unproved engine in its place.
+#[cfg(all(feature = "archive", feature = "stand-in"))]
+compile_error!("the archive or the stand-in is tried, not both: --no-default-features --features stand-in");
+#[cfg(feature = "stand-in")]
+extern crate stand_in as span;
+
 use tally::Tally;
+
+const TRIED: &str = if cfg!(feature = "stand-in") { "the unproved stand-in" } else { "the archive" };
+
+/// A suite with its name.
+type Suite = (&'static str, fn(&mut Tally));
 
 fn main() {
     let words: Vec<String> = std::env::args().skip(1).collect();
     if programs::acted_as_a_program(&words) {
         return;
     }
-    println!("tests from outside, on {}", span::raw::BEHIND);
-    let all: [(&str, fn(&mut Tally)); 9] = [
+    println!("tests from outside, on {TRIED}");
+    let all: [Suite; 9] = [
         ("examples", suites::examples::run),
         ("all-small", suites::small::every_small_problem),
         ("random-small", suites::small::random_problems),

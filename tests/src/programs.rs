@@ -1,9 +1,15 @@
 //! The two programs, run on standard input. SPAN_PROGRAM and VERDICT_PROGRAM name them; else they are
-//! target/bin/span and target/bin/verdict of the repository. On the stand-in this test program acts as both.
+//! target/bin/span and target/bin/verdict of the repository. On the stand-in this test program acts as both. Places are
+//! looked up when it runs: a copied tree is tried with its own programs.
 
 use std::io::{Read, Write};
 use std::path::PathBuf;
 use std::process::{Command, Stdio};
+
+/// The repository: above the package's folder, which cargo names when it runs this program; else the current folder.
+pub fn repository() -> PathBuf {
+    std::env::var_os("CARGO_MANIFEST_DIR").map_or_else(|| ".".into(), |package| PathBuf::from(package).join(".."))
+}
 
 /// The command of a program: its name is `span` or `verdict`.
 fn command(name: &str, variable: &str) -> Command {
@@ -15,7 +21,7 @@ fn command(name: &str, variable: &str) -> Command {
         command.arg(format!("act-as-{name}"));
         return command;
     }
-    Command::new(PathBuf::from(env!("CARGO_MANIFEST_DIR")).join("../target/bin").join(name))
+    Command::new(repository().join("target/bin").join(name))
 }
 
 /// What a program writes on an input; a message where it cannot be run or ends badly.

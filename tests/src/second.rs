@@ -3,6 +3,9 @@
 //! Cycles are judged in two ways, neither of them by potentials: on small problems every simple cycle is walked, on all
 //! of them the heaviest (or lightest) way between any two moments is built up moment by moment (Floyd and Warshall).
 
+// Loops over numbers, as document 01 speaks of moments and rows.
+#![allow(clippy::needless_range_loop)]
+
 use crate::paper::{Answer, Problem, Span};
 
 /// An arc from a moment to a moment.

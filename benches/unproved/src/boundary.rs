@@ -1,5 +1,5 @@
-//! The four functions of `capi/span.h` over slices, answered by the unproved engine and checker. They stand in for the
-//! archive in the outside tests.
+//! The four functions of `capi/span.h` over slices, answered by the unproved engine and checker. The package
+//! `stand-in` of tests/ is over them.
 
 use crate::checker;
 use crate::engine::{solve_with, Search};

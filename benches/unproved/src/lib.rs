@@ -1,10 +1,14 @@
 //! An engine and a checker without proofs, written for speed, from document 01 and nothing else.
 //!
-//! The benchmark measures the proved ones against these. The outside tests run on these where the proved archive is
-//! not there (the feature `stand-in` of the package `span`).
+//! The benchmark measures the proved ones against these, and the outside tests try both. The package `stand-in` of tests/
+//! puts these behind the product's interface, for work on the tests where the archive is not there. Nothing leads here
+//! from the product's own package (capi/rust).
 //!
 //! Words: a moment is a variable and the anchor variable 0, a lead is a coefficient, blank is minus infinity (`BOT`), a
 //! rule is an inequality and the question the objective, a plan is a point, a pick table is a strategy.
+
+// Loops over numbers stay as they were measured.
+#![allow(clippy::needless_range_loop)]
 
 pub mod boundary;
 pub mod checker;

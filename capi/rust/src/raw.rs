@@ -8,7 +8,6 @@ pub const STAMPS: usize = 32;
 /// Places that the reader is lent for picks.
 pub const PICKS: usize = 64;
 
-#[cfg(not(feature = "stand-in"))]
 mod archive {
     extern "C" {
         pub fn span_solve(problem: *const u8, problem_size: usize, answer: *mut u8, answer_size: usize) -> u64;
@@ -38,21 +37,13 @@ mod archive {
     }
 }
 
-/// What stands behind this package: the proved archive, or the unproved engine in its place.
-#[cfg(not(feature = "stand-in"))]
-pub const BEHIND: &str = "the proved archive";
-#[cfg(feature = "stand-in")]
-pub const BEHIND: &str = "the unproved stand-in";
-
 /// Answers a problem: 256 × trials + refusal.
-#[cfg(not(feature = "stand-in"))]
 pub fn solve(problem: &[u8], answer: &mut [u8]) -> u64 {
     // SAFETY: both parts are valid for their lengths, and a `&mut` overlaps nothing.
     unsafe { archive::span_solve(problem.as_ptr(), problem.len(), answer.as_mut_ptr(), answer.len()) }
 }
 
 /// Judges an answer: the refusal, or 256 × class + 2³² × the span's offset number.
-#[cfg(not(feature = "stand-in"))]
 pub fn check(problem: &[u8], answer: &[u8]) -> u64 {
     // SAFETY: both parts are valid for their lengths and are only read.
     unsafe { archive::span_check(problem.as_ptr(), problem.len(), answer.as_ptr(), answer.len()) }
@@ -60,7 +51,6 @@ pub fn check(problem: &[u8], answer: &[u8]) -> u64 {
 
 /// Reads an answer record: the refusal, 255 where fewer than [`STAMPS`] and [`PICKS`] places are lent, or
 /// 256 × class + 2³² × the span's offset number.
-#[cfg(not(feature = "stand-in"))]
 pub fn read(record: &[u8], n: u64, m: u64, stamps: &mut [u64], picks: &mut [u64]) -> u64 {
     // SAFETY: all parts are valid for their lengths, and each `&mut` overlaps nothing.
     unsafe {
@@ -78,7 +68,6 @@ pub fn read(record: &[u8], n: u64, m: u64, stamps: &mut [u64], picks: &mut [u64]
 }
 
 /// Writes an answer record: the refusal, or 256 × the record's size.
-#[cfg(not(feature = "stand-in"))]
 pub fn write(class: u64, span: u64, stamps: &[u64], picks: &[u64], n: u64, m: u64, buffer: &mut [u8]) -> u64 {
     // SAFETY: all parts are valid for their lengths, and the `&mut` overlaps nothing.
     unsafe {
@@ -96,6 +85,3 @@ pub fn write(class: u64, span: u64, stamps: &[u64], picks: &[u64], n: u64, m: u6
         )
     }
 }
-
-#[cfg(feature = "stand-in")]
-pub use unproved::boundary::{check, read, solve, write};

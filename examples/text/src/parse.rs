@@ -1,164 +1,238 @@
 //! Reading a text.
 //!
-//!     # what stands after a hash is the story
+//!     # a comment starts at the line's start or after a space
 //!     moments: ready, cleaned, ambulance
 //!     anchor + 30 <= later of ready, ambulance + 15
 //!     later of ready, cleaned <= anchor + 62
-//!     span: later of ready, ambulance - later of cleaned
+//!     span: from cleaned to later of ready, ambulance
 //!     expect: least -47
 //!
-//! A side is `later of` (or `latest of`) and terms with commas, a single term, or `nothing`. A term is a moment, with
-//! `+` or `-` and minutes if any. In the span's line the minus between the two sides is the one that a moment or
-//! `later of` follows.
+//! `sides` says what stands on the two sides of a rule and in the two groups of the span.
 
-use crate::problem::{Lead, Problem, Row};
+use crate::limits;
+use crate::outcome::Outcome;
+use crate::problem::{Lead, Moment, Problem, Row};
+use crate::remark::Remark;
+use crate::sides;
+use crate::tokens::{without_comment, Tokens};
 
-/// The largest lead, moments beside the anchor, and rules.
-const LARGEST: i32 = 10_080;
-const MOMENTS: usize = 31;
-const RULES: usize = 63;
-
-/// The words and signs of a line.
-struct Tokens<'a> {
-    tokens: Vec<&'a str>,
-    at: usize,
-}
-
-fn tokens(line: &str) -> Tokens<'_> {
-    let mut tokens = Vec::new();
-    let mut rest = line.trim_start();
-    while let Some(first) = rest.chars().next() {
-        let length = match first {
-            '<' if rest.starts_with("<=") => 2,
-            '+' | '-' | ',' | '<' => 1,
-            _ => rest.find(|c: char| c.is_whitespace() || "+-,<".contains(c)).unwrap_or(rest.len()),
-        };
-        tokens.push(&rest[..length]);
-        rest = rest[length..].trim_start();
-    }
-    Tokens { tokens, at: 0 }
-}
-
-impl<'a> Tokens<'a> {
-    fn peek(&self, ahead: usize) -> &'a str {
-        self.tokens.get(self.at + ahead).copied().unwrap_or("")
-    }
-
-    fn take(&mut self) -> &'a str {
-        let token = self.peek(0);
-        self.at += 1;
-        token
-    }
-
-    fn takes(&mut self, token: &str) -> bool {
-        let found = self.peek(0) == token;
-        self.at += found as usize;
-        found
-    }
-}
-
-fn is_number(token: &str) -> bool {
-    !token.is_empty() && token.bytes().all(|byte| byte.is_ascii_digit())
-}
-
-fn is_name(token: &str) -> bool {
-    token.chars().next().is_some_and(char::is_alphabetic)
-}
-
-/// One side of a rule or of the span.
-fn side(names: &[String], tokens: &mut Tokens) -> Result<Vec<Lead>, String> {
-    let mut list = vec![None; names.len()];
-    if tokens.takes("nothing") {
-        return Ok(list);
-    }
-    let several = ["later", "latest"].contains(&tokens.peek(0)) && tokens.peek(1) == "of";
-    if several {
-        tokens.at += 2;
-    }
-    loop {
-        let name = tokens.take();
-        if !is_name(name) {
-            return Err(format!("a moment's name is missing before '{name}'"));
-        }
-        let Some(moment) = names.iter().position(|known| known == name) else {
-            return Err(format!("no moment is called '{name}'"));
-        };
-        let mut lead = 0;
-        if ["+", "-"].contains(&tokens.peek(0)) && is_number(tokens.peek(1)) {
-            let sign = if tokens.take() == "+" { 1 } else { -1 };
-            let minutes: i32 = tokens.take().parse().unwrap_or(i32::MAX);
-            if minutes > LARGEST {
-                return Err("a lead is beyond 10,080 minutes".into());
-            }
-            lead = sign * minutes;
-        }
-        // A moment that is named twice on one side counts with the larger lead.
-        list[moment] = list[moment].max(Some(lead));
-        if !several || !tokens.takes(",") {
-            return Ok(list);
-        }
-    }
-}
-
-/// Two sides with a sign between them, and nothing after.
-fn row(names: &[String], line: &str, sign: &str) -> Result<Row, String> {
-    let mut tokens = tokens(line);
-    let left = side(names, &mut tokens)?;
-    if !tokens.takes(sign) {
-        return Err(format!("'{sign}' is expected, not '{}'", tokens.peek(0)));
-    }
-    let right = side(names, &mut tokens)?;
-    match tokens.peek(0) {
-        "" => Ok(Row { text: line.trim().into(), left, right }),
-        more => Err(format!("'{more}' is too much ('later of' is missing, perhaps)")),
-    }
-}
-
-fn names(list: &str, names: &mut Vec<String>) -> Result<(), String> {
-    for name in list.split(',').map(str::trim) {
-        let word = is_name(name) && !name.contains(|c: char| c.is_whitespace() || "+-,<:#".contains(c));
-        if !word || ["later", "latest", "nothing"].contains(&name) {
-            return Err(format!("'{name}' cannot be a moment's name"));
-        }
-        if names.iter().any(|known| known == name) {
-            return Err(format!("'{name}' is named twice"));
-        }
-        names.push(name.into());
-    }
-    Ok(())
+/// What was read so far.
+struct Draft {
+    moments: Vec<Moment>,
+    rules: Vec<Row>,
+    question: Option<Row>,
+    expected: Option<(usize, Outcome)>,
 }
 
 /// Reads a whole text.
-pub fn problem(text: &str) -> Result<Problem, String> {
-    let mut known = vec!["anchor".to_string()];
-    let mut rules = Vec::new();
-    let mut question = None;
-    let mut expected = None;
-    for (number, line) in text.lines().enumerate() {
-        let line = line.split('#').next().unwrap_or("").trim();
-        let at = |message: String| format!("line {}: {message}", number + 1);
+pub fn problem(text: &str) -> Result<Problem, Remark> {
+    let anchor = Moment { name: "anchor".into(), line: 0 };
+    let mut draft = Draft { moments: vec![anchor], rules: Vec::new(), question: None, expected: None };
+    for (number, line) in (1..).zip(text.lines()) {
+        without_comment(line)
+            .and_then(|line| draft.line(number, line.trim()))
+            .map_err(|message| Remark::at(number, message))?;
+    }
+    let Draft { moments, rules, question, expected } = draft;
+    let question = question.ok_or_else(|| Remark::whole("there is no line 'span: from .. to ..'".into()))?;
+    Ok(Problem { moments, rules, question, expected: expected.map(|(_, outcome)| outcome) })
+}
+
+impl Draft {
+    /// Takes a line without its comment.
+    fn line(&mut self, number: usize, line: &str) -> Result<(), String> {
         if line.is_empty() {
-            continue;
-        }
-        if let Some(list) = line.strip_prefix("moments:") {
-            if !rules.is_empty() || question.is_some() {
-                return Err(at("moments come before rules and span".into()));
-            }
-            names(list, &mut known).map_err(at)?;
-        } else if let Some(sides) = line.strip_prefix("span:") {
-            if question.is_some() {
-                return Err(at("there is one span only".into()));
-            }
-            question = Some(row(&known, sides, "-").map_err(at)?);
+            Ok(())
+        } else if let Some(names) = line.strip_prefix("moments:") {
+            self.name(number, names)
+        } else if let Some(groups) = line.strip_prefix("span:") {
+            self.ask(number, groups.trim())
         } else if let Some(outcome) = line.strip_prefix("expect:") {
-            expected = Some(outcome.trim().to_string());
+            self.expect(number, outcome)
         } else {
-            rules.push(row(&known, line, "<=").map_err(at)?);
+            self.rule(number, line)
         }
     }
-    if known.len() > MOMENTS + 1 || rules.len() > RULES {
-        return Err("there are more than 31 moments or 63 rules".into());
+
+    fn name(&mut self, number: usize, names: &str) -> Result<(), String> {
+        if !self.rules.is_empty() || self.question.is_some() {
+            return Err("moments come before rules and span".into());
+        }
+        for name in names.split(',').map(str::trim) {
+            if !sides::is_name(name) {
+                return Err(format!("'{name}' cannot be a moment's name"));
+            }
+            if self.moments.iter().any(|known| known.name == name) {
+                return Err(format!("'{name}' is named twice"));
+            }
+            if self.moments.len() > limits::MOMENTS {
+                return Err(format!("there are more than {} moments", limits::MOMENTS));
+            }
+            self.moments.push(Moment { name: name.into(), line: number });
+        }
+        Ok(())
     }
-    let question = question.ok_or("there is no line 'span: .. - ..'")?;
-    Ok(Problem { names: known, rules, question, expected })
+
+    fn rule(&mut self, number: usize, line: &str) -> Result<(), String> {
+        let mut tokens = Tokens::of(line);
+        let left = sides::read(&self.moments, &mut tokens)?;
+        tokens.expect("<=")?;
+        let right = sides::read(&self.moments, &mut tokens)?;
+        tokens.end()?;
+        if self.rules.len() == limits::RULES {
+            return Err(format!("there are more than {} rules", limits::RULES));
+        }
+        self.rules.push(Row { line: number, text: line.into(), left, right });
+        Ok(())
+    }
+
+    /// The span's line. The span is its end less its start, so the end is the record's first list.
+    fn ask(&mut self, number: usize, groups: &str) -> Result<(), String> {
+        if let Some(question) = &self.question {
+            return Err(format!("there is one span only, and line {} has it", question.line));
+        }
+        let mut tokens = Tokens::of(groups);
+        if !tokens.takes("from") {
+            return Err(hint(&self.moments, groups));
+        }
+        let start = sides::read(&self.moments, &mut tokens)?;
+        tokens.expect("to")?;
+        let end = sides::read(&self.moments, &mut tokens)?;
+        tokens.end()?;
+        self.question = Some(Row { line: number, text: groups.into(), left: end, right: start });
+        Ok(())
+    }
+
+    fn expect(&mut self, number: usize, words: &str) -> Result<(), String> {
+        if let Some((line, _)) = self.expected {
+            return Err(format!("there is one 'expect:' only, and line {line} has it"));
+        }
+        let words = words.split_whitespace().collect::<Vec<_>>().join(" ");
+        let outcome = Outcome::read(&words).filter(|outcome| outcome.possible()).ok_or_else(|| {
+            let limit = limits::SPAN;
+            format!("'{words}' is no answer: 'least N' with N from -{limit} to {limit}, 'bottomless' or 'none'")
+        })?;
+        self.expected = Some((number, outcome));
+        Ok(())
+    }
+}
+
+/// How a span that does not begin with `from` is written.
+fn hint(moments: &[Moment], groups: &str) -> String {
+    let Some((end, start)) = difference(moments, groups) else {
+        return "a span is written 'span: from .. to ..', as in 'span: from later of ready, cleaned to arrival + 5'"
+            .into();
+    };
+    let shown = |leads: &[Lead]| sides::shown(moments, leads);
+    let (last, first) = (shown(&end), shown(&start));
+    let better = format!("write 'span: from {first} to {last}' for ({last}) - ({first})");
+    // A single moment less minutes: a reader may take the minutes off the span, not off the moment.
+    let other: Vec<Lead> = start.iter().map(|lead| lead.map(|lead| -lead)).collect();
+    if start.iter().flatten().count() == 1 && other != start {
+        return format!(
+            "'{groups}' can be read in two ways: {better}, or 'span: from {} to {last}' for the sum from left to right",
+            shown(&other)
+        );
+    }
+    format!("a difference can be misread: {better}")
+}
+
+/// The two sides of a difference, where a line is one.
+fn difference(moments: &[Moment], groups: &str) -> Option<(Vec<Lead>, Vec<Lead>)> {
+    let mut tokens = Tokens::of(groups);
+    let first = sides::read(moments, &mut tokens).ok()?;
+    tokens.expect("-").ok()?;
+    let second = sides::read(moments, &mut tokens).ok()?;
+    tokens.end().ok()?;
+    Some((first, second))
+}
+
+#[cfg(test)]
+mod tests {
+    use super::*;
+    use crate::problem::hex;
+
+    fn mistake(text: &str) -> String {
+        problem(text).expect_err(text).in_file("text")
+    }
+
+    #[test]
+    fn a_text_is_read() {
+        let text = "moments: a, b # two\n\nlater of a, b - 1 <= anchor + 5\nspan: from a to later of b + 2, anchor\nexpect:  least  -4\n";
+        let problem = problem(text).expect("a good text");
+        assert_eq!(problem.moments.iter().map(|moment| moment.name.as_str()).collect::<Vec<_>>(), ["anchor", "a", "b"]);
+        assert_eq!(problem.rules[0].left, [None, Some(0), Some(-1)]);
+        assert_eq!(problem.rules[0].right, [Some(5), None, None]);
+        assert_eq!((problem.rules[0].line, problem.question.line), (3, 4));
+        assert_eq!(problem.question.left, [Some(0), None, Some(2)]);
+        assert_eq!(problem.question.right, [None, Some(0), None]);
+        assert_eq!(problem.expected, Some(Outcome::Least(-4)));
+    }
+
+    /// From anchor + 2 to anchor + 5 is document 01's example A, first 5 and second 2.
+    #[test]
+    fn a_span_is_its_end_less_its_start() {
+        let problem = problem("span: from anchor + 2 to anchor + 5\n").expect("a good text");
+        assert_eq!(hex(&problem.bytes()), "0E0000000100000000000500000002000000");
+    }
+
+    #[test]
+    fn mistakes_are_named_with_their_line() {
+        for (text, part) in [
+            ("moments: a\na <= b\n", "text:2: no moment is called 'b'"),
+            ("moments: a\na < a\n", "text:2: '<=' is expected, not '<'"),
+            ("moments: a\na <= a, a\n", "text:2: ',' is too much"),
+            ("moments: a\na#1 <= a\n", "text:2: '#' stands inside 'a#1'"),
+            ("moments: a\n", "text: there is no line 'span: from .. to ..'"),
+            ("moments: a\nmoments: b, a\n", "text:2: 'a' is named twice"),
+            ("moments: anchor\n", "text:1: 'anchor' is named twice"),
+            ("moments: from\n", "text:1: 'from' cannot be a moment's name"),
+            ("moments: a,\n", "text:1: '' cannot be a moment's name"),
+            ("moments: a\na <= a\nmoments: b\n", "text:3: moments come before"),
+            ("moments: a\nspan: from a to a\nspan: from a to a\n", "text:3: there is one span only, and line 2 has it"),
+            ("moments: a\nspan: from a\n", "text:2: 'to' is expected at the end of the line"),
+            ("moments: a\nspan: from a, a to a\n", "text:2: 'to' is expected, not ','"),
+            ("moments: a\nspan: later of a\n", "text:2: a span is written 'span: from .. to ..'"),
+            ("expect: least 1\nexpect: least 1\n", "text:2: there is one 'expect:' only, and line 1 has it"),
+            ("expect: leats 13\n", "text:1: 'leats 13' is no answer"),
+            ("expect: least 645121\n", "text:1: 'least 645121' is no answer"),
+            ("expect:\n", "text:1: '' is no answer"),
+        ] {
+            let message = mistake(text);
+            assert!(message.starts_with(part), "{message}");
+        }
+    }
+
+    #[test]
+    fn limits_are_kept() {
+        let names = |count: usize| (0..count).map(|number| format!("m{number}")).collect::<Vec<_>>().join(", ");
+        let text = |moments: usize, rules: usize| {
+            format!("moments: {}\n{}span: from m0 to m1\n", names(moments), "m0 <= m1\n".repeat(rules))
+        };
+        assert!(problem(&text(31, 63)).is_ok());
+        assert!(mistake(&text(32, 0)).contains("text:1: there are more than 31 moments"));
+        assert!(mistake(&text(31, 64)).contains("text:65: there are more than 63 rules"));
+    }
+
+    #[test]
+    fn a_difference_is_refused_with_a_hint() {
+        for (span, parts) in [
+            (
+                "a - 10 - b - 5",
+                &[
+                    "read in two ways",
+                    "'span: from b - 5 to a - 10' for (a - 10) - (b - 5)",
+                    "'span: from b + 5 to a - 10'",
+                ][..],
+            ),
+            ("a - b", &["'span: from b to a' for (a) - (b)"]),
+            ("later of a, b - later of c + 3, anchor", &["'span: from later of anchor, (c + 3) to later of a, b'"]),
+            ("a", &["as in 'span: from later of"]),
+        ] {
+            let message = mistake(&format!("moments: a, b, c\nspan: {span}\n"));
+            for part in parts {
+                assert!(message.contains(part), "{message}");
+            }
+        }
+    }
 }

@@ -3,6 +3,7 @@
 use super::{answered, checked, expected_check};
 use crate::exhaustive;
 use crate::paper::{read_problem, Answer, Outcome, Problem, Row};
+use crate::programs::repository;
 use crate::tally::{hex, Tally};
 use random::Random;
 
@@ -91,8 +92,7 @@ fn bytes_of_a(tally: &mut Tally) {
 
 /// The problems of examples/, stored as bytes, with the outcome that their text expects.
 fn stored(tally: &mut Tally, random: &mut Random) {
-    let folder = concat!(env!("CARGO_MANIFEST_DIR"), "/../examples/problems");
-    let Ok(files) = std::fs::read_dir(folder) else {
+    let Ok(files) = std::fs::read_dir(repository().join("examples/problems")) else {
         return tally.fail("the folder examples/problems is not there".into(), &[], &[]);
     };
     for path in files.flatten().map(|file| file.path()).filter(|path| path.extension().is_some_and(|end| end == "hex"))

@@ -70,7 +70,7 @@ fn read(tally: &mut Tally, random: &mut Random, record: &[u8], n: u64, m: u64) {
 
 /// The reader with other numbers of places for a record that it takes: too few are an outcome, and more stay as they are.
 fn lend(tally: &mut Tally, random: &mut Random, record: &[u8], n: u64, m: u64, whole: u64) {
-    let (first, second) = (random.below(40) as usize, 40 + random.below(40) as usize);
+    let (first, second) = (random.below(40), 40 + random.below(40));
     let mut stamps = vec![0; first];
     let mut picks = vec![0; second];
     for place in stamps.iter_mut().chain(picks.iter_mut()) {

@@ -1,0 +1,102 @@
+//! The package as a product takes it in: it links the archive and nothing in its place, whatever a dependency asks for.
+
+use std::fs;
+use std::path::{Path, PathBuf};
+use std::process::Command;
+
+/// A folder of its own for a test, removed at the test's end.
+struct Scratch(PathBuf);
+
+impl Scratch {
+    fn new(name: &str) -> Scratch {
+        let folder = std::env::temp_dir().join(format!("span-{name}-{}", std::process::id()));
+        fs::create_dir_all(&folder).expect("a folder for a test");
+        Scratch(folder)
+    }
+
+    fn path(&self, name: &str) -> PathBuf {
+        self.0.join(name)
+    }
+
+    fn file(&self, name: &str, contents: impl AsRef<[u8]>) -> PathBuf {
+        fs::create_dir_all(self.path(name).parent().expect("a folder")).expect("its folder");
+        fs::write(self.path(name), contents).expect("a file for a test");
+        self.path(name)
+    }
+
+    /// A product that depends on the package in this folder, with more words for the dependency.
+    fn product(&self, name: &str, package: &Path, words: &str) -> PathBuf {
+        let dependency = format!("span = {{ path = {:?}{words} }}", package.display().to_string());
+        self.file(&format!("{name}/src/main.rs"), "fn main() {}");
+        self.file(
+            &format!("{name}/Cargo.toml"),
+            format!("[package]\nname = \"product\"\nversion = \"0.0.0\"\nedition = \"2021\"\n\n[dependencies]\n{dependency}\n"),
+        )
+    }
+}
+
+impl Drop for Scratch {
+    fn drop(&mut self) {
+        let _ = fs::remove_dir_all(&self.0);
+    }
+}
+
+/// The package's own folder, in which cargo runs tests.
+fn package() -> PathBuf {
+    std::env::current_dir().expect("the package's folder")
+}
+
+/// A command's output and its messages, and whether it ended well.
+fn ran(command: &mut Command) -> (bool, String, String) {
+    let output = command.output().unwrap_or_else(|error| panic!("{command:?}: {error}"));
+    let text = |bytes: &[u8]| String::from_utf8_lossy(bytes).into_owned();
+    (output.status.success(), text(&output.stdout), text(&output.stderr))
+}
+
+fn cargo(word: &str, manifest: &Path) -> Command {
+    let mut command = Command::new("cargo");
+    command.args([word, "--offline", "--manifest-path"]).arg(manifest);
+    command.env_remove("SPAN_ARCHIVE_FOLDER").env_remove("CARGO_TARGET_DIR");
+    command
+}
+
+fn metadata(manifest: &Path) -> Command {
+    let mut command = cargo("metadata", manifest);
+    command.args(["--format-version", "1"]);
+    command
+}
+
+/// No dependency, not even an optional one, and no feature.
+#[test]
+fn the_package_has_nothing_to_switch() {
+    let (good, metadata, errors) = ran(metadata(&package().join("Cargo.toml")).arg("--no-deps"));
+    assert!(good, "{errors}");
+    assert!(metadata.contains("\"dependencies\":[]") && metadata.contains("\"features\":{}"), "{metadata}");
+}
+
+/// A product that asks for the unproved engine is refused before anything is built.
+#[test]
+fn no_product_is_switched_to_the_unproved_engine() {
+    let scratch = Scratch::new("switched");
+    let plain = scratch.product("plain", &package(), "");
+    let (good, _, errors) = ran(&mut metadata(&plain));
+    assert!(good, "{errors}");
+    let switched = scratch.product("switched", &package(), ", features = [\"stand-in\"]");
+    let (good, _, errors) = ran(&mut metadata(&switched));
+    assert!(!good && errors.contains("stand-in"), "{errors}");
+}
+
+/// Without the archive the build fails, and says how the archive is made and nothing else.
+#[test]
+fn the_build_error_knows_the_archive_alone() {
+    let scratch = Scratch::new("missing");
+    let mut build = cargo("build", &package().join("Cargo.toml"));
+    build.arg("--target-dir").arg(scratch.path("target")).env("SPAN_ARCHIVE_FOLDER", scratch.path("none"));
+    let (good, _, errors) = ran(&mut build);
+    assert!(!good, "{errors}");
+    let message = errors.split("--- stderr").nth(1).expect("the build script's own message");
+    assert!(message.contains("libcapi.a") && message.contains("`rt staticlib capi`"), "{message}");
+    for word in ["stand-in", "unproved", "feature"] {
+        assert!(!message.contains(word), "{message}");
+    }
+}

@@ -1,0 +1,10 @@
+//! The limits of document 01.
+
+/// The largest lead, either way.
+pub const LEAD: i32 = 10_080;
+/// Moments beside the anchor.
+pub const MOMENTS: usize = 31;
+/// Rules.
+pub const RULES: usize = 63;
+/// The largest least span, either way.
+pub const SPAN: i32 = 2 * (MOMENTS as i32 + 1) * LEAD;

@@ -1,0 +1,67 @@
+//! The fields of an answer record, from whoever wrote it.
+
+use crate::outcome::Outcome;
+use crate::problem::{Lead, BLANK};
+
+#[derive(Clone, Debug)]
+pub struct Answer {
+    pub outcome: Outcome,
+    /// One a moment in a least answer, else none.
+    pub stamps: Vec<Lead>,
+    /// One a moment, or one a row in a bottomless answer. They may be any numbers.
+    pub picks: Vec<usize>,
+}
+
+fn two(bytes: &[u8], at: usize) -> usize {
+    u16::from_le_bytes([bytes[at], bytes[at + 1]]) as usize
+}
+
+fn four(bytes: &[u8], at: usize) -> i32 {
+    i32::from_le_bytes([bytes[at], bytes[at + 1], bytes[at + 2], bytes[at + 3]])
+}
+
+/// Reads a record with the layout of an answer to a problem of so many moments, the anchor among them, and so many rows.
+pub fn read(record: &[u8], moments: usize, rows: usize) -> Option<Answer> {
+    let length = record.first_chunk().map(|field| u32::from_le_bytes(*field) as usize)?;
+    if record.len() < 14 || length != record.len() - 4 || two(record, 4) != 2 || two(record, 6) + 1 != moments {
+        return None;
+    }
+    let (outcome, stamps, picks) = match (two(record, 8), four(record, 10)) {
+        (1, BLANK) => return None,
+        (1, span) => (Outcome::Least(span), moments, moments),
+        (2, _) => (Outcome::Bottomless, 0, rows),
+        (3, _) => (Outcome::None, 0, moments),
+        _ => return None,
+    };
+    if record.len() != 14 + 4 * stamps + 2 * picks {
+        return None;
+    }
+    Some(Answer {
+        outcome,
+        stamps: (0..stamps).map(|place| Some(four(record, 14 + 4 * place)).filter(|&stamp| stamp != BLANK)).collect(),
+        picks: (0..picks).map(|place| two(record, 14 + 4 * stamps + 2 * place)).collect(),
+    })
+}
+
+#[cfg(test)]
+mod tests {
+    use super::*;
+
+    /// Every cut of a record, and every byte of its header changed, is read or turned down without a fault.
+    #[test]
+    fn damaged_records_do_no_harm() {
+        let good = [22, 0, 0, 0, 2, 0, 1, 0, 1, 0, 12, 0, 0, 0, 0, 0, 0, 0, 12, 0, 0, 0, 1, 0, 0xFF, 0xFF];
+        let answer = read(&good, 2, 2).expect("a readable record");
+        assert_eq!((answer.outcome, &answer.picks[..]), (Outcome::Least(12), &[1, 65_535][..]));
+        assert_eq!(answer.stamps, [Some(0), Some(12)]);
+        for end in 0..good.len() {
+            assert!(read(&good[..end], 2, 2).is_none());
+        }
+        for place in 0..10 {
+            let mut bad = good;
+            bad[place] ^= 0x40;
+            assert!(read(&bad, 2, 2).is_none(), "{place}");
+        }
+        assert!(read(&good, 3, 2).is_none());
+    }
+}

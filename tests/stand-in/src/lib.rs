@@ -1,0 +1,12 @@
+//! The interface of the package `span` (capi/rust) over the unproved engine of benches/, for work on the tests and the
+//! benchmark where the archive is not built. The calls and words are that package's own source; what is behind them is not.
+//! Nothing leads here from that package.
+
+#[path = "../../../capi/rust/src/calls.rs"]
+mod calls;
+pub mod raw;
+#[path = "../../../capi/rust/src/words.rs"]
+mod words;
+
+pub use calls::{check, read, solve, write, ANSWER_SIZE, PROBLEM_SIZE};
+pub use words::{Answer, Certified, Class, Outcome, Refusal, Solved};

@@ -1,0 +1,8 @@
+//! The functions of `raw` in the package `span`, by the unproved engine and checker.
+
+pub use unproved::boundary::{check, read, solve, write};
+
+/// Places that the reader is lent for stamps.
+pub const STAMPS: usize = unproved::VARIABLES;
+/// Places that the reader is lent for picks.
+pub const PICKS: usize = unproved::ROWS;
