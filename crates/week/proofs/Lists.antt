@@ -55,6 +55,10 @@ good-fits {week} good = record {
   in-order = λ i l. ⊎-elim (λ (h : closing week i ≤ opening week (suc i)). h) (λ (h : opening week (suc i) < closing week i). absurd (good (starts-before-last-closes i l h))) (nat-le-or-lt (closing week i) (opening week (suc i)));
 }
 
+-- Its first window opens within the week.
+pub first-opening : {week : List ℕ} {minute : ℕ} → Asked week minute → opening week 0 < week-minutes
+first-opening a = let f = good-fits (a .good) in omega (arith, f .closes-after 0 (a .some-window), f .closes-within 0 (a .some-window))
+
 -- A later window starts where an earlier one closed, or later.
 pub ascends : {week : List ℕ} → Fits week → (i d : ℕ) → i + suc d < windows week → closing week i ≤ opening week (i + suc d)
 ascends {week} f i zero h = subst (λ (k : ℕ). closing week i ≤ opening week k) (add-one-suc i) (f .in-order i (omega arith))
@@ -111,13 +115,22 @@ fits-more {week} {i} {last} f h starts closes within = record {
 
 -- A window that starts before the last one closes has one before it.
 pub starts-early : {week : List ℕ} {i last : ℕ} → FitsTo week i last → i < windows week → opening week i < last → BadWeek week
-starts-early {week} {zero} f h k = absurd (omega (arith, f .last-of-none refl))
-starts-early {week} {suc j} f h k = starts-before-last-closes j h (omega (arith, f .last-is j refl))
+starts-early {week} {i} {last} f h k = go i refl
+  where
+    go : (x : ℕ) → i ≡ x → BadWeek week
+    go zero e = absurd (omega (arith, f .last-of-none e))
+    go (suc j) e =
+        let k′ : opening week (suc j) < last = subst (λ (x : ℕ). opening week x < last) e k in
+        starts-before-last-closes j (omega arith) (omega (arith, f .last-is j e))
 
-pub fits-all : {week : List ℕ} {i last : ℕ} → FitsTo week i last → windows week ≤ i → length week ≡ 2 * windows week → windows week ≤ most-windows → Fits week
+-- A window that closes after the week's end.
+pub closes-late : (week : List ℕ) (i : ℕ) → i < windows week → week-minutes < closing week i → BadWeek week
+closes-late week i h k = closing-outside i h (inr k)
+
+pub fits-all : {week : List ℕ} {i last : ℕ} → FitsTo week i last → windows week ≤ i → length week % 2 ≡ 0 → windows week ≤ most-windows → Fits week
 fits-all {week} {i} f h even few =
     let e : i ≡ windows week = omega (arith, f .within) in record {
-      even = even;
+      even = omega arith;
       few = few;
       closes-after = λ j k. f .closes-after j (omega arith);
       closes-within = λ j k. f .closes-within j (omega arith);
@@ -127,11 +140,15 @@ fits-all {week} {i} f h even few =
 -- ---- the first open minute found window by window
 
 -- The first i windows are closed at a minute.
-abbrev pub ShutTo : List ℕ → ℕ → ℕ → Type 0
-ShutTo week minute i = (j : ℕ) → j < i → closing week j ≤ minute
+pub record ShutTo (week : List ℕ) (minute i : ℕ) : Type 0 where
+  pub within : i ≤ windows week
+  pub closed : (j : ℕ) → j < i → closing week j ≤ minute
 
-pub shut-more : {week : List ℕ} {minute i : ℕ} → ShutTo week minute i → closing week i ≤ minute → ShutTo week minute (i + 1)
-shut-more {week} {minute} f h = below-one-more (λ x. closing week x ≤ minute) f h
+pub shut-none : (week : List ℕ) (minute : ℕ) → ShutTo week minute 0
+shut-none week minute = record { within = omega arith; closed = λ j h. absurd (omega arith) }
+
+pub shut-more : {week : List ℕ} {minute i : ℕ} → ShutTo week minute i → i < windows week → closing week i ≤ minute → ShutTo week minute (i + 1)
+shut-more {week} {minute} s h k = record { within = omega arith; closed = below-one-more (λ x. closing week x ≤ minute) (s .closed) k }
 
 -- Minutes of this week from `minute` up to the opening of window i are shut, where the windows before i are closed.
 shut-until : {week : List ℕ} {minute i : ℕ} → Fits week → ShutTo week minute i → i < windows week → (k : ℕ) → minute ≤ k → k < opening week i → InWindow week k → ⊥
@@ -143,7 +160,7 @@ shut-until {week} {minute} {i} f shut h k l r w = ⊎-elim
     omega arith)
     (λ (q : i < w .window). omega (arith, later-starts f i (w .window) q (w .listed), f .closes-after i h, w .opened))
     (nat-le-or-lt (w .window) i))
-    (λ (g : w .window < i). omega (arith, shut (w .window) g, w .not-closed))
+    (λ (g : w .window < i). omega (arith, shut .closed (w .window) g, w .not-closed))
     (nat-le-or-lt i (w .window))
 
 -- The window is open at the minute.
@@ -173,17 +190,17 @@ found-next-week {week} {minute} {i} a shut h =
     let f = good-fits (a .good) in
     let after : opening week 0 < closing week 0 = f .closes-after 0 (a .some-window) in
     let within : closing week 0 ≤ week-minutes = f .closes-within 0 (a .some-window) in
-    let closed : closing week 0 ≤ minute = shut 0 (omega (arith, a .some-window)) in record {
+    let closed : closing week 0 ≤ minute = shut .closed 0 (omega (arith, a .some-window)) in record {
       at-or-after = omega (arith, a .minute-small);
       is-open = subst (InWindow week) (next-remainder (opening week 0) (omega arith)) (record { window = 0; listed = a .some-window; opened = omega arith; not-closed = after });
       shut-before = λ j l k w. ⊎-elim
           (λ (g : week-minutes ≤ j).
           let e : j % week-minutes ≡ j - week-minutes = omega arith in
           let v : InWindow week (j - week-minutes) = subst (InWindow week) e w in
-          shut-until {week} {0} {0} f (λ x q. absurd (omega arith)) (a .some-window) (j - week-minutes) (omega arith) (omega arith) v)
+          shut-until f (shut-none week 0) (a .some-window) (j - week-minutes) (omega arith) (omega arith) v)
           (λ (g : j < week-minutes).
           let v : InWindow week j = subst (InWindow week) (sym (small-remainder j g)) w in
-          omega (arith, shut (v .window) (omega (arith, v .listed)), v .not-closed))
+          omega (arith, shut .closed (v .window) (omega (arith, v .listed)), v .not-closed))
           (nat-le-or-lt week-minutes j);
       near = omega arith;
     }
