@@ -30,10 +30,10 @@ unfolding minuteOf
 minute-read k = subℕ-read k signed-half
 
 -- Before the first Monday 0:00, and from there on.
-minute-before : (k : ℕ) → k < signed-half → minuteOf k ≡ negsuc (signed-half - suc k)
+pub minute-before : (k : ℕ) → k < signed-half → minuteOf k ≡ negsuc (signed-half - suc k)
 minute-before k h = omega (whole, minute-read k)
 
-minute-from : (k : ℕ) → signed-half ≤ k → minuteOf k ≡ pos (k - signed-half)
+pub minute-from : (k : ℕ) → signed-half ≤ k → minuteOf k ≡ pos (k - signed-half)
 minute-from k h = omega (whole, minute-read k)
 
 -- The minute of the week, as it is computed.
@@ -118,7 +118,7 @@ first-of-all {week} z {k} f =
 
 -- ---- what is answered
 
-no-list : (week : List ℕ) → length week ≡ 0 → week ≡ []
+pub no-list : (week : List ℕ) → length week ≡ 0 → week ≡ []
 no-list [] e = refl
 no-list (x ∷ xs) e = absurd (omega arith)
 
