@@ -22,7 +22,7 @@ fn main() {
         return;
     }
     println!("tests from outside, on {}", span::raw::BEHIND);
-    let all: [(&str, fn(&mut Tally)); 9] = [
+    let all: [(&str, fn(&mut Tally)); 10] = [
         ("examples", suites::examples::run),
         ("all-small", suites::small::every_small_problem),
         ("random-small", suites::small::random_problems),
@@ -32,6 +32,7 @@ fn main() {
         ("fields", suites::fields::run),
         ("programs", suites::pipes::run),
         ("unproved", suites::unproved::run),
+        ("opening", suites::opening::run),
     ];
     let mut failures = 0;
     let mut run = 0;

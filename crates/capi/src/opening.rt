@@ -2,6 +2,7 @@
 ghost use mathlib.Core.Path.{_≡_};
 ghost use Rattle.week.specs.Lookup.{admissionOf};
 ghost use Rattle.capi.specs.Opening.{AdmitsAs, SmallMinute, admissionNumber};
+use records::limits::FULL;
 use week::lookup::Admission;
 use week::lookup::first_open;
 
@@ -11,7 +12,7 @@ fn admission_number(admission: Admission) -> u64
     ensures { λ r. ⌜ r ≡ admissionNumber (admissionOf admission) ⌝ }
 {
     match admission {
-        Admission::At(minute) => 4294967296 * minute,
+        Admission::At(minute) => FULL * minute,
         Admission::Never => 0,
         Admission::Refused(k) => k as u64,
     }
