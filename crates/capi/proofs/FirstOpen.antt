@@ -1,10 +1,10 @@
 -- The numbers of the first open minute: they fit 64 bits, and each list and minute has one.
-use Prim.Native.Nat.{ℕ, suc, _+_, _-_, _*_, _≤_, _<_}
-use mathlib.Core.Path.{_≡_, refl, ap, sym, _∙_}
+use Prim.Native.Nat.{ℕ, _-_, _*_, _≤_, _<_}
+use mathlib.Core.Path.{_≡_, ap, sym, _∙_}
 use mathlib.Core.Logic.{⊎-elim}
 use mathlib.Core.List.{List}
 use native.Mathlib.Omega.{arith}
-use lib.IntN.{ℤ, pos, negsuc, natAbs}
+use lib.IntN.{ℤ}
 use Rattle.definitions.specs.Limits.{signed-half}
 use Rattle.definitions.specs.Week.{Admits}
 use Rattle.definitions.proofs.Whole.{abs-read, nat-le-or-lt}

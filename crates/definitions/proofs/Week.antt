@@ -1,12 +1,12 @@
 -- Opening hours: minutes ahead of a minute, the same in every week, and that there is one first open minute.
-use Prim.Native.Nat.{ℕ, zero, suc, _+_, _-_, _%_, _≤_, _<_}
+use Prim.Native.Nat.{ℕ, suc, _+_, _-_, _%_, _≤_, _<_}
 use mathlib.Core.Path.{_≡_, refl, ap, sym, subst, _∙_}
 use mathlib.Core.Bool.{Bool, true, false, cond}
-use mathlib.Core.Logic.{_⊎_, inl, inr, ⊎-elim, _↔_}
-use mathlib.Core.List.{List, []}
+use mathlib.Core.Logic.{⊎-elim, _↔_}
+use mathlib.Core.List.{List}
 use native.Mathlib.Omega.{arith}
 use lib.Dec.{ltb}
-use lib.IntN.{ℤ, pos, negsuc, subℕ, _+ℤ_}
+use lib.IntN.{ℤ, pos, negsuc, _+ℤ_}
 use lib.Signed.{_≤ℤ_, _<ℤ_}
 use borrow.Author.Tests.{ltb-true, ltb-false}
 use Rattle.definitions.specs.Limits.{week-minutes}
@@ -30,10 +30,19 @@ minute-ahead (negsuc k) d = go (ltb d (suc k)) refl
     go true e = let h : d < suc k = ltb-true d (suc k) e in omega arith
     go false e = let h : suc k ≤ d = ltb-false d (suc k) e in omega arith
 
--- The minutes of the first week are their own.
-pub minute-first : (k : ℕ) → k < week-minutes → minute-of-week (pos k) ≡ k
+-- A number below 10,080 for each minute that is 0 on a Monday 0:00 and goes on minute by minute is the minute of the week.
+pub minute-only :
+    (f : ℤ → ℕ) → ((z : ℤ) → f z < week-minutes) → f (pos 0) ≡ 0 → ((z : ℤ) (d : ℕ) → f (z +ℤ pos d) ≡ (f z + d) % week-minutes)
+    → (z : ℤ) → f z ≡ minute-of-week z
 unfolding minute-of-week
-minute-first k h = omega arith
+minute-only f below monday on (pos k) =
+    let e : pos 0 +ℤ pos k ≡ pos k = omega (whole, plus-read (pos 0) (pos k)) in
+    let h : f (pos k) ≡ (f (pos 0) + k) % week-minutes = sym (ap f e) ∙ on (pos 0) k in
+    omega arith
+minute-only f below monday on (negsuc k) =
+    let e : negsuc k +ℤ pos (suc k) ≡ pos 0 = omega (whole, plus-read (negsuc k) (pos (suc k))) in
+    let h : f (pos 0) ≡ (f (negsuc k) + suc k) % week-minutes = sym (ap f e) ∙ on (negsuc k) (suc k) in
+    omega (arith, below (negsuc k))
 
 -- A week later is the same minute of the week.
 pub minute-next-week : (z : ℤ) → minute-of-week (z +ℤ pos week-minutes) ≡ minute-of-week z

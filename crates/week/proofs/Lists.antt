@@ -1,11 +1,10 @@
 -- Week lists: what a good one has, how a run over the windows judges it, and where it finds the first open minute.
-use Prim.Native.Nat.{ℕ, zero, suc, _+_, _-_, _*_, _/_, _%_, _≤_, _<_}
-use mathlib.Core.Path.{_≡_, refl, ap, sym, subst, _∙_}
+use Prim.Native.Nat.{ℕ, zero, suc, _+_, _-_, _*_, _%_, _≤_, _<_}
+use mathlib.Core.Path.{_≡_, refl, ap, sym, subst}
 use mathlib.Core.Logic.{_⊎_, inl, inr, ⊎-elim}
 use mathlib.Core.List.{List}
 use native.Mathlib.Omega.{arith}
-use native.Mathlib.Numerals.{add-one}
-use lib.ListN.{length, getD}
+use lib.ListN.{length}
 use Rattle.definitions.specs.Limits.{week-minutes, most-windows}
 use Rattle.definitions.specs.Week.{windows, opening, closing, InWindow, BadWeek, odd, too-many-windows, closing-not-after-opening, opening-outside, closing-outside, starts-before-last-closes}
 use Rattle.definitions.proofs.Whole.{nat-le-or-lt}

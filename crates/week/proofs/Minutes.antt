@@ -1,23 +1,21 @@
 -- Minutes as offset numbers, their minutes of the week, and how the first open minute of a week is that of all weeks.
-use Prim.Native.Nat.{ℕ, zero, suc, _+_, _-_, _*_, _/_, _%_, _≤_, _<_}
+use Prim.Native.Nat.{ℕ, suc, _+_, _-_, _%_, _≤_, _<_}
 use mathlib.Core.Path.{_≡_, refl, ap, sym, subst, _∙_}
-use mathlib.Core.Bool.{Bool, true, false, not, _&&_, and-eq-true-iff}
-use mathlib.Core.Logic.{_⊎_, inl, inr, ⊎-elim}
+use mathlib.Core.Bool.{Bool, true, false, not, and-eq-true-iff}
+use mathlib.Core.Logic.{⊎-elim}
 use mathlib.Core.List.{List, [], _∷_}
 use native.Mathlib.Omega.{arith}
 use lib.Dec.{leb}
 use lib.ListN.{length}
 use lib.IntN.{ℤ, pos, negsuc, natAbs, _+ℤ_}
-use lib.Signed.{_≤ℤ_, _<ℤ_}
 use borrow.Author.Tests.{leb-true, le-leb, not-true, not-false}
 use Rattle.definitions.specs.Limits.{signed-half, week-minutes, minute-limit}
 use Rattle.definitions.specs.Bytes.{whole-within}
 use Rattle.definitions.specs.Offset.{tropOf}
-use Rattle.definitions.specs.Week as Weeks
-use Rattle.definitions.specs.Week.{windows, InWindow, minute-of-week, Open, FirstOpen, BadWeek, TurnedAway, bad-week, minute-beyond, Admits, turned-away, never-open, opens}
+use Rattle.definitions.specs.Week.{windows, InWindow, minute-of-week, FirstOpen, BadWeek, TurnedAway, bad-week, minute-beyond, Admits, turned-away, never-open, opens}
 use Rattle.definitions.proofs.Whole.{up, down, whole, plus-read, subℕ-read, abs-read, abs-show, nat-le-or-lt}
 use Rattle.definitions.proofs.Offset.{whole-offset}
-use Rattle.definitions.proofs.Week.{minute-below, minute-ahead, Ahead, ahead}
+use Rattle.definitions.proofs.Week.{minute-ahead, ahead}
 use Rattle.week.specs.declared.lookup.Admission.the-variants.{At, Never, Refused}
 use Rattle.week.specs.Lookup.{minuteOf, admissionOf, ListJudged, fits, bad, Asked, FirstFrom}
 use Rattle.week.proofs.Lists.{good-fits}

@@ -1,5 +1,5 @@
 -- Request 2.8 as a theorem: for every week list and every whole minute there is exactly one answer, and it is as promised.
-use Prim.Native.Nat.{ℕ, zero, suc, _+_, _-_, _*_, _/_, _%_, _≤_, _<_}
+use Prim.Native.Nat.{ℕ, zero, suc, _+_, _-_, _%_, _≤_, _<_}
 use mathlib.Core.Path.{_≡_, refl, ap, sym, subst, _∙_}
 use mathlib.Core.Logic.{_⊎_, inl, inr, ⊎-elim, _↔_}
 use mathlib.Core.List.{List, []}
@@ -8,8 +8,8 @@ use lib.ListN.{length}
 use lib.IntN.{ℤ, pos, natAbs, _+ℤ_}
 use lib.Signed.{_≤ℤ_, _<ℤ_}
 use Rattle.definitions.specs.Limits.{week-minutes, most-windows, minute-limit}
-use Rattle.definitions.specs.Week.{windows, opening, closing, InWindow, minute-of-week, Open, FirstOpen, BadWeek, odd, too-many-windows, closing-not-after-opening, TurnedAway, bad-week, minute-beyond, week-refusal, Admission, open-at, never, refused, Admits, turned-away, never-open, opens, Minute, Promised, OneAdmission, OpeningHours}
-use Rattle.definitions.proofs.Whole.{up, down, whole, plus-read, abs-read, abs-show, nat-le-or-lt, le-or-lt}
+use Rattle.definitions.specs.Week.{windows, opening, closing, InWindow, minute-of-week, Open, FirstOpen, BadWeek, odd, too-many-windows, closing-not-after-opening, TurnedAway, bad-week, minute-beyond, week-refusal, Admission, open-at, never, refused, Admits, turned-away, never-open, opens, Promised, OneAdmission, OpeningHours}
+use Rattle.definitions.proofs.Whole.{whole, plus-read, abs-read, abs-show, nat-le-or-lt, le-or-lt}
 use Rattle.definitions.proofs.Week.{minute-below, minute-ahead, every-week, first-open-unique}
 use Rattle.week.specs.Lookup.{Asked, FirstFrom}
 use Rattle.week.proofs.Lists.{Fits, good-fits, fits-good, FitsTo, fits-none, fits-more, fits-all, starts-early, closes-late, ShutTo, shut-none, shut-more, found-open, found-later, found-next-week}
