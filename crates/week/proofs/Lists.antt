@@ -1,7 +1,7 @@
 -- Week lists: what a good one has, how a run over the windows judges it, and where it finds the first open minute.
 use Prim.Native.Nat.{ℕ, zero, suc, _+_, _-_, _*_, _%_, _≤_, _<_}
 use mathlib.Core.Path.{_≡_, refl, ap, sym, subst}
-use mathlib.Core.Logic.{_⊎_, inl, inr, ⊎-elim}
+use mathlib.Core.Logic.{inl, inr, ⊎-elim}
 use mathlib.Core.List.{List}
 use native.Mathlib.Omega.{arith}
 use lib.ListN.{length}
@@ -18,6 +18,10 @@ below-one-more {i} P f p j h = ⊎-elim
     (λ (l : i ≤ j). let e : i ≡ j = omega arith in subst P e p)
     (λ (l : j < i). f j l)
     (nat-le-or-lt i j)
+
+-- At most, where the other way round is ruled out.
+unless-less : (a b : ℕ) → (b < a → ⊥) → a ≤ b
+unless-less a b never = ⊎-elim (λ (h : a ≤ b). h) (λ (h : b < a). absurd (never h)) (nat-le-or-lt a b)
 
 -- A minute of this week, and one of the next, as minutes of their week.
 small-remainder : (k : ℕ) → k < week-minutes → k ≡ k % week-minutes
@@ -36,6 +40,7 @@ pub record Fits (week : List ℕ) : Type 0 where
   pub closes-within : (i : ℕ) → i < windows week → closing week i ≤ week-minutes
   pub in-order : (i : ℕ) → suc i < windows week → closing week i ≤ opening week (suc i)
 
+-- Refusal 19 has nothing against such a list,
 pub fits-good : {week : List ℕ} → Fits week → BadWeek week → ⊥
 fits-good f (odd e) = omega arith
 fits-good f (too-many-windows h) = omega arith
@@ -45,13 +50,14 @@ fits-good f (closing-outside i h (inl k)) = omega (arith, f .closes-after i h)
 fits-good f (closing-outside i h (inr k)) = omega (arith, f .closes-within i h)
 fits-good f (starts-before-last-closes i h k) = omega (arith, f .in-order i h)
 
+-- and against any other it has something.
 pub good-fits : {week : List ℕ} → (BadWeek week → ⊥) → Fits week
 good-fits {week} good = record {
-  even = ⊎-elim (λ (h : length week ≤ 2 * windows week). omega arith) (λ (h : 2 * windows week < length week). absurd (good (odd (omega arith)))) (nat-le-or-lt (length week) (2 * windows week));
-  few = ⊎-elim (λ (h : windows week ≤ most-windows). h) (λ (h : most-windows < windows week). absurd (good (too-many-windows h))) (nat-le-or-lt (windows week) most-windows);
-  closes-after = λ i l. ⊎-elim (λ (h : closing week i ≤ opening week i). absurd (good (closing-not-after-opening i l h))) (λ (h : opening week i < closing week i). h) (nat-le-or-lt (closing week i) (opening week i));
-  closes-within = λ i l. ⊎-elim (λ (h : closing week i ≤ week-minutes). h) (λ (h : week-minutes < closing week i). absurd (good (closing-outside i l (inr h)))) (nat-le-or-lt (closing week i) week-minutes);
-  in-order = λ i l. ⊎-elim (λ (h : closing week i ≤ opening week (suc i)). h) (λ (h : opening week (suc i) < closing week i). absurd (good (starts-before-last-closes i l h))) (nat-le-or-lt (closing week i) (opening week (suc i)));
+  even = omega (arith, unless-less (length week) (2 * windows week) (λ h. good (odd (omega arith))));
+  few = unless-less (windows week) most-windows (λ h. good (too-many-windows h));
+  closes-after = λ i l. omega (arith, unless-less (opening week i + 1) (closing week i) (λ h. good (closing-not-after-opening i l (omega arith))));
+  closes-within = λ i l. unless-less (closing week i) week-minutes (λ h. good (closing-outside i l (inr h)));
+  in-order = λ i l. unless-less (closing week i) (opening week (suc i)) (λ h. good (starts-before-last-closes i l h));
 }
 
 -- Its first window opens within the week.
@@ -59,17 +65,16 @@ pub first-opening : {week : List ℕ} {minute : ℕ} → Asked week minute → o
 first-opening a = let f = good-fits (a .good) in omega (arith, f .closes-after 0 (a .some-window), f .closes-within 0 (a .some-window))
 
 -- A later window starts where an earlier one closed, or later.
-pub ascends : {week : List ℕ} → Fits week → (i d : ℕ) → i + suc d < windows week → closing week i ≤ opening week (i + suc d)
-ascends {week} f i zero h = subst (λ (k : ℕ). closing week i ≤ opening week k) (add-one-suc i) (f .in-order i (omega arith))
-  where
-    add-one-suc : (i : ℕ) → suc i ≡ i + 1
-    add-one-suc i = omega arith
+ascends : {week : List ℕ} → Fits week → (i d : ℕ) → i + suc d < windows week → closing week i ≤ opening week (i + suc d)
+ascends {week} f i zero h =
+    let e : suc i ≡ i + 1 = omega arith in
+    subst (λ (k : ℕ). closing week i ≤ opening week k) e (f .in-order i (omega arith))
 ascends {week} f i (suc d) h =
     let e : suc (i + suc d) ≡ i + suc (suc d) = omega arith in
     subst (λ (k : ℕ). closing week i ≤ opening week k) e
     (omega (arith, ascends f i d (omega arith), f .closes-after (i + suc d) (omega arith), f .in-order (i + suc d) (omega arith)))
 
-pub later-starts : {week : List ℕ} → Fits week → (i j : ℕ) → i < j → j < windows week → closing week i ≤ opening week j
+later-starts : {week : List ℕ} → Fits week → (i j : ℕ) → i < j → j < windows week → closing week i ≤ opening week j
 later-starts {week} f i j h k =
     let e : i + suc (j - suc i) ≡ j = omega arith in
     subst (λ (x : ℕ). closing week i ≤ opening week x) e (ascends f i (j - suc i) (omega arith))
@@ -85,6 +90,7 @@ pub record FitsTo (week : List ℕ) (i last : ℕ) : Type 0 where
   pub last-of-none : i ≡ 0 → last ≡ 0
   pub last-is : (j : ℕ) → i ≡ suc j → last ≡ closing week j
 
+-- No window was looked at.
 pub fits-none : (week : List ℕ) → FitsTo week 0 0
 fits-none week = record {
   within = omega arith;
@@ -95,6 +101,7 @@ fits-none week = record {
   last-is = λ j e. absurd (omega arith);
 }
 
+-- One window more fits.
 pub fits-more : {week : List ℕ} {i last : ℕ} → FitsTo week i last → i < windows week → last ≤ opening week i
     → opening week i < closing week i → closing week i ≤ week-minutes → FitsTo week (i + 1) (closing week i)
 fits-more {week} {i} {last} f h starts closes within = record {
@@ -126,6 +133,7 @@ starts-early {week} {i} {last} f h k = go i refl
 pub closes-late : (week : List ℕ) (i : ℕ) → i < windows week → week-minutes < closing week i → BadWeek week
 closes-late week i h k = closing-outside i h (inr k)
 
+-- All windows were looked at.
 pub fits-all : {week : List ℕ} {i last : ℕ} → FitsTo week i last → windows week ≤ i → length week % 2 ≡ 0 → windows week ≤ most-windows → Fits week
 fits-all {week} {i} f h even few =
     let e : i ≡ windows week = omega (arith, f .within) in record {
@@ -143,9 +151,11 @@ pub record ShutTo (week : List ℕ) (minute i : ℕ) : Type 0 where
   pub within : i ≤ windows week
   pub closed : (j : ℕ) → j < i → closing week j ≤ minute
 
+-- No window was looked at.
 pub shut-none : (week : List ℕ) (minute : ℕ) → ShutTo week minute 0
 shut-none week minute = record { within = omega arith; closed = λ j h. absurd (omega arith) }
 
+-- One window more is closed.
 pub shut-more : {week : List ℕ} {minute i : ℕ} → ShutTo week minute i → i < windows week → closing week i ≤ minute → ShutTo week minute (i + 1)
 shut-more {week} {minute} s h k = record { within = omega arith; closed = below-one-more (λ x. closing week x ≤ minute) (s .closed) k }
 

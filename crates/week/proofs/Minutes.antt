@@ -12,7 +12,7 @@ use borrow.Author.Tests.{leb-true, le-leb, not-true, not-false}
 use Rattle.definitions.specs.Limits.{signed-half, week-minutes, minute-limit}
 use Rattle.definitions.specs.Bytes.{whole-within}
 use Rattle.definitions.specs.Offset.{tropOf}
-use Rattle.definitions.specs.Week.{windows, InWindow, minute-of-week, FirstOpen, BadWeek, TurnedAway, bad-week, minute-beyond, Admits, turned-away, never-open, opens}
+use Rattle.definitions.specs.Week.{windows, InWindow, minute-of-week, FirstOpen, BadWeek, TurnedAway, bad-week, minute-beyond, week-refusal, Admits, turned-away, never-open, opens}
 use Rattle.definitions.proofs.Whole.{up, down, whole, plus-read, subℕ-read, abs-read, abs-show, nat-le-or-lt}
 use Rattle.definitions.proofs.Offset.{whole-offset}
 use Rattle.definitions.proofs.Week.{minute-ahead, ahead}
@@ -50,15 +50,17 @@ pub record WithinLimit (k : ℕ) : Type 0 where
   pub low : signed-half ≤ k + minute-limit
   pub high : k ≤ signed-half + minute-limit
 
+-- The test passes at these alone,
 both-tests : (k : ℕ) → whole-within minute-limit (tropOf k) ≡ true → WithinLimit k
 both-tests k t =
     let both = and-eq-true-iff (leb signed-half (k + minute-limit)) (leb k (signed-half + minute-limit)) .0 (sym (whole-offset minute-limit k (omega arith)) ∙ t) in
     record { low = leb-true _ _ (both .0); high = leb-true _ _ (both .1) }
 
+-- and at all of them.
 tests-both : (k : ℕ) → WithinLimit k → whole-within minute-limit (tropOf k) ≡ true
 tests-both k l = whole-offset minute-limit k (omega arith) ∙ and-eq-true-iff (leb signed-half (k + minute-limit)) (leb k (signed-half + minute-limit)) .1 (le-leb _ _ (l .low), le-leb _ _ (l .high))
 
--- These and no others are not beyond.
+-- None of these is beyond ±6,000,000, and any other is.
 pub limit-size : {k : ℕ} → WithinLimit k → natAbs (minuteOf k) ≤ minute-limit
 limit-size {k} l = abs-show (minuteOf k) (omega (arith, minute-read k)) (omega (arith, minute-read k))
 
@@ -75,37 +77,37 @@ beyond-limit k f = ⊎-elim
     (nat-le-or-lt (natAbs (minuteOf k)) minute-limit)
 
 -- The list is bad.
-pub admits-bad-week : {week : List ℕ} (z : ℕ) {r : Bool} → ListJudged week r → not r ≡ true → Admits week (minuteOf z) (admissionOf (Refused 19))
+pub admits-bad-week : {week : List ℕ} (z : ℕ) {r : Bool} → ListJudged week r → not r ≡ true → Admits week (minuteOf z) (admissionOf (Refused week-refusal))
 unfolding admissionOf
 admits-bad-week z (fits g) e = absurd (true-not-false e refl)
 admits-bad-week z (bad b) e = turned-away (bad-week b)
 
 -- The minute is beyond.
-pub admits-beyond : {week : List ℕ} (z : ℕ) {r : Bool} → r ≡ whole-within minute-limit (tropOf z) → not r ≡ true → Admits week (minuteOf z) (admissionOf (Refused 19))
+pub admits-beyond : {week : List ℕ} (z : ℕ) {r : Bool} → r ≡ whole-within minute-limit (tropOf z) → not r ≡ true → Admits week (minuteOf z) (admissionOf (Refused week-refusal))
 unfolding admissionOf
 admits-beyond z {r} e t = turned-away (minute-beyond (beyond-limit z (sym e ∙ not-true r t)))
 
 -- Neither is turned away.
 pub record Taken (week : List ℕ) (z : ℕ) : Type 0 where
   pub good : BadWeek week → ⊥
-  pub low : signed-half ≤ z + minute-limit
-  pub high : z ≤ signed-half + minute-limit
+  pub within : WithinLimit z
 
 pub taken : {week : List ℕ} (z : ℕ) {r s : Bool} → ListJudged week r → not r ≡ false → s ≡ whole-within minute-limit (tropOf z) → not s ≡ false → Taken week z
-taken z (fits g) e q f = let l = both-tests z (sym q ∙ not-false _ f) in record { good = g; low = l .low; high = l .high }
+taken z (fits g) e q f = record { good = g; within = both-tests z (sym q ∙ not-false _ f) }
 taken z (bad b) e q f = absurd (true-not-false refl e)
 
+-- Refusal 19 does not apply.
 none-applies : {week : List ℕ} {z : ℕ} → Taken week z → TurnedAway week (minuteOf z) → ⊥
 none-applies t (bad-week b) = t .good b
-none-applies t (minute-beyond h) = omega (arith, limit-size (record { low = t .low; high = t .high }))
+none-applies t (minute-beyond h) = omega (arith, limit-size (t .within))
 
 -- ---- from this week's Monday to the minute itself
 
 -- The first open minute counted from this week's Monday 0:00 is the first of all weeks.
 pub first-of-all : {week : List ℕ} (z : ℤ) {k : ℕ} → FirstFrom week (minute-of-week z) k → FirstOpen week z (z +ℤ pos (k - minute-of-week z))
 first-of-all {week} z {k} f =
-    let m : ℕ = minute-of-week z in
-    let e : (minute-of-week z + (k - minute-of-week z)) % week-minutes ≡ k % week-minutes = let q : minute-of-week z + (k - minute-of-week z) ≡ k = omega (arith, f .at-or-after) in ap (λ (x : ℕ). x % week-minutes) q in record {
+    let q : minute-of-week z + (k - minute-of-week z) ≡ k = omega (arith, f .at-or-after) in
+    let e : (minute-of-week z + (k - minute-of-week z)) % week-minutes ≡ k % week-minutes = ap (λ (x : ℕ). x % week-minutes) q in record {
       at-or-after = omega (whole, plus-read z (pos (k - minute-of-week z)));
       is-open = subst (InWindow week) (sym (minute-ahead z (k - minute-of-week z) ∙ e)) (f .is-open);
       shut-before = λ b h l w.
@@ -116,10 +118,12 @@ first-of-all {week} z {k} f =
 
 -- ---- what is answered
 
+-- A list without numbers is empty.
 pub no-list : (week : List ℕ) → length week ≡ 0 → week ≡ []
 no-list [] e = refl
 no-list (x ∷ xs) e = absurd (omega arith)
 
+-- It is never open.
 pub admits-never : {week : List ℕ} {z : ℕ} → Taken week z → length week ≡ 0 → Admits week (minuteOf z) (admissionOf Never)
 unfolding admissionOf
 admits-never {week} t e = never-open (none-applies t) (no-list week e)
@@ -132,6 +136,7 @@ asked {week} t h k = record { good = t .good; some-window = let e = good-fits (t
 answer-is : (z m k : ℕ) → m ≤ z → m ≤ k → minuteOf z +ℤ pos (k - m) ≡ minuteOf (z - m + k)
 answer-is z m k h l = omega (whole, plus-read (minuteOf z) (pos (k - m)), minute-read z, minute-read (z - m + k))
 
+-- The first open minute.
 pub admits-at : {week : List ℕ} {z m k : ℕ} → Taken week z → m ≡ minute-of-week (minuteOf z) → m < week-minutes → FirstFrom week m k → Admits week (minuteOf z) (admissionOf (At (z - m + k)))
 unfolding admissionOf
 admits-at {week} {z} {m} {k} t e s f =
