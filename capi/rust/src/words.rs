@@ -121,7 +121,7 @@ impl Refusal {
             12 => "Its span or a stamp is outside the form of its class.",
             13 => "A pick is above its highest value.",
             14 => "The form is right and the answer is not accepted: not certified.",
-            19 => "A week list or a minute to be looked up is not of its form.",
+            19 => "More than 14 windows, a closing not after its opening, an opening or closing outside its range, a window that starts before the last one closes, or a minute to be looked up beyond ±6,000,000.",
             _ => "No refusal of documents 01 and 02.",
         }
     }
