@@ -17,7 +17,8 @@
  * answer buffer is shorter than 206 bytes; 8 the answer has fewer than 14 bytes; 9 its length field is not its
  * size - 4; 10 its kind is not 2 or its class not 1 to 3; 11 its n is not the problem's, or its size does not fit its
  * class; 12 its span or a stamp is outside the form of its class; 13 a pick is above its highest value; 14 not
- * certified. The first that applies is returned, and a refusal writes nothing.
+ * certified; 19 a week list or a minute to be looked up is not of its form (span_first_open). The first that applies is
+ * returned, and a refusal writes nothing.
  */
 #ifndef SPAN_H
 #define SPAN_H
@@ -39,6 +40,9 @@ extern "C" {
 #define SPAN_NONE 3
 #define SPAN_NOT_CERTIFIED 14
 #define SPAN_TOO_FEW_PLACES 255   /* span_read only */
+
+#define SPAN_WINDOWS 14           /* the most windows of a week list, with two minutes each */
+#define SPAN_NEVER 0              /* span_first_open only: the week list is empty */
 
 /* Answers a problem: writes the answer record at the start of `answer`; the bytes after it stay.
  * Result: 256 * trials + refusal. Answered: refusal 0, trials 1 to 23. Refused: 1 to 7, trials 0. */
@@ -65,11 +69,20 @@ uint64_t span_write(uint64_t class_number, uint64_t span, const uint64_t *stamps
                     const uint64_t *picks, size_t picks_count, uint64_t n, uint64_t m,
                     uint8_t *buffer, size_t buffer_size);
 
+/* The first open minute of a ward at or after a minute, which is within 6,000,000 of a Monday 0:00, minute 0. The week list
+ * holds, in turn, the opening minute (0 to 10,079) and the closing minute (1 to 10,080) of each window, counted from Monday
+ * 0:00, for every week before or after. A window runs to the minute before its closing minute; windows ascend, and one
+ * may start where the last one closes. `minute` is an offset number.
+ * Result: 4294967296 * the first open minute's offset number, less than 10,080 away; SPAN_NEVER for an empty list; or the
+ * refusal 19: an odd list, more than 14 windows, a closing not after its opening, an opening or closing outside its range,
+ * a window that starts before the last one closes, or a minute beyond 6,000,000. */
+uint64_t span_first_open(const uint64_t *week, size_t week_count, uint64_t minute);
+
 /* What a result holds. */
 static inline unsigned span_refusal(uint64_t result) { return (unsigned)(result & 255); }
 static inline unsigned span_trials(uint64_t result) { return (unsigned)(result >> 8); }           /* span_solve */
 static inline unsigned span_class(uint64_t result) { return (unsigned)((result >> 8) & 255); }    /* span_check, span_read */
-static inline int32_t span_minutes(uint64_t result) {                                             /* class 1 only */
+static inline int32_t span_minutes(uint64_t result) {                    /* class 1, and span_first_open's minute */
     return (int32_t)((int64_t)(result >> 32) - 2147483648LL);
 }
 

@@ -33,7 +33,7 @@ fn main() {
         return;
     }
     println!("tests from outside, on {TRIED}");
-    let all: [Suite; 9] = [
+    let all: [Suite; 10] = [
         ("examples", suites::examples::run),
         ("all-small", suites::small::every_small_problem),
         ("random-small", suites::small::random_problems),
@@ -43,6 +43,7 @@ fn main() {
         ("fields", suites::fields::run),
         ("programs", suites::pipes::run),
         ("unproved", suites::unproved::run),
+        ("opening", suites::opening::run),
     ];
     let mut failures = 0;
     let mut run = 0;

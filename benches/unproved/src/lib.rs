@@ -20,6 +20,7 @@ mod policy;
 pub mod programs;
 pub mod record;
 mod saver;
+pub mod week;
 
 pub use engine::{solve_by, solve_with, Answered, InFull, InLists, Kind, Search};
 

@@ -1,7 +1,8 @@
 //! The span engine and its checker, release 4.2, for Rust programs.
 //!
 //! A clinic sends a problem as bytes (document 01, "Records"). [`solve`] answers it; [`check`] judges an answer from
-//! any engine and trusts none. [`read`] and [`write`] turn an answer record into its fields and back.
+//! any engine and trusts none. [`read`] and [`write`] turn an answer record into its fields and back. [`first_open`] looks
+//! up a ward's opening hours.
 //!
 //! What these functions return is proved of the code behind them, which the archive `libcapi.a` holds; this thin layer
 //! and the compiler that builds it are not part of the proofs.
@@ -16,8 +17,10 @@
 //! ```
 
 mod calls;
+mod opening;
 pub mod raw;
 mod words;
 
 pub use calls::{check, read, solve, write, ANSWER_SIZE, PROBLEM_SIZE};
+pub use opening::{first_open, Window};
 pub use words::{Answer, Certified, Class, Outcome, Refusal, Solved};

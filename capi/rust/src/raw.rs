@@ -1,4 +1,4 @@
-//! The four functions of `capi/span.h` over slices, with their results as the header describes them.
+//! The functions of `capi/span.h` over slices, with their results as the header describes them.
 //!
 //! This is the only file with `unsafe`. The archive's functions take every string of bytes and every number; what
 //! they ask is that buffers do not overlap, which Rust's borrows ensure here.
@@ -34,6 +34,7 @@ mod archive {
             buffer: *mut u8,
             buffer_size: usize,
         ) -> u64;
+        pub fn span_first_open(week: *const u64, week_count: usize, minute: u64) -> u64;
     }
 }
 
@@ -84,4 +85,10 @@ pub fn write(class: u64, span: u64, stamps: &[u64], picks: &[u64], n: u64, m: u6
             buffer.len(),
         )
     }
+}
+
+/// The first open minute of a week list: the refusal, 0 for never, or 2³² × the minute's offset number.
+pub fn first_open(week: &[u64], minute: u64) -> u64 {
+    // SAFETY: the list is valid for its length and is only read.
+    unsafe { archive::span_first_open(week.as_ptr(), week.len(), minute) }
 }

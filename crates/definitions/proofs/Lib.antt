@@ -13,3 +13,4 @@ pub mod Examples
 pub mod Edges
 pub mod Programs
 pub mod Inputs
+pub mod Week

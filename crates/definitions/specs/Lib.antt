@@ -12,3 +12,4 @@ pub mod Solved
 pub mod Programs
 pub mod Demands
 pub mod Examples
+pub mod Week

@@ -1,5 +1,5 @@
--- The numbers of document 01, each once; those that follow from others are derived. (Refusals have their numbers where they
--- are listed, in ProblemRecord, AnswerRecord, Solved and Verdict, and the two outer trials are counted in Bisection.)
+-- The numbers of documents 01 and 02, each once; those that follow from others are derived. (Refusals have their numbers where
+-- they are listed, in ProblemRecord, AnswerRecord, Solved, Verdict and Week, and the two outer trials are counted in Bisection.)
 use Prim.Native.Nat.{ℕ, suc, _+_, _*_}
 use lib.IntN.{ℤ, pos, negsuc}
 
@@ -101,3 +101,14 @@ answer-most = answer-header + (signed-bytes + short-bytes) * suc highest-n
 -- How many bytes of their input the programs keep.
 abbrev pub kept-bytes : ℕ
 kept-bytes = 20000
+
+-- Document 02, 2.8: the minutes of a week (closing minutes go to 10,080) and the most windows of a week list.
+abbrev pub week-minutes : ℕ
+week-minutes = 10080
+
+abbrev pub most-windows : ℕ
+most-windows = 14
+
+-- Document 02, 2.8: "a minute to be looked up beyond ±6,000,000".
+abbrev pub minute-limit : ℕ
+minute-limit = 6000000

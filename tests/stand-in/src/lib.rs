@@ -4,9 +4,12 @@
 
 #[path = "../../../capi/rust/src/calls.rs"]
 mod calls;
+#[path = "../../../capi/rust/src/opening.rs"]
+mod opening;
 pub mod raw;
 #[path = "../../../capi/rust/src/words.rs"]
 mod words;
 
 pub use calls::{check, read, solve, write, ANSWER_SIZE, PROBLEM_SIZE};
+pub use opening::{first_open, Window};
 pub use words::{Answer, Certified, Class, Outcome, Refusal, Solved};

@@ -1,6 +1,7 @@
 //! The functions of `raw` in the package `span`, by the unproved engine and checker.
 
 pub use unproved::boundary::{check, read, solve, write};
+pub use unproved::week::first_open;
 
 /// Places that the reader is lent for stamps.
 pub const STAMPS: usize = unproved::VARIABLES;
