@@ -1,10 +1,13 @@
--- Facts that pin what a cycle is: it has an arc, and it goes round once.
+-- Facts that pin what a cycle is and what it uses: it has an arc, it goes round once, and in class 2 none may use the objective,
+-- whatever it weighs.
 use Prim.Native.Nat.{ℕ, _≤_}
-use mathlib.Core.Path.{_≡_, sym, _∙_}
+use mathlib.Core.Path.{_≡_, refl, sym, _∙_}
 use mathlib.Core.Logic.{inl}
 use native.Mathlib.Omega.{arith}
-use lib.IntN.{ℤ, +ℤ-idr}
-use Rattle.definitions.specs.Certificate.{Walk, stop, step, Uses, Distinct, Cycle}
+use lib.IntN.{ℤ, pos, +ℤ-idr}
+use Rattle.definitions.specs.Tropical.{fin}
+use Rattle.definitions.specs.Problem.{Problem}
+use Rattle.definitions.specs.Certificate.{start, Walk, stop, step, Uses, Distinct, Cycle, raise, AcceptedUnbounded}
 
 -- ---- at least one arc
 
@@ -34,3 +37,20 @@ loop-once v h (step a (step b p)) d = absurd (d .0 (inl (b .from ∙ sym (a .fro
 -- Along it a cycle goes round once, so that none weighs 2v.
 pub round-once : {Start : ℕ → Type 0} {L : ℕ → ℕ → Type 0} (v w : ℤ) → Cycle Start L (Loop v) w → w ≡ v
 round-once v w c = loop-once v (omega arith) (c .walk) (c .distinct)
+
+-- ---- the objective
+
+-- No inequality, and the same coefficient on both sides of the objective: every value is 0.
+unfoldable pub level : Problem
+level = record { n = 0; m = 0; left = λ i j. fin (pos 0); right = λ i j. fin (pos 0) }
+
+-- Class 2 does not accept the one row's only pick: the cycle weighs 0, and it uses the objective.
+pub not-unbounded-level : AcceptedUnbounded level (λ i. 1) → ⊥
+unfolding level raise Uses Distinct
+not-unbounded-level c = c .no-objective (pos 0) (record {
+  at = 0;
+  arcs = 0;
+  reachable = start refl;
+  walk = step {l = 0} {w = pos 0} {v = pos 0} (record { row = 0; inside = omega arith; picked = refl; by = record { a = pos 0; b = pos 0; left-is = refl; right-is = refl; weighs = refl } }) stop;
+  distinct = (λ f. f, tt);
+}) (inl refl)

@@ -135,7 +135,7 @@ cycle-M t = record {
   reachable = start refl;
   walk = step {l = 1} {w = negsuc 29} (record { row = 0; picked = refl; inside = omega arith; by = record { a = pos 30; b = pos 0; left-is = refl; right-is = refl; weighs = refl } })
       (step {l = 0} {w = pos 0 +ℤ t} (record { row = 1; picked = refl; inside = omega arith; by = record { a = pos 0; b = pos 0; left-is = refl; right-is = refl; weighs = refl } }) stop);
-  distinct = (⊎-elim (λ (e : 1 ≡ 0). omega arith) (λ f. f), (λ f. f, tt));
+  distinct = (⊎-elim (λ e. omega arith) (λ f. f), (λ f. f, tt));
 }
 
 pub not-accepted-M : Accepted (problemOf (example-M .problem)) (answerOf (example-M .answer) 1 1) → ⊥

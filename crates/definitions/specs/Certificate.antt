@@ -28,7 +28,7 @@ pub data Walk (Arc : ℕ → ℕ → ℤ → Type 0) : ℕ → ℕ → ℕ → �
   stop : {j : ℕ} → Walk Arc j j 0 (pos 0)
   step : {j l k n : ℕ} {w v : ℤ} → Arc j l w → Walk Arc l k n v → Walk Arc j k (suc n) (w +ℤ v)
 
--- The walk uses an arc with the property Q.
+-- The walk uses an arc with the property Q: one of its arcs has it.
 unfoldable pub Uses : {Arc : ℕ → ℕ → ℤ → Type 0} (Q : (j l : ℕ) (w : ℤ) → Arc j l w → Type 0) {j k n : ℕ} {w : ℤ}
     → Walk Arc j k n w → Type 0
 Uses Q stop = ⊥
@@ -39,7 +39,7 @@ unfoldable pub Distinct : {Arc : ℕ → ℕ → ℤ → Type 0} {j k n : ℕ} {
 Distinct stop = Unit
 Distinct (step {j = j} arc rest) = (Uses (λ i l w a. i ≡ j) rest → ⊥) × Distinct rest
 
--- A reached cycle of weight w: a closed walk through distinct variables, of at least one arc, from a reachable variable.
+-- A reached cycle of weight w: a closed walk through distinct variables, of at least one arc, from a reached variable.
 pub record Cycle (Start : ℕ → Type 0) (Leads : ℕ → ℕ → Type 0) (Arc : ℕ → ℕ → ℤ → Type 0) (w : ℤ) : Type 0 where
   pub at : ℕ
   pub arcs : ℕ
@@ -48,9 +48,9 @@ pub record Cycle (Start : ℕ → Type 0) (Leads : ℕ → ℕ → Type 0) (Arc 
   pub distinct : Distinct walk
 
 -- No reached cycle uses an arc with the property Q.
-abbrev pub NoneUses : (Start : ℕ → Type 0) (Leads : ℕ → ℕ → Type 0) (Arc : ℕ → ℕ → ℤ → Type 0)
+abbrev pub NoCycleUses : (Start : ℕ → Type 0) (Leads : ℕ → ℕ → Type 0) (Arc : ℕ → ℕ → ℤ → Type 0)
     → ((j l : ℕ) (w : ℤ) → Arc j l w → Type 0) → Type 0
-NoneUses Start Leads Arc Q = (w : ℤ) (c : Cycle Start Leads Arc w) → Uses Q (c .walk) → ⊥
+NoCycleUses Start Leads Arc Q = (w : ℤ) (c : Cycle Start Leads Arc w) → Uses Q (c .walk) → ⊥
 
 -- What an arc by row i weighs more: t for the objective, nothing for an inequality.
 unfoldable pub raise : Problem → ℤ → ℕ → ℤ
@@ -87,7 +87,7 @@ pub record HasPick (p : Problem) (picks : Strategy) (j : ℕ) : Type 0 where
   pub picked : picks j ≡ suc row
   pub left : Finite (p .left row j)
 
--- Every reachable variable has such a pick.
+-- Every reached variable has such a pick.
 abbrev pub PicksCount : Problem → Strategy → Type 0
 PicksCount p picks = (j : ℕ) → Reachable Anchor (Leads p picks) j → HasPick p picks j
 
@@ -106,7 +106,7 @@ pub record AcceptedOptimal (p : Problem) (s : ℤ) (x : Point) (picks : Strategy
 -- Class 3, accepted: picks as in class 1; no reached cycle uses the objective; every reached cycle weighs below zero.
 pub record AcceptedInfeasible (p : Problem) (picks : Strategy) : Type 0 where
   pub picks-count : PicksCount p picks
-  pub no-objective : NoneUses Anchor (Leads p picks) (Arc p picks (pos 0)) (λ j l w arc. arc .row ≡ p .m)
+  pub no-objective : NoCycleUses Anchor (Leads p picks) (Arc p picks (pos 0)) (λ j l w arc. arc .row ≡ p .m)
   pub below-zero : BelowZero p picks (pos 0)
 
 -- ---- class 2: a strategy of rows
@@ -131,7 +131,7 @@ pub record RowHasPick (p : Problem) (picks : Strategy) (i : ℕ) : Type 0 where
   pub picked : picks i ≡ suc variable
   pub right : Finite (p .right i variable)
 
--- Every row with a non-blank left coefficient of a reachable variable has such a pick.
+-- Every row with a non-blank left coefficient of a reached variable has such a pick.
 abbrev pub RowPicksCount : Problem → Strategy → Type 0
 RowPicksCount p picks =
     (i j : ℕ) → i ≤ p .m → Reachable Anchor (RowLeads p picks) j → Finite (p .left i j) → RowHasPick p picks i
@@ -140,5 +140,5 @@ RowPicksCount p picks =
 -- right coefficient; no reached cycle uses the objective; every reached cycle weighs zero or more.
 pub record AcceptedUnbounded (p : Problem) (picks : Strategy) : Type 0 where
   pub picks-count : RowPicksCount p picks
-  pub no-objective : NoneUses Anchor (RowLeads p picks) (RowArc p picks (pos 0)) (λ j l w arc. arc .row ≡ p .m)
+  pub no-objective : NoCycleUses Anchor (RowLeads p picks) (RowArc p picks (pos 0)) (λ j l w arc. arc .row ≡ p .m)
   pub zero-or-more : (w : ℤ) → Cycle Anchor (RowLeads p picks) (RowArc p picks (pos 0)) w → pos 0 ≤ℤ w

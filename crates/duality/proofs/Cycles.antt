@@ -11,7 +11,7 @@ use native.Mathlib.Decide.{ℕ-discrete}
 use lib.IntN.{ℤ, pos, _+ℤ_, +ℤ-assoc}
 use lib.Signed.{_≤ℤ_, _<ℤ_}
 use Rattle.definitions.specs.Problem.{Problem}
-use Rattle.definitions.specs.Certificate.{Strategy, Anchor, Reachable, onward, Walk, stop, step, Uses, Distinct, Cycle, NoneUses, ArcBy, Leads, Arc, BelowZero, RowLeads, RowArc}
+use Rattle.definitions.specs.Certificate.{Strategy, Anchor, Reachable, onward, Walk, stop, step, Uses, Distinct, Cycle, NoCycleUses, ArcBy, Leads, Arc, BelowZero, RowLeads, RowArc}
 use Rattle.definitions.proofs.Whole.{whole, plus-read}
 use Rattle.duality.specs.Circuits.{Circuit, UsesObjective, ObjectiveArc, RowObjectiveArc}
 use Rattle.duality.specs.Picks.{AtLeastZero}
@@ -178,6 +178,17 @@ module _ {Start : ℕ → Type 0} {L : ℕ → ℕ → Type 0} {A : ℕ → ℕ 
 pub cycle-circuit : {Start : ℕ → Type 0} {L : ℕ → ℕ → Type 0} {A : ℕ → ℕ → ℤ → Type 0} {w : ℤ} → Cycle Start L A w → Circuit Start L A w
 cycle-circuit c = record { at = c .at; arcs = c .arcs; reachable = c .reachable; walk = c .walk }
 
+-- All its variables are reached, not only the one where it is begun.
+pub cycle-reached : {Start : ℕ → Type 0} {L : ℕ → ℕ → Type 0} {A : ℕ → ℕ → ℤ → Type 0} → ((j l : ℕ) (w : ℤ) → A j l w → L j l)
+    → {w : ℤ} (c : Cycle Start L A w) (x : ℕ) → Passes x (c .walk) → Reachable Start L x
+unfolding Uses
+cycle-reached {Start} {L} {A} leads c x u = along (c .reachable) (c .walk) u
+  where
+    along : {j k n : ℕ} {v : ℤ} → Reachable Start L j → (p : Walk A j k n v) → Passes x p → Reachable Start L x
+    along r stop u = absurd u
+    along r (step a p) (inl e) = subst (Reachable Start L) e r
+    along r (step {j = j} {l = l} {w = v} a p) (inr u) = along (onward r (leads j l v a)) p u
+
 -- A property of weights that sums keep holds of every cycle exactly when it holds of every closed walk.
 pub cycles-exactly : {Start : ℕ → Type 0} {L : ℕ → ℕ → Type 0} {A : ℕ → ℕ → ℤ → Type 0} (P : ℤ → Type 0)
     → ((u v : ℤ) → P u → P v → P (u +ℤ v)) → ((j l : ℕ) (w : ℤ) → A j l w → L j l)
@@ -195,7 +206,7 @@ pub record Those (A : ℕ → ℕ → ℤ → Type 0) (Q : (j l : ℕ) (w : ℤ)
 module _ {Start : ℕ → Type 0} {L : ℕ → ℕ → Type 0} {A O : ℕ → ℕ → ℤ → Type 0} {Q : (j l : ℕ) (w : ℤ) → A j l w → Type 0}
     (those : Those A Q O) (leads : (j l : ℕ) (w : ℤ) → A j l w → L j l) where
   -- An arc with a walk back has a way back, which closes a cycle that uses it.
-  unused-circuit : NoneUses Start L A Q → UsesObjective Start L O A → ⊥
+  unused-circuit : NoCycleUses Start L A Q → UsesObjective Start L O A → ⊥
   unfolding Uses cycle-of
   unused-circuit none u =
       let a = those .arc (u .at) (u .to) (u .w) (u .arc) in
@@ -220,7 +231,7 @@ module _ {Start : ℕ → Type 0} {L : ℕ → ℕ → Type 0} {A O : ℕ → �
   begun {j = j} e r before (step {l = l} {w = w} a p) (inr u) = begun e (onward r (leads j l w a)) (walk-append before (step a stop)) p u
 
   -- No cycle uses such an arc exactly when no closed walk does.
-  pub unused-exactly : NoneUses Start L A Q ↔ (UsesObjective Start L O A → ⊥)
+  pub unused-exactly : NoCycleUses Start L A Q ↔ (UsesObjective Start L O A → ⊥)
   unused-exactly = (unused-circuit, λ none w c u. none (begun refl (c .reachable) stop (c .walk) u))
 
 -- ---- the conditions of each class
@@ -239,7 +250,7 @@ at-least-exactly p picks t =
 
 -- Class 3: no cycle uses the objective exactly when no closed walk does.
 pub objective-exactly : (p : Problem) (picks : Strategy)
-    → NoneUses Anchor (Leads p picks) (Arc p picks (pos 0)) (λ j l w arc. arc .row ≡ p .m)
+    → NoCycleUses Anchor (Leads p picks) (Arc p picks (pos 0)) (λ j l w arc. arc .row ≡ p .m)
     ↔ (UsesObjective Anchor (Leads p picks) (ObjectiveArc p picks) (Arc p picks (pos 0)) → ⊥)
 objective-exactly p picks = unused-exactly (record {
   arc = λ j l w o. record { row = p .m; picked = o .picked; inside = o .inside; by = o .by };
@@ -249,7 +260,7 @@ objective-exactly p picks = unused-exactly (record {
 
 -- Class 2: the same.
 pub row-objective-exactly : (p : Problem) (picks : Strategy)
-    → NoneUses Anchor (RowLeads p picks) (RowArc p picks (pos 0)) (λ j l w arc. arc .row ≡ p .m)
+    → NoCycleUses Anchor (RowLeads p picks) (RowArc p picks (pos 0)) (λ j l w arc. arc .row ≡ p .m)
     ↔ (UsesObjective Anchor (RowLeads p picks) (RowObjectiveArc p picks) (RowArc p picks (pos 0)) → ⊥)
 row-objective-exactly p picks = unused-exactly (record {
   arc = λ j l w o. record { row = p .m; inside = omega arith; picked = o .picked; by = o .by };
