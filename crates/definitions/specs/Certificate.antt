@@ -1,5 +1,6 @@
 -- What the checker judges: a strategy (pick table) and the cycles that it leaves. Document 01, "The checker".
--- A pick is 0 for none; else it is 1 + the number of a row (classes 1 and 3) or of a variable (class 2).
+-- A pick is 0 for none; else it is 1 + the number of a row (classes 1 and 3) or of a variable (class 2). Variables are document
+-- 01's moments, coefficients its leads, inequalities its rules; the objective, row m, is its question.
 use Prim.Native.Nat.{ℕ, zero, suc, _+_, _≤_}
 use mathlib.Core.Path.{_≡_}
 use mathlib.Core.Bool.{cond}
@@ -39,7 +40,8 @@ unfoldable pub Distinct : {Arc : ℕ → ℕ → ℤ → Type 0} {j k n : ℕ} {
 Distinct stop = Unit
 Distinct (step {j = j} arc rest) = (Uses (λ i l w a. i ≡ j) rest → ⊥) × Distinct rest
 
--- A reached cycle of weight w: a closed walk through distinct variables, of at least one arc, from a reached variable.
+-- A reached cycle of weight w: a closed walk through distinct variables, of at least one arc, from a reached variable. (Arcs lead
+-- on, so all its variables are reached.)
 pub record Cycle (Start : ℕ → Type 0) (Leads : ℕ → ℕ → Type 0) (Arc : ℕ → ℕ → ℤ → Type 0) (w : ℤ) : Type 0 where
   pub at : ℕ
   pub arcs : ℕ

@@ -3,7 +3,7 @@
 -- what is left longer by a variable that it did not pass. So a property of weights that sums keep holds of every closed
 -- walk where it holds of every cycle; and an arc with a walk back has a way back through distinct variables, which
 -- closes a cycle that uses this arc.
-use Prim.Native.Nat.{ℕ, zero, suc, _+_, _<_}
+use Prim.Native.Nat.{ℕ, suc, _+_, _<_}
 use mathlib.Core.Path.{_≡_, refl, sym, subst}
 use mathlib.Core.Logic.{_⊎_, inl, inr, ⊎-elim, _↔_}
 use native.Mathlib.Omega.{arith}
@@ -40,9 +40,14 @@ record Way (A : ℕ → ℕ → ℤ → Type 0) (j k : ℕ) (w : ℤ) : Type 0 w
   distinct : Distinct walk
   ends : Passes k walk → ⊥
 
+-- The way of no arcs.
+none-yet : {A : ℕ → ℕ → ℤ → Type 0} {j : ℕ} → Way A j j (pos 0)
+unfolding Uses Distinct
+none-yet = record { arcs = 0; walk = stop; distinct = tt; ends = λ u. u }
+
 -- ---- a way cut at a variable that it passes
 
--- The part before x, none of which is new, and the part from there, both ways.
+-- The part up to x, which passes nothing new, and the part from there.
 record Cut {A : ℕ → ℕ → ℤ → Type 0} (x : ℕ) {j k n : ℕ} {w : ℤ} (p : Walk A j k n w) : Type 0 where
   u : ℤ
   v : ℤ
@@ -51,17 +56,19 @@ record Cut {A : ℕ → ℕ → ℤ → Type 0} (x : ℕ) {j k n : ℕ} {w : ℤ
   inside : (y : ℕ) → Passes y (before .walk) → Passes y p
   weights : u +ℤ v ≡ w
 
+-- Cut where it starts.
 cut-here : {A : ℕ → ℕ → ℤ → Type 0} {j k n : ℕ} {w : ℤ} (p : Walk A j k n w) → Distinct p → (Passes k p → ⊥) → Cut j p
-unfolding Uses Distinct
+unfolding Uses Distinct none-yet
 cut-here {n = n} {w = w} p d e = record {
   u = pos 0;
   v = w;
-  before = record { arcs = 0; walk = stop; distinct = tt; ends = λ f. f };
+  before = none-yet;
   after = record { arcs = n; walk = p; distinct = d; ends = e };
   inside = λ y f. absurd f;
   weights = omega (whole, plus-read (pos 0) w);
 }
 
+-- An arc put in front, from a variable that is not passed.
 cut-on : {A : ℕ → ℕ → ℤ → Type 0} (x : ℕ) {j l k n : ℕ} {w v : ℤ} (a : A j l w) (p : Walk A l k n v) → (Passes j p → ⊥)
     → Passes x p → Cut x p → Cut x (step {w = w} a p)
 unfolding Uses Distinct
@@ -79,6 +86,7 @@ cut-on x {j} {w = w} {v = v} a p new u c = record {
   weights = omega (whole, plus-read w (c .u), plus-read (w +ℤ c .u) (c .v), plus-read (c .u) (c .v), plus-read w v, c .weights);
 }
 
+-- Cut at x, wherever that stands.
 cut : {A : ℕ → ℕ → ℤ → Type 0} (x : ℕ) {j k n : ℕ} {w : ℤ} (p : Walk A j k n w) → Distinct p → (Passes k p → ⊥) → Passes x p → Cut x p
 unfolding Uses Distinct
 cut x stop d e u = absurd u
@@ -104,10 +112,9 @@ module _ {Start : ℕ → Type 0} {L : ℕ → ℕ → Type 0} {A : ℕ → ℕ 
     {P : ℤ → Type 0} (sums : (u v : ℤ) → P u → P v → P (u +ℤ v)) (good : (w : ℤ) → Cycle Start L A w → P w) where
   -- The new arc leads from where the walk ends: all is taken out.
   all-out : {j l k : ℕ} {w v : ℤ} → Reachable Start L j → A j l w → Left A P l k v → j ≡ k → Left A P j k (w +ℤ v)
-  unfolding Uses Distinct
   all-out {j} {l} {k} {w} {v} r a q e = subst (λ (y : ℕ). Left A P j y (w +ℤ v)) e (record {
     weight = pos 0;
-    way = record { arcs = 0; walk = stop; distinct = tt; ends = λ f. f };
+    way = none-yet;
     back = λ u h.
         let d : u +ℤ pos 0 ≡ u = omega (whole, plus-read u (pos 0)) in
         sums u (w +ℤ v) (rw d at h) (q .back w (good (w +ℤ q .weight) (cycle-of w r a (subst (λ (y : ℕ). Way A l y (q .weight)) (sym e) (q .way)))));
@@ -130,11 +137,8 @@ module _ {Start : ℕ → Type 0} {L : ℕ → ℕ → Type 0} {A : ℕ → ℕ 
           plus-read (c .u) (c .v),
           plus-read (u +ℤ w) (q .weight),
         ) in
-        again u (q .back (u +ℤ w) (rw d at g));
+        rw (← +ℤ-assoc u w v) (q .back (u +ℤ w) (rw d at g));
   }
-    where
-      again : (u : ℤ) → P ((u +ℤ w) +ℤ v) → P (u +ℤ (w +ℤ v))
-      again u h = rw (← +ℤ-assoc u w v) h
 
   -- It leads from a new one: the way is one arc longer.
   longer : {j l k : ℕ} {w v : ℤ} → A j l w → (q : Left A P l k v) → (j ≡ k → ⊥) → (Passes j (q .way .walk) → ⊥) → Left A P j k (w +ℤ v)
@@ -152,8 +156,7 @@ module _ {Start : ℕ → Type 0} {L : ℕ → ℕ → Type 0} {A : ℕ → ℕ 
 
   -- What is left of a walk.
   left : {j k n : ℕ} {w : ℤ} → Reachable Start L j → Walk A j k n w → Left A P j k w
-  unfolding Uses Distinct
-  left r stop = record { weight = pos 0; way = record { arcs = 0; walk = stop; distinct = tt; ends = λ f. f }; back = λ u h. h }
+  left r stop = record { weight = pos 0; way = none-yet; back = λ u h. h }
   left {j} {k} r (step {l = l} {w = w} {v = v} a p) = go (left (onward r (leads j l w a)) p)
     where
       go : Left A P l k v → Left A P j k (w +ℤ v)
@@ -164,6 +167,7 @@ module _ {Start : ℕ → Type 0} {L : ℕ → ℕ → Type 0} {A : ℕ → ℕ 
           at (no d) (inl u) = part-out r a q (cut j (q .way .walk) (q .way .distinct) (q .way .ends) u)
           at (no d) (inr f) = longer a q d f
 
+  -- Of a closed walk the first arc and what is left of the others are a cycle.
   closed-good : {j k n : ℕ} {w : ℤ} → j ≡ k → 0 < n → Reachable Start L j → Walk A j k n w → P w
   closed-good e h r stop = absurd (omega arith)
   closed-good e h r (step {j = j} {l = l} {w = w} {v = v} a p) =
