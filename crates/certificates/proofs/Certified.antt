@@ -13,10 +13,11 @@ use lib.IntN.{ℤ, pos, subℕ, negℤ, _+ℤ_}
 use lib.Signed.{_≤ℤ_, _<ℤ_}
 use borrow.Author.Tests.{eq-eqb, ne-eqb}
 use Rattle.definitions.specs.Tropical.{Trop, fin}
-use Rattle.definitions.specs.Certificate.{Reachable, Anchor, Walk, stop, step, Circuit}
+use Rattle.definitions.specs.Certificate.{Reachable, Anchor, Walk, stop, step, Cycle}
 use Rattle.definitions.proofs.Whole.{up, down, whole, subℕ-read, plus-read, neg-read}
 use Rattle.definitions.proofs.Tropical.{fin-injective, bot-not-fin}
 use Rattle.duality.proofs.Reach.{reach-keep, reach-map, circuit}
+use Rattle.duality.proofs.Cycles.{circuits-good}
 use Rattle.duality.proofs.Longest.{entries-end}
 use Rattle.duality.specs.Gains.{Entry}
 use Rattle.reach.specs.Marks.{Marked, Led, Begins, Anchored, Reached}
@@ -41,12 +42,13 @@ weight-show k z h e =
 
 -- ---- scales
 
--- What a walk of n arcs and weight w weighs in the table, and which weights are good: those of at most 0 there.
+-- What a walk of n arcs and weight w weighs in the table, and which weights are good: those of at most 0 there, and their sums.
 pub record Scale (s : ℕ → ℤ → ℤ) (Good : ℤ → Type 0) : Type 0 where
   pub nought : s 0 (pos 0) ≡ pos 0
   pub more : (n : ℕ) (w v : ℤ) → s (suc n) (w +ℤ v) ≡ s 1 w +ℤ s n v
   pub good : (n : ℕ) (w : ℤ) → 0 < n → s n w ≤ℤ pos 0 → Good w
   pub bad : (n : ℕ) (w : ℤ) → n ≤ 32 → pos 0 <ℤ s n w → Good w → ⊥
+  pub sums : (u v : ℤ) → Good u → Good v → Good (u +ℤ v)
 
 -- Below zero: 32 w + n.
 unfoldable pub strict : ℕ → ℤ → ℤ
@@ -62,6 +64,7 @@ strict-scale = record {
   more = λ n w v. omega (whole, plus-read w v, strict-read (suc n) (w +ℤ v), strict-read 1 w, strict-read n v, plus-read (strict 1 w) (strict n v));
   good = λ n w h k. omega (whole, strict-read n w);
   bad = λ n w h k g. omega (whole, strict-read n w);
+  sums = λ u v h k. omega (whole, h, k, plus-read u v);
 }
 
 -- Zero or more: −w.
@@ -78,6 +81,7 @@ loose-scale = record {
   more = λ n w v. omega (whole, plus-read w v, loose-read (suc n) (w +ℤ v), loose-read 1 w, loose-read n v, plus-read (loose 1 w) (loose n v));
   good = λ n w h k. omega (whole, loose-read n w);
   bad = λ n w h k g. omega (whole, loose-read n w);
+  sums = λ u v h k. omega (whole, h, k, plus-read u v);
 }
 
 -- ---- a table that shows a strategy
@@ -188,9 +192,9 @@ module _ {arcs : List ℕ} {N : ℕ} {Leads : ℕ → ℕ → Type 0} {A : ℕ �
         walk = step (b .arc) (q .walk);
       }
 
-  -- Both tests passed: the picks count, and every reachable closed walk is good.
+  -- Both tests passed: the picks count, and every reached cycle is good.
   certified-yes : {c g : Bool} → Decides ((j : ℕ) → j < N → Marked marks j → Counts j) c → Tested arcs marks N g → c ≡ true → g ≡ true
-      → ((j : ℕ) → Reachable Anchor Leads j → Counts j) × ((w : ℤ) → Circuit Anchor Leads A w → Good w)
+      → ((j : ℕ) → Reachable Anchor Leads j → Counts j) × ((w : ℤ) → Cycle Anchor Leads A w → Good w)
   certified-yes counts tested c g = (
     λ j r. let q = table-reaches (counts .yes c) r in counts .yes c j (q .0) (reached .marked j (q .1)),
     λ w k. let q = table-reaches (counts .yes c) (k .reachable) in
@@ -204,20 +208,20 @@ module _ {arcs : List ℕ} {N : ℕ} {Leads : ℕ → ℕ → Type 0} {A : ℕ �
       → ((j : ℕ) → Reachable Anchor Leads j → Counts j) → ⊥
   uncounted counts c h = counts .no c (λ j b m. h j (strategy-reaches (reached .only j b m)))
 
-  -- A closed walk is bad.
-  gains-bad : {g : Bool} → Tested arcs marks N g → g ≡ false → ((w : ℤ) → Circuit Anchor Leads A w → Good w) → ⊥
+  -- A closed walk is bad, so a cycle is.
+  gains-bad : {g : Bool} → Tested arcs marks N g → g ≡ false → ((w : ℤ) → Cycle Anchor Leads A w → Good w) → ⊥
   gains-bad tested g h =
       let q = tested .no g .gain in
       let b = entries-end (q .some) (q .loop) in
       let u = walk-under b (q .loop) in
       scale .bad (q .arcs) (u .weight) (omega (arith, q .most)) (rw (← u .is) (q .gains))
-      (h (u .weight) (circuit (strategy-reaches (reached .only (q .at) b (first-marked arcs marks (q .some) (q .loop)))) (q .some) (u .walk)))
+      (circuits-good (shows .leads) (scale .sums) h (u .weight) (circuit (strategy-reaches (reached .only (q .at) b (first-marked arcs marks (q .some) (q .loop)))) (q .some) (u .walk)))
 
   -- The first test alone, and both.
   pub certified-not : {c : Bool} → Decides ((j : ℕ) → j < N → Marked marks j → Counts j) c → c ≡ false
-      → Decides (((j : ℕ) → Reachable Anchor Leads j → Counts j) × ((w : ℤ) → Circuit Anchor Leads A w → Good w)) false
+      → Decides (((j : ℕ) → Reachable Anchor Leads j → Counts j) × ((w : ℤ) → Cycle Anchor Leads A w → Good w)) false
   certified-not counts c = Rattle.walks.proofs.Decides.said-no (λ h. uncounted counts c (h .0))
 
   pub certified-both : {c g : Bool} → Decides ((j : ℕ) → j < N → Marked marks j → Counts j) c → c ≡ true → Tested arcs marks N g
-      → Decides (((j : ℕ) → Reachable Anchor Leads j → Counts j) × ((w : ℤ) → Circuit Anchor Leads A w → Good w)) g
+      → Decides (((j : ℕ) → Reachable Anchor Leads j → Counts j) × ((w : ℤ) → Cycle Anchor Leads A w → Good w)) g
   certified-both counts c tested = record { yes = λ g. certified-yes counts tested c g; no = λ g h. gains-bad tested g (h .1) }

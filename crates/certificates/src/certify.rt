@@ -1,6 +1,6 @@
-// A strategy judged: picks that count, and closed walks at a trial t. Document 01 asks of classes 1 and 3 that every reached
-// variable has a pick that counts and every reached closed walk weighs below zero, of class 2 that every row in use picks
-// and every reached closed walk weighs zero or more.
+// A strategy judged: picks that count, and cycles at a trial t. Document 01 asks of classes 1 and 3 that every reached
+// variable has a pick that counts and every reached cycle weighs below zero, of class 2 that every row in use picks
+// and every reached cycle weighs zero or more. The test is of closed walks, which is the same.
 ghost use mathlib.Core.Path.{_≡_};
 ghost use Prim.Native.Nat.{ℕ, suc, _+_, _*_, _≤_, _<_};
 ghost use lib.IntN.{ℤ};

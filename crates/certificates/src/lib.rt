@@ -1,2 +1,2 @@
-// The tests of a strategy: its picks count, and its closed walks weigh as document 01 asks. Document 01, "The checker".
+// The tests of a strategy: its picks count, and its cycles weigh as document 01 asks. Document 01, "The checker".
 pub mod certify;

@@ -12,15 +12,17 @@ use lib.IntN.{ℤ, pos}
 use borrow.Author.Tests.{leb-true, le-leb}
 use Rattle.definitions.specs.Tropical.{Trop, bot, plus}
 use Rattle.definitions.specs.Problem.{Problem, Point, Feasible, side, value}
-use Rattle.definitions.specs.Certificate.{Strategy, Leads, Arc, ObjectiveArc, PicksCount, BelowZero, RowLeads, RowArc, RowObjectiveArc, AcceptedOptimal, AcceptedInfeasible, AcceptedUnbounded}
+use Rattle.definitions.specs.Certificate.{Strategy, Leads, Arc, PicksCount, BelowZero, RowLeads, RowArc, AcceptedOptimal, AcceptedInfeasible, AcceptedUnbounded}
 use Rattle.definitions.specs.ProblemRecord.{listOf}
 use Rattle.definitions.specs.AnswerRecord.{picksFit}
 use Rattle.definitions.specs.Verdict.{pointOf, strategyOf}
 use Rattle.definitions.proofs.Whole.{nat-le-or-lt}
 use Rattle.definitions.proofs.Tropical.{largest-ext}
 use Rattle.definitions.proofs.Bytes.{all-true}
+use Rattle.duality.specs.Circuits.{ObjectiveArc, RowObjectiveArc}
 use Rattle.duality.specs.Picks.{NoneAbove}
 use Rattle.duality.proofs.Reach.{reach-keep, reach-map, circuit-keep, circuit-map, uses-keep}
+use Rattle.duality.proofs.Cycles.{cycle-circuit, below-exactly, at-least-exactly, objective-exactly, row-objective-exactly}
 
 -- ---- f 0, …, f (k − 1) as a list
 
@@ -96,12 +98,12 @@ module _ (p : Problem) {a b : Strategy} (same : (j : ℕ) → j < suc (p .n) →
       record { row = h .row; picked = sym (same j (omega (arith, q .1))) ∙ h .picked; left = h .left }
 
   pub below-agrees : (t : ℤ) → BelowZero p a t → BelowZero p b t
-  below-agrees t c w k = c w (circuit-keep (λ j. j ≤ p .n) anchored leads-back (arc-back t) k)
+  below-agrees t c w k = below-exactly p a t .0 c w (circuit-keep (λ j. j ≤ p .n) anchored leads-back (arc-back t) (cycle-circuit k))
 
   pub infeasible-agrees : AcceptedInfeasible p a → AcceptedInfeasible p b
   infeasible-agrees c = record {
     picks-count = picks-agree (c .picks-count);
-    no-objective = λ u. c .no-objective (uses-keep (λ j. j ≤ p .n) anchored leads-back objective-back (arc-back (pos 0)) u);
+    no-objective = objective-exactly p b .1 (λ u. objective-exactly p a .0 (c .no-objective) (uses-keep (λ j. j ≤ p .n) anchored leads-back objective-back (arc-back (pos 0)) u));
     below-zero = below-agrees (pos 0) (c .below-zero);
   }
 
@@ -131,6 +133,6 @@ module _ (p : Problem) {a b : Strategy} (same : (i : ℕ) → i < suc (p .m) →
     picks-count = λ i j h r l.
         let q = c .picks-count i j h (reach-map (λ j e. e) row-leads-back r) l in
         record { variable = q .variable; picked = sym (same i (omega arith)) ∙ q .picked; right = q .right };
-    no-objective = λ u. c .no-objective (uses-keep {O′ = RowObjectiveArc p a} {A′ = RowArc p a (pos 0)} (λ _. Unit) (λ j e. (e, tt)) (λ j l _ r. (row-leads-back j l r, tt)) (λ j l w _ r. (row-objective-back j l w r, tt)) (λ j l w _ r. (row-arc-back (pos 0) j l w r, tt)) u);
-    zero-or-more = λ w k. c .zero-or-more w (circuit-map (λ j e. e) row-leads-back (row-arc-back (pos 0)) k);
+    no-objective = row-objective-exactly p b .1 (λ u. row-objective-exactly p a .0 (c .no-objective) (uses-keep {O′ = RowObjectiveArc p a} {A′ = RowArc p a (pos 0)} (λ _. Unit) (λ j e. (e, tt)) (λ j l _ r. (row-leads-back j l r, tt)) (λ j l w _ r. (row-objective-back j l w r, tt)) (λ j l w _ r. (row-arc-back (pos 0) j l w r, tt)) u));
+    zero-or-more = λ w k. at-least-exactly p a (pos 0) .0 (c .zero-or-more) w (circuit-map (λ j e. e) row-leads-back (row-arc-back (pos 0)) (cycle-circuit k));
   }

@@ -15,7 +15,7 @@ use Rattle.definitions.specs.Limits.{lead-limit, span-limit, class-optimal, cla
 use Rattle.definitions.specs.Tropical.{Trop, bot, fin, _⊑_, blank-least, whole-least, Finite}
 use Rattle.definitions.specs.Problem as Problems
 use Rattle.definitions.specs.Problem.{Problem, Value, minus-infinity, plus-infinity, side, value}
-use Rattle.definitions.specs.Certificate.{Strategy, Anchor, Reachable, start, onward, Walk, stop, step, Circuit, raise, Leads, Arc, HasPick, PicksCount, BelowZero, RowLeads, RowArc, RowHasPick, RowPicksCount}
+use Rattle.definitions.specs.Certificate.{Strategy, Anchor, Reachable, start, onward, Walk, stop, step, Cycle, raise, Leads, Arc, HasPick, PicksCount, BelowZero, RowLeads, RowArc, RowHasPick, RowPicksCount}
 use Rattle.definitions.specs.ProblemRecord.{nField, mField, WithinLayout, problemOf}
 use Rattle.definitions.specs.AnswerRecord.{Answer, answerRefusal}
 use Rattle.definitions.specs.Verdict.{Accepted, optimal, unbounded, infeasible, answerFor, pointOf, strategyOf}
@@ -130,7 +130,7 @@ module _ {Leads : ℕ → ℕ → Type 0} {A : ℕ → ℕ → ℤ → Type 0} {
         under = omega (whole, scale .more n w v, plus-read (s 1 w) (s n v), plus-read (s 1 w) (b .there), plus-read (s n v) (q .there), plus-read (s (suc n) (w +ℤ v)) (q .there), b .under, q .under);
       }
 
-  certifies : ((j : ℕ) → Reachable Anchor Leads j → Counts j) × ((w : ℤ) → Circuit Anchor Leads A w → Good w)
+  certifies : ((j : ℕ) → Reachable Anchor Leads j → Counts j) × ((w : ℤ) → Cycle Anchor Leads A w → Good w)
   certifies = (
     λ j r. counts j (reached r),
     λ w c.

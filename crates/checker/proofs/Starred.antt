@@ -98,7 +98,7 @@ starred = each-of examples potentials (tail-same no-refusals) (tail-same words-a
 
 -- ---- M
 
--- M's stamp and span are 31, and a closed walk weighs 0: the form is right, and it is not certified.
+-- M's stamp and span are 31, and a cycle weighs 0: the form is right, and it is not certified.
 pub judged-M : Judged (example-M .problem) (example-M .answer) (refused 14)
 unfolding table example-M problemOf numAt
 judged-M = uncertified (head-same no-refusals) not-accepted-M

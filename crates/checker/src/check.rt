@@ -57,7 +57,7 @@ fn certify_optimal(
     certify_variables(problem, n, m, picks, span - 1)
 }
 
-// Class 2, bottomless: judged at the lowest trial, on tables: a closed walk that uses the objective then weighs below zero.
+// Class 2, bottomless: judged at the lowest trial, on tables: a cycle that uses the objective then weighs below zero.
 fn certify_unbounded(problem: &[u8], n: usize, m: usize, picks: &[u64; 64]) -> bool
     requires { ⌜ Laid (now problem) n m × Picked (now picks) (n + 1) ⌝ }
     ensures { λ r. ⌜ Decides (AcceptedUnbounded (problemOf (now (problem .entry))) (strategyOf (now (picks .entry)))) r ⌝ }
@@ -68,8 +68,8 @@ fn certify_unbounded(problem: &[u8], n: usize, m: usize, picks: &[u64; 64]) -> b
     certify_rows(&left, &right, n, m, picks, OFFSET - SPAN_LIMIT - 1)
 }
 
-// What document 01 lists for the answer's class holds. Class 3 is judged at the top trial: a closed walk that uses the
-// objective then weighs above zero.
+// What document 01 lists for the answer's class holds. Class 3 is judged at the top trial: a cycle that uses the
+// objective then weighs zero or more.
 fn certify(
     problem: &[u8],
     n: usize,

@@ -1,16 +1,17 @@
 -- The table of starred examples: no problem is refused, each has the coefficients that document 01 says in words; and
--- facts that pin the definitions: the infinities of values, blanks, the later of two, closed walks at s − 1.
+-- facts that pin the definitions: the infinities of values, blanks, the later of two, cycles at s − 1.
 use Prim.Native.Nat.{ℕ, zero, suc, _+_, _≤_, _<_}
 use mathlib.Core.Path.{_≡_, refl, sym, ap₂, subst, subst₂, _∙_}
 use mathlib.Core.Bool.{cond}
 use mathlib.Core.List.{List, [], _∷_, map}
+use mathlib.Core.Logic.{inl, inr, ⊎-elim}
 use native.Mathlib.Omega.{arith}
 use lib.Dec.{eqb}
 use lib.IntN.{ℤ, pos, negsuc, _+ℤ_, _-ℤ_}
 use lib.Signed.{_<ℤ_, <ℤ-irrefl}
 use Rattle.definitions.specs.Tropical.{Trop, bot, fin, blank-least, whole-least, plus, larger, largest, Finite}
 use Rattle.definitions.specs.Problem.{Problem, Point, Keeps, Feasible, value, side, minus, minus-infinity, plus-infinity}
-use Rattle.definitions.specs.Certificate.{Strategy, Arc, ArcBy, Walk, step, stop, Circuit, Reachable, start, onward, Anchor, Leads, HasPick, BelowZero, raise}
+use Rattle.definitions.specs.Certificate.{Strategy, Arc, ArcBy, Walk, step, stop, Uses, Distinct, Cycle, Reachable, start, onward, Anchor, Leads, HasPick, BelowZero, AcceptedInfeasible, raise}
 use Rattle.definitions.specs.Bytes.{numAt, numsAt, signed, tropField, tropAt, all, blank-or-within, whole-within}
 use Rattle.definitions.specs.ProblemRecord.{headerRefusal, problemRefusal, leadsOf, problemOf, listOf}
 use Rattle.definitions.specs.AnswerRecord.{Answer, answerHeaderRefusal, answerRefusal, answerOf, formRefusal, spanFits, stampsFit, picksFit, is-zero, is-blank}
@@ -82,7 +83,7 @@ later-carries = record { anchored = refl; keeps = keeps }
     keeps zero h = whole-least (record { le = tt })
     keeps (suc i) h = absurd (omega arith)
 
--- ---- closed walks at s − 1
+-- ---- cycles at s − 1
 
 -- A's only arc, from the anchor to itself by the question, weighs 2 − 5 + (3 − 1) = −1.
 problem-A : Problem
@@ -125,15 +126,16 @@ accepted-A = optimal refl refl (record {
   below-zero = λ w c. let h : up w + suc (c .arcs) ≤ down w = walks-A (c .walk) in omega (whole, h);
 })
 
--- M's is not: its closed walk from the anchor to moment 1 by the rule and back by the question weighs −30 + 0 + (31 − 1).
-pub circuit-M : Circuit Anchor (Leads (problemOf (example-M .problem)) (strategyOf (1 ∷ 2 ∷ []))) (Arc (problemOf (example-M .problem)) (strategyOf (1 ∷ 2 ∷ [])) (pos 30)) (pos 0)
-unfolding problemOf example-M tropAt tropField numAt signed strategyOf raise
-circuit-M = record {
+-- M's is not: its cycle from the anchor to moment 1 by the rule and back by the question weighs −30 + 0 + (31 − 1).
+unfoldable pub cycle-M : (t : ℤ) → Cycle Anchor (Leads (problemOf (example-M .problem)) (strategyOf (1 ∷ 2 ∷ []))) (Arc (problemOf (example-M .problem)) (strategyOf (1 ∷ 2 ∷ [])) t) (negsuc 29 +ℤ ((pos 0 +ℤ t) +ℤ pos 0))
+unfolding problemOf example-M tropAt tropField numAt signed strategyOf raise Uses Distinct
+cycle-M t = record {
   at = 0;
   arcs = 1;
   reachable = start refl;
-  walk = step {l = 1} {w = negsuc 29} {v = pos 30} (record { row = 0; picked = refl; inside = omega arith; by = record { a = pos 30; b = pos 0; left-is = refl; right-is = refl; weighs = refl } })
-      (step {l = 0} {w = pos 30} {v = pos 0} (record { row = 1; picked = refl; inside = omega arith; by = record { a = pos 0; b = pos 0; left-is = refl; right-is = refl; weighs = refl } }) stop);
+  walk = step {l = 1} {w = negsuc 29} (record { row = 0; picked = refl; inside = omega arith; by = record { a = pos 30; b = pos 0; left-is = refl; right-is = refl; weighs = refl } })
+      (step {l = 0} {w = pos 0 +ℤ t} (record { row = 1; picked = refl; inside = omega arith; by = record { a = pos 0; b = pos 0; left-is = refl; right-is = refl; weighs = refl } }) stop);
+  distinct = (⊎-elim (λ e. omega arith) (λ f. f), (λ f. f, tt));
 }
 
 pub not-accepted-M : Accepted (problemOf (example-M .problem)) (answerOf (example-M .answer) 1 1) → ⊥
@@ -141,6 +143,11 @@ unfolding example-M answerOf tropAt tropField numAt numsAt signed
 not-accepted-M (optimal {s = s} c e h) =
     let s-is : pos 31 ≡ s = fin-injective e in
     let b : BelowZero (problemOf (example-M .problem)) (strategyOf (1 ∷ 2 ∷ [])) (pos 30) = subst (λ (z : ℤ). BelowZero (problemOf (example-M .problem)) (strategyOf (1 ∷ 2 ∷ [])) (z -ℤ pos 1)) (sym s-is) (h .below-zero) in
-    <ℤ-irrefl (b (pos 0) circuit-M)
+    <ℤ-irrefl (b (pos 0) (cycle-M (pos 30)))
 not-accepted-M (unbounded c h) = absurd (omega (arith, c))
 not-accepted-M (infeasible c h) = absurd (omega (arith, c))
+
+-- Nor does class 3 accept its picks: the cycle uses the question, on its way back.
+pub not-infeasible-M : AcceptedInfeasible (problemOf (example-M .problem)) (strategyOf (1 ∷ 2 ∷ [])) → ⊥
+unfolding problemOf example-M numAt Uses cycle-M
+not-infeasible-M c = c .no-objective (negsuc 29) (cycle-M (pos 0)) (inr (inl refl))

@@ -10,6 +10,7 @@ pub mod RoundTrip
 pub mod Solved
 pub mod Bisection
 pub mod Examples
+pub mod Cycles
 pub mod Edges
 pub mod Programs
 pub mod Inputs

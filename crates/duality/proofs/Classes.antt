@@ -34,7 +34,7 @@ pub attainable-decided : (p : Problem) (t : ℤ) → Attainable p t ⊎ (Attaina
 attainable-decided p t = ⊎-elim (λ v. inl (solution-attainable p t v)) (λ d. inr (λ a. d (attainable-solution p t a)))
     (solution-decided (systemAt p t) (some-variable p t))
 
--- Not attainable at t exactly when some picks count and leave closed walks below zero at t.
+-- Not attainable at t exactly when some picks count and leave cycles below zero at t.
 pub unattainable-exactly : (p : Problem) (t : ℤ)
     → (Attainable p t → ⊥) ↔ SomePicks (suc (p .m)) (suc (p .n)) (λ picks. PicksCount p picks × BelowZero p picks t)
 unattainable-exactly p t = (show, refute)
@@ -53,7 +53,7 @@ unattainable-exactly p t = (show, refute)
         (record { strategy = strategyOf (c .picks) (suc (p .m)); blocks = blocks-exactly p t (c .picks) (c .none-above) .0 (c .accepted) })
         (attainable-solution p t a)
 
--- Attainable at t exactly when the rows in use have picks that leave closed walks at zero or more at t.
+-- Attainable at t exactly when the rows in use have picks that leave cycles at zero or more at t.
 pub attainable-by-rows : (p : Problem) (t : ℤ)
     → Attainable p t ↔ SomePicks (suc (p .n)) (suc (p .m)) (λ picks. RowPicksCount p picks × AtLeastZero p picks t)
 attainable-by-rows p t = (show, attain)
@@ -101,7 +101,7 @@ optimal-exactly p s = (
   },
 )
 
--- Every feasible point has a value of at least s exactly when some picks count and leave closed walks below zero at s − 1.
+-- Every feasible point has a value of at least s exactly when some picks count and leave cycles below zero at s − 1.
 pub least-by-picks : (p : Problem) (s : ℤ) → ((y : Point) → Feasible p y → Problems.whole s ≼ value p y)
     ↔ SomePicks (suc (p .m)) (suc (p .n)) (λ picks. PicksCount p picks × BelowZero p picks (s -ℤ pos 1))
 least-by-picks p s = Iff·trans (least-exactly p s) (unattainable-exactly p (s -ℤ pos 1))

@@ -11,8 +11,9 @@ pub mod Warm
 pub mod Height
 pub mod Strong
 pub mod Stamps
-pub mod Picks
 pub mod Objective
+pub mod Cycles
+pub mod Picks
 pub mod Numbers
 pub mod Rows
 pub mod Attain

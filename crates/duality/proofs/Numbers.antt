@@ -10,11 +10,13 @@ use native.Mathlib.Omega.{arith}
 use native.Mathlib.Decide.{ℕ-discrete}
 use native.Mathlib.Nat.{mul-le-mul-right}
 use lib.IntN.{ℤ, pos, negsuc, negℤ, natAbs, _+ℤ_, _-ℤ_, negℤ-+ℤ}
+use lib.Signed.{_≤ℤ_, _<ℤ_}
 use Rattle.definitions.specs.Problem.{Problem}
-use Rattle.definitions.specs.Certificate.{Strategy, Anchor, Reachable, Walk, stop, step, Circuit, UsesObjective, raise, ArcBy, Leads, Arc, ObjectiveArc, PicksCount, BelowZero, AcceptedInfeasible, RowLeads, RowArc, RowObjectiveArc, RowPicksCount, AcceptedUnbounded}
+use Rattle.definitions.specs.Certificate.{Strategy, Anchor, Reachable, Walk, stop, step, raise, ArcBy, Leads, Arc, PicksCount, BelowZero, AcceptedInfeasible, RowLeads, RowArc, RowPicksCount, AcceptedUnbounded}
 use Rattle.definitions.proofs.Whole.{up, down, whole, plus-read, minus-read, neg-read, abs-read, abs-show}
 use Rattle.definitions.proofs.Tropical.{plus-zero}
 use Rattle.definitions.proofs.Raise.{raised, unraised, raise-zero}
+use Rattle.duality.specs.Circuits.{Circuit, UsesObjective, ObjectiveArc, RowObjectiveArc}
 use Rattle.duality.specs.System.{systemAt, Blocks, Saves}
 use Rattle.duality.specs.Height.{Bounded}
 use Rattle.duality.specs.Picks.{strategyOf, NoneAbove, AtLeastZero}
@@ -23,6 +25,7 @@ use Rattle.duality.proofs.Walks.{Brief, brief}
 use Rattle.duality.proofs.Reach.{reach-keep, circuit-map, uses-map}
 use Rattle.duality.proofs.Strong.{bound, bounded}
 use Rattle.duality.proofs.Picks.{blocks-exactly, saves-exactly}
+use Rattle.duality.proofs.Cycles.{cycle-circuit, below-exactly, at-least-exactly, objective-exactly, row-objective-exactly}
 use Rattle.duality.proofs.Objective.{By, ByObjective, weight-at, arc-at, Kind, circuit-moved, Picked, picked-kind, RowPicked, row-picked-kind}
 
 -- ---- a closed walk that uses the objective outweighs
@@ -156,24 +159,28 @@ pub reached-inside : (p : Problem) (picks : Strategy) (j : ℕ) → Reachable An
 reached-inside p picks j r =
     reach-keep {L′ = Leads p picks} (λ j. j ≤ p .n) (λ j e. (e, omega arith)) (λ j l _ a. (a, a .inside)) r .1
 
--- Where class 3 accepts, reachable closed walks weigh below zero at every t.
+-- Where class 3 accepts, reached cycles weigh below zero at every t.
 pub infeasible-below : (p : Problem) (picks : Strategy) (t : ℤ) → AcceptedInfeasible p picks → BelowZero p picks t
-infeasible-below p picks t c w q = c .below-zero w (circuit-moved (picked-kind p picks) t (pos 0) (c .no-objective) q)
+infeasible-below p picks t c w q =
+    below-exactly p picks (pos 0) .0 (c .below-zero) w (circuit-moved (picked-kind p picks) t (pos 0) (objective-exactly p picks .0 (c .no-objective)) (cycle-circuit q))
 
--- Where the picks count and reachable closed walks weigh below zero at T, class 3 accepts.
+-- Where the picks count and reached cycles weigh below zero at T, class 3 accepts.
 pub below-infeasible : (p : Problem) (L T : ℕ) (picks : Strategy) → Within p L → Enough (p .n) L T
     → NoneAbove (suc (p .m)) (suc (p .n)) picks → PicksCount p picks → BelowZero p picks (upper T) → AcceptedInfeasible p picks
 below-infeasible p L T picks within h above count below = record {
   picks-count = count;
-  no-objective = none;
-  below-zero = λ w c. below w (circuit-moved (picked-kind p picks) (pos 0) (upper T) none c);
+  no-objective = objective-exactly p picks .1 none;
+  below-zero = λ w c. walks w (circuit-moved (picked-kind p picks) (pos 0) (upper T) none (cycle-circuit c));
 }
   where
+    walks : (w : ℤ) → Circuit Anchor (Leads p picks) (Arc p picks (upper T)) w → w <ℤ pos 0
+    walks = below-exactly p picks (upper T) .0 below
+
     none : UsesObjective Anchor (Leads p picks) (ObjectiveArc p picks) (Arc p picks (pos 0)) → ⊥
     none q =
         let r = outweighs (picked-kind p picks) L within (picked-choice p picks above) as-is (upper T) (omega arith)
         (reached-inside p picks) q in
-        omega (whole, below (r .weight) (r .circuit), r .heavy)
+        omega (whole, walks (r .weight) (r .circuit), r .heavy)
 
 -- Class 3 accepts exactly the picks that block the system at T.
 pub infeasible-blocks : (p : Problem) (L T : ℕ) (picks : Strategy) → Within p L → Enough (p .n) L T
@@ -197,24 +204,28 @@ pub row-reached-inside : (p : Problem) (picks : Strategy) → NoneAbove (suc (p 
 row-reached-inside p picks h j r = reach-keep {L′ = RowLeads p picks} (λ j. j ≤ p .n) (λ j e. (e, omega arith))
     (λ j l _ a. (a, omega (arith, h (a .row) (omega (arith, a .inside)), a .picked))) r .1
 
--- Where class 2 accepts, reachable closed walks weigh zero or more at every t.
+-- Where class 2 accepts, reached cycles weigh zero or more at every t.
 pub unbounded-above : (p : Problem) (picks : Strategy) (t : ℤ) → AcceptedUnbounded p picks → AtLeastZero p picks t
-unbounded-above p picks t c w q = c .zero-or-more w (circuit-moved (row-picked-kind p picks) t (pos 0) (c .no-objective) q)
+unbounded-above p picks t c w q =
+    at-least-exactly p picks (pos 0) .0 (c .zero-or-more) w (circuit-moved (row-picked-kind p picks) t (pos 0) (row-objective-exactly p picks .0 (c .no-objective)) (cycle-circuit q))
 
--- Where the rows in use pick and reachable closed walks weigh zero or more at −T − 1, class 2 accepts.
+-- Where the rows in use pick and reached cycles weigh zero or more at −T − 1, class 2 accepts.
 pub above-unbounded : (p : Problem) (L T : ℕ) (picks : Strategy) → Within p L → Enough (p .n) L T
     → NoneAbove (suc (p .n)) (suc (p .m)) picks → RowPicksCount p picks → AtLeastZero p picks (lower T) → AcceptedUnbounded p picks
 above-unbounded p L T picks within h above count more = record {
   picks-count = count;
-  no-objective = none;
-  zero-or-more = λ w c. more w (circuit-moved (row-picked-kind p picks) (pos 0) (lower T) none c);
+  no-objective = row-objective-exactly p picks .1 none;
+  zero-or-more = λ w c. walks w (circuit-moved (row-picked-kind p picks) (pos 0) (lower T) none (cycle-circuit c));
 }
   where
+    walks : (w : ℤ) → Circuit Anchor (RowLeads p picks) (RowArc p picks (lower T)) w → pos 0 ≤ℤ w
+    walks = at-least-exactly p picks (lower T) .0 more
+
     none : UsesObjective Anchor (RowLeads p picks) (RowObjectiveArc p picks) (RowArc p picks (pos 0)) → ⊥
     none q =
         let r = outweighs (row-picked-kind p picks) L within (row-picked-choice p picks above) negated (lower T) (omega arith)
         (row-reached-inside p picks above) q in
-        omega (whole, more (r .weight) (r .circuit), r .heavy, neg-read (r .weight))
+        omega (whole, walks (r .weight) (r .circuit), r .heavy, neg-read (r .weight))
 
 -- Class 2 accepts exactly the row picks that save the system at −T − 1.
 pub unbounded-saves : (p : Problem) (L T : ℕ) (picks : Strategy) → Within p L → Enough (p .n) L T

@@ -8,8 +8,9 @@ use native.Mathlib.Omega.{arith}
 use native.Mathlib.Decide.{ℕ-discrete}
 use lib.IntN.{ℤ, pos, _+ℤ_, _-ℤ_}
 use Rattle.definitions.specs.Problem.{Problem}
-use Rattle.definitions.specs.Certificate.{Strategy, Walk, stop, step, Circuit, UsesObjective, raise, ArcBy, Leads, Arc, ObjectiveArc, RowLeads, RowArc, RowObjectiveArc}
+use Rattle.definitions.specs.Certificate.{Strategy, Walk, stop, step, raise, ArcBy, Leads, Arc, RowLeads, RowArc}
 use Rattle.definitions.proofs.Raise.{unraised}
+use Rattle.duality.specs.Circuits.{Circuit, UsesObjective, ObjectiveArc, RowObjectiveArc}
 use Rattle.duality.proofs.Walks.{walk-append}
 use Rattle.duality.proofs.Reach.{reach-along, circuit-map, uses-map}
 

@@ -1,5 +1,5 @@
--- What document 01 lists of a strategy is what the theory says of it: picks that count and closed walks below zero at t
--- are blocking the system at t; rows that pick and closed walks of zero or more at t are saving it.
+-- What document 01 lists of a strategy is what the theory says of it: picks that count and cycles below zero at t
+-- are blocking the system at t; rows that pick and cycles of zero or more at t are saving it.
 use Prim.Native.Nat.{ℕ, zero, suc, _≤_, _<_}
 use mathlib.Core.Path.{_≡_, refl}
 use mathlib.Core.Bool.{Bool, true, false, cond}
@@ -17,6 +17,7 @@ use Rattle.duality.specs.System as Theory
 use Rattle.duality.specs.System.{systemAt, Blocks, Saves}
 use Rattle.duality.specs.Picks.{unpick, strategyOf, picksFrom, NoneAbove, Joined, AtLeastZero}
 use Rattle.duality.proofs.Reach.{reach-keep, reach-map, circuit-keep, circuit-map}
+use Rattle.duality.proofs.Cycles.{cycle-circuit, below-exactly, at-least-exactly}
 
 -- ---- the two forms
 
@@ -150,18 +151,18 @@ module _ (p : Problem) (t : ℤ) {picks τ : Strategy} (same : Joined picks τ (
   unfolding systemAt
   pick-back j h a = record { row = τ j; picked = same .show j h (a .picked); left = a .left }
 
-  -- Picks that count and closed walks below zero at t block the system at t.
+  -- Picks that count and cycles below zero at t block the system at t.
   pub picks-block : PicksCount p picks → BelowZero p picks t → Blocks (systemAt p t) Anchor τ
   picks-block count below = record {
     counts = λ j r. let q = reach-keep (λ j. j < suc (p .n)) anchored leads-back r in pick-to j (q .1) (count j (q .0));
-    negative = λ w c. below w (circuit-keep (λ j. j < suc (p .n)) anchored leads-back arc-back c);
+    negative = λ w c. below-exactly p picks t .0 below w (circuit-keep (λ j. j < suc (p .n)) anchored leads-back arc-back c);
   }
 
   -- And what blocks it are such picks.
   pub block-picks : Blocks (systemAt p t) Anchor τ → PicksCount p picks × BelowZero p picks t
   block-picks b = (
     λ j r. let q = reach-keep (λ j. j < suc (p .n)) anchored leads-to r in pick-back j (q .1) (b .counts j (q .0)),
-    λ w c. b .negative w (circuit-keep (λ j. j < suc (p .n)) anchored leads-to arc-to c),
+    λ w c. b .negative w (circuit-keep (λ j. j < suc (p .n)) anchored leads-to arc-to (cycle-circuit c)),
   )
 
 -- ---- strategies of rows
@@ -219,12 +220,12 @@ module _ (p : Problem) (t : ℤ) {picks σ : Strategy} (same : Joined picks σ (
   unfolding systemAt
   row-pick-back i h a = record { variable = σ i; picked = same .show i h (a .picked); right = finite-raised (raise p t i) (a .right) }
 
-  -- Rows in use that pick and closed walks of zero or more at t save the system at t.
+  -- Rows in use that pick and cycles of zero or more at t save the system at t.
   pub picks-save : RowPicksCount p picks → AtLeastZero p picks t → Saves (systemAt p t) Anchor σ
   unfolding systemAt
   picks-save count more = record {
     counts = λ i j h r l. row-pick-to i h (count i j (omega arith) (reach-map (λ j e. e) row-leads-back r) l);
-    nonnegative = λ w c. more w (circuit-map (λ j e. e) row-leads-back row-arc-back c);
+    nonnegative = λ w c. at-least-exactly p picks t .0 more w (circuit-map (λ j e. e) row-leads-back row-arc-back c);
   }
 
   -- And what saves it are such picks.
@@ -232,7 +233,7 @@ module _ (p : Problem) (t : ℤ) {picks σ : Strategy} (same : Joined picks σ (
   unfolding systemAt
   save-picks b = (
     λ i j h r l. row-pick-back i (omega arith) (b .counts i j (omega arith) (reach-map (λ j e. e) row-leads-to r) l),
-    λ w c. b .nonnegative w (circuit-map (λ j e. e) row-leads-to row-arc-to c),
+    λ w c. b .nonnegative w (circuit-map (λ j e. e) row-leads-to row-arc-to (cycle-circuit c)),
   )
 
 -- ---- exactly when

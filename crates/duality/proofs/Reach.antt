@@ -5,8 +5,9 @@ use mathlib.Core.Path.{_≡_, refl}
 use native.Mathlib.Omega.{arith}
 use lib.IntN.{ℤ, pos, _+ℤ_}
 use lib.Signed.{_≤ℤ_}
-use Rattle.definitions.specs.Certificate.{Reachable, start, onward, Walk, stop, step, Circuit, UsesObjective}
+use Rattle.definitions.specs.Certificate.{Reachable, start, onward, Walk, stop, step}
 use Rattle.definitions.proofs.Whole.{whole, plus-read}
+use Rattle.duality.specs.Circuits.{Circuit, UsesObjective}
 use Rattle.duality.proofs.Walks.{walk-as, walk-keep, walk-change, walk-fold}
 
 -- A property that the start has and that leads keep holds of what is reachable, which is so by other leads too.

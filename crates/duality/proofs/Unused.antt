@@ -6,9 +6,11 @@ use native.Mathlib.Omega.{arith}
 use lib.IntN.{ℤ, pos}
 use Rattle.definitions.specs.Tropical.{Finite}
 use Rattle.definitions.specs.Problem.{Problem, Point}
-use Rattle.definitions.specs.Certificate.{Strategy, Anchor, Reachable, start, onward, Leads, Arc, ObjectiveArc, PicksCount, BelowZero, AcceptedOptimal, AcceptedInfeasible, RowLeads, RowArc, RowObjectiveArc, RowPicksCount, AcceptedUnbounded}
+use Rattle.definitions.specs.Certificate.{Strategy, Anchor, Reachable, start, onward, Leads, Arc, PicksCount, BelowZero, AcceptedOptimal, AcceptedInfeasible, RowLeads, RowArc, RowPicksCount, AcceptedUnbounded}
+use Rattle.duality.specs.Circuits.{ObjectiveArc, RowObjectiveArc}
 use Rattle.duality.specs.Picks.{AgreeReached, AgreeInUse}
 use Rattle.duality.proofs.Reach.{reach-keep, circuit-keep, uses-keep}
+use Rattle.duality.proofs.Cycles.{cycle-circuit, below-exactly, at-least-exactly, objective-exactly, row-objective-exactly}
 
 -- ---- classes 1 and 3
 
@@ -46,9 +48,9 @@ module _ {p : Problem} {picks picks′ : Strategy} (agree : AgreeReached p picks
       let d : picks′ j ≡ suc (h .row) = cc (agree j q, h .picked) in
       record { row = h .row; picked = d; left = h .left }
 
-  -- Closed walks stay below zero.
+  -- Cycles stay below zero.
   pub below-unused : (t : ℤ) → BelowZero p picks t → BelowZero p picks′ t
-  below-unused t below w c = below w (circuit-keep (Reachable Anchor (Leads p picks)) begins lead (arc t) c)
+  below-unused t below w c = below-exactly p picks t .0 below w (circuit-keep (Reachable Anchor (Leads p picks)) begins lead (arc t) (cycle-circuit c))
 
   -- What class 1 accepted is accepted.
   pub optimal-unused : (s : ℤ) (x : Point) → AcceptedOptimal p s x picks → AcceptedOptimal p s x picks′
@@ -63,7 +65,7 @@ module _ {p : Problem} {picks picks′ : Strategy} (agree : AgreeReached p picks
   pub infeasible-unused : AcceptedInfeasible p picks → AcceptedInfeasible p picks′
   infeasible-unused c = record {
     picks-count = count-unused (c .picks-count);
-    no-objective = λ u. c .no-objective (uses-keep (Reachable Anchor (Leads p picks)) begins lead objective (arc (pos 0)) u);
+    no-objective = objective-exactly p picks′ .1 (λ u. objective-exactly p picks .0 (c .no-objective) (uses-keep (Reachable Anchor (Leads p picks)) begins lead objective (arc (pos 0)) u));
     below-zero = below-unused _ (c .below-zero);
   }
 
@@ -101,8 +103,8 @@ module _ {p : Problem} {picks picks′ : Strategy} (agree : AgreeInUse p picks p
   pub unbounded-unused : AcceptedUnbounded p picks → AcceptedUnbounded p picks′
   unbounded-unused c = record {
     picks-count = count;
-    no-objective = λ u. c .no-objective (uses-keep (Reachable Anchor (RowLeads p picks)) row-begins row-lead row-objective (row-arc (pos 0)) u);
-    zero-or-more = λ w q. c .zero-or-more w (circuit-keep (Reachable Anchor (RowLeads p picks)) row-begins row-lead (row-arc (pos 0)) q);
+    no-objective = row-objective-exactly p picks′ .1 (λ u. row-objective-exactly p picks .0 (c .no-objective) (uses-keep (Reachable Anchor (RowLeads p picks)) row-begins row-lead row-objective (row-arc (pos 0)) u));
+    zero-or-more = λ w q. at-least-exactly p picks (pos 0) .0 (c .zero-or-more) w (circuit-keep (Reachable Anchor (RowLeads p picks)) row-begins row-lead (row-arc (pos 0)) (cycle-circuit q));
   }
     where
       count : RowPicksCount p picks′

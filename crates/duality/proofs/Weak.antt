@@ -11,9 +11,10 @@ use lib.IntN.{ℤ, pos, _+ℤ_, _-ℤ_}
 use lib.Signed.{_≤ℤ_}
 use Rattle.definitions.specs.Tropical.{Trop, bot, fin, plus, _⊑_, Finite}
 use Rattle.definitions.specs.Problem.{Point}
-use Rattle.definitions.specs.Certificate.{Strategy, Reachable, start, onward, Walk, Circuit}
+use Rattle.definitions.specs.Certificate.{Strategy, Reachable, start, onward, Walk}
 use Rattle.definitions.proofs.Whole.{whole, plus-read, minus-read}
 use Rattle.definitions.proofs.Tropical.{Attains, largest-above, largest-attained, ⊑-trans, ⊑-of-eq, finite-above, fin-below, fin-injective, not-finite-bot, plus-is, plus-parts}
+use Rattle.duality.specs.Circuits.{Circuit}
 use Rattle.duality.specs.System.{System, sideOf, Solves, Solution, Leads, Arc, Blocks, Blocked, RowLeads, RowArc, RowHasPick, Saves}
 use Rattle.duality.specs.Induced.{Attaining, Induced}
 use Rattle.duality.proofs.Walks.{Inside, Looped, looped, Onward, Endless, endless, walk-keep, walk-change}

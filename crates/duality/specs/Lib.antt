@@ -1,3 +1,4 @@
+pub mod Circuits
 pub mod System
 pub mod Values
 pub mod Height

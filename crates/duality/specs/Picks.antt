@@ -8,7 +8,7 @@ use lib.IntN.{ℤ, pos}
 use lib.Signed.{_≤ℤ_}
 use Rattle.definitions.specs.Tropical.{Finite}
 use Rattle.definitions.specs.Problem.{Problem}
-use Rattle.definitions.specs.Certificate.{Strategy, Anchor, Reachable, Circuit, Leads, RowLeads, RowArc}
+use Rattle.definitions.specs.Certificate.{Strategy, Anchor, Reachable, Cycle, Leads, RowLeads, RowArc}
 
 -- One pick of the records as one of the theory; `none` stands for no pick.
 unfoldable pub unpick : ℕ → ℕ → ℕ
@@ -38,9 +38,9 @@ pub record SomePicks (many width : ℕ) (Accepted : Strategy → Type 0) : Type 
   pub none-above : NoneAbove many width picks
   pub accepted : Accepted picks
 
--- Every reachable closed walk weighs zero or more when each arc by the objective weighs t more.
+-- Every reached cycle weighs zero or more when each arc by the objective weighs t more.
 abbrev pub AtLeastZero : Problem → Strategy → ℤ → Type 0
-AtLeastZero p picks t = (w : ℤ) → Circuit Anchor (RowLeads p picks) (RowArc p picks t) w → pos 0 ≤ℤ w
+AtLeastZero p picks t = (w : ℤ) → Cycle Anchor (RowLeads p picks) (RowArc p picks t) w → pos 0 ≤ℤ w
 
 -- Two strategies of variables agree at every variable that the first reaches.
 abbrev pub AgreeReached : Problem → Strategy → Strategy → Type 0

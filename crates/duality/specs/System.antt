@@ -7,7 +7,8 @@ use lib.IntN.{ℤ, pos, _-ℤ_}
 use lib.Signed.{_≤ℤ_, _<ℤ_}
 use Rattle.definitions.specs.Tropical.{Trop, fin, plus, largest, _⊑_, Finite}
 use Rattle.definitions.specs.Problem.{Problem, Point}
-use Rattle.definitions.specs.Certificate.{Strategy, Reachable, Circuit, raise}
+use Rattle.definitions.specs.Certificate.{Strategy, Reachable, raise}
+use Rattle.duality.specs.Circuits.{Circuit}
 
 -- Variables 0 to variables − 1, rows 0 to rows − 1, coefficients by row and variable.
 pub record System : Type 0 where
