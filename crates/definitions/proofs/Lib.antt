@@ -12,4 +12,6 @@ pub mod Bisection
 pub mod Examples
 pub mod Edges
 pub mod Programs
+pub mod Decimals
+pub mod Hours
 pub mod Inputs
