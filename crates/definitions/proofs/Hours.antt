@@ -58,7 +58,7 @@ digits-tell a b e =
     omega arith
 
 -- A text tells its minutes.
-clock-tells : {k j : ℕ} {s : List ℕ} → Clock k s → Clock j s → k ≡ j
+pub clock-tells : {k j : ℕ} {s : List ℕ} → Clock k s → Clock j s → k ≡ j
 clock-tells {k} {j} {s} c d =
     let at : length s - 3 + 3 ≡ length s = omega (arith, clock-length c) in
     let hours : c .hours ≡ d .hours = decimal-injective (c .hours) (d .hours) (sym (hours-part c (length s - 3) at) ∙ hours-part d (length s - 3) at) in
