@@ -179,6 +179,15 @@ pub hours-none : (v : Trop) (room : ℕ) → text-most ≤ room → has-text v �
 unfolding hoursRefusal
 hours-none v room h e = rw (le-ltb room text-most h, e)
 
+-- A value without a text, whatever the room.
+pub hours-beyond : (v : Trop) (room : ℕ) → has-text v ≡ false → hoursRefusal v room ≡ no-text
+unfolding hoursRefusal
+hours-beyond v room e = rw e (go (ltb room text-most))
+  where
+    go : (b : Bool) → cond (b || true) no-text 0 ≡ no-text
+    go true = refl
+    go false = refl
+
 -- There is one answer, with one buffer, to a value and a buffer.
 pub written-refused : {v : Trop} {before after : List ℕ} {r : HoursWriting} {k : ℕ} → WritesHours v before r after → hoursRefusal v (length before) ≡ suc k → (r ≡ unwritten (suc k)) × (after ≡ before)
 written-refused (WritesHours.turned-away e) f = (ap unwritten (sym e ∙ f), refl)

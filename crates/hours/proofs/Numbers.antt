@@ -5,7 +5,7 @@ use mathlib.Core.Logic.{_⊎_, ⊎-elim}
 use mathlib.Core.List.{List, [], _∷_, _++_}
 use native.Mathlib.Omega.{arith}
 use native.Mathlib.Nat.{eq-zero-or-pos}
-use lib.ListN.{length, getD, take, drop, take-append-drop}
+use lib.ListN.{length, getD, take, drop, take-append-drop, length-drop}
 use lib.Seq.{take-suc, take-all, length-take-le}
 use Rattle.definitions.specs.Limits.{hour-minutes}
 use Rattle.definitions.specs.Programs.{decimal}
@@ -170,15 +170,32 @@ minutes-found {s} {t} {o} h g e c l =
 
 -- ---- hours and minutes
 
-module _ (s : List ℕ) (at : ℕ) (end : at + 3 ≡ length s) where
-  pub clock-found : (h m : ℕ) → take at s ≡ decimal h → IsMinutes (drop at s) m → Clock (hour-minutes * h + m) s
-  clock-found h m e i = record { hours = h; minutes = m; below-hour = i .below-hour; number-is = refl; text-is = sym (take-append-drop at s) ∙ rw (e, i .part-is) }
+-- What stands from place `at` on, as the code takes it.
+abbrev pub tail : List ℕ → ℕ → List ℕ
+tail s at = take (length s - at) (drop at s)
 
-  pub minutes-none : ((m : ℕ) → IsMinutes (drop at s) m → ⊥) → (k : ℕ) → Clock k s → ⊥
-  minutes-none n k c = n (c .minutes) (record { below-hour = c .below-hour; part-is = minutes-part c at end })
+pub tail-whole : (s : List ℕ) (at : ℕ) → tail s at ≡ drop at s
+tail-whole s at = take-all (length s - at) (drop at s) (rw length-drop (omega arith))
 
-  pub hours-none : ((h : ℕ) → take at s ≡ decimal h → ⊥) → (k : ℕ) → Clock k s → ⊥
-  hours-none n k c = n (c .hours) (hours-part c at end)
+end : (s : List ℕ) → 3 ≤ length s → length s - 3 + 3 ≡ length s
+end s room = omega arith
+
+module _ {s : List ℕ} (room : 3 ≤ length s) where
+  pub clock-some : {q r : Found} {m h : ℕ} → FoundBy (IsMinutes (tail s (length s - 3))) q → q ≡ Number m → FoundBy (λ k. take (length s - 3) s ≡ decimal k) r → r ≡ Number h
+      → FoundBy (λ k. Clock k s) (Number (hour-minutes * h + m))
+  clock-some {m = m} {h} p e f g =
+      let i : IsMinutes (drop (length s - 3) s) m = rw (tail-whole s (length s - 3)) at (found p e) in
+      some {k = hour-minutes * h + m} (record { hours = h; minutes = m; below-hour = i .below-hour; number-is = refl; text-is = sym (take-append-drop (length s - 3) s) ∙ rw (found f g, i .part-is) })
+
+  pub minutes-none : {q : Found} → FoundBy (IsMinutes (tail s (length s - 3))) q → q ≡ Nothing → FoundBy (λ k. Clock k s) Nothing
+  minutes-none p e = none (λ k c. found-none p e (c .minutes) (record { below-hour = c .below-hour; part-is = tail-whole s (length s - 3) ∙ minutes-part c (length s - 3) (end s room) }))
+
+  pub hours-none : {r : Found} → FoundBy (λ k. take (length s - 3) s ≡ decimal k) r → r ≡ Nothing → FoundBy (λ k. Clock k s) Nothing
+  hours-none f e = none (λ k c. found-none f e (c .hours) (hours-part c (length s - 3) (end s room)))
+
+-- The hours of a short text are few.
+pub hours-few : (s : List ℕ) {r : Found} {h : ℕ} → FoundBy (λ k. take (length s - 3) s ≡ decimal k) r → r ≡ Number h → length s ≤ 10 → h < 10000000
+hours-few s {h = h} f e l = decimal-small h (omega (arith, ap length (found f e), length-take-le (length s - 3) s (omega arith)))
 
 pub short-none : (s : List ℕ) → length s < 3 → (k : ℕ) → Clock k s → ⊥
 short-none s l k c = omega (arith, clock-length c)
