@@ -1,22 +1,22 @@
 -- Texts of spans and stamps: each value has one, no two the same, and none has more than 10 bytes.
-use Prim.Native.Nat.{ℕ, zero, suc, _+_, _*_, _-_, _/_, _%_, _≤_, _<_}
-use mathlib.Core.Path.{_≡_, refl, ap, sym, subst, _∙_}
+use Prim.Native.Nat.{ℕ, zero, suc, _+_, _-_, _/_, _%_, _≤_, _<_}
+use mathlib.Core.Path.{_≡_, refl, ap, sym, _∙_}
 use mathlib.Core.Bool.{Bool, true, false, not, cond, _||_}
-use mathlib.Core.Logic.{_⊎_, ⊎-elim, _↔_}
-use mathlib.Core.List.{List, [], _∷_, _++_, map}
+use mathlib.Core.Logic.{_⊎_, ⊎-elim}
+use mathlib.Core.List.{List, [], _∷_, map}
 use native.Mathlib.Omega.{arith}
 use lib.Dec.{ltb}
 use lib.ListN.{length, getD, take, drop, length-append, List·getD-append, List·getD-eq-default}
 use lib.Seq.{take-at, drop-at}
-use lib.IntN.{ℤ, pos, negsuc, natAbs}
+use lib.IntN.{pos, negsuc}
 use borrow.Author.Tests.{le-leb, leb-true, le-ltb, ltb-false}
 use Rattle.definitions.specs.Limits.{text-limit, text-most, hour-minutes}
 use Rattle.definitions.specs.Tropical.{Trop, bot, fin}
-use Rattle.definitions.specs.Bytes.{Bytes, put, all, blank-or-within, first}
+use Rattle.definitions.specs.Bytes.{Bytes, put, all, blank-or-within}
 use Rattle.definitions.specs.Programs.{decimal, digits}
 use Rattle.definitions.specs.Hours.{Clock, HoursText, blank, plain, minus, has-text, clockOf, textOf, twoDigits, hyphen, colon, no-text, HoursReading, value, refused, ReadsHours, read, hoursRefusal, HoursWriting, text, unwritten, WritesHours, written, HoursReader, HoursWriter, ReaderReads, WriterWrites, OneText, HoursAndMinutes}
 use Rattle.definitions.proofs.Whole.{nat-le-or-lt}
-use Rattle.definitions.proofs.Bytes.{bytes-append, bytes-tested, bytes-take, bytes-put}
+use Rattle.definitions.proofs.Bytes.{bytes-append, bytes-tested}
 use Rattle.definitions.proofs.Programs.{decimal-few}
 use Rattle.definitions.proofs.Put.{take-put}
 use Rattle.definitions.proofs.Decimals.{decimal-injective, decimal-some, decimal-digits}

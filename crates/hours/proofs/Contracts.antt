@@ -1,17 +1,15 @@
 -- The contracts of `read_hours` and `write_hours` give what request 2.7 promises (document 02): start reading here.
-use Prim.Native.Nat.{ℕ, _+_, _≤_, _<_}
-use mathlib.Core.Path.{_≡_, refl, sym, _∙_}
+use Prim.Native.Nat.{ℕ, _<_}
+use mathlib.Core.Path.{_≡_, refl}
 use mathlib.Core.Bool.{Bool, true, false, cond}
 use mathlib.Core.List.{List}
 use native.Mathlib.Omega.{arith}
 use lib.ListN.{length}
-use lib.Dec.{ltb, leb}
-use lib.IntN.{subℕ, natAbs}
-use Rattle.definitions.specs.Limits.{signed-full, text-limit, text-most}
+use Rattle.definitions.specs.Limits.{signed-full, text-limit}
 use Rattle.definitions.specs.Tropical.{Trop}
 use Rattle.definitions.specs.Offset.{tropOf, off}
 use Rattle.definitions.specs.Bytes.{Bytes, fieldOf, blank-or-within}
-use Rattle.definitions.specs.Hours.{has-text, no-text, hoursRefusal, HoursWriting, ReadsHours, WritesHours, HoursReader, HoursWriter, WriterWrites, HoursAndMinutes}
+use Rattle.definitions.specs.Hours.{has-text, HoursWriting, ReadsHours, WritesHours, HoursReader, HoursWriter, WriterWrites, HoursAndMinutes}
 use Rattle.definitions.proofs.Offset.{off-bound, within-fits, trop-fieldOf}
 use Rattle.definitions.proofs.Hours.{hours-and-minutes, hours-beyond, written-refused}
 use Rattle.hours.specs.declared.reader.Read.{Read}

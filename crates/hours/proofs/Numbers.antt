@@ -1,15 +1,15 @@
 -- Reading the parts of a text: digits one by one, the minutes behind the colon, and both together.
 use Prim.Native.Nat.{ℕ, zero, suc, _+_, _*_, _-_, _^_, _/_, _%_, _≤_, _<_}
-use mathlib.Core.Path.{_≡_, refl, ap, sym, subst, _∙_}
+use mathlib.Core.Path.{_≡_, refl, ap, sym, _∙_}
 use mathlib.Core.Logic.{_⊎_, ⊎-elim}
-use mathlib.Core.List.{List, [], _∷_, _++_}
+use mathlib.Core.List.{List, [], _∷_}
 use native.Mathlib.Omega.{arith}
 use native.Mathlib.Nat.{eq-zero-or-pos}
 use lib.ListN.{length, getD, take, drop, take-append-drop, length-drop}
 use lib.Seq.{take-suc, take-all, length-take-le}
 use Rattle.definitions.specs.Limits.{hour-minutes}
 use Rattle.definitions.specs.Programs.{decimal}
-use Rattle.definitions.specs.Hours.{colon, twoDigits, Clock}
+use Rattle.definitions.specs.Hours.{colon, Clock}
 use Rattle.definitions.proofs.Programs.{decimal-one}
 use Rattle.definitions.proofs.Decimals.{decimal-next, decimal-some, decimal-below, decimal-digits, decimal-zero}
 use Rattle.definitions.proofs.Hours.{clock-length, hours-part, minutes-part}

@@ -1,12 +1,12 @@
 -- A value from what was read: zero or above, or behind a hyphen; and every other string is no value's text.
 use Prim.Native.Nat.{ℕ, zero, suc, _+_, _-_, _≤_, _<_}
-use mathlib.Core.Path.{_≡_, refl, ap, sym, subst, _∙_}
+use mathlib.Core.Path.{_≡_, refl, ap}
 use mathlib.Core.List.{List, [], _∷_}
 use native.Mathlib.Omega.{arith}
-use lib.ListN.{length, getD, drop}
-use lib.IntN.{ℤ, pos, negsuc}
+use lib.ListN.{length, getD}
+use lib.IntN.{pos, negsuc}
 use Rattle.definitions.specs.Limits.{text-limit, text-most, signed-half}
-use Rattle.definitions.specs.Tropical.{Trop, bot, fin}
+use Rattle.definitions.specs.Tropical.{Trop}
 use Rattle.definitions.specs.Offset.{tropOf}
 use Rattle.definitions.specs.Hours.{hyphen, no-text, Clock, HoursText, blank, plain, minus, HoursReading, ReadsHours, read, value, refused}
 use Rattle.definitions.proofs.Offset.{trop-zero, trop-show}

@@ -8,7 +8,6 @@ use printing::text::digit;
 use printing::text::put_decimal;
 use records::limits::OFFSET;
 use records::offset::blank_or_within;
-ghost use mathlib.Core.Path.{_≡_};
 ghost use mathlib.Core.List.{_∷_};
 ghost use Prim.Native.Nat.{_+_, _≤_, _<_};
 ghost use lib.ListN.{length};
