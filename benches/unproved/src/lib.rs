@@ -10,6 +10,7 @@ pub mod boundary;
 pub mod checker;
 mod dense;
 mod engine;
+mod hours;
 mod lists;
 mod number;
 mod policy;

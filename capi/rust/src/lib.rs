@@ -1,7 +1,8 @@
 //! The span engine and its checker, release 4.2, for Rust programs.
 //!
 //! A clinic sends a problem as bytes (document 01, "Records"). [`solve`] answers it; [`check`] judges an answer from
-//! any engine and trusts none. [`read`] and [`write`] turn an answer record into its fields and back.
+//! any engine and trusts none. [`read`] and [`write`] turn an answer record into its fields and back; [`read_hours`] and
+//! [`write_hours`] turn spans and stamps into hours and minutes and back.
 //!
 //! What these functions return is proved of the code behind them, which the archive `libcapi.a` holds; this thin layer
 //! and the compiler that builds it are not part of the proofs.
@@ -13,6 +14,13 @@
 //! assert_eq!(solved.to_string(), "least 3");
 //! let judged = span::check(&problem, &answer[..solved.size]).unwrap();
 //! assert_eq!(judged.to_string(), "accepted least 3");
+//!
+//! let mut text = [0; span::TEXT_SIZE];
+//! let size = span::write_hours(Some(425), &mut text).unwrap();
+//! assert_eq!(&text[..size], b"7:05");
+//! assert_eq!(span::read_hours(b"-0:05"), Ok(Some(-5)));
+//! assert_eq!(span::read_hours(b"--"), Ok(None));
+//! assert_eq!(span::read_hours(b"7:60").unwrap_err().number, 18);
 //! ```
 
 pub mod raw;
@@ -22,6 +30,8 @@ pub use words::{Answer, Certified, Class, Outcome, Refusal, Solved};
 
 /// An answer buffer of this many bytes is long enough for every answer.
 pub const ANSWER_SIZE: usize = 206;
+/// A buffer of this many bytes is long enough for every text of hours and minutes; a shorter one is refused.
+pub const TEXT_SIZE: usize = 10;
 /// The size of the longest problem.
 pub const PROBLEM_SIZE: usize = 16_394;
 
@@ -85,6 +95,26 @@ pub fn write(answer: &Answer, n: usize, m: usize, buffer: &mut [u8]) -> Result<u
     let stamps: Vec<u64> = answer.stamps().iter().map(|&stamp| offset(stamp)).collect();
     let picks: Vec<u64> = answer.picks().iter().map(|&pick| pick as u64).collect();
     let result = raw::write(answer.class().number(), span, &stamps, &picks, n as u64, m as u64, buffer);
+    refusal(result)?;
+    Ok((result >> 8) as usize)
+}
+
+/// Reads a text of hours and minutes (document 02, 2.7): the span or stamp, `None` for blank.
+///
+/// Refusal: 18, for every string of bytes that [`write_hours`] does not write.
+pub fn read_hours(text: &[u8]) -> Result<Option<i32>, Refusal> {
+    let result = raw::hours_read(text);
+    refusal(result)?;
+    Ok(minute(result >> 32))
+}
+
+/// Writes a span or stamp, `None` for blank, in hours and minutes at the start of `buffer`, and returns the text's size. Bytes
+/// after the text stay.
+///
+/// Refusal: 18, where the minute is beyond ±6,000,000 or the buffer is shorter than [`TEXT_SIZE`]. It leaves `buffer` untouched.
+pub fn write_hours(value: Option<i32>, buffer: &mut [u8]) -> Result<usize, Refusal> {
+    // The minute −2³¹, which has no offset number, is beyond the limit like the one above it.
+    let result = raw::hours_write(offset(value.map(|minute| minute.max(i32::MIN + 1))), buffer);
     refusal(result)?;
     Ok((result >> 8) as usize)
 }

@@ -1,4 +1,4 @@
-//! The four functions of `capi/span.h` over slices, with their results as the header describes them.
+//! The functions of `capi/span.h` over slices, with their results as the header describes them.
 //!
 //! This is the only file with `unsafe`. The archive's functions take every string of bytes and every number; what
 //! they ask is that buffers do not overlap, which Rust's borrows ensure here.
@@ -35,6 +35,8 @@ mod archive {
             buffer: *mut u8,
             buffer_size: usize,
         ) -> u64;
+        pub fn span_hours_read(text: *const u8, text_size: usize) -> u64;
+        pub fn span_hours_write(value: u64, buffer: *mut u8, buffer_size: usize) -> u64;
     }
 }
 
@@ -96,6 +98,23 @@ pub fn write(class: u64, span: u64, stamps: &[u64], picks: &[u64], n: u64, m: u6
         )
     }
 }
+
+/// Reads a text of hours and minutes: the refusal, or 2³² × the value's offset number.
+#[cfg(not(feature = "stand-in"))]
+pub fn hours_read(text: &[u8]) -> u64 {
+    // SAFETY: the part is valid for its length and is only read.
+    unsafe { archive::span_hours_read(text.as_ptr(), text.len()) }
+}
+
+/// Writes the text of a value, an offset number: the refusal, or 256 × the text's size.
+#[cfg(not(feature = "stand-in"))]
+pub fn hours_write(value: u64, buffer: &mut [u8]) -> u64 {
+    // SAFETY: the part is valid for its length, and a `&mut` overlaps nothing.
+    unsafe { archive::span_hours_write(value, buffer.as_mut_ptr(), buffer.len()) }
+}
+
+#[cfg(feature = "stand-in")]
+pub use unproved::boundary::{hours_read, hours_write};
 
 #[cfg(feature = "stand-in")]
 pub use unproved::boundary::{check, read, solve, write};

@@ -96,15 +96,15 @@ impl fmt::Display for Certified {
     }
 }
 
-/// A refusal of document 01, "What is turned away".
+/// A refusal of document 01, "What is turned away", or of document 02.
 #[derive(Clone, Copy, Debug, PartialEq, Eq)]
 pub struct Refusal {
-    /// Its number, 1 to 14.
+    /// Its number, 1 to 14, or 18.
     pub number: u8,
 }
 
 impl Refusal {
-    /// The refusal's sentence in document 01.
+    /// The refusal's sentence in document 01 or 02.
     pub fn reason(self) -> &'static str {
         match self.number {
             1 => "The problem has fewer than 10 bytes.",
@@ -121,7 +121,11 @@ impl Refusal {
             12 => "Its span or a stamp is outside the form of its class.",
             13 => "A pick is above its highest value.",
             14 => "The form is right and the answer is not accepted: not certified.",
-            _ => "No refusal of document 01.",
+            18 => {
+                "The text is not of this form, a value read or to be written is beyond ±6,000,000, or the writer's \
+                 buffer is shorter than 10 bytes."
+            }
+            _ => "No refusal of document 01 or 02.",
         }
     }
 }

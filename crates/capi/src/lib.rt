@@ -1,3 +1,4 @@
-// The boundary to C and Rust: four functions on bytes and numbers. capi/span.h says the same in C's words.
+// The boundary to C and Rust: six functions on bytes and numbers. capi/span.h says the same in C's words.
 pub mod calls;
 pub mod fields;
+pub mod sheet;

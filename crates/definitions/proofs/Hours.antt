@@ -244,3 +244,12 @@ texts = fin (pos 425) ∷ fin (pos 0) ∷ fin (negsuc 4) ∷ bot ∷ fin (negsuc
 texts-written : map textOf texts ≡ (55 ∷ 58 ∷ 48 ∷ 53 ∷ []) ∷ (48 ∷ 58 ∷ 48 ∷ 48 ∷ []) ∷ (45 ∷ 48 ∷ 58 ∷ 48 ∷ 53 ∷ []) ∷ (45 ∷ 45 ∷ []) ∷ (45 ∷ 49 ∷ 48 ∷ 48 ∷ 48 ∷ 48 ∷ 48 ∷ 58 ∷ 48 ∷ 48 ∷ []) ∷ []
 unfolding texts textOf clockOf decimal digits
 texts-written = refl
+
+-- The limit, on both sides, and the room.
+limits-kept : map has-text (fin (pos 6000000) ∷ fin (pos 6000001) ∷ fin (negsuc 5999999) ∷ fin (negsuc 6000000) ∷ bot ∷ []) ≡ true ∷ false ∷ true ∷ false ∷ true ∷ []
+unfolding blank-or-within
+limits-kept = refl
+
+room-kept : map (hoursRefusal bot) (0 ∷ 9 ∷ 10 ∷ 11 ∷ []) ≡ 18 ∷ 18 ∷ 0 ∷ 0 ∷ []
+unfolding hoursRefusal blank-or-within
+room-kept = refl

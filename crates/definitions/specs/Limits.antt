@@ -1,5 +1,5 @@
--- The numbers of documents 01 and 02, each once; those that follow from others are derived. (Refusals have their numbers where they
--- are listed, in ProblemRecord, AnswerRecord, Solved and Verdict, and the two outer trials are counted in Bisection.)
+-- The numbers of documents 01 and 02, each once; those that follow from others are derived. (Refusals have their numbers where
+-- they are listed, in ProblemRecord, AnswerRecord, Solved, Verdict and Hours, and the two outer trials are counted in Bisection.)
 use Prim.Native.Nat.{ℕ, suc, _+_, _*_}
 use lib.IntN.{ℤ, pos, negsuc}
 
