@@ -13,10 +13,12 @@ use Rattle.definitions.proofs.Programs.{decimal-one, decimal-more}
 
 -- What holds of one digit, and of a number where it holds of the tenth part, holds of every number.
 module _ (P : ℕ → Type 0) (one : (k : ℕ) → k < 10 → P k) (more : (k : ℕ) → 10 ≤ k → P (k / 10) → P k) where
+  -- Below every n.
   below : (n k : ℕ) → k < n → P k
   below zero k h = absurd (omega arith)
   below (suc n) k h = ⊎-elim (λ (m : 10 ≤ k). more k m (below n (k / 10) (omega arith))) (λ (s : k < 10). one k s) (nat-le-or-lt 10 k)
 
+  -- So of every number.
   by-digits : (k : ℕ) → P k
   by-digits k = below (suc k) k (omega arith)
 
@@ -72,6 +74,7 @@ decimal-below = by-digits (λ k. k < 10 ^ length (decimal k))
 pub record Digits (s : List ℕ) : Type 0 where
   pub digit : (i : ℕ) → i < length s → (48 ≤ getD s i 0) × (getD s i 0 < 58)
 
+-- One digit.
 one-digit : (d : ℕ) → d < 10 → Digits ((48 + d) ∷ [])
 one-digit d h = record { digit = only }
   where
@@ -79,6 +82,7 @@ one-digit d h = record { digit = only }
     only zero g = (omega arith, omega arith)
     only (suc i) g = absurd (omega arith)
 
+-- One digit more.
 digit-more : (s : List ℕ) (d : ℕ) → Digits s → d < 10 → Digits (s ++ ((48 + d) ∷ []))
 digit-more s d a h = record {
   digit = λ i g. ⊎-elim
@@ -89,6 +93,7 @@ digit-more s d a h = record {
       (nat-le-or-lt (length s) i);
 }
 
+-- So are those of a number.
 pub decimal-digits : (k : ℕ) → Digits (decimal k)
 decimal-digits = by-digits (λ k. Digits (decimal k))
     (λ k h. rw (decimal-one k h) (one-digit k h))

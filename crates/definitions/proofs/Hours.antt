@@ -98,6 +98,7 @@ text-of bot h = blank
 text-of (fin (pos k)) h = plain (leb-true k text-limit h) (clock-of k)
 text-of (fin (negsuc k)) h = minus (leb-true (suc k) text-limit h) (clock-of (suc k))
 
+-- Just one.
 pub one-text : (v : Trop) → has-text v ≡ true → OneText v
 one-text v h = record { text-of = text-of v h; no-other = text-is }
 
@@ -120,7 +121,7 @@ text-tells (minus h c) blank = absurd (omega (arith, clock-first c))
 text-tells (minus h c) (plain g d) = absurd (omega (arith, clock-first d))
 text-tells (minus {k = a} h c) (minus {k = b} g d) = let e : suc a ≡ suc b = clock-tells c d in let f : a ≡ b = omega arith in ap (λ (k : ℕ). fin (negsuc k)) f
 
--- A text is a string of bytes.
+-- A text is a string of bytes: its hours.
 decimal-bytes : (k : ℕ) → Bytes (decimal k)
 decimal-bytes k = record {
   byte = λ i. ⊎-elim
@@ -129,6 +130,7 @@ decimal-bytes k = record {
       (nat-le-or-lt (length (decimal k)) i);
 }
 
+-- So are the minutes.
 minutes-bytes : (m : ℕ) → m < hour-minutes → Bytes (colon ∷ twoDigits m)
 minutes-bytes m h = record { byte = at }
   where
@@ -138,10 +140,12 @@ minutes-bytes m h = record { byte = at }
     at (suc (suc zero)) = omega arith
     at (suc (suc (suc i))) = omega arith
 
+-- Both together.
 clock-bytes : (k : ℕ) → Bytes (clockOf k)
 unfolding clockOf
 clock-bytes k = bytes-append (decimal-bytes (k / hour-minutes)) (minutes-bytes (k % hour-minutes) (omega arith))
 
+-- With a sign, or blank.
 pub text-bytes : (v : Trop) → Bytes (textOf v)
 unfolding textOf all
 text-bytes bot = bytes-tested (hyphen ∷ hyphen ∷ []) refl
@@ -150,15 +154,17 @@ text-bytes (fin (negsuc k)) = bytes-append (bytes-tested (hyphen ∷ []) refl) (
 
 -- ---- the reader
 
--- There is one answer to a string of bytes.
+-- There is one answer to a string of bytes: the value whose text it is.
 pub read-of : {s : List ℕ} {r : HoursReading} {v : Trop} → ReadsHours s r → HoursText v s → r ≡ value v
 read-of (read t) u = ap value (text-tells t u)
 read-of (ReadsHours.turned-away n) u = absurd (n _ u)
 
+-- The value that is answered has this text.
 pub read-is : {s : List ℕ} {r : HoursReading} {v : Trop} → ReadsHours s r → r ≡ value v → HoursText v s
 read-is {v = v} (read {v = w} t) e = let f : w ≡ v = cc in rw f at t
 read-is (ReadsHours.turned-away n) e = absurd (let z : _≡_ {A = ℕ} 0 1 = cc in omega arith)
 
+-- Where there is no such value, 18.
 pub read-none : {s : List ℕ} {r : HoursReading} → ReadsHours s r → ((v : Trop) → HoursText v s → ⊥) → r ≡ refused no-text
 read-none (read t) n = absurd (n _ t)
 read-none (ReadsHours.turned-away m) n = refl
@@ -175,6 +181,7 @@ hours-fits v room = go (ltb room text-most) refl (has-text v) refl
     go false e true f n = (ltb-false room text-most e, f)
     go false e false f n = absurd (omega arith)
 
+-- And then there is none.
 pub hours-none : (v : Trop) (room : ℕ) → text-most ≤ room → has-text v ≡ true → hoursRefusal v room ≡ 0
 unfolding hoursRefusal
 hours-none v room h e = rw (le-ltb room text-most h, e)
@@ -193,6 +200,7 @@ pub written-refused : {v : Trop} {before after : List ℕ} {r : HoursWriting} {k
 written-refused (WritesHours.turned-away e) f = (ap unwritten (sym e ∙ f), refl)
 written-refused (written e) f = absurd (omega arith)
 
+-- The same without a refusal.
 pub written-done : {v : Trop} {before after : List ℕ} {r : HoursWriting} → WritesHours v before r after → hoursRefusal v (length before) ≡ 0
     → (r ≡ text (length (textOf v))) × (after ≡ put before 0 (textOf v))
 written-done (WritesHours.turned-away e) f = absurd (omega arith)
@@ -209,11 +217,13 @@ written-text {v} {before} {size = size} (written e) f =
 -- ---- request 2.7
 
 module _ (reader : HoursReader) (reads : ReaderReads reader) (writer : HoursWriter) (writes : WriterWrites writer) where
+  -- What is written reads back.
   back : (v : Trop) (buffer : List ℕ) → Bytes buffer → (size : ℕ) → writer .answer v buffer ≡ text size → reader (take size (writer .buffer v buffer)) ≡ value v
   back v buffer b size e =
       let w = written-text (writes v buffer b) e in
       rw (w .0) (read-of (reads (textOf v) (text-bytes v)) (text-of v (w .1)))
 
+  -- What is read is written again.
   again : (s : List ℕ) → Bytes s → (v : Trop) (buffer : List ℕ) → Bytes buffer → text-most ≤ length buffer → reader s ≡ value v
       → (writer .answer v buffer ≡ text (length s)) × (writer .buffer v buffer ≡ put buffer 0 s)
   again s b v buffer c h e =

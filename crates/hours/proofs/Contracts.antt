@@ -21,6 +21,7 @@ use Rattle.hours.specs.Outcome.{readingOf, writingOf}
 unfoldable pub handed : Trop → ℕ
 handed v = cond (has-text v) (off (fieldOf v)) 1
 
+-- It is small.
 handed-small : (v : Trop) → handed v < signed-full
 unfolding handed
 handed-small v = go (has-text v)
@@ -34,6 +35,7 @@ handed-is : (v : Trop) → has-text v ≡ true → tropOf (handed v) ≡ v
 unfolding handed
 handed-is v e = rw e (trop-fieldOf v (within-fits text-limit (omega arith) e))
 
+-- 1 stands for a value without a text.
 one-beyond : has-text (tropOf 1) ≡ false
 unfolding blank-or-within tropOf
 one-beyond = refl
@@ -52,6 +54,7 @@ module _ (reading : List ℕ → Read) (reads : (s : List ℕ) → Bytes s → R
   abbrev pub codeWriter : HoursWriter
   codeWriter = record { answer = λ v before. writingOf (writing (handed v) before); buffer = λ v before. buffer (handed v) before }
 
+  -- The code's writer writes every value as document 02 says.
   writer-meets : WriterWrites codeWriter
   unfolding handed
   writer-meets v before b = go (has-text v) refl

@@ -4,7 +4,7 @@ use mathlib.Core.Path.{_≡_, refl, ap, sym, _∙_}
 use mathlib.Core.Logic.{_⊎_, ⊎-elim}
 use mathlib.Core.List.{List, [], _∷_}
 use native.Mathlib.Omega.{arith}
-use native.Mathlib.Nat.{eq-zero-or-pos}
+use native.Mathlib.Nat.{eq-zero-or-pos, pow-le-pow-right}
 use lib.ListN.{length, getD, take, drop, take-append-drop, length-drop}
 use lib.Seq.{take-suc, take-all, length-take-le}
 use Rattle.definitions.specs.Limits.{hour-minutes}
@@ -19,10 +19,12 @@ use Rattle.hours.specs.declared.reader.Found.the-variants.{Number, Nothi
 
 -- ---- what was found
 
+-- A number that was found is one.
 pub found : {Is : ℕ → Type 0} {r : Found} {k : ℕ} → FoundBy Is r → r ≡ Number k → Is k
 found {k = k} (some {k = j} h) e = let f : j ≡ k = cc in rw f at h
 found (none n) e = absurd (let z : _≡_ {A = ℕ} 0 1 = cc in omega arith)
 
+-- Where nothing was found there is none.
 pub found-none : {Is : ℕ → Type 0} {r : Found} → FoundBy Is r → r ≡ Nothing → (k : ℕ) → Is k → ⊥
 found-none (some h) e = absurd (let z : _≡_ {A = ℕ} 0 1 = cc in omega arith)
 found-none (none n) e = n
@@ -44,6 +46,7 @@ pub record Begun (s : List ℕ) (i number : ℕ) : Type 0 where
   pub positive : 0 < i → 0 < number
   pub digits-are : 0 < i → take i s ≡ decimal number
 
+-- No digit yet.
 pub begun-none : (s : List ℕ) → Begun s 0 0
 begun-none s = record { inside = omega arith; none-yet = λ e. refl; positive = λ h. absurd (omega arith); digits-are = λ h. absurd (omega arith) }
 
@@ -77,21 +80,13 @@ begun-more {s} {i} {number} {d} b h l n = record {
 pub begun-all : {s : List ℕ} {i number : ℕ} → Begun s i number → length s ≤ i → 0 < length s → s ≡ decimal number
 begun-all {s} {i} b h p = sym (take-all i s h) ∙ b .digits-are (omega arith)
 
--- At most 7 digits say a small number.
+-- At most 7 digits say a number below 10⁷.
 pub decimal-small : (k : ℕ) → length (decimal k) ≤ 7 → k < 10000000
-decimal-small k h = go (length (decimal k)) h (decimal-below k)
-  where
-    go : (n : ℕ) → n ≤ 7 → k < 10 ^ n → k < 10000000
-    go zero g l = omega arith
-    go (suc zero) g l = omega arith
-    go (suc (suc zero)) g l = omega arith
-    go (suc (suc (suc zero))) g l = omega arith
-    go (suc (suc (suc (suc zero)))) g l = omega arith
-    go (suc (suc (suc (suc (suc zero))))) g l = omega arith
-    go (suc (suc (suc (suc (suc (suc zero)))))) g l = omega arith
-    go (suc (suc (suc (suc (suc (suc (suc zero))))))) g l = omega arith
-    go (suc (suc (suc (suc (suc (suc (suc (suc n)))))))) g l = absurd (omega arith)
+decimal-small k h =
+    let most : 10 ^ length (decimal k) ≤ 10 ^ 7 = pow-le-pow-right (omega arith) h in
+    omega (arith, decimal-below k)
 
+-- So does what was read of at most 7.
 pub begun-small : {s : List ℕ} {i number : ℕ} → Begun s i number → length s ≤ 7 → number < 10000000
 begun-small {s} {i} {number} b h = ⊎-elim
     (λ (e : i ≡ 0). omega (arith, b .none-yet e))
@@ -123,6 +118,7 @@ digit-none {s} {i} n l k f =
 
 -- ---- the minutes behind the colon
 
+-- A list of three.
 three : (s : List ℕ) → length s ≡ 3 → s ≡ getD s 0 0 ∷ getD s 1 0 ∷ getD s 2 0 ∷ []
 three [] e = absurd (omega arith)
 three (x ∷ []) e = absurd (omega arith)
@@ -137,6 +133,7 @@ record Places (s : List ℕ) (k : ℕ) : Type 0 where
   tens : IsDigit (getD s 1 0) (k / 10)
   ones : IsDigit (getD s 2 0) (k % 10)
 
+-- They are so.
 places : {s : List ℕ} {k : ℕ} → IsMinutes s k → Places s k
 places {s} {k} m =
     let below : k < 60 = m .below-hour in
@@ -147,6 +144,7 @@ places {s} {k} m =
       ones = record { small = omega arith; byte-is = ap (λ (t : List ℕ). getD t 2 0) (m .part-is) };
     }
 
+-- What is no part of minutes: another size, another mark, no digits, or 60 and above.
 pub size-none : (s : List ℕ) → (length s ≡ 3 → ⊥) → (k : ℕ) → IsMinutes s k → ⊥
 size-none s n k m = n (places m .size)
 
@@ -162,6 +160,7 @@ ones-none s n k m = n _ (places m .ones)
 pub hour-none : {s : List ℕ} {t o : ℕ} → IsDigit (getD s 1 0) t → IsDigit (getD s 2 0) o → hour-minutes ≤ 10 * t + o → (k : ℕ) → IsMinutes s k → ⊥
 hour-none h g l k m = let p = places m in omega (arith, m .below-hour, h .byte-is, g .byte-is, p .tens .byte-is, p .ones .byte-is)
 
+-- What is one.
 pub minutes-found : {s : List ℕ} {t o : ℕ} → IsDigit (getD s 1 0) t → IsDigit (getD s 2 0) o → length s ≡ 3 → getD s 0 0 ≡ colon → 10 * t + o < hour-minutes → IsMinutes s (10 * t + o)
 minutes-found {s} {t} {o} h g e c l =
     let tens : (10 * t + o) / 10 ≡ t = omega (arith, g .small) in
@@ -174,19 +173,23 @@ minutes-found {s} {t} {o} h g e c l =
 abbrev pub tail : List ℕ → ℕ → List ℕ
 tail s at = take (length s - at) (drop at s)
 
+-- That is all of it.
 pub tail-whole : (s : List ℕ) (at : ℕ) → tail s at ≡ drop at s
 tail-whole s at = take-all (length s - at) (drop at s) (rw length-drop (omega arith))
 
+-- Three bytes from there to the end.
 end : (s : List ℕ) → 3 ≤ length s → length s - 3 + 3 ≡ length s
 end s room = omega arith
 
 module _ {s : List ℕ} (room : 3 ≤ length s) where
+  -- Hours and minutes make a text.
   pub clock-some : {q r : Found} {m h : ℕ} → FoundBy (IsMinutes (tail s (length s - 3))) q → q ≡ Number m → FoundBy (λ k. take (length s - 3) s ≡ decimal k) r → r ≡ Number h
       → FoundBy (λ k. Clock k s) (Number (hour-minutes * h + m))
   clock-some {m = m} {h} p e f g =
       let i : IsMinutes (drop (length s - 3) s) m = rw (tail-whole s (length s - 3)) at (found p e) in
       some {k = hour-minutes * h + m} (record { hours = h; minutes = m; below-hour = i .below-hour; number-is = refl; text-is = sym (take-append-drop (length s - 3) s) ∙ rw (found f g, i .part-is) })
 
+  -- Without minutes there is none, nor without hours.
   pub minutes-none : {q : Found} → FoundBy (IsMinutes (tail s (length s - 3))) q → q ≡ Nothing → FoundBy (λ k. Clock k s) Nothing
   minutes-none p e = none (λ k c. found-none p e (c .minutes) (record { below-hour = c .below-hour; part-is = tail-whole s (length s - 3) ∙ minutes-part c (length s - 3) (end s room) }))
 
@@ -197,5 +200,6 @@ module _ {s : List ℕ} (room : 3 ≤ length s) where
 pub hours-few : (s : List ℕ) {r : Found} {h : ℕ} → FoundBy (λ k. take (length s - 3) s ≡ decimal k) r → r ≡ Number h → length s ≤ 10 → h < 10000000
 hours-few s {h = h} f e l = decimal-small h (omega (arith, ap length (found f e), length-take-le (length s - 3) s (omega arith)))
 
+-- Fewer than three bytes are no text.
 pub short-none : (s : List ℕ) → length s < 3 → (k : ℕ) → Clock k s → ⊥
 short-none s l k c = omega (arith, clock-length c)

@@ -27,12 +27,15 @@ plain-only blank n = absurd (n refl)
 plain-only (plain h c) n = record { k = _; within = h; clock = c }
 plain-only (minus h c) n = absurd (n refl)
 
+-- No minutes.
 pub plain-none : {s : List ℕ} → ((k : ℕ) → Clock k s → ⊥) → (getD s 0 0 ≡ hyphen → ⊥) → ReadsHours s (refused no-text)
 plain-none m n = ReadsHours.turned-away (λ v t. let p = plain-only t n in m (p .k) (p .clock))
 
+-- Beyond the limit.
 pub plain-beyond : {s : List ℕ} {k : ℕ} → Clock k s → text-limit < k → (getD s 0 0 ≡ hyphen → ⊥) → ReadsHours s (refused no-text)
 plain-beyond c l n = ReadsHours.turned-away (λ v t. let p = plain-only t n in omega (arith, p .within, clock-tells c (p .clock)))
 
+-- Within it.
 pub plain-value : {s : List ℕ} {k : ℕ} → Clock k s → k ≤ text-limit → ReadsHours s (value (tropOf (signed-half + k)))
 plain-value {k = k} c h = rw (trop-show (signed-half + k) (pos k) (omega arith) (omega arith)) (read (plain h c))
 
@@ -43,15 +46,17 @@ data Behind (rest : List ℕ) : Type 0 where
   again : rest ≡ hyphen ∷ [] → Behind rest
   below : (k : ℕ) → 0 < k → k ≤ text-limit → Clock k rest → Behind rest
 
+-- There is nothing else.
 behind : {v : Trop} {rest : List ℕ} → HoursText v (hyphen ∷ rest) → Behind rest
 behind blank = again refl
 behind (plain h c) = absurd (omega (arith, clock-first c))
 behind (minus {k = k} h c) = below (suc k) (omega arith) h c
 
--- It is not so.
+-- Where it is neither, the string is no value's text.
 behind-refused : {rest : List ℕ} → (Behind rest → ⊥) → ReadsHours (hyphen ∷ rest) (refused no-text)
 behind-refused n = ReadsHours.turned-away (λ v t. n (behind t))
 
+-- Another hyphen alone makes blank.
 pub behind-blank : (rest : List ℕ) → length rest ≡ 1 → getD rest 0 0 ≡ hyphen → ReadsHours (hyphen ∷ rest) (value (tropOf 0))
 behind-blank [] l e = absurd (omega arith)
 behind-blank (x ∷ []) l e = rw (e, trop-zero) (read blank)
@@ -87,16 +92,18 @@ behind-zero c e n = behind-outside c (λ p h. omega arith) n
 pub behind-beyond : {rest : List ℕ} {k : ℕ} → Clock k rest → text-limit < k → (length rest ≡ 1 → ⊥) → ReadsHours (hyphen ∷ rest) (refused no-text)
 behind-beyond c l n = behind-outside c (λ p h. omega arith) n
 
+-- Minutes above zero and within the limit.
 pub behind-value : {rest : List ℕ} {k : ℕ} → Clock k rest → (k ≡ 0 → ⊥) → k ≤ text-limit → ReadsHours (hyphen ∷ rest) (value (tropOf (signed-half - k)))
 behind-value {k = zero} c n h = absurd (n refl)
 behind-value {k = suc k} c n h = rw (trop-show (signed-half - suc k) (negsuc k) (omega arith) (omega arith)) (read (minus h c))
 
 -- ---- every string
 
--- No text has more than 10 bytes, or none.
+-- No text has more than 10 bytes.
 pub long-none : {s : List ℕ} → text-most < length s → ReadsHours s (refused no-text)
 long-none {s} l = ReadsHours.turned-away (λ v t. omega (arith, text-short v (text-within t), ap length (text-is t)))
 
+-- Every text has a byte.
 text-some : {v : Trop} {s : List ℕ} → HoursText v s → 0 < length s
 text-some blank = omega arith
 text-some (plain h c) = omega (arith, clock-length c)

@@ -9,5 +9,8 @@ pub const TEXT_MOST: usize = 10;
 // The minutes of an hour.
 pub const HOUR: u64 = 60;
 
+// The bytes of minutes in a text: a colon and two digits.
+pub const MINUTES_PART: usize = 3;
+
 // The refusal.
 pub const NO_TEXT: usize = 18;

@@ -1,5 +1,6 @@
 // The reader: a text to the span or stamp that it says, an offset number. Document 02, 2.7.
 use crate::limits::HOUR;
+use crate::limits::MINUTES_PART;
 use crate::limits::NO_TEXT;
 use crate::limits::TEXT_LIMIT;
 use crate::limits::TEXT_MOST;
@@ -8,6 +9,7 @@ ghost use mathlib.Core.Path.{_≡_};
 ghost use mathlib.Core.List.{_∷_};
 ghost use Prim.Native.Nat.{_+_, _≤_, _<_};
 ghost use lib.ListN.{length, getD};
+ghost use Rattle.definitions.specs.Limits.{text-most};
 ghost use Rattle.definitions.specs.Programs.{decimal};
 ghost use Rattle.definitions.specs.Hours.{hyphen, Clock, ReadsHours};
 ghost use Rattle.hours.specs.Outcome.{readingOf, FoundBy, IsDigit, IsMinutes};
@@ -39,7 +41,7 @@ fn read_digit(byte: u8) -> Found
 
 // The number in decimal digits without leading zeros.
 fn read_number(digits: &[u8]) -> Found
-    requires { ⌜ length (now digits) ≤ 7 ⌝ }
+    requires { ⌜ length (now digits) + 3 ≤ text-most ⌝ }
     ensures { λ r. ⌜ FoundBy (λ k. now (digits .entry) ≡ decimal k) r ⌝ }
 {
     let count = digits.len();
@@ -68,7 +70,7 @@ fn read_number(digits: &[u8]) -> Found
 fn read_minutes(part: &[u8]) -> Found
     ensures { λ r. ⌜ FoundBy (IsMinutes (now (part .entry))) r ⌝ }
 {
-    if part.len() != 3 {
+    if part.len() != MINUTES_PART {
         return Found::Nothing;
     }
     if part[0] != b':' {
@@ -89,14 +91,14 @@ fn read_minutes(part: &[u8]) -> Found
 
 // The minutes that a text without a sign says.
 fn read_clock(text: &[u8]) -> Found
-    requires { ⌜ length (now text) ≤ 10 ⌝ }
+    requires { ⌜ length (now text) ≤ text-most ⌝ }
     ensures { λ r. ⌜ FoundBy (λ k. Clock k (now (text .entry))) r ⌝ }
 {
     let size = text.len();
-    if size < 3 {
+    if size < MINUTES_PART {
         return Found::Nothing;
     }
-    let at = size - 3;
+    let at = size - MINUTES_PART;
     let Found::Number(minutes) = read_minutes(&text[at..]) else {
         return Found::Nothing;
     };
@@ -108,7 +110,7 @@ fn read_clock(text: &[u8]) -> Found
 
 // The value of a text that does not begin with a hyphen: zero or above.
 fn read_plain(text: &[u8]) -> Read
-    requires { ⌜ (length (now text) ≤ 10) × (getD (now text) 0 0 ≡ hyphen → ⊥) ⌝ }
+    requires { ⌜ (length (now text) ≤ text-most) × (getD (now text) 0 0 ≡ hyphen → ⊥) ⌝ }
     ensures { λ r. ⌜ ReadsHours (now (text .entry)) (readingOf r) ⌝ }
 {
     let Found::Number(number) = read_clock(text) else {
@@ -122,7 +124,7 @@ fn read_plain(text: &[u8]) -> Read
 
 // The value of a text that begins with a hyphen, from what follows it: another hyphen, which makes blank, or a value below zero.
 fn read_behind_hyphen(rest: &[u8]) -> Read
-    requires { ⌜ length (now rest) ≤ 10 ⌝ }
+    requires { ⌜ length (now rest) ≤ text-most ⌝ }
     ensures { λ r. ⌜ ReadsHours (hyphen ∷ now (rest .entry)) (readingOf r) ⌝ }
 {
     if rest.len() == 1 {

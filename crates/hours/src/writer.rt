@@ -11,10 +11,14 @@ use records::offset::blank_or_within;
 ghost use mathlib.Core.List.{_∷_};
 ghost use Prim.Native.Nat.{_+_, _≤_, _<_};
 ghost use lib.ListN.{length};
+ghost use Rattle.definitions.specs.Limits.{hour-minutes};
 ghost use Rattle.definitions.specs.Offset.{tropOf};
 ghost use Rattle.definitions.specs.Hours.{colon, twoDigits, clockOf, textOf, WritesHours};
 ghost use Rattle.printing.specs.Text.{Putting};
 ghost use Rattle.hours.specs.Outcome.{writingOf};
+
+// Room for a minus, the 20 digits that a number of 64 bits may have, and the minutes.
+const LINE: usize = 24;
 
 // What writing answers: the size of the text, or the number of the refusal.
 pub enum Written {
@@ -24,7 +28,7 @@ pub enum Written {
 
 // Puts a colon and two digits of minutes.
 fn put_minutes(line: &mut [u8], at: usize, minutes: u64) -> usize
-    requires { ⌜ (at + 3 ≤ length (now line)) × (minutes < 60) ⌝ }
+    requires { ⌜ (at + 3 ≤ length (now line)) × (minutes < hour-minutes) ⌝ }
     ensures { λ r. ⌜ Putting (now (line .entry)) at (colon ∷ twoDigits minutes) (now (line .exit)) r ⌝ }
 {
     let b = at + 1;
@@ -70,7 +74,7 @@ pub fn write_hours(value: u64, buffer: &mut [u8]) -> Written
     if !blank_or_within(TEXT_LIMIT, value) {
         return Written::Refused(NO_TEXT);
     }
-    let mut line = [0u8; 24];
+    let mut line = [0u8; LINE];
     let size = put_text(&mut line, value);
     Written::Text(copy(buffer, 0, &line[..size]))
 }
