@@ -1,4 +1,4 @@
-/* Answers document 01's example A from C, has the checker judge the answer, and reads it.
+/* Answers document 01's example A from C, has the checker judge the answer, and reads it; then shows hours and minutes.
  *
  *     cc -I capi capi/example.c target/staticlib/libcapi.a -o example && ./example
  */
@@ -27,5 +27,15 @@ int main(void) {
     }
     printf("accepted: class %u, span %d, after %u trials; pick of the anchor %u\n",
            span_class(judged), (int)span_minutes(judged), span_trials(solved), (unsigned)picks[0]);
+
+    /* The span on a ward's sheet, and a text from there. */
+    uint8_t text[SPAN_TEXT_SIZE];
+    uint64_t shown = span_hours_write(judged >> 32, text, sizeof text);
+    uint64_t minutes = span_hours_read((const uint8_t *)"7:05", 4);
+    if (span_refusal(shown) != 0 || span_refusal(minutes) != 0) {
+        printf("no text of hours and minutes\n");
+        return 1;
+    }
+    printf("on the sheet: %.*s; 7:05 is %d minutes\n", (int)span_size(shown), (const char *)text, (int)span_minutes(minutes));
     return 0;
 }

@@ -2,7 +2,7 @@
  *
  * Link with target/staticlib/libcapi.a, which `rt staticlib capi` writes (x86-64, Linux).
  *
- * The words are those of document 01. Records are bytes, little-endian. A function is handed a pointer and then a
+ * The words are those of documents 01 and 02. Records are bytes, little-endian. A function is handed a pointer and then a
  * number of bytes or places; a pointer must not be null, also where that number is 0. It reads and writes only there.
  * Every string of bytes is taken; no function relies on the caller having looked at it beforehand.
  *
@@ -17,8 +17,9 @@
  * answer buffer is shorter than 206 bytes; 8 the answer has fewer than 14 bytes; 9 its length field is not its
  * size - 4; 10 its kind is not 2 or its class not 1 to 3; 11 its n is not the problem's, or its size does not fit its
  * class; 12 its span or a stamp is outside the form of its class; 13 a pick is above its highest value; 14 not
- * certified; 19 a week list or a minute to be looked up is not of its form (span_first_open). The first that applies is
- * returned, and a refusal writes nothing.
+ * certified; 18 (hours and minutes) the text is not of this form, a value is beyond 6,000,000 of 0, or the writer's buffer is
+ * shorter than 10 bytes; 19 a week list or a minute to be looked up is not of its form (span_first_open). The first that
+ * applies is returned, and a refusal writes nothing.
  */
 #ifndef SPAN_H
 #define SPAN_H
@@ -35,10 +36,13 @@ extern "C" {
 #define SPAN_STAMPS 32            /* places to lend to span_read for stamps */
 #define SPAN_PICKS 64             /* places to lend to span_read for picks */
 
+#define SPAN_TEXT_SIZE 10         /* a buffer of this many bytes is long enough for every text of hours and minutes */
+
 #define SPAN_LEAST 1
 #define SPAN_BOTTOMLESS 2
 #define SPAN_NONE 3
 #define SPAN_NOT_CERTIFIED 14
+#define SPAN_NO_TEXT 18           /* span_hours_read, span_hours_write only */
 #define SPAN_TOO_FEW_PLACES 255   /* span_read only */
 
 #define SPAN_WINDOWS 14           /* the most windows of a week list, with two minutes each */
@@ -69,6 +73,17 @@ uint64_t span_write(uint64_t class_number, uint64_t span, const uint64_t *stamps
                     const uint64_t *picks, size_t picks_count, uint64_t n, uint64_t m,
                     uint8_t *buffer, size_t buffer_size);
 
+/* Reads a span or stamp in hours and minutes: an optional minus, hours without leading zeros, a colon, two digits of minutes
+ * below 60, as in 7:05, -0:05 or 0:00; two hyphens are blank. There is one text for each value within 6,000,000 of 0, and for
+ * blank; only these are taken.
+ * Result: read: 4294967296 * the value's offset number (0 where blank), so the low byte is 0; else SPAN_NO_TEXT. */
+uint64_t span_hours_read(const uint8_t *text, size_t text_size);
+
+/* Writes a span or stamp, an offset number, in hours and minutes at the start of `buffer`; the bytes after the text stay.
+ * Result: written: 256 * the size of the text, 2 to 10. Else SPAN_NO_TEXT: the value is beyond 6,000,000 of 0, or the buffer is
+ * shorter than 10 bytes, whatever the value. */
+uint64_t span_hours_write(uint64_t value, uint8_t *buffer, size_t buffer_size);
+
 /* The first open minute of a ward at or after a minute, which is within 6,000,000 of a Monday 0:00, minute 0. The week list
  * holds, in turn, the opening minute (0 to 10,079) and the closing minute (1 to 10,080) of each window, counted from Monday
  * 0:00, for every week before or after. A window runs to the minute before its closing minute; windows ascend, and one
@@ -82,7 +97,9 @@ uint64_t span_first_open(const uint64_t *week, size_t week_count, uint64_t minut
 static inline unsigned span_refusal(uint64_t result) { return (unsigned)(result & 255); }
 static inline unsigned span_trials(uint64_t result) { return (unsigned)(result >> 8); }           /* span_solve */
 static inline unsigned span_class(uint64_t result) { return (unsigned)((result >> 8) & 255); }    /* span_check, span_read */
-static inline int32_t span_minutes(uint64_t result) {                    /* class 1, and span_first_open's minute */
+static inline size_t span_size(uint64_t result) { return (size_t)(result >> 8); }                 /* span_write, span_hours_write */
+static inline int span_blank(uint64_t result) { return (result >> 32) == 0; }                     /* span_hours_read */
+static inline int32_t span_minutes(uint64_t result) {                            /* class 1; span_first_open; span_hours_read, where not blank */
     return (int32_t)((int64_t)(result >> 32) - 2147483648LL);
 }
 

@@ -1,7 +1,7 @@
 //! Tests from outside the proofs.
 //!
 //! The definitions that the proofs rest on could be wrong, and no proof shows that. Everything here that says what is
-//! right (`paper`, `exhaustive`, `second`) was written from document 01 alone, in its words, plainly and slowly.
+//! right (`paper`, `exhaustive`, `second`) was written from documents 01 and 02 alone, in their words, plainly and slowly.
 //!
 //! `cargo run --release --offline --manifest-path tests/Cargo.toml` runs all of it; a word after `--` runs one suite.
 //! A disagreement prints the bytes it was found on, and the status is then not 0.
@@ -33,7 +33,7 @@ fn main() {
         return;
     }
     println!("tests from outside, on {TRIED}");
-    let all: [Suite; 10] = [
+    let all: [Suite; 11] = [
         ("examples", suites::examples::run),
         ("all-small", suites::small::every_small_problem),
         ("random-small", suites::small::random_problems),
@@ -41,6 +41,7 @@ fn main() {
         ("checker", suites::checker::run),
         ("bytes", suites::bytes::run),
         ("fields", suites::fields::run),
+        ("hours", suites::hours::run),
         ("programs", suites::pipes::run),
         ("unproved", suites::unproved::run),
         ("opening", suites::opening::run),

@@ -1,8 +1,9 @@
-//! The four functions of `capi/span.h` over slices, answered by the unproved engine and checker. The package
-//! `stand-in` of tests/ is over them.
+//! The functions of `capi/span.h` over slices, answered by the unproved engine and checker. The package `stand-in` of
+//! tests/ is over them.
 
 use crate::checker;
 use crate::engine::{solve_with, Search};
+use crate::hours;
 use crate::record::{self, Answer, BLANK, BUFFER};
 use crate::{ROWS, VARIABLES};
 
@@ -87,4 +88,25 @@ pub fn write(class: u64, span: u64, stamps: &[u64], picks: &[u64], n: u64, m: u6
         answer.picks[place] = pick as u16;
     }
     256 * record::put(&answer, variables, rows, buffer) as u64
+}
+
+/// 18, or 2³² × the value's offset number.
+pub fn hours_read(text: &[u8]) -> u64 {
+    match hours::value(text) {
+        None => 18,
+        Some(None) => 0,
+        Some(Some(minutes)) => ((minutes + OFFSET) as u64) << 32,
+    }
+}
+
+/// 18, or 256 × the text's size.
+pub fn hours_write(value: u64, buffer: &mut [u8]) -> u64 {
+    let minutes = (value != 0).then(|| i64::try_from(value).map_or(i64::MAX, |number| number - OFFSET));
+    match hours::text(minutes) {
+        Some(text) if buffer.len() >= 10 => {
+            buffer[..text.len()].copy_from_slice(text.as_bytes());
+            256 * text.len() as u64
+        }
+        _ => 18,
+    }
 }

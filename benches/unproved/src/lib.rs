@@ -14,6 +14,7 @@ pub mod boundary;
 pub mod checker;
 mod dense;
 mod engine;
+mod hours;
 mod lists;
 mod number;
 mod policy;

@@ -73,7 +73,7 @@ pub fn write(answer: &Answer, n: usize, m: usize, buffer: &mut [u8]) -> Result<u
 }
 
 /// The refusal that a result's low byte holds, if any.
-fn refusal(result: u64) -> Result<(), Refusal> {
+pub(crate) fn refusal(result: u64) -> Result<(), Refusal> {
     match (result & 255) as u8 {
         0 => Ok(()),
         number => Err(Refusal { number }),
@@ -89,7 +89,7 @@ fn outcome(class: u64, span: i32) -> Outcome {
 }
 
 /// The minute that an offset number stands for; blank is `None`.
-fn minute(offset: u64) -> Option<i32> {
+pub(crate) fn minute(offset: u64) -> Option<i32> {
     match offset {
         0 => None,
         number => Some((number as i64 - OFFSET) as i32),
@@ -97,7 +97,7 @@ fn minute(offset: u64) -> Option<i32> {
 }
 
 /// The offset number of a minute. The minute −2³¹ has no number of its own, since these four bytes are blank.
-fn offset(minute: Option<i32>) -> u64 {
+pub(crate) fn offset(minute: Option<i32>) -> u64 {
     match minute {
         None => 0,
         Some(value) => (value as i64 + OFFSET) as u64,

@@ -1,8 +1,8 @@
 //! The span engine and its checker, release 4.2, for Rust programs.
 //!
 //! A clinic sends a problem as bytes (document 01, "Records"). [`solve`] answers it; [`check`] judges an answer from
-//! any engine and trusts none. [`read`] and [`write`] turn an answer record into its fields and back. [`first_open`] looks
-//! up a ward's opening hours.
+//! any engine and trusts none. [`read`] and [`write`] turn an answer record into its fields and back; [`read_hours`] and
+//! [`write_hours`] turn spans and stamps into hours and minutes and back. [`first_open`] looks up a ward's opening hours.
 //!
 //! What these functions return is proved of the code behind them, which the archive `libcapi.a` holds; this thin layer
 //! and the compiler that builds it are not part of the proofs.
@@ -14,13 +14,22 @@
 //! assert_eq!(solved.to_string(), "least 3");
 //! let judged = span::check(&problem, &answer[..solved.size]).unwrap();
 //! assert_eq!(judged.to_string(), "accepted least 3");
+//!
+//! let mut text = [0; span::TEXT_SIZE];
+//! let size = span::write_hours(Some(425), &mut text).unwrap();
+//! assert_eq!(&text[..size], b"7:05");
+//! assert_eq!(span::read_hours(b"-0:05"), Ok(Some(-5)));
+//! assert_eq!(span::read_hours(b"--"), Ok(None));
+//! assert_eq!(span::read_hours(b"7:60").unwrap_err().number, 18);
 //! ```
 
 mod calls;
+mod hours;
 mod opening;
 pub mod raw;
 mod words;
 
 pub use calls::{check, read, solve, write, ANSWER_SIZE, PROBLEM_SIZE};
+pub use hours::{read_hours, write_hours, TEXT_SIZE};
 pub use opening::{first_open, Window};
 pub use words::{Answer, Certified, Class, Outcome, Refusal, Solved};

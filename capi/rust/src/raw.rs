@@ -35,6 +35,8 @@ mod archive {
             buffer_size: usize,
         ) -> u64;
         pub fn span_first_open(week: *const u64, week_count: usize, minute: u64) -> u64;
+        pub fn span_hours_read(text: *const u8, text_size: usize) -> u64;
+        pub fn span_hours_write(value: u64, buffer: *mut u8, buffer_size: usize) -> u64;
     }
 }
 
@@ -91,4 +93,16 @@ pub fn write(class: u64, span: u64, stamps: &[u64], picks: &[u64], n: u64, m: u6
 pub fn first_open(week: &[u64], minute: u64) -> u64 {
     // SAFETY: the list is valid for its length and is only read.
     unsafe { archive::span_first_open(week.as_ptr(), week.len(), minute) }
+}
+
+/// Reads a text of hours and minutes: the refusal, or 2³² × the value's offset number.
+pub fn hours_read(text: &[u8]) -> u64 {
+    // SAFETY: the part is valid for its length and is only read.
+    unsafe { archive::span_hours_read(text.as_ptr(), text.len()) }
+}
+
+/// Writes the text of a value, an offset number: the refusal, or 256 × the text's size.
+pub fn hours_write(value: u64, buffer: &mut [u8]) -> u64 {
+    // SAFETY: the part is valid for its length, and a `&mut` overlaps nothing.
+    unsafe { archive::span_hours_write(value, buffer.as_mut_ptr(), buffer.len()) }
 }

@@ -99,7 +99,7 @@ impl fmt::Display for Certified {
 /// A refusal of document 01, "What is turned away", or of document 02.
 #[derive(Clone, Copy, Debug, PartialEq, Eq)]
 pub struct Refusal {
-    /// Its number, 1 to 14 or 19.
+    /// Its number, 1 to 14, 18 or 19.
     pub number: u8,
 }
 
@@ -121,6 +121,10 @@ impl Refusal {
             12 => "Its span or a stamp is outside the form of its class.",
             13 => "A pick is above its highest value.",
             14 => "The form is right and the answer is not accepted: not certified.",
+            18 => {
+                "The text is not of this form, a value read or to be written is beyond ±6,000,000, or the writer's \
+                 buffer is shorter than 10 bytes."
+            }
             19 => "More than 14 windows, a closing not after its opening, an opening or closing outside its range, a window that starts before the last one closes, or a minute to be looked up beyond ±6,000,000.",
             _ => "No refusal of documents 01 and 02.",
         }

@@ -1,3 +1,4 @@
 pub mod Small
 pub mod Lent
 pub mod FirstOpen
+pub mod Hours

@@ -2,3 +2,4 @@
 pub mod calls;
 pub mod fields;
 pub mod opening;
+pub mod sheet;

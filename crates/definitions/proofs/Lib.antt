@@ -13,5 +13,7 @@ pub mod Examples
 pub mod Cycles
 pub mod Edges
 pub mod Programs
+pub mod Decimals
+pub mod Hours
 pub mod Inputs
 pub mod Week

@@ -10,6 +10,7 @@ pub mod Bisection
 pub mod Verdict
 pub mod Solved
 pub mod Programs
+pub mod Hours
 pub mod Demands
 pub mod Examples
 pub mod Week

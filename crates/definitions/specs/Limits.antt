@@ -1,5 +1,5 @@
 -- The numbers of documents 01 and 02, each once; those that follow from others are derived. (Refusals have their numbers where
--- they are listed, in ProblemRecord, AnswerRecord, Solved, Verdict and Week, and the two outer trials are counted in Bisection.)
+-- they are listed, in ProblemRecord, AnswerRecord, Solved, Verdict, Hours and Week, and the two outer trials are counted in Bisection.)
 use Prim.Native.Nat.{ℕ, suc, _+_, _*_}
 use lib.IntN.{ℤ, pos, negsuc}
 
@@ -101,6 +101,18 @@ answer-most = answer-header + (signed-bytes + short-bytes) * suc highest-n
 -- How many bytes of their input the programs keep.
 abbrev pub kept-bytes : ℕ
 kept-bytes = 20000
+
+-- Document 02, 2.7: a span or stamp has a text if it is blank or within this of 0, ±6,000,000.
+abbrev pub text-limit : ℕ
+text-limit = 6000000
+
+-- The writer's buffer has at least this many bytes, 10.
+abbrev pub text-most : ℕ
+text-most = 10
+
+-- Minutes on the sheet are below this, the minutes of an hour, 60.
+abbrev pub hour-minutes : ℕ
+hour-minutes = 60
 
 -- Document 02, 2.8: the minutes of a week (closing minutes go to 10,080) and the most windows of a week list.
 abbrev pub week-minutes : ℕ

@@ -12,6 +12,7 @@ use crate::engine_runs;
 use crate::problem_runs;
 use crate::round_trips;
 use crate::script::byte_at;
+use crate::sheet_runs;
 use crate::writer_runs;
 use crate::writer_runs::Fields;
 use crate::writer_runs::LONGEST;
@@ -68,6 +69,7 @@ fn on_fields(line: &[u8], f: Fields, stamps: &[u64], picks: &[u64]) {
     match byte_at(line, 0) {
         b'w' => writer_runs::run(line, f, stamps, picks),
         b't' => round_trips::run_written(line, f, stamps, picks),
+        b'v' => sheet_runs::run_write(line, f.span, f.room),
         _ => round_trips::run_bytes(line, f, stamps, picks),
     }
 }
@@ -99,6 +101,8 @@ fn run_line(line: &[u8]) {
         b'w' => with_fields(line),
         b't' => with_fields(line),
         b'b' => with_fields(line),
+        b'v' => with_fields(line),
+        b'h' => sheet_runs::run_read(line),
         _ => with_record(line),
     }
 }

@@ -1,4 +1,4 @@
-// Document 01's edges and examples, run through the libraries. The cases are the lines of standard input, and what came of
+// The edges and examples of documents 01 and 02, run through the libraries. The cases are the lines of standard input, and what came of
 // each is a line, held to the stored output.
 mod answer_runs;
 mod build;
@@ -11,6 +11,7 @@ mod print;
 mod problem_runs;
 mod round_trips;
 mod script;
+mod sheet_runs;
 mod verdicts;
 mod writer_runs;
 

@@ -26,7 +26,7 @@ pub struct Fields {
     pub pick_count: usize,
     pub n: usize,
     pub m: usize,
-    room: usize,
+    pub room: usize,
     at: usize,
 }
 

@@ -4,6 +4,7 @@ pub mod bytes;
 pub mod checker;
 pub mod examples;
 pub mod fields;
+pub mod hours;
 pub mod opening;
 pub mod pipes;
 pub mod small;

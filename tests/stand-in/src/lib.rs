@@ -4,6 +4,8 @@
 
 #[path = "../../../capi/rust/src/calls.rs"]
 mod calls;
+#[path = "../../../capi/rust/src/hours.rs"]
+mod hours;
 #[path = "../../../capi/rust/src/opening.rs"]
 mod opening;
 pub mod raw;
@@ -11,5 +13,6 @@ pub mod raw;
 mod words;
 
 pub use calls::{check, read, solve, write, ANSWER_SIZE, PROBLEM_SIZE};
+pub use hours::{read_hours, write_hours, TEXT_SIZE};
 pub use opening::{first_open, Window};
 pub use words::{Answer, Certified, Class, Outcome, Refusal, Solved};
