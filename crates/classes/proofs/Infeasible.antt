@@ -46,8 +46,8 @@ none-form n m stamps out h l f = (
 pub infeasible-settled : (f : Frame) (left right right′ : List ℕ) (s : Search) (out stamps : List ℕ) → Ready f left right
     → Searched f left right s → s .blocked ≡ top-offset
     → Raised right (f .objective) (f .m) zero-offset 32 right′ → VariablePicks right′ (s .blocking) (f .n + 1) (f .m + 1) out
-    → Settled f left right (record { class = 3; span = 0; trials = 1; made = s .made; stamps = stamps; picks = out })
-infeasible-settled f left right right′ s out stamps y z e r v = record { answers = answers; made-most = z .numbers .made-most }
+    → Settled f left right s (record { class = 3; span = 0; trials = 1; made = s .made; stamps = stamps; picks = out })
+infeasible-settled f left right right′ s out stamps y z e r v = record { answers = answers; made-up = omega arith; made-most = z .numbers .made-most }
   where
     n : ℕ
     n = f .n

@@ -36,6 +36,7 @@ use Rattle.trials.specs.Tables.{pointOf, pickOf}
 use Rattle.frames.specs.declared.frame.Frame.{Frame}
 use Rattle.frames.specs.Frames.{wholeOf, zero-offset, Raised, Holds, Ready}
 use Rattle.frames.proofs.Raising.{raised-held, holds-within}
+use Rattle.search.specs.declared.state.Search.{Search}
 use Rattle.search.specs.declared.halving.Least.{Least}
 use Rattle.search.specs.State.{PointAt}
 use Rattle.search.specs.Halving.{LeastFound}
@@ -79,12 +80,12 @@ moved-within p t point k f =
     (subst (λ (z : Trop). blank-or-within stamp-limit (difference (pointOf point k) z) ≡ true) (trop-fin (getD point 0 0) (f .finite)) (f .stamps k))
 
 -- The halving ended: least.
-pub optimal-settled : (f : Frame) (left before right right′ : List ℕ) (least : Least) (out stamps : List ℕ) → LeastFound f left before right least
+pub optimal-settled : (f : Frame) (left before right right′ : List ℕ) (s : Search) (least : Least) (out stamps : List ℕ) → LeastFound f left before right s least
     → Raised right (f .objective) (f .m) zero-offset 32 right′ → VariablePicks right′ (least .blocking) (f .n + 1) (f .m + 1) out
     → Stamps (least .point) (f .n + 1) stamps
-    → Settled f left right (record { class = 1; span = least .span; trials = least .trials; made = least .made; stamps = stamps; picks = out })
+    → Settled f left right s (record { class = 1; span = least .span; trials = least .trials; made = least .made; stamps = stamps; picks = out })
 unfolding is-zero Verdict.pointOf
-optimal-settled f left before right right′ l out stamps g r v d = record { answers = answers; made-most = g .made-most }
+optimal-settled f left before right right′ s l out stamps g r v d = record { answers = answers; made-up = g .made-up; made-most = g .made-most }
   where
     n : ℕ
     n = f .n

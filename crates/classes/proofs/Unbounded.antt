@@ -82,8 +82,8 @@ pub unbounded-settled : (f : Frame) (left right lowered : List ℕ) (s : Search)
     → Searched f left right s → s .reached ≤ s .floor → s .reached ≤ top-offset
     → Raised right (f .objective) (f .m) (s .reached) 32 lowered → InducedRows lowered (s .point) (f .n + 1) (f .m + 1) rows
     → RowPicks left rows (f .n + 1) (f .m + 1) out
-    → Settled f left right (record { class = 2; span = 0; trials = 2; made = s .made; stamps = stamps; picks = out })
-unbounded-settled f left right lowered s rows out stamps y z low top r d v = record { answers = answers; made-most = z .numbers .made-most }
+    → Settled f left right s (record { class = 2; span = 0; trials = 2; made = s .made; stamps = stamps; picks = out })
+unbounded-settled f left right lowered s rows out stamps y z low top r d v = record { answers = answers; made-up = omega arith; made-most = z .numbers .made-most }
   where
     n : ℕ
     n = f .n

@@ -1,5 +1,5 @@
 -- The engine's answer, on tables.
-use Prim.Native.Nat.{ℕ, _≤_}
+use Prim.Native.Nat.{ℕ, _≤_, _<_}
 use mathlib.Core.Path.{_≡_}
 use mathlib.Core.List.{List, map}
 use lib.ListN.{getD, take}
@@ -13,6 +13,7 @@ use Rattle.records.specs.Decoded.{Decoded}
 use Rattle.trials.specs.Filled.{Filled}
 use Rattle.frames.specs.declared.frame.Frame.{Frame}
 use Rattle.frames.specs.Frames.{Holds}
+use Rattle.search.specs.declared.state.Search.{Search}
 use Rattle.classes.specs.declared.answer.Answer as Tables
 
 -- Stamps: each value less that of variable 0.
@@ -28,10 +29,18 @@ answerIn n m class span stamps picks = record {
   picks = take (pickCount class n m) picks;
 }
 
--- An answer of the problem that stands in the tables and the frame; the trials made are few.
-pub record Settled (f : Frame) (left right : List ℕ) (a : Tables.Answer) : Type 0 where
+-- An answer of the problem that stands in the tables and the frame, by at least one trial and few.
+pub record AnswerOf (f : Frame) (left right : List ℕ) (a : Tables.Answer) : Type 0 where
   pub answers : (p : Problem) → Holds p f left right
       → Answers p (a .class) (tropOf (a .span)) (a .trials) (answerIn (f .n) (f .m) (a .class) (a .span) (a .stamps) (a .picks))
+  pub made-some : 0 < a .made
+  pub made-most : a .made ≤ most-trials
+
+-- An answer that goes on from a search: no trial of it is forgotten.
+pub record Settled (f : Frame) (left right : List ℕ) (s : Search) (a : Tables.Answer) : Type 0 where
+  pub answers : (p : Problem) → Holds p f left right
+      → Answers p (a .class) (tropOf (a .span)) (a .trials) (answerIn (f .n) (f .m) (a .class) (a .span) (a .stamps) (a .picks))
+  pub made-up : s .made ≤ a .made
   pub made-most : a .made ≤ most-trials
 
 -- An answer of the problem in the tables.

@@ -7,7 +7,7 @@ use lib.Dec.{ltb}
 use native.Mathlib.Omega.{arith}
 use lib.ListN.{length, getD, take, length-take, length-map}
 use borrow.Author.Tests.{le-ltb, lt-ltb}
-use Rattle.definitions.specs.Limits.{answer-most, highest-n, highest-m}
+use Rattle.definitions.specs.Limits.{answer-most, highest-n, highest-m, most-trials}
 use Rattle.definitions.specs.Bytes.{Bytes, or-else}
 use Rattle.definitions.specs.Offset.{tropOf}
 use Rattle.definitions.specs.Problem.{Problem}
@@ -33,7 +33,7 @@ use Rattle.engine.specs.declared.solve.Solved.the-variants as Results′
 use Rattle.classes.specs.Answered.{answerIn}
 use Rattle.frames.specs.Frames.{Coefficients}
 use Rattle.classes.specs.Answered as Tables
-use Rattle.engine.specs.Outcome.{solvedOf, FoundFor, WroteFor}
+use Rattle.engine.specs.Outcome.{solvedOf, FoundFor, WroteFor, TrialsMade}
 
 -- ---- writing what was found
 
@@ -141,6 +141,15 @@ read-problem {p} b r f =
       m-is = sym (h .2);
       decoded = rw (r .left-read (h .0), r .right-read (h .0)) (problem-decoded p b (h .0));
     }
+
+-- The trials made for a problem that is refused, and for one that is not.
+pub none-made : {p : List ℕ} {header : Header} {k : ℕ} → header ≡ headerBy (problemRefusal p) (nField p) (mField p) → header ≡ Headers.Refused k → TrialsMade p 0
+none-made {p} e f =
+    let h = answer-refused (problemRefusal p) (nField p) (mField p) e f in
+    record { refused = λ _. refl; some = λ w. absurd (omega (arith, h .0, h .1, w)); most = omega arith }
+
+pub some-made : {p : List ℕ} {n m r : ℕ} {left right : List ℕ} → Read p n m left right → 0 < r → r ≤ most-trials → TrialsMade p r
+some-made a h k = record { refused = λ z. absurd (omega (arith, a .none)); some = λ _. h; most = k }
 
 pub read-tables : {p : List ℕ} {n m : ℕ} {left right : List ℕ} → Read p n m left right → Coefficients n m left right
 read-tables r =

@@ -1,9 +1,10 @@
 -- What the engine answers on bytes, in the words of the definitions.
-use Prim.Native.Nat.{ℕ, _≤_}
+use Prim.Native.Nat.{ℕ, _≤_, _<_}
 use mathlib.Core.Path.{_≡_}
 use mathlib.Core.List.{List}
 use lib.ListN.{length}
-use Rattle.definitions.specs.Limits.{highest-n, highest-m}
+use Rattle.definitions.specs.Limits.{highest-n, highest-m, most-trials}
+use Rattle.definitions.specs.ProblemRecord.{problemRefusal, WithinLayout}
 use Rattle.definitions.specs.Offset.{tropOf}
 use Rattle.definitions.specs.AnswerRecord.{stampCount, pickCount, answerSize, answerBytes, writerRefusal, written}
 use Rattle.definitions.specs.Solved as Results
@@ -28,3 +29,9 @@ pub record FoundFor (n m room class span : ℕ) (stamps picks : List ℕ) : Type
 pub record WroteFor (n m class span trials : ℕ) (stamps picks : List ℕ) (r : Solved) (before after : List ℕ) : Type 0 where
   pub result-is : r ≡ Answered class span trials (answerSize class n m)
   pub buffer-is : after ≡ written before (answerBytes n (answerIn n m class span stamps picks))
+
+-- The trials made for the problem in the bytes: none where it is refused, else at least one and few.
+pub record TrialsMade (p : List ℕ) (r : ℕ) : Type 0 where
+  pub refused : 0 < problemRefusal p → r ≡ 0
+  pub some : WithinLayout p → 0 < r
+  pub most : r ≤ most-trials

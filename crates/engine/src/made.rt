@@ -1,13 +1,12 @@
 // How many trials the engine makes, for whoever tests it: the result of `solve` carries document 01's count, by its definition.
-ghost use Prim.Native.Nat.{_≤_};
-ghost use Rattle.definitions.specs.Limits.{most-trials};
+ghost use Rattle.engine.specs.Outcome.{TrialsMade};
 use classes::answer::solve_tables;
 use leads::reader::read_problem;
 use records::problem::Header;
 
 // The trials made for the problem in the bytes, 0 where it is refused.
 pub fn trials_made(problem: &[u8]) -> u64
-    ensures { λ r. ⌜ r ≤ most-trials ⌝ }
+    ensures { λ r. ⌜ TrialsMade (now (problem .entry)) r ⌝ }
 {
     let mut left = [0u32; 2048];
     let mut right = [0u32; 2048];

@@ -92,7 +92,7 @@ pub record FrameOf (n m : ℕ) (left right : List ℕ) (f : Frame) : Type 0 wher
   pub copied : Copied right m 32 (f .objective)
   pub ready : Ready f left right
 
--- What a call leaves of the right table: it is ready again, and differs from before in the objective's row alone.
+-- What a call leaves of the right table: it is ready again, and agrees with before in every row above the objective's.
 pub record Reraised (f : Frame) (left before after : List ℕ) : Type 0 where
   pub ready : Ready f left after
   pub steady : Steady (f .m) before after

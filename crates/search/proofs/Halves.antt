@@ -191,10 +191,10 @@ module _ (s : Search) (low high trials low′ high′ half : ℕ) (w : low + 1 <
   bracket-falls false g = let n = impossible-numbers low high low′ high′ g in omega arith
 
 -- A bracket of width 1: high is the least span, and the trials counted are those of the bisection.
-pub bracketed-end : (f : Frame) (left before after : List ℕ) (s : Search) (low high trials : ℕ) → Reraised f left before after → Searched f left after s
+pub bracketed-end : (f : Frame) (left before after : List ℕ) (s₀ s : Search) (low high trials : ℕ) → Reraised f left before after → s₀ .made ≤ s .made → Searched f left after s
     → Bracketed s low high trials → high - low ≡ 1
-    → LeastFound f left before after (record { span = high; trials = trials; made = s .made; point = s .point; blocking = s .blocking })
-bracketed-end f left before after s low high trials r z b e = record {
+    → LeastFound f left before after s₀ (record { span = high; trials = trials; made = s .made; point = s .point; blocking = s .blocking })
+bracketed-end f left before after s₀ s low high trials r u₀ z b e = record {
   raised = r;
   least = λ p q. record {
     possible = subst (λ (t : ℕ). PointAt p t (s .point)) u (z .known p q .possible (omega (arith, b .high-least, b .highest)));
@@ -202,6 +202,7 @@ bracketed-end f left before after s low high trials r z b e = record {
   };
   span-trialled = record { lowest = omega (arith, b .lowest); highest = omega (arith, b .highest) };
   count = count;
+  made-up = u₀;
   made-most = z .numbers .made-most;
   ranged = z .numbers .ranged;
   anchored = z .numbers .anchored;

@@ -33,7 +33,7 @@ use Rattle.guesses.specs.Guess.{Stamped}
 use Rattle.guesses.proofs.Stamping.{stamped-lows}
 use Rattle.frames.proofs.Raising.{agree-raised, raised-reraised, holds-before, holds-after, holds-within, reraised-refl, reraised-trans}
 use Rattle.search.specs.declared.state.Search.{Search}
-use Rattle.search.specs.State.{PointAt, Known, Budgeted, Searched, Affordable, reachedAt, blockedAt, MovedTo, TrialMade, Opened, Advanced, floorAt}
+use Rattle.search.specs.State.{PointAt, Known, Budgeted, Searched, Affordable, reachedAt, blockedAt, MovedTo, TrialMade, Opened, Advanced, Fallen, Stepped, floorAt}
 use Rattle.search.proofs.Trials.{kept-none, kept-down, trial-found, trial-ranged, trial-anchored, tried-blocks, tried-point}
 use Rattle.search.proofs.Budget.{room-after, inside-trialled}
 
@@ -122,6 +122,7 @@ module _ (f : Frame) (t : ℕ) (left right right′ x picks : List ℕ) (s : Sea
       };
     };
     counted = refl;
+    halved = refl;
     floor-same = refl;
     moved = inl (refl, refl);
   }
@@ -153,6 +154,7 @@ module _ (f : Frame) (t : ℕ) (left right right′ x picks : List ℕ) (s : Sea
       };
     };
     counted = refl;
+    halved = refl;
     floor-same = refl;
     moved = inr (refl, refl);
   }
@@ -171,7 +173,7 @@ pub searched-after : {f : Frame} {left right right′ : List ℕ} {s : Search} �
 searched-after r z = record { numbers = z .numbers; known = λ p q. z .known p (holds-before r q) }
 
 pub advanced-none : {f : Frame} {left right right′ : List ℕ} {s : Search} → Reraised f left right right′ → Searched f left right s → Advanced f left right right′ s s
-advanced-none r z = record { raised = r; searched = searched-after r z; floor-same = refl; reached-down = omega arith; blocked-up = omega arith }
+advanced-none r z = record { raised = r; searched = searched-after r z; floor-same = refl; reached-down = omega arith; blocked-up = omega arith; made-up = omega arith }
 
 pub advanced-trans : {f : Frame} {left a b c : List ℕ} {s r u : Search} → Advanced f left a b s r → Advanced f left b c r u → Advanced f left a c s u
 advanced-trans h k = record {
@@ -180,15 +182,36 @@ advanced-trans h k = record {
   floor-same = k .floor-same ∙ h .floor-same;
   reached-down = omega (arith, h .reached-down, k .reached-down);
   blocked-up = omega (arith, h .blocked-up, k .blocked-up);
+  made-up = omega (arith, h .made-up, k .made-up);
 }
 
+-- Without a trial.
+pub fallen-none : {f : Frame} {left right right′ : List ℕ} {s : Search} → Reraised f left right right′ → Searched f left right s → Fallen f left right right′ s s
+fallen-none r z = record { advanced = advanced-none r z; blocked-same = refl; made-same = refl; room-same = refl }
+
 -- One trial, seen from afar.
-pub advanced-trial : {f : Frame} {left before after : List ℕ} {s r : Search} {t : ℕ} → s .blocked < t → t < s .reached → TrialMade f left before after s t r
+trial-advanced : {f : Frame} {left before after : List ℕ} {s r : Search} {t : ℕ} → s .blocked < t → t < s .reached → TrialMade f left before after s t r
     → Advanced f left before after s r × (r .reached - r .blocked < s .reached - s .blocked)
-advanced-trial l h m = ⊎-elim
-    (λ w. (record { raised = m .raised; searched = m .searched; floor-same = m .floor-same; reached-down = omega (arith, w .0); blocked-up = omega (arith, w .1) }, omega (arith, w .0, w .1)))
-    (λ w. (record { raised = m .raised; searched = m .searched; floor-same = m .floor-same; reached-down = omega (arith, w .0); blocked-up = omega (arith, w .1) }, omega (arith, w .0, w .1)))
+trial-advanced l h m = ⊎-elim
+    (λ w. (record { raised = m .raised; searched = m .searched; floor-same = m .floor-same; reached-down = omega (arith, w .0); blocked-up = omega (arith, w .1); made-up = omega (arith, m .counted) }, omega (arith, w .0, w .1)))
+    (λ w. (record { raised = m .raised; searched = m .searched; floor-same = m .floor-same; reached-down = omega (arith, w .0); blocked-up = omega (arith, w .1); made-up = omega (arith, m .counted) }, omega (arith, w .0, w .1)))
     (m .moved)
+
+-- A step that ends where `reached` fell to just above what is blocked.
+pub stepped-fallen : {f : Frame} {left before after : List ℕ} {s r : Search} → Fallen f left before after s r → s .blocked + 1 < s .reached → r .reached ≤ r .blocked + 1
+    → Stepped f left before after s r
+stepped-fallen h w k = record { advanced = h .advanced; less = omega (arith, h .blocked-same); one = inl (h .made-same, h .room-same) }
+
+-- A step with a trial.
+pub stepped-trial : {f : Frame} {left a b c : List ℕ} {s r u : Search} {t : ℕ} → Fallen f left a b s r → r .blocked < t → t < r .reached → TrialMade f left b c r t u
+    → Stepped f left a c s u
+stepped-trial h l k m =
+    let g = trial-advanced l k m in
+    record {
+      advanced = advanced-trans (h .advanced) (g .0);
+      less = omega (arith, g .1, h .advanced .reached-down, h .blocked-same);
+      one = inr (omega (arith, m .counted, h .made-same), m .halved ∙ ap (λ (i : ℕ). i / 2) (h .room-same));
+    }
 
 -- ---- the point of a guess
 
@@ -229,7 +252,7 @@ shown-point f t left right right′ x y b r s h v p q′ =
 -- `reached` falls to a span that a point shows.
 pub fallen-to : {f : Frame} {left before after : List ℕ} (s : Search) (t : ℕ) (x : List ℕ) → Reraised f left before after → Searched f left before s
     → s .blocked < t → t < s .reached → Ranged x → getD x 0 0 ≤ zero-offset → ((p : Problem) → Holds p f left after → PointAt p t x)
-    → Advanced f left before after s (record {
+    → Fallen f left before after s (record {
       reached = t;
       blocked = s .blocked;
       floor = s .floor;
@@ -240,32 +263,38 @@ pub fallen-to : {f : Frame} {left before after : List ℕ} (s : Search) (t : ℕ
       blocking = s .blocking;
     })
 fallen-to s t x r z l h g a v = record {
-  raised = r;
-  searched = record {
-    numbers = record {
-      lowest = z .numbers .lowest;
-      low = z .numbers .low;
-      apart = l;
-      high = omega (arith, z .numbers .high);
-      made-most = z .numbers .made-most;
-      room-is = z .numbers .room-is;
-      room-most = z .numbers .room-most;
-      enough = omega (arith, z .numbers .enough);
-      ranged = g;
-      anchored = a;
-      kept-size = z .numbers .kept-size;
-      blocking-size = z .numbers .blocking-size;
+  advanced = record {
+    raised = r;
+    searched = record {
+      numbers = record {
+        lowest = z .numbers .lowest;
+        low = z .numbers .low;
+        apart = l;
+        high = omega (arith, z .numbers .high);
+        made-most = z .numbers .made-most;
+        room-is = z .numbers .room-is;
+        room-most = z .numbers .room-most;
+        enough = omega (arith, z .numbers .enough);
+        ranged = g;
+        anchored = a;
+        kept-size = z .numbers .kept-size;
+        blocking-size = z .numbers .blocking-size;
+      };
+      known = λ p q. let k = z .known p (holds-before r q) in record {
+        possible = λ _. v p q;
+        impossible = k .impossible;
+        kept = λ u b. k .kept u (omega arith);
+        floored = k .floored;
+      };
     };
-    known = λ p q. let k = z .known p (holds-before r q) in record {
-      possible = λ _. v p q;
-      impossible = k .impossible;
-      kept = λ u b. k .kept u (omega arith);
-      floored = k .floored;
-    };
+    floor-same = refl;
+    reached-down = omega arith;
+    blocked-up = omega arith;
+    made-up = omega arith;
   };
-  floor-same = refl;
-  reached-down = omega arith;
-  blocked-up = omega arith;
+  blocked-same = refl;
+  made-same = refl;
+  room-same = refl;
 }
 
 -- ---- another floor

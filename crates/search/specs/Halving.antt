@@ -43,12 +43,14 @@ pub record LeastOf (p : Problem) (r : Least) : Type 0 where
   pub possible : PointAt p (r .span) (r .point)
   pub impossible : Blocks (systemAt p (wholeOf (r .span - 1))) Anchor (pickOf (r .blocking))
 
--- The same of the problem in the tables, and its numbers: the trials are those of the bisection, and few were made.
-pub record LeastFound (f : Frame) (left before after : List ℕ) (r : Least) : Type 0 where
+-- The same of the problem in the tables, and its numbers: the trials are those of the bisection; no trial of the search that it
+-- started from is forgotten, and few were made.
+pub record LeastFound (f : Frame) (left before after : List ℕ) (s : Search) (r : Least) : Type 0 where
   pub raised : Reraised f left before after
   pub least : (p : Problem) → Holds p f left after → LeastOf p r
   pub span-trialled : Trialled (r .span)
   pub count : trials-optimal (wholeOf (r .span)) ≡ r .trials
+  pub made-up : s .made ≤ r .made
   pub made-most : r .made ≤ most-trials
   pub ranged : Ranged (r .point)
   pub anchored : getD (r .point) 0 0 ≤ zero-offset

@@ -109,6 +109,7 @@ pub record TrialMade (f : Frame) (left before after : List ℕ) (s : Search) (t 
   pub raised : Reraised f left before after
   pub searched : Searched f left after r
   pub counted : r .made ≡ s .made + 1
+  pub halved : r .room ≡ s .room / 2
   pub floor-same : r .floor ≡ s .floor
   pub moved : ((r .reached ≡ t) × (r .blocked ≡ s .blocked)) ⊎ ((r .reached ≡ s .reached) × (r .blocked ≡ t))
 
@@ -124,13 +125,27 @@ pub record Opened (rows : ℕ) (s : Search) : Type 0 where
 
 -- ---- on the way
 
--- Some trials later: less is unknown, and what was possible or bottomless still is known to be.
+-- Some trials later: less is unknown, and no trial that was counted is forgotten.
 pub record Advanced (f : Frame) (left before after : List ℕ) (s r : Search) : Type 0 where
   pub raised : Reraised f left before after
   pub searched : Searched f left after r
   pub floor-same : r .floor ≡ s .floor
   pub reached-down : r .reached ≤ s .reached
   pub blocked-up : s .blocked ≤ r .blocked
+  pub made-up : s .made ≤ r .made
+
+-- `reached` fell, or stayed, without a trial: nothing else of the budget moved.
+pub record Fallen (f : Frame) (left before after : List ℕ) (s r : Search) : Type 0 where
+  pub advanced : Advanced f left before after s r
+  pub blocked-same : r .blocked ≡ s .blocked
+  pub made-same : r .made ≡ s .made
+  pub room-same : r .room ≡ s .room
+
+-- One step: less is unknown, and at most one trial more was made, after which what is unknown was paid for.
+pub record Stepped (f : Frame) (left before after : List ℕ) (s r : Search) : Type 0 where
+  pub advanced : Advanced f left before after s r
+  pub less : r .reached - r .blocked < s .reached - s .blocked
+  pub one : ((r .made ≡ s .made) × (r .room ≡ s .room)) ⊎ ((r .made ≡ s .made + 1) × (r .room ≡ s .room / 2))
 
 -- What is not known.
 abbrev pub unknown : Search → ℕ

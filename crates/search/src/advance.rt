@@ -4,7 +4,7 @@ ghost use mathlib.Core.Path.{_≡_};
 ghost use Prim.Native.Nat.{_+_, _<_, _≤_};
 ghost use Rattle.frames.specs.Frames.{top-offset, Ready, Trialled};
 ghost use Rattle.guesses.specs.Guess.{Guessed};
-ghost use Rattle.search.specs.State.{Searched, Budgeted, Affordable, Shows, Advanced, unknown, floorAt, SettledIs, SettledAt};
+ghost use Rattle.search.specs.State.{Searched, Budgeted, Affordable, Shows, Advanced, Fallen, Stepped, floorAt, SettledIs, SettledAt};
 use crate::state::Search;
 use crate::state::try_at;
 use frames::frame::Frame;
@@ -91,7 +91,7 @@ fn fallen(
     found: Guess,
 ) -> Search
     requires { ⌜ Ready frame (now left) (now right) × Searched frame (now left) (now right) search × (search .reached ≤ top-offset) × Guessed (frame .n + 1) found ⌝ }
-    ensures { λ r. ⌜ Advanced frame (now (left .entry)) (now (right .entry)) (now (right .exit)) search r ⌝ }
+    ensures { λ r. ⌜ Fallen frame (now (left .entry)) (now (right .entry)) (now (right .exit)) search r ⌝ }
 {
     let span = found.span;
     if span <= search.blocked {
@@ -114,7 +114,7 @@ fn fallen(
 // One step: a guess, and the trial next to it where something is still unknown.
 fn advance(left: &[u32; 2048], right: &mut [u32; 2048], frame: Frame, search: Search) -> Search
     requires { ⌜ Ready frame (now left) (now right) × Searched frame (now left) (now right) search × (search .reached ≤ top-offset) × (search .blocked + 1 < search .reached) ⌝ }
-    ensures { λ r. ⌜ Advanced frame (now (left .entry)) (now (right .entry)) (now (right .exit)) search r × (unknown r < unknown search) ⌝ }
+    ensures { λ r. ⌜ Stepped frame (now (left .entry)) (now (right .entry)) (now (right .exit)) search r ⌝ }
 {
     let point = search.point;
     let found = guess_at(left, right, frame, &point);

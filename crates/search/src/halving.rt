@@ -23,7 +23,7 @@ pub struct Least {
 // trials are made until it is. Public for `classes::answer`.
 pub fn halve(left: &[u32; 2048], right: &mut [u32; 2048], frame: Frame, start: Search) -> Least
     requires { ⌜ Ready frame (now left) (now right) × Searched frame (now left) (now right) start × (start .reached ≤ top-offset) × (start .floor ≤ start .blocked) ⌝ }
-    ensures { λ r. ⌜ LeastFound frame (now (left .entry)) (now (right .entry)) (now (right .exit)) r ⌝ }
+    ensures { λ r. ⌜ LeastFound frame (now (left .entry)) (now (right .entry)) (now (right .exit)) start r ⌝ }
 {
     let mut search = start;
     let mut bracket = Bracket {

@@ -38,7 +38,7 @@ pub struct Search {
 
 // Nothing is known, and no trial made: the first starts from the strategy without picks. Public for `classes::answer`.
 pub fn opened(rows: usize) -> Search
-    requires { ⌜ rows ≤ 64 ⌝ }
+    requires { ⌜ (0 < rows) × (rows ≤ 64) ⌝ }
     ensures { λ r. ⌜ Opened rows r ⌝ }
 {
     Search {

@@ -37,7 +37,7 @@ stamps-requires c κs = search needs
 -- src/answer.rt:95:1
 returns : tie.Need-returns
 returns c = let start = c .before .before .before .before .before .before .before .before .before .before .before .before .before .before .before in let a = start .args in let h = c .before .before .before .before .before .before .before .before .before .before .before .before .before .halve in let r = c .before .before .before .before .before .before .before .raise in
-    settled-before (h .ensures .raised) (optimal-settled (a .frame) (a .left .now) (a .right .now) (h .last .1 .0) (r .last .0) (h .result) (c .before .before .variable-picks .result) (c .stamps .result) (h .ensures) (r .ensures) (c .before .before .variable-picks .ensures) (c .stamps .ensures))
+    settled-before (h .ensures .raised) (optimal-settled (a .frame) (a .left .now) (a .right .now) (h .last .1 .0) (r .last .0) (a .search) (h .result) (c .before .before .variable-picks .result) (c .stamps .result) (h .ensures) (r .ensures) (c .before .before .variable-picks .ensures) (c .stamps .ensures))
 
 pub optimal-spec : {M : Type 1} → statement M
 optimal-spec =

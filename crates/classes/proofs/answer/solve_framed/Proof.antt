@@ -1,5 +1,6 @@
+use Rattle.search.specs.declared.state.Search.{Search}
 use Rattle.classes.proofs.Settling.{floor-settles, Started, floor-reached, floor-blocked}
-use Rattle.classes.proofs.Final.{settled-before}
+use Rattle.classes.proofs.Final.{settled-by}
 use Rattle.search.proofs.Moves.{top-affordable, top-reached, searched-after, floor-searched}
 use Rattle.frames.proofs.Raising.{reraised-trans}
 use mathlib.Core.Path.{refl, sym, ap}
@@ -37,7 +38,7 @@ infeasible-requires c κs = let t = c .before .before .before .try-at .ensures i
 
 -- src/answer.rt:126:9
 returns : tie.Need-returns
-returns c = settled-before (c .before .before .before .before .try-at .ensures .raised) (c .infeasible .ensures)
+returns c = settled-by (omega (arith, c .before .before .before .before .try-at .ensures .counted)) (c .before .before .before .before .try-at .ensures .raised) (c .infeasible .ensures)
 
 -- src/answer.rt:128:9
 floor-of-requires : tie.Need-floor-of-requires
@@ -59,7 +60,7 @@ unbounded-requires c κs = let t = c .before .before .before .before .before .be
 
 -- src/answer.rt:131:9
 returns-2 : tie.Need-returns-2
-returns-2 c = let t = c .before .before .before .before .before .before .before .before .before .before .before .try-at .ensures in settled-before (reraised-trans (t .raised) (reraised-trans (c .before .before .before .before .before .before .before .floor-of .ensures .1) (c .before .before .before .before .settle .ensures .0 .raised))) (c .unbounded .ensures)
+returns-2 c = let t = c .before .before .before .before .before .before .before .before .before .before .before .try-at .ensures in let e = c .before .before .before .before .settle .ensures .0 in settled-by (omega (arith, t .counted, e .made-up, ap (λ (s : Search). s .made) (c .before .before .before .before .before .floored .ensures))) (reraised-trans (t .raised) (reraised-trans (c .before .before .before .before .before .before .before .floor-of .ensures .1) (c .before .before .before .before .settle .ensures .0 .raised))) (c .unbounded .ensures)
 
 -- src/answer.rt:133:5
 optimal-requires : tie.Need-optimal-requires
@@ -68,7 +69,7 @@ optimal-requires c κs = let t = c .before .before .before .before .before .befo
 
 -- src/answer.rt:120:1
 returns-3 : tie.Need-returns-3
-returns-3 c = let t = c .before .before .before .before .before .before .before .before .before .before .before .try-at .ensures in settled-before (reraised-trans (t .raised) (reraised-trans (c .before .before .before .before .before .before .before .floor-of .ensures .1) (c .before .before .before .before .settle .ensures .0 .raised))) (c .optimal .ensures)
+returns-3 c = let t = c .before .before .before .before .before .before .before .before .before .before .before .try-at .ensures in let e = c .before .before .before .before .settle .ensures .0 in settled-by (omega (arith, t .counted, e .made-up, ap (λ (s : Search). s .made) (c .before .before .before .before .before .floored .ensures))) (reraised-trans (t .raised) (reraised-trans (c .before .before .before .before .before .before .before .floor-of .ensures .1) (c .before .before .before .before .settle .ensures .0 .raised))) (c .optimal .ensures)
 
 pub solve-framed-spec : {M : Type 1} → statement M
 solve-framed-spec =

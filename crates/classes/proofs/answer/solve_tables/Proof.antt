@@ -17,7 +17,7 @@ solve-framed-requires c κs = search needs
 
 -- src/answer.rt:138:1
 returns : tie.Need-returns
-returns c = let o = c .before .before .frame-of .ensures in let s = c .solve-framed .ensures in (settled-answered o s, s .made-most)
+returns c = let o = c .before .before .frame-of .ensures in let s = c .solve-framed .ensures in (settled-answered o s, s .made-some, s .made-most)
 
 pub solve-tables-spec : {M : Type 1} → statement M
 solve-tables-spec = tie.close (tie.spec frame-of-requires solve-framed-requires returns)

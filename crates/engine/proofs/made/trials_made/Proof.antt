@@ -1,3 +1,4 @@
+use Rattle.engine.proofs.Outcomes.{none-made, some-made}
 use Rattle.engine.proofs.Outcomes.{read-problem, read-tables}
 use Rattle.definitions.specs.Bytes.{Bytes}
 use borrow.Author.Needs.{needs}
@@ -22,7 +23,7 @@ enum-told c = search needs
 
 -- src/made.rt:16:9
 returns : tie.Need-returns
-returns c = search needs
+returns c = none-made (c .before .before .read-problem .ensures .result) (c .enum-told .given .1)
 
 -- src/made.rt:18:9
 solve-tables-requires : tie.Need-solve-tables-requires
@@ -31,7 +32,9 @@ solve-tables-requires c κs = let bytes : Bytes (c .before .before .before .befo
 
 -- src/made.rt:9:1
 returns-2 : tie.Need-returns-2
-returns-2 c = search needs
+returns-2 c = let bytes : Bytes (c .before .before .before .before .before .before .before .before .before .before .args .problem .now) = record { byte = λ i. c .before .before .before .before .before .before .before .before .before .shared-slice-known .given i .fits } in
+    let s = c .solve-tables .ensures in
+    some-made (read-problem bytes (c .before .before .before .before .before .before .read-problem .ensures) (c .before .before .before .before .header .given .1)) (s .1) (s .2)
 
 pub trials-made-spec : {M : Type 1} → statement M
 trials-made-spec =

@@ -1,4 +1,4 @@
-use Rattle.search.proofs.Moves.{advanced-trans, advanced-trial}
+use Rattle.search.proofs.Moves.{stepped-fallen, stepped-trial}
 use native.Mathlib.Omega.{arith}
 use borrow.Author.Needs.{needs}
 use Rattle.search.proofs.advance.advance.Statement.{statement}
@@ -24,7 +24,7 @@ add-if1 c = search needs
 
 -- src/advance.rt:123:9
 returns : tie.Need-returns
-returns c = search needs
+returns c = stepped-fallen (c .before .before .before .fallen .ensures) (c .before .before .before .before .before .before .before .before .before .pre .3) (c .if1 .taken)
 
 -- src/advance.rt:125:9
 next-trial-requires : tie.Need-next-trial-requires
@@ -36,8 +36,7 @@ try-at-requires c κs = search needs
 
 -- src/advance.rt:115:1
 returns-2 : tie.Need-returns-2
-returns-2 c = let a = c .before .before .next-trial .ensures in let f = c .before .before .before .before .before .before .fallen .ensures in let g = advanced-trial (a .above) (a .below) (c .try-at .ensures) in
-    (advanced-trans f (g .0), omega (arith, g .1, f .reached-down, f .blocked-up))
+returns-2 c = let a = c .before .before .next-trial .ensures in stepped-trial (c .before .before .before .before .before .before .fallen .ensures) (a .above) (a .below) (c .try-at .ensures)
 
 pub advance-spec : {M : Type 1} → statement M
 advance-spec =

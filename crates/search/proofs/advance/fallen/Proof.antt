@@ -1,5 +1,5 @@
 use borrow.Author.Tests.{not-false}
-use Rattle.search.proofs.Moves.{advanced-none, fallen-to, stamps-ranged, stamps-anchored}
+use Rattle.search.proofs.Moves.{fallen-none, fallen-to, stamps-ranged, stamps-anchored}
 use Rattle.search.proofs.Budget.{inside-trialled}
 use Rattle.frames.proofs.Raising.{reraised-refl}
 use native.Mathlib.Omega.{arith}
@@ -13,11 +13,11 @@ use Rattle.trials.proofs.policy.raised_all.Reads as raised-all-reads
 
 -- src/advance.rt:98:9
 returns : tie.Need-returns
-returns c = let p = c .before .before .pre in advanced-none (reraised-refl (p .0)) (p .1)
+returns c = let p = c .before .before .pre in fallen-none (reraised-refl (p .0)) (p .1)
 
 -- src/advance.rt:101:9
 returns-2 : tie.Need-returns-2
-returns-2 c = let p = c .before .before .before .before .pre in advanced-none (reraised-refl (p .0)) (p .1)
+returns-2 c = let p = c .before .before .before .before .pre in fallen-none (reraised-refl (p .0)) (p .1)
 
 -- src/advance.rt:103:9
 shows-requires : tie.Need-shows-requires
@@ -25,7 +25,7 @@ shows-requires c κs = let start = c .before .before .before .before .before in 
 
 -- src/advance.rt:104:9
 returns-3 : tie.Need-returns-3
-returns-3 c = let p = c .before .before .before .before .before .before .before .pre in advanced-none (c .before .shows .ensures .raised) (p .1)
+returns-3 c = let p = c .before .before .before .before .before .before .before .pre in fallen-none (c .before .shows .ensures .raised) (p .1)
 
 -- src/advance.rt:107:9
 raised-all-requires : tie.Need-raised-all-requires

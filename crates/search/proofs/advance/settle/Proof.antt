@@ -33,11 +33,11 @@ advance-requires c κs = let v = c .before .before .before .loop .inv in let k =
 
 -- src/advance.rt:151:5
 loop-less : tie.Need-loop-less Inv-loop μ-loop
-loop-less c = c .advance .ensures .1
+loop-less c = c .advance .ensures .less
 
 -- src/advance.rt:151:5
 loop-again : tie.Need-loop-again Inv-loop μ-loop
-loop-again c = advanced-trans (c .before .before .before .before .loop .inv) (c .advance .ensures .0)
+loop-again c = advanced-trans (c .before .before .before .before .loop .inv) (c .advance .ensures .advanced)
 
 -- src/advance.rt:140:1
 returns : tie.Need-returns Inv-loop μ-loop
