@@ -17,3 +17,4 @@ pub mod Decimals
 pub mod Hours
 pub mod Inputs
 pub mod Week
+pub mod WeekFacts

@@ -28,7 +28,8 @@ pub record InWindow (week : List ℕ) (k : ℕ) : Type 0 where
   pub opened : opening week window ≤ k
   pub not-closed : k < closing week window
 
--- The minute of its week at which a whole minute stands: −1 is the last minute of the week before.
+-- The minute of its week at which a whole minute stands, counted from a Monday 0:00, which is 0: −1 is the last minute of the
+-- week before.
 unfoldable pub minute-of-week : ℤ → ℕ
 minute-of-week (pos k) = k % week-minutes
 minute-of-week (negsuc k) = week-minutes - suc (k % week-minutes)
@@ -49,7 +50,7 @@ pub record FirstOpen (week : List ℕ) (z a : ℤ) : Type 0 where
 abbrev pub week-refusal : ℕ
 week-refusal = 19
 
--- What it says of a week list. In an odd list the last opening has no closing.
+-- What it says of a week list. (A list of numbers can be odd, a list of windows cannot: the last opening then has no closing.)
 pub data BadWeek (week : List ℕ) : Type 0 where
   odd : length week ≡ suc (2 * windows week) → BadWeek week
   too-many-windows : most-windows < windows week → BadWeek week
@@ -71,7 +72,7 @@ pub data Admission : Type 0 where
   never : Admission
   refused : ℕ → Admission
 
--- The answer for a week list and a minute: never for an empty list, which is judged like any other.
+-- The answer for a week list and a minute: never for an empty list, after its minute was judged.
 pub data Admits (week : List ℕ) (z : ℤ) : Admission → Type 0 where
   turned-away : TurnedAway week z → Admits week z (refused week-refusal)
   never-open : (TurnedAway week z → ⊥) → week ≡ [] → Admits week z never
@@ -84,7 +85,8 @@ pub record Minute (r : Admission) : Type 0 where
   pub minute : ℤ
   pub is : r ≡ open-at minute
 
--- Of each answer: it is open, nothing between is, and with any window it is there and less than 10,080 away.
+-- Of each answer: a minute is at or after z, open and less than 10,080 away, and nothing between is open; a list that is taken and
+-- has any window gives one; never and the refusal come exactly where they are due.
 pub record Promised (week : List ℕ) (z : ℤ) (r : Admission) : Type 0 where
   pub is-open : (a : ℤ) → r ≡ open-at a → Open week a
   pub at-or-after : (a : ℤ) → r ≡ open-at a → z ≤ℤ a
