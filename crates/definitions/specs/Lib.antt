@@ -13,3 +13,4 @@ pub mod Programs
 pub mod Demands
 pub mod Examples
 pub mod Week
+pub mod Scaling

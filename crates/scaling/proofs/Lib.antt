@@ -1,0 +1,4 @@
+pub mod Floor
+pub mod Maps
+pub mod Plans
+pub mod Parts
