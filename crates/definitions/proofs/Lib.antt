@@ -14,3 +14,5 @@ pub mod Edges
 pub mod Programs
 pub mod Inputs
 pub mod Week
+pub mod Agree
+pub mod Scaling

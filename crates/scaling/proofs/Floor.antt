@@ -1,6 +1,6 @@
 -- The product and the floor of whole and of tropical numbers. All laws of the floor come from one:
 -- d · a ≤ b exactly when a ≤ ⌊b / d⌋ (`times-floor`, `floor-times`).
-use Prim.Native.Nat.{ℕ, suc, _+_, _*_, _-_, _/_, _%_, _≤_, _<_}
+use Prim.Native.Nat.{ℕ, suc, _+_, _*_, _-_, _/_, _≤_, _<_}
 use mathlib.Core.Path.{_≡_, refl, ap, sym, _∙_}
 use mathlib.Core.Logic.{⊎-elim, _↔_}
 use native.Mathlib.Omega.{arith}
@@ -10,7 +10,7 @@ use lib.Signed.{_≤ℤ_, _<ℤ_}
 use Rattle.definitions.specs.Tropical.{Trop, bot, fin, plus, _⊑_, blank-least, whole-least}
 use Rattle.definitions.specs.Scaling.{times}
 use Rattle.definitions.proofs.Whole.{up, down, whole, plus-read, minus-read, neg-read, le-or-lt}
-use Rattle.definitions.proofs.Tropical.{⊑-refl, ⊑-trans, ⊑-antisym, fin-below, below-bot, bot-not-fin, plus-assoc, plus-mono}
+use Rattle.definitions.proofs.Tropical.{⊑-refl, ⊑-trans, fin-below, below-bot, bot-not-fin, plus-assoc, plus-mono}
 use Rattle.scaling.specs.Floor.{floor, floored, rounded}
 
 -- ---- the product, of whole numbers

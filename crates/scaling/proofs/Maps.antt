@@ -4,7 +4,7 @@ use mathlib.Core.Path.{_≡_, refl, ap, sym, subst, _∙_}
 use mathlib.Core.Logic.{⊎-elim}
 use Rattle.definitions.specs.Tropical.{Trop, bot, _⊑_, larger, largest}
 use Rattle.definitions.specs.Scaling.{times}
-use Rattle.definitions.proofs.Tropical.{⊑-refl, ⊑-antisym, larger-left, larger-right, larger-one, larger-least}
+use Rattle.definitions.proofs.Tropical.{⊑-antisym, larger-left, larger-right, larger-one, larger-least}
 use Rattle.scaling.specs.Floor.{rounded}
 use Rattle.scaling.proofs.Floor.{times-mono, times-blank, rounded-mono, rounded-blank}
 

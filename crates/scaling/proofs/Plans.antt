@@ -1,21 +1,21 @@
--- A plan in whole minutes is one in parts of a minute, with d times its span (`stretched`), and every plan in parts of a minute
--- can be rounded to whole minutes without a greater span (`whole-minutes`).
-use Prim.Native.Nat.{ℕ, suc, _+_, _*_, _≤_, _<_}
-use mathlib.Core.Path.{_≡_, refl, ap, ap₂, sym, subst, _∙_}
+-- A plan in whole minutes is one in parts of a minute, with d times its span (`stretched-feasible`, `value-stretched`), and every
+-- plan in parts of a minute can be rounded to whole minutes without a greater span (`whole-minutes`).
+use Prim.Native.Nat.{ℕ, suc, _≤_, _<_}
+use mathlib.Core.Path.{_≡_, refl, ap, ap₂, sym, _∙_}
 use mathlib.Core.Logic.{_↔_}
 use native.Mathlib.Omega.{arith}
 use lib.IntN.{ℤ, pos, _+ℤ_, _-ℤ_, _*ℤ_}
 use lib.Signed.{_≤ℤ_}
-use Rattle.definitions.specs.Tropical.{Trop, bot, fin, plus, largest, _⊑_}
+use Rattle.definitions.specs.Tropical.{Trop, bot, fin, plus}
 use Rattle.definitions.specs.Problem as Problems
-use Rattle.definitions.specs.Problem.{Problem, Point, side, Feasible, Value, minus-infinity, plus-infinity, _≼_, lowest, between, highest, minus, value}
+use Rattle.definitions.specs.Problem.{Problem, Point, side, Feasible, _≼_, lowest, between, highest, minus, value}
 use Rattle.definitions.specs.Scaling.{times, scaled}
-use Rattle.definitions.proofs.Whole.{up, down, whole, plus-read, minus-read}
-use Rattle.definitions.proofs.Tropical.{largest-ext, plus-fin}
+use Rattle.definitions.proofs.Whole.{whole, plus-read, minus-read}
+use Rattle.definitions.proofs.Tropical.{largest-ext}
 use Rattle.scaling.specs.Floor.{floor, floored, rounded}
 use Rattle.scaling.specs.Plans.{stretchedPoint, roundedPoint, timesValue, WholeMinutes}
 use Rattle.scaling.proofs.Floor as Floors
-use Rattle.scaling.proofs.Floor.{times-zero, times-blank, rounded-zero, times-plus, times-plus-whole, times-minus-whole, times-mono, rounded-mono, rounded-plus, floor-below, floor-small, floor-of-times, Missing, missing}
+use Rattle.scaling.proofs.Floor.{times-zero, times-blank, rounded-zero, times-plus, times-minus-whole, times-mono, rounded-mono, rounded-plus, floor-below, floor-of-times, Missing, missing}
 use Rattle.scaling.proofs.Maps.{largest-map, times-monotone, rounded-monotone}
 
 -- ---- sides
@@ -36,7 +36,7 @@ side-rounded d r n c y one =
     largest-ext _ (λ j. rounded d r (plus (times d (c j)) (y j))) (suc n) (λ j l. sym (rounded-plus d r (c j) (y j) one))
     ∙ largest-map (λ j. plus (times d (c j)) (y j)) (suc n) (rounded-monotone d r one)
 
--- Blank is one exactly when the other is.
+-- One side is blank exactly when the other is: what counts, counts.
 pub stretched-blank :
     (d n : ℕ) (c : ℕ → Trop) (x : Point)
     → (side n (λ j. times d (c j)) (stretchedPoint d x) ≡ bot) ↔ (side n c x ≡ bot)
@@ -79,8 +79,8 @@ value-stretched d p x =
     ap₂ minus (side-stretched d (p .n) (p .left (p .m)) x) (side-stretched d (p .n) (p .right (p .m)) x)
     ∙ minus-times d (side (p .n) (p .left (p .m)) x) (side (p .n) (p .right (p .m)) x)
 
--- Where the second side is rounded to a multiple of d that is at most d − 1 above it, the difference does not grow:
--- the second side loses nothing, the first gains nothing.
+-- Moved on until the second side b stands on a whole minute, the second side is rounded by nothing and the first down: the
+-- difference does not grow.
 floors-apart :
     (d : ℕ) (a b : ℤ) (m : Missing d b) → 1 ≤ d
     → (pos d *ℤ (floor d (a +ℤ pos (m .parts)) -ℤ floor d (b +ℤ pos (m .parts)))) ≤ℤ (a -ℤ b)

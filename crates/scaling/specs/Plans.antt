@@ -1,7 +1,6 @@
 -- Plans in whole minutes and plans in d-th parts of a minute, each made from the other.
 use Prim.Native.Nat.{ℕ}
 use lib.IntN.{ℤ, pos, _*ℤ_}
-use Rattle.definitions.specs.Tropical.{Trop}
 use Rattle.definitions.specs.Problem.{Problem, Point, Feasible, Value, minus-infinity, whole, plus-infinity, _≼_, value}
 use Rattle.definitions.specs.Scaling.{times, scaled}
 use Rattle.scaling.specs.Floor.{rounded}
