@@ -4,7 +4,6 @@ use Prim.Native.Nat.{ℕ, zero, suc, _+_, _*_, _≤_, _<_}
 use mathlib.Core.Path.{_≡_, refl, sym}
 use mathlib.Core.List.{List, [], _∷_, map}
 use native.Mathlib.Omega.{arith}
-use native.Mathlib.Nat.{mul-le-mul-right}
 use lib.IntN.{ℤ, pos, negsuc, _*ℤ_}
 use Rattle.definitions.specs.Limits.{problem-header, signed-bytes}
 use Rattle.definitions.specs.Problem.{Problem}
@@ -13,6 +12,7 @@ use Rattle.definitions.specs.ProblemRecord.{nField, mField, leadsOf, lef
 use Rattle.definitions.specs.Scaling.{times, scaled, GainsNothing, ScaledRecord}
 use Rattle.definitions.specs.Examples.{example-E}
 use Rattle.definitions.proofs.Whole.{whole, neg-read}
+use Rattle.definitions.proofs.Refusals.{lead-inside}
 use Rattle.definitions.proofs.Agree.{Agree}
 
 -- Field by field: where the leads of a run are d times those of another, each is.
@@ -39,10 +39,6 @@ module _ {d : ℕ} {s t : List ℕ} (r : ScaledRecord d s t) where
       run-scaled d signed-bytes (2 * (suc (nField s) * suc (mField s))) s t problem-header
       (rw (r .same-n, r .same-m) at (r .leads)) k h
 
-  -- Lead k of row i, of the left ones and the right ones counted together, stands at this place among all leads.
-  row-inside : (i k : ℕ) → i ≤ mField s → k < 2 * suc (nField s) → 2 * (i * suc (nField s)) + k < 2 * (suc (nField s) * suc (mField s))
-  row-inside i k row h = omega (arith, mul-le-mul-right {m = suc i} {n = suc (mField s)} (suc (nField s)) (omega arith))
-
   pub record-agrees : Agree (scaled d (problemOf s)) (problemOf t)
   unfolding problemOf
   record-agrees =
@@ -50,11 +46,15 @@ module _ {d : ℕ} {s t : List ℕ} (r : ScaledRecord d s t) where
         same-n = sym (r .same-n);
         same-m = sym (r .same-m);
         left = λ i j row column.
+            let k : ℕ = 2 * (i * suc (nField s)) + j in
             let place : problem-header + signed-bytes * (2 * (i * suc (nField s)) + j) ≡ leftPlace (nField s) i j = omega arith in
-            rw (r .same-n) (sym (rw place at (lead-scaled (2 * (i * suc (nField s)) + j) (row-inside i j row (omega arith)))));
+            let e = lead-scaled k (lead-inside (nField s) (mField s) i j row (omega arith)) in
+            rw (r .same-n) (sym (rw place at e));
         right = λ i j row column.
+            let k : ℕ = 2 * (i * suc (nField s)) + (suc (nField s) + j) in
             let place : problem-header + signed-bytes * (2 * (i * suc (nField s)) + (suc (nField s) + j)) ≡ rightPlace (nField s) i j = omega arith in
-            rw (r .same-n) (sym (rw place at (lead-scaled (2 * (i * suc (nField s)) + (suc (nField s) + j)) (row-inside i (suc (nField s) + j) row (omega arith)))));
+            let e = lead-scaled k (lead-inside (nField s) (mField s) i (suc (nField s) + j) row (omega arith)) in
+            rw (r .same-n) (sym (rw place at e));
       }
 
 -- E in half minutes: rule anchor + 60 ≤ moment 1.

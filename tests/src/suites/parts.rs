@@ -44,7 +44,7 @@ fn compare(tally: &mut Tally, random: &mut Random, problem: &Problem, d: i64, ex
 /// minute is small enough, the scaled one by every plan there too.
 fn small(tally: &mut Tally, random: &mut Random) {
     const W: i64 = 2;
-    for round in 0..6_000 {
+    for round in 0..24_000 {
         let shape = Shape { n: round % 3, m: random.below(3), w: W, filled: [3, 5, 7, 10][random.below(4)] };
         let problem = match random.below(3) {
             0 => generate::free(random, shape),
@@ -66,7 +66,7 @@ fn small(tally: &mut Tally, random: &mut Random) {
 
 /// Any size, leads up to the limit once they are multiplied: the engine on both.
 fn large(tally: &mut Tally, random: &mut Random) {
-    for round in 0..600 {
+    for round in 0..2_000 {
         let d = PARTS[round % PARTS.len()];
         let shape = Shape {
             n: random.below(32),
