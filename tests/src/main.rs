@@ -33,7 +33,7 @@ fn main() {
         return;
     }
     println!("tests from outside, on {TRIED}");
-    let all: [Suite; 11] = [
+    let all: [Suite; 12] = [
         ("examples", suites::examples::run),
         ("all-small", suites::small::every_small_problem),
         ("random-small", suites::small::random_problems),
@@ -45,6 +45,7 @@ fn main() {
         ("programs", suites::pipes::run),
         ("unproved", suites::unproved::run),
         ("opening", suites::opening::run),
+        ("parts", suites::parts::run),
     ];
     let mut failures = 0;
     let mut run = 0;

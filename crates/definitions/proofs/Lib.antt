@@ -18,3 +18,5 @@ pub mod Hours
 pub mod Inputs
 pub mod Week
 pub mod WeekFacts
+pub mod Agree
+pub mod Scaling

@@ -139,18 +139,18 @@ lead-within s w k h =
     k
     h
 
-module _ (s : List ℕ) (w : WithinLayout s) (i j : ℕ) (row : i ≤ mField s) (column : j ≤ nField s) where
-  -- Lead k of row i, of the left ones and the right ones counted together, stands at this place among all leads.
-  row-inside : (k : ℕ) → k < 2 * suc (nField s) → 2 * (i * suc (nField s)) + k < 2 * (suc (nField s) * suc (mField s))
-  row-inside k h = omega (arith, mul-le-mul-right {m = suc i} {n = suc (mField s)} (suc (nField s)) (omega arith))
+-- Lead k of row i, of the left ones and the right ones counted together, stands at this place among all leads.
+pub lead-inside : (n m i k : ℕ) → i ≤ m → k < 2 * suc n → 2 * (i * suc n) + k < 2 * (suc n * suc m)
+lead-inside n m i k row h = omega (arith, mul-le-mul-right {m = suc i} {n = suc m} (suc n) (omega arith))
 
+module _ (s : List ℕ) (w : WithinLayout s) (i j : ℕ) (row : i ≤ mField s) (column : j ≤ nField s) where
   -- The left coefficients are blank or within the limit.
   pub left-within : blank-or-within lead-limit (problemOf s .left i j) ≡ true
   unfolding problemOf
   left-within =
       let k : ℕ = 2 * (i * suc (nField s)) + j in
       let place : problem-header + signed-bytes * (2 * (i * suc (nField s)) + j) ≡ leftPlace (nField s) i j = omega arith in
-      rw place at (lead-within s w k (row-inside j (omega arith)))
+      rw place at (lead-within s w k (lead-inside (nField s) (mField s) i j row (omega arith)))
 
   -- The right coefficients are blank or within the limit.
   pub right-within : blank-or-within lead-limit (problemOf s .right i j) ≡ true
@@ -158,7 +158,7 @@ module _ (s : List ℕ) (w : WithinLayout s) (i j : ℕ) (row : i ≤ mField s) 
   right-within =
       let k : ℕ = 2 * (i * suc (nField s)) + (suc (nField s) + j) in
       let place : problem-header + signed-bytes * (2 * (i * suc (nField s)) + (suc (nField s) + j)) ≡ rightPlace (nField s) i j = omega arith in
-      rw place at (lead-within s w k (row-inside (suc (nField s) + j) (omega arith)))
+      rw place at (lead-within s w k (lead-inside (nField s) (mField s) i (suc (nField s) + j) row (omega arith)))
 
   -- A whole left coefficient is at most the limit in size.
   pub left-size : {z : ℤ} → problemOf s .left i j ≡ fin z → natAbs z ≤ lead-limit

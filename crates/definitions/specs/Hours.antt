@@ -108,7 +108,7 @@ pub record OneText (v : Trop) : Type 0 where
   pub text-of : HoursText v (textOf v)
   pub no-other : {s : List ℕ} → HoursText v s → s ≡ textOf v
 
--- Each value has just one text, and no two the same; the reader takes exactly these texts, and refuses every other string by
+-- Each value within ±6,000,000, and blank, has just one text, and no two the same; the reader takes exactly these texts, and refuses every other string by
 -- 18; a refusal writes nothing; what is written reads back as itself, and what is read is written again to the same bytes.
 pub record HoursAndMinutes (reader : HoursReader) (writer : HoursWriter) : Type 0 where
   pub one-text : (v : Trop) → has-text v ≡ true → OneText v

@@ -14,3 +14,4 @@ pub mod Hours
 pub mod Demands
 pub mod Examples
 pub mod Week
+pub mod Scaling

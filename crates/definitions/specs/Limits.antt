@@ -106,7 +106,7 @@ kept-bytes = 20000
 abbrev pub text-limit : ℕ
 text-limit = 6000000
 
--- The writer's buffer has at least this many bytes, 10.
+-- A buffer of fewer bytes than the longest text, 10, is refused, whatever the value.
 abbrev pub text-most : ℕ
 text-most = 10
 

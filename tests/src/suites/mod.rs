@@ -6,6 +6,7 @@ pub mod examples;
 pub mod fields;
 pub mod hours;
 pub mod opening;
+pub mod parts;
 pub mod pipes;
 pub mod small;
 pub mod tables;

@@ -1,0 +1,1 @@
+// Parts of a minute gain nothing: antt only, in specs/ and proofs/.
