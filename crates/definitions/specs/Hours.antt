@@ -44,7 +44,7 @@ pub data HoursText : Trop → List ℕ → Type 0 where
 abbrev pub has-text : Trop → Bool
 has-text v = blank-or-within text-limit v
 
--- The text as a function of the value. That it is the text, and the only one, is a theorem (`OneText`).
+-- The text as a function of the value. That it is the text of a value that has one, and the only one, is a theorem (`OneText`).
 unfoldable pub clockOf : ℕ → List ℕ
 clockOf k = decimal (k / hour-minutes) ++ (colon ∷ twoDigits (k % hour-minutes))
 
