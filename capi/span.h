@@ -98,7 +98,7 @@ static inline unsigned span_refusal(uint64_t result) { return (unsigned)(result 
 static inline unsigned span_trials(uint64_t result) { return (unsigned)(result >> 8); }           /* span_solve */
 static inline unsigned span_class(uint64_t result) { return (unsigned)((result >> 8) & 255); }    /* span_check, span_read */
 static inline size_t span_size(uint64_t result) { return (size_t)(result >> 8); }                 /* span_write, span_hours_write */
-static inline int span_blank(uint64_t result) { return (result >> 32) == 0; }                     /* span_hours_read */
+static inline int span_blank(uint64_t result) { return (result >> 32) == 0; }                     /* span_hours_read, where the low byte is 0 */
 static inline int32_t span_minutes(uint64_t result) {                            /* class 1; span_first_open; span_hours_read, where not blank */
     return (int32_t)((int64_t)(result >> 32) - 2147483648LL);
 }

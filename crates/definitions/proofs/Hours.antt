@@ -248,10 +248,10 @@ module _ (reader : HoursReader) (reads : ReaderReads reader) (writer : HoursWrit
 
 -- 7:05 is 425; 0:00, -0:05, `--` and the longest text, -100000:00.
 texts : List Trop
-texts = fin (pos 425) ∷ fin (pos 0) ∷ fin (negsuc 4) ∷ bot ∷ fin (negsuc 5999999) ∷ []
+texts = fin (pos 425) ∷ fin (pos 0) ∷ fin (negsuc 4) ∷ bot ∷ fin (negsuc 5999999) ∷ fin (pos 754) ∷ fin (pos 5999999) ∷ []
 
 -- The texts of these values.
-texts-written : map textOf texts ≡ (55 ∷ 58 ∷ 48 ∷ 53 ∷ []) ∷ (48 ∷ 58 ∷ 48 ∷ 48 ∷ []) ∷ (45 ∷ 48 ∷ 58 ∷ 48 ∷ 53 ∷ []) ∷ (45 ∷ 45 ∷ []) ∷ (45 ∷ 49 ∷ 48 ∷ 48 ∷ 48 ∷ 48 ∷ 48 ∷ 58 ∷ 48 ∷ 48 ∷ []) ∷ []
+texts-written : map textOf texts ≡ (55 ∷ 58 ∷ 48 ∷ 53 ∷ []) ∷ (48 ∷ 58 ∷ 48 ∷ 48 ∷ []) ∷ (45 ∷ 48 ∷ 58 ∷ 48 ∷ 53 ∷ []) ∷ (45 ∷ 45 ∷ []) ∷ (45 ∷ 49 ∷ 48 ∷ 48 ∷ 48 ∷ 48 ∷ 48 ∷ 58 ∷ 48 ∷ 48 ∷ []) ∷ (49 ∷ 50 ∷ 58 ∷ 51 ∷ 52 ∷ []) ∷ (57 ∷ 57 ∷ 57 ∷ 57 ∷ 57 ∷ 58 ∷ 53 ∷ 57 ∷ []) ∷ []
 unfolding texts textOf clockOf decimal digits
 texts-written = refl
 
@@ -263,3 +263,7 @@ limits-kept = refl
 room-kept : map (hoursRefusal bot) (0 ∷ 9 ∷ 10 ∷ 11 ∷ []) ≡ 18 ∷ 18 ∷ 0 ∷ 0 ∷ []
 unfolding hoursRefusal blank-or-within
 room-kept = refl
+
+room-of-a-minute : map (hoursRefusal (fin (pos 425))) (0 ∷ 9 ∷ 10 ∷ 11 ∷ []) ≡ 18 ∷ 18 ∷ 0 ∷ 0 ∷ []
+unfolding hoursRefusal blank-or-within
+room-of-a-minute = refl
