@@ -5,6 +5,7 @@ pub mod Raise
 pub mod Bytes
 pub mod Put
 pub mod Offset
+pub mod Outcomes
 pub mod Refusals
 pub mod RoundTrip
 pub mod Solved
@@ -13,3 +14,4 @@ pub mod Examples
 pub mod Edges
 pub mod Programs
 pub mod Inputs
+pub mod ProblemBack

@@ -101,3 +101,7 @@ answer-most = answer-header + (signed-bytes + short-bytes) * suc highest-n
 -- How many bytes of their input the programs keep.
 abbrev pub kept-bytes : ℕ
 kept-bytes = 20000
+
+-- A number that is handed to an entry, and the length of a slice, are below 2⁶⁴.
+abbrev pub word-values : ℕ
+word-values = 18446744073709551616
