@@ -9,7 +9,7 @@ use native.Mathlib.Omega.{arith}
 use native.Mathlib.Nat.{eq-zero-or-pos}
 use lib.Dec.{eqb}
 use lib.Signed.{_≤ℤ_}
-use borrow.Author.Tests.{ne-eqb}
+use borrow.Author.Tests.{ne-eqb, le-ltb}
 use lib.ListN.{length, getD, take, replicate, length-take, length-replicate}
 use lib.IntN.{ℤ, pos}
 use Rattle.definitions.specs.Limits.{class-optimal, class-unbounded, class-infeasible, answer-most, most-trials}
@@ -18,16 +18,17 @@ use Rattle.definitions.specs.Problem.{Problem, Point, Feasible, Value, side, va
 use Rattle.definitions.specs.Problem as Problems
 use Rattle.definitions.specs.Bytes.{Outcome, gives, put, numAt, numsAt, signed, tropField, tropAt, all, blank-or-within, whole-within}
 use Rattle.definitions.specs.ProblemRecord.{WithinLayout, problemOf, nField, mField, problemRefusal, headerRefusal, leadsOf}
-use Rattle.definitions.specs.AnswerRecord.{Answer, answerBytes, answerSize, pickCount, highestPick, written, answerRefusal, answerHeaderRefusal, answerOf, formRefusal, spanFits, stampsFit, picksFit, is-zero, is-blank}
+use Rattle.definitions.specs.AnswerRecord.{Answer, answerBytes, answerSize, pickCount, highestPick, written, writerRefusal, answerRefusal, answerHeaderRefusal, answerOf, formRefusal, spanFits, stampsFit, picksFit, is-zero, is-blank}
 use Rattle.definitions.specs.Certificate.{Strategy, Reachable, start, onward, Anchor, Leads, RowLeads}
 use Rattle.definitions.specs.Verdict.{accepts, accepted, Accepted, answerFor, pointOf, strategyOf}
-use Rattle.definitions.specs.Solved.{Solved, answered, Found, optimal, unbounded, infeasible, Answers}
-use Rattle.definitions.specs.Demands.{Slice, Engine, Checker, Reader, Accepts, EngineSolves, LeastSpans, FoundBy, OwnAnswers, AcceptsExactly, NeverBroken, EngineReadsBack, ReaderRefuses, ReadsFields}
+use Rattle.definitions.specs.Solved.{Solved, engineRefusal, answered, Found, optimal, unbounded, infeasible, Answers}
+use Rattle.definitions.specs.Demands.{Slice, Handed, Engine, Checker, Reader, Writer, Accepts, EngineRefuses, WriterRefuses, EngineSolves, LeastSpans, FoundBy, OwnAnswers, AcceptsExactly, NeverBroken, EngineReadsBack, ReaderRefuses, ReadsFields}
 use Rattle.definitions.specs.Examples.{example-A, example-B, example-E, example-M}
 use Rattle.definitions.proofs.Bytes.{bytes-tested, bytes-take, bytes-put, zero-bytes}
 use Rattle.definitions.proofs.Put.{getD-put-after}
 use Rattle.definitions.proofs.Whole.{whole, eq-read}
 use Rattle.definitions.proofs.Tropical.{bot-not-fin, fin-injective, fin-below}
+use Rattle.definitions.proofs.Offset.{trop-zero}
 use Rattle.definitions.proofs.Values.{infinite-not-below, whole-below}
 use Rattle.definitions.proofs.Refusals.{answer-fits, writer-fits}
 use Rattle.definitions.proofs.RoundTrip.{writer-accepts, answer-length, answer-bytes, size-most}
@@ -330,3 +331,39 @@ another-span-accepted check accepts never =
     let is : Problems.whole (pos 31) ≡ Problems.whole (h .s) = h .value-is in
     let z : pos 31 ≡ h .s = cc in
     omega (whole, eq-read span, eq-read z)
+
+-- The engine that marks the buffer on a refusal too: no bytes are refused by 1.
+mark-seen : written zeros (1 ∷ []) ≡ zeros → ⊥
+unfolding written put
+mark-seen e = let z : _≡_ {A = ℕ} 1 (getD zeros 0 0) = ap (λ (l : List ℕ). getD l 0 0) e in omega (arith, z, zero-at 0)
+
+none-refused : (room : ℕ) → engineRefusal [] room ≡ 1
+unfolding engineRefusal problemRefusal headerRefusal numAt
+none-refused room = refl
+
+pub refusal-marked : (engine : Engine) → ((p buffer : List ℕ) → engine .buffer p buffer ≡ written buffer (1 ∷ [])) → EngineRefuses engine → ⊥
+unfolding all
+refusal-marked engine marks refuses =
+    mark-seen (sym (marks [] zeros) ∙ refuses .untouched [] zeros (record { bytes = bytes-tested [] refl; size = omega arith }) slice-zeros 0 (none-refused (length zeros)))
+
+-- The writer that does: class 0 is refused by 10.
+answer-unknown : Answer
+answer-unknown = record { class = 0; span = bot; stamps = []; picks = [] }
+
+handed-unknown : Handed answer-unknown
+unfolding answer-unknown
+handed-unknown = record {
+  class = omega arith;
+  span = record { number = 0; fits = omega arith; means = trop-zero };
+  stamps = λ i. record { number = 0; fits = omega arith; means = trop-zero };
+  stamps-size = omega arith;
+  picks = record { word = λ i. omega arith; size = omega arith };
+}
+
+unknown-refused : (room : ℕ) → answer-most ≤ room → writerRefusal answer-unknown 0 0 room ≡ 10
+unfolding writerRefusal answer-unknown
+unknown-refused room h = rw (le-ltb room answer-most h) refl
+
+pub refusal-written : (write : Writer) → ((a : Answer) (n m : ℕ) (buffer : List ℕ) → write .buffer a n m buffer ≡ written buffer (1 ∷ [])) → WriterRefuses write → ⊥
+refusal-written write marks refuses =
+    mark-seen (sym (marks answer-unknown 0 0 zeros) ∙ refuses .untouched answer-unknown 0 0 zeros handed-unknown (omega arith) (omega arith) slice-zeros 9 (unknown-refused (length zeros) long-zeros))
