@@ -1,6 +1,6 @@
 -- The cascade of refusals 12 and 13, and the answer whose body the reader judges.
 use Prim.Native.Nat.{ℕ, zero, suc, _+_, _≤_}
-use mathlib.Core.Path.{_≡_, refl, ap₂, sym, _∙_}
+use mathlib.Core.Path.{_≡_, refl, ap, ap₂, sym, _∙_}
 use mathlib.Core.Bool.{Bool, true, false}
 use mathlib.Core.List.{List, [], _∷_, map}
 use native.Mathlib.Omega.{arith}
@@ -11,15 +11,15 @@ use Rattle.definitions.specs.Limits.{highest-n, highest-m, length-bytes, signed
 use Rattle.definitions.specs.Bytes.{Bytes, numAt, tropField, tropAt, or-else}
 use Rattle.definitions.specs.Offset.{tropOf, off}
 use Rattle.definitions.specs.ProblemRecord.{lengthField, kindField, nField}
-use Rattle.definitions.specs.AnswerRecord.{Answer, known-class, answerSize, spanFits, stampsFit, picksFit, highestPick, formRefusal, stampCount, pickCount, classField, answerOf, answerHeaderRefusal, answerRefusal}
+use Rattle.definitions.specs.AnswerRecord.{Answer, known-class, answerSize, spanFits, stampsFit, picksFit, highestPick, formRefusal, stampCount, pickCount, classField, answerOf, spanField, answerHeaderRefusal, answerHeaderOutcome, answerRefusal, answerOutcome}
 use Rattle.definitions.proofs.Bytes.{numAt-bound, Below, numsAt-below}
 use Rattle.definitions.proofs.Offset.{trop-off}
 use Rattle.definitions.proofs.Refusals.{limits-clause, enough-clause, equal-clause, both-clause}
 use Rattle.answers.specs.Fields.{Padded, bodyOf, stampsAt, picksAt, stampsOf, picksOf}
-use Rattle.answers.specs.AnswerReading.{spanNumber, headBy, answerHeadOf, answerReadOf, AnswerRead}
+use Rattle.answers.specs.AnswerReading.{spanNumber, headOf, AnswerRead}
 use Rattle.answers.specs.declared.answer.AnswerHead.{AnswerHead}
 use Rattle.answers.specs.declared.answer.AnswerHead.the-variants.{Fields, Refused}
-use Rattle.answers.proofs.Reading.{head-refused}
+use Rattle.answers.proofs.Heads.{fields-by, refused-by, head-fields, head-refused}
 
 -- ---- refusals 12 and 13 in the code's order
 
@@ -61,9 +61,9 @@ module _ {s : List ℕ} (bytes : Bytes s) (n m : ℕ) where
   span-meant = trop-off (numAt signed-bytes s span-place) (numAt-bound signed-bytes span-place bytes)
 
   -- The body that the reader judges is the answer that the bytes mean.
-  pub body-meant : bodyOf s (classField s) (spanNumber s) n m ≡ answerOf s n m
-  unfolding answerOf stampsOf picksAt tropAt
-  body-meant = λ i. record { class = classField s; span = span-meant i; stamps = stamps-meant i; picks = answerOf s n m .picks }
+  pub body-meant : (class span : ℕ) → class ≡ classField s → tropOf span ≡ spanField s → bodyOf s class span n m ≡ answerOf s n m
+  unfolding answerOf stampsOf picksAt
+  body-meant class span c e = rw c (λ i. record { class = classField s; span = e i; stamps = stamps-meant i; picks = answerOf s n m .picks })
 
 -- The picks that the reader gives are the answer's.
 pub picks-meant : (s : List ℕ) (n m : ℕ) → picksOf s n m ≡ answerOf s n m .picks
@@ -76,28 +76,16 @@ picks-meant s n m = refl
 pub record HeadRight (s : List ℕ) (n m class span : ℕ) : Type 0 where
   pub header : answerHeaderRefusal s (length s) n m ≡ 0
   pub class-is : class ≡ classField s
-  pub span-is : span ≡ spanNumber s
+  pub span-is : tropOf span ≡ spanField s
   pub n-most : n ≤ highest-n
   pub m-most : m ≤ highest-m
   pub size-is : length s ≡ answerSize class n m
 
--- Fields come from no refusal.
-fields-by : (k class span : ℕ) {c w : ℕ} → Fields c w ≡ headBy k class span → (k ≡ 0) × (c ≡ class) × (w ≡ span)
-unfolding headBy
-fields-by zero class span e = (refl, (cc), (cc))
-fields-by (suc k) class span e = let z : _≡_ {A = ℕ} 0 1 = cc in absurd (omega arith)
-
--- A refusal comes from one.
-refused-by : (k class span : ℕ) {j : ℕ} → Refused j ≡ headBy k class span → k ≡ 0 → ⊥
-unfolding headBy
-refused-by zero class span e h = let z : _≡_ {A = ℕ} 0 1 = cc in omega arith
-refused-by (suc k) class span e h = omega arith
-
-pub head-right : (s : List ℕ) (n m : ℕ) {head : AnswerHead} {class span : ℕ} → head ≡ answerHeadOf s (length s) n m → head ≡ Fields class span
+pub head-right : (s : List ℕ) (n m : ℕ) {head : AnswerHead} {class span : ℕ} → headOf head ≡ answerHeaderOutcome s (length s) n m → head ≡ Fields class span
     → HeadRight s n m class span
-unfolding answerHeadOf answerHeaderRefusal
+unfolding answerHeaderOutcome answerHeaderRefusal
 head-right s n m e f =
-    let h = fields-by (answerHeaderRefusal s (length s) n m) (classField s) (spanNumber s) (sym f ∙ e) in
+    let h = fields-by (answerHeaderRefusal s (length s) n m) (classField s) (spanField s) e f in
     let a = limits-clause n m _ _ .0 (h .0) in
     let b = enough-clause (length s) answer-header _ _ .0 (a .1) in
     let c = equal-clause (lengthField s + length-bytes) (length s) _ _ .0 (b .1) in
@@ -113,12 +101,12 @@ head-right s n m e f =
     }
 
 -- The header is refused.
-pub read-turned-away : (s : List ℕ) (n m : ℕ) {head : AnswerHead} {k : ℕ} {stamps picks : List ℕ} → head ≡ answerHeadOf s (length s) n m → head ≡ Refused k
+pub read-turned-away : (s : List ℕ) (n m : ℕ) {head : AnswerHead} {k : ℕ} {stamps picks : List ℕ} → headOf head ≡ answerHeaderOutcome s (length s) n m → head ≡ Refused k
     → AnswerRead s n m head stamps stamps picks picks
-unfolding answerHeadOf answerReadOf answerRefusal
+unfolding answerHeaderOutcome answerOutcome answerRefusal
 read-turned-away s n m e f =
     let k : ℕ = answerHeaderRefusal s (length s) n m in
-    let none = refused-by (answerHeaderRefusal s (length s) n m) (classField s) (spanNumber s) (sym f ∙ e) in
+    let none = refused-by (answerHeaderRefusal s (length s) n m) (classField s, spanField s) e f .1 in
     let same : answerRefusal s n m ≡ answerHeaderRefusal s (length s) n m = first-counts (answerHeaderRefusal s (length s) n m) _ none in
     record {
       answered = rw same e;
@@ -135,16 +123,16 @@ module _ {s : List ℕ} (bytes : Bytes s) {n m class span : ℕ} (right : HeadRi
   -- Once the header is right, the body's refusal is the answer's.
   body-judged : (k : ℕ) → k ≡ formRefusal (bodyOf s class span n m) n m → k ≡ answerRefusal s n m
   unfolding answerRefusal
-  body-judged k e = rw (right .header) (rw (right .class-is, right .span-is, body-meant bytes n m) at e)
+  body-judged k e = rw (right .header) (rw (body-meant bytes n m class span (right .class-is) (right .span-is)) at e)
 
   -- The body is refused.
   pub read-refused : {k : ℕ} {stamps picks : List ℕ} → k ≡ formRefusal (bodyOf s class span n m) n m → (k ≡ 0 → ⊥)
       → AnswerRead s n m (Refused k) stamps stamps picks picks
-  unfolding answerReadOf
+  unfolding answerOutcome
   read-refused {k} e h =
       let same : k ≡ answerRefusal s n m = body-judged k e in
       record {
-        answered = rw (← same) (head-refused k (classField s) (spanNumber s) h);
+        answered = rw (← same) (head-refused k (classField s, spanField s) h);
         kept = λ r. (refl, refl);
         stamps-read = λ r. absurd (h (same ∙ r));
         picks-read = λ r. absurd (h (same ∙ r));
@@ -155,11 +143,11 @@ module _ {s : List ℕ} (bytes : Bytes s) {n m class span : ℕ} (right : HeadRi
       → k ≡ formRefusal (bodyOf s class span n m) n m → k ≡ 0
       → Padded 32 (stampsAt s (stampCount class n)) stamps → Padded 64 (picksAt s (stampCount class n) (pickCount class n m)) picks
       → AnswerRead s n m head stamps-before stamps picks-before picks
-  unfolding answerReadOf headBy stampsOf picksOf
+  unfolding answerOutcome stampsOf picksOf
   read-done {k = k} f e z p q =
       let same : answerRefusal s n m ≡ 0 = sym (body-judged k e) ∙ z in
       record {
-        answered = rw same (f ∙ ap₂ Fields (right .class-is) (right .span-is));
+        answered = ap headOf f ∙ head-fields (answerRefusal s n m) (classField s) (spanField s) span same (right .class-is) (right .span-is);
         kept = λ r. absurd (r same);
         stamps-read = λ r. rw (right .class-is) at p;
         picks-read = λ r. rw (right .class-is) at q;

@@ -9,8 +9,7 @@ use borrow.Author.Tests.{eq-eqb, ne-eqb, le-ltb}
 use Rattle.definitions.specs.Limits.{highest-n, highest-m, length-bytes, answer-kind, answer-header}
 use Rattle.definitions.specs.ProblemRecord.{lengthField, kindField, nField}
 use Rattle.definitions.specs.AnswerRecord.{known-class, answerSize, classField, answerHeaderRefusal}
-use Rattle.answers.specs.AnswerReading.{headBy, headerJudged}
-use Rattle.answers.specs.declared.answer.AnswerHead.the-variants.{Fields, Refused}
+use Rattle.answers.specs.AnswerReading.{headerJudged}
 
 -- ---- the header
 
@@ -63,14 +62,3 @@ pub header-judged : (s : List ℕ) (size n m : ℕ) {length kind own class k : �
     → class ≡ classField s → k ≡ headerJudged size length kind own class n m → k ≡ answerHeaderRefusal s size n m
 unfolding headerJudged answerHeaderRefusal
 header-judged s size n m a b c d e = rw (a, b, c, d) at e
-
--- No refusal gives the fields.
-pub head-fields : (k : ℕ) {class span c w : ℕ} → k ≡ 0 → c ≡ class → w ≡ span → Fields c w ≡ headBy k class span
-unfolding headBy
-head-fields k z e f = rw (z, e, f)
-
--- A refusal gives its number.
-pub head-refused : (k class span : ℕ) → (k ≡ 0 → ⊥) → Refused k ≡ headBy k class span
-unfolding headBy
-head-refused zero class span h = absurd (h refl)
-head-refused (suc k) class span h = refl

@@ -6,18 +6,19 @@ use mathlib.Core.List.{List, [], _∷_}
 use lib.Dec.{eqb, ltb}
 use lib.ListN.{length}
 use Rattle.definitions.specs.Limits.{length-bytes, signed-bytes, span-place, answer-kind, answer-header}
-use Rattle.definitions.specs.Bytes.{numAt, first}
+use Rattle.definitions.specs.Tropical.{Trop}
+use Rattle.definitions.specs.Bytes.{numAt, first, Outcome, refusal, gives}
 use Rattle.definitions.specs.ProblemRecord.{above-limits}
-use Rattle.definitions.specs.Offset.{off}
-use Rattle.definitions.specs.AnswerRecord.{known-class, answerSize, classField, answerHeaderRefusal, answerRefusal}
+use Rattle.definitions.specs.Offset.{tropOf, off}
+use Rattle.definitions.specs.AnswerRecord.{known-class, answerSize, answerRefusal, answerOutcome}
 use Rattle.answers.specs.Fields.{Padded, stampsOf, picksOf}
 use Rattle.answers.specs.declared.answer.AnswerHead.{AnswerHead}
 use Rattle.answers.specs.declared.answer.AnswerHead.the-variants.{Fields, Refused}
 
--- A refusal's number, and the fields where it is 0.
-unfoldable pub headBy : ℕ → ℕ → ℕ → AnswerHead
-headBy zero class span = Fields class span
-headBy (suc k) class span = Refused (suc k)
+-- Document 01's result for each case: class and span, or the number of the refusal.
+unfoldable pub headOf : AnswerHead → Outcome (ℕ × Trop)
+headOf (Fields class span) = gives (class, tropOf span)
+headOf (Refused k) = refusal k
 
 -- Refusals 4 and 8 to 11 on the numbers of a header.
 unfoldable pub headerJudged : ℕ → ℕ → ℕ → ℕ → ℕ → ℕ → ℕ → ℕ
@@ -34,18 +35,10 @@ headerJudged size length kind own class n m =
 abbrev pub spanNumber : List ℕ → ℕ
 spanNumber s = off (numAt signed-bytes s span-place)
 
--- What the first bytes of an answer and its size say, with the problem's n and m.
-unfoldable pub answerHeadOf : List ℕ → ℕ → ℕ → ℕ → AnswerHead
-answerHeadOf s size n m = headBy (answerHeaderRefusal s size n m) (classField s) (spanNumber s)
-
--- What a whole answer says.
-unfoldable pub answerReadOf : List ℕ → ℕ → ℕ → AnswerHead
-answerReadOf s n m = headBy (answerRefusal s n m) (classField s) (spanNumber s)
-
 -- What the reader gives back: the first refusal and both arrays as they were, or class and span, with the stamps in
 -- one array and the picks in the other, 0 behind them.
 pub record AnswerRead (s : List ℕ) (n m : ℕ) (r : AnswerHead) (stamps-before stamps picks-before picks : List ℕ) : Type 0 where
-  pub answered : r ≡ answerReadOf s n m
+  pub answered : headOf r ≡ answerOutcome s n m
   pub kept : (answerRefusal s n m ≡ 0 → ⊥) → (stamps ≡ stamps-before) × (picks ≡ picks-before)
   pub stamps-read : answerRefusal s n m ≡ 0 → Padded 32 (stampsOf s n) stamps
   pub picks-read : answerRefusal s n m ≡ 0 → Padded 64 (picksOf s n m) picks

@@ -23,9 +23,9 @@ ghost use Prim.Native.Nat.{_<_, _≤_, _+_, _*_};
 ghost use lib.ListN.{length};
 ghost use Rattle.definitions.specs.Bytes.{numAt};
 ghost use Rattle.definitions.specs.Offset.{tropOf, off};
-ghost use Rattle.definitions.specs.AnswerRecord.{answerSize, stampsFit, picksFit, formRefusal};
+ghost use Rattle.definitions.specs.AnswerRecord.{answerSize, stampsFit, picksFit, formRefusal, answerHeaderOutcome};
 ghost use Rattle.answers.specs.Fields.{bodyOf, stampsAt, picksAt, stampFits, Padded};
-ghost use Rattle.answers.specs.AnswerReading.{headerJudged, answerHeadOf, AnswerRead};
+ghost use Rattle.answers.specs.AnswerReading.{headOf, headerJudged, AnswerRead};
 
 // What reading an answer answers: its class and its span's offset number, or the number of the refusal.
 pub enum AnswerHead {
@@ -73,7 +73,7 @@ fn judge_header(
 // The first bytes of an answer and its size: class and span, or the first of refusals 4 and 8 to 11. A byte past the
 // end counts as 0. Public for the checker's `input`.
 pub fn read_answer_header(bytes: &[u8], size: usize, n: usize, m: usize) -> AnswerHead
-    ensures { λ r. ⌜ r ≡ answerHeadOf (now (bytes .entry)) size n m ⌝ }
+    ensures { λ r. ⌜ headOf r ≡ answerHeaderOutcome (now (bytes .entry)) size n m ⌝ }
 {
     let length = word_at(bytes, 0);
     let kind = short_at(bytes, 4);

@@ -7,16 +7,17 @@ use native.Mathlib.Nat.{zero-add}
 use lib.ListN.{length, getD, take, set}
 use lib.Seq.{length-take-le, take-all}
 use Rattle.definitions.specs.Limits.{signed-bytes, span-place}
-use Rattle.definitions.specs.Bytes.{put, numAt}
-use Rattle.definitions.specs.AnswerRecord.{answerRefusal, classField}
-use Rattle.definitions.proofs.Offset.{off-bound}
+use Rattle.definitions.specs.Bytes.{Bytes, put, numAt}
+use Rattle.definitions.specs.AnswerRecord.{answerRefusal, answerOutcome, answerOf, classField, spanField}
+use Rattle.definitions.proofs.Offset.{off-bound, tropOf-injective}
 use Rattle.definitions.proofs.Refusals.{answer-fits}
 use Rattle.definitions.proofs.RoundTrip.{class-most}
 use Rattle.definitions.proofs.Put.{put-nil, put-more, length-put}
 use Rattle.answers.specs.declared.answer.AnswerHead.{AnswerHead}
 use Rattle.answers.specs.declared.answer.AnswerHead.the-variants as Heads
-use Rattle.answers.specs.AnswerReading.{AnswerRead, answerReadOf, headBy, spanNumber}
+use Rattle.answers.specs.AnswerReading.{AnswerRead, spanNumber}
 use Rattle.answers.proofs.Heads.{fields-by, refused-by}
+use Rattle.answers.proofs.Judging.{span-meant}
 use Rattle.capi.specs.Numbers.{ReadsAs, PlacesAs, stamp-places, pick-places, fieldsNumber, low-byte, low-half}
 
 -- The first i numbers are copied.
@@ -55,11 +56,11 @@ pub record Taken (s : List ℕ) (n m class span : ℕ) : Type 0 where
   pub span-is : spanNumber s ≡ span
 
 pub taken : {s : List ℕ} {n m : ℕ} {head : AnswerHead} {class span : ℕ} {stamps-before stamps picks-before picks : List ℕ}
-    → AnswerRead s n m head stamps-before stamps picks-before picks → head ≡ Heads.Fields class span → Taken s n m class span
-unfolding answerReadOf
-taken {s} {n} {m} r e =
-    let h = fields-by (answerRefusal s n m) (classField s) (spanNumber s) (sym e ∙ r .answered) in
-    record { none = h .0; class-is = sym (h .1); span-is = sym (h .2) }
+    → Bytes s → AnswerRead s n m head stamps-before stamps picks-before picks → head ≡ Heads.Fields class span → Taken s n m class span
+unfolding answerOutcome answerOf
+taken {s} {n} {m} {span = span} b r e =
+    let h = fields-by (answerRefusal s n m) (classField s) (spanField s) (r .answered) e in
+    record { none = h .0; class-is = sym (h .1); span-is = tropOf-injective (spanNumber s) span (span-meant b n m ∙ sym (h .2)) }
 
 -- Its class and span are small.
 pub taken-small : {s : List ℕ} {n m class span : ℕ} → Taken s n m class span → (class < low-byte) × (span < low-half)
@@ -68,21 +69,21 @@ taken-small {s} {n} {m} t =
     (omega (arith, class-most (classField s) (f .class-known), t .class-is), omega (arith, off-bound (numAt signed-bytes s span-place), t .span-is))
 
 pub reads-fields : {s : List ℕ} {n m : ℕ} {head : AnswerHead} {class span : ℕ} {stamps-own stamps picks-own picks : List ℕ}
-    → AnswerRead s n m head stamps-own stamps picks-own picks → head ≡ Heads.Fields class span
+    → Bytes s → AnswerRead s n m head stamps-own stamps picks-own picks → head ≡ Heads.Fields class span
     → {stamps-before picks-before stamps-after picks-after : List ℕ} {number : ℕ}
     → PlacesAs (fieldsNumber class span) stamps picks stamps-before picks-before number stamps-after picks-after
     → ReadsAs s n m stamps-before picks-before number stamps-after picks-after
-reads-fields r e (PlacesAs.too-few h) = ReadsAs.too-few (taken r e .none) h
-reads-fields {s} {n} {m} {class = class} {span} {stamps = stamps} {picks = picks} r e {stamps-before} {picks-before} (PlacesAs.lent f g) =
-    let t = taken r e in
+reads-fields b r e (PlacesAs.too-few h) = ReadsAs.too-few (taken b r e .none) h
+reads-fields {s} {n} {m} {class = class} {span} {stamps = stamps} {picks = picks} b r e {stamps-before} {picks-before} (PlacesAs.lent f g) =
+    let t = taken b r e in
     let number-is : fieldsNumber (classField s) (spanNumber s) ≡ fieldsNumber class span = ap₂ fieldsNumber (t .class-is) (t .span-is) in
     subst (λ (k : ℕ). ReadsAs s n m stamps-before picks-before k (put stamps-before 0 stamps) (put picks-before 0 picks)) number-is (ReadsAs.read (t .none) f g (r .stamps-read (t .none)) (r .picks-read (t .none)))
 
 pub reads-refused : {s : List ℕ} {n m : ℕ} {head : AnswerHead} {k : ℕ} {stamps-own stamps picks-own picks : List ℕ}
     → AnswerRead s n m head stamps-own stamps picks-own picks → head ≡ Heads.Refused k → (stamps-before picks-before : List ℕ)
     → ReadsAs s n m stamps-before picks-before k stamps-before picks-before
-unfolding answerReadOf
-reads-refused {s} {n} {m} {k = k} r e stamps-before picks-before = go k (refused-by (answerRefusal s n m) (classField s) (spanNumber s) (sym e ∙ r .answered))
+unfolding answerOutcome
+reads-refused {s} {n} {m} {k = k} r e stamps-before picks-before = go k (refused-by (answerRefusal s n m) (classField s, spanField s) (r .answered) e)
   where
     go : (j : ℕ) → (j ≡ answerRefusal s n m) × (answerRefusal s n m ≡ 0 → ⊥) → ReadsAs s n m stamps-before picks-before j stamps-before picks-before
     go zero h = absurd (h .1 (sym (h .0)))

@@ -11,7 +11,7 @@ use Rattle.definitions.specs.Tropical.{Trop}
 use Rattle.definitions.specs.Offset.{tropOf}
 use Rattle.definitions.specs.Bytes.{blank-or-within}
 use Rattle.definitions.specs.ProblemRecord.{problemRefusal, nField, mField}
-use Rattle.definitions.specs.AnswerRecord.{Answer, answerRefusal, answerOf, answerSize, writerRefusal, classField}
+use Rattle.definitions.specs.AnswerRecord.{Answer, answerRefusal, answerOf, answerSize, writerRefusal, writerOutcome, classField}
 use Rattle.definitions.specs.Verdict as Verdicts
 use Rattle.definitions.specs.Verdict.{checkRefusal, answerFor, Judged}
 use Rattle.definitions.specs.Solved.{Solves}
@@ -20,7 +20,7 @@ use Rattle.definitions.proofs.Refusals.{or-else-none, answer-fits, writer-fits}
 use Rattle.definitions.proofs.RoundTrip.{class-most, span-within, size-most}
 use Rattle.writing.specs.declared.writer.Written.{Written}
 use Rattle.writing.specs.declared.writer.Written.the-variants as Results
-use Rattle.writing.specs.AnswerWriting.{AnswerWritten, writtenOf, writtenBy}
+use Rattle.writing.specs.AnswerWriting.{AnswerWritten, writtenOf}
 use Rattle.writing.proofs.Trips.{record-by}
 use Rattle.engine.specs.declared.solve.Solved.{Solved}
 use Rattle.engine.specs.declared.solve.Solved.the-variants as Solutions
@@ -30,7 +30,7 @@ use Rattle.checker.specs.declared.check.Verdict.the-variants as Turned
 use Rattle.checker.specs.Outcome.{verdictOf}
 use Rattle.guarantees.proofs.Engine.{few}
 use Rattle.guarantees.proofs.OwnAnswers.{own-wrote}
-use Rattle.capi.specs.Numbers.{FewTrials, SmallFields, SmallRecord, Numbered, WritesAs, solvedNumber, fieldsNumber, numberOf, writtenNumber, low-byte, low-half}
+use Rattle.capi.specs.Numbers.{FewTrials, SmallFields, SmallRecord, Numbered, WritesAs, solvedNumber, fieldsNumber, writtenNumber, low-byte, low-half}
 
 pub few-trials : {p before after : List ℕ} {r : Solved} → Solves p before (solvedOf r) after → FewTrials r
 few-trials {p} h = record { few = λ e. let w = own-wrote h e in few p (w .within) (w .answers .found) }
@@ -61,10 +61,10 @@ small-fields {p} {a} j = record {
 }
 
 pub small-record : (a : Answer) (n m : ℕ) {r : Written} (before after : List ℕ) → AnswerWritten a n m r before after → SmallRecord r
-unfolding writtenOf
+unfolding writerOutcome
 small-record a n m before after w = record {
   size-small = λ {size} e.
-      let h = record-by (writerRefusal a n m (length before)) (answerSize (a .class) n m) (sym e ∙ w .answered) in
+      let h = record-by (writerRefusal a n m (length before)) (answerSize (a .class) n m) (w .answered) e in
       let f = writer-fits a n m (length before) .0 (h .0) in
       omega (arith, h .1, size-most (a .class) n m (f .n-most) (f .m-most));
 }
@@ -87,19 +87,13 @@ pub refused-numbered : {v : Verdict} {k : ℕ} → v ≡ Turned.Refused k → Nu
 unfolding verdictOf
 refused-numbered {k = k} e = rw e (Numbered.refused k)
 
-pub record-number : {r : Written} {size : ℕ} → r ≡ Results.Record size → low-byte * size ≡ numberOf r
-unfolding numberOf
-record-number e = sym (ap numberOf e)
+pub record-number : {r : Written} {size : ℕ} → r ≡ Results.Record size → low-byte * size ≡ writtenNumber (writtenOf r)
+unfolding writtenNumber writtenOf
+record-number e = sym (ap (λ (x : Written). writtenNumber (writtenOf x)) e)
 
-pub unwritten-number : {r : Written} {k : ℕ} → r ≡ Results.Refused k → k ≡ numberOf r
-unfolding numberOf
-unwritten-number e = sym (ap numberOf e)
+pub unwritten-number : {r : Written} {k : ℕ} → r ≡ Results.Refused k → k ≡ writtenNumber (writtenOf r)
+unfolding writtenNumber writtenOf
+unwritten-number e = sym (ap (λ (x : Written). writtenNumber (writtenOf x)) e)
 
-same-number : (k size : ℕ) → numberOf (writtenBy k size) ≡ writtenNumber k size
-unfolding numberOf writtenBy writtenNumber
-same-number zero size = refl
-same-number (suc k) size = refl
-
-pub writes-as : (a : Answer) (n m : ℕ) {r : Written} (before after : List ℕ) {number : ℕ} → AnswerWritten a n m r before after → number ≡ numberOf r → WritesAs a n m number before after
-unfolding writtenOf
-writes-as a n m before after w e = record { number-is = e ∙ ap numberOf (w .answered) ∙ same-number (writerRefusal a n m (length before)) _; buffer = w .buffer }
+pub writes-as : (a : Answer) (n m : ℕ) {r : Written} (before after : List ℕ) {number : ℕ} → AnswerWritten a n m r before after → number ≡ writtenNumber (writtenOf r) → WritesAs a n m number before after
+writes-as a n m before after w e = record { number-is = e ∙ ap writtenNumber (w .answered); buffer = w .buffer }

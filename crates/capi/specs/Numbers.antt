@@ -5,9 +5,9 @@ use mathlib.Core.List.{List}
 use mathlib.Core.Logic.{_⊎_}
 use lib.ListN.{length}
 use Rattle.definitions.specs.Limits.{highest-n, highest-m, byte-values, signed-full, most-trials, answer-most}
-use Rattle.definitions.specs.Bytes.{put}
+use Rattle.definitions.specs.Bytes.{put, Outcome, refusal, gives}
 use Rattle.definitions.specs.Offset.{tropOf}
-use Rattle.definitions.specs.AnswerRecord.{Answer, answerRefusal, answerSize, answerBytes, classField, writerRefusal, written}
+use Rattle.definitions.specs.AnswerRecord.{Answer, answerRefusal, answerBytes, classField, writerRefusal, writerOutcome, written}
 use Rattle.definitions.specs.Verdict as Verdicts
 use Rattle.definitions.specs.Verdict.{Judged}
 use Rattle.definitions.specs.Solved as Results
@@ -16,7 +16,7 @@ use Rattle.answers.specs.Fields.{Padded, stampsOf, picksOf}
 use Rattle.answers.specs.AnswerReading.{spanNumber}
 use Rattle.writing.specs.AnswerWriting.{unlessRefused}
 use Rattle.writing.specs.declared.writer.Written.{Written}
-use Rattle.writing.specs.declared.writer.Written.the-variants.{Record, Refused}
+use Rattle.writing.specs.declared.writer.Written.the-variants.{Record}
 use Rattle.engine.specs.declared.solve.Solved.{Solved}
 use Rattle.engine.specs.declared.solve.Solved.the-variants.{Answered}
 use Rattle.checker.specs.declared.check.Verdict.{Verdict}
@@ -73,14 +73,14 @@ pub record SmallFields (v : Verdict) : Type 0 where
 -- ---- span_write
 
 -- The writer's result: 256 × the record's size where written, else the refusal.
-unfoldable pub writtenNumber : ℕ → ℕ → ℕ
-writtenNumber zero size = low-byte * size
-writtenNumber (suc k) size = suc k
+unfoldable pub writtenNumber : Outcome ℕ → ℕ
+writtenNumber (refusal k) = k
+writtenNumber (gives size) = low-byte * size
 
 -- The writer's result as a number; a refusal leaves the buffer as it was, and else the record stands at its start, every byte
 -- after it as it was.
 pub record WritesAs (a : Answer) (n m number : ℕ) (before after : List ℕ) : Type 0 where
-  pub number-is : number ≡ writtenNumber (writerRefusal a n m (length before)) (answerSize (a .class) n m)
+  pub number-is : number ≡ writtenNumber (writerOutcome a n m (length before))
   pub buffer : after ≡ unlessRefused (writerRefusal a n m (length before)) before (written before (answerBytes n a))
 
 -- A record that was written is short.
@@ -109,11 +109,6 @@ pub data ReadsAs (s : List ℕ) (n m : ℕ) (stamps-before picks-before : List �
   read :
       {stamps picks : List ℕ} → answerRefusal s n m ≡ 0 → stamp-places ≤ length stamps-before → pick-places ≤ length picks-before → Padded stamp-places (stampsOf s n) stamps → Padded pick-places (picksOf s n m) picks
       → ReadsAs s n m stamps-before picks-before (fieldsNumber (classField s) (spanNumber s)) (put stamps-before 0 stamps) (put picks-before 0 picks)
-
--- The number of the writer's result.
-unfoldable pub numberOf : Written → ℕ
-numberOf (Record size) = low-byte * size
-numberOf (Refused k) = k
 
 -- Stamps and picks handed out, and the number that goes with them: 255 and the places as they were, where these are too few; or
 -- both at the start of the places.

@@ -5,7 +5,8 @@ ghost use Prim.Native.Nat.{ℕ, _≤_, _<_};
 ghost use lib.ListN.{length};
 ghost use Rattle.definitions.specs.Bytes.{put};
 ghost use Rattle.answers.specs.Fields.{fieldsOf};
-ghost use Rattle.capi.specs.Numbers.{WritesAs, SmallRecord, ReadsAs, PlacesAs, numberOf, low-byte, low-half, fieldsNumber};
+ghost use Rattle.writing.specs.AnswerWriting.{writtenOf};
+ghost use Rattle.capi.specs.Numbers.{WritesAs, SmallRecord, ReadsAs, PlacesAs, writtenNumber, low-byte, low-half, fieldsNumber};
 use answers::answer::AnswerHead;
 use answers::answer::read_answer;
 use writing::writer::Written;
@@ -21,7 +22,7 @@ const TOO_FEW_PLACES: u64 = 255;
 // 256 × size where written, else the refusal.
 fn written_number(written: Written) -> u64
     requires { ⌜ SmallRecord written ⌝ }
-    ensures { λ r. ⌜ r ≡ numberOf written ⌝ }
+    ensures { λ r. ⌜ r ≡ writtenNumber (writtenOf written) ⌝ }
 {
     match written {
         Written::Record(size) => 256 * size as u64,

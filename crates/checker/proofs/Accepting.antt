@@ -6,13 +6,12 @@ use mathlib.Core.List.{List}
 use mathlib.Core.Logic.{_↔_}
 use native.Mathlib.Omega.{arith}
 use Rattle.definitions.specs.Limits.{lead-limit, span-limit, answer-most}
-use Rattle.definitions.specs.Bytes.{Bytes}
 use Rattle.definitions.specs.ProblemRecord.{nField, mField, problemRefusal, WithinLayout, problemOf}
 use Rattle.definitions.specs.AnswerRecord.{Answer, answerRefusal, answerBytes}
 use Rattle.definitions.specs.Verdict.{Verdict, accepts, Accepted, optimal, unbounded, infeasible, checkRefusal, answerFor, Judged, turned-away, certified, uncertified}
-use Rattle.definitions.specs.Demands.{Checker, Accepts, CheckerJudges, CheckerRefuses, AcceptsExactly, PlanHolds, NeverBroken}
+use Rattle.definitions.specs.Demands.{Slice, Checker, Accepts, CheckerJudges, CheckerRefuses, AcceptsExactly, PlanHolds, NeverBroken}
 use Rattle.definitions.proofs.Refusals.{problem-fits, or-else-none, left-size, right-size, WriterFits}
-use Rattle.definitions.proofs.RoundTrip.{answer-bytes, answer-back, answer-accepted}
+use Rattle.definitions.proofs.RoundTrip.{answer-bytes, answer-back, answer-accepted, answer-length-most}
 use Rattle.duality.specs.Within.{Within}
 use Rattle.duality.proofs.Numbers.{top-enough}
 use Rattle.checker.proofs.Judgement.{judged-unique}
@@ -26,13 +25,17 @@ accepts-judged (turned-away e) t = absurd (false≢true t)
 accepts-judged (certified e h) t = (e, h)
 accepts-judged (uncertified e h) t = absurd (false≢true t)
 
+-- The record of an answer can be handed over.
+pub record-slice : (n m room : ℕ) (a : Answer) → WriterFits a n m room → Slice (answerBytes n a)
+record-slice n m room a f = record { bytes = answer-bytes n a; size = omega (arith, answer-length-most a n m room f) }
+
 module _ (check : Checker) (judges : CheckerJudges check) where
   -- Bytes outside the layouts get the first refusal that applies.
   pub checker-refuses : CheckerRefuses check
   checker-refuses p a b c k e = judged-unique (judges p a b c) (turned-away e)
 
   -- What is accepted is of the right form, and all that is listed holds,
-  pub accepts-only : (p a : List ℕ) → Bytes p → Bytes a → Accepts check p a
+  pub accepts-only : (p a : List ℕ) → Slice p → Slice a → Accepts check p a
       → (answerRefusal a (nField p) (mField p) ≡ 0) × Accepted (problemOf p) (answerFor p a)
   unfolding checkRefusal
   accepts-only p a b c t =
@@ -40,7 +43,7 @@ module _ (check : Checker) (judges : CheckerJudges check) where
       (or-else-none (problemRefusal p) (answerRefusal a (nField p) (mField p)) .0 (h .0) .1, h .1)
 
   -- and the other way round.
-  pub accepts-all : (p a : List ℕ) → Bytes p → Bytes a → WithinLayout p → answerRefusal a (nField p) (mField p) ≡ 0 → Accepted (problemOf p) (answerFor p a)
+  pub accepts-all : (p a : List ℕ) → Slice p → Slice a → WithinLayout p → answerRefusal a (nField p) (mField p) ≡ 0 → Accepted (problemOf p) (answerFor p a)
       → Accepts check p a
   unfolding checkRefusal accepts
   accepts-all p a b c w e h = ap accepts (judged-unique (judges p a b c) (certified (or-else-none (problemRefusal p) (answerRefusal a (nField p) (mField p)) .1 (w, e)) h))
@@ -60,12 +63,13 @@ module _ (check : Checker) (judges : CheckerJudges check) where
   -- ---- answers that were written
 
   -- The record of an answer of the right form is accepted exactly when all that is listed for the answer holds.
-  pub record-accepted : (p : List ℕ) (a : Answer) → Bytes p → WithinLayout p → WriterFits a (nField p) (mField p) answer-most
+  pub record-accepted : (p : List ℕ) (a : Answer) → Slice p → WithinLayout p → WriterFits a (nField p) (mField p) answer-most
       → Accepts check p (answerBytes (nField p) a) ↔ Accepted (problemOf p) a
   record-accepted p a b w f =
+      let s = record-slice (nField p) (mField p) answer-most a f in
       let back : answerFor p (answerBytes (nField p) a) ≡ a = answer-back a (nField p) (mField p) answer-most f in (
-        λ t. rw back at (accepts-only p (answerBytes (nField p) a) b (answer-bytes (nField p) a) t .1),
-        λ h. accepts-all p (answerBytes (nField p) a) b (answer-bytes (nField p) a) w (answer-accepted a (nField p) (mField p) answer-most f) (rw back h),
+        λ t. rw back at (accepts-only p (answerBytes (nField p) a) b s t .1),
+        λ h. accepts-all p (answerBytes (nField p) a) b s w (answer-accepted a (nField p) (mField p) answer-most f) (rw back h),
       )
 
 -- ---- problems within the layout are small

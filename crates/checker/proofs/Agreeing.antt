@@ -19,25 +19,13 @@ use Rattle.definitions.specs.Verdict.{pointOf, strategyOf}
 use Rattle.definitions.proofs.Whole.{nat-le-or-lt}
 use Rattle.definitions.proofs.Tropical.{largest-ext}
 use Rattle.definitions.proofs.Bytes.{all-true}
+use Rattle.definitions.proofs.ProblemBack.{listed-length, listed-at}
 use Rattle.duality.specs.Circuits.{ObjectiveArc, RowObjectiveArc}
 use Rattle.duality.specs.Picks.{NoneAbove}
 use Rattle.duality.proofs.Reach.{reach-keep, reach-map, circuit-keep, circuit-map, uses-keep}
 use Rattle.duality.proofs.Cycles.{cycle-circuit, below-exactly, at-least-exactly, objective-exactly, row-objective-exactly}
 
 -- ---- f 0, …, f (k − 1) as a list
-
-pub listed-length {ℓ} : {A : Type ℓ} (f : ℕ → A) (k : ℕ) → length (listOf f k) ≡ k
-unfolding listOf
-listed-length f zero = refl
-listed-length f (suc k) = rw (length-append, listed-length f k) (omega arith)
-
-pub listed-at {ℓ} : {A : Type ℓ} (f : ℕ → A) (d : A) (k i : ℕ) → i < k → getD (listOf f k) i d ≡ f i
-unfolding listOf
-listed-at f d zero i h = absurd (omega arith)
-listed-at f d (suc k) i h = ⊎-elim
-    (λ (q : k ≤ i). let e : i ≡ k = omega arith in rw e (getD-at (listOf f k) (f k) [] d k (listed-length f k)))
-    (λ (q : i < k). let l : i < length (listOf f k) = rw listed-length q in List·getD-append (listOf f k) (f k ∷ []) d i l ∙ listed-at f d k i q)
-    (nat-le-or-lt k i)
 
 -- The point and the strategy that a list of them gives agree with it below k.
 pub listed-point : (x : Point) (k j : ℕ) → j < k → x j ≡ pointOf (listOf x k) j

@@ -12,7 +12,7 @@ use Rattle.definitions.specs.Limits.{signed-half, stamp-limit, span-limit}
 use Rattle.definitions.specs.Tropical.{Trop, bot}
 use Rattle.definitions.specs.Bytes.{Bytes, all, blank-or-within, whole-within}
 use Rattle.definitions.specs.Offset.{tropOf}
-use Rattle.definitions.specs.AnswerRecord.{is-zero, stampsFit, picksFit, spanFits, stampCount, highestPick, classField, answerOf, answerRefusal}
+use Rattle.definitions.specs.AnswerRecord.{is-zero, stampsFit, picksFit, spanFits, stampCount, highestPick, classField, spanField, answerOf, answerRefusal, answerOutcome}
 use Rattle.definitions.specs.Verdict.{pointOf, strategyOf}
 use Rattle.definitions.proofs.Whole.{nat-le-or-lt}
 use Rattle.definitions.proofs.Bytes.{all-true, length-numsAt}
@@ -22,9 +22,9 @@ use Rattle.definitions.proofs.RoundTrip.{stamps-within}
 use Rattle.answers.specs.declared.answer.AnswerHead.{AnswerHead}
 use Rattle.answers.specs.declared.answer.AnswerHead.the-variants as Heads
 use Rattle.records.specs.Decoded.{Near}
-use Rattle.answers.specs.AnswerReading.{headBy, spanNumber, answerReadOf, AnswerRead}
+use Rattle.answers.specs.AnswerReading.{headOf, AnswerRead}
 use Rattle.records.proofs.Near.{near-within}
-use Rattle.answers.proofs.Judging.{span-meant}
+use Rattle.answers.proofs.Heads.{fields-by}
 use Rattle.answers.proofs.Meaning.{stamps-point, picks-strategy}
 use Rattle.checker.specs.Outcome.{Span, Meant, Formed}
 
@@ -33,30 +33,25 @@ use Rattle.checker.specs.Outcome.{Span, Meant, Formed}
 pub record HeadRead (s : List ℕ) (n m class span : ℕ) : Type 0 where
   pub none : answerRefusal s n m ≡ 0
   pub class-is : class ≡ classField s
-  pub span-is : span ≡ spanNumber s
+  pub span-is : tropOf span ≡ spanField s
 
-head-fields : (k a b : ℕ) {class span : ℕ} → headBy k a b ≡ Heads.Fields class span → (k ≡ 0) × (class ≡ a) × (span ≡ b)
-unfolding headBy
-head-fields zero a b e = (refl, (cc), (cc))
-head-fields (suc k) a b e = absurd (let z : _≡_ {A = ℕ} 0 1 = cc in omega arith)
-
-pub head-read : (s : List ℕ) (n m : ℕ) {head : AnswerHead} {class span : ℕ} → head ≡ answerReadOf s n m → head ≡ Heads.Fields class span → HeadRead s n m class span
-unfolding answerReadOf
+pub head-read : (s : List ℕ) (n m : ℕ) {head : AnswerHead} {class span : ℕ} → headOf head ≡ answerOutcome s n m → head ≡ Heads.Fields class span → HeadRead s n m class span
+unfolding answerOutcome
 head-read s n m e f =
-    let r = head-fields (answerRefusal s n m) (classField s) (spanNumber s) (sym e ∙ f) in
+    let r = fields-by (answerRefusal s n m) (classField s) (spanField s) e f in
     record { none = r .0; class-is = r .1; span-is = r .2 }
 
 -- ---- stamps and picks
 
 -- An empty place is blank.
-within-at : (limit : ℕ) (xs : List Trop) → all (blank-or-within limit) xs ≡ true → (j : ℕ) → blank-or-within limit (getD xs j bot) ≡ true
+pub within-at : (limit : ℕ) (xs : List Trop) → all (blank-or-within limit) xs ≡ true → (j : ℕ) → blank-or-within limit (getD xs j bot) ≡ true
 unfolding blank-or-within
 within-at limit xs e j = ⊎-elim
     (λ (h : length xs ≤ j). rw (List·getD-eq-default xs bot h))
     (λ (h : j < length xs). all-true (blank-or-within limit) bot xs .0 e j h)
     (nat-le-or-lt (length xs) j)
 
-picks-at : (highest : ℕ) (xs : List ℕ) → picksFit highest xs ≡ true → (j : ℕ) → getD xs j 0 ≤ highest
+pub picks-at : (highest : ℕ) (xs : List ℕ) → picksFit highest xs ≡ true → (j : ℕ) → getD xs j 0 ≤ highest
 unfolding picksFit
 picks-at highest xs e j = ⊎-elim
     (λ (h : length xs ≤ j). rw (List·getD-eq-default xs 0 h) (omega arith))
@@ -84,7 +79,7 @@ module _ {s : List ℕ} {n m : ℕ} {head : AnswerHead} {stamps-before stamps pi
   unfolding answerOf
   read-means = record {
     class-is = sym (right .class-is);
-    span-is = rw (right .span-is) (sym (span-meant bytes n m));
+    span-is = sym (right .span-is);
     point-is = stamps-point read (right .none) bytes;
     strategy-is = picks-strategy read (right .none);
   }
@@ -107,7 +102,7 @@ module _ {s : List ℕ} {n m : ℕ} {head : AnswerHead} {stamps-before stamps pi
   unfolding answerOf spanFits
   whole-span e =
       let c : classField s ≡ 1 = sym (right .class-is) ∙ e in
-      span-near span (rw (right .span-is, span-meant bytes n m) (rw c at (fits .form .span-fits)))
+      span-near span (rw (right .span-is) (rw c at (fits .form .span-fits)))
 
   pub read-formed : Formed n m class span stamps picks
   unfolding strategyOf answerOf

@@ -4,17 +4,17 @@ use mathlib.Core.Path.{_≡_, refl}
 use mathlib.Core.List.{List}
 use lib.IntN.{ℤ}
 use Rattle.definitions.specs.Limits.{lead-limit, span-limit, class-optimal, class-unbounded, class-infeasible}
-use Rattle.definitions.specs.Bytes.{Bytes}
 use Rattle.definitions.specs.Problem.{Point, Feasible, value, whole, _≼_, Infeasible, Unbounded}
 use Rattle.definitions.specs.ProblemRecord.{nField, mField, WithinLayout, problemOf, listOf}
 use Rattle.definitions.specs.Verdict.{optimal, unbounded, infeasible}
-use Rattle.definitions.specs.Demands.{Checker, CheckerJudges, SomeTable, Fits, leastAnswer, blankAnswer}
+use Rattle.definitions.specs.Demands.{Slice, Checker, CheckerJudges, SomeTable, Fits, leastAnswer, blankAnswer}
+use Rattle.definitions.proofs.ProblemBack.{listed-length}
 use Rattle.duality.proofs.Classes.{optimal-accepted, infeasible-accepted, unbounded-accepted}
-use Rattle.checker.proofs.Agreeing.{listed-length, listed-point, listed-strategy, listed-fit, optimal-agrees, infeasible-agrees, unbounded-agrees}
+use Rattle.checker.proofs.Agreeing.{listed-point, listed-strategy, listed-fit, optimal-agrees, infeasible-agrees, unbounded-agrees}
 use Rattle.checker.proofs.Accepting.{record-accepted, layout-within, layout-enough}
 use Rattle.checker.proofs.Soundness.{least-fits, infeasible-fits, unbounded-fits}
 
-module _ (check : Checker) (judges : CheckerJudges check) (p : List ℕ) (b : Bytes p) (w : WithinLayout p) where
+module _ (check : Checker) (judges : CheckerJudges check) (p : List ℕ) (b : Slice p) (w : WithinLayout p) where
   -- A least plan is accepted with some table.
   pub least-complete : (x : Point) (s : ℤ) → Fits (nField p) s x → Feasible (problemOf p) x → value (problemOf p) x ≡ whole s
       → ((y : Point) → Feasible (problemOf p) y → whole s ≼ value (problemOf p) y) → SomeTable check p class-optimal (leastAnswer (nField p) s x)

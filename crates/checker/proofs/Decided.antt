@@ -19,7 +19,7 @@ use Rattle.definitions.specs.Problem as Problems
 use Rattle.definitions.specs.Problem.{Problem, Point, Value, minus-infinity, plus-infinity, Keeps, value}
 use Rattle.definitions.specs.Certificate.{PicksCount, BelowZero, RowPicksCount, AcceptedOptimal}
 use Rattle.definitions.specs.ProblemRecord.{listOf, WithinLayout, problemOf, nField, mField}
-use Rattle.definitions.specs.AnswerRecord.{Answer, classField, answerOf, answerRefusal}
+use Rattle.definitions.specs.AnswerRecord.{Answer, classField, spanField, answerOf, answerRefusal, answerOutcome}
 use Rattle.definitions.specs.Verdict.{Accepted, strategyOf}
 use Rattle.definitions.proofs.Whole as Whole
 use Rattle.definitions.proofs.Whole.{nat-le-or-lt, le-or-lt}
@@ -31,7 +31,10 @@ use Rattle.duality.specs.Values.{valueAt}
 use Rattle.duality.proofs.Longest.{exit-value, stable-potential, still-stable, potential-closed}
 use Rattle.leads.specs.Tables.{leftTable, rightTable}
 use Rattle.answers.specs.Fields.{Padded, stampsOf, picksOf}
-use Rattle.answers.specs.AnswerReading.{spanNumber, answerReadOf, AnswerRead}
+use Rattle.answers.specs.declared.answer.AnswerHead.the-variants as Heads
+use Rattle.answers.specs.AnswerReading.{spanNumber, AnswerRead}
+use Rattle.answers.proofs.Heads.{head-fields}
+use Rattle.answers.proofs.Judging.{span-meant}
 use Rattle.leads.proofs.Tables.{length-listOf, getD-listOf}
 use Rattle.answers.proofs.Passing.{stampsAt-length, picksAt-length}
 use Rattle.answers.proofs.ByClass.{stamps-most, picks-most}
@@ -279,10 +282,10 @@ module _ {p : Problem} {left right : List ℕ} {n m class span : ℕ} {stamps pi
 -- ---- bytes
 
 -- A list as an array, with 0 behind it.
-pad : ℕ → List ℕ → List ℕ
+pub pad : ℕ → List ℕ → List ℕ
 pad width xs = listOf (λ k. getD xs k 0) width
 
-padded : (width : ℕ) (xs : List ℕ) → length xs ≤ width → Padded width xs (pad width xs)
+pub padded : (width : ℕ) (xs : List ℕ) → length xs ≤ width → Padded width xs (pad width xs)
 unfolding pad
 padded width xs h = record {
   width-is = length-listOf _ width;
@@ -299,13 +302,13 @@ held-by : (p : List ℕ) → Bytes p → WithinLayout p → Holds (problemOf p) 
 unfolding problemOf
 held-by p b w = record { n-is = refl; m-is = refl; decoded = problem-decoded p b w }
 
-read-by : (a : List ℕ) (n m : ℕ) → answerRefusal a n m ≡ 0
-    → AnswerRead a n m (answerReadOf a n m) [] (pad 32 (stampsOf a n)) [] (pad 64 (picksOf a n m))
-unfolding stampsOf picksOf
-read-by a n m none =
+read-by : (a : List ℕ) (n m : ℕ) → Bytes a → answerRefusal a n m ≡ 0
+    → AnswerRead a n m (Heads.Fields (classField a) (spanNumber a)) [] (pad 32 (stampsOf a n)) [] (pad 64 (picksOf a n m))
+unfolding stampsOf picksOf answerOutcome answerOf
+read-by a n m b none =
     let f = answer-fits a n m .0 none in
     record {
-      answered = refl;
+      answered = head-fields (answerRefusal a n m) (classField a) (spanField a) (spanNumber a) none refl (span-meant b n m);
       kept = λ d. absurd (d none);
       stamps-read = λ _. padded 32 _ (rw stampsAt-length (stamps-most (classField a) n (f .n-most)));
       picks-read = λ _. padded 64 _ (rw picksAt-length (picks-most (classField a) n m (f .n-most) (f .m-most)));
@@ -314,13 +317,14 @@ read-by a n m none =
 -- Whether bytes of the right form are accepted.
 pub bytes-decided : (p a : List ℕ) → Bytes p → Bytes a → WithinLayout p → answerRefusal a (nField p) (mField p) ≡ 0
     → Decided (Accepted (problemOf p) (answerOf a (nField p) (mField p)))
+unfolding answerOf
 bytes-decided p a b c w none = accepted-decided held (read-formed c read right) (read-means c read right)
   where
     held : Holds (problemOf p) (leftTable p) (rightTable p) (nField p) (mField p)
     held = held-by p b w
 
     right : HeadRead a (nField p) (mField p) (classField a) (spanNumber a)
-    right = record { none = none; class-is = refl; span-is = refl }
+    right = record { none = none; class-is = refl; span-is = span-meant c (nField p) (mField p) }
 
-    read : AnswerRead a (nField p) (mField p) (answerReadOf a (nField p) (mField p)) [] (pad 32 (stampsOf a (nField p))) [] (pad 64 (picksOf a (nField p) (mField p)))
-    read = read-by a (nField p) (mField p) none
+    read : AnswerRead a (nField p) (mField p) (Heads.Fields (classField a) (spanNumber a)) [] (pad 32 (stampsOf a (nField p))) [] (pad 64 (picksOf a (nField p) (mField p)))
+    read = read-by a (nField p) (mField p) c none

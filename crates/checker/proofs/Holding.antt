@@ -7,11 +7,10 @@ use native.Mathlib.Omega.{arith}
 use borrow.Author.Tests.{ne-eqb}
 use Rattle.definitions.specs.Limits.{class-optimal}
 use Rattle.definitions.specs.Tropical.{Trop, bot, fin}
-use Rattle.definitions.specs.Bytes.{Bytes}
 use Rattle.definitions.specs.ProblemRecord.{nField, mField, problemOf}
 use Rattle.definitions.specs.AnswerRecord.{is-blank, spanFits, pickCount, highestPick, answerOf, answerRefusal}
 use Rattle.definitions.specs.Verdict.{Accepted, optimal, unbounded, infeasible, answerFor, strategyOf}
-use Rattle.definitions.specs.Demands.{Checker, Accepts, CheckerJudges}
+use Rattle.definitions.specs.Demands.{Slice, Checker, Accepts, CheckerJudges}
 use Rattle.definitions.proofs.Bytes.{length-numsAt}
 use Rattle.definitions.proofs.Refusals.{AnswerFits, answer-fits}
 use Rattle.duality.specs.Picks.{NoneAbove}
@@ -57,7 +56,7 @@ module _ (p a : List ℕ) (none : answerRefusal a (nField p) (mField p) ≡ 0) w
       (record { picks = _; none-above = picks-above (suc (mField p)) (suc (nField p)) (rw c) (rw c); accepted = h })))
 
 -- What any checker that judges accepts, says the class and span.
-pub checker-sound : (check : Checker) → CheckerJudges check → (p a : List ℕ) → Bytes p → Bytes a → Accepts check p a
+pub checker-sound : (check : Checker) → CheckerJudges check → (p a : List ℕ) → Slice p → Slice a → Accepts check p a
     → ClassHolds (problemOf p) (answerFor p a .class) (answerFor p a .span)
 checker-sound check judges p a b c t =
     let h = accepts-only check judges p a b c t in

@@ -88,5 +88,5 @@ the-checker-judges p a b c = go (bytes-known p) (bytes-known a)
   where
     go : (x : Bytes p ⊎ (Bytes p → ⊥)) (y : Bytes a ⊎ (Bytes a → ⊥)) → Judged p a (checked p a x y)
     go (inl b′) (inl c′) = judged-exists p a b′ c′ .judged
-    go (inl b′) (inr d) = absurd (d c)
-    go (inr d) y = absurd (d b)
+    go (inl b′) (inr d) = absurd (d (c .bytes))
+    go (inr d) y = absurd (d (b .bytes))

@@ -10,20 +10,23 @@ use lib.ListN.{length, getD, take, drop, length-take, length-drop}
 use lib.Seq.{getD-take, getD-drop, length-take-le, ext-getD, take-all}
 use borrow.Author.Tests.{lt-ltb, le-ltb, eqb-true, ne-eqb}
 use Rattle.definitions.specs.Limits.{kept-bytes, length-bytes, problem-header, answer-header, answer-most, highest-n, highest-m, answer-kind}
-use Rattle.definitions.specs.Bytes.{numAt}
-use Rattle.definitions.specs.ProblemRecord.{lengthField, kindField, nField, mField, headerRefusal, problemRefusal, WithinLayout}
-use Rattle.definitions.specs.AnswerRecord.{known-class, classField, answerSize, answerHeaderRefusal, answerRefusal}
+use Rattle.definitions.specs.Tropical.{Trop}
+use Rattle.definitions.specs.Bytes.{numAt, Outcome, outcome}
+use Rattle.definitions.specs.ProblemRecord.{lengthField, kindField, nField, mField, headerRefusal, headerOutcome, problemRefusal, WithinLayout}
+use Rattle.definitions.specs.AnswerRecord.{known-class, classField, spanField, answerSize, answerHeaderRefusal, answerHeaderOutcome, answerRefusal}
 use Rattle.definitions.specs.Verdict.{Verdict, refused, checkRefusal, Judged}
 use Rattle.definitions.specs.Programs.{cutPlace, problemPart, answerPart, KeptOf}
 use Rattle.definitions.proofs.Whole.{nat-le-or-lt}
 use Rattle.definitions.proofs.Refusals.{or-else-suc, limits-clause, enough-clause, equal-clause, both-clause}
 use Rattle.definitions.proofs.Inputs.{kept-at, length-agrees, n-agrees, m-agrees, header-agrees, answer-agrees, header-short, header-length, cut-past, cut-inside}
 use Rattle.definitions.proofs.RoundTrip.{size-most}
+use Rattle.definitions.proofs.Outcomes.{outcome-gives, outcome-refusal}
 use Rattle.records.specs.declared.problem.Header.{Header}
 use Rattle.records.specs.declared.problem.Header.the-variants as Headers
 use Rattle.answers.specs.declared.answer.AnswerHead.{AnswerHead}
+use Rattle.answers.specs.declared.answer.AnswerHead.the-variants as Heads
 use Rattle.records.specs.ProblemHeader.{problemRefused, headerOf}
-use Rattle.answers.specs.AnswerReading.{headBy, answerHeadOf, spanNumber}
+use Rattle.answers.specs.AnswerReading.{headOf}
 use Rattle.records.proofs.ProblemHeader.{header-fits, header-refuses, product-most}
 use Rattle.checker.specs.Outcome.{answerRefused}
 use Rattle.checker.specs.LongInput.{Longer}
@@ -32,7 +35,7 @@ use Rattle.checker.proofs.Verdicts.{turned}
 -- ---- long problems
 
 -- A header that is right says a size that is kept whole.
-pub header-small : (kept : List ℕ) (end : ℕ) {header : Header} {n m : ℕ} → header ≡ headerOf kept end → header ≡ Headers.Fields n m
+pub header-small : (kept : List ℕ) (end : ℕ) {header : Header} {n m : ℕ} → headerOf header ≡ headerOutcome kept end → header ≡ Headers.Fields n m
     → (problem-header ≤ end) × (end ≤ 16394) × (n ≤ highest-n) × (m ≤ highest-m)
 header-small kept end {n = n} {m = m} e f =
     let h = header-fits kept end e f in
@@ -41,7 +44,7 @@ header-small kept end {n = n} {m = m} e f =
 -- ---- long answers
 
 -- What is longer than every answer record is refused by its header.
-long-refused : (s : List ℕ) (size n m : ℕ) → n ≤ highest-n → m ≤ highest-m → answer-most < size → 0 < answerHeaderRefusal s size n m
+pub long-refused : (s : List ℕ) (size n m : ℕ) → n ≤ highest-n → m ≤ highest-m → answer-most < size → 0 < answerHeaderRefusal s size n m
 unfolding answerHeaderRefusal
 long-refused s size n m h k l = ⊎-elim
     (λ (e : answerHeaderRefusal s size n m ≡ 0).
@@ -54,17 +57,18 @@ long-refused s size n m h k l = ⊎-elim
     (λ q. q)
     (eq-zero-or-pos (answerHeaderRefusal s size n m))
 
-refused-is : (k class span : ℕ) → 0 < k → answerRefused (headBy k class span) ≡ k
-unfolding headBy answerRefused
-refused-is zero class span h = absurd (omega arith)
-refused-is (suc k) class span h = refl
+-- A head's number is that of its refusal, 0 for none.
+refused-is : (head : AnswerHead) (k : ℕ) (x : ℕ × Trop) → headOf head ≡ outcome k x → answerRefused head ≡ k
+unfolding headOf answerRefused
+refused-is (Heads.Fields class span) k x e = sym (outcome-gives k x _ (sym e) .0)
+refused-is (Heads.Refused j) k x e = sym (outcome-refusal k x j (sym e) .0)
 
-pub long-answer : (s : List ℕ) (size n m : ℕ) {head : AnswerHead} {r : ℕ} → n ≤ highest-n → m ≤ highest-m → answer-most < size
-    → head ≡ answerHeadOf s size n m → r ≡ answerRefused head → (r ≡ answerHeaderRefusal s size n m) × (0 < r)
-unfolding answerHeadOf
-long-answer s size n m {head} {r} h k l e f =
+pub long-answer : (s : List ℕ) (size n m : ℕ) (head : AnswerHead) {r : ℕ} → n ≤ highest-n → m ≤ highest-m → answer-most < size
+    → headOf head ≡ answerHeaderOutcome s size n m → r ≡ answerRefused head → (r ≡ answerHeaderRefusal s size n m) × (0 < r)
+unfolding answerHeaderOutcome
+long-answer s size n m head {r} h k l e f =
     let some = long-refused s size n m h k l in
-    let q : r ≡ answerHeaderRefusal s size n m = f ∙ ap answerRefused e ∙ refused-is (answerHeaderRefusal s size n m) (classField s) (spanNumber s) some in
+    let q : r ≡ answerHeaderRefusal s size n m = f ∙ refused-is head (answerHeaderRefusal s size n m) (classField s, spanField s) e in
     (q, omega arith)
 
 -- ---- inputs that are kept whole
@@ -99,7 +103,7 @@ module _ {kept input : List ℕ} {size end : ℕ} (longer : Longer kept size inp
       (nat-le-or-lt problem-header end))
 
   -- The header is refused.
-  pub long-header : {header : Header} {j r : ℕ} → header ≡ headerOf kept end → header ≡ Headers.Refused j → r ≡ problemRefused header
+  pub long-header : {header : Header} {j r : ℕ} → headerOf header ≡ headerOutcome kept end → header ≡ Headers.Refused j → r ≡ problemRefused header
       → Judged (take end input) (drop end input) (refused r)
   unfolding problemRefusal checkRefusal problemRefused
   long-header {header} {j} {r} e f g =
@@ -118,7 +122,7 @@ module _ {kept input : List ℕ} {size end : ℕ} (longer : Longer kept size inp
       (λ i b. getD-take end kept i 0 (omega arith) ∙ sym (part-same i (omega arith) (omega arith)))
 
   -- The problem is not refused, and the answer is, by its header.
-  pub long-answered : {header : Header} {n m r : ℕ} → header ≡ headerOf kept end → header ≡ Headers.Fields n m → WithinLayout (take end input)
+  pub long-answered : {header : Header} {n m r : ℕ} → headerOf header ≡ headerOutcome kept end → header ≡ Headers.Fields n m → WithinLayout (take end input)
       → r ≡ answerHeaderRefusal (drop end kept) (size - end) n m → 0 < r → Judged (take end input) (drop end input) (refused r)
   unfolding checkRefusal answerRefusal
   long-answered {header} {n} {m} {r} d f w g some =

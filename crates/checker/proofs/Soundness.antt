@@ -8,17 +8,17 @@ use lib.ListN.{length}
 use lib.IntN.{ℤ}
 use Rattle.definitions.specs.Limits.{answer-most, class-optimal, class-unbounded, class-infeasible}
 use Rattle.definitions.specs.Tropical.{Trop, fin}
-use Rattle.definitions.specs.Bytes.{Bytes}
 use Rattle.definitions.specs.Problem.{Problem, Point, Feasible, value, whole, _≼_, Infeasible, Unbounded}
 use Rattle.definitions.specs.Certificate.{AcceptedOptimal, AcceptedInfeasible, AcceptedUnbounded}
 use Rattle.definitions.specs.ProblemRecord.{nField, mField, WithinLayout, problemOf, listOf}
 use Rattle.definitions.specs.AnswerRecord.{spanFits, is-blank, stampsFit, pickCount, highestPick, picksFit}
 use Rattle.definitions.specs.Verdict.{Accepted, optimal, unbounded, infeasible, pointOf, strategyOf}
-use Rattle.definitions.specs.Demands.{Checker, CheckerJudges, SomeTable, Fits, leastAnswer, blankAnswer}
+use Rattle.definitions.specs.Demands.{Slice, Checker, CheckerJudges, SomeTable, Fits, leastAnswer, blankAnswer}
 use Rattle.definitions.proofs.Tropical.{fin-injective}
 use Rattle.definitions.proofs.Refusals.{problem-fits, WriterFits}
+use Rattle.definitions.proofs.ProblemBack.{listed-length}
 use Rattle.duality.proofs.Classes.{optimal-accepted, accepted-infeasible, accepted-unbounded}
-use Rattle.checker.proofs.Agreeing.{listed-length, fit-above}
+use Rattle.checker.proofs.Agreeing.{fit-above}
 use Rattle.checker.proofs.Accepting.{record-accepted}
 
 -- ---- answers of the right form
@@ -93,7 +93,7 @@ accepted-bottomless (infeasible c h) = absurd (omega (arith, c))
 
 -- ---- the demand
 
-module _ (check : Checker) (judges : CheckerJudges check) (p : List ℕ) (b : Bytes p) (w : WithinLayout p) where
+module _ (check : Checker) (judges : CheckerJudges check) (p : List ℕ) (b : Slice p) (w : WithinLayout p) where
   -- A plan that is accepted with some table is least.
   pub least-sound : (x : Point) (s : ℤ) → Fits (nField p) s x → SomeTable check p class-optimal (leastAnswer (nField p) s x)
       → (y : Point) → Feasible (problemOf p) y → whole s ≼ value (problemOf p) y

@@ -1,24 +1,30 @@
 -- The starred examples of document 01, over the one table of the definitions: class and span hold by the definitions,
 -- through the checker's soundness; M is not certified.
-use mathlib.Core.Path.{_≡_, refl, ap}
+use Prim.Native.Nat.{ℕ}
+use mathlib.Core.Path.{_≡_, refl, ap, subst}
 use mathlib.Core.Bool.{Bool, true, false, _&&_, and-eq-true-iff, false≢true}
 use mathlib.Core.List.{_++_, List, [], _∷_, map}
-use lib.IntN.{pos}
+use native.Mathlib.Omega.{arith}
+use lib.IntN.{ℤ, pos}
+use Rattle.definitions.specs.Limits.{class-optimal}
 use Rattle.definitions.specs.Tropical.{Trop, bot, fin, plus, larger, largest}
-use Rattle.definitions.specs.Bytes.{all, numAt, numsAt, signed, tropField, tropAt}
-use Rattle.definitions.specs.Problem.{side, value, minus}
+use Rattle.definitions.specs.Bytes.{all, blank-or-within, numAt, numsAt, signed, tropField, tropAt}
+use Rattle.definitions.specs.Problem.{Problem, Optimal, side, value, minus}
 use Rattle.definitions.specs.Certificate.{raise}
-use Rattle.definitions.specs.ProblemRecord.{problemOf, problemRefusal, nField, mField}
+use Rattle.definitions.specs.ProblemRecord.{problemOf, problemRefusal, headerRefusal, leadsOf, nField, mField}
 use Rattle.definitions.specs.AnswerRecord.{answerOf, answerRefusal}
 use Rattle.definitions.specs.Verdict.{checkRefusal, answerFor, pointOf, strategyOf, accepted, refused, Judged, certified, uncertified}
 use Rattle.definitions.specs.Examples.{Example, examples, example-A, example-B, example-C, example-D, example-E, example-F, example-G, example-H, example-I, example-J, example-K, example-M}
 use Rattle.definitions.specs.Programs.{digits, decimal, wholeDecimal, spanDecimal, text-accepted, text-least, classWords, verdictLine, cutPlace, problemPart, answerPart, VerdictOutput}
-use Rattle.definitions.specs.Demands.{Checker, CheckerJudges}
+use Rattle.definitions.specs.Demands.{Checker, CheckerJudges, SomeTable, leastAnswer}
 use Rattle.definitions.proofs.Refusals.{or-else-none}
-use Rattle.definitions.proofs.Examples.{table, asRead, no-refusals, words-are-read, accepted-A, not-accepted-M}
+use Rattle.definitions.proofs.Examples.{table, asRead, no-refusals, words-are-read, accepted-A, not-accepted-M, plan-E, fits-E, feasible-E, value-E}
+use Rattle.definitions.proofs.Tropical.{fin-injective}
+use Rattle.checker.specs.ClassHolds as Classes
 use Rattle.checker.specs.ClassHolds.{ClassHolds}
 use Rattle.checker.proofs.Judgement.{judged-unique, all-bytes}
 use Rattle.checker.proofs.Holding.{accepted-holds}
+use Rattle.checker.proofs.Demand3.{least-exactly}
 use Rattle.certificates.proofs.Certified.{strict, loose}
 use Rattle.checker.proofs.Potentials.{every, atMost, sameWhole, isWhole, isValue, finite?, falls, leftFalls, pickFalls, variableFalls, variablesFall, rises, rowPick, rowLeft, variableRises, variablesRise, leastTested, tested, tested-accepted}
 
@@ -96,6 +102,27 @@ pub starred : Each Shown examples
 unfolding table
 starred = each-of examples potentials (tail-same no-refusals) (tail-same words-are-read) examples-tested
 
+-- ---- E
+
+-- E's least span, from the table.
+least-of : {p : Problem} {c : ℕ} {x : Trop} → ClassHolds p c x → (s : ℤ) → c ≡ class-optimal → x ≡ fin s → Optimal p s
+least-of {p} (Classes.optimal o) s e f = subst (Optimal p) (fin-injective f) o
+least-of (Classes.unbounded u) s e f = absurd (omega (arith, e))
+least-of (Classes.infeasible n) s e f = absurd (omega (arith, e))
+
+fifth : {P : Example → Type 0} {a b c d e : Example} {es : List Example} → Each P (a ∷ b ∷ c ∷ d ∷ e ∷ es) → P e
+fifth (more a (more b (more c (more d (more e es))))) = e
+
+pub optimal-E : Optimal (problemOf (example-E .problem)) (pos 30)
+unfolding examples example-E
+optimal-E = least-of (fifth starred) (pos 30) refl refl
+
+-- So every checker that judges accepts E's plan with some table: what demand 3 says of plans that fit, of this one.
+pub accepted-E : (check : Checker) → CheckerJudges check → SomeTable check (example-E .problem) class-optimal (leastAnswer (nField (example-E .problem)) (pos 30) plan-E)
+unfolding example-E all numAt problemRefusal headerRefusal leadsOf numsAt blank-or-within tropField signed
+accepted-E check judges =
+    least-exactly check judges (example-E .problem) (record { bytes = all-bytes (example-E .problem) .0 refl; size = omega arith }) refl plan-E (pos 30) fits-E feasible-E value-E .1 (optimal-E .least)
+
 -- ---- M
 
 -- M's stamp and span are 31, and a cycle weighs 0: the form is right, and it is not certified.
@@ -107,7 +134,9 @@ judged-M = uncertified (head-same no-refusals) not-accepted-M
 pub refused-M : (check : Checker) → CheckerJudges check → check (example-M .problem) (example-M .answer) ≡ refused 14
 unfolding example-M all
 refused-M check judges =
-    judged-unique (judges (example-M .problem) (example-M .answer) (all-bytes (example-M .problem) .0 refl) (all-bytes (example-M .answer) .0 refl)) judged-M
+    judged-unique
+    (judges (example-M .problem) (example-M .answer) (record { bytes = all-bytes (example-M .problem) .0 refl; size = omega arith })
+    (record { bytes = all-bytes (example-M .answer) .0 refl; size = omega arith })) judged-M
 
 -- ---- A's 38 bytes
 

@@ -3,20 +3,25 @@ use Prim.Native.Nat.{ℕ, zero, suc, _<_}
 use mathlib.Core.Path.{_≡_, refl, ap, sym, _∙_}
 use mathlib.Core.Bool.{Bool, true, false}
 use mathlib.Core.List.{List}
+use mathlib.Core.Logic.{⊎-elim}
 use native.Mathlib.Omega.{arith}
-use Rattle.definitions.specs.Bytes.{or-else}
+use native.Mathlib.Nat.{eq-zero-or-pos}
+use Rattle.definitions.specs.Tropical.{Trop}
+use Rattle.definitions.specs.Bytes.{or-else, Outcome, outcome}
 use Rattle.definitions.specs.Offset.{tropOf}
 use Rattle.definitions.specs.Problem.{Problem}
-use Rattle.definitions.specs.ProblemRecord.{nField, mField, problemRefusal, WithinLayout, problemOf}
-use Rattle.definitions.specs.AnswerRecord.{classField, answerRefusal, answerOf}
+use Rattle.definitions.specs.ProblemRecord.{nField, mField, problemRefusal, problemOutcome, WithinLayout, problemOf}
+use Rattle.definitions.specs.AnswerRecord.{classField, spanField, answerRefusal, answerOutcome, answerOf}
 use Rattle.definitions.specs.Verdict.{Verdict, accepted, refused, Accepted, checkRefusal, not-certified, Judged, turned-away, certified, uncertified}
 use Rattle.records.specs.declared.problem.Header.{Header}
 use Rattle.records.specs.declared.problem.Header.the-variants as Headers
 use Rattle.answers.specs.declared.answer.AnswerHead.{AnswerHead}
 use Rattle.answers.specs.declared.answer.AnswerHead.the-variants as Heads
-use Rattle.records.specs.ProblemHeader.{headerBy, problemRefused}
-use Rattle.answers.specs.AnswerReading.{headBy, spanNumber, answerReadOf}
-use Rattle.checker.specs.Outcome as Outcome
+use Rattle.records.specs.ProblemHeader.{headerOf, problemRefused}
+use Rattle.records.proofs.ProblemHeader.{answer-fields, answer-refused}
+use Rattle.answers.specs.AnswerReading.{headOf}
+use Rattle.answers.proofs.Heads.{refused-by}
+use Rattle.checker.specs.Outcome as Judging
 use Rattle.walks.specs.Decides.{Decides}
 use Rattle.checker.specs.Outcome.{answerRefused, Meant, Answered}
 use Rattle.checker.proofs.Answers.{HeadRead}
@@ -29,27 +34,30 @@ pub record HeaderRead (s : List ℕ) (n m : ℕ) : Type 0 where
   pub n-is : n ≡ nField s
   pub m-is : m ≡ mField s
 
-header-fields : (k a b : ℕ) {n m : ℕ} → headerBy k a b ≡ Headers.Fields n m → (k ≡ 0) × (n ≡ a) × (m ≡ b)
-unfolding headerBy
-header-fields zero a b e = (refl, (cc), (cc))
-header-fields (suc k) a b e = absurd (let z : _≡_ {A = ℕ} 0 1 = cc in omega arith)
-
-pub header-read : (s : List ℕ) {header : Header} {n m : ℕ} → header ≡ headerBy (problemRefusal s) (nField s) (mField s) → header ≡ Headers.Fields n m → HeaderRead s n m
+pub header-read : (s : List ℕ) {header : Header} {n m : ℕ} → headerOf header ≡ problemOutcome s → header ≡ Headers.Fields n m → HeaderRead s n m
+unfolding problemOutcome
 header-read s e f =
-    let r = header-fields (problemRefusal s) (nField s) (mField s) (sym e ∙ f) in
+    let r = answer-fields (problemRefusal s) (nField s) (mField s) e f in
     record { none = r .0; n-is = r .1; m-is = r .2 }
 
 -- ---- verdicts
 
-header-refused : (k a b : ℕ) {j : ℕ} {header : Header} → header ≡ headerBy k a b → header ≡ Headers.Refused j → {r : ℕ} → r ≡ problemRefused header → (k ≡ r) × (0 < r)
-unfolding headerBy problemRefused
-header-refused zero a b e f g = absurd (let z : _≡_ {A = ℕ} 0 1 = cc in omega arith)
-header-refused (suc k) a b e f {r} g = let q : r ≡ suc k = g ∙ ap problemRefused e in (sym q, omega arith)
+header-refused : (k a b : ℕ) {j : ℕ} {header : Header} → headerOf header ≡ outcome k (a, b) → header ≡ Headers.Refused j → {r : ℕ} → r ≡ problemRefused header → (k ≡ r) × (0 < r)
+unfolding problemRefused
+header-refused k a b {j} e f {r} g =
+    let q = answer-refused k a b e f in
+    let same : r ≡ j = g ∙ ap problemRefused f in
+    (q .0 ∙ sym same, omega (arith, q .1))
 
-head-refused : (k a b : ℕ) {j : ℕ} {head : AnswerHead} → head ≡ headBy k a b → head ≡ Heads.Refused j → {r : ℕ} → r ≡ answerRefused head → (k ≡ r) × (0 < r)
-unfolding headBy answerRefused
-head-refused zero a b e f g = absurd (let z : _≡_ {A = ℕ} 0 1 = cc in omega arith)
-head-refused (suc k) a b e f {r} g = let q : r ≡ suc k = g ∙ ap answerRefused e in (sym q, omega arith)
+head-refused : (k : ℕ) (x : ℕ × Trop) {j : ℕ} {head : AnswerHead} → headOf head ≡ outcome k x → head ≡ Heads.Refused j → {r : ℕ} → r ≡ answerRefused head → (k ≡ r) × (0 < r)
+unfolding answerRefused
+head-refused k x {j} e f {r} g =
+    let q = refused-by k x e f in
+    let same : r ≡ j = g ∙ ap answerRefused f in
+    (sym (same ∙ q .0), above (sym (same ∙ q .0)) (q .1))
+  where
+    above : k ≡ r → (k ≡ 0 → ⊥) → 0 < r
+    above e h = ⊎-elim (λ (z : r ≡ 0). absurd (h (e ∙ z))) (λ z. z) (eq-zero-or-pos r)
 
 -- A refusal that is not 0, as a verdict.
 pub turned : (p a : List ℕ) (k : ℕ) → checkRefusal p a ≡ k → 0 < k → Judged p a (refused k)
@@ -58,12 +66,12 @@ turned p a (suc k) e h = turned-away e
 
 answer-turned : (p : Problem) (n m : ℕ) (a : List ℕ) (k : ℕ) → answerRefusal a n m ≡ k → 0 < k → Answered p n m a (refused k)
 answer-turned p n m a zero e h = absurd (omega arith)
-answer-turned p n m a (suc k) e h = Outcome.turned-away e
+answer-turned p n m a (suc k) e h = Judging.turned-away e
 
 -- The problem is refused.
-pub judged-problem : (p a : List ℕ) {j r : ℕ} {header : Header} → header ≡ headerBy (problemRefusal p) (nField p) (mField p) → header ≡ Headers.Refused j
+pub judged-problem : (p a : List ℕ) {j r : ℕ} {header : Header} → headerOf header ≡ problemOutcome p → header ≡ Headers.Refused j
     → r ≡ problemRefused header → Judged p a (refused r)
-unfolding checkRefusal
+unfolding checkRefusal problemOutcome
 judged-problem p a {r = r} e f g =
     let q = header-refused (problemRefusal p) (nField p) (mField p) e f g in
     turned p a r (first-counts (problemRefusal p) r (q .0) (q .1)) (q .1)
@@ -73,21 +81,21 @@ judged-problem p a {r = r} e f g =
     first-counts (suc k) r e h = e
 
 -- The answer is refused.
-pub answered-refused : (p : Problem) (n m : ℕ) (a : List ℕ) {j r : ℕ} {head : AnswerHead} → head ≡ answerReadOf a n m → head ≡ Heads.Refused j
+pub answered-refused : (p : Problem) (n m : ℕ) (a : List ℕ) {j r : ℕ} {head : AnswerHead} → headOf head ≡ answerOutcome a n m → head ≡ Heads.Refused j
     → r ≡ answerRefused head → Answered p n m a (refused r)
-unfolding answerReadOf
+unfolding answerOutcome
 answered-refused p n m a {r = r} e f g =
-    let q = head-refused (answerRefusal a n m) (classField a) (spanNumber a) e f g in
+    let q = head-refused (answerRefusal a n m) (classField a, spanField a) e f g in
     answer-turned p n m a r (q .0) (q .1)
 
 -- The answer is of the right form, and judged.
 pub answered-certified : {p : Problem} {n m : ℕ} {a : List ℕ} {class span : ℕ} {stamps picks : List ℕ} {r : Bool} → HeadRead a n m class span
     → Meant (answerOf a n m) class span stamps picks → Decides (Accepted p (answerOf a n m)) r → r ≡ true → Answered p n m a (accepted class (tropOf span))
-answered-certified h e d t = rw (← e .class-is, ← e .span-is) (Outcome.certified (h .none) (d .yes t))
+answered-certified h e d t = rw (← e .class-is, ← e .span-is) (Judging.certified (h .none) (d .yes t))
 
 pub answered-uncertified : {p : Problem} {n m : ℕ} {a : List ℕ} {class span : ℕ} {r : Bool} → HeadRead a n m class span
     → Decides (Accepted p (answerOf a n m)) r → r ≡ false → Answered p n m a (refused not-certified)
-answered-uncertified h d t = Outcome.uncertified (h .none) (d .no t)
+answered-uncertified h d t = Judging.uncertified (h .none) (d .no t)
 
 -- With the problem not refused, the verdict on the answer is the verdict.
 pub judged-answer : (p a : List ℕ) {n m : ℕ} {v : Verdict} → HeaderRead p n m → Answered (problemOf p) n m a v → Judged p a v
@@ -95,6 +103,6 @@ unfolding checkRefusal
 judged-answer p a {n} {m} {v} h d = go (rw (h .n-is, h .m-is) at d)
   where
     go : {v : Verdict} → Answered (problemOf p) (nField p) (mField p) a v → Judged p a v
-    go (Outcome.turned-away {k = k} e) = turned-away {k = k} (rw (h .none) e)
-    go (Outcome.certified e c) = certified (rw (h .none) e) c
-    go (Outcome.uncertified e c) = uncertified (rw (h .none) e) c
+    go (Judging.turned-away {k = k} e) = turned-away {k = k} (rw (h .none) e)
+    go (Judging.certified e c) = certified (rw (h .none) e) c
+    go (Judging.uncertified e c) = uncertified (rw (h .none) e) c

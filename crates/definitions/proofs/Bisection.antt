@@ -198,10 +198,10 @@ pub first-middle : middle opening ≡ pos 0
 unfolding middle opening half-up
 first-middle = refl
 
--- Least −645,120 takes all 23 trials,
-pub lowest-trials : trials-optimal (negsuc (span-limit - 1)) ≡ 23
+-- Least −645,120 takes as many trials as any, 23,
+pub lowest-trials : (trials-optimal (negsuc (span-limit - 1)) ≡ 23) × (most-trials ≡ 23)
 unfolding trials-optimal halved halve counted next middle half-up width opening
-lowest-trials = refl
+lowest-trials = (refl, refl)
 
 -- and 22 if middles were rounded down: half of a whole number, rounded down, and the halvings by it.
 half-down : ℤ → ℤ

@@ -8,7 +8,7 @@ use native.Mathlib.Omega.{arith}
 use native.Mathlib.Nat.{add-zero, add-assoc, mul-zero, pow-suc}
 use native.Mathlib.Numerals.{add-one}
 use lib.Dec.{ltb}
-use lib.ListN.{length, getD, take, drop, length-append, length-take, length-map, List·getD-append, List·getD-eq-default, List·getD-map}
+use lib.ListN.{length, getD, take, drop, replicate, length-append, length-take, length-map, List·getD-append, List·getD-eq-default, List·getD-map}
 use lib.Seq.{drop-cons, append-snoc, getD-at, getD-append-add, getD-take, getD-drop, take-add, drop-drop}
 use borrow.Author.Tests.{ltb-true}
 use Rattle.definitions.specs.Bytes.{Bytes, numAt, le, numsAt, fields, put, all}
@@ -240,3 +240,11 @@ bytes-tested s e = record {
       (λ (h : i < length s). ltb-true (getD s i 0) 256 (all-true (λ x. ltb x 256) 0 s .0 e i h))
       (nat-le-or-lt (length s) i);
 }
+
+pub zero-bytes : (n : ℕ) → Bytes (replicate n 0)
+zero-bytes n = record { byte = λ i. rw (zero-at n i) (omega arith) }
+  where
+    zero-at : (n i : ℕ) → _≡_ {A = ℕ} (getD (replicate n 0) i 0) 0
+    zero-at zero i = refl
+    zero-at (suc n) zero = refl
+    zero-at (suc n) (suc i) = zero-at n i

@@ -1,14 +1,18 @@
 -- Refusals at their edges, and the order in which they are looked at, as facts of the definitions: each list of bytes, or
--- of fields, with its number.
+-- of fields, with its number. The lines that are printed, and document 01's numbers that no list shows.
 use Prim.Native.Nat.{ℕ}
 use mathlib.Core.Path.{_≡_, refl}
 use mathlib.Core.List.{List, [], _∷_, map}
 use lib.IntN.{ℤ, pos, negsuc}
+use Rattle.definitions.specs.Limits.{kept-bytes, top-trial, lowest-trial}
 use Rattle.definitions.specs.Tropical.{Trop, bot, fin}
 use Rattle.definitions.specs.Bytes.{numAt, numsAt, signed, tropField, tropAt, all, blank-or-within, whole-within}
 use Rattle.definitions.specs.ProblemRecord.{headerRefusal, problemRefusal, leadsOf}
-use Rattle.definitions.specs.Verdict.{checkRefusal}
+use Rattle.definitions.specs.Bisection.{trials-infeasible, trials-unbounded}
+use Rattle.definitions.specs.Verdict.{Verdict, accepted, refused, checkRefusal}
 use Rattle.definitions.specs.Solved.{engineRefusal}
+use Rattle.definitions.specs.Programs.{verdictLine, classWords, refusedLine, decimal, digits, wholeDecimal, spanDecimal, text-refused, text-not-certified, text-accepted, text-least, text-bottomless, text-none}
+use Rattle.definitions.specs.Examples.{example-A}
 use Rattle.definitions.specs.AnswerRecord.{Answer, answerHeaderRefusal, answerRefusal, answerOf, writerRefusal, rightCounts, formRefusal, spanFits, stampsFit, picksFit, is-zero, is-blank}
 
 -- A problem's bytes and its refusal.
@@ -49,6 +53,28 @@ problems =
 problems-refused : map (λ d. problemRefusal (d .bytes)) problems ≡ map (λ d. d .number) problems
 unfolding problems problemRefusal headerRefusal leadsOf numAt numsAt all blank-or-within tropField signed
 problems-refused = refl
+
+-- A problem's first bytes, its size, and the refusal of its header.
+record Counted : Type 0 where
+  number : ℕ
+  size : ℕ
+  bytes : List ℕ
+
+headers : List Counted
+headers =
+    -- m 63
+    record { number = 0; size = 522; bytes = (6 ∷ 2 ∷ 0 ∷ 0 ∷ 1 ∷ 0 ∷ 0 ∷ 0 ∷ 63 ∷ 0 ∷ []) } ∷
+    -- m 64
+    record { number = 4; size = 530; bytes = (14 ∷ 2 ∷ 0 ∷ 0 ∷ 1 ∷ 0 ∷ 0 ∷ 0 ∷ 64 ∷ 0 ∷ []) } ∷
+    -- n 31 and m 63, 16,394 bytes
+    record { number = 0; size = 16394; bytes = (6 ∷ 64 ∷ 0 ∷ 0 ∷ 1 ∷ 0 ∷ 31 ∷ 0 ∷ 63 ∷ 0 ∷ []) } ∷
+    -- n 32
+    record { number = 4; size = 274; bytes = (14 ∷ 1 ∷ 0 ∷ 0 ∷ 1 ∷ 0 ∷ 32 ∷ 0 ∷ 0 ∷ 0 ∷ []) } ∷
+    []
+
+headers-refused : map (λ d. headerRefusal (d .bytes) (d .size)) headers ≡ map (λ d. d .number) headers
+unfolding headers headerRefusal numAt
+headers-refused = refl
 
 -- An answer's bytes, read with n and m, and its refusal.
 record Misread : Type 0 where
@@ -163,3 +189,49 @@ engine-order = refl
 check-order : checkRefusal [] [] ≡ 1
 unfolding checkRefusal problemRefusal headerRefusal numAt
 check-order = refl
+
+-- A's problem with a buffer of 205 bytes, and with one of 206.
+engine-room : map (engineRefusal (example-A .problem)) (205 ∷ 206 ∷ []) ≡ 7 ∷ 0 ∷ []
+unfolding engineRefusal problemRefusal headerRefusal leadsOf numAt numsAt all blank-or-within tropField signed example-A
+engine-room = refl
+
+-- ---- lines
+
+-- A verdict and the line of it.
+record Line : Type 0 where
+  verdict : Verdict
+  text : List ℕ
+
+lines : List Line
+lines =
+    -- B: `accepted bottomless`
+    record { verdict = accepted 2 bot; text = 97 ∷ 99 ∷ 99 ∷ 101 ∷ 112 ∷ 116 ∷ 101 ∷ 100 ∷ 32 ∷ 98 ∷ 111 ∷ 116 ∷ 116 ∷ 111 ∷ 109 ∷ 108 ∷ 101 ∷ 115 ∷ 115 ∷ 10 ∷ [] } ∷
+    -- C: `accepted none`
+    record { verdict = accepted 3 bot; text = 97 ∷ 99 ∷ 99 ∷ 101 ∷ 112 ∷ 116 ∷ 101 ∷ 100 ∷ 32 ∷ 110 ∷ 111 ∷ 110 ∷ 101 ∷ 10 ∷ [] } ∷
+    -- M: `not certified`
+    record { verdict = refused 14; text = 110 ∷ 111 ∷ 116 ∷ 32 ∷ 99 ∷ 101 ∷ 114 ∷ 116 ∷ 105 ∷ 102 ∷ 105 ∷ 101 ∷ 100 ∷ 10 ∷ [] } ∷
+    -- `refused 8`
+    record { verdict = refused 8; text = 114 ∷ 101 ∷ 102 ∷ 117 ∷ 115 ∷ 101 ∷ 100 ∷ 32 ∷ 56 ∷ 10 ∷ [] } ∷
+    -- `refused 13`
+    record { verdict = refused 13; text = 114 ∷ 101 ∷ 102 ∷ 117 ∷ 115 ∷ 101 ∷ 100 ∷ 32 ∷ 49 ∷ 51 ∷ 10 ∷ [] } ∷
+    -- `accepted least -645120`
+    record { verdict = accepted 1 (fin (negsuc 645119)); text = 97 ∷ 99 ∷ 99 ∷ 101 ∷ 112 ∷ 116 ∷ 101 ∷ 100 ∷ 32 ∷ 108 ∷ 101 ∷ 97 ∷ 115 ∷ 116 ∷ 32 ∷ 45 ∷ 54 ∷ 52 ∷ 53 ∷ 49 ∷ 50 ∷ 48 ∷ 10 ∷ [] } ∷
+    -- `accepted least 0`
+    record { verdict = accepted 1 (fin (pos 0)); text = 97 ∷ 99 ∷ 99 ∷ 101 ∷ 112 ∷ 116 ∷ 101 ∷ 100 ∷ 32 ∷ 108 ∷ 101 ∷ 97 ∷ 115 ∷ 116 ∷ 32 ∷ 48 ∷ 10 ∷ [] } ∷
+    []
+
+lines-printed : map (λ l. verdictLine (l .verdict)) lines ≡ map (λ l. l .text) lines
+unfolding lines verdictLine classWords refusedLine decimal digits wholeDecimal spanDecimal text-refused text-not-certified text-accepted text-least text-bottomless text-none
+lines-printed = refl
+
+-- ---- numbers that document 01 gives and no list above shows
+
+-- How many bytes the programs keep, the two outer trials, and the trials of none and of bottomless.
+kept-20000 : kept-bytes ≡ 20000
+kept-20000 = refl
+
+outer-trials : (top-trial ≡ pos 645120) × (lowest-trial ≡ negsuc 645120)
+outer-trials = (refl, refl)
+
+outer-counts : (trials-infeasible ≡ 1) × (trials-unbounded ≡ 2)
+outer-counts = (refl, refl)

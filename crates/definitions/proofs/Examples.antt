@@ -11,12 +11,14 @@ use lib.IntN.{ℤ, pos, negsuc, _+ℤ_, _-ℤ_}
 use lib.Signed.{_<ℤ_, <ℤ-irrefl}
 use Rattle.definitions.specs.Tropical.{Trop, bot, fin, blank-least, whole-least, plus, larger, largest, Finite}
 use Rattle.definitions.specs.Problem.{Problem, Point, Keeps, Feasible, value, side, minus, minus-infinity, plus-infinity}
+use Rattle.definitions.specs.Problem as Problems
 use Rattle.definitions.specs.Certificate.{Strategy, Arc, ArcBy, Walk, step, stop, Uses, Distinct, Cycle, Reachable, start, onward, Anchor, Leads, HasPick, BelowZero, AcceptedInfeasible, raise}
-use Rattle.definitions.specs.Bytes.{numAt, numsAt, signed, tropField, tropAt, all, blank-or-within, whole-within}
-use Rattle.definitions.specs.ProblemRecord.{headerRefusal, problemRefusal, leadsOf, problemOf, listOf}
+use Rattle.definitions.specs.Bytes.{numAt, numsAt, le, fields, signed, tropField, fieldOf, tropAt, all, blank-or-within, whole-within}
+use Rattle.definitions.specs.ProblemRecord.{headerRefusal, problemRefusal, leadsOf, problemOf, problemBytes, rowBytes, rowsBytes, listOf}
 use Rattle.definitions.specs.AnswerRecord.{Answer, answerHeaderRefusal, answerRefusal, answerOf, formRefusal, spanFits, stampsFit, picksFit, is-zero, is-blank}
 use Rattle.definitions.specs.Verdict.{checkRefusal, Accepted, optimal, unbounded, infeasible, pointOf, strategyOf}
 use Rattle.definitions.specs.Examples.{Row, Example, examples, example-A, example-B, example-C, example-D, example-E, example-F, example-G, example-H, example-I, example-J, example-K, example-M}
+use Rattle.definitions.specs.Demands.{Fits}
 use Rattle.definitions.proofs.Whole.{up, down, whole, lt-show, eq-read, plus-read}
 use Rattle.definitions.proofs.Tropical.{fin-injective}
 
@@ -44,6 +46,11 @@ no-refusals = refl
 pub words-are-read : map asRead table ≡ table
 unfolding table examples example-A example-B example-C example-D example-E example-F example-G example-H example-I example-J example-K example-M asRead rowsOf listOf problemOf answerOf numAt numsAt tropField signed tropAt
 words-are-read = refl
+
+-- Every problem of the table, written again, has the same bytes.
+pub written-again : map (λ e. problemBytes (problemOf (e .problem))) table ≡ map (λ e. e .problem) table
+unfolding table examples example-A example-B example-C example-D example-E example-F example-G example-H example-I example-J example-K example-M problemBytes rowsBytes rowBytes listOf problemOf numAt tropField signed tropAt fieldOf fields le
+written-again = refl
 
 -- ---- values with blanks
 
@@ -82,6 +89,29 @@ later-carries = record { anchored = refl; keeps = keeps }
     keeps : (i : ℕ) → i < 1 → Keeps (problemOf (example-I .problem)) (pointOf (fin (pos 0) ∷ fin (pos 0) ∷ fin (pos 45) ∷ [])) i
     keeps zero h = whole-least (record { le = tt })
     keeps (suc i) h = absurd (omega arith)
+
+-- ---- a plan that fits
+
+-- E's plan: moment 1 at minute 30.
+unfoldable pub plan-E : Point
+plan-E = pointOf (fin (pos 0) ∷ fin (pos 30) ∷ [])
+
+-- It fits the answer record, keeps the rule, and has span 30.
+pub fits-E : Fits 1 (pos 30) plan-E
+unfolding plan-E listOf pointOf spanFits stampsFit whole-within is-zero all blank-or-within
+fits-E = record { span = refl; stamps = refl }
+
+pub feasible-E : Feasible (problemOf (example-E .problem)) plan-E
+unfolding plan-E problemOf example-E side largest larger plus tropAt tropField numAt signed pointOf
+feasible-E = record { anchored = refl; keeps = keeps }
+  where
+    keeps : (i : ℕ) → i < 1 → Keeps (problemOf (example-E .problem)) plan-E i
+    keeps zero h = whole-least (record { le = tt })
+    keeps (suc i) h = absurd (omega arith)
+
+pub value-E : value (problemOf (example-E .problem)) plan-E ≡ Problems.whole (pos 30)
+unfolding plan-E value minus side largest larger plus problemOf tropAt tropField numAt signed example-E pointOf
+value-E = refl
 
 -- ---- cycles at s − 1
 

@@ -7,18 +7,19 @@ use mathlib.Core.Logic.{⊎-elim}
 use native.Mathlib.Omega.{arith}
 use native.Mathlib.Nat.{eq-zero-or-pos, mul-le-mul-left, mul-le-mul-right}
 use lib.Dec.{eqb}
-use lib.ListN.{length, getD, take, drop, length-take, length-drop}
+use lib.ListN.{length, getD, take, drop, replicate, length-take, length-drop, length-replicate}
 use lib.Seq.{getD-take, getD-drop, length-take-le, ext-getD, take-all, take-take}
 use borrow.Author.Tests.{lt-ltb, le-ltb, eqb-true, ne-eqb}
-use Rattle.definitions.specs.Limits.{kept-bytes, length-bytes, problem-header, answer-header, signed-full, highest-n, highest-m, problem-kind}
-use Rattle.definitions.specs.Bytes.{Bytes, numAt}
+use Rattle.definitions.specs.Limits.{kept-bytes, word-values, length-bytes, problem-header, answer-header, signed-full, highest-n, highest-m, problem-kind}
+use Rattle.definitions.specs.Bytes.{Bytes, numAt, put}
 use Rattle.definitions.specs.ProblemRecord.{lengthField, kindField, nField, mField, headerRefusal, problemRefusal, WithinLayout, problemSize}
 use Rattle.definitions.specs.AnswerRecord.{answerHeaderRefusal, answerRefusal}
 use Rattle.definitions.specs.Verdict.{Verdict, refused, checkRefusal, Judged, turned-away, certified, uncertified}
 use Rattle.definitions.specs.Programs.{cutPlace, problemPart, answerPart, KeptOf, SpanOutput, VerdictOutput, read-most, ReadFrom}
 use Rattle.definitions.specs.Programs as Programs
 use Rattle.definitions.proofs.Whole.{nat-le-or-lt}
-use Rattle.definitions.proofs.Bytes.{numAt-same, numAt-bound, bytes-take, bytes-drop}
+use Rattle.definitions.proofs.Bytes.{numAt-same, numAt-bound, bytes-take, bytes-drop, bytes-put, zero-bytes}
+use Rattle.definitions.proofs.Put.{take-put, length-put}
 use Rattle.definitions.proofs.Refusals.{or-else-suc, or-else-none, or-else-zero, limits-clause, enough-clause, equal-clause, problem-fits}
 
 -- ---- what was kept
@@ -35,6 +36,56 @@ pub kept-at : {kept input : List ℕ} {size : ℕ} → KeptOf kept size input �
 kept-at {kept} {input} {size} k h i b =
     sym (getD-take kept-bytes input i 0 b) ∙ ap (λ (l : List ℕ). getD l i 0) (k .begins) ∙ getD-take kept-bytes (take size kept) i 0 b
     ∙ getD-take size kept i 0 (omega arith)
+
+-- What is kept of the bytes that came: their first 20,000, in their places.
+pub kept-of : (before bytes : List ℕ) → length before ≡ kept-bytes → KeptOf (put before 0 (take kept-bytes bytes)) (length bytes) bytes
+kept-of before bytes l = record {
+  size-is = refl;
+  begins = ⊎-elim
+      (λ (h : length bytes ≤ kept-bytes).
+      let all : take kept-bytes bytes ≡ bytes = take-all kept-bytes bytes h in
+      let kept : take (length bytes) (put before 0 (take kept-bytes bytes)) ≡ bytes = rw all (first bytes (length bytes) (omega arith)) in
+      ap (take kept-bytes) (sym kept))
+      (λ (h : kept-bytes < length bytes).
+      let many : length (take kept-bytes bytes) ≡ kept-bytes = length-take-le kept-bytes bytes (omega arith) in
+      sym (take-take kept-bytes (length bytes) (put before 0 (take kept-bytes bytes)) (omega arith) ∙ first (take kept-bytes bytes) kept-bytes (sym many)))
+      (nat-le-or-lt (length bytes) kept-bytes);
+}
+  where
+    first : (vs : List ℕ) (n : ℕ) → n ≡ length vs → take n (put before 0 vs) ≡ vs
+    first vs n e = let m : n ≡ 0 + length vs = omega arith in rw m (take-put before 0 vs (omega arith))
+
+-- For every input there are 20,000 kept bytes and a size of 64 bits of which it may have been read.
+pub record Kept (input : List ℕ) : Type 0 where
+  pub kept : List ℕ
+  pub size : ℕ
+  pub bytes : Bytes kept
+  pub length-is : length kept ≡ kept-bytes
+  pub size-fits : size < word-values
+  pub read : ReadFrom kept size input
+
+module _ (zeros : List ℕ) (blank : Bytes zeros) (long : length zeros ≡ kept-bytes) (input : List ℕ) (b : Bytes input) where
+  keep : (came : List ℕ) (size : ℕ) → length came ≡ size → Bytes came → size < word-values → (KeptOf (put zeros 0 (take kept-bytes came)) size came → ReadFrom (put zeros 0 (take kept-bytes came)) size input)
+      → Kept input
+  keep came size e c s r = record {
+    kept = put zeros 0 (take kept-bytes came);
+    size = size;
+    bytes = bytes-put 0 blank (bytes-take kept-bytes c);
+    length-is = length-put zeros 0 (take kept-bytes came) (omega arith) (rw length-take (omega arith)) ∙ long;
+    size-fits = s;
+    read = r (subst (λ (n : ℕ). KeptOf (put zeros 0 (take kept-bytes came)) n came) e (kept-of zeros came long));
+  }
+
+  kept-by : Kept input
+  kept-by = ⊎-elim
+      (λ (h : length input ≤ read-most). keep input (length input) refl b (omega arith) Programs.whole)
+      (λ (h : read-most < length input).
+      keep (take read-most input) read-most (length-take-le read-most input (omega arith)) (bytes-take read-most b) (omega arith)
+      (Programs.part b (omega arith) (omega arith)))
+      (nat-le-or-lt (length input) read-most)
+
+pub kept-exists : (input : List ℕ) → Bytes input → Kept input
+kept-exists = kept-by (replicate kept-bytes 0) (zero-bytes kept-bytes) (length-replicate {A = ℕ} kept-bytes 0)
 
 -- ---- headers of lists whose first bytes agree
 

@@ -5,6 +5,7 @@ pub mod Raise
 pub mod Bytes
 pub mod Put
 pub mod Offset
+pub mod Outcomes
 pub mod Refusals
 pub mod RoundTrip
 pub mod Solved
@@ -16,6 +17,7 @@ pub mod Programs
 pub mod Decimals
 pub mod Hours
 pub mod Inputs
+pub mod ProblemBack
 pub mod Week
 pub mod WeekFacts
 pub mod Agree

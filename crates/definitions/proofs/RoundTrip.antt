@@ -105,11 +105,11 @@ highest-most class n m h k = go (eqb class class-unbounded)
 -- ---- from an answer to its bytes and back
 
 -- A field at the front is read.
-num-here : (k x : ℕ) (q : List ℕ) → x < 256 ^ k → numAt k (le k x ++ q) 0 ≡ x
+pub num-here : (k x : ℕ) (q : List ℕ) → x < 256 ^ k → numAt k (le k x ++ q) 0 ≡ x
 num-here k x q h = num-le k x [] q 0 refl h
 
 -- A field behind another is read behind it.
-num-past : (k j x : ℕ) (q : List ℕ) (at : ℕ) → numAt k (le j x ++ q) (j + at) ≡ numAt k q at
+pub num-past : (k j x : ℕ) (q : List ℕ) (at : ℕ) → numAt k (le j x ++ q) (j + at) ≡ numAt k q at
 num-past k j x q at = numAt-back k (le j x) q j at (length-le j x)
 
 -- The first fourteen bytes of an answer as fields one after the other.

@@ -9,7 +9,7 @@ use lib.ListN.{length}
 use lib.IntN.{ℤ, pos, natAbs}
 use Rattle.definitions.specs.Limits.{span-limit, stamp-limit, length-bytes, short-bytes, signed-bytes, class-place, span-place, answer-kind, class-optimal, class-unbounded, class-infeasible, answer-header, answer-most}
 use Rattle.definitions.specs.Tropical.{Trop, bot, fin}
-use Rattle.definitions.specs.Bytes.{numAt, numsAt, le, fields, tropField, fieldOf, tropAt, put, all, whole-within, blank-or-within, Clause, first, or-else}
+use Rattle.definitions.specs.Bytes.{numAt, numsAt, le, fields, tropField, fieldOf, tropAt, put, all, whole-within, blank-or-within, Clause, first, or-else, Outcome, outcome}
 use Rattle.definitions.specs.ProblemRecord.{above-limits, lengthField, kindField, nField}
 
 -- The fields of an answer: class, span, and by class stamps and picks.
@@ -118,6 +118,14 @@ answerHeaderRefusal s size n m =
 unfoldable pub answerRefusal : List ℕ → ℕ → ℕ → ℕ
 answerRefusal s n m = or-else (answerHeaderRefusal s (length s) n m) (formRefusal (answerOf s n m) n m)
 
+-- What an answer's header, its first bytes and its size, gives: class and span, or the first of refusals 4 and 8 to 11.
+unfoldable pub answerHeaderOutcome : List ℕ → ℕ → ℕ → ℕ → Outcome (ℕ × Trop)
+answerHeaderOutcome s size n m = outcome (answerHeaderRefusal s size n m) (classField s, spanField s)
+
+-- What a whole answer gives: class and span, or the first of refusals 4 and 8 to 13.
+unfoldable pub answerOutcome : List ℕ → ℕ → ℕ → Outcome (ℕ × Trop)
+answerOutcome s n m = outcome (answerRefusal s n m) (classField s, spanField s)
+
 -- The first of refusals 4, 7 and 10 to 13 that applies to fields handed to the writer with n, m and a buffer of `room`
 -- bytes, 0 where none does. Stamps or picks in another count than the class has get 11.
 unfoldable pub writerRefusal : Answer → ℕ → ℕ → ℕ → ℕ
@@ -130,6 +138,10 @@ writerRefusal a n m room =
     ∷ record { applies = not (rightCounts a n m); number = 11 }
     ∷ []))
     (formRefusal a n m)
+
+-- What the writer gives: the record's size, or the first of its refusals.
+unfoldable pub writerOutcome : Answer → ℕ → ℕ → ℕ → Outcome ℕ
+writerOutcome a n m room = outcome (writerRefusal a n m room) (answerSize (a .class) n m)
 
 -- The buffer once the writer is done: the record, and after it every byte as it was.
 unfoldable pub written : List ℕ → List ℕ → List ℕ

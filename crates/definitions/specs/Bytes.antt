@@ -84,3 +84,18 @@ first (c ∷ cs) = cond (c .applies) (c .number) (first cs)
 abbrev pub or-else : ℕ → ℕ → ℕ
 or-else zero second = second
 or-else (suc k) second = suc k
+
+-- What an entry answers: the number of the refusal, or what it gives.
+pub data Outcome {ℓ} (A : Type ℓ) : Type ℓ where
+  refusal : ℕ → Outcome A
+  gives : A → Outcome A
+
+-- The refusal with this number, or what is given where the number is 0.
+unfoldable pub outcome {ℓ} : {A : Type ℓ} → ℕ → A → Outcome A
+outcome zero x = gives x
+outcome (suc k) x = refusal (suc k)
+
+-- The number of an outcome's refusal, 0 where there is none.
+unfoldable pub refusalOf {ℓ} : {A : Type ℓ} → Outcome A → ℕ
+refusalOf (refusal k) = k
+refusalOf (gives x) = 0

@@ -1,22 +1,53 @@
 -- The three demands of the service description, sentence by sentence, as statements about any functions on bytes:
 -- an engine, a checker, readers, a writer and the two programs. That a function ends on every string of bytes is part
 -- of its being a function. Document 01 says under "The checker" what the words of demand 3 mean.
-use Prim.Native.Nat.{ℕ, zero, suc, _≤_}
+use Prim.Native.Nat.{ℕ, zero, suc, _≤_, _<_}
 use mathlib.Core.Path.{_≡_}
 use mathlib.Core.Bool.{Bool, true}
 use mathlib.Core.Logic.{_↔_}
 use mathlib.Core.List.{List, []}
-use lib.ListN.{length, take}
+use lib.ListN.{length, getD, take}
 use lib.IntN.{ℤ}
-use Rattle.definitions.specs.Limits.{most-trials, class-optimal, class-unbounded, class-infeasible, answer-most, kept-bytes}
+use Rattle.definitions.specs.Limits.{most-trials, class-optimal, class-unbounded, class-infeasible, answer-most, kept-bytes, word-values}
 use Rattle.definitions.specs.Tropical.{Trop, bot, fin}
 use Rattle.definitions.specs.Problem.{Problem, Point, Feasible, value, whole, plus-infinity, _≼_, Attainable}
-use Rattle.definitions.specs.Bytes.{Bytes}
+use Rattle.definitions.specs.Bytes.{Bytes, Outcome, refusal, gives}
+use Rattle.definitions.specs.Offset.{tropOf}
 use Rattle.definitions.specs.ProblemRecord.{problemRefusal, WithinLayout, problemOf, nField, mField, listOf}
 use Rattle.definitions.specs.AnswerRecord.{Answer, answerRefusal, writerRefusal, answerOf, answerBytes, answerSize, pickCount, highestPick, picksFit, spanFits, stampsFit, written}
 use Rattle.definitions.specs.Verdict.{Verdict, accepted, refused, accepts, checkRefusal, Accepted, answerFor, pointOf, Judged}
 use Rattle.definitions.specs.Solved.{Solved, answered, Found, engineRefusal, Solves}
 use Rattle.definitions.specs.Programs.{VerdictOutput, SpanOutput, ReadFrom}
+
+-- ---- what can be handed over
+
+-- A number of 64 bits.
+abbrev pub Word : ℕ → Type 0
+Word k = k < word-values
+
+-- A slice of bytes. That every element is a byte and the length a number of 64 bits is no premise on what stands there.
+pub record Slice (s : List ℕ) : Type 0 where
+  pub bytes : Bytes s
+  pub size : Word (length s)
+
+-- A slice of such numbers.
+pub record Words (xs : List ℕ) : Type 0 where
+  pub word : (i : ℕ) → Word (getD xs i 0)
+  pub size : Word (length xs)
+
+-- A span or stamp that has an offset number of 64 bits.
+pub record Numbered (x : Trop) : Type 0 where
+  pub number : ℕ
+  pub fits : Word number
+  pub means : tropOf number ≡ x
+
+-- An answer that can be handed to a writer: class and picks are numbers of 64 bits, span and stamps have such offset numbers.
+pub record Handed (a : Answer) : Type 0 where
+  pub class : Word (a .class)
+  pub span : Numbered (a .span)
+  pub stamps : (i : ℕ) → Numbered (getD (a .stamps) i bot)
+  pub stamps-size : Word (length (a .stamps))
+  pub picks : Words (a .picks)
 
 -- ---- the functions that the demands speak of
 
@@ -38,16 +69,12 @@ pub record ProblemReader : Type 0 where
   pub left : List ℕ → List ℕ
   pub right : List ℕ → List ℕ
 
--- What an answer reader answers: the refusal, or the fields.
-pub data Reading : Type 0 where
-  refusal : ℕ → Reading
-  fields : Answer → Reading
-
--- An answer reader that was lent two arrays: for bytes and the problem's n and m what it answers, and the arrays afterwards.
+-- An answer reader that was lent two arrays: for bytes and the problem's n and m the refusal or the fields, and the arrays
+-- afterwards.
 pub record Reader : Type 0 where
   pub lent-stamps : List ℕ
   pub lent-picks : List ℕ
-  pub reading : List ℕ → ℕ → ℕ → Reading
+  pub reading : List ℕ → ℕ → ℕ → Outcome Answer
   pub stamps : List ℕ → ℕ → ℕ → List ℕ
   pub picks : List ℕ → ℕ → ℕ → List ℕ
 
@@ -64,49 +91,49 @@ Program = List ℕ → ℕ → List ℕ
 
 -- ---- demand 1
 
--- Bytes outside the layouts get the first refusal that applies, and what was lent is then untouched. The only premise on
--- a string is that it is one of bytes: no entry relies on somebody having looked beforehand.
+-- Bytes outside the layouts get the first refusal that applies, and what was lent is then untouched. The only premise is
+-- that something can be handed over: no entry relies on somebody having looked beforehand.
 pub record EngineRefuses (engine : Engine) : Type 0 where
   pub first-refusal :
-      (p buffer : List ℕ) → Bytes p → Bytes buffer → (k : ℕ) → engineRefusal p (length buffer) ≡ suc k
+      (p buffer : List ℕ) → Slice p → Slice buffer → (k : ℕ) → engineRefusal p (length buffer) ≡ suc k
       → engine .result p buffer ≡ Solved.refused (suc k)
   pub untouched :
-      (p buffer : List ℕ) → Bytes p → Bytes buffer → (k : ℕ) → engineRefusal p (length buffer) ≡ suc k
+      (p buffer : List ℕ) → Slice p → Slice buffer → (k : ℕ) → engineRefusal p (length buffer) ≡ suc k
       → engine .buffer p buffer ≡ buffer
 
 abbrev pub CheckerRefuses : Checker → Type 0
 CheckerRefuses check =
-    (p a : List ℕ) → Bytes p → Bytes a → (k : ℕ) → checkRefusal p a ≡ suc k → check p a ≡ refused (suc k)
+    (p a : List ℕ) → Slice p → Slice a → (k : ℕ) → checkRefusal p a ≡ suc k → check p a ≡ refused (suc k)
 
 pub record ProblemReaderRefuses (read : ProblemReader) : Type 0 where
-  pub number-is : (p : List ℕ) → Bytes p → read .number p ≡ problemRefusal p
+  pub number-is : (p : List ℕ) → Slice p → read .number p ≡ problemRefusal p
   pub untouched :
-      (p : List ℕ) → Bytes p → (k : ℕ) → problemRefusal p ≡ suc k
+      (p : List ℕ) → Slice p → (k : ℕ) → problemRefusal p ≡ suc k
       → (read .left p ≡ read .lent-left) × (read .right p ≡ read .lent-right)
 
 pub record ReaderRefuses (read : Reader) : Type 0 where
   pub first-refusal :
-      (s : List ℕ) → Bytes s → (n m k : ℕ) → answerRefusal s n m ≡ suc k → read .reading s n m ≡ refusal (suc k)
+      (s : List ℕ) → Slice s → (n m k : ℕ) → Word n → Word m → answerRefusal s n m ≡ suc k → read .reading s n m ≡ refusal (suc k)
   pub untouched :
-      (s : List ℕ) → Bytes s → (n m k : ℕ) → answerRefusal s n m ≡ suc k
+      (s : List ℕ) → Slice s → (n m k : ℕ) → Word n → Word m → answerRefusal s n m ≡ suc k
       → (read .stamps s n m ≡ read .lent-stamps) × (read .picks s n m ≡ read .lent-picks)
 
 pub record WriterRefuses (write : Writer) : Type 0 where
   pub number-is :
-      (a : Answer) (n m : ℕ) (buffer : List ℕ) → Bytes buffer
+      (a : Answer) (n m : ℕ) (buffer : List ℕ) → Handed a → Word n → Word m → Slice buffer
       → write .number a n m buffer ≡ writerRefusal a n m (length buffer)
   pub untouched :
-      (a : Answer) (n m : ℕ) (buffer : List ℕ) → Bytes buffer → (k : ℕ) → writerRefusal a n m (length buffer) ≡ suc k
-      → write .buffer a n m buffer ≡ buffer
+      (a : Answer) (n m : ℕ) (buffer : List ℕ) → Handed a → Word n → Word m → Slice buffer → (k : ℕ)
+      → writerRefusal a n m (length buffer) ≡ suc k → write .buffer a n m buffer ≡ buffer
 
 -- The program as a whole takes every string of bytes, and puts out what document 01 says, though it holds only 20,000 bytes
 -- and may stop counting from 2³³ on.
 pub record ProgramsAnswer (span verdict : Program) : Type 0 where
   pub span-output :
-      (kept : List ℕ) → Bytes kept → length kept ≡ kept-bytes → (size : ℕ) (input : List ℕ) → ReadFrom kept size input
+      (kept : List ℕ) → Bytes kept → length kept ≡ kept-bytes → (size : ℕ) → Word size → (input : List ℕ) → ReadFrom kept size input
       → SpanOutput input (span kept size)
   pub verdict-output :
-      (kept : List ℕ) → Bytes kept → length kept ≡ kept-bytes → (size : ℕ) (input : List ℕ) → ReadFrom kept size input
+      (kept : List ℕ) → Bytes kept → length kept ≡ kept-bytes → (size : ℕ) → Word size → (input : List ℕ) → ReadFrom kept size input
       → VerdictOutput input (verdict kept size)
 
 -- ---- demand 2
@@ -124,12 +151,12 @@ pub record FoundBy (engine : Engine) (p buffer : List ℕ) : Type 0 where
 
 abbrev pub LeastSpans : Engine → Type 0
 LeastSpans engine =
-    (p buffer : List ℕ) → Bytes p → Bytes buffer → WithinLayout p → answer-most ≤ length buffer → FoundBy engine p buffer
+    (p buffer : List ℕ) → Slice p → Slice buffer → WithinLayout p → answer-most ≤ length buffer → FoundBy engine p buffer
 
 -- Result and buffer are those that document 01 gives: every byte but the free ones, and those after the record stay.
 abbrev pub EngineSolves : Engine → Type 0
 EngineSolves engine =
-    (p buffer : List ℕ) → Bytes p → Bytes buffer → Solves p buffer (engine .result p buffer) (engine .buffer p buffer)
+    (p buffer : List ℕ) → Slice p → Slice buffer → Solves p buffer (engine .result p buffer) (engine .buffer p buffer)
 
 -- What is read: the fields of the bytes. What is written: the record of the fields, and every byte after it stays.
 pub record ReadsProblem (read : ProblemReader) (p : List ℕ) : Type 0 where
@@ -139,14 +166,15 @@ pub record ReadsProblem (read : ProblemReader) (p : List ℕ) : Type 0 where
   pub right-is : (i j : ℕ) → i ≤ mField p → j ≤ nField p → read .problem p .right i j ≡ problemOf p .right i j
 
 abbrev pub ReadsProblems : ProblemReader → Type 0
-ReadsProblems read = (p : List ℕ) → Bytes p → WithinLayout p → ReadsProblem read p
+ReadsProblems read = (p : List ℕ) → Slice p → WithinLayout p → ReadsProblem read p
 
 abbrev pub ReadsFields : Reader → Type 0
-ReadsFields read = (s : List ℕ) → Bytes s → (n m : ℕ) → answerRefusal s n m ≡ 0 → read .reading s n m ≡ fields (answerOf s n m)
+ReadsFields read =
+    (s : List ℕ) → Slice s → (n m : ℕ) → Word n → Word m → answerRefusal s n m ≡ 0 → read .reading s n m ≡ gives (answerOf s n m)
 
 abbrev pub WritesRecord : Writer → Type 0
 WritesRecord write =
-    (a : Answer) (n m : ℕ) (buffer : List ℕ) → Bytes buffer → writerRefusal a n m (length buffer) ≡ 0
+    (a : Answer) (n m : ℕ) (buffer : List ℕ) → Handed a → Word n → Word m → Slice buffer → writerRefusal a n m (length buffer) ≡ 0
     → write .buffer a n m buffer ≡ written buffer (answerBytes n a)
 
 -- Every answer written reads back as itself. What the engine wrote does, with the class and span of its result.
@@ -156,24 +184,24 @@ pub record ReadBy (engine : Engine) (read : Reader) (p buffer : List ℕ) : Type
   pub answer : Answer
   pub result-is : engine .result p buffer ≡ answered (answer .class) (answer .span) trials size
   pub written-is : engine .buffer p buffer ≡ written buffer (answerBytes (nField p) answer)
-  pub reads : read .reading (take size (engine .buffer p buffer)) (nField p) (mField p) ≡ fields answer
+  pub reads : read .reading (take size (engine .buffer p buffer)) (nField p) (mField p) ≡ gives answer
 
 abbrev pub EngineReadsBack : Engine → Reader → Type 0
 EngineReadsBack engine read =
-    (p buffer : List ℕ) → Bytes p → Bytes buffer → WithinLayout p → answer-most ≤ length buffer
+    (p buffer : List ℕ) → Slice p → Slice buffer → WithinLayout p → answer-most ≤ length buffer
     → ReadBy engine read p buffer
 
 -- What the writer wrote does, read with the same n and m.
 abbrev pub ReadsBack : Reader → Writer → Type 0
 ReadsBack read write =
-    (a : Answer) (n m : ℕ) (buffer : List ℕ) → Bytes buffer → write .number a n m buffer ≡ 0
-    → read .reading (take (answerSize (a .class) n m) (write .buffer a n m buffer)) n m ≡ fields a
+    (a : Answer) (n m : ℕ) (buffer : List ℕ) → Handed a → Word n → Word m → Slice buffer → write .number a n m buffer ≡ 0
+    → read .reading (take (answerSize (a .class) n m) (write .buffer a n m buffer)) n m ≡ gives a
 
 -- Every answer record read is written again to the same bytes, and every byte after the record stays.
 abbrev pub WritesBack : Reader → Writer → Type 0
 WritesBack read write =
-    (s : List ℕ) → Bytes s → (n m : ℕ) (a : Answer) (buffer : List ℕ) → Bytes buffer → answer-most ≤ length buffer
-    → read .reading s n m ≡ fields a → (write .number a n m buffer ≡ 0) × (write .buffer a n m buffer ≡ written buffer s)
+    (s : List ℕ) → Slice s → (n m : ℕ) → Word n → Word m → (a : Answer) (buffer : List ℕ) → Slice buffer → answer-most ≤ length buffer
+    → read .reading s n m ≡ gives a → (write .number a n m buffer ≡ 0) × (write .buffer a n m buffer ≡ written buffer s)
 
 -- ---- demand 3
 
@@ -184,12 +212,12 @@ Accepts check p a = accepts (check p a) ≡ true
 -- The checker's verdict is the one that document 01 gives: 14 where the form is right and the answer is not accepted,
 -- and an accepted answer's own class and span.
 abbrev pub CheckerJudges : Checker → Type 0
-CheckerJudges check = (p a : List ℕ) → Bytes p → Bytes a → Judged p a (check p a)
+CheckerJudges check = (p a : List ℕ) → Slice p → Slice a → Judged p a (check p a)
 
 -- The checker accepts an answer exactly when it is of the right form and all that document 01 lists for its class holds.
 abbrev pub AcceptsExactly : Checker → Type 0
 AcceptsExactly check =
-    (p a : List ℕ) → Bytes p → Bytes a → WithinLayout p
+    (p a : List ℕ) → Slice p → Slice a → WithinLayout p
     → Accepts check p a ↔ ((answerRefusal a (nField p) (mField p) ≡ 0) × Accepted (problemOf p) (answerFor p a))
 
 -- So never one whose plan breaks a rule or has another span than its field.
@@ -201,7 +229,7 @@ pub record PlanHolds (p a : List ℕ) : Type 0 where
 
 abbrev pub NeverBroken : Checker → Type 0
 NeverBroken check =
-    (p a : List ℕ) → Bytes p → Bytes a → Accepts check p a → answerFor p a .class ≡ class-optimal → PlanHolds p a
+    (p a : List ℕ) → Slice p → Slice a → Accepts check p a → answerFor p a .class ≡ class-optimal → PlanHolds p a
 
 -- A pick table has as many picks as an answer of its class, none above the highest value there. Some table makes the
 -- checker accept the answer that holds it.
@@ -228,7 +256,7 @@ blankAnswer class picks = record { class = class; span = bot; stamps = []; picks
 -- great a span.
 abbrev pub LeastExactly : Checker → Type 0
 LeastExactly check =
-    (p : List ℕ) → Bytes p → WithinLayout p → (x : Point) (s : ℤ) → Fits (nField p) s x → Feasible (problemOf p) x
+    (p : List ℕ) → Slice p → WithinLayout p → (x : Point) (s : ℤ) → Fits (nField p) s x → Feasible (problemOf p) x
     → value (problemOf p) x ≡ whole s
     → SomeTable check p class-optimal (leastAnswer (nField p) s x)
     ↔ ((y : Point) → Feasible (problemOf p) y → whole s ≼ value (problemOf p) y)
@@ -236,7 +264,7 @@ LeastExactly check =
 -- The checker accepts some pick table for none exactly when no plan that keeps the rules has a span below plus infinity.
 abbrev pub NoneExactly : Checker → Type 0
 NoneExactly check =
-    (p : List ℕ) → Bytes p → WithinLayout p
+    (p : List ℕ) → Slice p → WithinLayout p
     → SomeTable check p class-infeasible (blankAnswer class-infeasible)
     ↔ ((y : Point) → Feasible (problemOf p) y → plus-infinity ≼ value (problemOf p) y)
 
@@ -244,7 +272,7 @@ NoneExactly check =
 -- span at or under it.
 abbrev pub BottomlessExactly : Checker → Type 0
 BottomlessExactly check =
-    (p : List ℕ) → Bytes p → WithinLayout p
+    (p : List ℕ) → Slice p → WithinLayout p
     → SomeTable check p class-unbounded (blankAnswer class-unbounded) ↔ ((t : ℤ) → Attainable (problemOf p) t)
 
 -- Whatever stood in an answer buffer that is long enough, the engine writes an answer there, and the checker accepts
@@ -259,7 +287,7 @@ pub record OwnAnswer (engine : Engine) (check : Checker) (p buffer : List ℕ) :
 
 abbrev pub OwnAnswers : Engine → Checker → Type 0
 OwnAnswers engine check =
-    (p buffer : List ℕ) → Bytes p → Bytes buffer → WithinLayout p → answer-most ≤ length buffer
+    (p buffer : List ℕ) → Slice p → Slice buffer → WithinLayout p → answer-most ≤ length buffer
     → OwnAnswer engine check p buffer
 
 -- ---- the demands, whole

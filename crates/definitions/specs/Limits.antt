@@ -102,6 +102,10 @@ answer-most = answer-header + (signed-bytes + short-bytes) * suc highest-n
 abbrev pub kept-bytes : ℕ
 kept-bytes = 20000
 
+-- A number that is handed to an entry, and the length of a slice, are below 2⁶⁴.
+abbrev pub word-values : ℕ
+word-values = 18446744073709551616
+
 -- Document 02, 2.7: a span or stamp has a text if it is blank or within this of 0, ±6,000,000.
 abbrev pub text-limit : ℕ
 text-limit = 6000000

@@ -9,7 +9,7 @@ use lib.ListN.{length}
 use Rattle.definitions.specs.Limits.{highest-n, highest-m, lead-limit, length-bytes, short-bytes, signed-bytes, kind-place, n-place, m-place, problem-kind, problem-header}
 use Rattle.definitions.specs.Tropical.{Trop}
 use Rattle.definitions.specs.Problem.{Problem}
-use Rattle.definitions.specs.Bytes.{numAt, numsAt, le, fields, tropField, fieldOf, tropAt, all, blank-or-within, Clause, first, or-else}
+use Rattle.definitions.specs.Bytes.{numAt, numsAt, le, fields, tropField, fieldOf, tropAt, all, blank-or-within, Clause, first, or-else, Outcome, outcome}
 
 -- Size of a problem record: 10 + 8 × (n + 1) × (m + 1).
 abbrev pub problemSize : ℕ → ℕ → ℕ
@@ -58,6 +58,14 @@ problemRefusal s = or-else (headerRefusal s (length s)) (first (record { applies
 -- A problem is within the layout if no refusal that concerns the problem applies to it.
 abbrev pub WithinLayout : List ℕ → Type 0
 WithinLayout s = problemRefusal s ≡ 0
+
+-- What a problem's header, its first bytes and its size, gives: n and m, or the first of refusals 1 to 5.
+unfoldable pub headerOutcome : List ℕ → ℕ → Outcome (ℕ × ℕ)
+headerOutcome s size = outcome (headerRefusal s size) (nField s, mField s)
+
+-- What a whole problem gives: n and m, or the first of refusals 1 to 6.
+unfoldable pub problemOutcome : List ℕ → Outcome (ℕ × ℕ)
+problemOutcome s = outcome (problemRefusal s) (nField s, mField s)
 
 -- Places of the leads: row i has its left leads first, then its right leads, anchor first.
 abbrev pub leftPlace : ℕ → ℕ → ℕ → ℕ

@@ -8,14 +8,15 @@ use native.Mathlib.Omega.{arith}
 use lib.ListN.{length, getD, take, length-take, length-map}
 use borrow.Author.Tests.{le-ltb, lt-ltb}
 use Rattle.definitions.specs.Limits.{answer-most, highest-n, highest-m, most-trials}
-use Rattle.definitions.specs.Bytes.{Bytes, or-else}
+use Rattle.definitions.specs.Bytes.{Bytes, or-else, Outcome, gives}
 use Rattle.definitions.specs.Offset.{tropOf}
 use Rattle.definitions.specs.Problem.{Problem}
-use Rattle.definitions.specs.ProblemRecord.{nField, mField, problemRefusal, WithinLayout, problemOf}
-use Rattle.definitions.specs.AnswerRecord.{Answer, stampCount, pickCount, answerSize, answerBytes, writerRefusal, written}
+use Rattle.definitions.specs.ProblemRecord.{nField, mField, problemRefusal, problemOutcome, WithinLayout, problemOf}
+use Rattle.definitions.specs.AnswerRecord.{Answer, stampCount, pickCount, answerSize, answerBytes, writerRefusal, writerOutcome, written}
 use Rattle.definitions.specs.Solved as Results
 use Rattle.definitions.specs.Solved.{Answers, Solves, turned-away, solved, engineRefusal}
 use Rattle.definitions.proofs.Refusals.{or-else-suc, or-else-none, WriterFits, writer-fits}
+use Rattle.definitions.proofs.Outcomes.{outcome-none}
 use Rattle.definitions.proofs.Solved.{answers-taken}
 use Rattle.records.specs.declared.problem.Header.{Header}
 use Rattle.records.specs.declared.problem.Header.the-variants as Headers
@@ -23,9 +24,9 @@ use Rattle.writing.specs.declared.writer.Written.{Written}
 use Rattle.writing.specs.declared.writer.Written.the-variants as Writes
 use Rattle.records.specs.Decoded.{Decoded}
 use Rattle.leads.specs.Tables.{leftTable, rightTable, ProblemRead}
-use Rattle.records.specs.ProblemHeader.{headerBy, problemRefused}
+use Rattle.records.specs.ProblemHeader.{headerOf, problemRefused}
 use Rattle.answers.specs.Fields.{fieldsOf}
-use Rattle.writing.specs.AnswerWriting.{AnswerWritten, writtenBy, writtenOf, unlessRefused}
+use Rattle.writing.specs.AnswerWriting.{AnswerWritten, writtenOf, unlessRefused}
 use Rattle.leads.proofs.LeadTables.{problem-decoded}
 use Rattle.records.proofs.ProblemHeader.{answer-fields, answer-refused}
 use Rattle.engine.specs.declared.solve.Solved.{Solved}
@@ -50,26 +51,25 @@ module _
     (wrote : AnswerWritten (fieldsOf class span (take s stamps) (take p picks)) n m r before after)
     (s-is : s ≡ stampCount class n) (p-is : p ≡ pickCount class n m) (found : FoundFor n m (length before) class span stamps picks)
   where
-    record-answered : r ≡ Writes.Record (answerSize class n m)
-    unfolding writtenOf writtenBy
-    record-answered =
-        handed n m class span s p stamps picks r before after wrote s-is p-is .answered
-        ∙ ap (λ (i : ℕ). writtenBy i (answerSize class n m)) (found .taken)
+    record-answered : writtenOf r ≡ gives (answerSize class n m)
+    unfolding writerOutcome
+    record-answered = handed n m class span s p stamps picks r before after wrote s-is p-is .answered ∙ outcome-none _ (answerSize class n m) (found .taken)
 
     -- The writer does not refuse it.
     pub never-refused : {k : ℕ} → r ≡ Writes.Refused k → ⊥
+    unfolding writtenOf
     never-refused {k} f =
-        let g : Writes.Record (answerSize class n m) ≡ Writes.Refused k = sym record-answered ∙ f in
+        let g : gives (answerSize class n m) ≡ Outcome.refusal k = sym record-answered ∙ ap writtenOf f in
         let z : _≡_ {A = ℕ} 0 1 = cc in omega arith
 
     -- The record stands in the buffer.
     pub wrote-for : {size : ℕ} → r ≡ Writes.Record size → WroteFor n m class span trials stamps picks (Results′.Answered class span trials size) before after
-    unfolding unlessRefused
+    unfolding unlessRefused writtenOf solvedOf
     wrote-for {size} f =
-        let g : Writes.Record size ≡ Writes.Record (answerSize class n m) = sym f ∙ record-answered in
+        let g : gives size ≡ gives (answerSize class n m) = sym (ap writtenOf f) ∙ record-answered in
         let q : size ≡ answerSize class n m = cc in
         record {
-          result-is = ap (λ (i : ℕ). Results′.Answered class span trials i) q;
+          result-is = ap (λ (i : ℕ). Results.answered class (tropOf span) trials i) q;
           buffer-is =
               handed n m class span s p stamps picks r before after wrote s-is p-is .buffer
               ∙ ap (λ (i : ℕ). unlessRefused i before (written before (answerBytes n (answerIn n m class span stamps picks)))) (found .taken);
@@ -111,9 +111,9 @@ refuses-with p before zero e h = absurd (omega arith)
 refuses-with p before (suc k) e h = turned-away (problem-first p (length before) (rw e h) ∙ e)
 
 -- A problem that is refused.
-pub refuses-problem : (p before : List ℕ) {header : Header} {k r : ℕ} → header ≡ headerBy (problemRefusal p) (nField p) (mField p) → header ≡ Headers.Refused k → r ≡ problemRefused header
+pub refuses-problem : (p before : List ℕ) {header : Header} {k r : ℕ} → headerOf header ≡ problemOutcome p → header ≡ Headers.Refused k → r ≡ problemRefused header
     → Solves p before (solvedOf (Results′.Refused r)) before
-unfolding solvedOf problemRefused
+unfolding solvedOf problemRefused problemOutcome
 refuses-problem p before {header} {k} {r} e f g =
     let h = answer-refused (problemRefusal p) (nField p) (mField p) e f in
     let q : r ≡ k = g ∙ ap problemRefused f in
@@ -132,7 +132,7 @@ pub record Read (p : List ℕ) (n m : ℕ) (left right : List ℕ) : Type 0 wher
   pub decoded : Decoded (problemOf p) left right
 
 pub read-problem : {p left₀ right₀ left right : List ℕ} {header : Header} {n m : ℕ} → Bytes p → ProblemRead p left₀ right₀ header left right → header ≡ Headers.Fields n m → Read p n m left right
-unfolding problemOf
+unfolding problemOf problemOutcome
 read-problem {p} b r f =
     let h = answer-fields (problemRefusal p) (nField p) (mField p) (r .result) f in
     record {
@@ -143,7 +143,8 @@ read-problem {p} b r f =
     }
 
 -- The trials made for a problem that is refused, and for one that is not.
-pub none-made : {p : List ℕ} {header : Header} {k : ℕ} → header ≡ headerBy (problemRefusal p) (nField p) (mField p) → header ≡ Headers.Refused k → TrialsMade p 0
+pub none-made : {p : List ℕ} {header : Header} {k : ℕ} → headerOf header ≡ problemOutcome p → header ≡ Headers.Refused k → TrialsMade p 0
+unfolding problemOutcome
 none-made {p} e f =
     let h = answer-refused (problemRefusal p) (nField p) (mField p) e f in
     record { refused = λ _. refl; some = λ w. absurd (omega (arith, h .0, h .1, w)); most = omega arith }
@@ -179,7 +180,7 @@ module _
     solves-it {r} {after} w =
         let a = answerIn n m class span stamps picks in
         let size : Results.answered class (tropOf span) trials (answerSize class (nField p) (mField p)) ≡ solvedOf r =
-        ap₂ (λ (i k : ℕ). Results.answered class (tropOf span) trials (answerSize class i k)) (read .n-is) (read .m-is) ∙ sym (ap solvedOf (w .result-is)) in
+        ap₂ (λ (i k : ℕ). Results.answered class (tropOf span) trials (answerSize class i k)) (read .n-is) (read .m-is) ∙ sym (w .result-is) in
         let bytes : written before (answerBytes (nField p) a) ≡ after = ap (λ (i : ℕ). written before (answerBytes i a)) (read .n-is) ∙ sym (w .buffer-is) in
         subst₂ (λ (x : Results.Solved) (y : List ℕ). Solves p before x y) size bytes
         (solved a nothing-refused (found .answers (problemOf p) (read .decoded) (read .n-is) (read .m-is)))

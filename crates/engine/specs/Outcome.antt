@@ -27,7 +27,7 @@ pub record FoundFor (n m room class span : ℕ) (stamps picks : List ℕ) : Type
 
 -- It was written: the record stands in the buffer, every byte after it is as it was.
 pub record WroteFor (n m class span trials : ℕ) (stamps picks : List ℕ) (r : Solved) (before after : List ℕ) : Type 0 where
-  pub result-is : r ≡ Answered class span trials (answerSize class n m)
+  pub result-is : solvedOf r ≡ Results.answered class (tropOf span) trials (answerSize class n m)
   pub buffer-is : after ≡ written before (answerBytes n (answerIn n m class span stamps picks))
 
 -- The trials made for the problem in the bytes: none where it is refused, else at least one and few.

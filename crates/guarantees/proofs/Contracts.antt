@@ -1,85 +1,90 @@
--- The contracts of the code meet the premises of the demands. Each law takes functions of which an entry's contract holds, and
--- shows the statement that the demands rest on. (A program's `answer` needs none: its contract says it as it stands. The
--- writer's says it for every answer that can be handed over, with span and stamps by offset numbers.)
+-- From the contracts of the code to the words of the demands: each entry (specs/Entries.antt) as a function that the demands
+-- speak of, and the laws that it then keeps.
 use Prim.Native.Nat.{ℕ, zero, suc, _+_, _*_, _≤_}
 use mathlib.Core.Path.{_≡_, refl, ap, sym, _∙_}
 use mathlib.Core.List.{List}
 use native.Mathlib.Omega.{arith}
-use lib.ListN.{getD, take}
+use lib.ListN.{length, getD, take}
 use Rattle.definitions.specs.Offset.{tropOf}
 use Rattle.definitions.specs.Problem.{Problem}
-use Rattle.definitions.specs.Bytes.{Bytes}
-use Rattle.definitions.specs.ProblemRecord.{problemOf, problemRefusal, nField, mField}
-use Rattle.definitions.specs.AnswerRecord.{Answer, answerRefusal, answerOf, stampCount, pickCount, classField}
-use Rattle.definitions.specs.Verdict.{Judged}
-use Rattle.definitions.specs.Solved.{Solves}
-use Rattle.definitions.specs.Demands.{Engine, Checker, ProblemReader, Reader, Reading, refusal, fields, EngineSolves, CheckerJudges, ProblemReaderRefuses, ReadsProblems, ReaderRefuses, ReadsFields}
+use Rattle.definitions.specs.Bytes.{Outcome, refusal, gives, outcome, refusalOf}
+use Rattle.definitions.specs.ProblemRecord.{problemOf, problemRefusal, problemOutcome, nField, mField}
+use Rattle.definitions.specs.AnswerRecord.{Answer, answerRefusal, answerOutcome, answerOf, stampCount, pickCount, classField, spanField, writerRefusal, writerOutcome, answerBytes, written}
+use Rattle.definitions.specs.Programs.{SpanOutput, VerdictOutput}
+use Rattle.definitions.specs.Demands.{Word, Slice, Handed, Engine, Checker, ProblemReader, Reader, Writer, Program, EngineSolves, CheckerJudges, ProblemReaderRefuses, ReadsProblems, ReaderRefuses, ReadsFields, WriterRefuses, WritesRecord, ProgramsAnswer}
+use Rattle.definitions.proofs.Outcomes.{refusal-outcome}
 use Rattle.records.specs.declared.problem.Header.{Header}
 use Rattle.records.specs.declared.problem.Header.the-variants as Headers
+use Rattle.records.specs.ProblemHeader.{headerOf}
+use Rattle.records.proofs.ProblemHeader.{answer-fields, answer-refused}
 use Rattle.answers.specs.declared.answer.AnswerHead.{AnswerHead}
 use Rattle.answers.specs.declared.answer.AnswerHead.the-variants as Heads
-use Rattle.records.specs.ProblemHeader.{headerBy}
-use Rattle.leads.specs.Tables.{ProblemRead}
 use Rattle.answers.specs.Fields.{fieldsOf}
-use Rattle.answers.specs.AnswerReading.{AnswerRead, answerReadOf, headBy, spanNumber}
+use Rattle.answers.specs.AnswerReading.{headOf}
+use Rattle.answers.proofs.Heads.{fields-by, refused-by}
 use Rattle.leads.proofs.LeadTables.{problem-decoded}
+use Rattle.writing.specs.AnswerWriting.{AnswerWritten, writtenOf, unlessRefused}
 use Rattle.writing.proofs.Trips.{counted}
-use Rattle.engine.specs.declared.solve.Solved as Code
 use Rattle.engine.specs.Outcome.{solvedOf}
-use Rattle.checker.specs.declared.check.Verdict as Code′
 use Rattle.checker.specs.Outcome.{verdictOf}
+use Rattle.guarantees.specs.Entries as Entries
+use Rattle.guarantees.specs.Entries.{Solve, Check, ReadProblem, ReadAnswer, WriteAnswer}
+use Rattle.guarantees.proofs.Handing.{handing, handing-fits, handing-means}
 
 -- ---- `solve` and `check`
 
-pub engine-meets : (result : List ℕ → List ℕ → Code.Solved) (buffer : List ℕ → List ℕ → List ℕ)
-    → ((p before : List ℕ) → Bytes p → Bytes before → Solves p before (solvedOf (result p before)) (buffer p before))
-    → EngineSolves (record { result = λ p before. solvedOf (result p before); buffer = buffer })
-engine-meets result buffer contract = contract
+abbrev pub engineOf : Solve → Engine
+engineOf solve = record { result = λ p before. solvedOf (solve .result p before); buffer = solve .buffer }
 
-pub checker-meets : (check : List ℕ → List ℕ → Code′.Verdict) → ((p a : List ℕ) → Bytes p → Bytes a → Judged p a (verdictOf (check p a)))
-    → CheckerJudges (λ p a. verdictOf (check p a))
-checker-meets check contract = contract
+pub engine-meets : (solve : Solve) → EngineSolves (engineOf solve)
+engine-meets solve = solve .contract
+
+abbrev pub checkerOf : Check → Checker
+checkerOf check p a = verdictOf (check .verdict p a)
+
+pub checker-meets : (check : Check) → CheckerJudges (checkerOf check)
+checker-meets check = check .contract
 
 -- ---- `read_problem`
 
--- The refusal that a header gives, 0 for none, and the problem in two tables.
-unfoldable pub numberOf : Header → ℕ
-numberOf (Headers.Fields n m) = 0
-numberOf (Headers.Refused k) = k
-
+-- The problem in two tables.
 unfoldable pub problemIn : Header → List ℕ → List ℕ → Problem
 problemIn (Headers.Fields n m) left right =
     record { n = n; m = m; left = λ i j. tropOf (getD left (i * 32 + j) 0); right = λ i j. tropOf (getD right (i * 32 + j) 0) }
 problemIn (Headers.Refused k) left right = record { n = 0; m = 0; left = λ i j. tropOf 0; right = λ i j. tropOf 0 }
 
-module _ (header : List ℕ → Header) (left right : List ℕ → List ℕ) (left₀ right₀ : List ℕ) (contract : (p : List ℕ) → Bytes p → ProblemRead p left₀ right₀ (header p) (left p) (right p)) where
-  abbrev pub problemReader : ProblemReader
-  problemReader = record {
+module _ {left₀ right₀ : List ℕ} (read : ReadProblem left₀ right₀) where
+  abbrev pub problemReaderOf : ProblemReader
+  problemReaderOf = record {
     lent-left = left₀;
     lent-right = right₀;
-    number = λ p. numberOf (header p);
-    problem = λ p. problemIn (header p) (left p) (right p);
-    left = left;
-    right = right;
+    number = λ p. refusalOf (headerOf (read .header p));
+    problem = λ p. problemIn (read .header p) (read .left p) (read .right p);
+    left = read .left;
+    right = read .right;
   }
 
-  header-number : (k n m : ℕ) → numberOf (headerBy k n m) ≡ k
-  unfolding numberOf headerBy
-  header-number zero n m = refl
-  header-number (suc k) n m = refl
-
-  pub problem-reader-refuses : ProblemReaderRefuses problemReader
+  pub problem-reader-refuses : ProblemReaderRefuses problemReaderOf
+  unfolding problemOutcome
   problem-reader-refuses = record {
-    number-is = λ p b. ap numberOf (contract p b .result) ∙ header-number (problemRefusal p) _ _;
-    untouched = λ p b k e. (contract p b .left-kept (omega arith), contract p b .right-kept (omega arith));
+    number-is = λ p b. ap refusalOf (read .contract p b .result) ∙ refusal-outcome (problemRefusal p) _;
+    untouched = λ p b k e. (read .contract p b .left-kept (omega arith), read .contract p b .right-kept (omega arith));
   }
 
-  pub problem-reader-reads : ReadsProblems problemReader
-  unfolding problemIn headerBy problemOf
+  -- A header that nothing refuses gives n and m.
+  header-given : (p : List ℕ) → problemRefusal p ≡ 0 → (h : Header) → headerOf h ≡ problemOutcome p → h ≡ Headers.Fields (nField p) (mField p)
+  unfolding problemOutcome
+  header-given p w (Headers.Fields n m) e =
+      let f = answer-fields (problemRefusal p) (nField p) (mField p) {r = Headers.Fields n m} e refl in rw (f .1, f .2) refl
+  header-given p w (Headers.Refused k) e =
+      absurd (let f = answer-refused (problemRefusal p) (nField p) (mField p) {r = Headers.Refused k} e refl in omega (arith, f .0, f .1))
+
+  pub problem-reader-reads : ReadsProblems problemReaderOf
+  unfolding problemIn problemOf
   problem-reader-reads p b w =
-      let c = contract p b in
-      let told : header p ≡ Headers.Fields (nField p) (mField p) = c .result ∙ rw w refl in
-      let d = problem-decoded p b w in
+      let c = read .contract p b in
+      let told : read .header p ≡ Headers.Fields (nField p) (mField p) = header-given p w (read .header p) (c .result) in
+      let d = problem-decoded p (b .bytes) w in
       record {
         n-is = rw told refl;
         m-is = rw told refl;
@@ -90,33 +95,73 @@ module _ (header : List ℕ → Header) (left right : List ℕ → List ℕ) (le
 -- ---- `read_answer`
 
 -- What the reader gives: the refusal, or the fields, stamps and picks as many as the class has.
-unfoldable pub readingOf : AnswerHead → List ℕ → List ℕ → ℕ → ℕ → Reading
+unfoldable pub readingOf : AnswerHead → List ℕ → List ℕ → ℕ → ℕ → Outcome Answer
 readingOf (Heads.Refused k) stamps picks n m = refusal k
-readingOf (Heads.Fields class span) stamps picks n m = fields (fieldsOf class span (take (stampCount class n) stamps) (take (pickCount class n m) picks))
+readingOf (Heads.Fields class span) stamps picks n m = gives (fieldsOf class span (take (stampCount class n) stamps) (take (pickCount class n m) picks))
 
-module _ (head : List ℕ → ℕ → ℕ → AnswerHead) (stamps picks : List ℕ → ℕ → ℕ → List ℕ) (stamps₀ picks₀ : List ℕ)
-    (contract : (s : List ℕ) → Bytes s → (n m : ℕ) → AnswerRead s n m (head s n m) stamps₀ (stamps s n m) picks₀ (picks s n m)) where
-  abbrev pub reader : Reader
-  reader = record {
+module _ {stamps₀ picks₀ : List ℕ} (read : ReadAnswer stamps₀ picks₀) where
+  abbrev pub readerOf : Reader
+  readerOf = record {
     lent-stamps = stamps₀;
     lent-picks = picks₀;
-    reading = λ s n m. readingOf (head s n m) (stamps s n m) (picks s n m) n m;
-    stamps = stamps;
-    picks = picks;
+    reading = λ s n m. readingOf (read .head s n m) (read .stamps s n m) (read .picks s n m) n m;
+    stamps = read .stamps;
+    picks = read .picks;
   }
 
-  pub reader-refuses : ReaderRefuses reader
-  unfolding readingOf answerReadOf headBy
+  pub reader-refuses : ReaderRefuses readerOf
+  unfolding readingOf answerOutcome
   reader-refuses = record {
-    first-refusal = λ s b n m k e.
-        let told : head s n m ≡ Heads.Refused (suc k) = contract s b n m .answered ∙ rw e refl in
-        rw told refl;
-    untouched = λ s b n m k e. contract s b n m .kept (λ z. omega arith);
+    first-refusal = λ s b n m k v w e. go s n m k e (read .head s n m) (read .contract s n m b v w .answered);
+    untouched = λ s b n m k v w e. read .contract s n m b v w .kept (λ z. omega arith);
+  }
+    where
+      go : (s : List ℕ) (n m k : ℕ) → answerRefusal s n m ≡ suc k → (h : AnswerHead) → headOf h ≡ outcome (answerRefusal s n m) (classField s, spanField s)
+          → readingOf h (read .stamps s n m) (read .picks s n m) n m ≡ refusal (suc k)
+      go s n m k e (Heads.Fields class span) a = absurd (let f = fields-by (answerRefusal s n m) _ _ {r = Heads.Fields class span} a refl in omega (arith, f .0))
+      go s n m k e (Heads.Refused j) a = let f = refused-by (answerRefusal s n m) _ {r = Heads.Refused j} a refl in ap refusal (f .0 ∙ e)
+
+  pub reader-reads : ReadsFields readerOf
+  unfolding readingOf answerOutcome
+  reader-reads s b n m v w e = go (read .head s n m) refl
+    where
+      go : (h : AnswerHead) → read .head s n m ≡ h → readingOf h (read .stamps s n m) (read .picks s n m) n m ≡ gives (answerOf s n m)
+      go (Heads.Fields class span) f = ap gives (counted (read .contract s n m b v w) f (b .bytes))
+      go (Heads.Refused j) f = absurd (let g = refused-by (answerRefusal s n m) _ (read .contract s n m b v w .answered) f in g .1 e)
+
+-- ---- `write_answer`
+
+module _ (write : WriteAnswer) where
+  abbrev pub writerOf : Writer
+  writerOf = record {
+    number = λ a n m buffer. refusalOf (writtenOf (write .result (handing a n m) buffer));
+    buffer = λ a n m buffer. write .buffer (handing a n m) buffer;
   }
 
-  pub reader-reads : ReadsFields reader
-  unfolding readingOf answerReadOf headBy
-  reader-reads s b n m e =
-      let c = contract s b n m in
-      let told : head s n m ≡ Heads.Fields (classField s) (spanNumber s) = c .answered ∙ rw e refl in
-      rw told (ap fields (counted c told b))
+  -- The contract, in the answer's own words.
+  pub writer-writes : (a : Answer) (n m : ℕ) (buffer : List ℕ) → Handed a → Word n → Word m → Slice buffer
+      → AnswerWritten a n m (write .result (handing a n m) buffer) buffer (write .buffer (handing a n m) buffer)
+  writer-writes a n m buffer h v w b =
+      let c = write .contract (handing a n m) buffer (handing-fits a n m h v w) b in
+      rw (handing-means a h) at c
+
+  pub writer-meets : WriterRefuses writerOf × WritesRecord writerOf
+  unfolding writerOutcome unlessRefused
+  writer-meets = (
+    record {
+      number-is = λ a n m buffer h v w b. ap refusalOf (writer-writes a n m buffer h v w b .answered) ∙ refusal-outcome _ _;
+      untouched = λ a n m buffer h v w b k e. writer-writes a n m buffer h v w b .buffer ∙ rw e refl;
+    },
+    λ a n m buffer h v w b e. writer-writes a n m buffer h v w b .buffer ∙ rw e refl,
+  )
+
+-- ---- `answer` of the programs
+
+abbrev pub programOf : {out₀ : List ℕ} {Output : List ℕ → List ℕ → Type 0} → Entries.Answer out₀ Output → Program
+programOf answer kept size = take (answer .count kept size) (answer .out kept size)
+
+pub programs-meet : {out₀ line₀ : List ℕ} (span : Entries.Answer out₀ SpanOutput) (verdict : Entries.Answer line₀ VerdictOutput) → ProgramsAnswer (programOf span) (programOf verdict)
+programs-meet span verdict = record {
+  span-output = λ kept b l size s. span .contract kept size b l s;
+  verdict-output = λ kept b l size s. verdict .contract kept size b l s;
+}

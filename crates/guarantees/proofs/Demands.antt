@@ -1,11 +1,9 @@
 -- The demands of the service description. Whoever asks why an answer is right starts reading here.
 --
--- Each theorem holds for all functions on bytes that do what the contracts of the code say they do:
---   an engine whose result and buffer are those that document 01 gives (`EngineSolves`; the contract of `solve`),
---   a checker whose verdict is the one that document 01 gives (`CheckerJudges`; the contract of `check`),
---   readers and a writer whose results are those of the bytes and of the fields (the contracts of the records),
---   programs whose output is the one of the bytes that were read (`ProgramsAnswer`; the contracts of what they call).
--- `Contracts` has the laws from the code's contracts to these words; PROMISES says what is assumed.
+-- Each theorem holds for all functions of which the contracts of the code hold, for whatever can be handed over (specs/Entries.antt):
+--   `solve`, `check`, `read_problem`, `read_answer`, `write_answer`, and `answer` of the two programs.
+-- `Contracts` leads from these contracts to the words of the demands, `Inhabited` shows that such functions exist; PROMISES says what
+-- is assumed.
 use Prim.Native.Nat.{ℕ, _≤_}
 use mathlib.Core.Path.{_≡_}
 use mathlib.Core.List.{List}
@@ -14,45 +12,49 @@ use lib.IntN.{ℤ}
 use Rattle.definitions.specs.Limits.{answer-most, class-optimal}
 use Rattle.definitions.specs.Tropical.{fin}
 use Rattle.definitions.specs.Problem.{Optimal}
-use Rattle.definitions.specs.Bytes.{Bytes}
 use Rattle.definitions.specs.ProblemRecord.{WithinLayout, problemOf}
 use Rattle.definitions.specs.Solved.{answered}
-use Rattle.definitions.specs.Demands.{Engine, Checker, ProblemReader, Reader, Writer, Program, EngineSolves, CheckerJudges, ProblemReaderRefuses, ReadsProblems, ReaderRefuses, ReadsFields, WriterRefuses, WritesRecord, ProgramsAnswer, Demand1, Demand2, Demand3, Demands}
+use Rattle.definitions.specs.Programs.{SpanOutput, VerdictOutput}
+use Rattle.definitions.specs.Demands.{Slice, Engine, EngineSolves, Demand1, Demand2, Demand3, Demands}
 use Rattle.checker.proofs.Demand3.{checker-demand}
+use Rattle.guarantees.specs.Entries.{Solve, Check, ReadProblem, ReadAnswer, WriteAnswer, Answer}
+use Rattle.guarantees.proofs.Contracts.{engineOf, engine-meets, checkerOf, checker-meets, problemReaderOf, problem-reader-refuses, problem-reader-reads, readerOf, reader-refuses, reader-reads, writerOf, writer-meets, programOf, programs-meet}
 use Rattle.guarantees.proofs.Engine.{engine-refuses, least-spans, quoted-is-smallest, engine-reads-back, own-answers}
 use Rattle.guarantees.proofs.Records.{reads-back, writes-back}
 
-module _ (engine : Engine) (solves : EngineSolves engine) (check : Checker) (judges : CheckerJudges check) (readProblem : ProblemReader) (numbers : ProblemReaderRefuses readProblem) (problems : ReadsProblems readProblem) (read : Reader) (refuses : ReaderRefuses read) (reads : ReadsFields read) (write : Writer) (judged : WriterRefuses write) (writes : WritesRecord write) (span verdict : Program) (programs : ProgramsAnswer span verdict) where
+module _ (solve : Solve) (check : Check) {left₀ right₀ : List ℕ} (readProblem : ReadProblem left₀ right₀) {stamps₀ picks₀ : List ℕ} (readAnswer : ReadAnswer stamps₀ picks₀) (writeAnswer : WriteAnswer) {out₀ line₀ : List ℕ} (span : Answer out₀ SpanOutput) (verdict : Answer line₀ VerdictOutput) where
   -- Every string of bytes is answered; bytes outside the layouts get the first refusal, and a lent buffer is untouched.
-  pub demand-1 : Demand1 engine check readProblem read write span verdict
+  pub demand-1 : Demand1 (engineOf solve) (checkerOf check) (problemReaderOf readProblem) (readerOf readAnswer) (writerOf writeAnswer) (programOf span) (programOf verdict)
   demand-1 = record {
-    engine-refuses = engine-refuses engine solves;
-    checker-refuses = checker-demand check judges .refuses;
-    problem-reader-refuses = numbers;
-    reader-refuses = refuses;
-    writer-refuses = judged;
-    programs-answer = programs;
+    engine-refuses = engine-refuses (engineOf solve) (engine-meets solve);
+    checker-refuses = checker-demand (checkerOf check) (checker-meets check) .refuses;
+    problem-reader-refuses = problem-reader-refuses readProblem;
+    reader-refuses = reader-refuses readAnswer;
+    writer-refuses = writer-meets writeAnswer .0;
+    programs-answer = programs-meet span verdict;
   }
 
   -- Class and least span are those of the theory, in at most 23 trials; what is written reads back as itself, and what is
   -- read is written again to the same bytes.
-  pub demand-2 : Demand2 engine readProblem read write
-  demand-2 = record {
-    least-spans = least-spans engine solves;
-    engine-solves = solves;
-    reads-problems = problems;
-    reads-fields = reads;
-    writes-record = writes;
-    engine-reads-back = engine-reads-back engine solves read reads;
-    reads-back = reads-back read write reads judged writes;
-    writes-back = writes-back read write refuses reads judged writes;
-  }
+  pub demand-2 : Demand2 (engineOf solve) (problemReaderOf readProblem) (readerOf readAnswer) (writerOf writeAnswer)
+  demand-2 =
+      let writes = writer-meets writeAnswer in
+      record {
+        least-spans = least-spans (engineOf solve) (engine-meets solve);
+        engine-solves = engine-meets solve;
+        reads-problems = problem-reader-reads readProblem;
+        reads-fields = reader-reads readAnswer;
+        writes-record = writes .1;
+        engine-reads-back = engine-reads-back (engineOf solve) (engine-meets solve) (readerOf readAnswer) (reader-reads readAnswer);
+        reads-back = reads-back (readerOf readAnswer) (writerOf writeAnswer) (reader-reads readAnswer) (writes .0) (writes .1);
+        writes-back = writes-back (readerOf readAnswer) (writerOf writeAnswer) (reader-refuses readAnswer) (reader-reads readAnswer) (writes .0) (writes .1);
+      }
 
   -- The checker accepts exactly what document 01 lists; some table is accepted exactly when the theory says so; and the
   -- engine's own answer is accepted.
-  pub demand-3 : Demand3 engine check
+  pub demand-3 : Demand3 (engineOf solve) (checkerOf check)
   demand-3 =
-      let c = checker-demand check judges in
+      let c = checker-demand (checkerOf check) (checker-meets check) in
       record {
         checker-judges = c .judges;
         accepts-exactly = c .accepts-exactly;
@@ -60,15 +62,15 @@ module _ (engine : Engine) (solves : EngineSolves engine) (check : Checker) (jud
         least-exactly = c .least-exactly;
         none-exactly = c .none-exactly;
         bottomless-exactly = c .bottomless-exactly;
-        own-answers = own-answers engine solves check judges;
+        own-answers = own-answers (engineOf solve) (engine-meets solve) (checkerOf check) (checker-meets check);
       }
 
-  pub demands : Demands engine check readProblem read write span verdict
+  pub demands : Demands (engineOf solve) (checkerOf check) (problemReaderOf readProblem) (readerOf readAnswer) (writerOf writeAnswer) (programOf span) (programOf verdict)
   demands = record { first = demand-1; second = demand-2; third = demand-3 }
 
 -- The release note: a quoted span is the smallest there is. Where the engine answers least with span s, some plan that keeps
 -- the rules has span s, and every plan that keeps the rules, in blanks or whole minutes without limit, has at least that.
 pub quoted-span-is-the-smallest :
-    (engine : Engine) → EngineSolves engine → (p buffer : List ℕ) → Bytes p → Bytes buffer → WithinLayout p → answer-most ≤ length buffer
+    (engine : Engine) → EngineSolves engine → (p buffer : List ℕ) → Slice p → Slice buffer → WithinLayout p → answer-most ≤ length buffer
     → (s : ℤ) (trials size : ℕ) → engine .result p buffer ≡ answered class-optimal (fin s) trials size → Optimal (problemOf p) s
 quoted-span-is-the-smallest = quoted-is-smallest

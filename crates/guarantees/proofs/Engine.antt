@@ -12,19 +12,20 @@ use borrow.Author.Tests.{le-ltb}
 use Rattle.definitions.specs.Limits.{answer-most, most-trials, class-optimal, class-unbounded, class-infeasible, lead-limit, span-limit}
 use Rattle.definitions.specs.Tropical.{Trop, fin}
 use Rattle.definitions.specs.Problem.{Problem, Optimal}
-use Rattle.definitions.specs.Bytes.{Bytes, or-else}
+use Rattle.definitions.specs.Bytes.{or-else, Outcome, gives}
 use Rattle.definitions.specs.ProblemRecord.{WithinLayout, problemRefusal, problemOf, nField, mField}
 use Rattle.definitions.specs.AnswerRecord.{Answer, answerRefusal, answerOf, answerSize, answerBytes, written}
 use Rattle.definitions.specs.Verdict.{Verdict, accepted, checkRefusal, answerFor, Accepted, Judged, turned-away, certified, uncertified}
 use Rattle.definitions.specs.Solved as Results
 use Rattle.definitions.specs.Solved.{Solved, answered, Found, optimal, unbounded, infeasible, Answers, Solves, solved, engineRefusal}
-use Rattle.definitions.specs.Demands.{Engine, Reader, Reading, fields, Checker, EngineSolves, EngineRefuses, LeastSpans, FoundBy, ReadsFields, EngineReadsBack, ReadBy, CheckerJudges, OwnAnswers, OwnAnswer}
+use Rattle.definitions.specs.Demands.{Slice, Engine, Reader, Checker, EngineSolves, EngineRefuses, LeastSpans, FoundBy, ReadsFields, EngineReadsBack, ReadBy, CheckerJudges, OwnAnswers, OwnAnswer}
 use Rattle.definitions.proofs.Tropical.{fin-injective}
 use Rattle.definitions.proofs.Bisection.{few-trials}
 use Rattle.definitions.proofs.Refusals.{or-else-none, ProblemFits, problem-fits, left-size, right-size, WriterFits}
-use Rattle.definitions.proofs.RoundTrip.{answer-length, answer-back, answer-accepted, answer-bytes}
+use Rattle.definitions.proofs.RoundTrip.{answer-length, answer-back, answer-accepted}
 use Rattle.definitions.proofs.Solved.{answers-taken}
 use Rattle.definitions.proofs.Put.{take-put}
+use Rattle.checker.proofs.Accepting.{record-slice}
 use Rattle.duality.specs.Within.{Within}
 use Rattle.duality.proofs.Classes.{optimal-range}
 use Rattle.duality.proofs.Numbers.{top-enough}
@@ -63,7 +64,7 @@ answered-by : (engine : Engine) (p buffer : List ℕ) {r : Solved} {after : List
 answered-by engine p buffer (Results.turned-away e) h r-is b-is = absurd (let z : suc _ ≡ 0 = sym e ∙ h in omega arith)
 answered-by engine p buffer (solved a e ans) h r-is b-is = record { class = _; span = _; trials = _; answer = a; answers = ans; result-is = r-is; buffer-is = b-is }
 
-module _ (engine : Engine) (solves : EngineSolves engine) (p buffer : List ℕ) (b : Bytes p) (c : Bytes buffer) (w : WithinLayout p) (long : answer-most ≤ length buffer) where
+module _ (engine : Engine) (solves : EngineSolves engine) (p buffer : List ℕ) (b : Slice p) (c : Slice buffer) (w : WithinLayout p) (long : answer-most ≤ length buffer) where
   pub engine-answer : EngineAnswer engine p buffer
   engine-answer = answered-by engine p buffer (solves p buffer b c) (nothing-refused p (length buffer) w long) refl refl
 
@@ -103,7 +104,7 @@ quoted {p} (optimal {s = z} o) s e f = subst (Optimal p) (fin-injective f) o
 quoted (unbounded u) s e f = absurd (omega (arith, e))
 quoted (infeasible n) s e f = absurd (omega (arith, e))
 
-pub quoted-is-smallest : (engine : Engine) → EngineSolves engine → (p buffer : List ℕ) → Bytes p → Bytes buffer → WithinLayout p → answer-most ≤ length buffer
+pub quoted-is-smallest : (engine : Engine) → EngineSolves engine → (p buffer : List ℕ) → Slice p → Slice buffer → WithinLayout p → answer-most ≤ length buffer
     → (s : ℤ) (trials size : ℕ) → engine .result p buffer ≡ answered class-optimal (fin s) trials size → Optimal (problemOf p) s
 quoted-is-smallest engine solves p buffer b c w long s trials size e =
     quoted (found-as engine p buffer class-optimal (fin s) trials size (least-spans engine solves p buffer b c w long) e) s refl refl
@@ -128,11 +129,12 @@ record-stands p buffer w {class} a ans =
 
 -- It reads back as itself.
 reads-itself : (read : Reader) → ReadsFields read → (p : List ℕ) → WithinLayout p → {class : ℕ} {span : Trop} {trials : ℕ} (a : Answer)
-    → Answers (problemOf p) class span trials a → read .reading (answerBytes (nField p) a) (nField p) (mField p) ≡ fields a
+    → Answers (problemOf p) class span trials a → read .reading (answerBytes (nField p) a) (nField p) (mField p) ≡ gives a
 reads-itself read reads p w a ans =
     let f = answer-takes p w a ans in
-    reads (answerBytes (nField p) a) (answer-bytes (nField p) a) (nField p) (mField p) (answer-accepted a (nField p) (mField p) answer-most f)
-    ∙ ap fields (answer-back a (nField p) (mField p) answer-most f)
+    reads (answerBytes (nField p) a) (record-slice (nField p) (mField p) answer-most a f) (nField p) (mField p) (omega (arith, f .n-most)) (omega (arith, f .m-most))
+    (answer-accepted a (nField p) (mField p) answer-most f)
+    ∙ ap gives (answer-back a (nField p) (mField p) answer-most f)
 
 pub engine-reads-back : (engine : Engine) → EngineSolves engine → (read : Reader) → ReadsFields read → EngineReadsBack engine read
 engine-reads-back engine solves read reads p buffer b c w long =
@@ -167,9 +169,10 @@ verdict-on p w a ans j =
     names-itself p s a right (answer-back a (nField p) (mField p) answer-most f) (ans .accepted) j ∙ ap₂ accepted (ans .class-is) (ans .span-is)
 
 -- A true checker accepts the bytes of an answer that is accepted.
-pub accepts-it : (check : Checker) → CheckerJudges check → (p : List ℕ) → Bytes p → WithinLayout p → {class : ℕ} {span : Trop} {trials : ℕ} (a : Answer)
+pub accepts-it : (check : Checker) → CheckerJudges check → (p : List ℕ) → Slice p → WithinLayout p → {class : ℕ} {span : Trop} {trials : ℕ} (a : Answer)
     → Answers (problemOf p) class span trials a → check p (answerBytes (nField p) a) ≡ accepted class span
-accepts-it check judges p b w a ans = verdict-on p w a ans (judges p (answerBytes (nField p) a) b (answer-bytes (nField p) a))
+accepts-it check judges p b w a ans =
+    verdict-on p w a ans (judges p (answerBytes (nField p) a) b (record-slice (nField p) (mField p) answer-most a (answer-takes p w a ans)))
 
 pub own-answers : (engine : Engine) → EngineSolves engine → (check : Checker) → CheckerJudges check → OwnAnswers engine check
 own-answers engine solves check judges p buffer b c w long =

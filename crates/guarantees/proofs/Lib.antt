@@ -1,7 +1,11 @@
+pub mod Handing
 pub mod Engine
 pub mod Records
 pub mod OwnAnswers
 pub mod Pipe
 pub mod Contracts
-pub mod WrongPrograms
 pub mod Demands
+pub mod WrongPrograms
+pub mod Reached
+pub mod Solvable
+pub mod Inhabited

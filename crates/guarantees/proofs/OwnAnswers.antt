@@ -1,36 +1,37 @@
 -- The engine's own record, judged by the checker and read by the reader.
 use Prim.Native.Nat.{ℕ, zero, suc, _+_, _≤_}
-use mathlib.Core.Path.{_≡_, refl, ap, ap₂, sym, subst, subst₃, _∙_}
+use mathlib.Core.Path.{_≡_, refl, ap, ap₂, sym, subst, subst₂, subst₃, _∙_}
 use mathlib.Core.List.{List}
 use native.Mathlib.Omega.{arith}
 use native.Mathlib.Nat.{zero-add}
-use lib.ListN.{length, take}
+use lib.ListN.{length, getD, take}
 use Rattle.definitions.specs.Limits.{answer-most}
-use Rattle.definitions.specs.Tropical.{Trop}
+use Rattle.definitions.specs.Tropical.{Trop, bot}
 use Rattle.definitions.specs.Offset.{tropOf}
-use Rattle.definitions.specs.Bytes.{Bytes, numAt}
-use Rattle.definitions.specs.ProblemRecord.{WithinLayout, problemRefusal, problemOf, nField, mField}
-use Rattle.definitions.specs.AnswerRecord.{Answer, answerRefusal, answerOf, answerSize, answerBytes, written, classField}
+use Rattle.definitions.specs.Bytes.{Bytes, numAt, Outcome, gives, outcome}
+use Rattle.definitions.specs.ProblemRecord.{WithinLayout, headerOutcome, problemRefusal, problemOf, nField, mField}
+use Rattle.definitions.specs.AnswerRecord.{Answer, answerRefusal, answerOutcome, answerOf, answerSize, answerBytes, written, classField, spanField}
 use Rattle.definitions.specs.Verdict as Verdicts
-use Rattle.definitions.specs.Verdict.{Verdict, accepted, Judged}
+use Rattle.definitions.specs.Verdict.{Verdict, accepted, Judged, pointOf, strategyOf}
 use Rattle.definitions.specs.Solved as Results
 use Rattle.definitions.specs.Solved.{Solved, answered, Answers, Solves, solved, engineRefusal}
 use Rattle.definitions.proofs.Inputs.{header-passes}
 use Rattle.definitions.proofs.Refusals.{or-else-none, enough-clause, problem-fits}
 use Rattle.definitions.proofs.RoundTrip.{answer-length, answer-back, answer-accepted, size-most, answer-bytes}
 use Rattle.definitions.proofs.Put.{take-put, length-put}
-use Rattle.definitions.proofs.Offset.{tropOf-injective}
+use Rattle.definitions.proofs.Outcomes.{outcome-none}
 use Rattle.records.specs.declared.problem.Header.{Header}
 use Rattle.records.specs.declared.problem.Header.the-variants as Headers
-use Rattle.records.specs.ProblemHeader.{headerBy, headerOf}
+use Rattle.records.specs.ProblemHeader.{headerOf}
+use Rattle.records.proofs.ProblemHeader.{header-fits, header-refuses}
 use Rattle.answers.specs.declared.answer.AnswerHead.{AnswerHead}
 use Rattle.answers.specs.declared.answer.AnswerHead.the-variants as Heads
-use Rattle.answers.specs.AnswerReading.{answerReadOf, headBy, spanNumber}
-use Rattle.answers.proofs.Judging.{span-meant}
+use Rattle.answers.specs.AnswerReading.{headOf, AnswerRead}
+use Rattle.answers.proofs.Meaning.{stamps-point, picks-strategy}
 use Rattle.engine.specs.declared.solve.Solved as Declared
 use Rattle.engine.specs.declared.solve.Solved.the-variants.{Refused, Answered}
 use Rattle.engine.specs.Outcome.{solvedOf}
-use Rattle.guarantees.specs.OwnAnswers.{OwnVerdict, OwnReading}
+use Rattle.guarantees.specs.OwnAnswers.{OwnVerdict, HeldIn, OwnReading}
 use Rattle.guarantees.proofs.Engine.{answer-takes, result-parts, record-stands, verdict-on}
 
 -- The engine answered: the record of an answer stands at the buffer's start.
@@ -40,6 +41,7 @@ pub record Wrote (p before : List ℕ) (class : ℕ) (span : Trop) (trials size 
   pub answer : Answer
   pub answers : Answers (problemOf p) class span trials answer
   pub inside : size ≤ length after
+  pub buffer-is : after ≡ written before (answerBytes (nField p) answer)
   pub bytes : take size after ≡ answerBytes (nField p) answer
 
 none-refused : (p : List ℕ) (room : ℕ) → engineRefusal p room ≡ 0 → WithinLayout p × (answer-most ≤ room)
@@ -63,6 +65,7 @@ wrote-record p before {class} a e ans =
       answer = a;
       answers = ans;
       inside = rw (length-put before 0 (answerBytes (nField p) a) (omega arith) (omega (arith, size, most, h .1))) (omega (arith, most, h .1));
+      buffer-is = refl;
       bytes = record-stands p before (h .0) a ans;
     }
 
@@ -77,14 +80,17 @@ wrote {p} {before} {after} {class = class} {span = span} {trials = trials} {size
 
 -- The code's result, refused.
 pub own-refused : {p before after : List ℕ} {r : Declared.Solved} {k : ℕ} → Solves p before (solvedOf r) after → r ≡ Refused k
-    → (OwnVerdict p before (Verdicts.refused k) after) × (OwnReading p before (Heads.Refused k) after)
-unfolding solvedOf
+    → (OwnVerdict p before (Verdicts.refused k) after) × ((stamps picks : List ℕ) → OwnReading p before stamps picks (headOf (Heads.Refused k)) after stamps picks)
+unfolding solvedOf headOf
 own-refused {p} {before} {after} {r} {k} h e = go h (ap solvedOf e)
   where
-    go : {x : Solved} {after : List ℕ} → Solves p before x after → x ≡ Results.refused k → (OwnVerdict p before (Verdicts.refused k) after) × (OwnReading p before (Heads.Refused k) after)
+    go : {x : Solved} {after : List ℕ} → Solves p before x after → x ≡ Results.refused k
+        → (OwnVerdict p before (Verdicts.refused k) after) × ((stamps picks : List ℕ) → OwnReading p before stamps picks (headOf (Heads.Refused k)) after stamps picks)
     go (Results.turned-away {k = i} z) f =
-        let same : suc i ≡ k = cc in
-        (subst (λ (x : ℕ). OwnVerdict p before (Verdicts.refused x) before) same (OwnVerdict.turned-away z), subst (λ (x : ℕ). OwnReading p before (Heads.Refused x) before) same (OwnReading.turned-away z))
+        let same : suc i ≡ k = cc in (
+          subst (λ (x : ℕ). OwnVerdict p before (Verdicts.refused x) before) same (OwnVerdict.turned-away z),
+          λ stamps picks. subst (λ (x : ℕ). OwnReading p before stamps picks (Outcome.refusal x) before stamps picks) same (OwnReading.turned-away z),
+        )
     go (solved a z ans) f = absurd (let z : _≡_ {A = ℕ} 0 1 = cc in omega arith)
 
 -- The code's result, answered.
@@ -105,34 +111,39 @@ own-verdict {p} {before} {after} {r} {class} {span} {trials} {size} h e {v} j =
     let named : v ≡ accepted class (tropOf span) = verdict-on p (w .within) (w .answer) (w .answers) (rw (w .bytes) at j) in
     rw named (OwnVerdict.own (w .none) (rw e at h) (rw named at j))
 
--- The reader gives class and span.
+-- The reader gives class and span, stamps and picks.
 pub own-reading : {p before after : List ℕ} {r : Declared.Solved} {class span trials size : ℕ} → Solves p before (solvedOf r) after → r ≡ Answered class span trials size
-    → {head : AnswerHead} → (WithinLayout p → head ≡ answerReadOf (take size after) (nField p) (mField p)) → OwnReading p before head after
-unfolding solvedOf answerReadOf headBy answerOf
-own-reading {p} {before} {after} {r} {class} {span} {trials} {size} h e {head} reads =
+    → (head : AnswerHead) {stamps₀ stamps picks₀ picks : List ℕ}
+    → (WithinLayout p → AnswerRead (take size after) (nField p) (mField p) head stamps₀ stamps picks₀ picks) → OwnReading p before stamps₀ picks₀ (headOf head) after stamps picks
+unfolding answerOutcome answerOf pointOf strategyOf
+own-reading {p} {before} {after} {class = class} {span} {trials} {size} h e head {stamps₀} {stamps} {picks₀} {picks} reads =
     let w = own-wrote h e in
     let a = w .answer in
     let s : List ℕ = answerBytes (nField p) (w .answer) in
     let f = answer-takes p (w .within) a (w .answers) in
+    let none = answer-accepted a (nField p) (mField p) answer-most f in
     let back = answer-back a (nField p) (mField p) answer-most f in
+    let read : AnswerRead (answerBytes (nField p) (w .answer)) (nField p) (mField p) head stamps₀ stamps picks₀ picks = rw (w .bytes) at (reads (w .within)) in
     let class-is : classField (answerBytes (nField p) (w .answer)) ≡ class = ap (λ (x : Answer). x .class) back ∙ w .answers .class-is in
-    let span-is : spanNumber (answerBytes (nField p) (w .answer)) ≡ span = tropOf-injective _ span (span-meant (answer-bytes (nField p) a) (nField p) (mField p) ∙ ap (λ (x : Answer). x .span) back ∙ w .answers .span-is) in
-    let told : head ≡ Heads.Fields class span = reads (w .within) ∙ (rw (w .bytes, answer-accepted a (nField p) (mField p) answer-most f, class-is, span-is) refl) in
-    rw told (OwnReading.own (w .none) (rw e at h) (sym (reads (w .within)) ∙ told))
+    let span-is : spanField (answerBytes (nField p) (w .answer)) ≡ tropOf span = ap (λ (x : Answer). x .span) back ∙ w .answers .span-is in
+    let told : headOf head ≡ gives (class, tropOf span) = read .answered ∙ outcome-none _ _ none ∙ ap₂ (λ (c : ℕ) (x : Trop). gives (c, x)) class-is span-is in
+    rw (told, w .buffer-is) (OwnReading.own a (w .none) (w .answers) (held a back read none))
+  where
+    held : (a : Answer) → answerOf (answerBytes (nField p) a) (nField p) (mField p) ≡ a
+        → AnswerRead (answerBytes (nField p) a) (nField p) (mField p) head stamps₀ stamps picks₀ picks
+        → answerRefusal (answerBytes (nField p) a) (nField p) (mField p) ≡ 0 → HeldIn a stamps picks
+    held a back read none = record {
+      stamps-are = λ j. stamps-point read none (answer-bytes (nField p) a) j ∙ ap (λ (x : Answer). getD (x .stamps) j bot) back;
+      picks-are = λ j. picks-strategy read none j ∙ ap (λ (x : Answer). getD (x .picks) j 0) back;
+    }
 
 -- ---- the problem's n and m
 
-within-header : (p : List ℕ) → WithinLayout p → headerOf p (length p) ≡ Headers.Fields (nField p) (mField p)
-unfolding headerOf headerBy
-within-header p w = rw (header-passes p w) refl
+pub never-refused : (p : List ℕ) {header : Header} {k : ℕ} {A : Type 0} → headerOf header ≡ headerOutcome p (length p) → header ≡ Headers.Refused k → WithinLayout p → A
+never-refused p e f w = absurd (let g = header-refuses p (length p) e f in omega (arith, header-passes p w, g .0, g .1))
 
-pub never-refused : (p : List ℕ) {header : Header} {k : ℕ} {A : Type 0} → header ≡ headerOf p (length p) → header ≡ Headers.Refused k → WithinLayout p → A
-never-refused p e f w = absurd (let g = within-header p w in let z : _≡_ {A = ℕ} 0 1 = cc in omega arith)
-
-pub reads-there : (p s : List ℕ) {header : Header} {n m : ℕ} {head : AnswerHead} → header ≡ headerOf p (length p) → header ≡ Headers.Fields n m
-    → head ≡ answerReadOf s n m → WithinLayout p → head ≡ answerReadOf s (nField p) (mField p)
-reads-there p s {n = n} {m} e f g w =
-    let h = within-header p w in
-    let n-is : n ≡ nField p = cc in
-    let m-is : m ≡ mField p = cc in
-    g ∙ ap₂ (answerReadOf s) n-is m-is
+pub reads-there : (p s : List ℕ) {header : Header} {n m : ℕ} {head : AnswerHead} {stamps₀ stamps picks₀ picks : List ℕ} → headerOf header ≡ headerOutcome p (length p)
+    → header ≡ Headers.Fields n m → AnswerRead s n m head stamps₀ stamps picks₀ picks → WithinLayout p → AnswerRead s (nField p) (mField p) head stamps₀ stamps picks₀ picks
+reads-there p s {head = head} {stamps₀} {stamps} {picks₀} {picks} e f g w =
+    let h = header-fits p (length p) e f in
+    subst₂ (λ (n m : ℕ). AnswerRead s n m head stamps₀ stamps picks₀ picks) (h .n-is) (h .m-is) g

@@ -11,7 +11,7 @@ use Rattle.definitions.specs.Bytes.{Bytes}
 use Rattle.definitions.specs.ProblemRecord.{WithinLayout, lengthField}
 use Rattle.definitions.specs.Programs as Programs
 use Rattle.definitions.specs.Programs.{SpanOutput, VerdictOutput, ReadFrom, verdictLine, cutPlace, problemPart, answerPart}
-use Rattle.definitions.specs.Demands.{Program, ProgramsAnswer}
+use Rattle.definitions.specs.Demands.{Word, Program, ProgramsAnswer}
 use Rattle.definitions.proofs.Bytes.{numAt-front}
 use Rattle.definitions.proofs.Inputs.{cut-inside}
 use Rattle.definitions.proofs.Refusals.{problem-fits}
@@ -59,8 +59,8 @@ span-then-verdict p out line w (Programs.answer a e ans) v =
 
 -- Any programs that put out what document 01 says: the second reads the problem and, behind it, what the first put out.
 pub programs-piped : (span verdict : Program) → ProgramsAnswer span verdict
-    → (kept : List ℕ) → Bytes kept → length kept ≡ kept-bytes → (size : ℕ) (p : List ℕ) → ReadFrom kept size p → WithinLayout p
-    → (kept′ : List ℕ) → Bytes kept′ → length kept′ ≡ kept-bytes → (size′ : ℕ) → ReadFrom kept′ size′ (p ++ span kept size)
+    → (kept : List ℕ) → Bytes kept → length kept ≡ kept-bytes → (size : ℕ) → Word size → (p : List ℕ) → ReadFrom kept size p → WithinLayout p
+    → (kept′ : List ℕ) → Bytes kept′ → length kept′ ≡ kept-bytes → (size′ : ℕ) → Word size′ → ReadFrom kept′ size′ (p ++ span kept size)
     → Piped p (span kept size) (verdict kept′ size′)
-programs-piped span verdict programs kept b l size p r w kept′ b′ l′ size′ r′ =
-    span-then-verdict p (span kept size) (verdict kept′ size′) w (programs .span-output kept b l size p r) (programs .verdict-output kept′ b′ l′ size′ (p ++ span kept size) r′)
+programs-piped span verdict programs kept b l size s p r w kept′ b′ l′ size′ s′ r′ =
+    span-then-verdict p (span kept size) (verdict kept′ size′) w (programs .span-output kept b l size s p r) (programs .verdict-output kept′ b′ l′ size′ s′ (p ++ span kept size) r′)

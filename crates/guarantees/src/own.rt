@@ -1,8 +1,7 @@
 // The engine's own answers: what the checker says of them, and what the reader gives. The bytes that are judged and read
 // are those that the engine wrote.
-ghost use mathlib.Core.Path.{_≡_};
 ghost use Rattle.definitions.specs.ProblemRecord.{WithinLayout, nField, mField};
-ghost use Rattle.answers.specs.AnswerReading.{answerReadOf};
+ghost use Rattle.answers.specs.AnswerReading.{headOf, AnswerRead};
 ghost use Rattle.guarantees.specs.OwnAnswers.{OwnVerdict, OwnReading};
 ghost use Rattle.checker.specs.Outcome.{verdictOf};
 use answers::answer::AnswerHead;
@@ -25,28 +24,34 @@ pub fn solve_then_check(problem: &[u8], answer: &mut [u8]) -> Verdict
     }
 }
 
-// What was written, read with the problem's n and m.
-fn read_own(problem: &[u8], written: &[u8]) -> AnswerHead
-    ensures { λ r. ⌜ (WithinLayout (now (problem .entry)) → r ≡ answerReadOf (now (written .entry)) (nField (now (problem .entry))) (mField (now (problem .entry)))) ⌝ }
+// What was written, read with the problem's n and m into two arrays.
+fn read_own(
+    problem: &[u8],
+    written: &[u8],
+    stamps: &mut [u64; 32],
+    picks: &mut [u64; 64],
+) -> AnswerHead
+    ensures { λ r. ⌜ (WithinLayout (now (problem .entry)) → AnswerRead (now (written .entry)) (nField (now (problem .entry))) (mField (now (problem .entry))) r (now (stamps .entry)) (now (stamps .exit)) (now (picks .entry)) (now (picks .exit))) ⌝ }
 {
     let header = read_header(problem, problem.len());
     match header {
         Header::Refused(k) => AnswerHead::Refused(k),
-        Header::Fields(n, m) => {
-            let mut stamps = [0u64; 32];
-            let mut picks = [0u64; 64];
-            read_answer(written, n, m, &mut stamps, &mut picks)
-        }
+        Header::Fields(n, m) => read_answer(written, n, m, stamps, picks),
     }
 }
 
-// The engine, then the reader on what it wrote: the engine's class and span.
-pub fn solve_then_read(problem: &[u8], answer: &mut [u8]) -> AnswerHead
-    ensures { λ r. ⌜ OwnReading (now (problem .entry)) (now (answer .entry)) r (now (answer .exit)) ⌝ }
+// The engine, then the reader on what it wrote: the engine's class and span, and its stamps and picks in two arrays.
+pub fn solve_then_read(
+    problem: &[u8],
+    answer: &mut [u8],
+    stamps: &mut [u64; 32],
+    picks: &mut [u64; 64],
+) -> AnswerHead
+    ensures { λ r. ⌜ OwnReading (now (problem .entry)) (now (answer .entry)) (now (stamps .entry)) (now (picks .entry)) (headOf r) (now (answer .exit)) (now (stamps .exit)) (now (picks .exit)) ⌝ }
 {
     let solved = solve(problem, answer);
     match solved {
         Solved::Refused(k) => AnswerHead::Refused(k),
-        Solved::Answered(_, _, _, size) => read_own(problem, &answer[..size]),
+        Solved::Answered(_, _, _, size) => read_own(problem, &answer[..size], stamps, picks),
     }
 }

@@ -4,7 +4,7 @@ ghost use Prim.Native.Nat.{_≤_, _-_};
 ghost use lib.ListN.{length, take};
 ghost use Rattle.definitions.specs.Limits.{kept-bytes};
 ghost use Rattle.definitions.specs.Bytes.{put};
-ghost use Rattle.input.specs.Came.{Came};
+ghost use Rattle.input.specs.Came.{Came, AllCame, read-size};
 use libc::STDIN_FILENO;
 use records::limits::KEPT;
 
@@ -32,7 +32,7 @@ fn keep(kept: &mut [u8], size: u64, buf: &[u8], n: usize)
 // Reads once, keeps what fits, and gives how many bytes came; 0 at the end of the input, or where reading failed.
 fn read_some(kept: &mut [u8], size: u64) -> u64
     requires { ⌜ length (now kept) ≡ kept-bytes ⌝ }
-    ensures { λ r. ⌜ (r ≤ 4096) × Came (now (kept .entry)) size r (now (kept .exit)) ⌝ }
+    ensures { λ r. ⌜ (r ≤ read-size) × Came (now (kept .entry)) size r (now (kept .exit)) ⌝ }
 {
     let mut buf = [0u8; 4096];
     let got = libc::read(STDIN_FILENO, &mut buf);
@@ -41,10 +41,10 @@ fn read_some(kept: &mut [u8], size: u64) -> u64
     n as u64
 }
 
-// Reads standard input to its end, keeps its first 20,000 bytes, and gives its size. A failed read counts as the end.
-// Public for `span`, `verdict`.
+// Reads standard input to its end, or until so much was counted that no outcome changes; keeps its first 20,000 bytes, and
+// gives its size. A failed read counts as the end. Public for `span`, `verdict`.
 pub fn read_all(kept: &mut [u8; KEPT]) -> u64
-    ensures { λ r. ⌜ (r ≤ 8589938688) × Came (now (kept .entry)) 0 r (now (kept .exit)) ⌝ }
+    ensures { λ r. ⌜ AllCame (now (kept .entry)) r (now (kept .exit)) ⌝ }
 {
     let mut size = 0;
     while size < ENOUGH {

@@ -6,13 +6,13 @@ use mathlib.Core.List.{List}
 use native.Mathlib.Omega.{arith}
 use lib.ListN.{length}
 use Rattle.definitions.specs.Limits.{problem-header}
-use Rattle.definitions.specs.Bytes.{Bytes}
-use Rattle.definitions.specs.ProblemRecord.{nField, mField, leftPlace, rightPlace, leadsOf, headerRefusal, problemRefusal, WithinLayout, problemSize}
+use Rattle.definitions.specs.Bytes.{Bytes, outcome}
+use Rattle.definitions.specs.ProblemRecord.{nField, mField, leftPlace, rightPlace, leadsOf, headerRefusal, headerOutcome, problemRefusal, problemOutcome, WithinLayout, problemSize}
 use Rattle.definitions.proofs.Refusals.{or-else-suc, problem-fits}
 use Rattle.records.specs.declared.problem.Header.{Header}
 use Rattle.records.specs.declared.problem.Header.the-variants.{Fields, Refused}
-use Rattle.records.specs.ProblemHeader.{headerBy, headerOf}
-use Rattle.leads.specs.Tables.{runFits, cell, leftTable, rightTable, problemJudged, Laid, ProblemRead}
+use Rattle.records.specs.ProblemHeader.{headerOf}
+use Rattle.leads.specs.Tables.{runFits, cell, leftTable, rightTable, Laid, ProblemRead}
 use Rattle.leads.specs.Filling.{Framed, Tabled}
 use Rattle.records.proofs.ProblemHeader.{HeaderFits, header-refuses, header-fields, answer-fields, answer-refused}
 use Rattle.leads.proofs.Tables.{is-listOf}
@@ -20,8 +20,8 @@ use Rattle.leads.proofs.Tables.{is-listOf}
 -- ---- judging
 
 -- The header is refused.
-pub refused-header : (s : List ℕ) {r : Header} {k : ℕ} → r ≡ headerOf s (length s) → r ≡ Refused k → r ≡ problemJudged s
-unfolding problemRefusal headerOf
+pub refused-header : (s : List ℕ) {r : Header} {k : ℕ} → headerOf r ≡ headerOutcome s (length s) → r ≡ Refused k → headerOf r ≡ problemOutcome s
+unfolding problemRefusal headerOutcome problemOutcome
 refused-header s e f =
     let g = header-refuses s (length s) e f in
     let same : problemRefusal s ≡ headerRefusal s (length s) = or-else-suc (headerRefusal s (length s)) _ (omega arith) in
@@ -35,19 +35,20 @@ module _ (s : List ℕ) {n m count : ℕ} (h : HeaderFits s (length s) n m) (c :
       rw (all-leads, h .n-is, h .m-is)
 
   -- A lead does not fit: refusal 6.
-  pub refused-lead : false ≡ runFits s count problem-header → Refused 6 ≡ problemJudged s
-  unfolding problemRefusal leadsOf headerBy
+  pub refused-lead : false ≡ runFits s count problem-header → headerOf (Refused 6) ≡ problemOutcome s
+  unfolding problemOutcome problemRefusal leadsOf outcome headerOf
   refused-lead e = rw (h .none, ← run-leads, ← e)
 
   -- Every lead fits: no refusal.
-  pub judged-fields : true ≡ runFits s count problem-header → Fields n m ≡ problemJudged s
-  unfolding problemRefusal leadsOf
+  pub judged-fields : true ≡ runFits s count problem-header → headerOf (Fields n m) ≡ problemOutcome s
+  unfolding problemOutcome problemRefusal leadsOf
   judged-fields e =
       let none : problemRefusal s ≡ 0 = rw (h .none, ← run-leads, ← e) in
       rw (h .n-is, h .m-is) (header-fields (problemRefusal s) (nField s) (mField s) none)
 
 -- Fields are the answer for a problem within the layout.
-pub laid : {s : List ℕ} {r : Header} {n m : ℕ} → Bytes s → r ≡ problemJudged s → r ≡ Fields n m → Laid s n m
+pub laid : {s : List ℕ} {r : Header} {n m : ℕ} → Bytes s → headerOf r ≡ problemOutcome s → r ≡ Fields n m → Laid s n m
+unfolding problemOutcome
 laid {s} b e f =
     let g = answer-fields (problemRefusal s) (nField s) (mField s) e f in
     let p = problem-fits s .0 (g .0) in
@@ -64,7 +65,8 @@ laid {s} b e f =
 -- ---- reading
 
 -- The problem is refused.
-pub refused-read : (s : List ℕ) {r : Header} {k : ℕ} {left right : List ℕ} → r ≡ problemJudged s → r ≡ Refused k → ProblemRead s left right r left right
+pub refused-read : (s : List ℕ) {r : Header} {k : ℕ} {left right : List ℕ} → headerOf r ≡ problemOutcome s → r ≡ Refused k → ProblemRead s left right r left right
+unfolding problemOutcome
 refused-read s e f =
     let g = answer-refused (problemRefusal s) (nField s) (mField s) e f in
     record { result = e; left-kept = λ h. refl; right-kept = λ h. refl; left-read = λ w. absurd (omega arith); right-read = λ w. absurd (omega arith) }
@@ -79,7 +81,7 @@ unfolding rightTable
 right-tabled {s} {n} {m} {right = right} l t = rw (l .n-is, l .m-is) (is-listOf (cell (rightPlace n) s n m) 2048 right (t .right-size) (t .rights))
 
 -- The problem is read.
-pub problem-read : {s : List ℕ} {r : Header} {n m : ℕ} {left right left′ right′ : List ℕ} → Laid s n m → r ≡ problemJudged s
+pub problem-read : {s : List ℕ} {r : Header} {n m : ℕ} {left right left′ right′ : List ℕ} → Laid s n m → headerOf r ≡ problemOutcome s
     → Tabled s n m 2048 left′ right′ → ProblemRead s left right r left′ right′
 problem-read l e t =
     record {

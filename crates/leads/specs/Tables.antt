@@ -9,9 +9,9 @@ use lib.ListN.{length}
 use Rattle.definitions.specs.Limits.{highest-n, highest-m, lead-limit, signed-bytes}
 use Rattle.definitions.specs.Bytes.{Bytes, numAt, numsAt, tropField, all, blank-or-within}
 use Rattle.definitions.specs.Offset.{off}
-use Rattle.definitions.specs.ProblemRecord.{problemSize, nField, mField, leftPlace, rightPlace, listOf, problemRefusal, WithinLayout}
+use Rattle.definitions.specs.ProblemRecord.{problemSize, nField, mField, leftPlace, rightPlace, listOf, problemRefusal, problemOutcome, WithinLayout}
 use Rattle.records.specs.declared.problem.Header.{Header}
-use Rattle.records.specs.ProblemHeader.{headerBy}
+use Rattle.records.specs.ProblemHeader.{headerOf}
 
 -- Each of `count` leads from a place on is blank or within the limit.
 abbrev pub runFits : List ℕ → ℕ → ℕ → Bool
@@ -39,10 +39,6 @@ leftTable s = listOf (cell (leftPlace (nField s)) s (nField s) (mField s)) table
 unfoldable pub rightTable : List ℕ → List ℕ
 rightTable s = listOf (cell (rightPlace (nField s)) s (nField s) (mField s)) table-size
 
--- What judging a problem answers: n and m, or the first of refusals 1 to 6 that applies.
-abbrev pub problemJudged : List ℕ → Header
-problemJudged s = headerBy (problemRefusal s) (nField s) (mField s)
-
 -- The bytes of a problem within the layout, of n + 1 variables and m + 1 rows. The last three follow from the others.
 pub record Laid (s : List ℕ) (n m : ℕ) : Type 0 where
   pub bytes : Bytes s
@@ -56,7 +52,7 @@ pub record Laid (s : List ℕ) (n m : ℕ) : Type 0 where
 -- What reading a problem into two tables leaves: the answer; both tables as they were where the problem is refused, else its
 -- left and its right leads.
 pub record ProblemRead (s left right : List ℕ) (r : Header) (left′ right′ : List ℕ) : Type 0 where
-  pub result : r ≡ problemJudged s
+  pub result : headerOf r ≡ problemOutcome s
   pub left-kept : 0 < problemRefusal s → left′ ≡ left
   pub right-kept : 0 < problemRefusal s → right′ ≡ right
   pub left-read : WithinLayout s → left′ ≡ leftTable s

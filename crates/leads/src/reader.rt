@@ -5,8 +5,9 @@ ghost use mathlib.Core.Bool.{cond};
 ghost use lib.ListN.{length, getD};
 ghost use Rattle.definitions.specs.Limits.{lead-limit};
 ghost use Rattle.definitions.specs.Bytes.{tropField, blank-or-within};
-ghost use Rattle.definitions.specs.ProblemRecord.{leftPlace};
-ghost use Rattle.leads.specs.Tables.{runFits, leadAt, problemJudged, ProblemRead};
+ghost use Rattle.definitions.specs.ProblemRecord.{leftPlace, problemOutcome};
+ghost use Rattle.records.specs.ProblemHeader.{headerOf};
+ghost use Rattle.leads.specs.Tables.{runFits, leadAt, ProblemRead};
 ghost use Rattle.leads.specs.Filling.{rowCell, RowOf, Filled, Framed, Tabled};
 use records::bytes::word_in;
 use records::limits::LEAD_BYTES;
@@ -164,7 +165,7 @@ pub fn read_tables(bytes: &[u8], n: usize, m: usize, left: &mut [u32], right: &m
 // The header of a problem within the layout: n and m, or the first of refusals 1 to 6 that applies. Public for the checker's
 // `check` and `input`.
 pub fn judge_problem(bytes: &[u8]) -> Header
-    ensures { λ r. ⌜ r ≡ problemJudged (now (bytes .entry)) ⌝ }
+    ensures { λ r. ⌜ headerOf r ≡ problemOutcome (now (bytes .entry)) ⌝ }
 {
     let header = read_header(bytes, bytes.len());
     let Header::Fields(n, m) = header else {

@@ -1,33 +1,34 @@
 -- Laws of a problem's header: its answer by the refusal's number, its refusals on plain numbers, its size.
 use Prim.Native.Nat.{ℕ, zero, suc, _+_, _*_, _≤_, _<_}
-use mathlib.Core.Path.{_≡_, refl}
+use mathlib.Core.Path.{_≡_, refl, ap, sym, _∙_}
 use mathlib.Core.List.{List}
 use native.Mathlib.Omega.{arith}
 use native.Mathlib.Nat.{mul-le-mul-left, mul-le-mul-right}
 use Rattle.definitions.specs.Limits.{highest-n, highest-m, length-bytes, problem-kind, problem-header}
-use Rattle.definitions.specs.ProblemRecord.{lengthField, kindField, nField, mField, headerRefusal, problemSize}
+use Rattle.definitions.specs.Bytes.{Outcome, outcome}
+use Rattle.definitions.specs.ProblemRecord.{lengthField, kindField, nField, mField, headerRefusal, headerOutcome, problemSize}
+use Rattle.definitions.proofs.Outcomes.{outcome-none, outcome-some, outcome-gives, outcome-refusal}
 use Rattle.definitions.proofs.Refusals.{enough-clause, equal-clause, limits-clause}
 use Rattle.records.specs.declared.problem.Header.{Header}
 use Rattle.records.specs.declared.problem.Header.the-variants.{Fields, Refused}
-use Rattle.records.specs.ProblemHeader.{headerBy, headerOf, judged}
+use Rattle.records.specs.ProblemHeader.{headerOf, judged}
 
 -- No refusal: the fields.
-pub header-fields : (refusal n m : ℕ) → refusal ≡ 0 → Fields n m ≡ headerBy refusal n m
-unfolding headerBy
-header-fields refusal n m e = rw e
+pub header-fields : (refusal n m : ℕ) → refusal ≡ 0 → headerOf (Fields n m) ≡ outcome refusal (n, m)
+unfolding headerOf
+header-fields refusal n m e = sym (outcome-none refusal (n, m) e)
 
 -- A refusal: its number.
-pub header-refused : (refusal n m : ℕ) → (refusal ≡ 0 → ⊥) → Refused refusal ≡ headerBy refusal n m
-unfolding headerBy
-header-refused zero n m h = absurd (h refl)
-header-refused (suc k) n m h = refl
+pub header-refused : (refusal n m : ℕ) → (refusal ≡ 0 → ⊥) → headerOf (Refused refusal) ≡ outcome refusal (n, m)
+unfolding headerOf
+header-refused refusal n m h = sym (outcome-some refusal (n, m) h)
 
 -- The numbers that the header holds decide: judging them is judging the bytes.
-pub header-judged : (s : List ℕ) (size : ℕ) {len kind n m refusal : ℕ} {r : Header}
+pub header-judged : (s : List ℕ) (size : ℕ) (r : Header) {len kind n m refusal : ℕ}
     → len ≡ lengthField s → kind ≡ kindField s → n ≡ nField s → m ≡ mField s
-    → refusal ≡ judged size len kind n m → r ≡ headerBy refusal n m → r ≡ headerOf s size
-unfolding headerOf headerRefusal judged
-header-judged s size a b c d e f = rw (f, e, a, b, c, d)
+    → refusal ≡ judged size len kind n m → headerOf r ≡ outcome refusal (n, m) → headerOf r ≡ headerOutcome s size
+unfolding headerOutcome headerRefusal judged
+header-judged s size r a b c d e f = rw (f, e, a, b, c, d)
 
 -- The leads of a table within the limits are at most 2,048.
 pub product-most : (n m : ℕ) → n ≤ 31 → m ≤ 63 → (n + 1) * (m + 1) ≤ 2048
@@ -43,20 +44,20 @@ pub record HeaderFits (s : List ℕ) (size n m : ℕ) : Type 0 where
   pub size-is : size ≡ problemSize n m
 
 -- Fields are the answer where nothing is refused.
-pub answer-fields : (refusal a b : ℕ) {r : Header} {n m : ℕ} → r ≡ headerBy refusal a b → r ≡ Fields n m → (refusal ≡ 0) × (n ≡ a) × (m ≡ b)
-unfolding headerBy
-answer-fields zero a b e f = (refl, cc, cc)
-answer-fields (suc k) a b e f = let z : _≡_ {A = ℕ} 0 1 = cc in absurd (omega arith)
+pub answer-fields : (refusal a b : ℕ) {r : Header} {n m : ℕ} → headerOf r ≡ outcome refusal (a, b) → r ≡ Fields n m → (refusal ≡ 0) × (n ≡ a) × (m ≡ b)
+unfolding headerOf
+answer-fields refusal a b {n = n} {m} e f =
+    let g = outcome-gives refusal (a, b) (n, m) (sym e ∙ ap headerOf f) in
+    (g .0, ap (λ (c : ℕ × ℕ). c .0) (sym (g .1)), ap (λ (c : ℕ × ℕ). c .1) (sym (g .1)))
 
 -- A number is the answer where it is the refusal.
-pub answer-refused : (refusal a b : ℕ) {r : Header} {k : ℕ} → r ≡ headerBy refusal a b → r ≡ Refused k → (refusal ≡ k) × (0 < k)
-unfolding headerBy
-answer-refused zero a b e f = let z : _≡_ {A = ℕ} 0 1 = cc in absurd (omega arith)
-answer-refused (suc j) a b {k = k} e f = let same : suc j ≡ k = cc in (same, omega arith)
+pub answer-refused : (refusal a b : ℕ) {r : Header} {k : ℕ} → headerOf r ≡ outcome refusal (a, b) → r ≡ Refused k → (refusal ≡ k) × (0 < k)
+unfolding headerOf
+answer-refused refusal a b {k = k} e f = outcome-refusal refusal (a, b) k (sym e ∙ ap headerOf f)
 
 -- A header that gives fields fits.
-pub header-fits : (s : List ℕ) (size : ℕ) {r : Header} {n m : ℕ} → r ≡ headerOf s size → r ≡ Fields n m → HeaderFits s size n m
-unfolding headerOf headerRefusal
+pub header-fits : (s : List ℕ) (size : ℕ) {r : Header} {n m : ℕ} → headerOf r ≡ headerOutcome s size → r ≡ Fields n m → HeaderFits s size n m
+unfolding headerOutcome headerRefusal
 header-fits s size {n = n} {m} e f =
     let g = answer-fields (headerRefusal s size) (nField s) (mField s) e f in
     let a = enough-clause size problem-header _ _ .0 (g .0) in
@@ -67,6 +68,6 @@ header-fits s size {n = n} {m} e f =
     record { none = g .0; n-is = g .1; m-is = g .2; n-most = rw (g .1) (d .0 .0); m-most = rw (g .2) (d .0 .1); size-is = rw (g .1, g .2) (h .0) }
 
 -- A header that gives a number is refused by it.
-pub header-refuses : (s : List ℕ) (size : ℕ) {r : Header} {k : ℕ} → r ≡ headerOf s size → r ≡ Refused k → (headerRefusal s size ≡ k) × (0 < k)
-unfolding headerOf
+pub header-refuses : (s : List ℕ) (size : ℕ) {r : Header} {k : ℕ} → headerOf r ≡ headerOutcome s size → r ≡ Refused k → (headerRefusal s size ≡ k) × (0 < k)
+unfolding headerOutcome
 header-refuses s size e f = answer-refused (headerRefusal s size) (nField s) (mField s) e f

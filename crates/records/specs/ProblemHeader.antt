@@ -4,24 +4,20 @@ use mathlib.Core.Bool.{not}
 use mathlib.Core.List.{List, [], _∷_}
 use lib.Dec.{eqb, ltb}
 use Rattle.definitions.specs.Limits.{length-bytes, problem-kind, problem-header}
-use Rattle.definitions.specs.Bytes.{Clause, first}
-use Rattle.definitions.specs.ProblemRecord.{problemSize, nField, mField, above-limits, headerRefusal}
+use Rattle.definitions.specs.Bytes.{Clause, first, Outcome, refusal, gives}
+use Rattle.definitions.specs.ProblemRecord.{problemSize, above-limits}
 use Rattle.records.specs.declared.problem.Header.{Header}
 use Rattle.records.specs.declared.problem.Header.the-variants.{Fields, Refused}
 
--- n and m where nothing is refused, else the number of the refusal.
-unfoldable pub headerBy : ℕ → ℕ → ℕ → Header
-headerBy zero n m = Fields n m
-headerBy (suc k) n m = Refused (suc k)
+-- Document 01's result for each case: n and m, or the number of the refusal.
+unfoldable pub headerOf : Header → Outcome (ℕ × ℕ)
+headerOf (Fields n m) = gives (n, m)
+headerOf (Refused k) = refusal k
 
 -- The number with which a problem was refused, 0 where it was not.
 unfoldable pub problemRefused : Header → ℕ
 problemRefused (Fields n m) = 0
 problemRefused (Refused k) = k
-
--- What the first bytes of a problem and its size answer.
-unfoldable pub headerOf : List ℕ → ℕ → Header
-headerOf s size = headerBy (headerRefusal s size) (nField s) (mField s)
 
 -- Refusals 4 and 5 on the numbers that the header holds.
 unfoldable pub countsJudged : ℕ → ℕ → ℕ → ℕ

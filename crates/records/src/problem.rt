@@ -1,8 +1,9 @@
 // The problem record: its header judged.
 ghost use mathlib.Core.Path.{_≡_};
 ghost use Prim.Native.Nat.{_+_, _*_, _<_, _≤_};
-ghost use Rattle.definitions.specs.ProblemRecord.{problemSize};
-ghost use Rattle.records.specs.ProblemHeader.{headerBy, problemRefused, headerOf, judged, countsJudged};
+ghost use Rattle.definitions.specs.Bytes.{outcome};
+ghost use Rattle.definitions.specs.ProblemRecord.{problemSize, headerOutcome};
+ghost use Rattle.records.specs.ProblemHeader.{headerOf, problemRefused, judged, countsJudged};
 use crate::bytes::short_at;
 use crate::bytes::word_at;
 use crate::limits::LEAD_BYTES;
@@ -69,7 +70,7 @@ fn judge(size: usize, length: usize, kind: u16, n: usize, m: usize) -> usize
 
 // A refusal's number, 0 for none, with n and m as the answer of a header.
 fn answered(refusal: usize, n: usize, m: usize) -> Header
-    ensures { λ r. ⌜ r ≡ headerBy refusal n m ⌝ }
+    ensures { λ r. ⌜ headerOf r ≡ outcome refusal (n, m) ⌝ }
 {
     if refusal == 0 {
         return Header::Fields(n, m);
@@ -80,7 +81,7 @@ fn answered(refusal: usize, n: usize, m: usize) -> Header
 // The header of a problem from its first bytes and its size: n and m, or the first of refusals 1 to 5 that applies.
 // A program may hold only the first bytes of a longer input; a byte past the end counts as 0.
 pub fn read_header(bytes: &[u8], size: usize) -> Header
-    ensures { λ r. ⌜ r ≡ headerOf (now (bytes .entry)) size ⌝ }
+    ensures { λ r. ⌜ headerOf r ≡ headerOutcome (now (bytes .entry)) size ⌝ }
 {
     let length = word_at(bytes, 0) as usize;
     let kind = short_at(bytes, 4) as u16;

@@ -8,17 +8,18 @@ use lib.ListN.{length, take}
 use borrow.Author.Tests.{lt-ltb, le-ltb}
 use Rattle.definitions.specs.Limits.{highest-n, highest-m, answer-most}
 use Rattle.definitions.specs.Tropical.{Trop}
-use Rattle.definitions.specs.Bytes.{Bytes, put, or-else}
+use Rattle.definitions.specs.Bytes.{Bytes, put, or-else, outcome}
 use Rattle.definitions.specs.Offset.{tropOf}
-use Rattle.definitions.specs.AnswerRecord.{Answer, stampCount, pickCount, answerSize, classField, answerOf, answerBytes, answerRefusal, writerRefusal, written}
+use Rattle.definitions.specs.AnswerRecord.{Answer, stampCount, pickCount, answerSize, classField, spanField, answerOf, answerBytes, answerRefusal, answerOutcome, writerRefusal, writerOutcome, written}
 use Rattle.definitions.proofs.Put.{take-put, length-put}
+use Rattle.definitions.proofs.Outcomes.{outcome-some, outcome-gives, outcome-refusal}
 use Rattle.definitions.proofs.Offset.{tropOf-injective}
 use Rattle.definitions.proofs.Whole.{nat-le-or-lt}
 use Rattle.definitions.proofs.Refusals.{answer-fits}
 use Rattle.definitions.proofs.RoundTrip.{answer-bytes, write-read, read-write}
 use Rattle.answers.specs.Fields.{fieldsOf, stampsAt, picksAt, stampsOf, picksOf}
-use Rattle.answers.specs.AnswerReading.{headBy, spanNumber, answerReadOf, AnswerRead}
-use Rattle.writing.specs.AnswerWriting.{writtenBy, writtenOf, unlessRefused, AnswerWritten}
+use Rattle.answers.specs.AnswerReading.{headOf, AnswerRead}
+use Rattle.writing.specs.AnswerWriting.{writtenOf, unlessRefused, AnswerWritten}
 use Rattle.writing.specs.RoundTrips.{fieldsRefusal, WrittenThenRead, backRefusal, ReadThenWritten}
 use Rattle.answers.specs.declared.answer.AnswerHead.{AnswerHead}
 use Rattle.answers.specs.declared.answer.AnswerHead.the-variants as head
@@ -26,27 +27,24 @@ use Rattle.writing.specs.declared.writer.Written.{Written}
 use Rattle.writing.specs.declared.writer.Written.the-variants as result
 use Rattle.answers.proofs.Passing.{stampsAt-length, picksAt-length}
 use Rattle.answers.proofs.Padding.{padded-take}
-use Rattle.answers.proofs.Judging.{stamps-meant, span-meant, picks-meant, body-meant}
+use Rattle.answers.proofs.Judging.{stamps-meant, picks-meant, body-meant}
 use Rattle.writing.proofs.Writing.{roomy}
 use Rattle.answers.proofs.ByClass.{stamps-most, picks-most}
-use Rattle.answers.proofs.Heads.{fields-by, refused-by, refused-head}
+use Rattle.answers.proofs.Heads.{fields-by, refused-by, head-refused}
 
 -- ---- what an outcome says of its refusal
 
-pub record-by : (k size : ℕ) {z : ℕ} → result.Record z ≡ writtenBy k size → (k ≡ 0) × (z ≡ size)
-unfolding writtenBy
-record-by zero size e = (refl, (cc))
-record-by (suc k) size e = let z : _≡_ {A = ℕ} 0 1 = cc in absurd (omega arith)
+pub record-by : (k size : ℕ) {r : Written} {z : ℕ} → writtenOf r ≡ outcome k size → r ≡ result.Record z → (k ≡ 0) × (z ≡ size)
+unfolding writtenOf
+record-by k size {z = z} e f = let g = outcome-gives k size z (sym e ∙ ap writtenOf f) in (g .0, sym (g .1))
 
-pub refused-record : (k size : ℕ) {j : ℕ} → result.Refused j ≡ writtenBy k size → (j ≡ k) × (k ≡ 0 → ⊥)
-unfolding writtenBy
-refused-record zero size e = let z : _≡_ {A = ℕ} 0 1 = cc in absurd (omega arith)
-refused-record (suc k) size e = ((cc), λ h. omega arith)
+pub refused-record : (k size : ℕ) {r : Written} {j : ℕ} → writtenOf r ≡ outcome k size → r ≡ result.Refused j → (j ≡ k) × (k ≡ 0 → ⊥)
+unfolding writtenOf
+refused-record k size {j = j} e f = let g = outcome-refusal k size j (sym e ∙ ap writtenOf f) in (sym (g .0), λ z. omega arith)
 
-refused-written : (k size : ℕ) → (k ≡ 0 → ⊥) → result.Refused k ≡ writtenBy k size
-unfolding writtenBy
-refused-written zero size h = absurd (h refl)
-refused-written (suc k) size h = refl
+refused-written : (k size : ℕ) → (k ≡ 0 → ⊥) → writtenOf (result.Refused k) ≡ outcome k size
+unfolding writtenOf
+refused-written k size h = sym (outcome-some k size h)
 
 kept-if : (k : ℕ) (before after : List ℕ) → (k ≡ 0 → ⊥) → before ≡ unlessRefused k before after
 unfolding unlessRefused
@@ -72,6 +70,10 @@ class-of : (s : List ℕ) (n m : ℕ) → classField s ≡ answerOf s n m .class
 unfolding answerOf
 class-of s n m = refl
 
+span-of : (s : List ℕ) (n m : ℕ) → spanField s ≡ answerOf s n m .span
+unfolding answerOf
+span-of s n m = refl
+
 -- ---- written and read back
 
 module _ (class span : ℕ) (stamps picks : List ℕ) (n m : ℕ) where
@@ -79,7 +81,7 @@ module _ (class span : ℕ) (stamps picks : List ℕ) (n m : ℕ) where
   record Same (s : List ℕ) : Type 0 where
     accepted : answerRefusal s n m ≡ 0
     class-is : classField s ≡ class
-    span-is : spanNumber s ≡ span
+    span-is : spanField s ≡ tropOf span
     stamps-are : stampsOf s n ≡ stamps
     picks-are : picksOf s n m ≡ picks
 
@@ -92,7 +94,7 @@ module _ (class span : ℕ) (stamps picks : List ℕ) (n m : ℕ) where
       record {
         accepted = w .0;
         class-is = class-of _ n m ∙ ap (λ (x : Answer). x .class) (w .1);
-        span-is = tropOf-injective _ span (span-meant b n m ∙ ap (λ (x : Answer). x .span) (w .1));
+        span-is = span-of _ n m ∙ ap (λ (x : Answer). x .span) (w .1);
         stamps-are = trops-injective _ stamps (stamps-meant b n m ∙ ap (λ (x : Answer). x .stamps) (w .1));
         picks-are = picks-meant _ n m ∙ ap (λ (x : Answer). x .picks) (w .1);
       }
@@ -101,11 +103,11 @@ module _ (class span : ℕ) (stamps picks : List ℕ) (n m : ℕ) where
     -- The writer refuses.
     pub back-refused : {k : ℕ} {stamps-back picks-back : List ℕ} → r ≡ result.Refused k
         → WrittenThenRead class span stamps picks n m (head.Refused k) before after stamps-back stamps-back picks-back picks-back
-    unfolding writtenOf
+    unfolding writerOutcome
     back-refused {k} e =
-        let h = refused-record (fieldsRefusal class span stamps picks n m (length before)) _ (sym e ∙ w .answered) in
+        let h = refused-record (fieldsRefusal class span stamps picks n m (length before)) _ (w .answered) e in
         record {
-          answered = rw (h .0) (refused-head _ class span (h .1));
+          answered = rw (h .0) (head-refused _ (class, tropOf span) (h .1));
           buffer = w .buffer;
           kept = λ x. (refl, refl);
           stamps-same = λ x. absurd (h .1 x);
@@ -119,9 +121,9 @@ module _ (class span : ℕ) (stamps picks : List ℕ) (n m : ℕ) where
       pub bytes : take size after ≡ answerBytes n (fieldsOf class span stamps picks)
 
     pub front : {size : ℕ} → r ≡ result.Record size → Front size
-    unfolding writtenOf unlessRefused written
+    unfolding writerOutcome unlessRefused written
     front {size} e =
-        let h = record-by (fieldsRefusal class span stamps picks n m (length before)) _ (sym e ∙ w .answered) in
+        let h = record-by (fieldsRefusal class span stamps picks n m (length before)) _ (w .answered) e in
         let s : List ℕ = answerBytes n (fieldsOf class span stamps picks) in
         let room = roomy class span stamps picks n m (length before) (h .0) in
         let long : length (answerBytes n (fieldsOf class span stamps picks)) ≡ answerSize class n m = write-read (fieldsOf class span stamps picks) n m (length before) (h .0) .2 in
@@ -135,10 +137,10 @@ module _ (class span : ℕ) (stamps picks : List ℕ) (n m : ℕ) where
         }
 
     -- What is read back from there.
-    pub back-read : {size : ℕ} {outcome : AnswerHead} {stamps-before stamps-back picks-before picks-back : List ℕ} → r ≡ result.Record size
-        → AnswerRead (take size after) n m outcome stamps-before stamps-back picks-before picks-back
-        → WrittenThenRead class span stamps picks n m outcome before after stamps-before stamps-back picks-before picks-back
-    unfolding answerReadOf headBy
+    pub back-read : {size : ℕ} {said : AnswerHead} {stamps-before stamps-back picks-before picks-back : List ℕ} → r ≡ result.Record size
+        → AnswerRead (take size after) n m said stamps-before stamps-back picks-before picks-back
+        → WrittenThenRead class span stamps picks n m said before after stamps-before stamps-back picks-before picks-back
+    unfolding answerOutcome
     back-read {size} e q =
         let f = front e in
         let t : Same (take size after) = rw (f .bytes) (same (length before) (f .none)) in
@@ -155,7 +157,7 @@ module _ (class span : ℕ) (stamps picks : List ℕ) (n m : ℕ) where
 -- A buffer that is long enough takes the same bytes.
 again-enough : (s : List ℕ) (n m : ℕ) (r : Written) (before after : List ℕ) → Bytes s → answerRefusal s n m ≡ 0 → answer-most ≤ length before
     → AnswerWritten (answerOf s n m) n m r before after → ReadThenWritten s n m r before after
-unfolding backRefusal writtenOf writtenBy unlessRefused answerOf
+unfolding backRefusal writerOutcome outcome unlessRefused answerOf
 again-enough s n m r before after b none room w =
     let z = read-write n m (length before) b none room in
     let size : length s ≡ answerSize (classField s) n m = answer-fits s n m .0 none .size-is in
@@ -171,7 +173,7 @@ short-refused a n m room h k l = rw (le-ltb highest-n n h, le-ltb highest-m m k,
 -- A shorter one gets 7.
 again-short : (s : List ℕ) (n m : ℕ) (r : Written) (before after : List ℕ) → answerRefusal s n m ≡ 0 → length before < answer-most
     → AnswerWritten (answerOf s n m) n m r before after → ReadThenWritten s n m r before after
-unfolding backRefusal writtenOf writtenBy unlessRefused
+unfolding backRefusal writerOutcome outcome unlessRefused
 again-short s n m r before after none room w =
     let f = answer-fits s n m .0 none in
     let seven : writerRefusal (answerOf s n m) n m (length before) ≡ 7 = short-refused (answerOf s n m) n m (length before) (f .n-most) (f .m-most) room in
@@ -180,13 +182,13 @@ again-short s n m r before after none room w =
       buffer = w .buffer ∙ (rw (seven, none, lt-ltb (length before) answer-most room) refl);
     }
 
-module _ {s : List ℕ} {n m : ℕ} {outcome : AnswerHead} {stamps-before stamps picks-before picks : List ℕ}
-    (q : AnswerRead s n m outcome stamps-before stamps picks-before picks) where
+module _ {s : List ℕ} {n m : ℕ} {said : AnswerHead} {stamps-before stamps picks-before picks : List ℕ}
+    (q : AnswerRead s n m said stamps-before stamps picks-before picks) where
   -- The reader refuses.
-  pub again-refused : {k : ℕ} (before : List ℕ) → outcome ≡ head.Refused k → ReadThenWritten s n m (result.Refused k) before before
-  unfolding answerReadOf backRefusal
+  pub again-refused : {k : ℕ} (before : List ℕ) → said ≡ head.Refused k → ReadThenWritten s n m (result.Refused k) before before
+  unfolding answerOutcome backRefusal
   again-refused {k} before e =
-      let h = refused-by (answerRefusal s n m) _ _ (sym e ∙ q .answered) in
+      let h = refused-by (answerRefusal s n m) _ (q .answered) e in
       let first-is : backRefusal s n m (length before) ≡ answerRefusal s n m = first-counts (answerRefusal s n m) _ (h .1) in
       record {
         answered = rw (first-is, h .0) (refused-written (answerRefusal s n m) (length s) (h .1));
@@ -197,21 +199,21 @@ module _ {s : List ℕ} {n m : ℕ} {outcome : AnswerHead} {stamps-before stamps
       first-counts zero b h = absurd (h refl)
       first-counts (suc a) b h = refl
 
-  module _ {class span : ℕ} (e : outcome ≡ head.Fields class span) where
+  module _ {class span : ℕ} (e : said ≡ head.Fields class span) where
     -- The reader reads: the numbers that the code goes by.
     pub record ReadRight : Type 0 where
       pub none : answerRefusal s n m ≡ 0
       pub class-is : class ≡ classField s
-      pub span-is : span ≡ spanNumber s
+      pub span-is : tropOf span ≡ spanField s
       pub n-most : n ≤ highest-n
       pub m-most : m ≤ highest-m
       pub stamps-width : length stamps ≡ 32
       pub picks-width : length picks ≡ 64
 
     pub read-right : ReadRight
-    unfolding answerReadOf
+    unfolding answerOutcome
     read-right =
-        let h = fields-by (answerRefusal s n m) _ _ (sym e ∙ q .answered) in
+        let h = fields-by (answerRefusal s n m) _ _ (q .answered) e in
         let f = answer-fits s n m .0 (h .0) in
         record {
           none = h .0;
@@ -232,7 +234,7 @@ module _ {s : List ℕ} {n m : ℕ} {outcome : AnswerHead} {stamps-before stamps
         rw stampsAt-length at (padded-take (q .stamps-read (h .none)) (rw stampsAt-length (stamps-most (classField s) n (h .n-most)))) in
         let y : take (pickCount (classField s) n m) picks ≡ picksAt s (stampCount (classField s) n) (pickCount (classField s) n m) =
         rw picksAt-length at (padded-take (q .picks-read (h .none)) (rw picksAt-length (picks-most (classField s) n m (h .n-most) (h .m-most)))) in
-        rw (h .class-is, h .span-is, x, y) (body-meant b n m)
+        rw (h .class-is, x, y) (body-meant b n m (classField s) span refl (h .span-is))
 
     -- What is written back.
     pub again-written : Bytes s → {r : Written} {before after : List ℕ}

@@ -12,14 +12,15 @@ use lib.Seq.{drop-cons}
 use borrow.Author.Tests.{eq-eqb, ne-eqb, le-ltb}
 use Rattle.definitions.specs.Limits.{highest-n, highest-m, answer-most, signed-half, signed-full, span-limit, stamp-limit}
 use Rattle.definitions.specs.Offset.{tropOf, off}
-use Rattle.definitions.specs.Bytes.{le, fields, put, fieldOf, tropField, all, blank-or-within, or-else}
-use Rattle.definitions.specs.AnswerRecord.{known-class, stampCount, pickCount, answerSize, formRefusal, rightCounts, writerRefusal, answerBytes, written}
+use Rattle.definitions.specs.Bytes.{le, fields, put, fieldOf, tropField, all, blank-or-within, or-else, outcome}
+use Rattle.definitions.specs.AnswerRecord.{known-class, stampCount, pickCount, answerSize, formRefusal, rightCounts, writerRefusal, writerOutcome, answerBytes, written}
 use Rattle.definitions.proofs.Bytes.{length-le, length-fields}
+use Rattle.definitions.proofs.Outcomes.{outcome-some}
 use Rattle.definitions.proofs.Offset.{trop-off, off-off, off-bound, fieldOf-tropField, within-iff}
 use Rattle.definitions.proofs.Refusals.{writer-fits, limits-clause}
 use Rattle.definitions.proofs.RoundTrip.{span-within, stamps-within, size-most}
 use Rattle.definitions.proofs.Put.{put-nil, put-one, put-put, length-put}
-use Rattle.writing.specs.AnswerWriting.{countsJudged, stored, headerBytes, recordBytes, writtenBy, writtenOf, unlessRefused, AnswerWritten}
+use Rattle.writing.specs.AnswerWriting.{countsJudged, stored, headerBytes, recordBytes, writtenOf, unlessRefused, AnswerWritten}
 use Rattle.answers.specs.Fields.{fieldsOf}
 use Rattle.writing.specs.declared.writer.Written.the-variants.{Record, Refused}
 
@@ -211,14 +212,10 @@ module _ (class span : ℕ) (stamps picks : List ℕ) (n m : ℕ) where
   -- Something is refused.
   pub write-refused : {k : ℕ} {before : List ℕ} → k ≡ writerRefusal (fieldsOf class span stamps picks) n m (length before) → (k ≡ 0 → ⊥)
       → AnswerWritten (fieldsOf class span stamps picks) n m (Refused k) before before
-  unfolding writtenOf writtenBy unlessRefused
+  unfolding writtenOf writerOutcome unlessRefused
   write-refused {k} {before} e h =
-      record { answered = rw (← e) (refused k h); buffer = rw (← e) (kept k h) }
+      record { answered = rw (← e) (sym (outcome-some k (answerSize class n m) h)); buffer = rw (← e) (kept k h) }
     where
-      refused : (k : ℕ) → (k ≡ 0 → ⊥) → Refused k ≡ writtenBy k (answerSize class n m)
-      refused zero h = absurd (h refl)
-      refused (suc k) h = refl
-
       kept : (k : ℕ) → (k ≡ 0 → ⊥) → before ≡ unlessRefused k before (written before (answerBytes n (fieldsOf class span stamps picks)))
       kept zero h = absurd (h refl)
       kept (suc k) h = refl
@@ -227,7 +224,7 @@ module _ (class span : ℕ) (stamps picks : List ℕ) (n m : ℕ) where
   pub write-done : {k size : ℕ} {before after : List ℕ} → k ≡ writerRefusal (fieldsOf class span stamps picks) n m (length before) → k ≡ 0
       → size ≡ answerSize class n m → after ≡ put before 0 (recordBytes (size - 4) n class (off span) (map off stamps) picks)
       → AnswerWritten (fieldsOf class span stamps picks) n m (Record size) before after
-  unfolding writtenOf writtenBy unlessRefused written
+  unfolding writtenOf writerOutcome outcome unlessRefused written
   write-done {before = before} e z f g =
       let none : writerRefusal (fieldsOf class span stamps picks) n m (length before) ≡ 0 = sym e ∙ z in
       record { answered = rw (none, f); buffer = rw none (g ∙ ap (put before 0) (record-answer (length before) _ none f)) }

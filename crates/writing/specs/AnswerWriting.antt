@@ -6,20 +6,16 @@ use mathlib.Core.List.{List, [], _∷_, _++_}
 use lib.Dec.{eqb, ltb}
 use lib.ListN.{length, set}
 use Rattle.definitions.specs.Limits.{byte-values, length-bytes, short-bytes, signed-bytes, answer-kind, answer-most}
-use Rattle.definitions.specs.Bytes.{le, fields, first}
+use Rattle.definitions.specs.Bytes.{le, fields, first, Outcome, refusal, gives}
 use Rattle.definitions.specs.ProblemRecord.{above-limits}
-use Rattle.definitions.specs.AnswerRecord.{Answer, known-class, stampCount, pickCount, answerSize, answerBytes, writerRefusal, written}
+use Rattle.definitions.specs.AnswerRecord.{Answer, known-class, stampCount, pickCount, answerBytes, writerRefusal, writerOutcome, written}
 use Rattle.writing.specs.declared.writer.Written.{Written}
 use Rattle.writing.specs.declared.writer.Written.the-variants.{Record, Refused}
 
--- A refusal's number, and the size where it is 0.
-unfoldable pub writtenBy : ℕ → ℕ → Written
-writtenBy zero size = Record size
-writtenBy (suc k) size = Refused (suc k)
-
--- What the writer answers to the fields of an answer, with n, m and a buffer of `room` bytes.
-unfoldable pub writtenOf : Answer → ℕ → ℕ → ℕ → Written
-writtenOf a n m room = writtenBy (writerRefusal a n m room) (answerSize (a .class) n m)
+-- Document 01's result for each case: the record's size, or the number of the refusal.
+unfoldable pub writtenOf : Written → Outcome ℕ
+writtenOf (Record size) = gives size
+writtenOf (Refused k) = refusal k
 
 -- A refusal leaves the buffer as it was.
 unfoldable pub unlessRefused : ℕ → List ℕ → List ℕ → List ℕ
@@ -29,7 +25,7 @@ unlessRefused (suc k) before after = before
 -- What the writer gives back: the first refusal and the buffer as it was, or the record's size, with the record in the
 -- buffer and every byte after it as it was.
 pub record AnswerWritten (a : Answer) (n m : ℕ) (r : Written) (before after : List ℕ) : Type 0 where
-  pub answered : r ≡ writtenOf a n m (length before)
+  pub answered : writtenOf r ≡ writerOutcome a n m (length before)
   pub buffer : after ≡ unlessRefused (writerRefusal a n m (length before)) before (written before (answerBytes n a))
 
 -- Refusals 4, 7, 10 and 11 on the numbers handed over: class, how many stamps and picks, and the buffer's size.

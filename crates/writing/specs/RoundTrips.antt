@@ -5,11 +5,12 @@ use mathlib.Core.List.{List, [], _∷_}
 use lib.Dec.{ltb}
 use lib.ListN.{length}
 use Rattle.definitions.specs.Limits.{answer-most}
-use Rattle.definitions.specs.Bytes.{first, or-else}
+use Rattle.definitions.specs.Bytes.{first, or-else, outcome}
+use Rattle.definitions.specs.Offset.{tropOf}
 use Rattle.definitions.specs.AnswerRecord.{answerBytes, answerRefusal, writerRefusal, written}
 use Rattle.answers.specs.Fields.{fieldsOf, Padded}
-use Rattle.answers.specs.AnswerReading.{headBy}
-use Rattle.writing.specs.AnswerWriting.{writtenBy, unlessRefused}
+use Rattle.answers.specs.AnswerReading.{headOf}
+use Rattle.writing.specs.AnswerWriting.{writtenOf, unlessRefused}
 use Rattle.answers.specs.declared.answer.AnswerHead.{AnswerHead}
 use Rattle.writing.specs.declared.writer.Written.{Written}
 
@@ -20,7 +21,7 @@ fieldsRefusal class span stamps picks n m room = writerRefusal (fieldsOf class s
 -- Written and read back: the writer's refusal with all three left as they were, or the same class, span, stamps and
 -- picks, with the record in the buffer.
 pub record WrittenThenRead (class span : ℕ) (stamps picks : List ℕ) (n m : ℕ) (r : AnswerHead) (before after stamps-before stamps-back picks-before picks-back : List ℕ) : Type 0 where
-  pub answered : r ≡ headBy (fieldsRefusal class span stamps picks n m (length before)) class span
+  pub answered : headOf r ≡ outcome (fieldsRefusal class span stamps picks n m (length before)) (class, tropOf span)
   pub buffer : after ≡ unlessRefused (fieldsRefusal class span stamps picks n m (length before)) before (written before (answerBytes n (fieldsOf class span stamps picks)))
   pub kept : (fieldsRefusal class span stamps picks n m (length before) ≡ 0 → ⊥) → (stamps-back ≡ stamps-before) × (picks-back ≡ picks-before)
   pub stamps-same : fieldsRefusal class span stamps picks n m (length before) ≡ 0 → Padded 32 stamps stamps-back
@@ -32,5 +33,5 @@ backRefusal s n m room = or-else (answerRefusal s n m) (first (record { applies 
 
 -- Read and written back: the refusal with the buffer as it was, or the same bytes.
 pub record ReadThenWritten (s : List ℕ) (n m : ℕ) (r : Written) (before after : List ℕ) : Type 0 where
-  pub answered : r ≡ writtenBy (backRefusal s n m (length before)) (length s)
+  pub answered : writtenOf r ≡ outcome (backRefusal s n m (length before)) (length s)
   pub buffer : after ≡ unlessRefused (backRefusal s n m (length before)) before (written before s)

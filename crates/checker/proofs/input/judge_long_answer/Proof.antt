@@ -8,4 +8,4 @@ judge-long-answer-spec =
     tie.close (tie.spec
     (λ c κs. search needs)
     (λ c κs. search needs)
-    (λ c. long-answer _ _ _ _ (c .before .before .before .pre .0) (c .before .before .before .pre .1) (c .before .before .before .pre .2) (c .before .read-answer-header .ensures) (c .answer-refusal .ensures)))
+    (λ c. long-answer _ _ _ _ _ (c .before .before .before .pre .0) (c .before .before .before .pre .1) (c .before .before .before .pre .2) (c .before .read-answer-header .ensures) (c .answer-refusal .ensures)))

@@ -16,4 +16,4 @@ solve-kept-spec =
     (λ c. λ input k. kept-solves _ (c .before .before .solve .ensures) input k (c .before .before .before .before .before .if1 .taken))
     (λ c κs. search needs)
     (λ c κs. search needs)
-    (λ c. λ input k. long-refused k (c .before .before .if1 .left) (c .before .read-header .ensures) (c .problem-refusal .ensures)))
+    (λ c. λ input k. long-refused _ k (c .before .before .if1 .left) (c .before .read-header .ensures) (c .problem-refusal .ensures)))

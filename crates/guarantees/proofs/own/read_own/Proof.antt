@@ -12,4 +12,4 @@ read-own-spec =
     (λ c. search needs)
     (λ c κs. search needs)
     (λ c. never-refused _ (c .before .before .before .read-header .ensures) (c .before .header .given .1))
-    (λ c. reads-there _ _ (c .before .before .before .before .before .before .read-header .ensures) (c .before .before .before .before .header2 .given .1) (c .read-answer .ensures .answered)))
+    (λ c. reads-there _ _ (c .before .before .before .before .before .before .read-header .ensures) (c .before .before .before .before .header2 .given .1) (c .read-answer .ensures)))

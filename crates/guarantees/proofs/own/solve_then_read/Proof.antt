@@ -6,7 +6,7 @@ use Rattle.guarantees.proofs.own.solve_then_read.Statement.{statement}
 use Rattle.guarantees.proofs.own.solve_then_read.Tie as tie
 
 returns : tie.Need-returns
-returns c = own-refused (c .before .before .before .before .before .solve .ensures) (c .before .solved .given .1) .1
+returns c = own-refused (c .before .before .before .before .before .solve .ensures) (c .before .solved .given .1) .1 _ _
 
 pub solve-then-read-spec : {M : Type 1} → statement M
 solve-then-read-spec =
@@ -21,4 +21,4 @@ solve-then-read-spec =
     (λ c. search needs)
     returns
     (λ c. search needs)
-    (λ c. own-reading (c .before .before .before .before .before .before .before .solve .ensures) (c .before .before .before .solved2 .given .1) (c .read-own .ensures)))
+    (λ c. own-reading (c .before .before .before .before .before .before .before .before .before .solve .ensures) (c .before .before .before .before .before .solved2 .given .1) _ (c .read-own .ensures)))

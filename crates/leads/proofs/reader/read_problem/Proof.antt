@@ -1,6 +1,7 @@
 use Rattle.definitions.specs.Bytes.{Bytes}
 use Rattle.leads.proofs.ReadProblem.{laid, laid-framed, refused-read, problem-read}
-use mathlib.Core.Path.{sym, _∙_}
+use mathlib.Core.Path.{ap, sym, _∙_}
+use Rattle.records.specs.ProblemHeader.{headerOf}
 use borrow.Author.Needs.{needs}
 use Rattle.leads.proofs.reader.read_problem.Statement.{statement}
 use Rattle.leads.proofs.reader.read_problem.Tie as tie
@@ -18,4 +19,4 @@ read-problem-spec =
     (λ c. let bytes : Bytes (c .before .before .before .before .before .before .before .before .args .bytes .now) = record { byte = λ i. c .before .before .before .before .before .before .before .shared-slice-known .given i .fits } in
     let read = c .before .before .before .before .before .before .judge-problem .ensures in
     let fields = c .before .before .before .before .header .given .1 in
-    problem-read (laid bytes read fields) (sym fields ∙ read) (c .read-tables .ensures)))
+    problem-read (laid bytes read fields) (sym (ap headerOf fields) ∙ read) (c .read-tables .ensures)))

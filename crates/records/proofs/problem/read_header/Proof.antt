@@ -5,7 +5,7 @@ use Rattle.records.proofs.problem.read_header.Tie as tie
 
 returns : tie.Need-returns
 returns c =
-    header-judged _ _ (c .before .before .before .before .before .word-at .ensures .0)
+    header-judged _ _ _ (c .before .before .before .before .before .word-at .ensures .0)
     (c .before .before .before .before .short-at .ensures .0)
     (c .before .before .before .short-at2 .ensures .0)
     (c .before .before .short-at3 .ensures .0)

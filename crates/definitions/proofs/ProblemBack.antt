@@ -1,0 +1,245 @@
+-- A problem written by `problemBytes` is within the layout and reads back as itself.
+use Prim.Native.Nat.{ℕ, zero, suc, _+_, _*_, _-_, _^_, _≤_, _<_}
+use mathlib.Core.Path.{_≡_, refl, ap, ap₂, sym, subst, _∙_}
+use mathlib.Core.Bool.{Bool, true, and-eq-true-iff, _&&_}
+use mathlib.Core.List.{List, [], _∷_, _++_, map, append-assoc, append-nil, map-append}
+use mathlib.Core.Logic.{⊎-elim}
+use native.Mathlib.Omega.{arith}
+use native.Mathlib.Nat.{mul-le-mul-left, mul-le-mul-right}
+use lib.ListN.{length, getD, length-append, length-map, List·getD-append, List·getD-map}
+use lib.Seq.{getD-at, getD-append-add}
+use Rattle.definitions.specs.Limits.{highest-n, highest-m, lead-limit, length-bytes, short-bytes, signed-bytes, signed-half, signed-full, problem-kind, problem-header}
+use Rattle.definitions.specs.Tropical.{Trop, bot}
+use Rattle.definitions.specs.Problem.{Problem}
+use Rattle.definitions.specs.Bytes.{numAt, numsAt, le, fields, tropField, fieldOf, tropAt, all, blank-or-within}
+use Rattle.definitions.specs.ProblemRecord.{WithinLayout, problemOf, problemSize, problemBytes, rowBytes, rowsBytes, leadsOf, listOf, nField, mField, lengthField, kindField, leftPlace, rightPlace}
+use Rattle.definitions.proofs.Whole.{nat-le-or-lt}
+use Rattle.definitions.proofs.Bytes.{length-le, length-fields, fields-append, nums-fields, Below, getD-numsAt, all-true}
+use Rattle.definitions.proofs.Refusals.{problem-fits}
+use Rattle.definitions.proofs.RoundTrip.{trops-back, trops-below, num-here, num-past}
+
+-- ---- a function as a list
+
+pub listed-length {ℓ} : {A : Type ℓ} (f : ℕ → A) (k : ℕ) → length (listOf f k) ≡ k
+unfolding listOf
+listed-length f zero = refl
+listed-length f (suc k) = rw (length-append, listed-length f k) (omega arith)
+
+pub listed-at {ℓ} : {A : Type ℓ} (f : ℕ → A) (d : A) (k i : ℕ) → i < k → getD (listOf f k) i d ≡ f i
+unfolding listOf
+listed-at f d zero i h = absurd (omega arith)
+listed-at f d (suc k) i h = ⊎-elim
+    (λ (q : k ≤ i). let e : i ≡ k = omega arith in rw e (getD-at (listOf f k) (f k) [] d k (listed-length f k)))
+    (λ (q : i < k). let l : i < length (listOf f k) = rw listed-length q in List·getD-append (listOf f k) (f k ∷ []) d i l ∙ listed-at f d k i q)
+    (nat-le-or-lt k i)
+
+-- ---- leads
+
+-- Leads that may stand in a record: blank or within the limit.
+pub record Leads (p : Problem) : Type 0 where
+  pub left : (i j : ℕ) → i ≤ p .m → j ≤ p .n → blank-or-within lead-limit (p .left i j) ≡ true
+  pub right : (i j : ℕ) → i ≤ p .m → j ≤ p .n → blank-or-within lead-limit (p .right i j) ≡ true
+
+all-append : (test : Trop → Bool) (xs ys : List Trop) → all test xs ≡ true → all test ys ≡ true → all test (xs ++ ys) ≡ true
+unfolding all
+all-append test [] ys e f = f
+all-append test (x ∷ xs) ys e f = let h = and-eq-true-iff (test x) (all test xs) .0 e in and-eq-true-iff (test x) (all test (xs ++ ys)) .1 (h .0, all-append test xs ys (h .1) f)
+
+all-listed : (test : Trop → Bool) (f : ℕ → Trop) (k : ℕ) → ((i : ℕ) → i < k → test (f i) ≡ true) → all test (listOf f k) ≡ true
+all-listed test f k h =
+    all-true test bot (listOf f k) .1 (λ i l. let b : i < k = rw listed-length at l in rw (listed-at f bot k i b) (h i b))
+
+module _ (p : Problem) where
+  -- Those of a row, and those of the first k rows, in their order.
+  row : ℕ → List Trop
+  row i = listOf (p .left i) (suc (p .n)) ++ listOf (p .right i) (suc (p .n))
+
+  rows : ℕ → List Trop
+  rows zero = []
+  rows (suc k) = rows k ++ row k
+
+  length-row : (i : ℕ) → length (row i) ≡ 2 * suc (p .n)
+  unfolding row
+  length-row i = simp (length-append, listed-length) (omega arith)
+
+  length-rows : (k : ℕ) → length (rows k) ≡ 2 * (k * suc (p .n))
+  unfolding rows
+  length-rows zero = omega arith
+  length-rows (suc k) = rw (length-append, length-rows k, length-row k) (omega arith)
+
+  -- Their bytes.
+  row-bytes : (i : ℕ) → rowBytes p i ≡ fields signed-bytes (map fieldOf (row i))
+  unfolding rowBytes row
+  row-bytes i = rw (map-append, fields-append)
+
+  rows-bytes : (k : ℕ) → rowsBytes p k ≡ fields signed-bytes (map fieldOf (rows k))
+  unfolding rowsBytes rows fields
+  rows-bytes zero = refl
+  rows-bytes (suc k) = rw (map-append, fields-append, rows-bytes k, row-bytes k)
+
+  -- Lead k of row i stands at this place among all.
+  rows-at : (d : Trop) (count i k : ℕ) → i < count → k < 2 * suc (p .n) → getD (rows count) (2 * (i * suc (p .n)) + k) d ≡ getD (row i) k d
+  unfolding rows
+  rows-at d zero i k h g = absurd (omega arith)
+  rows-at d (suc count) i k h g = ⊎-elim
+      (λ (q : count ≤ i).
+      let e : i ≡ count = omega arith in
+      let place : 2 * (i * suc (p .n)) + k ≡ length (rows count) + k = rw (e, length-rows count) refl in
+      rw (place, e) (getD-append-add (rows count) (row count) k d))
+      (λ (q : i < count).
+      let inside : 2 * (i * suc (p .n)) + k < length (rows count) = rw (length-rows count) (omega (arith, mul-le-mul-right {m = suc i} {n = count} (suc (p .n)) (omega arith))) in
+      List·getD-append (rows count) (row count) d _ inside ∙ rows-at d count i k q g)
+      (nat-le-or-lt count i)
+
+  row-left : (d : Trop) (i j : ℕ) → j ≤ p .n → getD (row i) j d ≡ p .left i j
+  unfolding row
+  row-left d i j h =
+      let inside : j < length (listOf (p .left i) (suc (p .n))) = rw listed-length (omega arith) in
+      List·getD-append (listOf (p .left i) (suc (p .n))) _ d j inside ∙ listed-at (p .left i) d (suc (p .n)) j (omega arith)
+
+  row-right : (d : Trop) (i j : ℕ) → j ≤ p .n → getD (row i) (suc (p .n) + j) d ≡ p .right i j
+  unfolding row
+  row-right d i j h =
+      let e : suc (p .n) + j ≡ length (listOf (p .left i) (suc (p .n))) + j = rw listed-length refl in
+      rw e (getD-append-add (listOf (p .left i) (suc (p .n))) (listOf (p .right i) (suc (p .n))) j d) ∙ listed-at (p .right i) d (suc (p .n)) j (omega arith)
+
+  -- They are all blank or within the limit.
+  rows-fit : Leads p → (k : ℕ) → k ≤ suc (p .m) → all (blank-or-within lead-limit) (rows k) ≡ true
+  unfolding rows row all
+  rows-fit l zero h = refl
+  rows-fit l (suc k) h =
+      all-append (blank-or-within lead-limit) (rows k) _ (rows-fit l k (omega arith))
+      (all-append (blank-or-within lead-limit) (listOf (p .left k) (suc (p .n))) _ (all-listed _ (p .left k) (suc (p .n)) (λ j b. l .left k j (omega arith) (omega arith)))
+      (all-listed _ (p .right k) (suc (p .n)) (λ j b. l .right k j (omega arith) (omega arith))))
+
+-- ---- the record
+
+-- What is written is within the layout, and its bytes mean the problem.
+pub record ReadsAsItself (p : Problem) : Type 0 where
+  pub within : WithinLayout (problemBytes p)
+  pub n-is : problemOf (problemBytes p) .n ≡ p .n
+  pub m-is : problemOf (problemBytes p) .m ≡ p .m
+  pub left-is : (i j : ℕ) → i ≤ p .m → j ≤ p .n → problemOf (problemBytes p) .left i j ≡ p .left i j
+  pub right-is : (i j : ℕ) → i ≤ p .m → j ≤ p .n → problemOf (problemBytes p) .right i j ≡ p .right i j
+
+-- The ten bytes of a header, and fields behind them.
+module _ (size kind n m : ℕ) (xs : List ℕ) where
+  front : List ℕ
+  front = (le length-bytes size ++ le short-bytes kind) ++ (le short-bytes n ++ le short-bytes m)
+
+  whole : List ℕ
+  whole = front ++ (fields signed-bytes xs ++ [])
+
+  length-front : length front ≡ problem-header
+  unfolding front
+  length-front = simp (length-append, length-le)
+
+  length-whole : length whole ≡ problem-header + signed-bytes * length xs
+  unfolding whole
+  length-whole = rw (length-append, length-front, length-append, length-fields) (omega arith)
+
+  read-length : size < signed-full → numAt length-bytes whole 0 ≡ size
+  unfolding whole front
+  read-length h = simp append-assoc (num-here length-bytes size _ h)
+
+  read-kind : kind < 65536 → numAt short-bytes whole 4 ≡ kind
+  unfolding whole front
+  read-kind h = simp append-assoc (num-past short-bytes length-bytes size _ 0 ∙ num-here short-bytes kind _ h)
+
+  read-n : n < 65536 → numAt short-bytes whole 6 ≡ n
+  unfolding whole front
+  read-n h = simp append-assoc (num-past short-bytes length-bytes size _ 2 ∙ num-past short-bytes short-bytes kind _ 0 ∙ num-here short-bytes n _ h)
+
+  read-m : m < 65536 → numAt short-bytes whole 8 ≡ m
+  unfolding whole front
+  read-m h = simp append-assoc (num-past short-bytes length-bytes size _ 4 ∙ num-past short-bytes short-bytes kind _ 2 ∙ num-past short-bytes short-bytes n _ 0 ∙ num-here short-bytes m _ h)
+
+  read-leads : Below signed-full xs → numsAt signed-bytes (length xs) whole problem-header ≡ xs
+  unfolding whole
+  read-leads b = nums-fields signed-bytes xs front [] problem-header length-front b
+
+  -- Field k of them.
+  read-lead : Below signed-full xs → (k : ℕ) → k < length xs → numAt signed-bytes whole (problem-header + signed-bytes * k) ≡ getD xs k 0
+  read-lead b k h = sym (getD-numsAt signed-bytes (length xs) whole problem-header k h) ∙ ap (λ (l : List ℕ). getD l k 0) (read-leads b)
+
+module _ (p : Problem) (n-most : p .n ≤ highest-n) (m-most : p .m ≤ highest-m) (l : Leads p) where
+  all-leads : List Trop
+  all-leads = rows p (suc (p .m))
+
+  fit : all (blank-or-within lead-limit) all-leads ≡ true
+  unfolding all-leads
+  fit = rows-fit p l (suc (p .m)) (omega arith)
+
+  fields-of : List ℕ
+  fields-of = map fieldOf all-leads
+
+  many : length fields-of ≡ 2 * (suc (p .n) * suc (p .m))
+  unfolding fields-of all-leads
+  many = length-map (rows p (suc (p .m))) fieldOf ∙ length-rows p (suc (p .m)) ∙ omega arith
+
+  small : Below signed-full fields-of
+  unfolding fields-of
+  small = trops-below lead-limit (omega arith) all-leads fit
+
+  size-most : problemSize (p .n) (p .m) ≤ 16394
+  size-most =
+      let wide = mul-le-mul-right {m = suc (p .n)} {n = 32} (suc (p .m)) (omega arith) in
+      let high = mul-le-mul-left {m = suc (p .m)} {n = 64} 32 (omega arith) in
+      omega (arith, wide, high)
+
+  record-is : problemBytes p ≡ whole (problemSize (p .n) (p .m) - length-bytes) problem-kind (p .n) (p .m) fields-of
+  unfolding problemBytes whole front fields-of all-leads
+  record-is = rw (rows-bytes p (suc (p .m))) (simp (append-assoc, append-nil))
+
+  -- Lead k of row i stands in its place.
+  lead-is : (i k : ℕ) → i ≤ p .m → k < 2 * suc (p .n) → tropAt (problemBytes p) (problem-header + signed-bytes * (2 * (i * suc (p .n)) + k)) ≡ getD (row p i) k (tropField 0)
+  unfolding tropAt fields-of all-leads
+  lead-is i k h g =
+      let at : ℕ = 2 * (i * suc (p .n)) + k in
+      let inside : 2 * (i * suc (p .n)) + k < length fields-of = rw many (omega (arith, mul-le-mul-right {m = suc i} {n = suc (p .m)} (suc (p .n)) (omega arith))) in
+      let number = read-lead (problemSize (p .n) (p .m) - length-bytes) problem-kind (p .n) (p .m) fields-of small at inside in
+      let meant : tropField (getD (map fieldOf all-leads) at 0) ≡ getD all-leads at (tropField 0) =
+      sym (List·getD-map tropField (map fieldOf all-leads) at 0) ∙ ap (λ (xs : List Trop). getD xs at (tropField 0)) (trops-back lead-limit (omega arith) all-leads fit) in
+      rw (record-is, number) (meant ∙ rows-at p (tropField 0) (suc (p .m)) i k (omega arith) g)
+
+  read-back : (nField (problemBytes p) ≡ p .n) × (mField (problemBytes p) ≡ p .m)
+  read-back = rw record-is (read-n _ problem-kind (p .n) (p .m) fields-of (omega arith), read-m _ problem-kind (p .n) (p .m) fields-of (omega arith))
+
+  leads-back : leadsOf (problemBytes p) ≡ all-leads
+  unfolding leadsOf fields-of
+  leads-back =
+      let e : 2 * (suc (nField (problemBytes p)) * suc (mField (problemBytes p))) ≡ length fields-of = rw (read-back .0, read-back .1) (sym many) in
+      rw (e, record-is) (ap (map tropField) (read-leads _ problem-kind (p .n) (p .m) fields-of small) ∙ trops-back lead-limit (omega arith) all-leads fit)
+
+  size-is : length (problemBytes p) ≡ problemSize (p .n) (p .m)
+  size-is = rw record-is (length-whole _ problem-kind (p .n) (p .m) fields-of ∙ rw many (omega arith))
+
+-- A problem within the limits, written, reads back as itself.
+pub problem-back : (p : Problem) → p .n ≤ highest-n → p .m ≤ highest-m → Leads p → ReadsAsItself p
+unfolding problemOf
+problem-back p n-most m-most l =
+    let back = read-back p n-most m-most l in
+    let size = size-is p n-most m-most l in
+    let most = size-most p n-most m-most l in
+    let same = record-is p n-most m-most l in
+    let xs : List ℕ = fields-of p n-most m-most l in
+    let long : lengthField (problemBytes p) ≡ problemSize (p .n) (p .m) - length-bytes = rw same (read-length _ problem-kind (p .n) (p .m) xs (omega arith)) in
+    record {
+      within = problem-fits (problemBytes p) .1 (record {
+        size-enough = omega arith;
+        length-is = omega arith;
+        kind-is = rw same (read-kind _ problem-kind (p .n) (p .m) xs (omega arith));
+        n-most = omega (arith, back .0);
+        m-most = omega (arith, back .1);
+        size-is = rw (back .0, back .1) size;
+        leads-fit = rw (leads-back p n-most m-most l) (fit p n-most m-most l);
+      });
+      n-is = back .0;
+      m-is = back .1;
+      left-is = λ i j h g.
+          let place : leftPlace (p .n) i j ≡ problem-header + signed-bytes * (2 * (i * suc (p .n)) + j) = omega arith in
+          rw (back .0, place) (lead-is p n-most m-most l i j h (omega arith) ∙ row-left p (tropField 0) i j g);
+      right-is = λ i j h g.
+          let place : rightPlace (p .n) i j ≡ problem-header + signed-bytes * (2 * (i * suc (p .n)) + (suc (p .n) + j)) = omega arith in
+          rw (back .0, place) (lead-is p n-most m-most l i (suc (p .n) + j) h (omega arith) ∙ row-right p (tropField 0) i j g);
+    }

@@ -1,0 +1,233 @@
+-- For every problem with small leads there is an answer that the engine may give.
+use Prim.Native.Nat.{ℕ, zero, suc, _+_, _*_, _≤_, _<_}
+use mathlib.Core.Path.{_≡_, refl, ap, sym, subst, _∙_}
+use mathlib.Core.Bool.{Bool, true, _&&_, and-eq-true-iff}
+use mathlib.Core.List.{List, [], _∷_}
+use mathlib.Core.Logic.{_⊎_, inl, inr, ⊎-elim}
+use native.Mathlib.Omega.{arith}
+use lib.Dec.{eqb}
+use lib.ListN.{length, getD, List·getD-eq-default}
+use lib.IntN.{ℤ, pos, negℤ, natAbs, _+ℤ_, _-ℤ_}
+use lib.Signed.{_≤ℤ_}
+use borrow.Author.Tests.{eq-eqb, le-leb}
+use Rattle.definitions.specs.Limits.{highest-n, highest-m, lead-limit, span-limit, stamp-limit, class-optimal, class-unbounded, class-infeasible}
+use Rattle.definitions.specs.Tropical.{Trop, bot, fin, plus, Finite}
+use Rattle.definitions.specs.Problem.{Problem, Point, Feasible, value, Attainable, Optimal, Unbounded, Infeasible}
+use Rattle.definitions.specs.Problem as Problems
+use Rattle.definitions.specs.Certificate.{Strategy, Anchor, AcceptedOptimal}
+use Rattle.definitions.specs.Bytes.{all, blank-or-within, whole-within}
+use Rattle.definitions.specs.ProblemRecord.{listOf}
+use Rattle.definitions.specs.AnswerRecord.{Answer, stampCount, pickCount, highestPick, rightCounts, formRefusal, spanFits, stampsFit, picksFit, is-zero, is-blank}
+use Rattle.definitions.specs.Verdict as Verdicts
+use Rattle.definitions.specs.Verdict.{strategyOf}
+use Rattle.definitions.specs.Solved as Results
+use Rattle.definitions.specs.Solved.{Found, Answers, IdleVariables, IdleRows}
+use Rattle.definitions.proofs.Whole.{up, down, whole, plus-read, neg-read, abs-show, nat-le-or-lt}
+use Rattle.definitions.proofs.Tropical.{blank-or-finite}
+use Rattle.definitions.proofs.Refusals.{form-fits}
+use Rattle.definitions.proofs.ProblemBack.{listed-length, listed-at}
+use Rattle.duality.specs.System.{Solves, Blocks, systemAt}
+use Rattle.duality.specs.Values.{values}
+use Rattle.duality.specs.Within.{Within}
+use Rattle.duality.specs.Picks.{SomePicks}
+use Rattle.duality.proofs.Weak.{not-solved-and-blocked}
+use Rattle.duality.proofs.Attain.{moved, moved-anchored, moved-solves, solves-feasible, solves-within, attainable-solution}
+use Rattle.duality.proofs.Ends.{finished, blank-blocks}
+use Rattle.duality.proofs.Strong.{settled}
+use Rattle.duality.proofs.Stamps.{stamps-at-most-32}
+use Rattle.duality.proofs.Numbers.{top-enough}
+use Rattle.duality.proofs.Unused.{optimal-unused, infeasible-unused, unbounded-unused}
+use Rattle.duality.proofs.Classes.{value-exactly, optimal-exactly, optimal-accepted, optimal-range, infeasible-accepted, unbounded-accepted, classified}
+use Rattle.checker.proofs.Agreeing.{listed-point, listed-strategy, listed-fit, optimal-agrees, infeasible-agrees, unbounded-agrees}
+use Rattle.guarantees.proofs.Reached.{listed-whole, shown, shown-agree, shown-past, shown-idle, shown-most, rows-shown, rows-shown-agree, rows-shown-past, rows-shown-idle, rows-shown-most}
+
+-- An answer, with its class, span and trials.
+pub record SomeAnswer (p : Problem) : Type 0 where
+  pub class : ℕ
+  pub span : Trop
+  pub trials : ℕ
+  pub answer : Answer
+  pub answers : Answers p class span trials answer
+
+-- ---- its form
+
+counts-right : (a : Answer) (n m : ℕ) → length (a .stamps) ≡ stampCount (a .class) n → length (a .picks) ≡ pickCount (a .class) n m → rightCounts a n m ≡ true
+unfolding rightCounts
+counts-right a n m e f = and-eq-true-iff (eqb (length (a .stamps)) (stampCount (a .class) n)) _ .1 (eq-eqb _ _ e, eq-eqb _ _ f)
+
+all-of : (test : Trop → Bool) (xs : List Trop) → ((k : ℕ) → test (getD xs k bot) ≡ true) → all test xs ≡ true
+unfolding all
+all-of test [] h = refl
+all-of test (x ∷ xs) h = and-eq-true-iff (test x) (all test xs) .1 (h 0, all-of test xs (λ k. h (suc k)))
+
+stamps-right : (xs : List Trop) → is-zero (getD xs 0 bot) ≡ true → ((k : ℕ) → blank-or-within stamp-limit (getD xs k bot) ≡ true) → stampsFit xs ≡ true
+unfolding stampsFit
+stamps-right [] z h = refl
+stamps-right (x ∷ xs) z h = and-eq-true-iff (is-zero x) (all (blank-or-within stamp-limit) xs) .1 (z, all-of (blank-or-within stamp-limit) xs (λ k. h (suc k)))
+
+-- ---- stamps
+
+-- A value of a kept strategy at t lies between −(64 L + |t|) and 0; the difference of two is within a stamp's limit.
+record Low (t v : ℤ) : Type 0 where
+  floor : down v ≤ 64 * lead-limit + natAbs t + up v
+  top : v ≤ℤ pos 0
+
+low-within : (t v u : ℤ) → natAbs t ≤ span-limit → Low t v → Low t u → blank-or-within stamp-limit (fin (v +ℤ negℤ u)) ≡ true
+unfolding blank-or-within
+low-within t v u h a b = le-leb _ stamp-limit (abs-show (v +ℤ negℤ u)
+    (omega (whole, a .floor, a .top, b .floor, b .top, plus-read v (negℤ u), neg-read u))
+    (omega (whole, a .floor, a .top, b .floor, b .top, plus-read v (negℤ u), neg-read u)))
+
+moved-within : (t : ℤ) (x : Point) (u : ℤ) (k : ℕ) → natAbs t ≤ span-limit → ((v : ℤ) → x k ≡ fin v → Low t v) → Low t u → blank-or-within stamp-limit (moved x u k) ≡ true
+unfolding moved blank-or-within plus
+moved-within t x u k h a b = go (x k) refl
+  where
+    go : (z : Trop) → x k ≡ z → blank-or-within stamp-limit (plus z (fin (negℤ u))) ≡ true
+    go bot e = refl
+    go (fin v) e = low-within t v u h (a v e) b
+
+blank-fits : (limit : ℕ) → blank-or-within limit bot ≡ true
+unfolding blank-or-within
+blank-fits limit = refl
+
+-- ---- the answer of each class
+
+module _ (p : Problem) (n-most : p .n ≤ highest-n) (within : Within p lead-limit) where
+  none-answer : Infeasible p → SomeAnswer p
+  unfolding spanFits is-blank stampsFit
+  none-answer h =
+      let c = infeasible-accepted p .0 h in
+      let picks : Strategy = shown p (c .picks) n-most in
+      let table : List ℕ = listOf picks (suc (p .n)) in
+      let whole-is = listed-whole picks (suc (p .n)) (shown-past p (c .picks) n-most) in
+      let fit = listed-fit (suc (p .m)) picks (suc (p .n)) (shown-most p (c .picks) n-most (suc (p .m)) (c .none-above)) in
+      let a : Answer = record { class = class-infeasible; span = bot; stamps = []; picks = table } in
+      record {
+        class = class-infeasible;
+        span = bot;
+        trials = _;
+        answer = a;
+        answers = record {
+          found = Results.infeasible h;
+          class-is = refl;
+          span-is = refl;
+          counts = counts-right a (p .n) (p .m) refl (listed-length picks (suc (p .n)));
+          form = form-fits a (p .n) (p .m) .1 (record { span-fits = refl; stamps-fit = refl; picks-fit = fit });
+          idle-variables = λ _. subst (IdleVariables p) (sym whole-is) (shown-idle p (c .picks) n-most);
+          idle-rows = λ e. absurd (omega arith);
+          accepted = Verdicts.infeasible refl (infeasible-agrees p (listed-strategy picks (suc (p .n))) (infeasible-unused (shown-agree p (c .picks) n-most) (c .accepted)));
+        };
+      }
+
+  bottomless-answer : Unbounded p → SomeAnswer p
+  unfolding spanFits is-blank stampsFit
+  bottomless-answer h =
+      let c = unbounded-accepted p .0 h in
+      let picks : Strategy = rows-shown p (c .picks) n-most (c .none-above) in
+      let table : List ℕ = listOf picks (suc (p .m)) in
+      let whole-is = listed-whole picks (suc (p .m)) (rows-shown-past p (c .picks) n-most (c .none-above)) in
+      let fit = listed-fit (suc (p .n)) picks (suc (p .m)) (rows-shown-most p (c .picks) n-most (c .none-above)) in
+      let a : Answer = record { class = class-unbounded; span = bot; stamps = []; picks = table } in
+      record {
+        class = class-unbounded;
+        span = bot;
+        trials = _;
+        answer = a;
+        answers = record {
+          found = Results.unbounded h;
+          class-is = refl;
+          span-is = refl;
+          counts = counts-right a (p .n) (p .m) refl (listed-length picks (suc (p .m)));
+          form = form-fits a (p .n) (p .m) .1 (record { span-fits = refl; stamps-fit = refl; picks-fit = fit });
+          idle-variables = λ d. absurd (d refl);
+          idle-rows = λ _. subst (IdleRows p) (sym whole-is) (rows-shown-idle p (c .picks) n-most (c .none-above));
+          accepted = Verdicts.unbounded refl (unbounded-agrees p (listed-strategy picks (suc (p .m))) (unbounded-unused (rows-shown-agree p (c .picks) n-most (c .none-above)) (c .accepted)));
+        };
+      }
+
+  -- A least plan whose stamps fit: the values of a kept strategy at the least span, moved so that the anchor stands at 0.
+  record LeastPlan (s : ℤ) : Type 0 where
+    plan : Point
+    feasible : Feasible p plan
+    value-is : value p plan ≡ Problems.whole s
+    stamps : stampsFit (listOf plan (suc (p .n))) ≡ true
+
+  range : (s : ℤ) → Optimal p s → natAbs s ≤ span-limit
+  range s o = optimal-range p lead-limit span-limit within (top-enough (p .n) lead-limit (omega arith)) s o
+
+  least-plan : (s : ℤ) → Optimal p s → LeastPlan s
+  unfolding systemAt is-zero
+  least-plan s o = ⊎-elim blank found (blank-or-finite (x 0))
+    where
+      x : Point
+      x = values (systemAt p s) (settled (systemAt p s) .strategy)
+
+      solves : Solves (systemAt p s) x
+      solves = finished (systemAt p s) x (settled (systemAt p s) .stands)
+
+      exactly : Attainable p s × (Attainable p (s -ℤ pos 1) → ⊥)
+      exactly = optimal-exactly p s .0 o
+
+      blank : x 0 ≡ bot → LeastPlan s
+      blank e = absurd (not-solved-and-blocked (systemAt p s) Anchor (attainable-solution p s (exactly .0)) (record {
+        strategy = settled (systemAt p s) .strategy;
+        blocks = blank-blocks (systemAt p s) (settled (systemAt p s) .strategy) (settled (systemAt p s) .policy) Anchor (λ j z. (omega arith, rw z e));
+      }))
+
+      low : (k : ℕ) → k ≤ p .n → (v : ℤ) → x k ≡ fin v → Low s v
+      low k h v e =
+          let r = stamps-at-most-32 p s (settled (systemAt p s) .strategy) lead-limit within (settled (systemAt p s) .policy) (omega arith) k h v e in
+          record { floor = r .0; top = r .1 }
+
+      found : Finite (x 0) → LeastPlan s
+      found f =
+          let y : Point = moved x (f .whole) in
+          let anchored = moved-anchored x (f .whole) (f .is) in
+          let kept : Solves (systemAt p s) (moved x (f .whole)) = moved-solves (systemAt p s) x (f .whole) solves in
+          let feasible = solves-feasible p s (moved x (f .whole)) anchored kept in
+          record {
+            plan = y;
+            feasible = feasible;
+            value-is = value-exactly p s y feasible (solves-within p s y kept) (exactly .1);
+            stamps = stamps-right (listOf y (suc (p .n)))
+                (rw (listed-at y bot (suc (p .n)) 0 (omega arith), anchored) refl)
+                (λ k. ⊎-elim
+                (λ (h : suc (p .n) ≤ k).
+                let past : length (listOf y (suc (p .n))) ≤ k = rw listed-length h in
+                rw (List·getD-eq-default (listOf y (suc (p .n))) bot past) (blank-fits stamp-limit))
+                (λ (h : k < suc (p .n)). rw (listed-at y bot (suc (p .n)) k h) (moved-within s x (f .whole) k (range s o) (low k (omega arith)) (low 0 (omega arith) (f .whole) (f .is))))
+                (nat-le-or-lt (suc (p .n)) k));
+          }
+
+  least-answer : (s : ℤ) → Optimal p s → SomeAnswer p
+  unfolding spanFits whole-within
+  least-answer s o =
+      let l = least-plan s o in
+      let x : Point = l .plan in
+      let c = optimal-accepted p s (l .plan) (l .feasible) (l .value-is) .0 (o .least) in
+      let picks : Strategy = shown p (c .picks) n-most in
+      let table : List ℕ = listOf picks (suc (p .n)) in
+      let whole-is = listed-whole picks (suc (p .n)) (shown-past p (c .picks) n-most) in
+      let fit = listed-fit (suc (p .m)) picks (suc (p .n)) (shown-most p (c .picks) n-most (suc (p .m)) (c .none-above)) in
+      let a : Answer = record { class = class-optimal; span = fin s; stamps = listOf x (suc (p .n)); picks = table } in
+      record {
+        class = class-optimal;
+        span = fin s;
+        trials = _;
+        answer = a;
+        answers = record {
+          found = Results.optimal o;
+          class-is = refl;
+          span-is = refl;
+          counts = counts-right a (p .n) (p .m) (listed-length x (suc (p .n))) (listed-length picks (suc (p .n)));
+          form = form-fits a (p .n) (p .m) .1 (record { span-fits = le-leb _ span-limit (range s o); stamps-fit = l .stamps; picks-fit = fit });
+          idle-variables = λ _. subst (IdleVariables p) (sym whole-is) (shown-idle p (c .picks) n-most);
+          idle-rows = λ e. absurd (omega arith);
+          accepted = Verdicts.optimal refl refl (optimal-agrees p s (listed-point x (suc (p .n))) (listed-strategy picks (suc (p .n)))
+              (optimal-unused (shown-agree p (c .picks) n-most) s x (c .accepted)));
+        };
+      }
+
+  -- Every problem with small leads has an answer.
+  pub answer-exists : SomeAnswer p
+  answer-exists = ⊎-elim none-answer (λ r. ⊎-elim (λ h. least-answer (h .at) (h .optimal)) bottomless-answer r) (classified p)

@@ -1,0 +1,83 @@
+-- The entries of the code as functions, each with its contract for whatever can be handed over: what the theorems in
+-- proofs/Demands.antt ask for. That each can be met is shown in proofs/Inhabited.antt.
+use Prim.Native.Nat.{ℕ}
+use mathlib.Core.Path.{_≡_}
+use mathlib.Core.List.{List}
+use lib.ListN.{length, take}
+use Rattle.definitions.specs.Limits.{kept-bytes}
+use Rattle.definitions.specs.Bytes.{Bytes}
+use Rattle.definitions.specs.Verdict.{Judged}
+use Rattle.definitions.specs.Solved.{Solves}
+use Rattle.definitions.specs.Programs.{ReadFrom}
+use Rattle.definitions.specs.Demands.{Word, Words, Slice}
+use Rattle.records.specs.declared.problem.Header.{Header}
+use Rattle.leads.specs.Tables.{ProblemRead}
+use Rattle.answers.specs.declared.answer.AnswerHead.{AnswerHead}
+use Rattle.answers.specs.Fields.{fieldsOf}
+use Rattle.answers.specs.AnswerReading.{AnswerRead}
+use Rattle.writing.specs.declared.writer.Written.{Written}
+use Rattle.writing.specs.AnswerWriting.{AnswerWritten}
+use Rattle.checker.specs.declared.check.Verdict.{Verdict}
+use Rattle.checker.specs.Outcome.{verdictOf}
+use Rattle.engine.specs.declared.solve.Solved.{Solved}
+use Rattle.engine.specs.Outcome.{solvedOf}
+
+-- `engine::solve::solve`: the result, and the buffer afterwards.
+pub record Solve : Type 0 where
+  pub result : List ℕ → List ℕ → Solved
+  pub buffer : List ℕ → List ℕ → List ℕ
+  pub contract : (p before : List ℕ) → Slice p → Slice before → Solves p before (solvedOf (result p before)) (buffer p before)
+
+-- `checker::check::check`.
+pub record Check : Type 0 where
+  pub verdict : List ℕ → List ℕ → Verdict
+  pub contract : (p a : List ℕ) → Slice p → Slice a → Judged p a (verdictOf (verdict p a))
+
+-- `leads::reader::read_problem`, lent two tables: the header, and the tables afterwards.
+pub record ReadProblem (left₀ right₀ : List ℕ) : Type 0 where
+  pub header : List ℕ → Header
+  pub left : List ℕ → List ℕ
+  pub right : List ℕ → List ℕ
+  pub contract : (p : List ℕ) → Slice p → ProblemRead p left₀ right₀ (header p) (left p) (right p)
+
+-- `answers::answer::read_answer`, lent two arrays: the head, and the arrays afterwards.
+pub record ReadAnswer (stamps₀ picks₀ : List ℕ) : Type 0 where
+  pub head : List ℕ → ℕ → ℕ → AnswerHead
+  pub stamps : List ℕ → ℕ → ℕ → List ℕ
+  pub picks : List ℕ → ℕ → ℕ → List ℕ
+  pub contract : (s : List ℕ) (n m : ℕ) → Slice s → Word n → Word m → AnswerRead s n m (head s n m) stamps₀ (stamps s n m) picks₀ (picks s n m)
+
+-- What is handed to `writing::writer::write_answer` besides the buffer.
+pub record Fields : Type 0 where
+  pub class : ℕ
+  pub span : ℕ
+  pub stamps : List ℕ
+  pub picks : List ℕ
+  pub n : ℕ
+  pub m : ℕ
+
+-- All of it can be handed over.
+pub record Fit (f : Fields) : Type 0 where
+  pub class : Word (f .class)
+  pub span : Word (f .span)
+  pub stamps : Words (f .stamps)
+  pub picks : Words (f .picks)
+  pub n : Word (f .n)
+  pub m : Word (f .m)
+
+-- `writing::writer::write_answer`: the result, and the buffer afterwards.
+pub record WriteAnswer : Type 0 where
+  pub result : Fields → List ℕ → Written
+  pub buffer : Fields → List ℕ → List ℕ
+  pub contract :
+      (f : Fields) (before : List ℕ) → Fit f → Slice before
+      → AnswerWritten (fieldsOf (f .class) (f .span) (f .stamps) (f .picks)) (f .n) (f .m) (result f before) before (buffer f before)
+
+-- `answer` of a program that is to put out `Output input`, lent a buffer: how many bytes of the buffer are put out, and the
+-- buffer afterwards.
+pub record Answer (out₀ : List ℕ) (Output : List ℕ → List ℕ → Type 0) : Type 0 where
+  pub count : List ℕ → ℕ → ℕ
+  pub out : List ℕ → ℕ → List ℕ
+  pub contract :
+      (kept : List ℕ) (size : ℕ) → Bytes kept → length kept ≡ kept-bytes → Word size
+      → (input : List ℕ) → ReadFrom kept size input → Output input (take (count kept size) (out kept size))
