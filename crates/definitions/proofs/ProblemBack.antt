@@ -36,7 +36,7 @@ listed-at f d (suc k) i h = ⊎-elim
 -- ---- leads
 
 -- Leads that may stand in a record: blank or within the limit.
-pub record Leads (p : Problem) : Type 0 where
+pub record SmallLeads (p : Problem) : Type 0 where
   pub left : (i j : ℕ) → i ≤ p .m → j ≤ p .n → blank-or-within lead-limit (p .left i j) ≡ true
   pub right : (i j : ℕ) → i ≤ p .m → j ≤ p .n → blank-or-within lead-limit (p .right i j) ≡ true
 
@@ -104,7 +104,7 @@ module _ (p : Problem) where
       rw e (getD-append-add (listOf (p .left i) (suc (p .n))) (listOf (p .right i) (suc (p .n))) j d) ∙ listed-at (p .right i) d (suc (p .n)) j (omega arith)
 
   -- They are all blank or within the limit.
-  rows-fit : Leads p → (k : ℕ) → k ≤ suc (p .m) → all (blank-or-within lead-limit) (rows k) ≡ true
+  rows-fit : SmallLeads p → (k : ℕ) → k ≤ suc (p .m) → all (blank-or-within lead-limit) (rows k) ≡ true
   unfolding rows row all
   rows-fit l zero h = refl
   rows-fit l (suc k) h =
@@ -162,7 +162,7 @@ module _ (size kind n m : ℕ) (xs : List ℕ) where
   read-lead : Below signed-full xs → (k : ℕ) → k < length xs → numAt signed-bytes whole (problem-header + signed-bytes * k) ≡ getD xs k 0
   read-lead b k h = sym (getD-numsAt signed-bytes (length xs) whole problem-header k h) ∙ ap (λ (l : List ℕ). getD l k 0) (read-leads b)
 
-module _ (p : Problem) (n-most : p .n ≤ highest-n) (m-most : p .m ≤ highest-m) (l : Leads p) where
+module _ (p : Problem) (n-most : p .n ≤ highest-n) (m-most : p .m ≤ highest-m) (l : SmallLeads p) where
   all-leads : List Trop
   all-leads = rows p (suc (p .m))
 
@@ -215,7 +215,7 @@ module _ (p : Problem) (n-most : p .n ≤ highest-n) (m-most : p .m ≤ highest-
   size-is = rw record-is (length-whole _ problem-kind (p .n) (p .m) fields-of ∙ rw many (omega arith))
 
 -- A problem within the limits, written, reads back as itself.
-pub problem-back : (p : Problem) → p .n ≤ highest-n → p .m ≤ highest-m → Leads p → ReadsAsItself p
+pub problem-back : (p : Problem) → p .n ≤ highest-n → p .m ≤ highest-m → SmallLeads p → ReadsAsItself p
 unfolding problemOf
 problem-back p n-most m-most l =
     let back = read-back p n-most m-most l in

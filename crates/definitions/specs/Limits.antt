@@ -102,7 +102,7 @@ answer-most = answer-header + (signed-bytes + short-bytes) * suc highest-n
 abbrev pub kept-bytes : ℕ
 kept-bytes = 20000
 
--- A number that is handed to an entry, and the length of a slice, are below 2⁶⁴.
+-- 2⁶⁴, the machine's: a number that is handed to an entry, and the length of a slice, are below it.
 abbrev pub word-values : ℕ
 word-values = 18446744073709551616
 

@@ -157,10 +157,10 @@ module _ (write : WriteAnswer) where
 
 -- ---- `answer` of the programs
 
-abbrev pub programOf : {out₀ : List ℕ} {Output : List ℕ → List ℕ → Type 0} → Entries.Answer out₀ Output → Program
+abbrev pub programOf : {Output : List ℕ → List ℕ → Type 0} → Entries.Answer Output → Program
 programOf answer kept size = take (answer .count kept size) (answer .out kept size)
 
-pub programs-meet : {out₀ line₀ : List ℕ} (span : Entries.Answer out₀ SpanOutput) (verdict : Entries.Answer line₀ VerdictOutput) → ProgramsAnswer (programOf span) (programOf verdict)
+pub programs-meet : (span : Entries.Answer SpanOutput) (verdict : Entries.Answer VerdictOutput) → ProgramsAnswer (programOf span) (programOf verdict)
 programs-meet span verdict = record {
   span-output = λ kept b l size s. span .contract kept size b l s;
   verdict-output = λ kept b l size s. verdict .contract kept size b l s;

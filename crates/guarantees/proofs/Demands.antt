@@ -22,7 +22,7 @@ use Rattle.guarantees.proofs.Contracts.{engineOf, engine-meets, checker
 use Rattle.guarantees.proofs.Engine.{engine-refuses, least-spans, quoted-is-smallest, engine-reads-back, own-answers}
 use Rattle.guarantees.proofs.Records.{reads-back, writes-back}
 
-module _ (solve : Solve) (check : Check) {left₀ right₀ : List ℕ} (readProblem : ReadProblem left₀ right₀) {stamps₀ picks₀ : List ℕ} (readAnswer : ReadAnswer stamps₀ picks₀) (writeAnswer : WriteAnswer) {out₀ line₀ : List ℕ} (span : Answer out₀ SpanOutput) (verdict : Answer line₀ VerdictOutput) where
+module _ (solve : Solve) (check : Check) {left₀ right₀ : List ℕ} (readProblem : ReadProblem left₀ right₀) {stamps₀ picks₀ : List ℕ} (readAnswer : ReadAnswer stamps₀ picks₀) (writeAnswer : WriteAnswer) (span : Answer SpanOutput) (verdict : Answer VerdictOutput) where
   -- Every string of bytes is answered; bytes outside the layouts get the first refusal, and a lent buffer is untouched.
   pub demand-1 : Demand1 (engineOf solve) (checkerOf check) (problemReaderOf readProblem) (readerOf readAnswer) (writerOf writeAnswer) (programOf span) (programOf verdict)
   demand-1 = record {

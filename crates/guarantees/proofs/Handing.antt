@@ -22,7 +22,7 @@ use Rattle.definitions.proofs.RoundTrip.{class-most, span-within, stamps-within
 use Rattle.answers.specs.Fields.{fieldsOf}
 use Rattle.answers.proofs.ByClass.{stamps-most, picks-most}
 use Rattle.checker.proofs.Answers.{within-at, picks-at}
-use Rattle.guarantees.specs.Entries.{Fields, Fit}
+use Rattle.guarantees.specs.Entries.{WriterFields, WriterFieldsFit}
 
 -- ---- offset numbers
 
@@ -60,10 +60,10 @@ unfolding numberFor
 numbers-words xs h l = record { word = λ i. rw (List·getD-map numberFor xs i bot) (number-word (getD xs i bot) (h i)); size = rw length-map l }
 
 -- What is handed to the writer for an answer.
-abbrev pub handing : Answer → ℕ → ℕ → Fields
+abbrev pub handing : Answer → ℕ → ℕ → WriterFields
 handing a n m = record { class = a .class; span = numberFor (a .span); stamps = map numberFor (a .stamps); picks = a .picks; n = n; m = m }
 
-pub handing-fits : (a : Answer) (n m : ℕ) → Handed a → Word n → Word m → Fit (handing a n m)
+pub handing-fits : (a : Answer) (n m : ℕ) → Handed a → Word n → Word m → WriterFieldsFit (handing a n m)
 handing-fits a n m h v w =
     record { class = h .class; span = number-word (a .span) (h .span); stamps = numbers-words (a .stamps) (h .stamps) (h .stamps-size); picks = h .picks; n = v; m = w }
 

@@ -52,7 +52,7 @@ use Rattle.checker.proofs.Verdicts.{turned}
 use Rattle.checker.proofs.Decided.{pad, padded}
 use Rattle.checker.proofs.LongInputs.{kept-longer, judged-parts, long-past, long-cut, long-header, long-refused, long-answered, header-small, problem-kept}
 use Rattle.guarantees.specs.Entries as Entries
-use Rattle.guarantees.specs.Entries.{Solve, Check, ReadProblem, ReadAnswer, WriteAnswer, Fields}
+use Rattle.guarantees.specs.Entries.{Solve, Check, ReadProblem, ReadAnswer, WriteAnswer, WriterFields}
 use Rattle.guarantees.proofs.Handing.{numberFor, number-back, within-numbered}
 use Rattle.guarantees.proofs.Engine.{within-leads}
 use Rattle.guarantees.proofs.Solvable.{SomeAnswer, answer-exists}
@@ -193,10 +193,10 @@ the-read-answer stamps₀ picks₀ = record {
 -- ---- `write_answer`
 
 -- The refusal of what is handed over, and the answer that it means.
-abbrev meantBy : Fields → Answer
+abbrev meantBy : WriterFields → Answer
 meantBy f = fieldsOf (f .class) (f .span) (f .stamps) (f .picks)
 
-abbrev refusedBy : Fields → List ℕ → ℕ
+abbrev refusedBy : WriterFields → List ℕ → ℕ
 refusedBy f before = writerRefusal (meantBy f) (f .n) (f .m) (length before)
 
 pub the-write-answer : WriteAnswer
@@ -257,8 +257,8 @@ span-kept kept size = ⊎-elim
           Programs.refusal (or-else-suc (headerRefusal input (length input)) _ (omega arith) ∙ same);
     }
 
-pub the-span : (out₀ : List ℕ) → Entries.Answer out₀ SpanOutput
-the-span out₀ = record {
+pub the-span : Entries.Answer SpanOutput
+the-span = record {
   count = λ kept size. length (span-kept kept size .output);
   out = λ kept size. span-kept kept size .output;
   contract = λ kept size b l s input r. subst (SpanOutput input) (sym (take-all (length (span-kept kept size .output)) (span-kept kept size .output) (omega arith)))
@@ -346,8 +346,8 @@ verdict-kept kept size = ⊎-elim (verdict-whole kept size) long (nat-le-or-lt s
         (λ (past : size < lengthField kept + length-bytes). record { verdict = Verdicts.refused 2; judged = λ b l input k. long-past (kept-longer k h) h past })
         (nat-le-or-lt (lengthField kept + length-bytes) size)
 
-pub the-verdict : (line₀ : List ℕ) → Entries.Answer line₀ VerdictOutput
-the-verdict line₀ = record {
+pub the-verdict : Entries.Answer VerdictOutput
+the-verdict = record {
   count = λ kept size. length (text kept size);
   out = λ kept size. text kept size;
   contract = λ kept size b l s input r. subst (VerdictOutput input) (sym (take-all (length (text kept size)) (text kept size) (omega arith)))
@@ -360,7 +360,7 @@ the-verdict line₀ = record {
 -- ---- all of them
 
 -- So the demands can be met: these functions do.
-pub the-demands : (left₀ right₀ stamps₀ picks₀ out₀ line₀ : List ℕ)
-    → Demands (engineOf the-solve) (checkerOf the-check) (problemReaderOf (the-read-problem left₀ right₀)) (readerOf (the-read-answer stamps₀ picks₀)) (writerOf the-write-answer) (programOf (the-span out₀)) (programOf (the-verdict line₀))
-the-demands left₀ right₀ stamps₀ picks₀ out₀ line₀ =
-    demands the-solve the-check (the-read-problem left₀ right₀) (the-read-answer stamps₀ picks₀) the-write-answer (the-span out₀) (the-verdict line₀)
+pub the-demands : (left₀ right₀ stamps₀ picks₀ : List ℕ)
+    → Demands (engineOf the-solve) (checkerOf the-check) (problemReaderOf (the-read-problem left₀ right₀)) (readerOf (the-read-answer stamps₀ picks₀)) (writerOf the-write-answer) (programOf the-span) (programOf the-verdict)
+the-demands left₀ right₀ stamps₀ picks₀ =
+    demands the-solve the-check (the-read-problem left₀ right₀) (the-read-answer stamps₀ picks₀) the-write-answer the-span the-verdict

@@ -48,7 +48,7 @@ pub record ReadAnswer (stamps₀ picks₀ : List ℕ) : Type 0 where
   pub contract : (s : List ℕ) (n m : ℕ) → Slice s → Word n → Word m → AnswerRead s n m (head s n m) stamps₀ (stamps s n m) picks₀ (picks s n m)
 
 -- What is handed to `writing::writer::write_answer` besides the buffer.
-pub record Fields : Type 0 where
+pub record WriterFields : Type 0 where
   pub class : ℕ
   pub span : ℕ
   pub stamps : List ℕ
@@ -57,7 +57,7 @@ pub record Fields : Type 0 where
   pub m : ℕ
 
 -- All of it can be handed over.
-pub record Fit (f : Fields) : Type 0 where
+pub record WriterFieldsFit (f : WriterFields) : Type 0 where
   pub class : Word (f .class)
   pub span : Word (f .span)
   pub stamps : Words (f .stamps)
@@ -67,15 +67,15 @@ pub record Fit (f : Fields) : Type 0 where
 
 -- `writing::writer::write_answer`: the result, and the buffer afterwards.
 pub record WriteAnswer : Type 0 where
-  pub result : Fields → List ℕ → Written
-  pub buffer : Fields → List ℕ → List ℕ
+  pub result : WriterFields → List ℕ → Written
+  pub buffer : WriterFields → List ℕ → List ℕ
   pub contract :
-      (f : Fields) (before : List ℕ) → Fit f → Slice before
+      (f : WriterFields) (before : List ℕ) → WriterFieldsFit f → Slice before
       → AnswerWritten (fieldsOf (f .class) (f .span) (f .stamps) (f .picks)) (f .n) (f .m) (result f before) before (buffer f before)
 
--- `answer` of a program that is to put out `Output input`, lent a buffer: how many bytes of the buffer are put out, and the
--- buffer afterwards.
-pub record Answer (out₀ : List ℕ) (Output : List ℕ → List ℕ → Type 0) : Type 0 where
+-- `answer` of a program that is to put out `Output input`, with whatever buffer it is lent: how many bytes of the buffer are put
+-- out, and the buffer afterwards.
+pub record Answer (Output : List ℕ → List ℕ → Type 0) : Type 0 where
   pub count : List ℕ → ℕ → ℕ
   pub out : List ℕ → ℕ → List ℕ
   pub contract :
