@@ -71,7 +71,7 @@ impl fmt::Display for Outcome {
 pub struct Solved {
     /// The class, and the span for least.
     pub outcome: Outcome,
-    /// The trials made: 1 for none, 2 for bottomless, else 2 plus the halvings, never above 23.
+    /// The trials as document 01 counts them: 1 for none, 2 for bottomless, else 2 plus the halvings, never above 23.
     pub trials: u32,
     /// The size of the record written, at most 206.
     pub size: usize,

@@ -1,4 +1,4 @@
--- The bisection: which trials are made, and how many. Document 01, "The engine" (Algorithm 1).
+-- The bisection: which trials document 01 counts, and how many. Document 01, "The engine" (Algorithm 1).
 use Prim.Native.Nat.{ℕ, zero, suc, _+_, _/_}
 use mathlib.Core.Bool.{Bool, true, false}
 use lib.Dec.{eqb}
@@ -33,7 +33,7 @@ next b false = record { low = middle b; high = b .high }
 unfoldable pub width : Bracket → ℕ
 width b = natAbs (b .high -ℤ b .low)
 
--- Where the halving ends: its high, and the halvings made.
+-- Where the halving ends: its high, and the halvings counted.
 pub record Halved : Type 0 where
   pub least : ℤ
   pub halvings : ℕ
