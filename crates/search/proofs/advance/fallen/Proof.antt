@@ -6,36 +6,14 @@ use native.Mathlib.Omega.{arith}
 use borrow.Author.Needs.{needs}
 use Rattle.search.proofs.advance.fallen.Statement.{statement}
 use Rattle.search.proofs.advance.fallen.Tie as tie
-use Rattle.search.proofs.advance.fallen.Reads as reads
-use Rattle.search.proofs.advance.fallen.Lts as lts
-use Rattle.search.proofs.advance.shows.Reads as shows-reads
-use Rattle.trials.proofs.policy.raised_all.Reads as raised-all-reads
-
--- src/advance.rt:98:9
-returns : tie.Need-returns
-returns c = let p = c .before .before .pre in fallen-none (reraised-refl (p .0)) (p .1)
-
--- src/advance.rt:101:9
-returns-2 : tie.Need-returns-2
-returns-2 c = let p = c .before .before .before .before .pre in fallen-none (reraised-refl (p .0)) (p .1)
-
--- src/advance.rt:103:9
-shows-requires : tie.Need-shows-requires
-shows-requires c κs = let start = c .before .before .before .before .before in let p = start .pre in (p .0, p .3, inside-trialled (start .args .search) (p .1 .numbers) (start .args .found .span) (omega (arith, c .before .before .before .if1 .left)) (omega (arith, c .before .if2 .left)))
-
--- src/advance.rt:104:9
-returns-3 : tie.Need-returns-3
-returns-3 c = let p = c .before .before .before .before .before .before .before .pre in fallen-none (c .before .shows .ensures .raised) (p .1)
-
--- src/advance.rt:107:9
-raised-all-requires : tie.Need-raised-all-requires
-raised-all-requires c κs = search needs
-
--- src/advance.rt:86:1
-returns-4 : tie.Need-returns-4
-returns-4 c = let start = c .before .before .before .before .before .before .before .before .before .before in let a = start .args in let p = start .pre in let s = c .before .before .before .before .shows .ensures in
-    rw (c .raised-all .ensures) (fallen-to (a .search) (a .found .span) _ (s .raised) (p .1) (omega (arith, c .before .before .before .before .before .before .before .before .if1 .left)) (omega (arith, c .before .before .before .before .before .before .if2 .left)) (stamps-ranged (p .3)) (stamps-anchored (p .3)) (s .yes (not-false _ (c .before .before .before .if3 .left))))
 
 pub fallen-spec : {M : Type 1} → statement M
 fallen-spec =
-    tie.close (tie.spec returns returns-2 shows-requires returns-3 raised-all-requires returns-4)
+    tie.close (tie.spec
+    (λ c. let p = c .before .before .pre in fallen-none (reraised-refl (p .0)) (p .1))
+    (λ c. let p = c .before .before .before .before .pre in fallen-none (reraised-refl (p .0)) (p .1))
+    (λ c κs. let start = c .before .before .before .before .before in let p = start .pre in (p .0, p .3, inside-trialled (start .args .search) (p .1 .numbers) (start .args .found .span) (omega (arith, c .before .before .before .if1 .left)) (omega (arith, c .before .if2 .left))))
+    (λ c. let p = c .before .before .before .before .before .before .before .pre in fallen-none (c .before .shows .ensures .raised) (p .1))
+    (λ c κs. search needs)
+    (λ c. let start = c .before .before .before .before .before .before .before .before .before .before in let a = start .args in let p = start .pre in let s = c .before .before .before .before .shows .ensures in
+    rw (c .raised-all .ensures) (fallen-to (a .search) (a .found .span) _ (s .raised) (p .1) (omega (arith, c .before .before .before .before .before .before .before .before .if1 .left)) (omega (arith, c .before .before .before .before .before .before .if2 .left)) (stamps-ranged (p .3)) (stamps-anchored (p .3)) (s .yes (not-false _ (c .before .before .before .if3 .left))))))

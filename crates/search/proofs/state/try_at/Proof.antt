@@ -6,39 +6,16 @@ use native.Mathlib.Omega.{arith}
 use borrow.Author.Needs.{needs}
 use Rattle.search.proofs.state.try_at.Statement.{statement}
 use Rattle.search.proofs.state.try_at.Tie as tie
-use Rattle.search.proofs.state.try_at.Reads as reads
-use Rattle.search.proofs.state.try_at.Lts as lts
-use Rattle.frames.proofs.frame.raise.Reads as raise-reads
-use Rattle.search.proofs.state.moved.Reads as moved-reads
-use Rattle.trials.proofs.policy.trial.Reads as trial-reads
-
--- src/state.rt:96:16
-add-rows : tie.Need-add-rows
-add-rows c = search needs
-
--- src/state.rt:101:5
-raise-requires : tie.Need-raise-requires
-raise-requires c κs = search needs
-
--- src/state.rt:102:59
-add-trial : tie.Need-add-trial
-add-trial c = search needs
-
--- src/state.rt:102:9
-trial-requires : tie.Need-trial-requires
-trial-requires c κs = let start = c .before .before .before .before .before .before .before .before .before .before .before .before in let a = start .args in let p = start .pre in let r = c .before .before .before .before .raise in
-    let b = inside-trialled (a .search) (p .1 .numbers) (a .t) (p .2 .above) (p .2 .below) in
-    (raised-ready (a .frame) (a .t) (a .left .now) (a .right .now) (r .last .0) (p .0) b (r .ensures) .tables, trial-asked (a .frame) (a .t) (a .left .now) (a .right .now) (r .last .0) (a .search .kept) (p .0) b (r .ensures) (λ q h. p .1 .known q h .kept (a .t) (omega (arith, p .2 .below))), p .0 .left-ends, raised-ends (a .frame) (a .t) (a .left .now) (a .right .now) (r .last .0) (p .0) (r .ensures))
-
--- src/state.rt:103:5
-moved-requires : tie.Need-moved-requires
-moved-requires c κs = search needs
-
--- src/state.rt:86:1
-returns : tie.Need-returns
-returns c = let start = c .before .before .before .before .before .before .before .before .before .before .before .before .before .before in let a = start .args in let p = start .pre in let r = c .before .before .before .before .before .before .raise in let t = c .before .trial in
-    trial-made (a .frame) (a .t) (a .left .now) (a .right .now) (r .last .0) (t .result .values) (t .result .picks) (a .search) (p .0) (p .1) (p .2) (r .ensures) (t .ensures) (c .moved .result) (c .moved .ensures)
 
 pub try-at-spec : {M : Type 1} → statement M
 try-at-spec =
-    tie.close (tie.spec add-rows raise-requires add-trial trial-requires moved-requires returns)
+    tie.close (tie.spec
+    (λ c. search needs)
+    (λ c κs. search needs)
+    (λ c. search needs)
+    (λ c κs. let start = c .before .before .before .before .before .before .before .before .before .before .before .before in let a = start .args in let p = start .pre in let r = c .before .before .before .before .raise in
+    let b = inside-trialled (a .search) (p .1 .numbers) (a .t) (p .2 .above) (p .2 .below) in
+    (raised-ready (a .frame) (a .t) (a .left .now) (a .right .now) (r .last .0) (p .0) b (r .ensures) .tables, trial-asked (a .frame) (a .t) (a .left .now) (a .right .now) (r .last .0) (a .search .kept) (p .0) b (r .ensures) (λ q h. p .1 .known q h .kept (a .t) (omega (arith, p .2 .below))), p .0 .left-ends, raised-ends (a .frame) (a .t) (a .left .now) (a .right .now) (r .last .0) (p .0) (r .ensures)))
+    (λ c κs. search needs)
+    (λ c. let start = c .before .before .before .before .before .before .before .before .before .before .before .before .before .before in let a = start .args in let p = start .pre in let r = c .before .before .before .before .before .before .raise in let t = c .before .trial in
+    trial-made (a .frame) (a .t) (a .left .now) (a .right .now) (r .last .0) (t .result .values) (t .result .picks) (a .search) (p .0) (p .1) (p .2) (r .ensures) (t .ensures) (c .moved .result) (c .moved .ensures)))
