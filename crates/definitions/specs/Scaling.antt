@@ -1,6 +1,6 @@
 -- Parts of a minute gain nothing. Document 02, 2.12: for every whole d of 1 or more, multiplying every lead of a problem by d
 -- leaves its class and multiplies its least span by exactly d. With d = 2 the scaled problem is the same one told in half
--- minutes: its plans are the plans in half minutes, its spans are spans in half minutes.
+-- minutes: read its leads, plans and spans as numbers of half minutes.
 use Prim.Native.Nat.{ℕ, _≤_}
 use mathlib.Core.Path.{_≡_}
 use mathlib.Core.Logic.{_↔_}
@@ -38,14 +38,15 @@ pub record GainsNothing (d : ℕ) (p q : Problem) : Type 0 where
   pub bottomless-exactly : Unbounded p ↔ Unbounded q
   pub none-exactly : Infeasible p ↔ Infeasible q
 
--- A record t of the same n and m, each of whose leads is d times the lead there in the record s.
+-- Strings of bytes s and t, read as problem records of the same n and m (whatever refusals apply to them): each lead of t is d
+-- times the lead there in s.
 pub record ScaledRecord (d : ℕ) (s t : List ℕ) : Type 0 where
   pub same-n : nField t ≡ nField s
   pub same-m : mField t ≡ mField s
   pub leads : leadsOf t ≡ map (times d) (leadsOf s)
 
--- Request 2.12: it holds of the definitions, with leads unlimited, so for every problem that the records can carry; where a
--- record can carry the scaled problem too, it holds of the two records.
+-- Request 2.12: it holds of the definitions, with leads unlimited, so for every problem that the records can carry (it is
+-- `every-problem` of that problem); where bytes can carry the scaled problem too, it holds of the two (`every-record`).
 pub record PartsGainNothing : Type 0 where
   pub every-problem : (d : ℕ) (p : Problem) → 1 ≤ d → GainsNothing d p (scaled d p)
   pub every-record : (d : ℕ) (s t : List ℕ) → 1 ≤ d → ScaledRecord d s t → GainsNothing d (problemOf s) (problemOf t)
