@@ -8,11 +8,11 @@ use lib.IntN.{ℤ}
 use Rattle.definitions.specs.Limits.{signed-half}
 use Rattle.definitions.specs.Week.{Admits}
 use Rattle.definitions.proofs.Whole.{abs-read, nat-le-or-lt}
-use Rattle.week.specs.Lookup.{minuteOf, admissionOf}
-use Rattle.week.specs.declared.lookup.Admission.{Admission}
-use Rattle.week.specs.declared.lookup.Admission.the-variants.{At, Never, Refused}
-use Rattle.week.proofs.Minutes.{minute-read, minute-before, minute-from}
-use Rattle.week.proofs.OpeningHours.{answer-near, admits-unique}
+use Rattle.opening_hours.specs.Lookup.{minuteOf, admissionOf}
+use Rattle.opening_hours.specs.declared.lookup.Admission.{Admission}
+use Rattle.opening_hours.specs.declared.lookup.Admission.the-variants.{At, Never, Refused}
+use Rattle.opening_hours.proofs.Minutes.{minute-read, minute-before, minute-from}
+use Rattle.opening_hours.proofs.OpeningHours.{answer-near, admits-unique}
 use Rattle.capi.specs.Numbers.{low-half}
 use Rattle.capi.specs.Opening.{offsetOf, admissionNumber, AdmitsAs, SmallMinute}
 

@@ -18,10 +18,10 @@ use Rattle.definitions.specs.Solved.{Solves}
 use Rattle.definitions.proofs.Offset.{within-iff}
 use Rattle.definitions.proofs.Refusals.{or-else-none, answer-fits, writer-fits}
 use Rattle.definitions.proofs.RoundTrip.{class-most, span-within, size-most}
-use Rattle.writing.specs.declared.writer.Written.{Written}
-use Rattle.writing.specs.declared.writer.Written.the-variants as Results
-use Rattle.writing.specs.AnswerWriting.{AnswerWritten, writtenOf}
-use Rattle.writing.proofs.Trips.{record-by}
+use Rattle.answer_writer.specs.declared.writer.Written.{Written}
+use Rattle.answer_writer.specs.declared.writer.Written.the-variants as Results
+use Rattle.answer_writer.specs.AnswerWriting.{AnswerWritten, writtenOf}
+use Rattle.answer_writer.proofs.Trips.{record-by}
 use Rattle.engine.specs.declared.solve.Solved.{Solved}
 use Rattle.engine.specs.declared.solve.Solved.the-variants as Solutions
 use Rattle.engine.specs.Outcome.{solvedOf}

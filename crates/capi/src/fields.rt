@@ -4,13 +4,13 @@ ghost use mathlib.Core.List.{List};
 ghost use Prim.Native.Nat.{ℕ, _≤_, _<_};
 ghost use lib.ListN.{length};
 ghost use Rattle.definitions.specs.Bytes.{put};
-ghost use Rattle.answers.specs.Fields.{fieldsOf};
-ghost use Rattle.writing.specs.AnswerWriting.{writtenOf};
+ghost use Rattle.answer_reader.specs.Fields.{fieldsOf};
+ghost use Rattle.answer_writer.specs.AnswerWriting.{writtenOf};
 ghost use Rattle.capi.specs.Numbers.{WritesAs, SmallRecord, ReadsAs, PlacesAs, writtenNumber, low-byte, low-half, fieldsNumber};
-use answers::answer::AnswerHead;
-use answers::answer::read_answer;
-use writing::writer::Written;
-use writing::writer::write_answer;
+use answer_reader::answer::AnswerHead;
+use answer_reader::answer::read_answer;
+use answer_writer::writer::Written;
+use answer_writer::writer::write_answer;
 
 // What `span_read` is lent for stamps and for picks, and its result where that is fewer.
 const STAMP_PLACES: usize = 32;

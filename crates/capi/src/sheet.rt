@@ -1,12 +1,12 @@
 // The reader and the writer of hours and minutes over lent bytes, with results as one number.
 ghost use mathlib.Core.Path.{_≡_};
 ghost use Rattle.definitions.specs.Offset.{tropOf};
-ghost use Rattle.hours.specs.Outcome.{readingOf, writingOf};
+ghost use Rattle.hour_texts.specs.Outcome.{readingOf, writingOf};
 ghost use Rattle.capi.specs.HoursNumbers.{HoursNumbered, ReadsHoursAs, SmallValue, writingNumber, WritesHoursAs, SmallText};
-use hours::reader::Read;
-use hours::reader::read_hours;
-use hours::writer::Written;
-use hours::writer::write_hours;
+use hour_texts::reader::Read;
+use hour_texts::reader::read_hours;
+use hour_texts::writer::Written;
+use hour_texts::writer::write_hours;
 
 // 2³² × the value's offset number where read, else the refusal.
 fn read_number(read: Read) -> u64

@@ -21,10 +21,10 @@ use Rattle.duality.specs.Picks.{NoneAbove, AtLeastZero}
 use Rattle.duality.specs.Within.{Within}
 use Rattle.duality.proofs.Numbers.{infeasible-below, below-infeasible, unbounded-above, above-unbounded, top-enough}
 use Rattle.records.specs.Decoded.{Near}
-use Rattle.walks.specs.Decides.{Decides}
-use Rattle.walks.specs.Tables.{Holds, Picked, Trial, stampsPoint}
+use Rattle.closed_walks.specs.Decides.{Decides}
+use Rattle.closed_walks.specs.Tables.{Holds, Picked, Trial, stampsPoint}
 use Rattle.checker.specs.Outcome.{Span, Meant}
-use Rattle.walks.proofs.Decides.{said-no, decides-as}
+use Rattle.closed_walks.proofs.Decides.{said-no, decides-as}
 
 -- ---- problems in the tables are small
 

@@ -19,13 +19,13 @@ use Rattle.definitions.proofs.Bytes.{all-true, length-numsAt}
 use Rattle.definitions.proofs.Offset.{zero-offset, whole-offset}
 use Rattle.definitions.proofs.Refusals.{AnswerFits, answer-fits}
 use Rattle.definitions.proofs.RoundTrip.{stamps-within}
-use Rattle.answers.specs.declared.answer.AnswerHead.{AnswerHead}
-use Rattle.answers.specs.declared.answer.AnswerHead.the-variants as Heads
+use Rattle.answer_reader.specs.declared.answer.AnswerHead.{AnswerHead}
+use Rattle.answer_reader.specs.declared.answer.AnswerHead.the-variants as Heads
 use Rattle.records.specs.Decoded.{Near}
-use Rattle.answers.specs.AnswerReading.{headOf, AnswerRead}
+use Rattle.answer_reader.specs.AnswerReading.{headOf, AnswerRead}
 use Rattle.records.proofs.Near.{near-within}
-use Rattle.answers.proofs.Heads.{fields-by}
-use Rattle.answers.proofs.Meaning.{stamps-point, picks-strategy}
+use Rattle.answer_reader.proofs.Heads.{fields-by}
+use Rattle.answer_reader.proofs.Meaning.{stamps-point, picks-strategy}
 use Rattle.checker.specs.Outcome.{Span, Meant, Formed}
 
 -- ---- what the reader answers

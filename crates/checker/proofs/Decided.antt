@@ -29,31 +29,31 @@ use Rattle.definitions.proofs.Refusals.{answer-fits}
 use Rattle.duality.specs.Picks.{AtLeastZero}
 use Rattle.duality.specs.Values.{valueAt}
 use Rattle.duality.proofs.Longest.{exit-value, stable-potential, still-stable, potential-closed}
-use Rattle.leads.specs.Tables.{leftTable, rightTable}
-use Rattle.answers.specs.Fields.{Padded, stampsOf, picksOf}
-use Rattle.answers.specs.declared.answer.AnswerHead.the-variants as Heads
-use Rattle.answers.specs.AnswerReading.{spanNumber, AnswerRead}
-use Rattle.answers.proofs.Heads.{head-fields}
-use Rattle.answers.proofs.Judging.{span-meant}
-use Rattle.leads.proofs.Tables.{length-listOf, getD-listOf}
-use Rattle.answers.proofs.Passing.{stampsAt-length, picksAt-length}
-use Rattle.answers.proofs.ByClass.{stamps-most, picks-most}
+use Rattle.problem_records.specs.Tables.{leftTable, rightTable}
+use Rattle.answer_reader.specs.Fields.{Padded, stampsOf, picksOf}
+use Rattle.answer_reader.specs.declared.answer.AnswerHead.the-variants as Heads
+use Rattle.answer_reader.specs.AnswerReading.{spanNumber, AnswerRead}
+use Rattle.answer_reader.proofs.Heads.{head-fields}
+use Rattle.answer_reader.proofs.Judging.{span-meant}
+use Rattle.problem_records.proofs.Tables.{length-listOf, getD-listOf}
+use Rattle.answer_reader.proofs.Passing.{stampsAt-length, picksAt-length}
+use Rattle.answer_reader.proofs.ByClass.{stamps-most, picks-most}
 use Rattle.reach.proofs.Marks.{anchor-marked}
 use Rattle.reach.proofs.Existence.{MarksOf, reach-exists}
-use Rattle.walks.specs.Decides.{Decides}
-use Rattle.walks.specs.Gains.{matrix, anywhere, Table, NoneGains, Tested}
-use Rattle.walks.specs.Tables.{Sized, Holds, Picked, Trial, stampsPoint}
-use Rattle.walks.specs.Arcs.{variableArc, VariableArcs, heaviest, RowArcs}
-use Rattle.certificates.specs.Counts.{PickCounts, RowPickCounts, VariablesCount, RowsCount}
+use Rattle.closed_walks.specs.Decides.{Decides}
+use Rattle.closed_walks.specs.Gains.{matrix, anywhere, Table, NoneGains, Tested}
+use Rattle.closed_walks.specs.Tables.{Sized, Holds, Picked, Trial, stampsPoint}
+use Rattle.closed_walks.specs.Arcs.{variableArc, VariableArcs, heaviest, RowArcs}
+use Rattle.strategy_tests.specs.Counts.{PickCounts, RowPickCounts, VariablesCount, RowsCount}
 use Rattle.checker.specs.Outcome.{Meant, Formed}
-use Rattle.walks.proofs.Decides.{said-yes, said-no}
-use Rattle.walks.proofs.ClosedWalks.{all-or-gain}
-use Rattle.certificates.proofs.Variables.{variables-table, variables-not, variables-both}
-use Rattle.certificates.proofs.RowStrategy.{rows-table, rows-not, rows-both}
+use Rattle.closed_walks.proofs.Decides.{said-yes, said-no}
+use Rattle.closed_walks.proofs.ClosedWalks.{all-or-gain}
+use Rattle.strategy_tests.proofs.Variables.{variables-table, variables-not, variables-both}
+use Rattle.strategy_tests.proofs.RowStrategy.{rows-table, rows-not, rows-both}
 use Rattle.checker.proofs.Acceptance.{trial-below, optimal-broken, optimal-other, optimal-picks, trial-below-is, top-trial, top-trial-is, lowest-trial, lowest-trial-is, infeasible-at, unbounded-at, by-optimal, by-unbounded, by-infeasible, highest-row, highest-variable, class-other}
 use Rattle.checker.proofs.Answers.{HeadRead, read-means, read-formed}
-use Rattle.walks.proofs.Holding.{holds-sized}
-use Rattle.leads.proofs.LeadTables.{problem-decoded}
+use Rattle.closed_walks.proofs.Holding.{holds-sized}
+use Rattle.problem_records.proofs.LeadTables.{problem-decoded}
 
 -- P holds or not, with the answer as a Boolean.
 pub record Decided (P : Type 0) : Type 0 where

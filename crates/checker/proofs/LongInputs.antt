@@ -23,10 +23,10 @@ use Rattle.definitions.proofs.RoundTrip.{size-most}
 use Rattle.definitions.proofs.Outcomes.{outcome-gives, outcome-refusal}
 use Rattle.records.specs.declared.problem.Header.{Header}
 use Rattle.records.specs.declared.problem.Header.the-variants as Headers
-use Rattle.answers.specs.declared.answer.AnswerHead.{AnswerHead}
-use Rattle.answers.specs.declared.answer.AnswerHead.the-variants as Heads
+use Rattle.answer_reader.specs.declared.answer.AnswerHead.{AnswerHead}
+use Rattle.answer_reader.specs.declared.answer.AnswerHead.the-variants as Heads
 use Rattle.records.specs.ProblemHeader.{problemRefused, headerOf}
-use Rattle.answers.specs.AnswerReading.{headOf}
+use Rattle.answer_reader.specs.AnswerReading.{headOf}
 use Rattle.records.proofs.ProblemHeader.{header-fits, header-refuses, product-most}
 use Rattle.checker.specs.Outcome.{answerRefused}
 use Rattle.checker.specs.LongInput.{Longer}

@@ -23,7 +23,7 @@ use Rattle.definitions.proofs.Whole.{whole, plus-read, nat-le-or-lt}
 use Rattle.definitions.proofs.Tropical.{fin-injective, bot-not-fin, not-finite-bot}
 use Rattle.duality.specs.Picks.{NoneAbove, AtLeastZero}
 use Rattle.duality.proofs.Numbers.{below-infeasible, above-unbounded}
-use Rattle.certificates.proofs.Certified.{Scale, strict, loose, strict-scale, loose-scale}
+use Rattle.strategy_tests.proofs.Certified.{Scale, strict, loose, strict-scale, loose-scale}
 use Rattle.checker.proofs.Accepting.{layout-within, layout-enough}
 use Rattle.checker.proofs.Holding.{picks-above}
 

@@ -25,7 +25,7 @@ use Rattle.checker.specs.ClassHolds.{ClassHolds}
 use Rattle.checker.proofs.Judgement.{judged-unique, all-bytes}
 use Rattle.checker.proofs.Holding.{accepted-holds}
 use Rattle.checker.proofs.Demand3.{least-exactly}
-use Rattle.certificates.proofs.Certified.{strict, loose}
+use Rattle.strategy_tests.proofs.Certified.{strict, loose}
 use Rattle.checker.proofs.Potentials.{every, atMost, sameWhole, isWhole, isValue, finite?, falls, leftFalls, pickFalls, variableFalls, variablesFall, rises, rowPick, rowLeft, variableRises, variablesRise, leastTested, tested, tested-accepted}
 
 -- P holds of each example of a list.

@@ -15,14 +15,14 @@ use Rattle.definitions.specs.AnswerRecord.{classField, spanField, answerRefusal
 use Rattle.definitions.specs.Verdict.{Verdict, accepted, refused, Accepted, checkRefusal, not-certified, Judged, turned-away, certified, uncertified}
 use Rattle.records.specs.declared.problem.Header.{Header}
 use Rattle.records.specs.declared.problem.Header.the-variants as Headers
-use Rattle.answers.specs.declared.answer.AnswerHead.{AnswerHead}
-use Rattle.answers.specs.declared.answer.AnswerHead.the-variants as Heads
+use Rattle.answer_reader.specs.declared.answer.AnswerHead.{AnswerHead}
+use Rattle.answer_reader.specs.declared.answer.AnswerHead.the-variants as Heads
 use Rattle.records.specs.ProblemHeader.{headerOf, problemRefused}
 use Rattle.records.proofs.ProblemHeader.{answer-fields, answer-refused}
-use Rattle.answers.specs.AnswerReading.{headOf}
-use Rattle.answers.proofs.Heads.{refused-by}
+use Rattle.answer_reader.specs.AnswerReading.{headOf}
+use Rattle.answer_reader.proofs.Heads.{refused-by}
 use Rattle.checker.specs.Outcome as Judging
-use Rattle.walks.specs.Decides.{Decides}
+use Rattle.closed_walks.specs.Decides.{Decides}
 use Rattle.checker.specs.Outcome.{answerRefused, Meant, Answered}
 use Rattle.checker.proofs.Answers.{HeadRead}
 

@@ -10,24 +10,24 @@ ghost use Rattle.definitions.specs.ProblemRecord.{problemOf};
 ghost use Rattle.definitions.specs.AnswerRecord.{Answer, highestPick};
 ghost use Rattle.definitions.specs.Certificate.{AcceptedOptimal, AcceptedUnbounded};
 ghost use Rattle.definitions.specs.Verdict.{Accepted, Judged, strategyOf};
-ghost use Rattle.leads.specs.Tables.{Laid};
-ghost use Rattle.walks.specs.Decides.{Decides};
-ghost use Rattle.walks.specs.Tables.{Stamped, Picked, stampsPoint};
+ghost use Rattle.problem_records.specs.Tables.{Laid};
+ghost use Rattle.closed_walks.specs.Decides.{Decides};
+ghost use Rattle.closed_walks.specs.Tables.{Stamped, Picked, stampsPoint};
 ghost use Rattle.checker.specs.Outcome.{verdictOf, answerRefused, Span, Meant, Formed, Answered};
-use answers::answer::AnswerHead;
-use answers::answer::read_answer;
-use answers::limits::SPAN_LIMIT;
-use certificates::certify::certify_rows;
-use certificates::certify::certify_variables;
-use leads::reader::judge_problem;
-use leads::reader::read_tables;
-use points::keeps_rules;
-use points::value_is;
+use answer_reader::answer::AnswerHead;
+use answer_reader::answer::read_answer;
+use answer_reader::limits::SPAN_LIMIT;
+use plan_tests::keeps_rules;
+use plan_tests::value_is;
+use problem_records::reader::judge_problem;
+use problem_records::reader::read_tables;
 use records::limits::NOT_CERTIFIED;
 use records::limits::OFFSET;
 use records::limits::TABLE;
 use records::problem::Header;
 use records::problem::problem_refusal;
+use strategy_tests::certify::certify_rows;
+use strategy_tests::certify::certify_variables;
 
 // What the checker answers: accepted, with class and the span's offset number, or refused, with the number.
 pub enum Verdict {

@@ -20,20 +20,20 @@ use Rattle.definitions.proofs.Outcomes.{outcome-none}
 use Rattle.definitions.proofs.Solved.{answers-taken}
 use Rattle.records.specs.declared.problem.Header.{Header}
 use Rattle.records.specs.declared.problem.Header.the-variants as Headers
-use Rattle.writing.specs.declared.writer.Written.{Written}
-use Rattle.writing.specs.declared.writer.Written.the-variants as Writes
+use Rattle.answer_writer.specs.declared.writer.Written.{Written}
+use Rattle.answer_writer.specs.declared.writer.Written.the-variants as Writes
 use Rattle.records.specs.Decoded.{Decoded}
-use Rattle.leads.specs.Tables.{leftTable, rightTable, ProblemRead}
+use Rattle.problem_records.specs.Tables.{leftTable, rightTable, ProblemRead}
 use Rattle.records.specs.ProblemHeader.{headerOf, problemRefused}
-use Rattle.answers.specs.Fields.{fieldsOf}
-use Rattle.writing.specs.AnswerWriting.{AnswerWritten, writtenOf, unlessRefused}
-use Rattle.leads.proofs.LeadTables.{problem-decoded}
+use Rattle.answer_reader.specs.Fields.{fieldsOf}
+use Rattle.answer_writer.specs.AnswerWriting.{AnswerWritten, writtenOf, unlessRefused}
+use Rattle.problem_records.proofs.LeadTables.{problem-decoded}
 use Rattle.records.proofs.ProblemHeader.{answer-fields, answer-refused}
 use Rattle.engine.specs.declared.solve.Solved.{Solved}
 use Rattle.engine.specs.declared.solve.Solved.the-variants as Results′
-use Rattle.classes.specs.Answered.{answerIn}
-use Rattle.frames.specs.Frames.{Coefficients}
-use Rattle.classes.specs.Answered as Tables
+use Rattle.class_answers.specs.Answered.{answerIn}
+use Rattle.trial_tables.specs.Frames.{Coefficients}
+use Rattle.class_answers.specs.Answered as Tables
 use Rattle.engine.specs.Outcome.{solvedOf, FoundFor, WroteFor, TrialsMade}
 
 -- ---- writing what was found

@@ -1,7 +1,7 @@
 // How many trials the engine makes, for whoever tests it: the result of `solve` carries document 01's count, by its definition.
 ghost use Rattle.engine.specs.Outcome.{TrialsMade};
-use classes::answer::solve_tables;
-use leads::reader::read_problem;
+use class_answers::answer::solve_tables;
+use problem_records::reader::read_problem;
 use records::problem::Header;
 
 // The trials made for the problem in the bytes, 0 where it is refused.

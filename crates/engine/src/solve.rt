@@ -5,16 +5,16 @@ ghost use lib.ListN.{length};
 ghost use Rattle.definitions.specs.Limits.{answer-most};
 ghost use Rattle.definitions.specs.Solved.{Solves};
 ghost use Rattle.engine.specs.Outcome.{solvedOf, FoundFor, WroteFor};
-use answers::class::pick_count;
-use answers::class::stamp_count;
-use classes::answer::Answer;
-use classes::answer::solve_tables;
-use leads::reader::read_problem;
+use answer_reader::class::pick_count;
+use answer_reader::class::stamp_count;
+use answer_writer::limits::ANSWER_MOST;
+use answer_writer::writer::Written;
+use answer_writer::writer::write_answer;
+use class_answers::answer::Answer;
+use class_answers::answer::solve_tables;
+use problem_records::reader::read_problem;
 use records::problem::Header;
 use records::problem::problem_refusal;
-use writing::limits::ANSWER_MOST;
-use writing::writer::Written;
-use writing::writer::write_answer;
 
 // What the engine answers: refused with the number, or answered with class, the span's offset number, trials and the
 // record's length.

@@ -17,14 +17,14 @@ use Rattle.records.specs.declared.problem.Header.{Header}
 use Rattle.records.specs.declared.problem.Header.the-variants as Headers
 use Rattle.records.specs.ProblemHeader.{headerOf}
 use Rattle.records.proofs.ProblemHeader.{answer-fields, answer-refused}
-use Rattle.answers.specs.declared.answer.AnswerHead.{AnswerHead}
-use Rattle.answers.specs.declared.answer.AnswerHead.the-variants as Heads
-use Rattle.answers.specs.Fields.{fieldsOf}
-use Rattle.answers.specs.AnswerReading.{headOf}
-use Rattle.answers.proofs.Heads.{fields-by, refused-by}
-use Rattle.leads.proofs.LeadTables.{problem-decoded}
-use Rattle.writing.specs.AnswerWriting.{AnswerWritten, writtenOf, unlessRefused}
-use Rattle.writing.proofs.Trips.{counted}
+use Rattle.answer_reader.specs.declared.answer.AnswerHead.{AnswerHead}
+use Rattle.answer_reader.specs.declared.answer.AnswerHead.the-variants as Heads
+use Rattle.answer_reader.specs.Fields.{fieldsOf}
+use Rattle.answer_reader.specs.AnswerReading.{headOf}
+use Rattle.answer_reader.proofs.Heads.{fields-by, refused-by}
+use Rattle.problem_records.proofs.LeadTables.{problem-decoded}
+use Rattle.answer_writer.specs.AnswerWriting.{AnswerWritten, writtenOf, unlessRefused}
+use Rattle.answer_writer.proofs.Trips.{counted}
 use Rattle.engine.specs.Outcome.{solvedOf}
 use Rattle.checker.specs.Outcome.{verdictOf}
 use Rattle.guarantees.specs.Entries as Entries

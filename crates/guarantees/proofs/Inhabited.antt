@@ -30,17 +30,17 @@ use Rattle.records.specs.declared.problem.Header.{Header}
 use Rattle.records.specs.declared.problem.Header.the-variants as Headers
 use Rattle.records.specs.ProblemHeader.{headerOf, problemRefused}
 use Rattle.records.proofs.ProblemHeader.{header-fits, product-most}
-use Rattle.leads.specs.Tables.{leftTable, rightTable}
-use Rattle.answers.specs.declared.answer.AnswerHead.{AnswerHead}
-use Rattle.answers.specs.declared.answer.AnswerHead.the-variants as Heads
-use Rattle.answers.specs.Fields.{fieldsOf, stampsOf, picksOf}
-use Rattle.answers.specs.AnswerReading.{headOf, spanNumber}
-use Rattle.answers.proofs.Judging.{span-meant}
-use Rattle.answers.proofs.Passing.{stampsAt-length, picksAt-length}
-use Rattle.answers.proofs.ByClass.{stamps-most, picks-most}
-use Rattle.writing.specs.declared.writer.Written.{Written}
-use Rattle.writing.specs.declared.writer.Written.the-variants as Writes
-use Rattle.writing.specs.AnswerWriting.{writtenOf, unlessRefused}
+use Rattle.problem_records.specs.Tables.{leftTable, rightTable}
+use Rattle.answer_reader.specs.declared.answer.AnswerHead.{AnswerHead}
+use Rattle.answer_reader.specs.declared.answer.AnswerHead.the-variants as Heads
+use Rattle.answer_reader.specs.Fields.{fieldsOf, stampsOf, picksOf}
+use Rattle.answer_reader.specs.AnswerReading.{headOf, spanNumber}
+use Rattle.answer_reader.proofs.Judging.{span-meant}
+use Rattle.answer_reader.proofs.Passing.{stampsAt-length, picksAt-length}
+use Rattle.answer_reader.proofs.ByClass.{stamps-most, picks-most}
+use Rattle.answer_writer.specs.declared.writer.Written.{Written}
+use Rattle.answer_writer.specs.declared.writer.Written.the-variants as Writes
+use Rattle.answer_writer.specs.AnswerWriting.{writtenOf, unlessRefused}
 use Rattle.engine.specs.declared.solve.Solved.{Solved}
 use Rattle.engine.specs.declared.solve.Solved.the-variants as Solutions
 use Rattle.engine.specs.Outcome.{solvedOf}

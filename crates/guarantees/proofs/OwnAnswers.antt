@@ -24,10 +24,10 @@ use Rattle.records.specs.declared.problem.Header.{Header}
 use Rattle.records.specs.declared.problem.Header.the-variants as Headers
 use Rattle.records.specs.ProblemHeader.{headerOf}
 use Rattle.records.proofs.ProblemHeader.{header-fits, header-refuses}
-use Rattle.answers.specs.declared.answer.AnswerHead.{AnswerHead}
-use Rattle.answers.specs.declared.answer.AnswerHead.the-variants as Heads
-use Rattle.answers.specs.AnswerReading.{headOf, AnswerRead}
-use Rattle.answers.proofs.Meaning.{stamps-point, picks-strategy}
+use Rattle.answer_reader.specs.declared.answer.AnswerHead.{AnswerHead}
+use Rattle.answer_reader.specs.declared.answer.AnswerHead.the-variants as Heads
+use Rattle.answer_reader.specs.AnswerReading.{headOf, AnswerRead}
+use Rattle.answer_reader.proofs.Meaning.{stamps-point, picks-strategy}
 use Rattle.engine.specs.declared.solve.Solved as Declared
 use Rattle.engine.specs.declared.solve.Solved.the-variants.{Refused, Answered}
 use Rattle.engine.specs.Outcome.{solvedOf}

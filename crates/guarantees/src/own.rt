@@ -1,11 +1,11 @@
 // The engine's own answers: what the checker says of them, and what the reader gives. The bytes that are judged and read
 // are those that the engine wrote.
 ghost use Rattle.definitions.specs.ProblemRecord.{WithinLayout, nField, mField};
-ghost use Rattle.answers.specs.AnswerReading.{headOf, AnswerRead};
+ghost use Rattle.answer_reader.specs.AnswerReading.{headOf, AnswerRead};
 ghost use Rattle.guarantees.specs.OwnAnswers.{OwnVerdict, OwnReading};
 ghost use Rattle.checker.specs.Outcome.{verdictOf};
-use answers::answer::AnswerHead;
-use answers::answer::read_answer;
+use answer_reader::answer::AnswerHead;
+use answer_reader::answer::read_answer;
 use checker::check::Verdict;
 use checker::check::check;
 use engine::solve::Solved;

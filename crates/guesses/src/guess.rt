@@ -5,16 +5,16 @@ ghost use Prim.Native.Nat.{ℕ, _+_, _<_, _≤_};
 ghost use Rattle.definitions.specs.Limits.{lead-limit};
 ghost use Rattle.records.specs.Decoded.{Near};
 ghost use Rattle.trials.specs.Tables.{raised-limit, value-limit, side-most, side-least, high, Table, Ranged, Lows};
-ghost use Rattle.frames.specs.Frames.{Ready};
+ghost use Rattle.trial_tables.specs.Frames.{Ready};
 ghost use Rattle.guesses.specs.Guess.{StampIs, Joined, Stamped, Guessed};
 use crate::heights::in_range;
 use crate::heights::lowered;
 use crate::heights::risen;
 use crate::heights::target;
 use crate::heights::targets_of;
-use answers::limits::STAMP_LIMIT;
-use frames::frame::Frame;
+use answer_reader::limits::STAMP_LIMIT;
 use records::limits::OFFSET;
+use trial_tables::frame::Frame;
 use trials::policy::raised;
 use trials::values::LOW;
 use trials::values::full_side;
@@ -182,7 +182,7 @@ fn start_of(right: &[u32; 2048], row: usize, x: &[u32; 32], width: usize) -> usi
     target(right, row, x, best, 0)
 }
 
-// The least span with the targets of a point, and a point for it. Public for `search::advance`.
+// The least span with the targets of a point, and a point for it. Public for `least_span::advance`.
 pub fn guess_at(left: &[u32; 2048], right: &[u32; 2048], frame: Frame, point: &[u64; 32]) -> Guess
     requires { ⌜ Ready frame (now left) (now right) × Ranged (now point) ⌝ }
     ensures { λ r. ⌜ Guessed (frame .n + 1) r ⌝ }

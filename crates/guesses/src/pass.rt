@@ -4,7 +4,7 @@ ghost use Rattle.trials.specs.Tables.{systemOf, pointOf, highs, Lows, Tables};
 ghost use Rattle.guesses.specs.Guess.{Stand};
 use trials::values::side;
 
-// Every row stands at the point: its left side is at most its right side. Public for `search::advance`.
+// Every row stands at the point: its left side is at most its right side. Public for `least_span::advance`.
 pub fn rows_stand(
     left: &[u32; 2048],
     right: &[u32; 2048],

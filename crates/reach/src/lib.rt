@@ -9,7 +9,7 @@ use records::limits::STRIDE;
 // The elements of a table of arcs.
 pub const ARCS: usize = 1024;
 
-// The start of document 01: variable 0, the anchor, alone. Public for `certificates`, `picks`.
+// The start of document 01: variable 0, the anchor, alone. Public for `strategy_tests`, `pick_tables`.
 pub fn anchor() -> [u8; 32]
     ensures { λ r. ⌜ Anchored r ⌝ }
 {
@@ -69,7 +69,7 @@ fn spread_round(arcs: &[u32; ARCS], width: usize, marks: [u8; 32], done: [u8; 32
 }
 
 // Marks of the variables that are reachable from the start, by rounds until one finds every marked variable done. Each
-// round but the last makes one done, so there are at most as many of these as variables. Public for `certificates`, `picks`.
+// round but the last makes one done, so there are at most as many of these as variables. Public for `strategy_tests`, `pick_tables`.
 pub fn reach(arcs: &[u32; ARCS], width: usize, start: [u8; 32]) -> [u8; 32]
     requires { ⌜ (width ≤ 32) × Flags start ⌝ }
     ensures { λ r. ⌜ Reached (now (arcs .entry)) width start r ⌝ }

@@ -18,7 +18,7 @@ fn byte_at(s: &[u8], at: usize) -> u64
     if at < s.len() { wide(s[at]) } else { 0 }
 }
 
-// A field of 2 bytes. Public for `problem` and `answers::answer`.
+// A field of 2 bytes. Public for `problem` and `answer_reader::answer`.
 pub fn short_at(s: &[u8], at: usize) -> u64
     requires { ⌜ at < 4294967296 ⌝ }
     ensures { λ r. ⌜ (r ≡ numAt 2 (now (s .entry)) at) × (r < 65536) ⌝ }
@@ -27,7 +27,7 @@ pub fn short_at(s: &[u8], at: usize) -> u64
     byte_at(s, at) + 256 * byte_at(s, b)
 }
 
-// A field of 2 bytes that lies inside the string. Public for `answers::answer`.
+// A field of 2 bytes that lies inside the string. Public for `answer_reader::answer`.
 pub fn short_in(s: &[u8], at: usize) -> u64
     requires { ⌜ at + 2 ≤ length (now s) ⌝ }
     ensures { λ r. ⌜ (r ≡ numAt 2 (now (s .entry)) at) × (r < 65536) ⌝ }
@@ -36,7 +36,7 @@ pub fn short_in(s: &[u8], at: usize) -> u64
     wide(s[at]) + 256 * wide(s[b])
 }
 
-// A field of 4 bytes. Public for `problem`, `answers::answer` and `checker::input`.
+// A field of 4 bytes. Public for `problem`, `answer_reader::answer` and `checker::input`.
 pub fn word_at(s: &[u8], at: usize) -> u64
     requires { ⌜ at < 4294967296 ⌝ }
     ensures { λ r. ⌜ (r ≡ numAt 4 (now (s .entry)) at) × (r < 4294967296) ⌝ }
@@ -55,7 +55,7 @@ fn wide_32(x: u8) -> u32
 }
 
 // A field of 4 bytes that lies inside the string, in 32 bits: the loops over leads become vector code. Public for
-// `leads::reader`, `answers::answer`, `points`.
+// `problem_records::reader`, `answer_reader::answer`, `plan_tests`.
 pub fn word_in(s: &[u8], at: usize) -> u32
     requires { ⌜ at + 4 ≤ length (now s) ⌝ }
     ensures { λ r. ⌜ (r ≡ numAt 4 (now (s .entry)) at) × (r < 4294967296) ⌝ }

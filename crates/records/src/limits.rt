@@ -1,4 +1,4 @@
-// Every number of document 01 that the code uses, once; those of answers alone stand in `answers`.
+// Every number of document 01 that the code uses, once; those of answers alone stand in `answer_reader`.
 
 // The highest n and m.
 pub const MOST_VARIABLES: usize = 31;

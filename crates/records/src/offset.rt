@@ -10,15 +10,15 @@ ghost use Rattle.definitions.specs.Limits.{signed-full};
 ghost use Rattle.definitions.specs.Bytes.{whole-within, blank-or-within};
 ghost use Rattle.definitions.specs.Offset.{tropOf, off};
 
-// The offset number of a 4-byte field, and the field of an offset number. Public for `answers`, `writing`.
+// The offset number of a 4-byte field, and the field of an offset number. Public for `answer_reader`, `answer_writer`.
 pub fn offset(w: u64) -> u64
     ensures { λ r. ⌜ (r ≡ off w) × (r < signed-full) ⌝ }
 {
     (w % FULL + OFFSET) % FULL
 }
 
-// The same in 32 bits. Public for `leads::reader`, `answers::answer`, `trials::values`, `walks::gains`,
-// `points`.
+// The same in 32 bits. Public for `problem_records::reader`, `answer_reader::answer`, `trials::values`, `closed_walks::gains`,
+// `plan_tests`.
 pub fn offset_32(w: u32) -> u32
     requires { ⌜ w < signed-full ⌝ }
     ensures { λ r. ⌜ (r ≡ off w) × (r < signed-full) ⌝ }
@@ -31,8 +31,8 @@ pub fn offset_32(w: u32) -> u32
 }
 
 // The later of two 4-byte fields, the one with the larger offset number. As fields they are compared with their signs, for
-// which the processor has vectors; offset numbers it has first to turn into fields. Public for `trials`, `walks`,
-// `points`.
+// which the processor has vectors; offset numbers it has first to turn into fields. Public for `trials`, `closed_walks`,
+// `plan_tests`.
 pub fn later(a: u32, b: u32) -> u32
     requires { ⌜ (a < signed-full) × (b < signed-full) ⌝ }
     ensures { λ r. ⌜ (off r ≡ cond (leb (off a) (off b)) (off b) (off a)) × (r < signed-full) ⌝ }
@@ -40,7 +40,7 @@ pub fn later(a: u32, b: u32) -> u32
     if offset_32(a) <= offset_32(b) { b } else { a }
 }
 
-// A 4-byte field with a number added to its offset number. Public for `trials`, `points`.
+// A 4-byte field with a number added to its offset number. Public for `trials`, `plan_tests`.
 pub fn raised(w: u32, d: u32) -> u32
     requires { ⌜ (w < signed-full) × (off w + d < signed-full) ⌝ }
     ensures { λ r. ⌜ (off r ≡ off w + d) × (r < signed-full) ⌝ }
@@ -48,7 +48,7 @@ pub fn raised(w: u32, d: u32) -> u32
     std::num::wrapping_add_u32(w, d)
 }
 
-// The number is whole and within ±limit. Public for `answers::class`.
+// The number is whole and within ±limit. Public for `answer_reader::class`.
 pub fn whole_within(limit: u64, k: u64) -> bool
     requires { ⌜ limit < 2147483648 ⌝ }
     ensures { λ r. ⌜ r ≡ whole-within limit (tropOf k) ⌝ }
@@ -59,7 +59,7 @@ pub fn whole_within(limit: u64, k: u64) -> bool
     k <= OFFSET + limit
 }
 
-// The number is blank, or within ±limit. Public for `answers::answer`.
+// The number is blank, or within ±limit. Public for `answer_reader::answer`.
 pub fn blank_or_within(limit: u64, k: u64) -> bool
     requires { ⌜ limit < 2147483648 ⌝ }
     ensures { λ r. ⌜ r ≡ blank-or-within limit (tropOf k) ⌝ }

@@ -18,7 +18,7 @@ pub enum Header {
     Refused(usize),
 }
 
-// How many leads a problem has, from n and m within their limits. Public for `leads::reader`.
+// How many leads a problem has, from n and m within their limits. Public for `problem_records::reader`.
 pub fn lead_count(n: usize, m: usize) -> usize
     requires { ⌜ (n ≤ 31) × (m ≤ 63) ⌝ }
     ensures { λ r. ⌜ (r ≡ 2 * ((n + 1) * (m + 1))) × (r ≤ 4096) ⌝ }

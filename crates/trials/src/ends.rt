@@ -117,7 +117,7 @@ fn more_wide(wide: u32, ends: u32) -> u32
     if ends < WIDE { wide } else { wide + 1 }
 }
 
-// The ends of the rows of a table. Public for `classes::answer`.
+// The ends of the rows of a table. Public for `class_answers::answer`.
 pub fn ends_of(table: &[u32; 2048], rows: usize) -> [u32; 64]
     requires { ⌜ (length (now table) ≡ 2048) × (rows ≤ 64) ⌝ }
     ensures { λ r. ⌜ EndsOf (now (table .entry)) rows r ⌝ }

@@ -186,7 +186,7 @@ pub fn raised(k: u32) -> u64
     if k == 0 { 0 } else { k as u64 + 1073741824 }
 }
 
-// Low values as offset numbers. Public for `search::advance`.
+// Low values as offset numbers. Public for `least_span::advance`.
 pub fn raised_all(x: &[u32; 32]) -> [u64; 32]
     requires { ⌜ length (now x) ≡ 32 ⌝ }
     ensures { λ r. ⌜ r ≡ highs (now (x .entry)) ⌝ }
@@ -207,7 +207,7 @@ pub struct Outcome {
 }
 
 // Policy iteration from a strategy that is kept, until no row fails at its values or variable 0 has none left.
-// Public for `search::state`.
+// Public for `least_span::state`.
 pub fn trial(
     left: &[u32; 2048],
     right: &[u32; 2048],

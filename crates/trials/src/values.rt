@@ -32,7 +32,7 @@ fn larger(a: u32, b: u32) -> u32
     if a <= b { b } else { a }
 }
 
-// A coefficient plus a value. Public for `guesses::guess`, `picks::tables`.
+// A coefficient plus a value. Public for `guesses::guess`, `pick_tables::tables`.
 pub fn plus(a: u32, b: u64) -> u64
     requires { ⌜ a + b ≤ 18446744073709551615 ⌝ }
     ensures { λ r. ⌜ r ≡ a + b ⌝ }
@@ -104,7 +104,7 @@ pub fn side(table: &[u32; 2048], ends: u32, row: usize, x: &[u32; 32], width: us
     full_side(table, row, x, width)
 }
 
-// An offset number less another. Public for `classes::answer`.
+// An offset number less another. Public for `class_answers::answer`.
 pub fn gap(side: u64, left: u64) -> u64
     requires { ⌜ (side ≤ fold-limit) × (0 < side → fold-least ≤ side) × (left ≤ signed-half + lead-limit) ⌝ }
     ensures { λ r. ⌜ (tropOf r ≡ difference (tropOf side) (tropOf left)) ⌝ }

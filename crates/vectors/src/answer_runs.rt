@@ -1,8 +1,8 @@
 // The answer reader run on a record, for the n and m of a problem that are handed over.
 use crate::noise;
 use crate::print;
-use answers::answer::AnswerHead;
-use answers::answer::read_answer;
+use answer_reader::answer::AnswerHead;
+use answer_reader::answer::read_answer;
 
 fn show_refused(number: usize, stamps: &[u64; 32], picks: &[u64; 64]) {
     print::counted(b"refused ", number as u64);

@@ -2,7 +2,7 @@
 ghost use Prim.Native.Nat.{_≤_};
 use crate::noise;
 use crate::print;
-use leads::reader::read_problem;
+use problem_records::reader::read_problem;
 use records::problem::Header;
 
 fn wide(x: u32) -> u64 {

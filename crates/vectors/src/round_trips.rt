@@ -5,10 +5,10 @@ use crate::noise::BUFFER;
 use crate::print;
 use crate::writer_runs::Fields;
 use crate::writer_runs::write;
-use answers::answer::AnswerHead;
-use writing::roundtrip::read_then_write;
-use writing::roundtrip::write_then_read;
-use writing::writer::Written;
+use answer_reader::answer::AnswerHead;
+use answer_writer::roundtrip::read_then_write;
+use answer_writer::roundtrip::write_then_read;
+use answer_writer::writer::Written;
 
 fn verdict(same: bool) {
     if same {

@@ -7,8 +7,8 @@ use crate::print;
 use crate::script::byte_at;
 use crate::script::number_after;
 use crate::script::place_of;
-use writing::writer::Written;
-use writing::writer::write_answer;
+use answer_writer::writer::Written;
+use answer_writer::writer::write_answer;
 
 // The offset number of 0.
 const ZERO: u64 = 2147483648;

@@ -1,5 +1,5 @@
 use borrow.Author.Needs.{needs}
-use Rattle.walks.proofs.Holding.{laid-holds}
+use Rattle.closed_walks.proofs.Holding.{laid-holds}
 use Rattle.checker.proofs.Acceptance.{top-trial-is, infeasible-at, by-optimal, by-unbounded, by-infeasible, highest-row, highest-variable, class-other}
 use native.Mathlib.Omega.{arith}
 use Rattle.checker.proofs.check.certify.Statement.{statement}

@@ -1,5 +1,5 @@
 use borrow.Author.Needs.{needs}
-use Rattle.walks.proofs.Holding.{laid-holds}
+use Rattle.closed_walks.proofs.Holding.{laid-holds}
 use Rattle.checker.proofs.Acceptance.{optimal-broken, optimal-other, optimal-picks, optimal-at}
 use borrow.Author.Tests.{not-true, not-false}
 use native.Mathlib.Omega.{arith}

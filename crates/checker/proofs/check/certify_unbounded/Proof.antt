@@ -2,11 +2,11 @@ use borrow.Author.Needs.{needs}
 use Prim.Native.Nat.{ℕ}
 use mathlib.Core.List.{List}
 use Rattle.definitions.specs.ProblemRecord.{problemOf}
-use Rattle.leads.specs.Tables.{Laid}
-use Rattle.leads.specs.Filling.{Tabled}
-use Rattle.walks.specs.Tables.{Holds}
-use Rattle.leads.proofs.ReadProblem.{laid-framed, left-tabled, right-tabled}
-use Rattle.walks.proofs.Holding.{laid-holds, holds-sized}
+use Rattle.problem_records.specs.Tables.{Laid}
+use Rattle.problem_records.specs.Filling.{Tabled}
+use Rattle.closed_walks.specs.Tables.{Holds}
+use Rattle.problem_records.proofs.ReadProblem.{laid-framed, left-tabled, right-tabled}
+use Rattle.closed_walks.proofs.Holding.{laid-holds, holds-sized}
 use Rattle.checker.proofs.Acceptance.{lowest-trial-is, unbounded-at}
 use native.Mathlib.Omega.{arith}
 use Rattle.checker.proofs.check.certify_unbounded.Statement.{statement}

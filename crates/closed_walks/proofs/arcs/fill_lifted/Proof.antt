@@ -1,0 +1,15 @@
+use borrow.Author.Needs.{needs}
+use Rattle.closed_walks.proofs.Lists.{filled-count}
+use native.Mathlib.Omega.{arith}
+use Rattle.closed_walks.proofs.arcs.fill_lifted.Statement.{statement}
+use Rattle.closed_walks.proofs.arcs.fill_lifted.Tie as tie
+
+pub fill-lifted-spec : {M : Type 1} → statement M
+fill-lifted-spec =
+    tie.close
+    (tie.spec
+    (λ c κs. let start = c .before .before .before in
+    (omega arith, omega (arith, c .before .if1 .taken), omega (arith, c .before .if1 .taken), omega arith, λ l h. start .pre .4 l (omega (arith, c .before .if1 .taken))))
+    (λ c. filled-count (omega (arith, c .before .before .if1 .taken)) (c .fill-run .ensures))
+    (λ c κs. search needs)
+    (λ c. search needs))

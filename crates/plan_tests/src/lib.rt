@@ -1,0 +1,180 @@
+// A point at the rows of a problem, which are read where they stand: the sides of a row, the rules, the value.
+ghost use mathlib.Core.Path.{_≡_};
+ghost use mathlib.Core.Bool.{cond, false};
+ghost use Prim.Native.Nat.{ℕ, suc, _+_, _*_, _≤_, _<_};
+ghost use lib.Dec.{ltb};
+ghost use lib.ListN.{length};
+ghost use lib.IntN.{ℤ};
+ghost use Rattle.definitions.specs.Limits.{stamp-limit, signed-full};
+ghost use Rattle.definitions.specs.Tropical.{fin};
+ghost use Rattle.definitions.specs.Problem.{Keeps, value, whole};
+ghost use Rattle.definitions.specs.Offset.{tropOf, off};
+ghost use Rattle.definitions.specs.ProblemRecord.{problemOf};
+ghost use Rattle.records.specs.Decoded.{Near};
+ghost use Rattle.problem_records.specs.Tables.{leadAt, Laid};
+ghost use Rattle.closed_walks.specs.Decides.{Decides};
+ghost use Rattle.closed_walks.specs.Tables.{Stamped, stampsPoint};
+ghost use Rattle.plan_tests.specs.Sides.{lowered, Lowered, side-floor, run, bestSum, sideOf, RowSized};
+use problem_records::reader::row_place;
+use records::bytes::word_in;
+use records::limits::LEAD_BYTES;
+use records::limits::MOST_VARIABLES;
+use records::limits::OFFSET;
+use records::limits::PROBLEM_HEADER;
+use records::limits::STRIDE;
+use records::offset::later;
+use records::offset::offset_32;
+use records::offset::raised;
+
+// What stamps are lowered by, so that their sums with coefficients stay below 2³².
+const STAMP_DROP: u32 = 1073741824;
+
+// Two whole numbers in range have a sum above this, a whole number and blank one below it.
+const SIDE_FLOOR: u32 = 2684354560;
+
+// A stamp lowered.
+fn lower(stamp: u64) -> u32
+    requires { ⌜ Near stamp-limit stamp ⌝ }
+    ensures { λ r. ⌜ r ≡ lowered stamp ⌝ }
+{
+    if stamp == 0 {
+        0
+    } else {
+        stamp as u32 - STAMP_DROP
+    }
+}
+
+// The stamps lowered, then blanks.
+fn lower_point(stamps: &[u64; 32], width: usize) -> [u32; 32]
+    requires { ⌜ Stamped (now stamps) × (width ≤ 32) ⌝ }
+    ensures { λ r. ⌜ Lowered (now (stamps .entry)) width r ⌝ }
+{
+    let mut x = [0u32; 32];
+    for l in 0..width {
+        x[l] = lower(stamps[l]);
+    }
+    x
+}
+
+// The lead at a place of the bytes with a lowered stamp added, as a field whose offset number is the sum.
+fn sum_in(bytes: &[u8], at: usize, x: u32) -> u32
+    requires { ⌜ (at + 4 ≤ length (now bytes)) × (leadAt (now bytes) at + x < signed-full) ⌝ }
+    ensures { λ r. ⌜ (off r ≡ leadAt (now (bytes .entry)) at + x) × (r < signed-full) ⌝ }
+{
+    raised(word_in(bytes, at), x)
+}
+
+// The largest of `count` sums, as a field: one side of a row whose leads start at a place.
+fn best_of(bytes: &[u8], at: usize, count: usize, x: &[u32; 32]) -> u32
+    requires { ⌜ RowSized (now bytes) at count (now x) ⌝ }
+    ensures { λ r. ⌜ (off r ≡ bestSum (run (now (bytes .entry)) at) (now (x .entry)) count) × (r < signed-full) ⌝ }
+{
+    let mut best = offset_32(SIDE_FLOOR);
+    let mut from = at;
+    for l in 0..count {
+        best = later(best, sum_in(bytes, from, x[l]));
+        from += LEAD_BYTES;
+    }
+    best
+}
+
+// The same for a row of n + 1 leads. Rows of the full width have a call of their own, which is compiled for that length.
+fn best(bytes: &[u8], at: usize, n: usize, x: &[u32; 32]) -> u32
+    requires { ⌜ RowSized (now bytes) at (n + 1) (now x) ⌝ }
+    ensures { λ r. ⌜ (off r ≡ bestSum (run (now (bytes .entry)) at) (now (x .entry)) (n + 1)) × (r < signed-full) ⌝ }
+{
+    if n == MOST_VARIABLES {
+        return best_of(bytes, at, STRIDE, x);
+    }
+    best_of(bytes, at, n + 1, x)
+}
+
+// What was so far, unless a sum, as a field, is above the limit.
+fn still(kept: bool, limit: u32, sum: u32) -> bool
+    requires { ⌜ sum < signed-full ⌝ }
+    ensures { λ r. ⌜ r ≡ cond (ltb limit (off sum)) false kept ⌝ }
+{
+    if limit < offset_32(sum) { false } else { kept }
+}
+
+// None of `count` sums is above the limit. All are looked at, so that the loop has no branch.
+fn none_above_of(bytes: &[u8], at: usize, count: usize, x: &[u32; 32], limit: u32) -> bool
+    requires { ⌜ RowSized (now bytes) at count (now x) × (side-floor ≤ limit) ⌝ }
+    ensures { λ r. ⌜ Decides (bestSum (run (now (bytes .entry)) at) (now (x .entry)) count ≤ limit) r ⌝ }
+{
+    let mut none = true;
+    let mut from = at;
+    for l in 0..count {
+        none = still(none, limit, sum_in(bytes, from, x[l]));
+        from += LEAD_BYTES;
+    }
+    none
+}
+
+// The same for a row of n + 1 leads.
+fn none_above(bytes: &[u8], at: usize, n: usize, x: &[u32; 32], limit: u32) -> bool
+    requires { ⌜ RowSized (now bytes) at (n + 1) (now x) × (side-floor ≤ limit) ⌝ }
+    ensures { λ r. ⌜ Decides (bestSum (run (now (bytes .entry)) at) (now (x .entry)) (n + 1) ≤ limit) r ⌝ }
+{
+    if n == MOST_VARIABLES {
+        return none_above_of(bytes, at, STRIDE, x, limit);
+    }
+    none_above_of(bytes, at, n + 1, x, limit)
+}
+
+// The row whose left leads start at `left` and whose right leads start at `right` stands: no left sum is above the right side.
+fn row_stands(bytes: &[u8], left: usize, right: usize, n: usize, x: &[u32; 32]) -> bool
+    requires { ⌜ RowSized (now bytes) left (n + 1) (now x) × RowSized (now bytes) right (n + 1) (now x) ⌝ }
+    ensures { λ r. ⌜ Decides (bestSum (run (now (bytes .entry)) left) (now (x .entry)) (n + 1) ≤ bestSum (run (now (bytes .entry)) right) (now (x .entry)) (n + 1)) r ⌝ }
+{
+    none_above(bytes, left, n, x, offset_32(best(bytes, right, n, x)))
+}
+
+// The point keeps every inequality. Public for the checker's `check`.
+pub fn keeps_rules(bytes: &[u8], n: usize, m: usize, stamps: &[u64; 32]) -> bool
+    requires { ⌜ Laid (now bytes) n m × Stamped (now stamps) ⌝ }
+    ensures { λ r. ⌜ Decides ((i : ℕ) → i < m → Keeps (problemOf (now (bytes .entry))) (stampsPoint (now (stamps .entry))) i) r ⌝ }
+{
+    let x = lower_point(stamps, n + 1);
+    let step = LEAD_BYTES * (n + 1);
+    let mut left = PROBLEM_HEADER;
+    for _ in 0..m {
+        let right = left + step;
+        if !row_stands(bytes, left, right, n, &x) {
+            return false;
+        }
+        left = right + step;
+    }
+    true
+}
+
+// One side of a row of n + 1 leads, blank or the largest sum.
+fn side(bytes: &[u8], at: usize, n: usize, x: &[u32; 32]) -> u64
+    requires { ⌜ RowSized (now bytes) at (n + 1) (now x) ⌝ }
+    ensures { λ r. ⌜ r ≡ sideOf (run (now (bytes .entry)) at) (now (x .entry)) (n + 1) ⌝ }
+{
+    let largest = offset_32(best(bytes, at, n, x));
+    if largest == SIDE_FLOOR {
+        0
+    } else {
+        (largest - STAMP_DROP) as u64
+    }
+}
+
+// The point's objective value is the span s. Public for the checker's `check`.
+pub fn value_is(bytes: &[u8], n: usize, m: usize, stamps: &[u64; 32], s: u64) -> bool
+    requires { ⌜ Laid (now bytes) n m × Stamped (now stamps) × (s ≤ 4294967296) ⌝ }
+    ensures { λ r. ⌜ ((z : ℤ) → tropOf s ≡ fin z → Decides (value (problemOf (now (bytes .entry))) (stampsPoint (now (stamps .entry))) ≡ whole z) r) ⌝ }
+{
+    let x = lower_point(stamps, n + 1);
+    let left = row_place(n, m);
+    let first = side(bytes, left, n, &x);
+    if first == 0 {
+        return false;
+    }
+    let second = side(bytes, left + LEAD_BYTES * (n + 1), n, &x);
+    if second == 0 {
+        return false;
+    }
+    first + OFFSET == second + s
+}
