@@ -22,6 +22,7 @@ use Rattle.definitions.proofs.Inputs.{kept-at, length-agrees, n-agrees, m-agree
 use Rattle.definitions.proofs.RoundTrip.{size-most}
 use Rattle.definitions.proofs.Outcomes.{outcome-gives, outcome-refusal}
 use Rattle.records.specs.declared.problem.Header.{Header}
+use Rattle.records.specs.declared.problem.Layout.{Layout}
 use Rattle.records.specs.declared.problem.Header.the-variants as Headers
 use Rattle.answer_reader.specs.declared.answer.AnswerHead.{AnswerHead}
 use Rattle.answer_reader.specs.declared.answer.AnswerHead.the-variants as Heads
@@ -35,11 +36,11 @@ use Rattle.checker.proofs.Verdicts.{turned}
 -- ---- long problems
 
 -- A header that is right says a size that is kept whole.
-pub header-small : (kept : List ℕ) (end : ℕ) {header : Header} {n m : ℕ} → headerOf header ≡ headerOutcome kept end → header ≡ Headers.Fields n m
-    → (problem-header ≤ end) × (end ≤ 16394) × (n ≤ highest-n) × (m ≤ highest-m)
-header-small kept end {n = n} {m = m} e f =
+pub header-small : (kept : List ℕ) (end : ℕ) {header : Header} {l : Layout} → headerOf header ≡ headerOutcome kept end → header ≡ Headers.Told l
+    → (problem-header ≤ end) × (end ≤ 16394) × (l .n ≤ highest-n) × (l .m ≤ highest-m)
+header-small kept end {l = l} e f =
     let h = header-fits kept end e f in
-    (omega (arith, h .size-is), omega (arith, h .size-is, product-most n m (h .n-most) (h .m-most)), h .n-most, h .m-most)
+    (omega (arith, h .size-is), omega (arith, h .size-is, product-most (l .n) (l .m) (h .n-most) (h .m-most)), h .n-most, h .m-most)
 
 -- ---- long answers
 
@@ -122,10 +123,12 @@ module _ {kept input : List ℕ} {size end : ℕ} (longer : Longer kept size inp
       (λ i b. getD-take end kept i 0 (omega arith) ∙ sym (part-same i (omega arith) (omega arith)))
 
   -- The problem is not refused, and the answer is, by its header.
-  pub long-answered : {header : Header} {n m r : ℕ} → headerOf header ≡ headerOutcome kept end → header ≡ Headers.Fields n m → WithinLayout (take end input)
-      → r ≡ answerHeaderRefusal (drop end kept) (size - end) n m → 0 < r → Judged (take end input) (drop end input) (refused r)
+  pub long-answered : {header : Header} {l : Layout} {r : ℕ} → headerOf header ≡ headerOutcome kept end → header ≡ Headers.Told l → WithinLayout (take end input)
+      → r ≡ answerHeaderRefusal (drop end kept) (size - end) (l .n) (l .m) → 0 < r → Judged (take end input) (drop end input) (refused r)
   unfolding checkRefusal answerRefusal
-  long-answered {header} {n} {m} {r} d f w g some =
+  long-answered {header} {l} {r} d f w g some =
+      let n : ℕ = l .n in
+      let m : ℕ = l .m in
       let small = header-small kept end d f in
       let h = header-fits kept end d f in
       let same : (i : ℕ) → i < problem-header → getD (take end input) i 0 ≡ getD kept i 0 = λ i b. part-same i (omega arith) (omega arith) in

@@ -122,8 +122,8 @@ pub fn check(problem: &[u8], answer: &[u8]) -> Verdict
     ensures { λ r. ⌜ Judged (now (problem .entry)) (now (answer .entry)) (verdictOf r) ⌝ }
 {
     let header = judge_problem(problem);
-    let Header::Fields(n, m) = header else {
+    let Header::Told(layout) = header else {
         return Verdict::Refused(problem_refusal(header));
     };
-    check_answer(problem, n, m, answer)
+    check_answer(problem, layout.n, layout.m, answer)
 }

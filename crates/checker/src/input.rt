@@ -60,14 +60,14 @@ fn judge_long(kept: &[u8], size: usize, end: usize) -> Verdict
     ensures { λ r. ⌜ ((input : List ℕ) → Longer (now (kept .entry)) size input → Judged (take end input) (drop end input) (verdictOf r)) ⌝ }
 {
     let header = read_header(kept, end);
-    let Header::Fields(n, m) = header else {
+    let Header::Told(layout) = header else {
         return Verdict::Refused(problem_refusal(header));
     };
     let whole = judge_problem(&kept[..end]);
-    let Header::Fields(_, _) = whole else {
+    let Header::Told(_) = whole else {
         return Verdict::Refused(problem_refusal(whole));
     };
-    Verdict::Refused(judge_long_answer(&kept[end..], size - end, n, m))
+    Verdict::Refused(judge_long_answer(&kept[end..], size - end, layout.n, layout.m))
 }
 
 // The same on a slice.

@@ -59,20 +59,36 @@ problemRefusal s = or-else (headerRefusal s (length s)) (first (record { applies
 abbrev pub WithinLayout : List ℕ → Type 0
 WithinLayout s = problemRefusal s ≡ 0
 
--- What a problem's header, its first bytes and its size, gives: n and m, or the first of refusals 1 to 5.
-unfoldable pub headerOutcome : List ℕ → ℕ → Outcome (ℕ × ℕ)
-headerOutcome s size = outcome (headerRefusal s size) (nField s, mField s)
+-- What a problem's header tells: its kind, n and m, where its leads start, and how many questions follow its rules.
+pub record Layout : Type 0 where
+  pub kind : ℕ
+  pub n : ℕ
+  pub m : ℕ
+  pub leads : ℕ
+  pub questions : ℕ
 
--- What a whole problem gives: n and m, or the first of refusals 1 to 6.
-unfoldable pub problemOutcome : List ℕ → Outcome (ℕ × ℕ)
-problemOutcome s = outcome (problemRefusal s) (nField s, mField s)
+-- The layout of a problem of kind 1: its leads follow the header, and it asks one question.
+abbrev pub layoutOf : List ℕ → Layout
+layoutOf s = record { kind = kindField s; n = nField s; m = mField s; leads = problem-header; questions = 1 }
+
+-- What a problem's header, its first bytes and its size, gives: the layout, or the first of refusals 1 to 5.
+unfoldable pub headerOutcome : List ℕ → ℕ → Outcome Layout
+headerOutcome s size = outcome (headerRefusal s size) (layoutOf s)
+
+-- What a whole problem gives: its layout, or the first of refusals 1 to 6.
+unfoldable pub problemOutcome : List ℕ → Outcome Layout
+problemOutcome s = outcome (problemRefusal s) (layoutOf s)
+
+-- The place of a row, in a record of n + 1 variables whose leads start at `start`.
+abbrev pub rowPlace : ℕ → ℕ → ℕ → ℕ
+rowPlace start n i = start + 2 * signed-bytes * (i * suc n)
 
 -- Places of the leads: row i has its left leads first, then its right leads, anchor first.
 abbrev pub leftPlace : ℕ → ℕ → ℕ → ℕ
-leftPlace n i j = problem-header + 2 * signed-bytes * (i * suc n) + signed-bytes * j
+leftPlace n i j = rowPlace problem-header n i + signed-bytes * j
 
 abbrev pub rightPlace : ℕ → ℕ → ℕ → ℕ
-rightPlace n i j = problem-header + 2 * signed-bytes * (i * suc n) + signed-bytes * suc n + signed-bytes * j
+rightPlace n i j = rowPlace problem-header n i + signed-bytes * suc n + signed-bytes * j
 
 -- The problem that the bytes mean.
 unfoldable pub problemOf : List ℕ → Problem

@@ -32,9 +32,9 @@ unfolding solvedOf problemRefused problemRefusal
 long-refused {kept} {input} {size} {before} header {r} k h e g = go header refl
   where
     go : (x : Header) → header ≡ x → Solves input before (Results.refused r) before
-    go (Headers.Fields n m) f =
+    go (Headers.Told l) f =
         let q = header-fits kept size e f in
-        absurd (omega (arith, q .size-is, product-most n m (q .n-most) (q .m-most)))
+        absurd (omega (arith, q .size-is, product-most (l .n) (l .m) (q .n-most) (q .m-most)))
     go (Headers.Refused j) f =
         let q = header-refuses kept size e f in
         let same : headerRefusal input (length input) ≡ j = ap (headerRefusal input) (k .size-is) ∙ header-agrees input kept (λ i b. kept-at k h i (omega arith)) size ∙ q .0 in

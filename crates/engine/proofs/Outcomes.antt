@@ -11,7 +11,7 @@ use Rattle.definitions.specs.Limits.{answer-most, highest-n, highest-m, most-tr
 use Rattle.definitions.specs.Bytes.{Bytes, or-else, Outcome, gives}
 use Rattle.definitions.specs.Offset.{tropOf}
 use Rattle.definitions.specs.Problem.{Problem}
-use Rattle.definitions.specs.ProblemRecord.{nField, mField, problemRefusal, problemOutcome, WithinLayout, problemOf}
+use Rattle.definitions.specs.ProblemRecord.{nField, mField, layoutOf, problemRefusal, problemOutcome, WithinLayout, problemOf}
 use Rattle.definitions.specs.AnswerRecord.{Answer, stampCount, pickCount, answerSize, answerBytes, writerRefusal, writerOutcome, written}
 use Rattle.definitions.specs.Solved as Results
 use Rattle.definitions.specs.Solved.{Answers, Solves, turned-away, solved, engineRefusal}
@@ -19,6 +19,8 @@ use Rattle.definitions.proofs.Refusals.{or-else-suc, or-else-none, WriterFits, 
 use Rattle.definitions.proofs.Outcomes.{outcome-none}
 use Rattle.definitions.proofs.Solved.{answers-taken}
 use Rattle.records.specs.declared.problem.Header.{Header}
+use Rattle.records.specs.declared.problem.Layout.{Layout}
+use Rattle.definitions.specs.ProblemRecord as Problems
 use Rattle.records.specs.declared.problem.Header.the-variants as Headers
 use Rattle.answer_writer.specs.declared.writer.Written.{Written}
 use Rattle.answer_writer.specs.declared.writer.Written.the-variants as Writes
@@ -28,7 +30,7 @@ use Rattle.records.specs.ProblemHeader.{headerOf, problemRefused}
 use Rattle.answer_reader.specs.Fields.{fieldsOf}
 use Rattle.answer_writer.specs.AnswerWriting.{AnswerWritten, writtenOf, unlessRefused}
 use Rattle.problem_records.proofs.LeadTables.{problem-decoded}
-use Rattle.records.proofs.ProblemHeader.{answer-fields, answer-refused}
+use Rattle.records.proofs.ProblemHeader.{answer-told, answer-refused}
 use Rattle.engine.specs.declared.solve.Solved.{Solved}
 use Rattle.engine.specs.declared.solve.Solved.the-variants as Results′
 use Rattle.class_answers.specs.Answered.{answerIn}
@@ -115,7 +117,7 @@ pub refuses-problem : (p before : List ℕ) {header : Header} {k r : ℕ} → he
     → Solves p before (solvedOf (Results′.Refused r)) before
 unfolding solvedOf problemRefused problemOutcome
 refuses-problem p before {header} {k} {r} e f g =
-    let h = answer-refused (problemRefusal p) (nField p) (mField p) e f in
+    let h = answer-refused (problemRefusal p) (layoutOf p) e f in
     let q : r ≡ k = g ∙ ap problemRefused f in
     rw q (refuses-with p before k (h .0) (h .1))
 
@@ -131,14 +133,14 @@ pub record Read (p : List ℕ) (n m : ℕ) (left right : List ℕ) : Type 0 wher
   pub m-is : problemOf p .m ≡ m
   pub decoded : Decoded (problemOf p) left right
 
-pub read-problem : {p left₀ right₀ left right : List ℕ} {header : Header} {n m : ℕ} → Bytes p → ProblemRead p left₀ right₀ header left right → header ≡ Headers.Fields n m → Read p n m left right
+pub read-problem : {p left₀ right₀ left right : List ℕ} {header : Header} {l : Layout} → Bytes p → ProblemRead p left₀ right₀ header left right → header ≡ Headers.Told l → Read p (l .n) (l .m) left right
 unfolding problemOf problemOutcome
 read-problem {p} b r f =
-    let h = answer-fields (problemRefusal p) (nField p) (mField p) (r .result) f in
+    let h = answer-told (problemRefusal p) (layoutOf p) (r .result) f in
     record {
       none = h .0;
-      n-is = sym (h .1);
-      m-is = sym (h .2);
+      n-is = ap (λ (x : Problems.Layout). x .n) (sym (h .1));
+      m-is = ap (λ (x : Problems.Layout). x .m) (sym (h .1));
       decoded = rw (r .left-read (h .0), r .right-read (h .0)) (problem-decoded p b (h .0));
     }
 
@@ -146,7 +148,7 @@ read-problem {p} b r f =
 pub none-made : {p : List ℕ} {header : Header} {k : ℕ} → headerOf header ≡ problemOutcome p → header ≡ Headers.Refused k → TrialsMade p 0
 unfolding problemOutcome
 none-made {p} e f =
-    let h = answer-refused (problemRefusal p) (nField p) (mField p) e f in
+    let h = answer-refused (problemRefusal p) (layoutOf p) e f in
     record { refused = λ _. refl; some = λ w. absurd (omega (arith, h .0, h .1, w)); most = omega arith }
 
 pub some-made : {p : List ℕ} {n m r : ℕ} {left right : List ℕ} → Read p n m left right → 0 < r → r ≤ most-trials → TrialsMade p r

@@ -11,9 +11,9 @@ pub fn trials_made(problem: &[u8]) -> u64
     let mut left = [0u32; 2048];
     let mut right = [0u32; 2048];
     let header = read_problem(problem, &mut left, &mut right);
-    let Header::Fields(n, m) = header else {
+    let Header::Told(layout) = header else {
         return 0;
     };
-    let found = solve_tables(&left, &mut right, n, m);
+    let found = solve_tables(&left, &mut right, layout.n, layout.m);
     found.made
 }

@@ -49,12 +49,12 @@ pub fn solve(problem: &[u8], answer: &mut [u8]) -> Solved
     let mut left = [0u32; 2048];
     let mut right = [0u32; 2048];
     let header = read_problem(problem, &mut left, &mut right);
-    let Header::Fields(n, m) = header else {
+    let Header::Told(layout) = header else {
         return Solved::Refused(problem_refusal(header));
     };
     if answer.len() < ANSWER_MOST {
         return Solved::Refused(7);
     }
-    let found = solve_tables(&left, &mut right, n, m);
-    write_found(found, n, m, answer)
+    let found = solve_tables(&left, &mut right, layout.n, layout.m);
+    write_found(found, layout.n, layout.m, answer)
 }

@@ -7,12 +7,12 @@ use native.Mathlib.Omega.{arith}
 use native.Mathlib.Nat.{eq-zero-or-pos}
 use lib.ListN.{length, take, drop, length-take, length-drop}
 use lib.Seq.{take-all}
-use Rattle.definitions.specs.Limits.{kept-bytes, length-bytes, span-limit}
+use Rattle.definitions.specs.Limits.{kept-bytes, length-bytes, problem-header, span-limit}
 use Rattle.definitions.specs.Tropical.{Trop}
 use Rattle.definitions.specs.Problem.{Problem}
 use Rattle.definitions.specs.Bytes.{Bytes, outcome}
 use Rattle.definitions.specs.Offset.{tropOf}
-use Rattle.definitions.specs.ProblemRecord.{lengthField, nField, mField, headerRefusal, headerOutcome, problemRefusal, problemOutcome, WithinLayout, problemOf}
+use Rattle.definitions.specs.ProblemRecord.{lengthField, kindField, nField, mField, layoutOf, headerRefusal, headerOutcome, problemRefusal, problemOutcome, WithinLayout, problemOf}
 use Rattle.definitions.specs.AnswerRecord.{Answer, answerRefusal, answerOutcome, answerOf, answerHeaderRefusal, classField, spanField, answerSize, answerBytes, writerRefusal, writerOutcome, written}
 use Rattle.definitions.specs.Verdict as Verdicts
 use Rattle.definitions.specs.Verdict.{Judged, turned-away, certified, uncertified, answerFor, checkRefusal}
@@ -62,14 +62,14 @@ use Rattle.guarantees.proofs.Demands.{demands}
 -- ---- cases of the code by numbers
 
 -- The case of each enum that a refusal's number, 0 for none, and what is given have.
-headerBy : ℕ → ℕ → ℕ → Header
-headerBy zero n m = Headers.Fields n m
-headerBy (suc k) n m = Headers.Refused (suc k)
+headerBy : ℕ → List ℕ → Header
+headerBy zero s = Headers.Told (record { kind = kindField s; n = nField s; m = mField s; leads = problem-header; questions = 1 })
+headerBy (suc k) s = Headers.Refused (suc k)
 
-header-by : (k n m : ℕ) → headerOf (headerBy k n m) ≡ outcome k (n, m)
+header-by : (k : ℕ) (s : List ℕ) → headerOf (headerBy k s) ≡ outcome k (layoutOf s)
 unfolding headerBy headerOf outcome
-header-by zero n m = refl
-header-by (suc k) n m = refl
+header-by zero s = refl
+header-by (suc k) s = refl
 
 headBy : ℕ → ℕ → ℕ → AnswerHead
 headBy zero class span = Heads.Fields class span
@@ -157,11 +157,11 @@ the-check = record {
 pub the-read-problem : (left₀ right₀ : List ℕ) → ReadProblem left₀ right₀
 unfolding problemOutcome
 the-read-problem left₀ right₀ = record {
-  header = λ p. headerBy (problemRefusal p) (nField p) (mField p);
+  header = λ p. headerBy (problemRefusal p) p;
   left = λ p. unlessRefused (problemRefusal p) left₀ (leftTable p);
   right = λ p. unlessRefused (problemRefusal p) right₀ (rightTable p);
   contract = λ p b. record {
-    result = header-by (problemRefusal p) (nField p) (mField p);
+    result = header-by (problemRefusal p) p;
     left-kept = λ h. unless-refused (problemRefusal p) left₀ (leftTable p) h;
     right-kept = λ h. unless-refused (problemRefusal p) right₀ (rightTable p) h;
     left-read = λ w. unless-none (problemRefusal p) left₀ (leftTable p) w;
@@ -234,7 +234,7 @@ long-number : (kept : List ℕ) (size : ℕ) → kept-bytes < size → 0 < heade
 unfolding headerOutcome headerBy
 long-number kept size h = ⊎-elim
     (λ (e : headerRefusal kept size ≡ 0).
-    let f = header-fits kept size {r = headerBy 0 (nField kept) (mField kept)} (rw e (header-by 0 (nField kept) (mField kept))) refl in
+    let f = header-fits kept size {r = headerBy 0 kept} (rw e (header-by 0 kept)) refl in
     absurd (omega (arith, f .size-is, product-most (nField kept) (mField kept) (f .n-most) (f .m-most))))
     (λ g. g)
     (eq-zero-or-pos (headerRefusal kept size))
@@ -295,9 +295,9 @@ module _ (kept : List ℕ) (size : ℕ) (h : kept-bytes < size) (cut : lengthFie
   end : ℕ
   end = lengthField kept + length-bytes
 
-  header-numbered : (k : ℕ) → headerRefusal kept end ≡ k → headerOf (headerBy k (nField kept) (mField kept)) ≡ headerOutcome kept end
+  header-numbered : (k : ℕ) → headerRefusal kept end ≡ k → headerOf (headerBy k kept) ≡ headerOutcome kept end
   unfolding headerOutcome
-  header-numbered k e = header-by k (nField kept) (mField kept) ∙ ap (λ (i : ℕ). outcome i (nField kept, mField kept)) (sym e)
+  header-numbered k e = header-by k kept ∙ ap (λ (i : ℕ). outcome i (layoutOf kept)) (sym e)
 
   -- Its problem is refused by its header, by a lead, or its answer by its header.
   verdict-cut : KeptVerdict kept size
@@ -306,21 +306,21 @@ module _ (kept : List ℕ) (size : ℕ) (h : kept-bytes < size) (cut : lengthFie
     where
       by-answer : headerRefusal kept end ≡ 0 → problemRefusal (take end kept) ≡ 0 → KeptVerdict kept size
       by-answer e w =
-          let small = header-small kept end {header = headerBy 0 (nField kept) (mField kept)} (header-numbered 0 e) refl in
+          let small = header-small kept end {header = headerBy 0 kept} (header-numbered 0 e) refl in
           let some = long-refused (drop end kept) (size - end) (nField kept) (mField kept) (small .2) (small .3) (omega (arith, small .1)) in
           record {
             verdict = Verdicts.refused (answerHeaderRefusal (drop end kept) (size - end) (nField kept) (mField kept));
             judged = λ b l input k.
                 let longer = kept-longer k h in
                 judged-parts input (long-cut longer h cut)
-                (long-answered longer cut {header = headerBy 0 (nField kept) (mField kept)} (header-numbered 0 e) refl
+                (long-answered longer cut {header = headerBy 0 kept} (header-numbered 0 e) refl
                 (subst WithinLayout (problem-kept longer cut l (omega (arith, small .1))) w) refl some);
           }
 
       by-problem : headerRefusal kept end ≡ 0 → (j : ℕ) → problemRefusal (take end kept) ≡ j → KeptVerdict kept size
       by-problem e zero w = by-answer e w
       by-problem e (suc j) w =
-          let small = header-small kept end {header = headerBy 0 (nField kept) (mField kept)} (header-numbered 0 e) refl in
+          let small = header-small kept end {header = headerBy 0 kept} (header-numbered 0 e) refl in
           record {
             verdict = Verdicts.refused (suc j);
             judged = λ b l input k.
@@ -335,7 +335,7 @@ module _ (kept : List ℕ) (size : ℕ) (h : kept-bytes < size) (cut : lengthFie
         verdict = Verdicts.refused (suc k);
         judged = λ b l input f.
             let longer = kept-longer f h in
-            judged-parts input (long-cut longer h cut) (long-header longer cut {header = headerBy (suc k) (nField kept) (mField kept)} (header-numbered (suc k) e) refl refl);
+            judged-parts input (long-cut longer h cut) (long-header longer cut {header = headerBy (suc k) kept} (header-numbered (suc k) e) refl refl);
       }
 
 verdict-kept : (kept : List ℕ) (size : ℕ) → KeptVerdict kept size

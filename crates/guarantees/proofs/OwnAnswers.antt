@@ -21,6 +21,7 @@ use Rattle.definitions.proofs.RoundTrip.{answer-length, answer-back, answer-acc
 use Rattle.definitions.proofs.Put.{take-put, length-put}
 use Rattle.definitions.proofs.Outcomes.{outcome-none}
 use Rattle.records.specs.declared.problem.Header.{Header}
+use Rattle.records.specs.declared.problem.Layout.{Layout}
 use Rattle.records.specs.declared.problem.Header.the-variants as Headers
 use Rattle.records.specs.ProblemHeader.{headerOf}
 use Rattle.records.proofs.ProblemHeader.{header-fits, header-refuses}
@@ -142,8 +143,8 @@ own-reading {p} {before} {after} {class = class} {span} {trials} {size} h e head
 pub never-refused : (p : List ℕ) {header : Header} {k : ℕ} {A : Type 0} → headerOf header ≡ headerOutcome p (length p) → header ≡ Headers.Refused k → WithinLayout p → A
 never-refused p e f w = absurd (let g = header-refuses p (length p) e f in omega (arith, header-passes p w, g .0, g .1))
 
-pub reads-there : (p s : List ℕ) {header : Header} {n m : ℕ} {head : AnswerHead} {stamps₀ stamps picks₀ picks : List ℕ} → headerOf header ≡ headerOutcome p (length p)
-    → header ≡ Headers.Fields n m → AnswerRead s n m head stamps₀ stamps picks₀ picks → WithinLayout p → AnswerRead s (nField p) (mField p) head stamps₀ stamps picks₀ picks
+pub reads-there : (p s : List ℕ) {header : Header} {l : Layout} {head : AnswerHead} {stamps₀ stamps picks₀ picks : List ℕ} → headerOf header ≡ headerOutcome p (length p)
+    → header ≡ Headers.Told l → AnswerRead s (l .n) (l .m) head stamps₀ stamps picks₀ picks → WithinLayout p → AnswerRead s (nField p) (mField p) head stamps₀ stamps picks₀ picks
 reads-there p s {head = head} {stamps₀} {stamps} {picks₀} {picks} e f g w =
     let h = header-fits p (length p) e f in
     subst₂ (λ (n m : ℕ). AnswerRead s n m head stamps₀ stamps picks₀ picks) (h .n-is) (h .m-is) g

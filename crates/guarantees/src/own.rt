@@ -36,7 +36,7 @@ fn read_own(
     let header = read_header(problem, problem.len());
     match header {
         Header::Refused(k) => AnswerHead::Refused(k),
-        Header::Fields(n, m) => read_answer(written, n, m, stamps, picks),
+        Header::Told(layout) => read_answer(written, layout.n, layout.m, stamps, picks),
     }
 }
 

@@ -1,20 +1,22 @@
 -- What judging and reading a problem answer: refused by its header, refused by a lead, within the layout.
 use Prim.Native.Nat.{ℕ, suc, _+_, _*_, _<_}
-use mathlib.Core.Path.{_≡_, refl, sym}
+use mathlib.Core.Path.{_≡_, refl, ap, sym}
 use mathlib.Core.Bool.{true, false}
 use mathlib.Core.List.{List}
 use native.Mathlib.Omega.{arith}
 use lib.ListN.{length}
 use Rattle.definitions.specs.Limits.{problem-header}
 use Rattle.definitions.specs.Bytes.{Bytes, outcome}
-use Rattle.definitions.specs.ProblemRecord.{nField, mField, leftPlace, rightPlace, leadsOf, headerRefusal, headerOutcome, problemRefusal, problemOutcome, WithinLayout, problemSize}
+use Rattle.definitions.specs.ProblemRecord.{nField, mField, layoutOf, leftPlace, rightPlace, leadsOf, headerRefusal, headerOutcome, problemRefusal, problemOutcome, WithinLayout, problemSize}
 use Rattle.definitions.proofs.Refusals.{or-else-suc, problem-fits}
 use Rattle.records.specs.declared.problem.Header.{Header}
-use Rattle.records.specs.declared.problem.Header.the-variants.{Fields, Refused}
-use Rattle.records.specs.ProblemHeader.{headerOf}
+use Rattle.records.specs.declared.problem.Header.the-variants.{Told, Refused}
+use Rattle.records.specs.declared.problem.Layout.{Layout}
+use Rattle.definitions.specs.ProblemRecord as Problems
+use Rattle.records.specs.ProblemHeader.{layoutIn, headerOf}
 use Rattle.problem_records.specs.Tables.{runFits, cell, leftTable, rightTable, Laid, ProblemRead}
 use Rattle.problem_records.specs.Filling.{Framed, Tabled}
-use Rattle.records.proofs.ProblemHeader.{HeaderFits, header-refuses, header-fields, answer-fields, answer-refused}
+use Rattle.records.proofs.ProblemHeader.{HeaderFits, header-refuses, header-told, answer-told, answer-refused}
 use Rattle.problem_records.proofs.Tables.{is-listOf}
 
 -- ---- judging
@@ -27,11 +29,11 @@ refused-header s e f =
     let same : problemRefusal s ≡ headerRefusal s (length s) = or-else-suc (headerRefusal s (length s)) _ (omega arith) in
     rw same e
 
-module _ (s : List ℕ) {n m count : ℕ} (h : HeaderFits s (length s) n m) (c : count ≡ 2 * ((n + 1) * (m + 1))) where
+module _ (s : List ℕ) {l : Layout} {count : ℕ} (h : HeaderFits s (length s) l) (c : count ≡ 2 * ((l .n + 1) * (l .m + 1))) where
   -- The run that is judged is all leads.
   run-leads : runFits s count problem-header ≡ runFits s (2 * (suc (nField s) * suc (mField s))) problem-header
   run-leads =
-      let all-leads : count ≡ 2 * (suc n * suc m) = omega arith in
+      let all-leads : count ≡ 2 * (suc (l .n) * suc (l .m)) = omega arith in
       rw (all-leads, h .n-is, h .m-is)
 
   -- A lead does not fit: refusal 6.
@@ -40,26 +42,28 @@ module _ (s : List ℕ) {n m count : ℕ} (h : HeaderFits s (length s) n m) (c :
   refused-lead e = rw (h .none, ← run-leads, ← e)
 
   -- Every lead fits: no refusal.
-  pub judged-fields : true ≡ runFits s count problem-header → headerOf (Fields n m) ≡ problemOutcome s
+  pub judged-told : true ≡ runFits s count problem-header → headerOf (Told l) ≡ problemOutcome s
   unfolding problemOutcome problemRefusal leadsOf
-  judged-fields e =
+  judged-told e =
       let none : problemRefusal s ≡ 0 = rw (h .none, ← run-leads, ← e) in
-      rw (h .n-is, h .m-is) (header-fields (problemRefusal s) (nField s) (mField s) none)
+      rw (← h .layout-is) (header-told (problemRefusal s) l none)
 
--- Fields are the answer for a problem within the layout.
-pub laid : {s : List ℕ} {r : Header} {n m : ℕ} → Bytes s → headerOf r ≡ problemOutcome s → r ≡ Fields n m → Laid s n m
+-- A layout is the answer for a problem within the layout.
+pub laid : {s : List ℕ} {r : Header} {l : Layout} → Bytes s → headerOf r ≡ problemOutcome s → r ≡ Told l → Laid s (l .n) (l .m)
 unfolding problemOutcome
-laid {s} b e f =
-    let g = answer-fields (problemRefusal s) (nField s) (mField s) e f in
+laid {s} {l = l} b e f =
+    let g = answer-told (problemRefusal s) (layoutOf s) e f in
+    let n-is : nField s ≡ l .n = ap (λ (x : Problems.Layout). x .n) (sym (g .1)) in
+    let m-is : mField s ≡ l .m = ap (λ (x : Problems.Layout). x .m) (sym (g .1)) in
     let p = problem-fits s .0 (g .0) in
     record {
       bytes = b;
       within = g .0;
-      n-is = sym (g .1);
-      m-is = sym (g .2);
-      n-most = omega (arith, g .1, p .n-most);
-      m-most = omega (arith, g .2, p .m-most);
-      size-is = rw (g .1, g .2) (p .size-is);
+      n-is = n-is;
+      m-is = m-is;
+      n-most = omega (arith, n-is, p .n-most);
+      m-most = omega (arith, m-is, p .m-most);
+      size-is = rw (← n-is, ← m-is) (p .size-is);
     }
 
 -- ---- reading
@@ -68,7 +72,7 @@ laid {s} b e f =
 pub refused-read : (s : List ℕ) {r : Header} {k : ℕ} {left right : List ℕ} → headerOf r ≡ problemOutcome s → r ≡ Refused k → ProblemRead s left right r left right
 unfolding problemOutcome
 refused-read s e f =
-    let g = answer-refused (problemRefusal s) (nField s) (mField s) e f in
+    let g = answer-refused (problemRefusal s) (layoutOf s) e f in
     record { result = e; left-kept = λ h. refl; right-kept = λ h. refl; left-read = λ w. absurd (omega arith); right-read = λ w. absurd (omega arith) }
 
 -- Both tables are filled.

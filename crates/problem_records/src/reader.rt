@@ -162,30 +162,30 @@ pub fn read_tables(bytes: &[u8], n: usize, m: usize, left: &mut [u32], right: &m
     clear(right, used, TABLE - used);
 }
 
-// The header of a problem within the layout: n and m, or the first of refusals 1 to 6 that applies. Public for the checker's
+// The header of a problem within the layout: where things stand in it, or the first of refusals 1 to 6 that applies. Public for the checker's
 // `check` and `input`.
 pub fn judge_problem(bytes: &[u8]) -> Header
     ensures { λ r. ⌜ headerOf r ≡ problemOutcome (now (bytes .entry)) ⌝ }
 {
     let header = read_header(bytes, bytes.len());
-    let Header::Fields(n, m) = header else {
+    let Header::Told(layout) = header else {
         return header;
     };
-    if !leads_fit(bytes, lead_count(n, m)) {
+    if !leads_fit(bytes, lead_count(layout.n, layout.m)) {
         return Header::Refused(6);
     }
     header
 }
 
-// A problem from its bytes, into two lent tables: n and m, with the leads as offset numbers in rows of 32, or the first of
+// A problem from its bytes, into two lent tables: its layout, with the leads as offset numbers in rows of 32, or the first of
 // refusals 1 to 6 that applies. A refused problem leaves both tables as they are.
 pub fn read_problem(bytes: &[u8], left: &mut [u32; TABLE], right: &mut [u32; TABLE]) -> Header
     ensures { λ r. ⌜ ProblemRead (now (bytes .entry)) (now (left .entry)) (now (right .entry)) r (now (left .exit)) (now (right .exit)) ⌝ }
 {
     let header = judge_problem(bytes);
-    let Header::Fields(n, m) = header else {
+    let Header::Told(layout) = header else {
         return header;
     };
-    read_tables(bytes, n, m, left, right);
+    read_tables(bytes, layout.n, layout.m, left, right);
     header
 }

@@ -3,7 +3,7 @@ ghost use mathlib.Core.Path.{_≡_};
 ghost use Prim.Native.Nat.{_+_, _*_, _<_, _≤_};
 ghost use Rattle.definitions.specs.Bytes.{outcome};
 ghost use Rattle.definitions.specs.ProblemRecord.{problemSize, headerOutcome};
-ghost use Rattle.records.specs.ProblemHeader.{headerOf, problemRefused, judged, countsJudged};
+ghost use Rattle.records.specs.ProblemHeader.{layoutIn, headerOf, problemRefused, judged, countsJudged};
 use crate::bytes::short_at;
 use crate::bytes::word_at;
 use crate::limits::LEAD_BYTES;
@@ -12,9 +12,18 @@ use crate::limits::MOST_INEQUALITIES;
 use crate::limits::MOST_VARIABLES;
 use crate::limits::PROBLEM_HEADER;
 
-// What a header answers: n and m, or the number of the refusal.
+// Where things stand in a problem record: its kind, n and m, where its leads start, and how many questions follow its rules.
+pub struct Layout {
+    pub kind: usize,
+    pub n: usize,
+    pub m: usize,
+    pub leads: usize,
+    pub questions: usize,
+}
+
+// What a header answers: the layout, or the number of the refusal.
 pub enum Header {
-    Fields(usize, usize),
+    Told(Layout),
     Refused(usize),
 }
 
@@ -68,17 +77,17 @@ fn judge(size: usize, length: usize, kind: u16, n: usize, m: usize) -> usize
     }
 }
 
-// A refusal's number, 0 for none, with n and m as the answer of a header.
-fn answered(refusal: usize, n: usize, m: usize) -> Header
-    ensures { λ r. ⌜ headerOf r ≡ outcome refusal (n, m) ⌝ }
+// A refusal's number, 0 for none, with the layout as the answer of a header.
+fn answered(refusal: usize, layout: Layout) -> Header
+    ensures { λ r. ⌜ headerOf r ≡ outcome refusal (layoutIn layout) ⌝ }
 {
     if refusal == 0 {
-        return Header::Fields(n, m);
+        return Header::Told(layout);
     }
     Header::Refused(refusal)
 }
 
-// The header of a problem from its first bytes and its size: n and m, or the first of refusals 1 to 5 that applies.
+// The header of a problem from its first bytes and its size: the layout, or the first of refusals 1 to 5 that applies.
 // A program may hold only the first bytes of a longer input; a byte past the end counts as 0.
 pub fn read_header(bytes: &[u8], size: usize) -> Header
     ensures { λ r. ⌜ headerOf r ≡ headerOutcome (now (bytes .entry)) size ⌝ }
@@ -87,7 +96,14 @@ pub fn read_header(bytes: &[u8], size: usize) -> Header
     let kind = short_at(bytes, 4) as u16;
     let n = short_at(bytes, 6) as usize;
     let m = short_at(bytes, 8) as usize;
-    answered(judge(size, length, kind, n, m), n, m)
+    let layout = Layout {
+        kind: kind as usize,
+        n,
+        m,
+        leads: PROBLEM_HEADER,
+        questions: 1,
+    };
+    answered(judge(size, length, kind, n, m), layout)
 }
 
 // The number with which a problem was refused. Public for `checker`, `engine`.
@@ -95,7 +111,7 @@ pub fn problem_refusal(header: Header) -> usize
     ensures { λ r. ⌜ r ≡ problemRefused header ⌝ }
 {
     match header {
-        Header::Fields(_, _) => 0,
+        Header::Told(_) => 0,
         Header::Refused(k) => k,
     }
 }

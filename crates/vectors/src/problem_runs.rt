@@ -48,7 +48,7 @@ pub fn run(line: &[u8], bytes: &[u8]) {
     print::edge(b"problem", line);
     let header = read_problem(bytes, &mut left, &mut right);
     match header {
-        Header::Fields(n, m) => show_read(n, m, &left, &right),
+        Header::Told(layout) => show_read(layout.n, layout.m, &left, &right),
         Header::Refused(k) => show_refused(k, &left, &right),
     }
     print::end();

@@ -1,4 +1,4 @@
-use Rattle.problem_records.proofs.ReadProblem.{refused-header, refused-lead, judged-fields}
+use Rattle.problem_records.proofs.ReadProblem.{refused-header, refused-lead, judged-told}
 use Rattle.records.proofs.ProblemHeader.{header-fits}
 use mathlib.Core.Path.{sym, _∙_}
 use borrow.Author.Tests.{not-true, not-false}
@@ -19,5 +19,5 @@ judge-problem-spec =
     (λ c κs. omega (arith, header-fits _ _ (c .before .before .before .before .read-header .ensures) (c .before .before .header .given .1) .size-is))
     (λ c. refused-lead _ (header-fits _ _ (c .before .before .before .before .before .before .read-header .ensures) (c .before .before .before .before .header .given .1)) (c .before .before .lead-count .ensures .0)
     (sym (not-true _ (c .if1 .taken)) ∙ c .before .leads-fit .ensures))
-    (λ c. judged-fields _ (header-fits _ _ (c .before .before .before .before .before .before .read-header .ensures) (c .before .before .before .before .header .given .1)) (c .before .before .lead-count .ensures .0)
+    (λ c. judged-told _ (header-fits _ _ (c .before .before .before .before .before .before .read-header .ensures) (c .before .before .before .before .header .given .1)) (c .before .before .lead-count .ensures .0)
     (sym (not-false _ (c .if1 .left)) ∙ c .before .leads-fit .ensures)))

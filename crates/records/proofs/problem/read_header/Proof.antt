@@ -1,5 +1,6 @@
 use Rattle.records.proofs.ProblemHeader.{header-judged}
 use borrow.Author.Needs.{needs}
+use mathlib.Core.Path.{refl}
 use Rattle.records.proofs.problem.read_header.Statement.{statement}
 use Rattle.records.proofs.problem.read_header.Tie as tie
 
@@ -10,6 +11,7 @@ returns c =
     (c .before .before .before .short-at2 .ensures .0)
     (c .before .before .short-at3 .ensures .0)
     (c .before .judge .ensures)
+    refl
     (c .answered .ensures)
 
 pub read-header-spec : {M : Type 1} → statement M
@@ -21,6 +23,7 @@ read-header-spec =
     (λ c. search needs)
     (λ c κs. search needs)
     (λ c κs. search needs)
+    (λ c. search needs)
     (λ c κs. search needs)
     (λ c κs. search needs)
     returns)
