@@ -9,7 +9,7 @@ use borrow.Author.Tests.{lt-ltb, le-ltb}
 use Rattle.definitions.specs.Tropical.{Trop, bot, fin, plus, blank-least}
 use Rattle.definitions.specs.Problem.{Problem, Point, side, Keeps}
 use Rattle.definitions.specs.Selection.{rowOf, selected, Choice, Ascending, LeftOut, BlankLeft, BlankRow, SameClass, placeOf, renumber, rowsRenumbered}
-use Rattle.definitions.proofs.Whole.{nat-le-or-lt}
+use Rattle.base.proofs.Numbers.{nat-le-or-lt}
 use Rattle.definitions.proofs.Tropical.{⊑-trans, bot-plus, largest-least}
 use Rattle.definitions.proofs.Agree.{Agree}
 

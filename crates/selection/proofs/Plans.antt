@@ -6,7 +6,7 @@ use mathlib.Core.Logic.{⊎-elim}
 use native.Mathlib.Omega.{arith}
 use Rattle.definitions.specs.Problem.{Problem, Point, side, Keeps, Feasible, minus, value}
 use Rattle.definitions.specs.Selection.{rowOf, selected, Choice, LeftOut, LeftOutKept, BlankLeft, BlankRow}
-use Rattle.definitions.proofs.Whole.{nat-le-or-lt}
+use Rattle.base.proofs.Numbers.{nat-le-or-lt}
 use Rattle.definitions.proofs.Selection.{row-chosen, row-objective, blank-left-kept}
 use Rattle.selection.specs.Chosen.{Chosen}
 use Rattle.selection.proofs.Rows.{chosen-or-left-out}

@@ -10,7 +10,7 @@ use borrow.Author.Tests.{eqb-true, eqb-false}
 use Rattle.definitions.specs.Problem.{Problem}
 use Rattle.definitions.specs.Certificate.{raise, ArcBy}
 use Rattle.definitions.specs.Selection.{rowOf, selected, Choice, Ascending, LeftOut, placeOf, renumber}
-use Rattle.definitions.proofs.Whole.{nat-le-or-lt}
+use Rattle.base.proofs.Numbers.{nat-le-or-lt}
 use Rattle.definitions.proofs.Raise.{raised, unraised}
 use Rattle.definitions.proofs.Selection.{row-chosen, row-objective}
 use Rattle.selection.specs.Chosen.{Chosen}
