@@ -6,12 +6,12 @@ use native.Mathlib.Omega.{arith}
 use native.Mathlib.Nat.{mul-le-mul-left, mul-le-mul-right}
 use Rattle.definitions.specs.Limits.{highest-n, highest-m, length-bytes, problem-kind, problem-header}
 use Rattle.definitions.specs.Bytes.{Outcome, outcome}
-use Rattle.definitions.specs.ProblemRecord.{lengthField, kindField, nField, mField, headerRefusal, headerOutcome, problemSize}
+use Rattle.definitions.specs.ProblemRecord.{lengthField, kindField, nField, mField, headerRefusal, headerJudged, headerOutcome, problemSize}
 use Rattle.definitions.proofs.Outcomes.{outcome-none, outcome-some, outcome-gives, outcome-refusal}
 use Rattle.definitions.proofs.Refusals.{enough-clause, equal-clause, limits-clause}
 use Rattle.records.specs.declared.problem.Header.{Header}
 use Rattle.records.specs.declared.problem.Header.the-variants.{Fields, Refused}
-use Rattle.records.specs.ProblemHeader.{headerOf, judged}
+use Rattle.records.specs.ProblemHeader.{headerOf}
 
 -- No refusal: the fields.
 pub header-fields : (refusal n m : ℕ) → refusal ≡ 0 → headerOf (Fields n m) ≡ outcome refusal (n, m)
@@ -26,8 +26,8 @@ header-refused refusal n m h = sym (outcome-some refusal (n, m) h)
 -- The numbers that the header holds decide: judging them is judging the bytes.
 pub header-judged : (s : List ℕ) (size : ℕ) (r : Header) {len kind n m refusal : ℕ}
     → len ≡ lengthField s → kind ≡ kindField s → n ≡ nField s → m ≡ mField s
-    → refusal ≡ judged size len kind n m → headerOf r ≡ outcome refusal (n, m) → headerOf r ≡ headerOutcome s size
-unfolding headerOutcome headerRefusal judged
+    → refusal ≡ headerJudged size len kind n m → headerOf r ≡ outcome refusal (n, m) → headerOf r ≡ headerOutcome s size
+unfolding headerOutcome headerRefusal
 header-judged s size r a b c d e f = rw (f, e, a, b, c, d)
 
 -- The leads of a table within the limits are at most 2,048.
@@ -57,7 +57,7 @@ answer-refused refusal a b {k = k} e f = outcome-refusal refusal (a, b) k (sym e
 
 -- A header that gives fields fits.
 pub header-fits : (s : List ℕ) (size : ℕ) {r : Header} {n m : ℕ} → headerOf r ≡ headerOutcome s size → r ≡ Fields n m → HeaderFits s size n m
-unfolding headerOutcome headerRefusal
+unfolding headerOutcome headerRefusal headerJudged
 header-fits s size {n = n} {m} e f =
     let g = answer-fields (headerRefusal s size) (nField s) (mField s) e f in
     let a = enough-clause size problem-header _ _ .0 (g .0) in
