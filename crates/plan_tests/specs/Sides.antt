@@ -6,7 +6,7 @@ use mathlib.Core.Bool.{cond}
 use mathlib.Core.List.{List}
 use lib.Dec.{eqb}
 use lib.ListN.{length, getD}
-use Rattle.definitions.specs.Limits.{lead-limit, stamp-limit, signed-bytes}
+use Rattle.definitions.specs.Limits.{lead-limit, stamp-limit, signed-bytes, stride}
 use Rattle.records.specs.Decoded.{Near}
 use Rattle.problem_records.specs.Tables.{leadAt}
 use Rattle.closed_walks.specs.Lists.{most}
@@ -21,7 +21,7 @@ lowered k = cond (eqb k 0) 0 (k - stamp-drop)
 
 -- The first k stamps, lowered, then blanks: 32 places.
 pub record Lowered (stamps : List ℕ) (k : ℕ) (x : List ℕ) : Type 0 where
-  pub length-is : length x ≡ 32
+  pub length-is : length x ≡ stride
   pub cells : (l : ℕ) → l < k → getD x l 0 ≡ lowered (getD stamps l 0)
   pub blanks : (l : ℕ) → k ≤ l → getD x l 0 ≡ 0
 
@@ -49,6 +49,6 @@ sideOf f x k = sideBy (bestSum f x k)
 -- At most 32 leads from a place on, inside the bytes and in range, and lowered stamps, none above the highest.
 pub record RowSized (s : List ℕ) (at count : ℕ) (x : List ℕ) : Type 0 where
   pub inside : at + signed-bytes * count ≤ length s
-  pub few : count ≤ 32
+  pub few : count ≤ stride
   pub leads : (l : ℕ) → l < count → Near lead-limit (run s at l)
   pub points : (l : ℕ) → getD x l 0 ≤ stamp-drop + stamp-limit

@@ -6,9 +6,9 @@ use mathlib.Core.Bool.{cond}
 use mathlib.Core.List.{List}
 use lib.Dec.{leb}
 use lib.ListN.{length, getD}
-use Rattle.definitions.specs.Limits.{highest-n, highest-m, signed-bytes}
+use Rattle.definitions.specs.Limits.{highest-n, highest-m, signed-bytes, stride, table-size}
 use Rattle.definitions.specs.ProblemRecord.{leftPlace, rightPlace, problemSize}
-use Rattle.problem_records.specs.Tables.{table-size, leadAt, cell}
+use Rattle.problem_records.specs.Tables.{leadAt, cell}
 
 -- A problem's bytes hold the leads of n + 1 variables in m + 1 rows, both within the limits, and the two tables have room.
 pub record Framed (s : List ℕ) (n m : ℕ) (left right : List ℕ) : Type 0 where
@@ -26,7 +26,7 @@ pub record Filled (f : ℕ → ℕ) (base count : ℕ) (old new : List ℕ) : Ty
 
 -- A row of 32 by itself: f 0, …, f (count − 1), then 0.
 pub record RowOf (f : ℕ → ℕ) (count : ℕ) (row : List ℕ) : Type 0 where
-  pub size : length row ≡ 32
+  pub size : length row ≡ stride
   pub cells : (j : ℕ) → j < count → getD row j 0 ≡ f j
   pub rest : (j : ℕ) → count ≤ j → getD row j 0 ≡ 0
 
