@@ -9,7 +9,7 @@ use lib.Dec.{leb}
 use lib.ListN.{length, getD, length-map, List·getD-map}
 use borrow.Author.Count.{below-more}
 use borrow.Author.Tests.{le-leb, leb-true, ne-eqb}
-use Rattle.definitions.specs.Limits.{stamp-limit}
+use Rattle.definitions.specs.Limits.{stamp-limit, short-bytes, signed-bytes, answer-header}
 use Rattle.definitions.specs.Tropical.{Trop, bot}
 use Rattle.definitions.specs.Bytes.{numAt, numsAt, all, blank-or-within}
 use Rattle.definitions.specs.Offset.{tropOf, off}
@@ -104,7 +104,7 @@ stampsAt-length s count = rw (length-map, length-numsAt)
 
 pub picksAt-length : (s : List ℕ) (stamps count : ℕ) → length (picksAt s stamps count) ≡ count
 unfolding picksAt
-picksAt-length s stamps count = length-numsAt 2 count s (14 + 4 * stamps)
+picksAt-length s stamps count = length-numsAt short-bytes count s (answer-header + signed-bytes * stamps)
 
 -- An element of a list that was made by a function.
 pub map-at : (f : ℕ → ℕ) (xs : List ℕ) (i : ℕ) → i < length xs → getD (map f xs) i 0 ≡ f (getD xs i 0)
@@ -112,11 +112,11 @@ map-at f [] i h = absurd (omega arith)
 map-at f (x ∷ xs) zero h = refl
 map-at f (x ∷ xs) (suc i) h = map-at f xs i (omega arith)
 
-pub stampsAt-at : (s : List ℕ) (count i : ℕ) → i < count → off (numAt 4 s (14 + 4 * i)) ≡ getD (stampsAt s count) i 0
+pub stampsAt-at : (s : List ℕ) (count i : ℕ) → i < count → off (numAt signed-bytes s (answer-header + signed-bytes * i)) ≡ getD (stampsAt s count) i 0
 unfolding stampsAt
 stampsAt-at s count i h =
-    rw (map-at off (numsAt 4 count s 14) i (rw length-numsAt h), getD-numsAt 4 count s 14 i h)
+    rw (map-at off (numsAt signed-bytes count s answer-header) i (rw length-numsAt h), getD-numsAt signed-bytes count s answer-header i h)
 
-pub picksAt-at : (s : List ℕ) (stamps count i : ℕ) → i < count → numAt 2 s (14 + 4 * stamps + 2 * i) ≡ getD (picksAt s stamps count) i 0
+pub picksAt-at : (s : List ℕ) (stamps count i : ℕ) → i < count → numAt short-bytes s (answer-header + signed-bytes * stamps + short-bytes * i) ≡ getD (picksAt s stamps count) i 0
 unfolding picksAt
-picksAt-at s stamps count i h = sym (getD-numsAt 2 count s (14 + 4 * stamps) i h)
+picksAt-at s stamps count i h = sym (getD-numsAt short-bytes count s (answer-header + signed-bytes * stamps) i h)

@@ -10,7 +10,7 @@ use native.Mathlib.Nat.{mul-le-mul-left}
 use lib.ListN.{length, getD, set, drop, length-set, length-append, length-map, drop-of-length-le}
 use lib.Seq.{drop-cons}
 use borrow.Author.Tests.{eq-eqb, ne-eqb, le-ltb}
-use Rattle.definitions.specs.Limits.{highest-n, highest-m, answer-most, signed-half, signed-full, span-limit, stamp-limit}
+use Rattle.definitions.specs.Limits.{highest-n, highest-m, answer-most, signed-half, signed-full, span-limit, stamp-limit, short-bytes, signed-bytes, answer-header, length-bytes, kind-place, n-place, class-place, span-place, answer-kind}
 use Rattle.definitions.specs.Offset.{tropOf, off}
 use Rattle.definitions.specs.Bytes.{le, fields, put, fieldOf, tropField, all, blank-or-within, or-else, outcome}
 use Rattle.definitions.specs.AnswerRecord.{known-class, stampCount, pickCount, answerSize, formRefusal, rightCounts, writerRefusal, writerJudged, writerOutcome, answerBytes, written}
@@ -90,30 +90,30 @@ trail-put {l} {values} {l₁} {l₂} {at} vs t e f h =
     }
 
 -- The header's five fields.
-pub header-put : (l : List ℕ) (size n class span : ℕ) {l₁ l₂ l₃ l₄ l₅ : List ℕ} → 14 ≤ length l → l₁ ≡ put l 0 (le 4 size) → l₂ ≡ put l₁ 4 (le 2 2)
-    → l₃ ≡ put l₂ 6 (le 2 n) → l₄ ≡ put l₃ 8 (le 2 class) → l₅ ≡ put l₄ 10 (le 4 span) → l₅ ≡ put l 0 (headerBytes size n class span)
+pub header-put : (l : List ℕ) (size n class span : ℕ) {l₁ l₂ l₃ l₄ l₅ : List ℕ} → answer-header ≤ length l → l₁ ≡ put l 0 (le length-bytes size) → l₂ ≡ put l₁ kind-place (le short-bytes answer-kind)
+    → l₃ ≡ put l₂ n-place (le short-bytes n) → l₄ ≡ put l₃ class-place (le short-bytes class) → l₅ ≡ put l₄ span-place (le signed-bytes span) → l₅ ≡ put l 0 (headerBytes size n class span)
 unfolding headerBytes
 header-put l size n class span h a b c d e =
-    let t₁ = trail-put (le 4 size) (trail-start l) a refl (rw length-le (omega arith)) in
-    let t₂ = trail-put (le 2 2) t₁ b (simp (length-append, length-le)) (rw length-le (omega arith)) in
-    let t₃ = trail-put (le 2 n) t₂ c (simp (length-append, length-le)) (rw length-le (omega arith)) in
-    let t₄ = trail-put (le 2 class) t₃ d (simp (length-append, length-le)) (rw length-le (omega arith)) in
-    let t₅ = trail-put (le 4 span) t₄ e (simp (length-append, length-le)) (rw length-le (omega arith)) in
+    let t₁ = trail-put (le length-bytes size) (trail-start l) a refl (rw length-le (omega arith)) in
+    let t₂ = trail-put (le short-bytes answer-kind) t₁ b (simp (length-append, length-le)) (rw length-le (omega arith)) in
+    let t₃ = trail-put (le short-bytes n) t₂ c (simp (length-append, length-le)) (rw length-le (omega arith)) in
+    let t₄ = trail-put (le short-bytes class) t₃ d (simp (length-append, length-le)) (rw length-le (omega arith)) in
+    let t₅ = trail-put (le signed-bytes span) t₄ e (simp (length-append, length-le)) (rw length-le (omega arith)) in
     simp append-assoc at (t₅ .is)
 
-length-header : (size n class span : ℕ) → length (headerBytes size n class span) ≡ 14
+length-header : (size n class span : ℕ) → length (headerBytes size n class span) ≡ answer-header
 unfolding headerBytes
 length-header size n class span = simp (length-append, length-le)
 
 -- The record's three parts.
-pub record-put : (l : List ℕ) (size n class span : ℕ) (stamps picks : List ℕ) {l₁ l₂ l₃ : List ℕ} {at : ℕ} → at + 2 * length picks ≤ length l
-    → at ≡ 14 + 4 * length stamps → l₁ ≡ put l 0 (headerBytes size n class span) → l₂ ≡ put l₁ 14 (fields 4 stamps) → l₃ ≡ put l₂ at (fields 2 picks)
+pub record-put : (l : List ℕ) (size n class span : ℕ) (stamps picks : List ℕ) {l₁ l₂ l₃ : List ℕ} {at : ℕ} → at + short-bytes * length picks ≤ length l
+    → at ≡ answer-header + signed-bytes * length stamps → l₁ ≡ put l 0 (headerBytes size n class span) → l₂ ≡ put l₁ answer-header (fields signed-bytes stamps) → l₃ ≡ put l₂ at (fields short-bytes picks)
     → l₃ ≡ put l 0 (recordBytes size n class span stamps picks)
 unfolding recordBytes
 record-put l size n class span stamps picks {at = at} h e a b c =
     let t₁ = trail-put (headerBytes size n class span) (trail-start l) a refl (rw length-header (omega arith)) in
-    let t₂ = trail-put (fields 4 stamps) t₁ b (rw length-header refl) (rw length-fields (omega arith)) in
-    let t₃ = trail-put (fields 2 picks) t₂ c (simp (length-append, length-header, length-fields) e) (rw length-fields (omega arith)) in
+    let t₂ = trail-put (fields signed-bytes stamps) t₁ b (rw length-header refl) (rw length-fields (omega arith)) in
+    let t₃ = trail-put (fields short-bytes picks) t₂ c (simp (length-append, length-header, length-fields) e) (rw length-fields (omega arith)) in
     simp append-assoc at (t₃ .is)
 
 -- ---- refusals 4, 7, 10 and 11 in the code's order
@@ -184,7 +184,7 @@ module _ (class span : ℕ) (stamps picks : List ℕ) (n m : ℕ) where
   pub record Roomy (room : ℕ) : Type 0 where
     pub n-most : n ≤ highest-n
     pub m-most : m ≤ highest-m
-    pub size-is : 14 + 4 * length stamps + 2 * length picks ≡ answerSize class n m
+    pub size-is : answer-header + signed-bytes * length stamps + short-bytes * length picks ≡ answerSize class n m
     pub size-fits : answerSize class n m ≤ room
 
   pub roomy : (room : ℕ) → writerRefusal (fieldsOf class span stamps picks) n m room ≡ 0 → Roomy room

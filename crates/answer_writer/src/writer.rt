@@ -217,13 +217,8 @@ fn put_record(
     ensures { λ _. ⌜ now (buffer .exit) ≡ put (now (buffer .entry)) 0 (recordBytes (size - length-bytes) n class (off span) (map off (now (stamps .entry))) (now (picks .entry))) ⌝ }
 {
     let at = ANSWER_HEADER + LEAD_BYTES * stamps.len();
-    put_header(
-        buffer,
-        (size - LENGTH_BYTES) as u64,
-        n as u64,
-        class,
-        offset(span),
-    );
+    let length = (size - LENGTH_BYTES) as u64;
+    put_header(buffer, length, n as u64, class, offset(span));
     put_stamps(stamps, buffer, ANSWER_HEADER);
     put_picks(picks, buffer, at);
 }

@@ -10,7 +10,7 @@ use lib.ListN.{length, getD, take, drop, length-take, length-drop}
 use lib.Seq.{getD-take, getD-drop, length-take-le, ext-getD, take-all}
 use borrow.Author.Tests.{lt-ltb, le-ltb, eqb-true, ne-eqb}
 use Rattle.base.proofs.Numbers.{nat-le-or-lt}
-use Rattle.definitions.specs.Limits.{kept-bytes, length-bytes, problem-header, answer-header, answer-most, highest-n, highest-m, answer-kind}
+use Rattle.definitions.specs.Limits.{kept-bytes, length-bytes, problem-header, answer-header, answer-most, highest-n, highest-m, answer-kind, problem-most}
 use Rattle.definitions.specs.Tropical.{Trop}
 use Rattle.definitions.specs.Bytes.{numAt, Outcome, outcome}
 use Rattle.definitions.specs.ProblemRecord.{lengthField, kindField, nField, mField, headerRefusal, headerOutcome, problemRefusal, WithinLayout}
@@ -37,7 +37,7 @@ use Rattle.checker.proofs.Verdicts.{turned}
 
 -- A header that is right says a size that is kept whole.
 pub header-small : (kept : List ℕ) (end : ℕ) {header : Header} {l : Layout} → headerOf header ≡ headerOutcome kept end → header ≡ Headers.Told l
-    → (problem-header ≤ end) × (end ≤ 16394) × (l .n ≤ highest-n) × (l .m ≤ highest-m)
+    → (problem-header ≤ end) × (end ≤ problem-most) × (l .n ≤ highest-n) × (l .m ≤ highest-m)
 header-small kept end {l = l} e f =
     let h = header-fits kept end e f in
     (omega (arith, h .size-is), omega (arith, h .size-is, product-most (l .n) (l .m) (h .n-most) (h .m-most)), h .n-most, h .m-most)

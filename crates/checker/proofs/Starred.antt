@@ -1,12 +1,12 @@
 -- The starred examples of document 01, over the one table of the definitions: class and span hold by the definitions,
 -- through the checker's soundness; M is not certified.
-use Prim.Native.Nat.{ℕ}
+use Prim.Native.Nat.{ℕ, suc}
 use mathlib.Core.Path.{_≡_, refl, ap, subst}
 use mathlib.Core.Bool.{Bool, true, false, _&&_, and-eq-true-iff, false≢true}
 use mathlib.Core.List.{_++_, List, [], _∷_, map}
 use native.Mathlib.Omega.{arith}
 use lib.IntN.{ℤ, pos}
-use Rattle.definitions.specs.Limits.{class-optimal}
+use Rattle.definitions.specs.Limits.{class-optimal, span-limit}
 use Rattle.definitions.specs.Tropical.{Trop, bot, fin, plus, larger, largest}
 use Rattle.definitions.specs.Bytes.{all, blank-or-within, numAt, numsAt, signed, tropField, tropAt}
 use Rattle.definitions.specs.Problem.{Problem, Optimal, side, value, minus}
@@ -47,7 +47,7 @@ potentials =
     ∷ (fin (pos 0) ∷ [])
     ∷ (fin (pos 0) ∷ [])
     ∷ (fin (pos 0) ∷ fin (pos 929) ∷ [])
-    ∷ (fin (pos 645121) ∷ fin (pos 0) ∷ [])
+    ∷ (fin (pos (suc span-limit)) ∷ fin (pos 0) ∷ [])
     ∷ (fin (pos 0) ∷ fin (pos 641) ∷ [])
     ∷ (fin (pos 0) ∷ fin (pos 929) ∷ [])
     ∷ (fin (pos 0) ∷ fin (pos 1409) ∷ fin (pos 1409) ∷ [])

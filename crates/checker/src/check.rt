@@ -24,7 +24,9 @@ use records::limits::INFEASIBLE;
 use records::limits::NOT_CERTIFIED;
 use records::limits::OFFSET;
 use records::limits::OPTIMAL;
+use records::limits::ROWS;
 use records::limits::SPAN_LIMIT;
+use records::limits::STRIDE;
 use records::limits::TABLE;
 use records::limits::UNBOUNDED;
 use records::problem::Header;
@@ -44,8 +46,8 @@ fn certify_optimal(
     problem: &[u8],
     n: usize,
     m: usize,
-    stamps: &[u64; 32],
-    picks: &[u64; 64],
+    stamps: &[u64; STRIDE],
+    picks: &[u64; ROWS],
     span: u64,
 ) -> bool
     requires { ⌜ Laid (now problem) n m × Stamped (now stamps) × (getD (now stamps) 0 0 ≡ signed-half) × Picked (now picks) (m + 1) × Span span ⌝ }
@@ -61,7 +63,7 @@ fn certify_optimal(
 }
 
 // Class 2, bottomless: judged at the lowest trial, on tables: a cycle that uses the objective then weighs below zero.
-fn certify_unbounded(problem: &[u8], n: usize, m: usize, picks: &[u64; 64]) -> bool
+fn certify_unbounded(problem: &[u8], n: usize, m: usize, picks: &[u64; ROWS]) -> bool
     requires { ⌜ Laid (now problem) n m × Picked (now picks) (n + 1) ⌝ }
     ensures { λ r. ⌜ Decides (AcceptedUnbounded (problemOf (now (problem .entry))) (strategyOf (now (picks .entry)))) r ⌝ }
 {
@@ -79,8 +81,8 @@ fn certify(
     m: usize,
     class: u64,
     span: u64,
-    stamps: &[u64; 32],
-    picks: &[u64; 64],
+    stamps: &[u64; STRIDE],
+    picks: &[u64; ROWS],
 ) -> bool
     requires { ⌜ Laid (now problem) n m × Formed n m class span (now stamps) (now picks) ⌝ }
     ensures { λ r. ⌜ ((a : Answer) → Meant a class span (now (stamps .entry)) (now (picks .entry)) → Decides (Accepted (problemOf (now (problem .entry))) a) r) ⌝ }
@@ -108,8 +110,8 @@ fn check_answer(problem: &[u8], n: usize, m: usize, answer: &[u8]) -> Verdict
     requires { ⌜ Laid (now problem) n m ⌝ }
     ensures { λ r. ⌜ Answered (problemOf (now (problem .entry))) n m (now (answer .entry)) (verdictOf r) ⌝ }
 {
-    let mut stamps = [0u64; 32];
-    let mut picks = [0u64; 64];
+    let mut stamps = [0u64; STRIDE];
+    let mut picks = [0u64; ROWS];
     let head = read_answer(answer, n, m, &mut stamps, &mut picks);
     let AnswerHead::Fields(class, span) = head else {
         return Verdict::Refused(answer_refusal(head));

@@ -4,6 +4,7 @@ ghost use mathlib.Core.Path.{_≡_};
 ghost use mathlib.Core.List.{List};
 ghost use Prim.Native.Nat.{ℕ, _+_, _≤_, _<_};
 ghost use lib.ListN.{length, take, drop};
+ghost use Rattle.definitions.specs.Limits.{highest-n, highest-m, answer-most, kept-bytes};
 ghost use Rattle.definitions.specs.AnswerRecord.{answerHeaderRefusal};
 ghost use Rattle.definitions.specs.Verdict.{Judged};
 ghost use Rattle.definitions.specs.Programs.{cutPlace, problemPart, answerPart, KeptOf};
@@ -50,7 +51,7 @@ fn judge_whole(input: &[u8]) -> Verdict
 // The verdict on the answer part of an input that is longer than what was kept, from the part's first bytes and its size:
 // it is longer than every answer record, so that 9, 10 or 11 applies.
 fn judge_long_answer(answer: &[u8], size: usize, n: usize, m: usize) -> usize
-    requires { ⌜ (n ≤ 31) × (m ≤ 63) × (206 < size) ⌝ }
+    requires { ⌜ (n ≤ highest-n) × (m ≤ highest-m) × (answer-most < size) ⌝ }
     ensures { λ r. ⌜ (r ≡ answerHeaderRefusal (now (answer .entry)) size n m) × (0 < r) ⌝ }
 {
     answer_refusal(read_answer_header(answer, size, n, m))
@@ -58,7 +59,7 @@ fn judge_long_answer(answer: &[u8], size: usize, n: usize, m: usize) -> usize
 
 // The verdict on an input that is longer than what was kept, and whose problem part is its first `end` bytes.
 fn judge_long(kept: &[u8], size: usize, end: usize) -> Verdict
-    requires { ⌜ (length (now kept) ≡ 20000) × (20000 < size) × (end ≤ size) ⌝ }
+    requires { ⌜ (length (now kept) ≡ kept-bytes) × (kept-bytes < size) × (end ≤ size) ⌝ }
     ensures { λ r. ⌜ ((input : List ℕ) → Longer (now (kept .entry)) size input → Judged (take end input) (drop end input) (verdictOf r)) ⌝ }
 {
     let header = read_header(kept, end);
@@ -74,7 +75,7 @@ fn judge_long(kept: &[u8], size: usize, end: usize) -> Verdict
 
 // The same on a slice.
 fn judge_kept(kept: &[u8], size: usize) -> Verdict
-    requires { ⌜ length (now kept) ≡ 20000 ⌝ }
+    requires { ⌜ length (now kept) ≡ kept-bytes ⌝ }
     ensures { λ r. ⌜ ((input : List ℕ) → KeptOf (now (kept .entry)) size input → Judged (problemPart input) (answerPart input) (verdictOf r)) ⌝ }
 {
     if size <= KEPT {

@@ -4,7 +4,7 @@ use mathlib.Core.Path.{_≡_}
 use mathlib.Core.List.{List, map}
 use lib.ListN.{getD, take}
 use Rattle.base.specs.Filled.{Filled}
-use Rattle.definitions.specs.Limits.{most-trials}
+use Rattle.definitions.specs.Limits.{most-trials, stride}
 use Rattle.definitions.specs.Problem.{Problem}
 use Rattle.definitions.specs.Offset.{tropOf}
 use Rattle.definitions.specs.AnswerRecord.{Answer, stampCount, pickCount}
@@ -18,7 +18,7 @@ use Rattle.class_answers.specs.declared.answer.Answer as Tables
 
 -- Stamps: each value less that of variable 0.
 abbrev pub Stamps : List ℕ → ℕ → List ℕ → Type 0
-Stamps point n out = Filled (λ j v. tropOf v ≡ difference (tropOf (getD point j 0)) (tropOf (getD point 0 0))) 32 n out
+Stamps point n out = Filled (λ j v. tropOf v ≡ difference (tropOf (getD point j 0)) (tropOf (getD point 0 0))) stride n out
 
 -- The answer in these fields: stamps and picks are cut to the counts of the class.
 abbrev pub answerIn : ℕ → ℕ → ℕ → ℕ → List ℕ → List ℕ → Answer

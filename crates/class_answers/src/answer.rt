@@ -2,7 +2,7 @@
 ghost use mathlib.Core.Path.{_≡_};
 ghost use Prim.Native.Nat.{_+_, _<_, _≤_};
 ghost use lib.ListN.{getD};
-ghost use Rattle.definitions.specs.Limits.{most-trials};
+ghost use Rattle.definitions.specs.Limits.{most-trials, stride};
 ghost use Rattle.trials.specs.Tables.{Ranged};
 ghost use Rattle.trial_tables.specs.Frames.{zero-offset, top-offset, Coefficients, Ready};
 ghost use Rattle.least_span.specs.State.{Searched};
@@ -17,7 +17,15 @@ use least_span::state::try_at;
 use pick_tables::tables::induced;
 use pick_tables::tables::row_picks;
 use pick_tables::tables::variable_picks;
+use records::limits::INFEASIBLE;
 use records::limits::OFFSET;
+use records::limits::OPTIMAL;
+use records::limits::ROWS;
+use records::limits::STRIDE;
+use records::limits::TABLE;
+use records::limits::TRIALS_INFEASIBLE;
+use records::limits::TRIALS_UNBOUNDED;
+use records::limits::UNBOUNDED;
 use trial_tables::floor::floor_of;
 use trial_tables::frame::Frame;
 use trial_tables::frame::frame_of;
@@ -31,17 +39,17 @@ pub struct Answer {
     pub span: u64,
     pub trials: u64,
     pub made: u64,
-    pub stamps: [u64; 32],
-    pub picks: [u64; 64],
+    pub stamps: [u64; STRIDE],
+    pub picks: [u64; ROWS],
 }
 
 // The stamps of a point: each value less that of variable 0.
-fn stamps(point: &[u64; 32], width: usize) -> [u64; 32]
-    requires { ⌜ Ranged (now point) × (getD (now point) 0 0 ≤ zero-offset) × (width ≤ 32) ⌝ }
+fn stamps(point: &[u64; STRIDE], width: usize) -> [u64; STRIDE]
+    requires { ⌜ Ranged (now point) × (getD (now point) 0 0 ≤ zero-offset) × (width ≤ stride) ⌝ }
     ensures { λ r. ⌜ Stamps (now (point .entry)) width r ⌝ }
 {
     let first = point[0];
-    let mut out = [0u64; 32];
+    let mut out = [0u64; STRIDE];
     let mut j = 0;
     while j < width {
         out[j] = gap(point[j], first);
@@ -51,7 +59,7 @@ fn stamps(point: &[u64; 32], width: usize) -> [u64; 32]
 }
 
 // Class 3: the trial at 645,120 is not possible.
-fn infeasible(left: &[u32; 2048], right: &mut [u32; 2048], frame: Frame, search: Search) -> Answer
+fn infeasible(left: &[u32; TABLE], right: &mut [u32; TABLE], frame: Frame, search: Search) -> Answer
     requires { ⌜ Ready frame (now left) (now right) × Searched frame (now left) (now right) search × (search .blocked ≡ top-offset) ⌝ }
     ensures { λ r. ⌜ Settled frame (now (left .entry)) (now (right .entry)) search r ⌝ }
 {
@@ -61,17 +69,17 @@ fn infeasible(left: &[u32; 2048], right: &mut [u32; 2048], frame: Frame, search:
     let blocking = search.blocking;
     let shown = variable_picks(right, &blocking, frame.n + 1, rows);
     Answer {
-        class: 3,
+        class: INFEASIBLE,
         span: 0,
-        trials: 1,
+        trials: TRIALS_INFEASIBLE,
         made: search.made,
-        stamps: [0; 32],
+        stamps: [0; STRIDE],
         picks: shown,
     }
 }
 
 // Class 2: the trial at the floor is possible, so that at −645,121 is; each row picks a variable that attains its largest there.
-fn unbounded(left: &[u32; 2048], right: &mut [u32; 2048], frame: Frame, search: Search) -> Answer
+fn unbounded(left: &[u32; TABLE], right: &mut [u32; TABLE], frame: Frame, search: Search) -> Answer
     requires { ⌜ Ready frame (now left) (now right) × Searched frame (now left) (now right) search × (search .reached ≤ search .floor) × (search .reached ≤ top-offset) ⌝ }
     ensures { λ r. ⌜ Settled frame (now (left .entry)) (now (right .entry)) search r ⌝ }
 {
@@ -82,17 +90,17 @@ fn unbounded(left: &[u32; 2048], right: &mut [u32; 2048], frame: Frame, search: 
     let targets = induced(right, &point, frame.n + 1, rows);
     let shown = row_picks(left, &targets, frame.n + 1, rows);
     Answer {
-        class: 2,
+        class: UNBOUNDED,
         span: 0,
-        trials: 2,
+        trials: TRIALS_UNBOUNDED,
         made: search.made,
-        stamps: [0; 32],
+        stamps: [0; STRIDE],
         picks: shown,
     }
 }
 
 // Class 1: the halving ends at the least span.
-fn optimal(left: &[u32; 2048], right: &mut [u32; 2048], frame: Frame, search: Search) -> Answer
+fn optimal(left: &[u32; TABLE], right: &mut [u32; TABLE], frame: Frame, search: Search) -> Answer
     requires { ⌜ Ready frame (now left) (now right) × Searched frame (now left) (now right) search × (search .reached ≤ top-offset) × (search .floor ≤ search .blocked) ⌝ }
     ensures { λ r. ⌜ Settled frame (now (left .entry)) (now (right .entry)) search r ⌝ }
 {
@@ -106,7 +114,7 @@ fn optimal(left: &[u32; 2048], right: &mut [u32; 2048], frame: Frame, search: Se
     let shown = variable_picks(right, &blocking, width, rows);
     let plan = stamps(&point, width);
     Answer {
-        class: 1,
+        class: OPTIMAL,
         span: least.span,
         trials: least.trials,
         made: least.made,
@@ -117,7 +125,7 @@ fn optimal(left: &[u32; 2048], right: &mut [u32; 2048], frame: Frame, search: Se
 
 // The trials of document 01 in its order: the top, the lowest, then the middles. The lowest is settled at the floor, at which
 // the same is possible.
-fn solve_framed(left: &[u32; 2048], right: &mut [u32; 2048], frame: Frame) -> Answer
+fn solve_framed(left: &[u32; TABLE], right: &mut [u32; TABLE], frame: Frame) -> Answer
     requires { ⌜ Ready frame (now left) (now right) ⌝ }
     ensures { λ r. ⌜ AnswerOf frame (now (left .entry)) (now (right .entry)) r ⌝ }
 {
@@ -135,7 +143,7 @@ fn solve_framed(left: &[u32; 2048], right: &mut [u32; 2048], frame: Frame) -> An
 
 // The answer of the problem in two tables. The right table's row of the objective is rewritten on the way.
 // Public for the engine's `solve`.
-pub fn solve_tables(left: &[u32; 2048], right: &mut [u32; 2048], n: usize, m: usize) -> Answer
+pub fn solve_tables(left: &[u32; TABLE], right: &mut [u32; TABLE], n: usize, m: usize) -> Answer
     requires { ⌜ Coefficients n m (now left) (now right) ⌝ }
     ensures { λ r. ⌜ Answered n m (now (left .entry)) (now (right .entry)) (r .class) (r .span) (r .trials) (r .stamps) (r .picks) × (0 < r .made) × (r .made ≤ most-trials) ⌝ }
 {

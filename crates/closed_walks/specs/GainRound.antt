@@ -9,7 +9,7 @@ use mathlib.Core.List.{List}
 use lib.ListN.{length, getD}
 use lib.IntN.{pos}
 use Rattle.base.specs.Numbers.{most}
-use Rattle.definitions.specs.Limits.{signed-full}
+use Rattle.definitions.specs.Limits.{signed-full, stride}
 use Rattle.definitions.specs.Tropical.{Trop, fin, plus, _⊑_}
 use Rattle.duality.specs.Values.{valueAt}
 use Rattle.duality.specs.Sweeps.{turned, Swept, Fixed, Climbed}
@@ -18,7 +18,7 @@ use Rattle.closed_walks.specs.Gains.{arc-zero, arc-most, matrix, anywher
 
 -- No walk of at most 32 arcs weighs more.
 abbrev pub value-limit : ℕ
-value-limit = 32 * arc-most
+value-limit = stride * arc-most
 
 -- The first `width` values are within the limit.
 abbrev pub Small : ℕ → List ℕ → Type 0
@@ -48,8 +48,8 @@ level values l = fin (pos (getD values l 0))
 -- What a round may start from: values within the limit, and for each variable that it has raised the ends of its arcs
 -- with every value below `done`: one more than the value with which it last did, 0 for none.
 pub record Ready (arcs marks : List ℕ) (width : ℕ) (values done : List ℕ) : Type 0 where
-  pub length-is : length values ≡ 32
-  pub done-length : length done ≡ 32
+  pub length-is : length values ≡ stride
+  pub done-length : length done ≡ stride
   pub small : Small width values
   pub held :
       (j l v : ℕ) → j < width → l < width → v < getD done j 0 → plus (matrix arcs marks j l) (fin (pos v)) ⊑ level values l
@@ -59,8 +59,8 @@ pub record Ready (arcs marks : List ℕ) (width : ℕ) (values done : List ℕ) 
 -- more than k arcs above the limit. If nothing moved, the first k have raised with the values that they have now; if something
 -- moved, not every marked variable had, before the round, raised with the value that it has now.
 pub record Pushing (arcs marks : List ℕ) (width : ℕ) (values done : List ℕ) (k : ℕ) (new pushed : List ℕ) (moved : Bool) : Type 0 where
-  pub length-is : length new ≡ 32
-  pub done-length : length pushed ≡ 32
+  pub length-is : length new ≡ stride
+  pub done-length : length pushed ≡ stride
   pub small : (l : ℕ) → l < width → getD new l 0 ≤ value-limit + k * arc-most
   pub held :
       (j l v : ℕ) → j < width → l < width → v < getD pushed j 0 → plus (matrix arcs marks j l) (fin (pos v)) ⊑ level new l

@@ -9,7 +9,7 @@ use lib.Dec.{eqb}
 use lib.ListN.{length, getD}
 use lib.IntN.{ℤ, pos, subℕ}
 use lib.Signed.{_≤ℤ_}
-use Rattle.definitions.specs.Limits.{lead-limit, span-limit, signed-half}
+use Rattle.definitions.specs.Limits.{lead-limit, span-limit, signed-half, stride, arcs-size}
 use Rattle.definitions.specs.Tropical.{Trop, bot, fin}
 use Rattle.definitions.specs.Certificate.{Walk}
 use Rattle.duality.specs.Gains.{Entry, Gain}
@@ -20,7 +20,7 @@ arc-zero = signed-half
 
 -- No arc weighs more: 32 times two leads and a trial, and one.
 abbrev pub arc-most : ℕ
-arc-most = 32 * (2 * lead-limit + suc span-limit) + 1
+arc-most = stride * (2 * lead-limit + suc span-limit) + 1
 
 -- What a number in the table stands for.
 unfoldable pub weightOf : ℕ → Trop
@@ -28,7 +28,7 @@ weightOf k = cond (eqb k 0) bot (fin (subℕ k arc-zero))
 
 -- The arcs of the table that start from a marked variable.
 unfoldable pub matrix : List ℕ → List ℕ → ℕ → ℕ → Trop
-matrix arcs marks j l = cond (eqb (getD marks j 0) 0) bot (weightOf (getD arcs (j * 32 + l) 0))
+matrix arcs marks j l = cond (eqb (getD marks j 0) 0) bot (weightOf (getD arcs (j * stride + l) 0))
 
 -- An exit of 0 at every variable: walks may end anywhere, those over turned arcs may start anywhere.
 unfoldable pub anywhere : ℕ → Trop
@@ -36,9 +36,9 @@ anywhere j = fin (pos 0)
 
 -- A table of 32 × 32 entries, of which `width` rows and columns are used: no arc there weighs more than the heaviest.
 pub record Table (arcs : List ℕ) (width : ℕ) : Type 0 where
-  pub width-most : width ≤ 32
-  pub length-is : length arcs ≡ 1024
-  pub cells : (j l : ℕ) → j < width → l < width → getD arcs (j * 32 + l) 0 ≤ arc-zero + arc-most
+  pub width-most : width ≤ stride
+  pub length-is : length arcs ≡ arcs-size
+  pub cells : (j l : ℕ) → j < width → l < width → getD arcs (j * stride + l) 0 ≤ arc-zero + arc-most
 
 -- No closed walk over arcs from marked variables weighs above zero.
 abbrev pub NoneGains : List ℕ → List ℕ → ℕ → Type 0

@@ -3,7 +3,7 @@ use Prim.Native.Nat.{ℕ, suc, _≤_, _<_}
 use mathlib.Core.Path.{_≡_}
 use mathlib.Core.List.{List}
 use lib.ListN.{length, getD}
-use Rattle.definitions.specs.Limits.{highest-n, highest-m, lead-limit, stamp-limit, span-limit}
+use Rattle.definitions.specs.Limits.{highest-n, highest-m, lead-limit, stamp-limit, span-limit, table-size, stride, table-rows}
 use Rattle.definitions.specs.Problem.{Problem, Point}
 use Rattle.definitions.specs.Offset.{tropOf}
 use Rattle.records.specs.Decoded.{Near, Decoded}
@@ -12,8 +12,8 @@ use Rattle.records.specs.Decoded.{Near, Decoded}
 pub record Sized (left right : List ℕ) (n m : ℕ) : Type 0 where
   pub n-most : n ≤ highest-n
   pub m-most : m ≤ highest-m
-  pub left-length : length left ≡ 2048
-  pub right-length : length right ≡ 2048
+  pub left-length : length left ≡ table-size
+  pub right-length : length right ≡ table-size
   pub left-near : (k : ℕ) → Near lead-limit (getD left k 0)
   pub right-near : (k : ℕ) → Near lead-limit (getD right k 0)
 
@@ -29,12 +29,12 @@ stampsPoint x j = tropOf (getD x j 0)
 
 -- Stamps within their limit.
 pub record Stamped (x : List ℕ) : Type 0 where
-  pub length-is : length x ≡ 32
+  pub length-is : length x ≡ stride
   pub near : (k : ℕ) → Near stamp-limit (getD x k 0)
 
 -- Picks, none above the highest.
 pub record Picked (picks : List ℕ) (highest : ℕ) : Type 0 where
-  pub length-is : length picks ≡ 64
+  pub length-is : length picks ≡ table-rows
   pub none-above : (k : ℕ) → getD picks k 0 ≤ highest
 
 -- A number t, as an offset number, at which the closed walks are tested: a span less one in class 1, the lowest trial in class 2,

@@ -4,7 +4,7 @@ ghost use mathlib.Core.Bool.{cond};
 ghost use Prim.Native.Nat.{ℕ, suc, _+_, _*_, _≤_, _<_};
 ghost use lib.ListN.{length, getD};
 ghost use Rattle.base.specs.Filled.{FilledFrom};
-ghost use Rattle.definitions.specs.Limits.{signed-half, lead-limit, span-limit};
+ghost use Rattle.definitions.specs.Limits.{signed-half, lead-limit, span-limit, arcs-size, signed-bytes, stride, table-size};
 ghost use Rattle.records.specs.Decoded.{Near};
 ghost use Rattle.problem_records.specs.Tables.{leadAt, leftTable, rightTable, Laid};
 ghost use Rattle.closed_walks.specs.Gains.{arc-zero};
@@ -13,11 +13,14 @@ ghost use Rattle.closed_walks.specs.Arcs.{raisedBy, lift, lift-most, lif
 use base::larger;
 use problem_records::reader::lead_in;
 use problem_records::reader::row_place;
-use reach::ARCS;
+use records::limits::ARCS;
 use records::limits::LEAD_BYTES;
 use records::limits::LEAD_LIMIT;
 use records::limits::OFFSET;
+use records::limits::ROWS;
 use records::limits::STRIDE;
+use records::limits::STRIDE_32;
+use records::limits::STRIDE_64;
 use records::limits::TABLE;
 
 // The offset number of the least lead.
@@ -38,7 +41,7 @@ fn lift_of(a: u32, r: u64) -> u32
     requires { ⌜ Near lead-limit a × (0 < a) × Near (suc span-limit) r × (0 < r) ⌝ }
     ensures { λ v. ⌜ (v ≡ lift a r) × (v ≤ lift-most) ⌝ }
 {
-    ((OFFSET + 32 * r + 1) - 32 * (a as u64 + LEAD_LIMIT)) as u32
+    ((OFFSET + STRIDE_64 * r + 1) - STRIDE_64 * (a as u64 + LEAD_LIMIT)) as u32
 }
 
 // An entry with right coefficient b; none where it is blank.
@@ -49,15 +52,15 @@ fn lifted_by(up: u32, b: u32) -> u32
     if b == 0 {
         0
     } else {
-        up + 32 * (b - LEAST_LEAD)
+        up + STRIDE_32 * (b - LEAST_LEAD)
     }
 }
 
 // The entries from one variable, whose row of the table starts at `from`, by a row whose right leads start at a place of the
 // bytes.
 fn fill_run(arcs: &mut [u32; ARCS], from: usize, bytes: &[u8], at: usize, width: usize, up: u32)
-    requires { ⌜ (length (now arcs) ≡ 1024) × (from + width ≤ 1024) × (at + 4 * width ≤ length (now bytes)) × (up ≤ lift-most) × ((l : ℕ) → l < width → Near lead-limit (leadAt (now bytes) (at + 4 * l))) ⌝ }
-    ensures { λ _. ⌜ FilledFrom (λ l. lifted up (leadAt (now (bytes .entry)) (at + 4 * l))) from width (now (arcs .entry)) (now (arcs .exit)) ⌝ }
+    requires { ⌜ (length (now arcs) ≡ arcs-size) × (from + width ≤ arcs-size) × (at + signed-bytes * width ≤ length (now bytes)) × (up ≤ lift-most) × ((l : ℕ) → l < width → Near lead-limit (leadAt (now bytes) (at + signed-bytes * l))) ⌝ }
+    ensures { λ _. ⌜ FilledFrom (λ l. lifted up (leadAt (now (bytes .entry)) (at + signed-bytes * l))) from width (now (arcs .entry)) (now (arcs .exit)) ⌝ }
 {
     let mut place = at;
     for l in 0..width {
@@ -68,8 +71,8 @@ fn fill_run(arcs: &mut [u32; ARCS], from: usize, bytes: &[u8], at: usize, width:
 
 // The same. Rows of the full width have a call of their own, which is compiled for that length.
 fn fill_lifted(arcs: &mut [u32; ARCS], from: usize, bytes: &[u8], at: usize, width: usize, up: u32)
-    requires { ⌜ (length (now arcs) ≡ 1024) × (from + width ≤ 1024) × (at + 4 * width ≤ length (now bytes)) × (up ≤ lift-most) × ((l : ℕ) → l < width → Near lead-limit (leadAt (now bytes) (at + 4 * l))) ⌝ }
-    ensures { λ _. ⌜ FilledFrom (λ l. lifted up (leadAt (now (bytes .entry)) (at + 4 * l))) from width (now (arcs .entry)) (now (arcs .exit)) ⌝ }
+    requires { ⌜ (length (now arcs) ≡ arcs-size) × (from + width ≤ arcs-size) × (at + signed-bytes * width ≤ length (now bytes)) × (up ≤ lift-most) × ((l : ℕ) → l < width → Near lead-limit (leadAt (now bytes) (at + signed-bytes * l))) ⌝ }
+    ensures { λ _. ⌜ FilledFrom (λ l. lifted up (leadAt (now (bytes .entry)) (at + signed-bytes * l))) from width (now (arcs .entry)) (now (arcs .exit)) ⌝ }
 {
     if width == STRIDE {
         fill_run(arcs, from, bytes, at, STRIDE, up);
@@ -80,7 +83,7 @@ fn fill_lifted(arcs: &mut [u32; ARCS], from: usize, bytes: &[u8], at: usize, wid
 
 // No entries from one variable.
 fn fill_none(arcs: &mut [u32; ARCS], from: usize, width: usize)
-    requires { ⌜ (length (now arcs) ≡ 1024) × (from + width ≤ 1024) ⌝ }
+    requires { ⌜ (length (now arcs) ≡ arcs-size) × (from + width ≤ arcs-size) ⌝ }
     ensures { λ _. ⌜ FilledFrom (λ _. 0) from width (now (arcs .entry)) (now (arcs .exit)) ⌝ }
 {
     for l in 0..width {
@@ -98,8 +101,8 @@ fn fill_variable(
     pick: usize,
     j: usize,
 )
-    requires { ⌜ Laid (now bytes) n m × Trial t × (length (now arcs) ≡ 1024) × (pick ≤ m + 1) × (j ≤ n) ⌝ }
-    ensures { λ _. ⌜ FilledFrom (variableArc (leftTable (now (bytes .entry))) (rightTable (now (bytes .entry))) m t pick j) (j * 32) (n + 1) (now (arcs .entry)) (now (arcs .exit)) ⌝ }
+    requires { ⌜ Laid (now bytes) n m × Trial t × (length (now arcs) ≡ arcs-size) × (pick ≤ m + 1) × (j ≤ n) ⌝ }
+    ensures { λ _. ⌜ FilledFrom (variableArc (leftTable (now (bytes .entry))) (rightTable (now (bytes .entry))) m t pick j) (j * stride) (n + 1) (now (arcs .entry)) (now (arcs .exit)) ⌝ }
 {
     let width = n + 1;
     let from = j * STRIDE;
@@ -124,10 +127,10 @@ pub fn variable_arcs(
     bytes: &[u8],
     n: usize,
     m: usize,
-    picks: &[u64; 64],
+    picks: &[u64; ROWS],
     t: u64,
 )
-    requires { ⌜ Laid (now bytes) n m × Trial t × (length (now arcs) ≡ 1024) × Picked (now picks) (m + 1) ⌝ }
+    requires { ⌜ Laid (now bytes) n m × Trial t × (length (now arcs) ≡ arcs-size) × Picked (now picks) (m + 1) ⌝ }
     ensures { λ _. ⌜ VariableArcs (leftTable (now (bytes .entry))) (rightTable (now (bytes .entry))) m t (now (picks .entry)) (n + 1) (n + 1) (now (arcs .exit)) ⌝ }
 {
     for j in 0..n + 1 {
@@ -162,7 +165,7 @@ fn fill_column(
     width: usize,
     down: u32,
 )
-    requires { ⌜ (length (now arcs) ≡ 1024) × (width ≤ 32) × (l < width) × (base + width ≤ 2048) × (down ≤ fall-most) × ((k : ℕ) → Near lead-limit (getD (now left) k 0)) ⌝ }
+    requires { ⌜ (length (now arcs) ≡ arcs-size) × (width ≤ stride) × (l < width) × (base + width ≤ table-size) × (down ≤ fall-most) × ((k : ℕ) → Near lead-limit (getD (now left) k 0)) ⌝ }
     ensures { λ _. ⌜ Column (λ j. fallen down (getD (now (left .entry)) (base + j) 0)) l width (now (arcs .entry)) (now (arcs .exit)) ⌝ }
 {
     for j in 0..width {
@@ -178,7 +181,7 @@ fn fill_row(
     right: &[u32; TABLE],
     n: usize,
     m: usize,
-    picks: &[u64; 64],
+    picks: &[u64; ROWS],
     t: u64,
     i: usize,
 )
@@ -200,8 +203,8 @@ fn fill_row(
 
 // An empty table.
 fn clear_arcs(arcs: &mut [u32; ARCS], width: usize)
-    requires { ⌜ (length (now arcs) ≡ 1024) × (width ≤ 32) ⌝ }
-    ensures { λ _. ⌜ (length (now (arcs .exit)) ≡ 1024) × ((j l : ℕ) → j < width → l < width → getD (now (arcs .exit)) (j * 32 + l) 0 ≡ 0) ⌝ }
+    requires { ⌜ (length (now arcs) ≡ arcs-size) × (width ≤ stride) ⌝ }
+    ensures { λ _. ⌜ (length (now (arcs .exit)) ≡ arcs-size) × ((j l : ℕ) → j < width → l < width → getD (now (arcs .exit)) (j * stride + l) 0 ≡ 0) ⌝ }
 {
     for j in 0..width {
         fill_none(arcs, j * STRIDE, width);
@@ -215,10 +218,10 @@ pub fn row_arcs(
     right: &[u32; TABLE],
     n: usize,
     m: usize,
-    picks: &[u64; 64],
+    picks: &[u64; ROWS],
     t: u64,
 )
-    requires { ⌜ Sized (now left) (now right) n m × Trial t × (length (now arcs) ≡ 1024) × Picked (now picks) (n + 1) ⌝ }
+    requires { ⌜ Sized (now left) (now right) n m × Trial t × (length (now arcs) ≡ arcs-size) × Picked (now picks) (n + 1) ⌝ }
     ensures { λ _. ⌜ RowArcs (now (left .entry)) (now (right .entry)) m t (now (picks .entry)) (n + 1) (m + 1) (now (arcs .exit)) ⌝ }
 {
     clear_arcs(arcs, n + 1);

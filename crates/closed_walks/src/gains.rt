@@ -9,23 +9,25 @@ ghost use Prim.Native.Nat.{_+_, _≤_, _<_};
 ghost use lib.Dec.{eqb};
 ghost use lib.ListN.{length};
 ghost use Rattle.base.specs.Decides.{Decides};
-ghost use Rattle.definitions.specs.Limits.{signed-full};
+ghost use Rattle.definitions.specs.Limits.{signed-full, stride, arcs-size};
 ghost use Rattle.reach.specs.Marks.{Flags};
 ghost use Rattle.closed_walks.specs.Gains.{arc-zero, Table, Tested};
 ghost use Rattle.closed_walks.specs.Order.{Ordered};
 ghost use Rattle.closed_walks.specs.GainRound.{Small, endValue, Pushed, Ready, Pushing};
-use reach::ARCS;
+use records::limits::ARCS;
 use records::limits::LEAD_LIMIT;
+use records::limits::SPAN_LIMIT;
 use records::limits::STRIDE;
+use records::limits::STRIDE_64;
 use records::offset::later;
 use records::offset::offset_32;
 use std::num::wrapping_add_u32;
 
 // No arc weighs more: 32 times two leads and a trial, and one.
-const ARC_MOST: u64 = 32 * (2 * LEAD_LIMIT + 64 * LEAD_LIMIT + 1) + 1;
+const ARC_MOST: u64 = STRIDE_64 * (2 * LEAD_LIMIT + SPAN_LIMIT + 1) + 1;
 
 // No walk of at most 32 arcs weighs more.
-const VALUE_LIMIT: u32 = (32 * ARC_MOST) as u32;
+const VALUE_LIMIT: u32 = (STRIDE_64 * ARC_MOST) as u32;
 
 // The value at the end of an arc: the larger of what it was and the start's with the arc's weight. The start's value as an
 // offset number and the arc add up to the field of the sum, modulo 2³²; a sum too large for a field, past the width, says
@@ -38,9 +40,9 @@ fn end_value(was: u32, by: u32, arc: u32) -> u32
 
 // The values are raised by the arcs from `base` on of a variable with the value `by`. All places are raised, whatever the
 // width: a loop of known length is several times as fast, and values past the width say nothing.
-fn push(arcs: &[u32; ARCS], base: usize, by: u32, values: &mut [u32; 32])
-    requires { ⌜ (base + 32 ≤ 1024) × (length (now values) ≡ 32) ⌝ }
-    ensures { λ _. ⌜ Pushed (now (arcs .entry)) base by 32 (now (values .entry)) (now (values .exit)) ⌝ }
+fn push(arcs: &[u32; ARCS], base: usize, by: u32, values: &mut [u32; STRIDE])
+    requires { ⌜ (base + stride ≤ arcs-size) × (length (now values) ≡ stride) ⌝ }
+    ensures { λ _. ⌜ Pushed (now (arcs .entry)) base by stride (now (values .entry)) (now (values .exit)) ⌝ }
 {
     for l in 0..STRIDE {
         values[l] = end_value(values[l], by, arcs[base + l]);
@@ -49,13 +51,13 @@ fn push(arcs: &[u32; ARCS], base: usize, by: u32, values: &mut [u32; 32])
 
 // The marked variables in order, and how many they are.
 pub struct Order {
-    pub places: [usize; 32],
+    pub places: [usize; STRIDE],
     pub count: usize,
 }
 
 // A count, with one more where there is a mark.
 fn counted(count: usize, mark: u8) -> usize
-    requires { ⌜ count ≤ 32 ⌝ }
+    requires { ⌜ count ≤ stride ⌝ }
     ensures { λ r. ⌜ r ≡ cond (eqb mark 0) count (count + 1) ⌝ }
 {
     if mark == 0 { count } else { count + 1 }
@@ -63,11 +65,11 @@ fn counted(count: usize, mark: u8) -> usize
 
 // The marked variables in order: each variable takes the next place, and keeps it if it is marked. So there is no branch here,
 // and none on marks in the rounds. Public for `strategy_tests::certify`.
-pub fn order_of(marks: &[u8; 32], width: usize) -> Order
-    requires { ⌜ Flags (now marks) × (width ≤ 32) ⌝ }
+pub fn order_of(marks: &[u8; STRIDE], width: usize) -> Order
+    requires { ⌜ Flags (now marks) × (width ≤ stride) ⌝ }
     ensures { λ r. ⌜ Ordered (now (marks .entry)) width (r .places) (r .count) ⌝ }
 {
-    let mut places = [0usize; 32];
+    let mut places = [0usize; STRIDE];
     let mut count = 0;
     for j in 0..width {
         places[count] = j;
@@ -82,12 +84,12 @@ pub fn order_of(marks: &[u8; 32], width: usize) -> Order
 // looked at again.
 fn push_round(
     arcs: &[u32; ARCS],
-    marks: &[u8; 32],
-    places: &[usize; 32],
+    marks: &[u8; STRIDE],
+    places: &[usize; STRIDE],
     count: usize,
     width: usize,
-    values: &mut [u32; 32],
-    done: &mut [u32; 32],
+    values: &mut [u32; STRIDE],
+    done: &mut [u32; STRIDE],
 ) -> bool
     requires { ⌜ Table (now arcs) width × Ordered (now marks) width (now places) count × Ready (now arcs) (now marks) width (now values) (now done) ⌝ }
     ensures { λ r. ⌜ Pushing (now (arcs .entry)) (now (marks .entry)) width (now (values .entry)) (now (done .entry)) width (now (values .exit)) (now (done .exit)) r ⌝ }
@@ -106,8 +108,8 @@ fn push_round(
 }
 
 // No value is above the limit.
-fn values_small(values: &[u32; 32], width: usize) -> bool
-    requires { ⌜ width ≤ 32 ⌝ }
+fn values_small(values: &[u32; STRIDE], width: usize) -> bool
+    requires { ⌜ width ≤ stride ⌝ }
     ensures { λ r. ⌜ Decides (Small width (now (values .entry))) r ⌝ }
 {
     for j in 0..width {
@@ -120,15 +122,15 @@ fn values_small(values: &[u32; 32], width: usize) -> bool
 
 // No closed walk from a marked variable weighs above zero: rounds until one raises nothing, at most one more than variables.
 // Public for `strategy_tests::certify`.
-pub fn none_gains(arcs: &[u32; ARCS], marks: &[u8; 32], width: usize) -> bool
+pub fn none_gains(arcs: &[u32; ARCS], marks: &[u8; STRIDE], width: usize) -> bool
     requires { ⌜ Table (now arcs) width × Flags (now marks) × (0 < width) ⌝ }
     ensures { λ r. ⌜ Tested (now (arcs .entry)) (now (marks .entry)) width r ⌝ }
 {
     let order = order_of(marks, width);
     let places = order.places;
     let count = order.count;
-    let mut values = [0u32; 32];
-    let mut done = [0u32; 32];
+    let mut values = [0u32; STRIDE];
+    let mut done = [0u32; STRIDE];
     for _ in 0..width + 1 {
         if !push_round(arcs, marks, &places, count, width, &mut values, &mut done) {
             return true;

@@ -2,9 +2,10 @@
 -- of fields, with its number. The lines that are printed, and document 01's numbers that no list shows.
 use Prim.Native.Nat.{ℕ}
 use mathlib.Core.Path.{_≡_, refl}
+use mathlib.Core.Bool.{false}
 use mathlib.Core.List.{List, [], _∷_, map}
 use lib.IntN.{ℤ, pos, negsuc}
-use Rattle.definitions.specs.Limits.{kept-bytes, top-trial, lowest-trial}
+use Rattle.definitions.specs.Limits.{kept-bytes, top-trial, lowest-trial, problem-most, answer-most}
 use Rattle.definitions.specs.Tropical.{Trop, bot, fin}
 use Rattle.definitions.specs.Bytes.{numAt, numsAt, signed, tropField, tropAt, all, blank-or-within, whole-within}
 use Rattle.definitions.specs.ProblemRecord.{headerRefusal, headerJudged, problemRefusal, leadsOf}
@@ -13,7 +14,7 @@ use Rattle.definitions.specs.Verdict.{Verdict, accepted, refused, checkR
 use Rattle.definitions.specs.Solved.{engineRefusal}
 use Rattle.definitions.specs.Programs.{verdictLine, classWords, refusedLine, decimal, digits, wholeDecimal, spanDecimal, text-refused, text-not-certified, text-accepted, text-least, text-bottomless, text-none}
 use Rattle.definitions.specs.Examples.{example-A}
-use Rattle.definitions.specs.AnswerRecord.{Answer, answerHeaderRefusal, answerHeaderJudged, answerRefusal, answerOf, writerRefusal, writerJudged, rightCounts, formRefusal, spanFits, stampsFit, picksFit, is-zero, is-blank}
+use Rattle.definitions.specs.AnswerRecord.{Answer, stampCount, pickCount, highestPick, answerHeaderRefusal, answerHeaderJudged, answerRefusal, answerOf, writerRefusal, writerJudged, rightCounts, formRefusal, spanFits, stampsFit, picksFit, is-zero, is-blank}
 
 -- A problem's bytes and its refusal.
 record Damaged : Type 0 where
@@ -235,3 +236,12 @@ outer-trials = (refl, refl)
 
 outer-counts : (trials-infeasible ≡ 1) × (trials-unbounded ≡ 2)
 outer-counts = (refl, refl)
+
+-- The largest problem and the largest answer.
+largest-records : (problem-most ≡ 16394) × (answer-most ≡ 206)
+largest-records = (refl, refl)
+
+-- A number that is no class has no stamps and no picks, fits no span, and has no words.
+no-class : (stampCount 4 31 ≡ 0) × (pickCount 4 31 63 ≡ 0) × (highestPick 4 31 63 ≡ 0) × (spanFits 4 bot ≡ false) × (classWords 4 bot ≡ [])
+unfolding spanFits classWords
+no-class = (refl, refl, refl, refl, refl)

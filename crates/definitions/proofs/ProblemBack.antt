@@ -9,7 +9,7 @@ use native.Mathlib.Nat.{mul-le-mul-left, mul-le-mul-right}
 use lib.ListN.{length, getD, length-append, length-map, List·getD-append, List·getD-map}
 use lib.Seq.{getD-at, getD-append-add}
 use Rattle.base.proofs.Numbers.{nat-le-or-lt}
-use Rattle.definitions.specs.Limits.{highest-n, highest-m, lead-limit, length-bytes, short-bytes, signed-bytes, signed-half, signed-full, problem-kind, problem-header}
+use Rattle.definitions.specs.Limits.{highest-n, highest-m, lead-limit, length-bytes, short-bytes, signed-bytes, signed-half, signed-full, problem-kind, problem-header, problem-most}
 use Rattle.definitions.specs.Tropical.{Trop, bot}
 use Rattle.definitions.specs.Problem.{Problem}
 use Rattle.definitions.specs.Bytes.{numAt, numsAt, le, fields, tropField, fieldOf, tropAt, all, blank-or-within}
@@ -181,7 +181,7 @@ module _ (p : Problem) (n-most : p .n ≤ highest-n) (m-most : p .m ≤ highest-
   unfolding fields-of
   small = trops-below lead-limit (omega arith) all-leads fit
 
-  size-most : problemSize (p .n) (p .m) ≤ 16394
+  size-most : problemSize (p .n) (p .m) ≤ problem-most
   size-most =
       let wide = mul-le-mul-right {m = suc (p .n)} {n = 32} (suc (p .m)) (omega arith) in
       let high = mul-le-mul-left {m = suc (p .m)} {n = 64} 32 (omega arith) in

@@ -2,14 +2,15 @@
 ghost use Rattle.engine.specs.Outcome.{TrialsMade};
 use class_answers::answer::solve_tables;
 use problem_records::reader::read_problem;
+use records::limits::TABLE;
 use records::problem::Header;
 
 // The trials made for the problem in the bytes, 0 where it is refused.
 pub fn trials_made(problem: &[u8]) -> u64
     ensures { λ r. ⌜ TrialsMade (now (problem .entry)) r ⌝ }
 {
-    let mut left = [0u32; 2048];
-    let mut right = [0u32; 2048];
+    let mut left = [0u32; TABLE];
+    let mut right = [0u32; TABLE];
     let header = read_problem(problem, &mut left, &mut right);
     let Header::Told(layout) = header else {
         return 0;

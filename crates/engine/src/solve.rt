@@ -13,6 +13,8 @@ use class_answers::answer::Answer;
 use class_answers::answer::solve_tables;
 use problem_records::reader::read_problem;
 use records::limits::ANSWER_MOST;
+use records::limits::REFUSED_ROOM;
+use records::limits::TABLE;
 use records::problem::Header;
 use records::problem::problem_refusal;
 
@@ -46,14 +48,14 @@ fn write_found(found: Answer, n: usize, m: usize, answer: &mut [u8]) -> Solved
 pub fn solve(problem: &[u8], answer: &mut [u8]) -> Solved
     ensures { λ r. ⌜ Solves (now (problem .entry)) (now (answer .entry)) (solvedOf r) (now (answer .exit)) ⌝ }
 {
-    let mut left = [0u32; 2048];
-    let mut right = [0u32; 2048];
+    let mut left = [0u32; TABLE];
+    let mut right = [0u32; TABLE];
     let header = read_problem(problem, &mut left, &mut right);
     let Header::Told(layout) = header else {
         return Solved::Refused(problem_refusal(header));
     };
     if answer.len() < ANSWER_MOST {
-        return Solved::Refused(7);
+        return Solved::Refused(REFUSED_ROOM);
     }
     let found = solve_tables(&left, &mut right, layout.n, layout.m);
     write_found(found, layout.n, layout.m, answer)

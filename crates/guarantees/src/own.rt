@@ -10,6 +10,8 @@ use checker::check::Verdict;
 use checker::check::check;
 use engine::solve::Solved;
 use engine::solve::solve;
+use records::limits::ROWS;
+use records::limits::STRIDE;
 use records::problem::Header;
 use records::problem::read_header;
 
@@ -28,8 +30,8 @@ pub fn solve_then_check(problem: &[u8], answer: &mut [u8]) -> Verdict
 fn read_own(
     problem: &[u8],
     written: &[u8],
-    stamps: &mut [u64; 32],
-    picks: &mut [u64; 64],
+    stamps: &mut [u64; STRIDE],
+    picks: &mut [u64; ROWS],
 ) -> AnswerHead
     ensures { λ r. ⌜ (WithinLayout (now (problem .entry)) → AnswerRead (now (written .entry)) (nField (now (problem .entry))) (mField (now (problem .entry))) r (now (stamps .entry)) (now (stamps .exit)) (now (picks .entry)) (now (picks .exit))) ⌝ }
 {
@@ -44,8 +46,8 @@ fn read_own(
 pub fn solve_then_read(
     problem: &[u8],
     answer: &mut [u8],
-    stamps: &mut [u64; 32],
-    picks: &mut [u64; 64],
+    stamps: &mut [u64; STRIDE],
+    picks: &mut [u64; ROWS],
 ) -> AnswerHead
     ensures { λ r. ⌜ OwnReading (now (problem .entry)) (now (answer .entry)) (now (stamps .entry)) (now (picks .entry)) (headOf r) (now (answer .exit)) (now (stamps .exit)) (now (picks .exit)) ⌝ }
 {

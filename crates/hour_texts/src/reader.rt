@@ -1,10 +1,9 @@
 // The reader: a text to the span or stamp that it says, an offset number. Document 02, 2.7.
-use crate::limits::HOUR;
-use crate::limits::MINUTES_PART;
-use crate::limits::NO_TEXT;
-use crate::limits::TEXT_LIMIT;
-use crate::limits::TEXT_MOST;
+use records::limits::HOUR;
+use records::limits::NO_TEXT;
 use records::limits::OFFSET;
+use records::limits::TEXT_LIMIT;
+use records::limits::TEXT_MOST;
 ghost use mathlib.Core.Path.{_≡_};
 ghost use mathlib.Core.List.{_∷_};
 ghost use Prim.Native.Nat.{_+_, _≤_, _<_};
@@ -13,6 +12,9 @@ ghost use Rattle.definitions.specs.Limits.{text-most};
 ghost use Rattle.definitions.specs.Programs.{decimal};
 ghost use Rattle.definitions.specs.Hours.{hyphen, Clock, ReadsHours};
 ghost use Rattle.hour_texts.specs.Outcome.{readingOf, FoundBy, IsDigit, IsMinutes};
+
+// The bytes of minutes in a text: a colon and two digits.
+const MINUTES_PART: usize = 3;
 
 // What reading a text answers: the value, or the number of the refusal.
 pub enum Read {

@@ -1,12 +1,12 @@
 // The writer: a span or stamp, an offset number, to its text. Document 02, 2.7.
-use crate::limits::HOUR;
-use crate::limits::NO_TEXT;
-use crate::limits::TEXT_LIMIT;
-use crate::limits::TEXT_MOST;
 use printing::text::copy;
 use printing::text::digit;
 use printing::text::put_decimal;
+use records::limits::HOUR;
+use records::limits::NO_TEXT;
 use records::limits::OFFSET;
+use records::limits::TEXT_LIMIT;
+use records::limits::TEXT_MOST;
 use records::offset::blank_or_within;
 ghost use mathlib.Core.List.{_∷_};
 ghost use Prim.Native.Nat.{_+_, _≤_, _<_};

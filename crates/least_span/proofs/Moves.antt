@@ -49,7 +49,7 @@ pub opening : (rows : ℕ) → Opened rows (record {
   blocked = lowest-offset - 1;
   floor = lowest-offset;
   made = 0;
-  room = 8388608;
+  room = 2 ^ most-trials;
   point = replicate 32 0;
   kept = replicate 32 rows;
   blocking = replicate 32 rows;
@@ -345,7 +345,7 @@ top-affordable {s = s} o z = record {
   above = omega (arith, o .blocked-is);
   below = omega (arith, o .reached-is);
   if-blocked = omega (arith, o .reached-is);
-  if-reached = let e : s .room ≡ 8388608 = z .numbers .room-is ∙ ap (λ (k : ℕ). 2 ^ (most-trials - k)) (o .made-is) in omega (arith, o .blocked-is);
+  if-reached = let e : s .room ≡ 2 ^ most-trials = z .numbers .room-is ∙ ap (λ (k : ℕ). 2 ^ (most-trials - k)) (o .made-is) in omega (arith, o .blocked-is);
 }
 
 -- Where it is possible, nothing is blocked yet.

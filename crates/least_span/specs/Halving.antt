@@ -4,10 +4,10 @@ use mathlib.Core.Path.{_≡_}
 use mathlib.Core.List.{List}
 use lib.ListN.{length, getD}
 use lib.IntN.{ℤ}
-use Rattle.definitions.specs.Limits.{most-trials}
+use Rattle.definitions.specs.Limits.{most-trials, stride}
 use Rattle.definitions.specs.Problem.{Problem}
 use Rattle.definitions.specs.Certificate.{Anchor}
-use Rattle.definitions.specs.Bisection.{Bracket, Brackets, halved, trials-optimal}
+use Rattle.definitions.specs.Bisection.{Bracket, Brackets, halved, trials-unbounded, trials-optimal}
 use Rattle.duality.specs.System.{Blocks, systemAt}
 use Rattle.trials.specs.Tables.{pickOf, Ranged}
 use Rattle.trial_tables.specs.declared.frame.Frame.{Frame}
@@ -35,7 +35,7 @@ pub record Bracketed (s : Search) (low high trials : ℕ) : Type 0 where
   pub high-least : s .reached ≤ high
   pub highest : high ≤ top-offset
   pub settled : s .floor ≤ s .blocked
-  pub few : trials + (high - low) ≤ 2000000
+  pub few : trials + (high - low) ≤ trials-unbounded + (top-offset - lowest-offset)
   pub counted : Counted low high trials
 
 -- The end of a search of a problem: the least span with a point, and a strategy that blocks one below it.
@@ -54,4 +54,4 @@ pub record LeastFound (f : Frame) (left before after : List ℕ) (s : Search) (r
   pub made-most : r .made ≤ most-trials
   pub ranged : Ranged (r .point)
   pub anchored : getD (r .point) 0 0 ≤ zero-offset
-  pub blocking-size : length (r .blocking) ≡ 32
+  pub blocking-size : length (r .blocking) ≡ stride

@@ -5,7 +5,7 @@ use mathlib.Core.Bool.{Bool, true, false}
 use mathlib.Core.Logic.{_⊎_}
 use mathlib.Core.List.{List}
 use lib.ListN.{length, getD}
-use Rattle.definitions.specs.Limits.{stamp-limit, most-trials}
+use Rattle.definitions.specs.Limits.{stamp-limit, most-trials, stride}
 use Rattle.definitions.specs.Problem.{Problem}
 use Rattle.definitions.specs.Certificate.{Anchor}
 use Rattle.definitions.specs.Bytes.{blank-or-within}
@@ -49,8 +49,8 @@ pub record Budgeted (s : Search) : Type 0 where
   pub enough : s .reached ≤ s .blocked + s .room
   pub ranged : Ranged (s .point)
   pub anchored : getD (s .point) 0 0 ≤ zero-offset
-  pub kept-size : length (s .kept) ≡ 32
-  pub blocking-size : length (s .blocking) ≡ 32
+  pub kept-size : length (s .kept) ≡ stride
+  pub blocking-size : length (s .blocking) ≡ stride
 
 -- A search of the problem in the tables.
 pub record Searched (f : Frame) (left right : List ℕ) (s : Search) : Type 0 where

@@ -10,6 +10,7 @@ use crate::state::try_at;
 use guesses::guess::Guess;
 use guesses::guess::guess_at;
 use guesses::pass::rows_stand;
+use records::limits::TABLE;
 use trial_tables::frame::Frame;
 use trial_tables::frame::raise;
 use trials::policy::raised_all;
@@ -66,7 +67,7 @@ fn next_trial(search: Search, span: u64) -> u64
 }
 
 // The point of a guess shows its span: variable 0 is not blank, and every row stands, the objective's raised by the span.
-fn shows(left: &[u32; 2048], right: &mut [u32; 2048], frame: Frame, found: Guess) -> bool
+fn shows(left: &[u32; TABLE], right: &mut [u32; TABLE], frame: Frame, found: Guess) -> bool
     requires { ⌜ Ready frame (now left) (now right) × Guessed (frame .n + 1) found × Trialled (found .span) ⌝ }
     ensures { λ r. ⌜ Shows frame (now (left .entry)) (now (right .entry)) (now (right .exit)) (found .span) (found .point) r ⌝ }
 {
@@ -84,8 +85,8 @@ fn shows(left: &[u32; 2048], right: &mut [u32; 2048], frame: Frame, found: Guess
 
 // `reached` falls to a guess whose point shows it.
 fn fallen(
-    left: &[u32; 2048],
-    right: &mut [u32; 2048],
+    left: &[u32; TABLE],
+    right: &mut [u32; TABLE],
     frame: Frame,
     search: Search,
     found: Guess,
@@ -112,7 +113,7 @@ fn fallen(
 }
 
 // One step: a guess, and the trial next to it where something is still unknown.
-fn advance(left: &[u32; 2048], right: &mut [u32; 2048], frame: Frame, search: Search) -> Search
+fn advance(left: &[u32; TABLE], right: &mut [u32; TABLE], frame: Frame, search: Search) -> Search
     requires { ⌜ Ready frame (now left) (now right) × Searched frame (now left) (now right) search × (search .reached ≤ top-offset) × (search .blocked + 1 < search .reached) ⌝ }
     ensures { λ r. ⌜ Stepped frame (now (left .entry)) (now (right .entry)) (now (right .exit)) search r ⌝ }
 {
@@ -138,8 +139,8 @@ fn known(search: Search, t: u64) -> bool
 
 // Trials until the outcome at t is known. Public for `halving` and for `class_answers::answer`.
 pub fn settle(
-    left: &[u32; 2048],
-    right: &mut [u32; 2048],
+    left: &[u32; TABLE],
+    right: &mut [u32; TABLE],
     frame: Frame,
     start: Search,
     t: u64,

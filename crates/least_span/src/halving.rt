@@ -8,6 +8,9 @@ use crate::bracket::Bracket;
 use crate::state::LOWEST;
 use crate::state::Search;
 use crate::state::TOP;
+use records::limits::STRIDE;
+use records::limits::TABLE;
+use records::limits::TRIALS_UNBOUNDED;
 use trial_tables::frame::Frame;
 
 // The least span with the trials of the definition, the trials made, its point, and a strategy that blocks one below it.
@@ -15,13 +18,13 @@ pub struct Least {
     pub span: u64,
     pub trials: u64,
     pub made: u64,
-    pub point: [u64; 32],
-    pub blocking: [usize; 32],
+    pub point: [u64; STRIDE],
+    pub blocking: [usize; STRIDE],
 }
 
 // Halvings until the bracket is 1 wide; its high is the least span. A middle whose outcome is known is counted, for another
 // trials are made until it is. Public for `class_answers::answer`.
-pub fn halve(left: &[u32; 2048], right: &mut [u32; 2048], frame: Frame, start: Search) -> Least
+pub fn halve(left: &[u32; TABLE], right: &mut [u32; TABLE], frame: Frame, start: Search) -> Least
     requires { ⌜ Ready frame (now left) (now right) × Searched frame (now left) (now right) start × (start .reached ≤ top-offset) × (start .floor ≤ start .blocked) ⌝ }
     ensures { λ r. ⌜ LeastFound frame (now (left .entry)) (now (right .entry)) (now (right .exit)) start r ⌝ }
 {
@@ -30,7 +33,7 @@ pub fn halve(left: &[u32; 2048], right: &mut [u32; 2048], frame: Frame, start: S
         low: LOWEST,
         high: TOP,
     };
-    let mut trials = 2;
+    let mut trials = TRIALS_UNBOUNDED;
     'halving: loop {
         if bracket.high - bracket.low == 1 {
             let point = search.point;

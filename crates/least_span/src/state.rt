@@ -3,12 +3,15 @@
 ghost use mathlib.Core.Path.{_≡_};
 ghost use Prim.Native.Nat.{_+_, _<_, _≤_};
 ghost use lib.ListN.{length};
-ghost use Rattle.definitions.specs.Limits.{most-trials};
+ghost use Rattle.definitions.specs.Limits.{most-trials, table-rows, stride};
 ghost use Rattle.trial_tables.specs.Frames.{Ready};
 ghost use Rattle.trial_tables.specs.Floor.{FloorFor};
 ghost use Rattle.least_span.specs.State.{Searched, Affordable, PossibleIs, MovedTo, TrialMade, Opened};
+use records::limits::MOST_TRIALS;
 use records::limits::OFFSET;
 use records::limits::SPAN_LIMIT;
+use records::limits::STRIDE;
+use records::limits::TABLE;
 use trial_tables::frame::Frame;
 use trial_tables::frame::raise;
 use trials::policy::Outcome;
@@ -20,7 +23,7 @@ pub const TOP: u64 = OFFSET + SPAN_LIMIT;
 pub const LOWEST: u64 = OFFSET - SPAN_LIMIT - 1;
 
 // 2 to the power of the most trials, 23.
-const ROOM: u64 = 8388608;
+const ROOM: u64 = 1 << MOST_TRIALS;
 
 // What is known: `reached` is possible, with this point, or lies one above the top while that is not tried; `blocked` is not
 // possible, by the blocking strategy, or lies one below the floor, at which a possible trial shows that spans are bottomless.
@@ -31,14 +34,14 @@ pub struct Search {
     pub floor: u64,
     pub made: u64,
     pub room: u64,
-    pub point: [u64; 32],
-    pub kept: [usize; 32],
-    pub blocking: [usize; 32],
+    pub point: [u64; STRIDE],
+    pub kept: [usize; STRIDE],
+    pub blocking: [usize; STRIDE],
 }
 
 // Nothing is known, and no trial made: the first starts from the strategy without picks. Public for `class_answers::answer`.
 pub fn opened(rows: usize) -> Search
-    requires { ⌜ (0 < rows) × (rows ≤ 64) ⌝ }
+    requires { ⌜ (0 < rows) × (rows ≤ table-rows) ⌝ }
     ensures { λ r. ⌜ Opened rows r ⌝ }
 {
     Search {
@@ -47,15 +50,15 @@ pub fn opened(rows: usize) -> Search
         floor: LOWEST,
         made: 0,
         room: ROOM,
-        point: [0; 32],
-        kept: [rows; 32],
-        blocking: [rows; 32],
+        point: [0; STRIDE],
+        kept: [rows; STRIDE],
+        blocking: [rows; STRIDE],
     }
 }
 
 // A trial with these values is possible.
-fn possible(values: &[u64; 32]) -> bool
-    requires { ⌜ length (now values) ≡ 32 ⌝ }
+fn possible(values: &[u64; STRIDE]) -> bool
+    requires { ⌜ length (now values) ≡ stride ⌝ }
     ensures { λ r. ⌜ PossibleIs (now (values .entry)) r ⌝ }
 {
     values[0] != 0
@@ -63,7 +66,7 @@ fn possible(values: &[u64; 32]) -> bool
 
 // A trial at t with this outcome is counted, and moves `reached` or `blocked`.
 fn moved(search: Search, t: u64, tried: Outcome) -> Search
-    requires { ⌜ (search .made < most-trials) × (length (tried .values) ≡ 32) ⌝ }
+    requires { ⌜ (search .made < most-trials) × (length (tried .values) ≡ stride) ⌝ }
     ensures { λ r. ⌜ MovedTo search t (tried .values) (tried .picks) r ⌝ }
 {
     let values = tried.values;
@@ -84,8 +87,8 @@ fn moved(search: Search, t: u64, tried: Outcome) -> Search
 
 // One trial at t. No other function makes one. Public for `advance` and for `class_answers::answer`.
 pub fn try_at(
-    left: &[u32; 2048],
-    right: &mut [u32; 2048],
+    left: &[u32; TABLE],
+    right: &mut [u32; TABLE],
     frame: Frame,
     search: Search,
     t: u64,

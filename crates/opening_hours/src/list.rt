@@ -1,7 +1,7 @@
 // A week list judged: opening and closing minutes in turn.
 ghost use Rattle.opening_hours.specs.Lookup.{ListJudged};
-use crate::limits::MOST_WINDOWS;
-use crate::limits::WEEK;
+use records::limits::MOST_WINDOWS;
+use records::limits::WEEK;
 
 // Refusal 19 does not apply to the list: an even count, few windows, each within the week and open, each from where the last
 // one closed. Public for `lookup`.

@@ -4,11 +4,11 @@ ghost use Prim.Native.Nat.{_<_};
 ghost use Rattle.definitions.specs.Limits.{week-minutes};
 ghost use Rattle.definitions.specs.Week.{minute-of-week, Admits};
 ghost use Rattle.opening_hours.specs.Lookup.{Asked, FirstFrom, minuteOf, admissionOf};
-use crate::limits::MINUTE_LIMIT;
-use crate::limits::WEEK;
-use crate::limits::WEEK_REFUSAL;
 use crate::list::list_fits;
+use records::limits::MINUTE_LIMIT;
 use records::limits::OFFSET;
+use records::limits::WEEK;
+use records::limits::WEEK_REFUSAL;
 use records::offset::whole_within;
 
 // What looking up answers: the first open minute, never, or the number of the refusal.

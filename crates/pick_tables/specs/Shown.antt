@@ -6,6 +6,7 @@ use mathlib.Core.List.{List}
 use lib.Dec.{eqb, ltb}
 use lib.ListN.{length, getD}
 use Rattle.base.specs.Filled.{Filled}
+use Rattle.definitions.specs.Limits.{stride, arcs-size, table-rows}
 use Rattle.definitions.specs.Tropical.{plus, largest, _⊑_, Finite}
 use Rattle.reach.specs.Spreading.{markOf}
 use Rattle.trials.specs.Tables.{entryOf, pointOf}
@@ -20,21 +21,21 @@ shownPick many mark pick = cond (eqb mark 0) 0 (cond (ltb pick many) (pick + 1) 
 
 -- The arc by row i to variable l, 0 where i is no row.
 unfoldable pub arcBy : List ℕ → ℕ → ℕ → ℕ → ℕ
-arcBy right rows i l = cond (ltb i rows) (getD right (i * 32 + l) 0) 0
+arcBy right rows i l = cond (ltb i rows) (getD right (i * stride + l) 0) 0
 
 -- The arcs of a strategy of variables, entry by entry.
 abbrev pub VariableArcs : List ℕ → List ℕ → ℕ → ℕ → List ℕ → Type 0
-VariableArcs right picks rows n arcs = Filled (λ k v. v ≡ arcBy right rows (getD picks (k / 32) 0) (k % 32)) 1024 n arcs
+VariableArcs right picks rows n arcs = Filled (λ k v. v ≡ arcBy right rows (getD picks (k / stride) 0) (k % stride)) arcs-size n arcs
 
 -- The picks of a strategy of variables, by marks.
 abbrev pub ShownVariables : List ℕ → List ℕ → ℕ → ℕ → List ℕ → Type 0
-ShownVariables picks marks rows n out = Filled (λ j v. v ≡ shownPick rows (getD marks j 0) (getD picks j 0)) 64 n out
+ShownVariables picks marks rows n out = Filled (λ j v. v ≡ shownPick rows (getD marks j 0) (getD picks j 0)) table-rows n out
 
 -- The picks of a strategy of variables, by the marks of what it reaches.
 pub record VariablePicks (right picks : List ℕ) (width rows : ℕ) (out : List ℕ) : Type 0 where
   pub arcs : List ℕ
   pub marks : List ℕ
-  pub arcs-are : VariableArcs right picks rows (width * 32) arcs
+  pub arcs-are : VariableArcs right picks rows (width * stride) arcs
   pub reached : Reached arcs width marks
   pub shown : ShownVariables picks marks rows width out
 
@@ -45,7 +46,7 @@ pub record RowTo (left picks : List ℕ) (rows j l : ℕ) : Type 0 where
   pub row : ℕ
   pub inside : row < rows
   pub picked : getD picks row 0 ≡ l
-  pub left-is : getD left (row * 32 + j) 0 ≡ 0 → ⊥
+  pub left-is : getD left (row * stride + j) 0 ≡ 0 → ⊥
 
 -- The arc from j to l: not 0 exactly when some row leads there.
 pub record RowArcIs (left picks : List ℕ) (rows j l r : ℕ) : Type 0 where
@@ -54,14 +55,14 @@ pub record RowArcIs (left picks : List ℕ) (rows j l r : ℕ) : Type 0 where
 
 -- The arcs of a strategy of rows, entry by entry.
 abbrev pub RowArcs : List ℕ → List ℕ → ℕ → ℕ → List ℕ → Type 0
-RowArcs left picks rows n arcs = Filled (λ k v. RowArcIs left picks rows (k / 32) (k % 32) v) 1024 n arcs
+RowArcs left picks rows n arcs = Filled (λ k v. RowArcIs left picks rows (k / stride) (k % stride) v) arcs-size n arcs
 
 -- The arcs to variable l by a row that picks it and whose left coefficients start at `base`: the first n places of column
 -- l are set where these are not 0, and all others are as they were.
 pub record Column (left : List ℕ) (base l n : ℕ) (old new : List ℕ) : Type 0 where
   pub same : length new ≡ length old
-  pub cells : (j : ℕ) → j < n → getD new (j * 32 + l) 0 ≡ markOf (getD old (j * 32 + l) 0) (getD left (base + j) 0)
-  pub others : (k : ℕ) → (k % 32 ≡ l → n ≤ k / 32) → getD new k 0 ≡ getD old k 0
+  pub cells : (j : ℕ) → j < n → getD new (j * stride + l) 0 ≡ markOf (getD old (j * stride + l) 0) (getD left (base + j) 0)
+  pub others : (k : ℕ) → (k % stride ≡ l → n ≤ k / stride) → getD new k 0 ≡ getD old k 0
 
 -- A test of two numbers: both are above 0.
 pub record BothAre (a b : ℕ) (r : Bool) : Type 0 where
@@ -73,7 +74,7 @@ pub record UsedBy (left marks : List ℕ) (width i : ℕ) : Type 0 where
   pub at : ℕ
   pub inside : at < width
   pub marked : Marked marks width at
-  pub left-is : getD left (i * 32 + at) 0 ≡ 0 → ⊥
+  pub left-is : getD left (i * stride + at) 0 ≡ 0 → ⊥
 
 -- The mark of a row: not 0 exactly when it is in use.
 pub record UsedIs (left marks : List ℕ) (width i r : ℕ) : Type 0 where
@@ -87,13 +88,13 @@ pub record RowShown (left marks : List ℕ) (width i pick v : ℕ) : Type 0 wher
   pub is : v ≡ shownPick width mark pick
 
 abbrev pub ShownRows : List ℕ → List ℕ → List ℕ → ℕ → ℕ → List ℕ → Type 0
-ShownRows left picks marks width n out = Filled (λ i v. RowShown left marks width i (getD picks i 0) v) 64 n out
+ShownRows left picks marks width n out = Filled (λ i v. RowShown left marks width i (getD picks i 0) v) table-rows n out
 
 -- The picks of a strategy of rows, by the marks of what it reaches.
 pub record RowPicks (left picks : List ℕ) (width rows : ℕ) (out : List ℕ) : Type 0 where
   pub arcs : List ℕ
   pub marks : List ℕ
-  pub arcs-are : RowArcs left picks rows (width * 32) arcs
+  pub arcs-are : RowArcs left picks rows (width * stride) arcs
   pub reached : Reached arcs width marks
   pub shown : ShownRows left picks marks width rows out
 
@@ -116,4 +117,4 @@ pub record BestIs (right : List ℕ) (row : ℕ) (x : List ℕ) (width pick : �
       → (pick < width) × (largest (λ l. plus (entryOf right row l) (pointOf x l)) width ⊑ plus (entryOf right row pick) (pointOf x pick))
 
 abbrev pub InducedRows : List ℕ → List ℕ → ℕ → ℕ → List ℕ → Type 0
-InducedRows right x width n picks = Filled (λ i v. BestIs right i x width v) 64 n picks
+InducedRows right x width n picks = Filled (λ i v. BestIs right i x width v) table-rows n picks

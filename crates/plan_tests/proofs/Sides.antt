@@ -15,7 +15,7 @@ use Rattle.base.specs.Numbers.{most}
 use Rattle.base.specs.Decides.{Decides}
 use Rattle.base.proofs.Numbers.{nat-le-or-lt, positive, most-one, most-left, most-right}
 use Rattle.base.proofs.Decides.{decides-as, said-yes}
-use Rattle.definitions.specs.Limits.{signed-half, signed-full, lead-limit, stamp-limit}
+use Rattle.definitions.specs.Limits.{signed-half, signed-full, lead-limit, stamp-limit, signed-bytes, problem-most}
 use Rattle.definitions.specs.Tropical.{Trop, bot, fin, plus, blank-least, larger, largest}
 use Rattle.definitions.specs.Problem.{Keeps, side, value, minus, minus-infinity, plus-infinity, whole}
 use Rattle.definitions.specs.ProblemRecord.{nField, leftPlace, rightPlace, problemOf}
@@ -214,7 +214,7 @@ full e = omega arith
 -- ---- the rows of a problem
 
 -- A row ends within the longest problem.
-pub row-small : {s : List ℕ} {n m : ℕ} → Laid s n m → (i : ℕ) {left : ℕ} → i ≤ m → left ≡ leftPlace n i 0 → left + 8 * (n + 1) ≤ 16394
+pub row-small : {s : List ℕ} {n m : ℕ} → Laid s n m → (i : ℕ) {left : ℕ} → i ≤ m → left ≡ leftPlace n i 0 → left + 2 * signed-bytes * (n + 1) ≤ problem-most
 row-small {n = n} {m} laid i row place = omega (arith, laid .size-is, row-inside laid i row, product-most n m (laid .n-most) (laid .m-most))
 
 module _ {s : List ℕ} {n m : ℕ} (laid : Laid s n m) {stamps x : List ℕ} (stamped : Stamped stamps) (low : Lowered stamps (n + 1) x) where

@@ -8,7 +8,7 @@ use lib.Dec.{eqb}
 use lib.ListN.{length, getD}
 use Rattle.base.specs.Numbers.{most}
 use Rattle.base.specs.Filled.{Filled}
-use Rattle.definitions.specs.Limits.{lead-limit, stamp-limit, signed-bytes}
+use Rattle.definitions.specs.Limits.{lead-limit, stamp-limit, signed-bytes, stride}
 use Rattle.records.specs.Decoded.{Near}
 use Rattle.problem_records.specs.Tables.{leadAt}
 
@@ -22,7 +22,7 @@ lowered k = cond (eqb k 0) 0 (k - stamp-drop)
 
 -- The first k stamps, lowered, then blanks: 32 places.
 abbrev pub Lowered : List ℕ → ℕ → List ℕ → Type 0
-Lowered stamps k x = Filled (λ l v. v ≡ lowered (getD stamps l 0)) 32 k x
+Lowered stamps k x = Filled (λ l v. v ≡ lowered (getD stamps l 0)) stride k x
 
 -- A lead and a lowered stamp in range have a sum above this, 2³¹ + 2²⁹, where both are whole, and below it where one is blank.
 abbrev pub side-floor : ℕ
@@ -48,6 +48,6 @@ sideOf f x k = sideBy (bestSum f x k)
 -- At most 32 leads from a place on, inside the bytes and in range, and lowered stamps, none above the highest.
 pub record RowSized (s : List ℕ) (at count : ℕ) (x : List ℕ) : Type 0 where
   pub inside : at + signed-bytes * count ≤ length s
-  pub few : count ≤ 32
+  pub few : count ≤ stride
   pub leads : (l : ℕ) → l < count → Near lead-limit (run s at l)
   pub points : (l : ℕ) → getD x l 0 ≤ stamp-drop + stamp-limit

@@ -6,7 +6,7 @@ ghost use lib.Dec.{ltb};
 ghost use lib.ListN.{length};
 ghost use lib.IntN.{ℤ};
 ghost use Rattle.base.specs.Decides.{Decides};
-ghost use Rattle.definitions.specs.Limits.{stamp-limit, signed-full};
+ghost use Rattle.definitions.specs.Limits.{stamp-limit, signed-full, stride, signed-bytes};
 ghost use Rattle.definitions.specs.Tropical.{fin};
 ghost use Rattle.definitions.specs.Problem.{Keeps, value, whole};
 ghost use Rattle.definitions.specs.Offset.{tropOf, off};
@@ -20,6 +20,7 @@ use records::bytes::word_in;
 use records::limits::HIGHEST_N;
 use records::limits::LEAD_BYTES;
 use records::limits::OFFSET;
+use records::limits::OFFSET_32;
 use records::limits::PROBLEM_HEADER;
 use records::limits::STRIDE;
 use records::offset::later;
@@ -27,10 +28,10 @@ use records::offset::offset_32;
 use records::offset::raised;
 
 // What stamps are lowered by, so that their sums with coefficients stay below 2³².
-const STAMP_DROP: u32 = 1073741824;
+const STAMP_DROP: u32 = OFFSET_32 / 2;
 
 // Two whole numbers in range have a sum above this, a whole number and blank one below it.
-const SIDE_FLOOR: u32 = 2684354560;
+const SIDE_FLOOR: u32 = OFFSET_32 + STAMP_DROP / 2;
 
 // A stamp lowered.
 fn lower(stamp: u64) -> u32
@@ -45,11 +46,11 @@ fn lower(stamp: u64) -> u32
 }
 
 // The stamps lowered, then blanks.
-fn lower_point(stamps: &[u64; 32], width: usize) -> [u32; 32]
-    requires { ⌜ Stamped (now stamps) × (width ≤ 32) ⌝ }
+fn lower_point(stamps: &[u64; STRIDE], width: usize) -> [u32; STRIDE]
+    requires { ⌜ Stamped (now stamps) × (width ≤ stride) ⌝ }
     ensures { λ r. ⌜ Lowered (now (stamps .entry)) width r ⌝ }
 {
-    let mut x = [0u32; 32];
+    let mut x = [0u32; STRIDE];
     for l in 0..width {
         x[l] = lower(stamps[l]);
     }
@@ -58,14 +59,14 @@ fn lower_point(stamps: &[u64; 32], width: usize) -> [u32; 32]
 
 // The lead at a place of the bytes with a lowered stamp added, as a field whose offset number is the sum.
 fn sum_in(bytes: &[u8], at: usize, x: u32) -> u32
-    requires { ⌜ (at + 4 ≤ length (now bytes)) × (leadAt (now bytes) at + x < signed-full) ⌝ }
+    requires { ⌜ (at + signed-bytes ≤ length (now bytes)) × (leadAt (now bytes) at + x < signed-full) ⌝ }
     ensures { λ r. ⌜ (off r ≡ leadAt (now (bytes .entry)) at + x) × (r < signed-full) ⌝ }
 {
     raised(word_in(bytes, at), x)
 }
 
 // The largest of `count` sums, as a field: one side of a row whose leads start at a place.
-fn best_of(bytes: &[u8], at: usize, count: usize, x: &[u32; 32]) -> u32
+fn best_of(bytes: &[u8], at: usize, count: usize, x: &[u32; STRIDE]) -> u32
     requires { ⌜ RowSized (now bytes) at count (now x) ⌝ }
     ensures { λ r. ⌜ (off r ≡ bestSum (run (now (bytes .entry)) at) (now (x .entry)) count) × (r < signed-full) ⌝ }
 {
@@ -79,7 +80,7 @@ fn best_of(bytes: &[u8], at: usize, count: usize, x: &[u32; 32]) -> u32
 }
 
 // The same for a row of n + 1 leads. Rows of the full width have a call of their own, which is compiled for that length.
-fn best(bytes: &[u8], at: usize, n: usize, x: &[u32; 32]) -> u32
+fn best(bytes: &[u8], at: usize, n: usize, x: &[u32; STRIDE]) -> u32
     requires { ⌜ RowSized (now bytes) at (n + 1) (now x) ⌝ }
     ensures { λ r. ⌜ (off r ≡ bestSum (run (now (bytes .entry)) at) (now (x .entry)) (n + 1)) × (r < signed-full) ⌝ }
 {
@@ -98,7 +99,7 @@ fn still(kept: bool, limit: u32, sum: u32) -> bool
 }
 
 // None of `count` sums is above the limit. All are looked at, so that the loop has no branch.
-fn none_above_of(bytes: &[u8], at: usize, count: usize, x: &[u32; 32], limit: u32) -> bool
+fn none_above_of(bytes: &[u8], at: usize, count: usize, x: &[u32; STRIDE], limit: u32) -> bool
     requires { ⌜ RowSized (now bytes) at count (now x) × (side-floor ≤ limit) ⌝ }
     ensures { λ r. ⌜ Decides (bestSum (run (now (bytes .entry)) at) (now (x .entry)) count ≤ limit) r ⌝ }
 {
@@ -112,7 +113,7 @@ fn none_above_of(bytes: &[u8], at: usize, count: usize, x: &[u32; 32], limit: u3
 }
 
 // The same for a row of n + 1 leads.
-fn none_above(bytes: &[u8], at: usize, n: usize, x: &[u32; 32], limit: u32) -> bool
+fn none_above(bytes: &[u8], at: usize, n: usize, x: &[u32; STRIDE], limit: u32) -> bool
     requires { ⌜ RowSized (now bytes) at (n + 1) (now x) × (side-floor ≤ limit) ⌝ }
     ensures { λ r. ⌜ Decides (bestSum (run (now (bytes .entry)) at) (now (x .entry)) (n + 1) ≤ limit) r ⌝ }
 {
@@ -123,7 +124,7 @@ fn none_above(bytes: &[u8], at: usize, n: usize, x: &[u32; 32], limit: u32) -> b
 }
 
 // The row whose left leads start at `left` and whose right leads start at `right` stands: no left sum is above the right side.
-fn row_stands(bytes: &[u8], left: usize, right: usize, n: usize, x: &[u32; 32]) -> bool
+fn row_stands(bytes: &[u8], left: usize, right: usize, n: usize, x: &[u32; STRIDE]) -> bool
     requires { ⌜ RowSized (now bytes) left (n + 1) (now x) × RowSized (now bytes) right (n + 1) (now x) ⌝ }
     ensures { λ r. ⌜ Decides (bestSum (run (now (bytes .entry)) left) (now (x .entry)) (n + 1) ≤ bestSum (run (now (bytes .entry)) right) (now (x .entry)) (n + 1)) r ⌝ }
 {
@@ -131,7 +132,7 @@ fn row_stands(bytes: &[u8], left: usize, right: usize, n: usize, x: &[u32; 32]) 
 }
 
 // The point keeps every inequality. Public for the checker's `check`.
-pub fn keeps_rules(bytes: &[u8], n: usize, m: usize, stamps: &[u64; 32]) -> bool
+pub fn keeps_rules(bytes: &[u8], n: usize, m: usize, stamps: &[u64; STRIDE]) -> bool
     requires { ⌜ Laid (now bytes) n m × Stamped (now stamps) ⌝ }
     ensures { λ r. ⌜ Decides ((i : ℕ) → i < m → Keeps (problemOf (now (bytes .entry))) (stampsPoint (now (stamps .entry))) i) r ⌝ }
 {
@@ -149,7 +150,7 @@ pub fn keeps_rules(bytes: &[u8], n: usize, m: usize, stamps: &[u64; 32]) -> bool
 }
 
 // One side of a row of n + 1 leads, blank or the largest sum.
-fn side(bytes: &[u8], at: usize, n: usize, x: &[u32; 32]) -> u64
+fn side(bytes: &[u8], at: usize, n: usize, x: &[u32; STRIDE]) -> u64
     requires { ⌜ RowSized (now bytes) at (n + 1) (now x) ⌝ }
     ensures { λ r. ⌜ r ≡ sideOf (run (now (bytes .entry)) at) (now (x .entry)) (n + 1) ⌝ }
 {
@@ -162,8 +163,8 @@ fn side(bytes: &[u8], at: usize, n: usize, x: &[u32; 32]) -> u64
 }
 
 // The point's objective value is the span s. Public for the checker's `check`.
-pub fn value_is(bytes: &[u8], n: usize, m: usize, stamps: &[u64; 32], s: u64) -> bool
-    requires { ⌜ Laid (now bytes) n m × Stamped (now stamps) × (s ≤ 4294967296) ⌝ }
+pub fn value_is(bytes: &[u8], n: usize, m: usize, stamps: &[u64; STRIDE], s: u64) -> bool
+    requires { ⌜ Laid (now bytes) n m × Stamped (now stamps) × (s ≤ signed-full) ⌝ }
     ensures { λ r. ⌜ ((z : ℤ) → tropOf s ≡ fin z → Decides (value (problemOf (now (bytes .entry))) (stampsPoint (now (stamps .entry))) ≡ whole z) r) ⌝ }
 {
     let x = lower_point(stamps, n + 1);

@@ -7,9 +7,9 @@ use mathlib.Core.List.{List}
 use lib.Dec.{leb}
 use lib.ListN.{length, getD}
 use Rattle.base.specs.Filled.{Filled}
-use Rattle.definitions.specs.Limits.{highest-n, highest-m, signed-bytes}
+use Rattle.definitions.specs.Limits.{highest-n, highest-m, signed-bytes, stride, table-size}
 use Rattle.definitions.specs.ProblemRecord.{leftPlace, rightPlace, problemSize}
-use Rattle.problem_records.specs.Tables.{table-size, leadAt, cell}
+use Rattle.problem_records.specs.Tables.{leadAt, cell}
 
 -- A problem's bytes hold the leads of n + 1 variables in m + 1 rows, both within the limits, and the two tables have room.
 pub record Framed (s : List ℕ) (n m : ℕ) (left right : List ℕ) : Type 0 where
@@ -21,7 +21,7 @@ pub record Framed (s : List ℕ) (n m : ℕ) (left right : List ℕ) : Type 0 wh
 
 -- A row of 32 by itself: f 0, …, f (count − 1), then 0.
 abbrev pub RowOf : (ℕ → ℕ) → ℕ → List ℕ → Type 0
-RowOf f count row = Filled (λ j v. v ≡ f j) 32 count row
+RowOf f count row = Filled (λ j v. v ≡ f j) stride count row
 
 -- Element j of a row whose leads start at a place: n + 1 leads, then 0.
 unfoldable pub rowCell : List ℕ → ℕ → ℕ → ℕ → ℕ

@@ -6,7 +6,7 @@ use mathlib.Core.Bool.{Bool, cond, _&&_}
 use mathlib.Core.List.{List, map}
 use lib.Dec.{leb}
 use lib.ListN.{length}
-use Rattle.definitions.specs.Limits.{highest-n, highest-m, lead-limit, signed-bytes}
+use Rattle.definitions.specs.Limits.{highest-n, highest-m, lead-limit, signed-bytes, stride, table-size}
 use Rattle.definitions.specs.Bytes.{Bytes, numAt, numsAt, tropField, all, blank-or-within}
 use Rattle.definitions.specs.Offset.{off}
 use Rattle.definitions.specs.ProblemRecord.{problemSize, nField, mField, leftPlace, rightPlace, listOf, problemRefusal, problemOutcome, WithinLayout}
@@ -16,13 +16,6 @@ use Rattle.records.specs.ProblemHeader.{headerOf}
 -- Each of `count` leads from a place on is blank or within the limit.
 abbrev pub runFits : List ℕ → ℕ → ℕ → Bool
 runFits s count at = all (blank-or-within lead-limit) (map tropField (numsAt signed-bytes count s at))
-
--- The columns of a row, and the elements of a table.
-abbrev pub stride : ℕ
-stride = 32
-
-abbrev pub table-size : ℕ
-table-size = 2048
 
 -- The offset number of the lead at a place.
 abbrev pub leadAt : List ℕ → ℕ → ℕ

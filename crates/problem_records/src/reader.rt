@@ -4,7 +4,7 @@ ghost use Prim.Native.Nat.{_+_, _*_, _-_, _<_, _≤_};
 ghost use mathlib.Core.Bool.{cond};
 ghost use lib.ListN.{length, getD};
 ghost use Rattle.base.specs.Filled.{FilledFrom};
-ghost use Rattle.definitions.specs.Limits.{lead-limit};
+ghost use Rattle.definitions.specs.Limits.{lead-limit, signed-full, leads-most, problem-header, signed-bytes, highest-n, highest-m, last-row, stride, table-size};
 ghost use Rattle.definitions.specs.Bytes.{tropField, blank-or-within};
 ghost use Rattle.definitions.specs.ProblemRecord.{leftPlace, problemOutcome};
 ghost use Rattle.records.specs.ProblemHeader.{headerOf};
@@ -29,7 +29,7 @@ const LEAD_LIMIT_32: u32 = LEAD_LIMIT as u32;
 
 // A 4-byte field holds a lead: blank, or within the limit.
 fn lead_fits(w: u32) -> bool
-    requires { ⌜ w < 4294967296 ⌝ }
+    requires { ⌜ w < signed-full ⌝ }
     ensures { λ r. ⌜ r ≡ blank-or-within lead-limit (tropField w) ⌝ }
 {
     let k = offset_32(w);
@@ -44,7 +44,7 @@ fn lead_fits(w: u32) -> bool
 
 // 0 where a 4-byte field holds a lead, else 1.
 fn misfit(w: u32) -> u32
-    requires { ⌜ w < 4294967296 ⌝ }
+    requires { ⌜ w < signed-full ⌝ }
     ensures { λ r. ⌜ (r ≡ cond (blank-or-within lead-limit (tropField w)) 0 1) × (r ≤ 1) ⌝ }
 {
     if lead_fits(w) { 0 } else { 1 }
@@ -53,8 +53,8 @@ fn misfit(w: u32) -> u32
 // Each of the first `count` leads of a problem is blank or within the limit. All are looked at, so that the loop has no
 // branch.
 fn leads_fit(bytes: &[u8], count: usize) -> bool
-    requires { ⌜ (count ≤ 4096) × (10 + 4 * count ≤ length (now bytes)) ⌝ }
-    ensures { λ r. ⌜ r ≡ runFits (now (bytes .entry)) count 10 ⌝ }
+    requires { ⌜ (count ≤ leads-most) × (problem-header + signed-bytes * count ≤ length (now bytes)) ⌝ }
+    ensures { λ r. ⌜ r ≡ runFits (now (bytes .entry)) count problem-header ⌝ }
 {
     let mut at = PROBLEM_HEADER;
     let mut misfits = 0u32;
@@ -67,8 +67,8 @@ fn leads_fit(bytes: &[u8], count: usize) -> bool
 
 // The lead at a place of the bytes, as an offset number. Public for `closed_walks::arcs`, `strategy_tests::certify`.
 pub fn lead_in(bytes: &[u8], at: usize) -> u32
-    requires { ⌜ at + 4 ≤ length (now bytes) ⌝ }
-    ensures { λ r. ⌜ (r ≡ leadAt (now (bytes .entry)) at) × (r < 4294967296) ⌝ }
+    requires { ⌜ at + signed-bytes ≤ length (now bytes) ⌝ }
+    ensures { λ r. ⌜ (r ≡ leadAt (now (bytes .entry)) at) × (r < signed-full) ⌝ }
 {
     offset_32(word_in(bytes, at))
 }
@@ -76,16 +76,16 @@ pub fn lead_in(bytes: &[u8], at: usize) -> u32
 // Where the leads of row i start, in a problem of n + 1 variables. Public for `closed_walks::arcs`, `plan_tests`,
 // `strategy_tests::certify`.
 pub fn row_place(n: usize, i: usize) -> usize
-    requires { ⌜ (n ≤ 31) × (i ≤ 63) ⌝ }
-    ensures { λ r. ⌜ (r ≡ leftPlace n i 0) × (r ≤ 16138) ⌝ }
+    requires { ⌜ (n ≤ highest-n) × (i ≤ highest-m) ⌝ }
+    ensures { λ r. ⌜ (r ≡ leftPlace n i 0) × (r ≤ last-row) ⌝ }
 {
     PROBLEM_HEADER + 2 * LEAD_BYTES * (i * (n + 1))
 }
 
 // `count` leads from a place of the bytes, then blanks.
 fn row_of(bytes: &[u8], at: usize, count: usize) -> [u32; STRIDE]
-    requires { ⌜ (count ≤ 32) × (at + 4 * count ≤ length (now bytes)) ⌝ }
-    ensures { λ r. ⌜ RowOf (λ j. leadAt (now (bytes .entry)) (at + 4 * j)) count r ⌝ }
+    requires { ⌜ (count ≤ stride) × (at + signed-bytes * count ≤ length (now bytes)) ⌝ }
+    ensures { λ r. ⌜ RowOf (λ j. leadAt (now (bytes .entry)) (at + signed-bytes * j)) count r ⌝ }
 {
     let mut row = [0u32; STRIDE];
     let mut from = at;
@@ -99,8 +99,8 @@ fn row_of(bytes: &[u8], at: usize, count: usize) -> [u32; STRIDE]
 // n + 1 leads from a place of the bytes, then blanks. Rows of the full width have a call of their own, which is compiled for
 // that length.
 fn leads_of(bytes: &[u8], at: usize, n: usize) -> [u32; STRIDE]
-    requires { ⌜ (n ≤ 31) × (at + 4 * (n + 1) ≤ length (now bytes)) ⌝ }
-    ensures { λ r. ⌜ RowOf (λ j. leadAt (now (bytes .entry)) (at + 4 * j)) (n + 1) r ⌝ }
+    requires { ⌜ (n ≤ highest-n) × (at + signed-bytes * (n + 1) ≤ length (now bytes)) ⌝ }
+    ensures { λ r. ⌜ RowOf (λ j. leadAt (now (bytes .entry)) (at + signed-bytes * j)) (n + 1) r ⌝ }
 {
     if n == HIGHEST_N {
         return row_of(bytes, at, STRIDE);
@@ -110,8 +110,8 @@ fn leads_of(bytes: &[u8], at: usize, n: usize) -> [u32; STRIDE]
 
 // A row is copied into a table, from an element on.
 fn put_row(row: &[u32; STRIDE], table: &mut [u32], base: usize)
-    requires { ⌜ (length (now row) ≡ 32) × (base + 32 ≤ length (now table)) ⌝ }
-    ensures { λ _. ⌜ FilledFrom (λ j. getD (now (row .entry)) j 0) base 32 (now (table .entry)) (now (table .exit)) ⌝ }
+    requires { ⌜ (length (now row) ≡ stride) × (base + stride ≤ length (now table)) ⌝ }
+    ensures { λ _. ⌜ FilledFrom (λ j. getD (now (row .entry)) j 0) base stride (now (table .entry)) (now (table .exit)) ⌝ }
 {
     for j in 0..STRIDE {
         table[base + j] = row[j];
@@ -130,8 +130,8 @@ fn clear(table: &mut [u32], base: usize, count: usize)
 
 // A row of a table: n + 1 leads from a place of the bytes, then blanks.
 fn read_row(bytes: &[u8], at: usize, n: usize, table: &mut [u32], base: usize)
-    requires { ⌜ (n ≤ 31) × (at + 4 * (n + 1) ≤ length (now bytes)) × (base + 32 ≤ length (now table)) ⌝ }
-    ensures { λ _. ⌜ FilledFrom (rowCell (now (bytes .entry)) at n) base 32 (now (table .entry)) (now (table .exit)) ⌝ }
+    requires { ⌜ (n ≤ highest-n) × (at + signed-bytes * (n + 1) ≤ length (now bytes)) × (base + stride ≤ length (now table)) ⌝ }
+    ensures { λ _. ⌜ FilledFrom (rowCell (now (bytes .entry)) at n) base stride (now (table .entry)) (now (table .exit)) ⌝ }
 {
     let row = leads_of(bytes, at, n);
     put_row(&row, table, base);
@@ -140,7 +140,7 @@ fn read_row(bytes: &[u8], at: usize, n: usize, table: &mut [u32], base: usize)
 // The leads of n + 1 variables in m + 1 rows, into the first m + 1 rows of both tables.
 fn read_rows(bytes: &[u8], n: usize, m: usize, left: &mut [u32], right: &mut [u32])
     requires { ⌜ Framed (now bytes) n m (now left) (now right) ⌝ }
-    ensures { λ _. ⌜ Tabled (now (bytes .entry)) n m (32 * (m + 1)) (now (left .exit)) (now (right .exit)) ⌝ }
+    ensures { λ _. ⌜ Tabled (now (bytes .entry)) n m (stride * (m + 1)) (now (left .exit)) (now (right .exit)) ⌝ }
 {
     let step = LEAD_BYTES * (n + 1);
     let mut at = PROBLEM_HEADER;
@@ -156,7 +156,7 @@ fn read_rows(bytes: &[u8], n: usize, m: usize, left: &mut [u32], right: &mut [u3
 // `check`.
 pub fn read_tables(bytes: &[u8], n: usize, m: usize, left: &mut [u32], right: &mut [u32])
     requires { ⌜ Framed (now bytes) n m (now left) (now right) ⌝ }
-    ensures { λ _. ⌜ Tabled (now (bytes .entry)) n m 2048 (now (left .exit)) (now (right .exit)) ⌝ }
+    ensures { λ _. ⌜ Tabled (now (bytes .entry)) n m table-size (now (left .exit)) (now (right .exit)) ⌝ }
 {
     read_rows(bytes, n, m, left, right);
     let used = STRIDE * (m + 1);

@@ -4,7 +4,7 @@ use mathlib.Core.Path.{_≡_, refl, ap, sym, _∙_}
 use mathlib.Core.List.{List}
 use native.Mathlib.Omega.{arith}
 use native.Mathlib.Nat.{mul-le-mul-left, mul-le-mul-right}
-use Rattle.definitions.specs.Limits.{highest-n, highest-m, length-bytes, problem-kind, problem-header}
+use Rattle.definitions.specs.Limits.{highest-n, highest-m, length-bytes, problem-kind, problem-header, stride, table-rows, table-size}
 use Rattle.definitions.specs.Bytes.{Outcome, outcome}
 use Rattle.definitions.specs.ProblemRecord.{lengthField, kindField, nField, mField, layoutOf, headerRefusal, headerJudged, headerOutcome, problemSize}
 use Rattle.definitions.specs.ProblemRecord as Problems
@@ -34,8 +34,8 @@ unfolding headerOutcome headerRefusal
 header-judged s size r a b c d e g f = rw (f, g, e, a, b, c, d)
 
 -- The leads of a table within the limits are at most 2,048.
-pub product-most : (n m : ℕ) → n ≤ 31 → m ≤ 63 → (n + 1) * (m + 1) ≤ 2048
-product-most n m h k = omega (arith, mul-le-mul-right {m = n + 1} {n = 32} (m + 1) (omega arith), mul-le-mul-left {m = m + 1} {n = 64} 32 (omega arith))
+pub product-most : (n m : ℕ) → n ≤ highest-n → m ≤ highest-m → (n + 1) * (m + 1) ≤ table-size
+product-most n m h k = omega (arith, mul-le-mul-right {m = n + 1} {n = stride} (m + 1) (omega arith), mul-le-mul-left {m = m + 1} {n = table-rows} stride (omega arith))
 
 -- The facts of a header that nothing refuses, with its layout.
 pub record HeaderFits (s : List ℕ) (size : ℕ) (l : Layout) : Type 0 where

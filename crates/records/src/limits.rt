@@ -27,6 +27,14 @@ pub const SPAN_LIMIT: u64 = 2 * STRIDE_64 * LEAD_LIMIT;
 
 pub const STAMP_LIMIT: u64 = 2000000;
 
+// The most trials that an answer takes.
+pub const MOST_TRIALS: u64 = 23;
+
+// The trials counted for none and for bottomless: the outer ones, with which those for least begin.
+pub const TRIALS_INFEASIBLE: u64 = 1;
+
+pub const TRIALS_UNBOUNDED: u64 = 2;
+
 // The numbers that a byte can be; the offset number of 0, and the first number that 4 bytes do not hold.
 pub const BYTE: u64 = 256;
 

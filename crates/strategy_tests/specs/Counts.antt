@@ -3,13 +3,14 @@ use Prim.Native.Nat.{ℕ, suc, _+_, _*_, _<_}
 use mathlib.Core.Path.{_≡_}
 use mathlib.Core.List.{List}
 use lib.ListN.{getD}
+use Rattle.definitions.specs.Limits.{stride}
 use Rattle.reach.specs.Marks.{Marked}
 
 -- Variable j's pick is a row whose left coefficient for j is not blank.
 pub record PickCounts (left : List ℕ) (pick j : ℕ) : Type 0 where
   pub row : ℕ
   pub picked : pick ≡ suc row
-  pub some : 0 < getD left (row * 32 + j) 0
+  pub some : 0 < getD left (row * stride + j) 0
 
 -- The pick of the row whose right coefficients start at `base` is a variable whose right coefficient there is not blank.
 pub record RowPickCounts (right : List ℕ) (pick base : ℕ) : Type 0 where
@@ -35,4 +36,4 @@ Stands left right marks width base pick = (j : ℕ) → j < width → Marked mar
 
 -- Each row below k stands.
 abbrev pub RowsCount : List ℕ → List ℕ → List ℕ → List ℕ → ℕ → ℕ → Type 0
-RowsCount left right picks marks width k = (i : ℕ) → i < k → Stands left right marks width (i * 32) (getD picks i 0)
+RowsCount left right picks marks width k = (i : ℕ) → i < k → Stands left right marks width (i * stride) (getD picks i 0)

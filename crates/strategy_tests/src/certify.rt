@@ -6,6 +6,7 @@ ghost use Prim.Native.Nat.{ℕ, suc, _+_, _*_, _≤_, _<_};
 ghost use lib.IntN.{ℤ};
 ghost use lib.ListN.{length, getD};
 ghost use Rattle.base.specs.Decides.{Decides};
+ghost use Rattle.definitions.specs.Limits.{stride, table-size, table-rows};
 ghost use Rattle.definitions.specs.Tropical.{fin};
 ghost use Rattle.definitions.specs.Offset.{tropOf};
 ghost use Rattle.definitions.specs.Problem.{Problem};
@@ -22,10 +23,11 @@ use closed_walks::gains::none_gains;
 use closed_walks::gains::order_of;
 use problem_records::reader::lead_in;
 use problem_records::reader::row_place;
-use reach::ARCS;
 use reach::anchor;
 use reach::reach;
+use records::limits::ARCS;
 use records::limits::LEAD_BYTES;
+use records::limits::ROWS;
 use records::limits::STRIDE;
 use records::limits::TABLE;
 
@@ -46,11 +48,11 @@ fn variables_count(
     bytes: &[u8],
     n: usize,
     m: usize,
-    picks: &[u64; 64],
-    places: &[usize; 32],
+    picks: &[u64; ROWS],
+    places: &[usize; STRIDE],
     count: usize,
 ) -> bool
-    requires { ⌜ Laid (now bytes) n m × Picked (now picks) (m + 1) × (count ≤ 32) × ((i : ℕ) → i < count → getD (now places) i 0 ≤ n) ⌝ }
+    requires { ⌜ Laid (now bytes) n m × Picked (now picks) (m + 1) × (count ≤ stride) × ((i : ℕ) → i < count → getD (now places) i 0 ≤ n) ⌝ }
     ensures { λ r. ⌜ Decides (PlacesCount (leftTable (now (bytes .entry))) (now (picks .entry)) (now (places .entry)) count) r ⌝ }
 {
     for i in 0..count {
@@ -63,7 +65,7 @@ fn variables_count(
 }
 
 // A strategy of variables, judged at t, for a problem as bytes. Public for the checker's `check`.
-pub fn certify_variables(bytes: &[u8], n: usize, m: usize, picks: &[u64; 64], t: u64) -> bool
+pub fn certify_variables(bytes: &[u8], n: usize, m: usize, picks: &[u64; ROWS], t: u64) -> bool
     requires { ⌜ Laid (now bytes) n m × Trial t × Picked (now picks) (m + 1) ⌝ }
     ensures { λ r. ⌜ ((z : ℤ) → tropOf t ≡ fin z → Decides (PicksCount (problemOf (now (bytes .entry))) (strategyOf (now (picks .entry))) × BelowZero (problemOf (now (bytes .entry))) (strategyOf (now (picks .entry))) z) r) ⌝ }
 {
@@ -80,8 +82,8 @@ pub fn certify_variables(bytes: &[u8], n: usize, m: usize, picks: &[u64; 64], t:
 }
 
 // The row that starts at `base` has no left coefficient of a marked variable.
-fn row_idle(left: &[u32; TABLE], marks: &[u8; 32], base: usize, width: usize) -> bool
-    requires { ⌜ (base + width ≤ 2048) × (width ≤ 32) ⌝ }
+fn row_idle(left: &[u32; TABLE], marks: &[u8; STRIDE], base: usize, width: usize) -> bool
+    requires { ⌜ (base + width ≤ table-size) × (width ≤ stride) ⌝ }
     ensures { λ r. ⌜ Decides (Idle (now (left .entry)) (now (marks .entry)) base width) r ⌝ }
 {
     for j in 0..width {
@@ -96,7 +98,7 @@ fn row_idle(left: &[u32; TABLE], marks: &[u8; 32], base: usize, width: usize) ->
 
 // The row's pick counts.
 fn row_picks(right: &[u32; TABLE], base: usize, pick: usize) -> bool
-    requires { ⌜ (base + 32 ≤ 2048) × (pick ≤ 32) ⌝ }
+    requires { ⌜ (base + stride ≤ table-size) × (pick ≤ stride) ⌝ }
     ensures { λ r. ⌜ Decides (RowPickCounts (now (right .entry)) pick base) r ⌝ }
 {
     if pick == 0 {
@@ -110,12 +112,12 @@ fn row_picks(right: &[u32; TABLE], base: usize, pick: usize) -> bool
 fn row_stands(
     left: &[u32; TABLE],
     right: &[u32; TABLE],
-    marks: &[u8; 32],
+    marks: &[u8; STRIDE],
     width: usize,
     base: usize,
     pick: usize,
 ) -> bool
-    requires { ⌜ (base + 32 ≤ 2048) × (width ≤ 32) × (pick ≤ 32) ⌝ }
+    requires { ⌜ (base + stride ≤ table-size) × (width ≤ stride) × (pick ≤ stride) ⌝ }
     ensures { λ r. ⌜ Decides (Stands (now (left .entry)) (now (right .entry)) (now (marks .entry)) width base pick) r ⌝ }
 {
     if row_idle(left, marks, base, width) {
@@ -128,12 +130,12 @@ fn row_stands(
 fn rows_count(
     left: &[u32; TABLE],
     right: &[u32; TABLE],
-    picks: &[u64; 64],
-    marks: &[u8; 32],
+    picks: &[u64; ROWS],
+    marks: &[u8; STRIDE],
     width: usize,
     rows: usize,
 ) -> bool
-    requires { ⌜ Picked (now picks) 32 × (width ≤ 32) × (rows ≤ 64) ⌝ }
+    requires { ⌜ Picked (now picks) stride × (width ≤ stride) × (rows ≤ table-rows) ⌝ }
     ensures { λ r. ⌜ Decides (RowsCount (now (left .entry)) (now (right .entry)) (now (picks .entry)) (now (marks .entry)) width rows) r ⌝ }
 {
     for i in 0..rows {
@@ -150,7 +152,7 @@ pub fn certify_rows(
     right: &[u32; TABLE],
     n: usize,
     m: usize,
-    picks: &[u64; 64],
+    picks: &[u64; ROWS],
     t: u64,
 ) -> bool
     requires { ⌜ Sized (now left) (now right) n m × Trial t × Picked (now picks) (n + 1) ⌝ }

@@ -3,7 +3,7 @@ use Prim.Native.Nat.{ℕ, suc, _+_, _*_, _≤_, _<_}
 use mathlib.Core.Path.{_≡_}
 use mathlib.Core.List.{List}
 use lib.ListN.{getD}
-use Rattle.definitions.specs.Limits.{signed-half, highest-n, lead-limit}
+use Rattle.definitions.specs.Limits.{signed-half, highest-n, lead-limit, stride}
 use Rattle.definitions.specs.Problem.{Problem}
 use Rattle.duality.specs.Within.{Within}
 use Rattle.records.specs.Decoded.{Near}
@@ -17,13 +17,13 @@ pub record SizeIs (k r : ℕ) : Type 0 where
 
 -- The largest size in the first n places of a row.
 pub record RowNear (table : List ℕ) (row n r : ℕ) : Type 0 where
-  pub near : (l : ℕ) → l < n → Near r (getD table (row * 32 + l) 0)
-  pub least : (d : ℕ) → ((l : ℕ) → l < n → Near d (getD table (row * 32 + l) 0)) → r ≤ d
+  pub near : (l : ℕ) → l < n → Near r (getD table (row * stride + l) 0)
+  pub least : (d : ℕ) → ((l : ℕ) → l < n → Near d (getD table (row * stride + l) 0)) → r ≤ d
 
 -- The largest size in the first rows of a table.
 pub record RowsNear (table : List ℕ) (rows r : ℕ) : Type 0 where
-  pub near : (i l : ℕ) → i < rows → l < 32 → Near r (getD table (i * 32 + l) 0)
-  pub least : (d : ℕ) → ((i l : ℕ) → i < rows → l < 32 → Near d (getD table (i * 32 + l) 0)) → r ≤ d
+  pub near : (i l : ℕ) → i < rows → l < stride → Near r (getD table (i * stride + l) 0)
+  pub least : (d : ℕ) → ((i l : ℕ) → i < rows → l < stride → Near d (getD table (i * stride + l) 0)) → r ≤ d
 
 -- The trial −64 b − 1, as an offset number.
 abbrev pub FloorIs : ℕ → ℕ → Type 0

@@ -9,7 +9,7 @@ use lib.Dec.{eqb}
 use lib.ListN.{length, getD}
 use lib.IntN.{ℤ, subℕ}
 use Rattle.base.specs.Filled.{Filled}
-use Rattle.definitions.specs.Limits.{signed-half, highest-n, highest-m, lead-limit, span-limit}
+use Rattle.definitions.specs.Limits.{signed-half, highest-n, highest-m, lead-limit, span-limit, table-size, stride, table-rows}
 use Rattle.definitions.specs.Tropical.{plus, fin}
 use Rattle.definitions.specs.Problem.{Problem}
 use Rattle.definitions.specs.Certificate.{raise}
@@ -43,18 +43,18 @@ shifted k t = cond (eqb k 0) 0 (k + t - signed-half)
 
 -- Row `row` of a table has its first n entries from the array, raised by t; the rest of the table is as before.
 pub record Raised (before objective : List ℕ) (row t n : ℕ) (after : List ℕ) : Type 0 where
-  pub size : length after ≡ 2048
-  pub raised : (l : ℕ) → l < n → getD after (row * 32 + l) 0 ≡ shifted (getD objective l 0) t
-  pub above : (k : ℕ) → k < row * 32 → getD after k 0 ≡ getD before k 0
-  pub below : (k : ℕ) → row * 32 + n ≤ k → getD after k 0 ≡ getD before k 0
+  pub size : length after ≡ table-size
+  pub raised : (l : ℕ) → l < n → getD after (row * stride + l) 0 ≡ shifted (getD objective l 0) t
+  pub above : (k : ℕ) → k < row * stride → getD after k 0 ≡ getD before k 0
+  pub below : (k : ℕ) → row * stride + n ≤ k → getD after k 0 ≡ getD before k 0
 
 -- Two right tables that agree in every row before the objective's.
 pub record Steady (m : ℕ) (before after : List ℕ) : Type 0 where
-  pub above : (k : ℕ) → k < m * 32 → getD after k 0 ≡ getD before k 0
+  pub above : (k : ℕ) → k < m * stride → getD after k 0 ≡ getD before k 0
 
 -- The row of the objective, copied.
 abbrev pub Copied : List ℕ → ℕ → ℕ → List ℕ → Type 0
-Copied right row n out = Filled (λ l v. v ≡ getD right (row * 32 + l) 0) 32 n out
+Copied right row n out = Filled (λ l v. v ≡ getD right (row * stride + l) 0) stride n out
 
 -- Tables of n + 1 variables and m + 1 rows within the leads' limit.
 pub record Coefficients (n m : ℕ) (left right : List ℕ) : Type 0 where
@@ -77,11 +77,11 @@ pub record Ready (f : Frame) (left right : List ℕ) : Type 0 where
   pub n-most : f .n ≤ highest-n
   pub m-most : f .m ≤ highest-m
   pub tables : Tables left right (f .n + 1) (f .m + 1)
-  pub rules-near : (k : ℕ) → k < f .m * 32 → Near lead-limit (getD right k 0)
-  pub objective-size : length (f .objective) ≡ 32
+  pub rules-near : (k : ℕ) → k < f .m * stride → Near lead-limit (getD right k 0)
+  pub objective-size : length (f .objective) ≡ stride
   pub objective-near : (k : ℕ) → Near lead-limit (getD (f .objective) k 0)
   pub left-ends : EndsOf left (f .m + 1) (f .lefts)
-  pub right-size : length (f .rights) ≡ 64
+  pub right-size : length (f .rights) ≡ table-rows
   pub right-ends : (i : ℕ) → i < f .m → RowEnds right i (getD (f .rights) i 0)
   pub objective-ends : RowEnds (f .objective) 0 (getD (f .rights) (f .m) 0)
 
@@ -89,7 +89,7 @@ pub record Ready (f : Frame) (left right : List ℕ) : Type 0 where
 pub record FrameOf (n m : ℕ) (left right : List ℕ) (f : Frame) : Type 0 where
   pub n-is : f .n ≡ n
   pub m-is : f .m ≡ m
-  pub copied : Copied right m 32 (f .objective)
+  pub copied : Copied right m stride (f .objective)
   pub ready : Ready f left right
 
 -- What a call leaves of the right table: it is ready again, and agrees with before in every row above the objective's.

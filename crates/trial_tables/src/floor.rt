@@ -3,9 +3,9 @@
 ghost use mathlib.Core.Path.{_≡_};
 ghost use Prim.Native.Nat.{_+_, _*_, _/_, _%_, _<_, _≤_};
 ghost use lib.ListN.{length};
-ghost use Rattle.definitions.specs.Limits.{lead-limit};
+ghost use Rattle.definitions.specs.Limits.{lead-limit, table-size, table-rows, stride};
 ghost use Rattle.records.specs.Decoded.{Near};
-ghost use Rattle.trials.specs.Ends.{RowEnds, EndsOf};
+ghost use Rattle.trials.specs.Ends.{wide, RowEnds, EndsOf};
 ghost use Rattle.trial_tables.specs.Frames.{Ready, Reraised};
 ghost use Rattle.trial_tables.specs.Floor.{SizeIs, RowNear, RowsNear, FloorFor};
 use crate::frame::Frame;
@@ -13,10 +13,15 @@ use crate::frame::raise;
 use base::larger;
 use records::limits::OFFSET;
 use records::limits::OFFSET_32;
+use records::limits::ROWS;
+use records::limits::STRIDE;
+use records::limits::STRIDE_32;
+use records::limits::STRIDE_64;
+use records::limits::TABLE;
 use trials::ends::WIDE;
 
 // Two coefficients for each of 32 variables: so many weigh a walk at most.
-const A_WALK: u64 = 64;
+const A_WALK: u64 = 2 * STRIDE_64;
 
 // How far a coefficient lies from 0; 0 for blank.
 fn size(k: u32) -> u32
@@ -33,14 +38,14 @@ fn size(k: u32) -> u32
 }
 
 // The largest size in a row. All of its places are looked at.
-fn whole_row(table: &[u32; 2048], row: usize) -> u32
-    requires { ⌜ (length (now table) ≡ 2048) × (row < 64) ⌝ }
-    ensures { λ r. ⌜ RowNear (now (table .entry)) row 32 r ⌝ }
+fn whole_row(table: &[u32; TABLE], row: usize) -> u32
+    requires { ⌜ (length (now table) ≡ table-size) × (row < table-rows) ⌝ }
+    ensures { λ r. ⌜ RowNear (now (table .entry)) row stride r ⌝ }
 {
-    let base = row * 32;
+    let base = row * STRIDE;
     let mut most = 0;
     let mut l = 0;
-    while l < 32 {
+    while l < STRIDE {
         most = larger(most, size(table[base + l]));
         l += 1;
     }
@@ -48,21 +53,21 @@ fn whole_row(table: &[u32; 2048], row: usize) -> u32
 }
 
 // The same by the row's ends: the larger of two sizes.
-fn row_at_ends(table: &[u32; 2048], row: usize, ends: u32) -> u32
-    requires { ⌜ (length (now table) ≡ 2048) × (row < 64) × RowEnds (now table) row ends × (ends < 1024) ⌝ }
-    ensures { λ r. ⌜ RowNear (now (table .entry)) row 32 r ⌝ }
+fn row_at_ends(table: &[u32; TABLE], row: usize, ends: u32) -> u32
+    requires { ⌜ (length (now table) ≡ table-size) × (row < table-rows) × RowEnds (now table) row ends × (ends < wide) ⌝ }
+    ensures { λ r. ⌜ RowNear (now (table .entry)) row stride r ⌝ }
 {
-    let base = row * 32;
+    let base = row * STRIDE;
     larger(
-        size(table[base + (ends / 32) as usize]),
-        size(table[base + (ends % 32) as usize]),
+        size(table[base + (ends / STRIDE_32) as usize]),
+        size(table[base + (ends % STRIDE_32) as usize]),
     )
 }
 
 // The largest size in a row, by its ends or whole.
-fn row_size(table: &[u32; 2048], row: usize, ends: u32) -> u32
-    requires { ⌜ (length (now table) ≡ 2048) × (row < 64) × RowEnds (now table) row ends ⌝ }
-    ensures { λ r. ⌜ RowNear (now (table .entry)) row 32 r ⌝ }
+fn row_size(table: &[u32; TABLE], row: usize, ends: u32) -> u32
+    requires { ⌜ (length (now table) ≡ table-size) × (row < table-rows) × RowEnds (now table) row ends ⌝ }
+    ensures { λ r. ⌜ RowNear (now (table .entry)) row stride r ⌝ }
 {
     if ends < WIDE {
         return row_at_ends(table, row, ends);
@@ -71,8 +76,8 @@ fn row_size(table: &[u32; 2048], row: usize, ends: u32) -> u32
 }
 
 // The largest size in the first rows of a table.
-fn largest(table: &[u32; 2048], ends: &[u32; 64], rows: usize) -> u32
-    requires { ⌜ (length (now table) ≡ 2048) × (rows ≤ 64) × EndsOf (now table) rows (now ends) ⌝ }
+fn largest(table: &[u32; TABLE], ends: &[u32; ROWS], rows: usize) -> u32
+    requires { ⌜ (length (now table) ≡ table-size) × (rows ≤ table-rows) × EndsOf (now table) rows (now ends) ⌝ }
     ensures { λ r. ⌜ RowsNear (now (table .entry)) rows r ⌝ }
 {
     let mut most = 0;
@@ -85,7 +90,7 @@ fn largest(table: &[u32; 2048], ends: &[u32; 64], rows: usize) -> u32
 }
 
 // The floor of a problem: −64 b − 1 for the largest size b of its coefficients. Public for `class_answers::answer`.
-pub fn floor_of(left: &[u32; 2048], right: &mut [u32; 2048], frame: Frame) -> u64
+pub fn floor_of(left: &[u32; TABLE], right: &mut [u32; TABLE], frame: Frame) -> u64
     requires { ⌜ Ready frame (now left) (now right) ⌝ }
     ensures { λ r. ⌜ FloorFor frame (now (left .entry)) (now (right .entry)) r × Reraised frame (now (left .entry)) (now (right .entry)) (now (right .exit)) ⌝ }
 {

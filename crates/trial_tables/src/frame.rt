@@ -2,10 +2,13 @@
 ghost use mathlib.Core.Path.{_≡_};
 ghost use Prim.Native.Nat.{ℕ, _+_, _*_, _<_, _≤_};
 ghost use lib.ListN.{length, getD};
-ghost use Rattle.definitions.specs.Limits.{lead-limit};
+ghost use Rattle.definitions.specs.Limits.{lead-limit, table-size, table-rows, stride};
 ghost use Rattle.records.specs.Decoded.{Near};
 ghost use Rattle.trial_tables.specs.Frames.{Trialled, shifted, Raised, Copied, Coefficients, FrameOf};
 use records::limits::OFFSET;
+use records::limits::ROWS;
+use records::limits::STRIDE;
+use records::limits::TABLE;
 use trials::ends::ends_of;
 
 // What stays of a problem through a search: n and m, the ends of the rows of both tables, and the objective's right
@@ -13,20 +16,20 @@ use trials::ends::ends_of;
 pub struct Frame {
     pub n: usize,
     pub m: usize,
-    pub lefts: [u32; 64],
-    pub rights: [u32; 64],
-    pub objective: [u32; 32],
+    pub lefts: [u32; ROWS],
+    pub rights: [u32; ROWS],
+    pub objective: [u32; STRIDE],
 }
 
 // The right coefficients of the objective's row.
-fn objective_of(right: &[u32; 2048], row: usize) -> [u32; 32]
-    requires { ⌜ (length (now right) ≡ 2048) × (row < 64) ⌝ }
-    ensures { λ r. ⌜ Copied (now (right .entry)) row 32 r ⌝ }
+fn objective_of(right: &[u32; TABLE], row: usize) -> [u32; STRIDE]
+    requires { ⌜ (length (now right) ≡ table-size) × (row < table-rows) ⌝ }
+    ensures { λ r. ⌜ Copied (now (right .entry)) row stride r ⌝ }
 {
-    let base = row * 32;
-    let mut out = [0u32; 32];
+    let base = row * STRIDE;
+    let mut out = [0u32; STRIDE];
     let mut l = 0;
-    while l < 32 {
+    while l < STRIDE {
         out[l] = right[base + l];
         l += 1;
     }
@@ -34,7 +37,7 @@ fn objective_of(right: &[u32; 2048], row: usize) -> [u32; 32]
 }
 
 // The frame of the problem in two tables. Public for `class_answers::answer`.
-pub fn frame_of(left: &[u32; 2048], right: &[u32; 2048], n: usize, m: usize) -> Frame
+pub fn frame_of(left: &[u32; TABLE], right: &[u32; TABLE], n: usize, m: usize) -> Frame
     requires { ⌜ Coefficients n m (now left) (now right) ⌝ }
     ensures { λ r. ⌜ FrameOf n m (now (left .entry)) (now (right .entry)) r ⌝ }
 {
@@ -63,13 +66,13 @@ fn shift(k: u32, t: u64) -> u32
 }
 
 // The objective's row of the right table, raised by t. Public for `floor`, `least_span` and `class_answers::answer`.
-pub fn raise(right: &mut [u32; 2048], objective: &[u32; 32], row: usize, t: u64)
-    requires { ⌜ (length (now right) ≡ 2048) × (length (now objective) ≡ 32) × (row < 64) × Trialled t × ((k : ℕ) → Near lead-limit (getD (now objective) k 0)) ⌝ }
-    ensures { λ _. ⌜ Raised (now (right .entry)) (now (objective .entry)) row t 32 (now (right .exit)) ⌝ }
+pub fn raise(right: &mut [u32; TABLE], objective: &[u32; STRIDE], row: usize, t: u64)
+    requires { ⌜ (length (now right) ≡ table-size) × (length (now objective) ≡ stride) × (row < table-rows) × Trialled t × ((k : ℕ) → Near lead-limit (getD (now objective) k 0)) ⌝ }
+    ensures { λ _. ⌜ Raised (now (right .entry)) (now (objective .entry)) row t stride (now (right .exit)) ⌝ }
 {
-    let base = row * 32;
+    let base = row * STRIDE;
     let mut l = 0;
-    while l < 32 {
+    while l < STRIDE {
         right[base + l] = shift(objective[l], t);
         l += 1;
     }

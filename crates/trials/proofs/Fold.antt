@@ -18,7 +18,7 @@ use Rattle.definitions.specs.Offset.{tropOf, off}
 use Rattle.definitions.proofs.Tropical.{⊑-refl, ⊑-antisym, larger-left, larger-right, larger-least, largest-above, largest-least, largest-ext}
 use Rattle.definitions.proofs.Offset.{off-off, trop-zero, trop-order, plus-trop, plus-trop-zero}
 use Rattle.records.specs.Decoded.{Near}
-use Rattle.trials.specs.Tables.{raised-limit, value-limit, fold-limit, low-fold, side-most, side-least, high, highs, Table, Ranged, Lows}
+use Rattle.trials.specs.Tables.{raised-limit, value-limit, low-half, fold-limit, low-fold, side-most, side-least, high, highs, Table, Ranged, Lows}
 use Rattle.trials.specs.Ends.{RowEnds}
 use Rattle.trials.specs.Rounds.{foldedAt, folded, sums, SideIs}
 use Rattle.trials.proofs.Low.{high-zero, high-whole, high-mono, highs-at}
@@ -64,7 +64,7 @@ fold-low a b na nb = ⊎-elim blank whole (eq-zero-or-pos b)
 
     whole : 0 < b → high (folded (a + b)) ≡ foldedAt fold-limit (a + high b)
     whole q =
-        let e : high b ≡ b + 1073741824 = high-whole b q in
+        let e : high b ≡ b + low-half = high-whole b q in
         let r : signed-half ≤ high b + value-limit = nb .lo (omega arith) in
         ⊎-elim
         (λ (z : a ≡ 0). rw (folded-low {limit = low-fold} (a + b) (omega (arith, nb .hi)), folded-low {limit = fold-limit} (a + high b) (omega (arith, nb .hi))) high-zero)
@@ -123,14 +123,14 @@ low-fits x g l = ⊎-elim
     (eq-zero-or-pos (getD x l 0))
 
 -- The sum of a coefficient and a low value has 32 bits.
-pub sum-most : (table x : List ℕ) → Table raised-limit table → Ranged (highs x) → (row l : ℕ) → sums table row x l ≤ 3255435105
+pub sum-most : (table x : List ℕ) → Table raised-limit table → Ranged (highs x) → (row l : ℕ) → sums table row x l ≤ (signed-half + side-most)
 sum-most table x t g row l = ⊎-elim
     (λ (z : getD x l 0 ≡ 0). omega (arith, t .near (row * 32 + l) .hi))
     (λ (q : 0 < getD x l 0). omega (arith, t .near (row * 32 + l) .hi, high-whole (getD x l 0) q, highs-at x l, g .near l .hi))
     (eq-zero-or-pos (getD x l 0))
 
 -- A fold within these bounds.
-folded-within : (k : ℕ) → k ≤ 3255435105 → (folded k ≤ side-most) × (0 < folded k → side-least ≤ folded k)
+folded-within : (k : ℕ) → k ≤ (signed-half + side-most) → (folded k ≤ side-most) × (0 < folded k → side-least ≤ folded k)
 folded-within k few = (
   ⊎-elim (λ h. omega (arith, folded-high _ h)) (λ h. omega (arith, folded-low _ h)) (nat-le-or-lt low-fold k),
   λ p. ⊎-elim (λ h. omega (arith, folded-high _ h)) (λ h. absurd (omega (arith, folded-low _ h))) (nat-le-or-lt low-fold k),
@@ -158,13 +158,13 @@ module _ (table : List ℕ) (row : ℕ) (x : List ℕ) (width : ℕ) (t : Table 
   adds-blank l e = rw e (plus-trop-zero (tropOf (getD (highs x) l 0)) .0)
 
   -- A number that stands for the largest is the side, once folded.
-  side-is : (best : ℕ) → best ≤ 3255435105 → tropOf (high (folded best)) ≡ largest adds width → SideIs table row (highs x) width (folded best)
+  side-is : (best : ℕ) → best ≤ (signed-half + side-most) → tropOf (high (folded best)) ≡ largest adds width → SideIs table row (highs x) width (folded best)
   side-is best few e = record { is = e; most = folded-within best few .0; least = folded-within best few .1 }
 
   -- What the loop ends with.
   pub side-end : (l best : ℕ) → l ≤ 32 → 32 ≤ l → best ≡ uppermost (sums table row x) l → SideIs table row (highs x) width (folded best)
   side-end l best h k e = side-is best
-      (rw eq (uppermost-most (sums table row x) 32 3255435105 (λ l b. sum-most table x t (g .ranged) row l)))
+      (rw eq (uppermost-most (sums table row x) 32 (signed-half + side-most) (λ l b. sum-most table x t (g .ranged) row l)))
       (rw eq (folded-uppermost (sums table row x) 32 ∙ largest-ext _ _ 32 (λ l b. adds-folded l) ∙ largest-rest adds width w adds-past))
     where
       eq : best ≡ uppermost (sums table row x) 32

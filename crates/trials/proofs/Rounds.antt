@@ -51,7 +51,7 @@ given-blank-left s = rw high-zero (gap-blank-left (high s))
 pub given-whole : (s a : ℕ) → side-least ≤ s → 0 < a → a ≤ signed-half + lead-limit
     → tropOf (high (s + signed-half - a)) ≡ difference (tropOf (high s)) (tropOf a)
 given-whole s a h k l =
-    let e : high s ≡ s + 1073741824 = high-whole s (omega arith) in
+    let e : high s ≡ s + low-half = high-whole s (omega arith) in
     let f : high (s + signed-half - a) ≡ high s + signed-half - a = omega (arith, high-whole (s + signed-half - a) (omega arith)) in
     rw f (gap-whole (high s) a (omega arith) k (omega arith))
 
