@@ -54,7 +54,7 @@ use Rattle.checker.proofs.LongInputs.{kept-longer, judged-parts, long-past, lon
 use Rattle.guarantees.specs.Entries as Entries
 use Rattle.guarantees.specs.Entries.{Solve, Check, ReadProblem, ReadAnswer, WriteAnswer, WriterFields}
 use Rattle.guarantees.proofs.Handing.{numberFor, number-back, within-numbered}
-use Rattle.guarantees.proofs.Engine.{within-leads}
+use Rattle.duality.proofs.SmallLeads.{layout-within}
 use Rattle.guarantees.proofs.Solvable.{SomeAnswer, answer-exists}
 use Rattle.guarantees.proofs.Contracts.{engineOf, checkerOf, problemReaderOf, readerOf, writerOf, programOf}
 use Rattle.guarantees.proofs.Demands.{demands}
@@ -117,7 +117,7 @@ solution-exists p before = go (engineRefusal p (length before)) refl
     go (suc k) e = record { result = Solutions.Refused (suc k); buffer = before; solves = Results.turned-away e }
     go zero e =
         let w : WithinLayout p = or-else-none (problemRefusal p) _ .0 e .0 in
-        let s = answer-exists (problemOf p) (problem-fits p .0 w .n-most) (within-leads p w) in
+        let s = answer-exists (problemOf p) (problem-fits p .0 w .n-most) (layout-within p w) in
         record {
           result = Solutions.Answered (s .class) (numberFor (s .span)) (s .trials) (answerSize (s .class) (nField p) (mField p));
           buffer = written before (answerBytes (nField p) (s .answer));
@@ -226,7 +226,7 @@ span-text input = go (problemRefusal input) refl
     go : (k : ℕ) → problemRefusal input ≡ k → SpanText input
     go (suc k) e = record { text = refusedLine (suc k); holds = Programs.refusal e }
     go zero e =
-        let s = answer-exists (problemOf input) (problem-fits input .0 e .n-most) (within-leads input e) in
+        let s = answer-exists (problemOf input) (problem-fits input .0 e .n-most) (layout-within input e) in
         record { text = answerBytes (nField input) (s .answer); holds = Programs.answer (s .answer) e (s .answers) }
 
 -- A header of a size beyond what is kept is refused.

@@ -28,7 +28,7 @@ use Rattle.records.specs.Decoded.{Near}
 use Rattle.records.proofs.ProblemHeader.{product-most}
 use Rattle.problem_records.specs.Tables.{leadAt, Laid}
 use Rattle.problem_records.proofs.LeadTables.{row-inside, left-near-at, right-near-at, left-lead-means, right-lead-means}
-use Rattle.closed_walks.specs.Tables.{Stamped, stampsPoint}
+use Rattle.records.specs.Stamps.{Stamped, stampsPoint}
 use Rattle.plan_tests.specs.Sides.{stamp-drop, lowered, Lowered, side-floor, run, bestSum, sideBy, sideOf, RowSized}
 
 -- ---- the largest sum
