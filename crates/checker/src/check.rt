@@ -19,6 +19,7 @@ use answer_reader::answer::AnswerHead;
 use answer_reader::answer::read_answer;
 use answer_reader::limits::SPAN_LIMIT;
 use plan_tests::keeps_rules;
+use plan_tests::lower_point;
 use plan_tests::value_is;
 use problem_records::reader::judge_problem;
 use problem_records::reader::read_tables;
@@ -49,10 +50,11 @@ fn certify_optimal(
     requires { ⌜ Laid (now problem) n m × Stamped (now stamps) × (getD (now stamps) 0 0 ≡ signed-half) × Picked (now picks) (m + 1) × Span span ⌝ }
     ensures { λ r. ⌜ ((z : ℤ) → tropOf span ≡ fin z → Decides (AcceptedOptimal (problemOf (now (problem .entry))) z (stampsPoint (now (stamps .entry))) (strategyOf (now (picks .entry)))) r) ⌝ }
 {
-    if !keeps_rules(problem, n, m, stamps) {
+    let x = lower_point(stamps, n + 1);
+    if !keeps_rules(problem, n, m, &x) {
         return false;
     }
-    if !value_is(problem, n, m, stamps, span) {
+    if !value_is(problem, n, m, &x, span) {
         return false;
     }
     certify_variables(problem, n, m, picks, span - 1)
