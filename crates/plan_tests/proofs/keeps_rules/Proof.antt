@@ -53,7 +53,7 @@ keeps-rules-spec =
       omega arith,
       omega (arith, turn .loop .inv .1),
       λ stamps stamped low.
-      let kept = row-kept (start .pre .0) stamped low (turn .loop .counter) (omega arith) (turn .loop .inv .1) refl (c .before .row-stands .ensures) in
-      below-more _ _ (turn .loop .inv .2 stamps stamped low) (kept .yes (not-false _ (c .if1 .left))),
+          let kept = row-kept (start .pre .0) stamped low (turn .loop .counter) (omega arith) (turn .loop .inv .1) refl (c .before .row-stands .ensures) in
+          below-more _ _ (turn .loop .inv .2 stamps stamped low) (kept .yes (not-false _ (c .if1 .left))),
     ))
     (λ c. λ stamps stamped low. said-yes (λ i h. c .before .loop .inv .2 stamps stamped low i (omega arith))))
