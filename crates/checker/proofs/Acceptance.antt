@@ -23,7 +23,8 @@ use Rattle.duality.specs.Picks.{NoneAbove, AtLeastZero}
 use Rattle.duality.specs.Within.{Within}
 use Rattle.duality.proofs.Numbers.{infeasible-below, below-infeasible, unbounded-above, above-unbounded, top-enough}
 use Rattle.records.specs.Decoded.{Near}
-use Rattle.closed_walks.specs.Tables.{Holds, Picked, Trial, stampsPoint}
+use Rattle.records.specs.Stamps.{stampsPoint}
+use Rattle.closed_walks.specs.Tables.{Holds, Picked, Trial}
 use Rattle.checker.specs.Outcome.{Span, Meant}
 
 -- ---- problems in the tables are small

@@ -44,7 +44,8 @@ use Rattle.answer_reader.proofs.ByClass.{stamps-most, picks-most}
 use Rattle.reach.proofs.Marks.{anchor-marked}
 use Rattle.reach.proofs.Existence.{MarksOf, reach-exists}
 use Rattle.closed_walks.specs.Gains.{matrix, anywhere, Table, NoneGains, Tested}
-use Rattle.closed_walks.specs.Tables.{Sized, Holds, Picked, Trial, stampsPoint}
+use Rattle.records.specs.Stamps.{stampsPoint}
+use Rattle.closed_walks.specs.Tables.{Sized, Holds, Picked, Trial}
 use Rattle.closed_walks.specs.Arcs.{variableArc, VariableArcs, heaviest, RowArcs}
 use Rattle.strategy_tests.specs.Counts.{PickCounts, RowPickCounts, VariablesCount, RowsCount}
 use Rattle.checker.specs.Outcome.{Meant, Formed}

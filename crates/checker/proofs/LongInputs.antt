@@ -13,12 +13,12 @@ use Rattle.base.proofs.Numbers.{nat-le-or-lt}
 use Rattle.definitions.specs.Limits.{kept-bytes, length-bytes, problem-header, answer-header, answer-most, highest-n, highest-m, answer-kind, problem-most}
 use Rattle.definitions.specs.Tropical.{Trop}
 use Rattle.definitions.specs.Bytes.{numAt, Outcome, outcome}
-use Rattle.definitions.specs.ProblemRecord.{lengthField, kindField, nField, mField, headerRefusal, headerOutcome, problemRefusal, WithinLayout}
+use Rattle.definitions.specs.ProblemRecord.{lengthField, kindField, nField, mField, headerRefusal, headerOutcome, problemRefusal}
 use Rattle.definitions.specs.AnswerRecord.{known-class, classField, spanField, answerSize, answerHeaderRefusal, answerHeaderJudged, answerHeaderOutcome, answerRefusal}
 use Rattle.definitions.specs.Verdict.{Verdict, refused, checkRefusal, Judged}
 use Rattle.definitions.specs.Programs.{cutPlace, problemPart, answerPart, KeptOf}
-use Rattle.definitions.proofs.Refusals.{or-else-suc, limits-clause, enough-clause, equal-clause, both-clause}
-use Rattle.definitions.proofs.Inputs.{kept-at, length-agrees, n-agrees, m-agrees, header-agrees, answer-agrees, header-short, header-length, cut-past, cut-inside}
+use Rattle.definitions.proofs.Refusals.{or-else-suc, limits-clause, enough-clause, equal-clause, both-clause, problem-fits}
+use Rattle.definitions.proofs.Inputs.{kept-at, length-agrees, header-agrees, answer-agrees, header-short, header-length, cut-past, cut-inside}
 use Rattle.definitions.proofs.RoundTrip.{size-most}
 use Rattle.definitions.proofs.Outcomes.{outcome-gives, outcome-refusal}
 use Rattle.records.specs.declared.problem.Header.{Header}
@@ -31,7 +31,7 @@ use Rattle.answer_reader.specs.AnswerReading.{headOf}
 use Rattle.records.proofs.ProblemHeader.{header-fits, header-refuses, product-most}
 use Rattle.checker.specs.Outcome.{answerRefused}
 use Rattle.checker.specs.LongInput.{Longer}
-use Rattle.checker.proofs.Verdicts.{turned}
+use Rattle.checker.proofs.Verdicts.{HeaderRead, turned}
 
 -- ---- long problems
 
@@ -41,6 +41,15 @@ pub header-small : (kept : List ℕ) (end : ℕ) {header : Header} {l : Layout} 
 header-small kept end {l = l} e f =
     let h = header-fits kept end e f in
     (omega (arith, h .size-is), omega (arith, h .size-is, product-most (l .n) (l .m) (h .n-most) (h .m-most)), h .n-most, h .m-most)
+
+-- A problem that is read is no longer than the longest.
+pub read-small : {s : List ℕ} {n m : ℕ} → HeaderRead s n m → (length s ≤ 16394) × (n ≤ highest-n) × (m ≤ highest-m)
+read-small {s} {n} {m} h =
+    let f = problem-fits s .0 (h .none) in
+    (omega (arith, f .size-is, product-most (nField s) (mField s) (f .n-most) (f .m-most)), omega (arith, h .n-is, f .n-most), omega (arith, h .m-is, f .m-most))
+
+pub kept-small : (kept : List ℕ) (end : ℕ) {n m : ℕ} → HeaderRead (take end kept) n m → end ≤ length kept → (end ≤ 16394) × (n ≤ highest-n) × (m ≤ highest-m)
+kept-small kept end h l = let s = read-small h in (omega (arith, s .0, length-take-le end kept l), s .1, s .2)
 
 -- ---- long answers
 
@@ -103,17 +112,23 @@ module _ {kept input : List ℕ} {size end : ℕ} (longer : Longer kept size inp
       (λ (h : end < problem-header). header-short (take end input) end h ∙ sym (header-short kept end h))
       (nat-le-or-lt problem-header end))
 
-  -- The header is refused.
-  pub long-header : {header : Header} {j r : ℕ} → headerOf header ≡ headerOutcome kept end → header ≡ Headers.Refused j → r ≡ problemRefused header
+  -- The header is refused,
+  pub header-turned : {header : Header} {j r : ℕ} → headerOf header ≡ headerOutcome kept end → header ≡ Headers.Refused j → r ≡ problemRefused header
       → Judged (take end input) (drop end input) (refused r)
   unfolding problemRefusal checkRefusal problemRefused
-  long-header {header} {j} {r} e f g =
+  header-turned {header} {j} {r} e f g =
       let q = header-refuses kept end e f in
       let is : r ≡ j = g ∙ ap problemRefused f in
       let first : headerRefusal (take end input) (length (take end input)) ≡ j = header-same ∙ q .0 in
       let some : 0 < headerRefusal (take end input) (length (take end input)) = omega (arith, q .1) in
       let whole : problemRefusal (take end input) ≡ headerRefusal (take end input) (length (take end input)) = or-else-suc _ _ some in
       turned (take end input) (drop end input) r (or-else-suc _ _ (omega arith) ∙ whole ∙ first ∙ sym is) (omega (arith, q .1))
+
+  -- as it is where the problem was not kept whole.
+  pub long-header : (header : Header) {r : ℕ} → kept-bytes < end → headerOf header ≡ headerOutcome kept end → r ≡ problemRefused header
+      → Judged (take end input) (drop end input) (refused r)
+  long-header (Headers.Fields n m) far e g = absurd (omega (arith, header-small kept end e refl .1))
+  long-header (Headers.Refused j) far e g = header-turned e refl g
 
   -- The problem is kept whole.
   pub problem-kept : length kept ≡ kept-bytes → end ≤ kept-bytes → take end kept ≡ take end input
@@ -123,23 +138,17 @@ module _ {kept input : List ℕ} {size end : ℕ} (longer : Longer kept size inp
       (λ i b. getD-take end kept i 0 (omega arith) ∙ sym (part-same i (omega arith) (omega arith)))
 
   -- The problem is not refused, and the answer is, by its header.
-  pub long-answered : {header : Header} {l : Layout} {r : ℕ} → headerOf header ≡ headerOutcome kept end → header ≡ Headers.Told l → WithinLayout (take end input)
-      → r ≡ answerHeaderRefusal (drop end kept) (size - end) (l .n) (l .m) → 0 < r → Judged (take end input) (drop end input) (refused r)
+  pub long-answered : {n m r : ℕ} → HeaderRead (take end input) n m → r ≡ answerHeaderRefusal (drop end kept) (size - end) n m → 0 < r
+      → Judged (take end input) (drop end input) (refused r)
   unfolding checkRefusal answerRefusal
-  long-answered {header} {l} {r} d f w g some =
-      let n : ℕ = l .n in
-      let m : ℕ = l .m in
-      let small = header-small kept end d f in
-      let h = header-fits kept end d f in
-      let same : (i : ℕ) → i < problem-header → getD (take end input) i 0 ≡ getD kept i 0 = λ i b. part-same i (omega arith) (omega arith) in
-      let n-is : nField (take end input) ≡ n = n-agrees (take end input) kept same ∙ sym (h .n-is) in
-      let m-is : mField (take end input) ≡ m = m-agrees (take end input) kept same ∙ sym (h .m-is) in
+  long-answered {n} {m} {r} h g some =
+      let small = read-small h in
       let rest : length (drop end input) ≡ size - end = length-drop end input ∙ ap (λ k. k - end) (longer .size-is) in
       let agree : answerHeaderRefusal (drop end input) (size - end) n m ≡ answerHeaderRefusal (drop end kept) (size - end) n m =
       answer-agrees (drop end input) (drop end kept)
-      (λ i b. getD-drop end input i 0 ∙ longer .begins (end + i) (omega arith) ∙ sym (getD-drop end kept i 0)) (size - end) n m in
+      (λ i b. getD-drop end input i 0 ∙ longer .begins (end + i) (omega (arith, small .0, part-length)) ∙ sym (getD-drop end kept i 0)) (size - end) n m in
       let head : answerHeaderRefusal (drop end input) (length (drop end input)) n m ≡ r = rw rest (agree ∙ sym g) in
-      turned (take end input) (drop end input) r (rw (w, n-is, m-is) (or-else-suc _ _ (omega arith) ∙ head)) some
+      turned (take end input) (drop end input) r (rw (h .none, ← h .n-is, ← h .m-is) (or-else-suc _ _ (omega arith) ∙ head)) some
 
 -- The length field reaches past the input: all of it is the problem, and refusal 2 applies.
 pub long-past : {kept input : List ℕ} {size : ℕ} → Longer kept size input → kept-bytes < size → size < lengthField kept + length-bytes

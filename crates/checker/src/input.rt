@@ -57,18 +57,18 @@ fn judge_long_answer(answer: &[u8], size: usize, n: usize, m: usize) -> usize
     answer_refusal(read_answer_header(answer, size, n, m))
 }
 
-// The verdict on an input that is longer than what was kept, and whose problem part is its first `end` bytes.
+// The verdict on an input that is longer than what was kept, and whose problem part is its first `end` bytes. A part that was
+// not kept whole is longer than every problem: its header is refused.
 fn judge_long(kept: &[u8], size: usize, end: usize) -> Verdict
     requires { ⌜ (length (now kept) ≡ kept-bytes) × (kept-bytes < size) × (end ≤ size) ⌝ }
     ensures { λ r. ⌜ ((input : List ℕ) → Longer (now (kept .entry)) size input → Judged (take end input) (drop end input) (verdictOf r)) ⌝ }
 {
-    let header = read_header(kept, end);
+    if KEPT < end {
+        return Verdict::Refused(problem_refusal(read_header(kept, end)));
+    }
+    let header = judge_problem(&kept[..end]);
     let Header::Told(layout) = header else {
         return Verdict::Refused(problem_refusal(header));
-    };
-    let whole = judge_problem(&kept[..end]);
-    let Header::Told(_) = whole else {
-        return Verdict::Refused(problem_refusal(whole));
     };
     Verdict::Refused(judge_long_answer(&kept[end..], size - end, layout.n, layout.m))
 }

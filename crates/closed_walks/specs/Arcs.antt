@@ -1,12 +1,15 @@
 -- The table of arcs of a strategy, entry by entry, as numbers.
-use Prim.Native.Nat.{ℕ, zero, suc, _+_, _*_, _-_, _<_}
+use Prim.Native.Nat.{ℕ, zero, suc, _+_, _*_, _-_, _≤_, _<_}
 use mathlib.Core.Path.{_≡_}
 use mathlib.Core.Bool.{cond}
 use mathlib.Core.List.{List}
 use lib.Dec.{eqb}
 use lib.ListN.{length, getD}
 use Rattle.base.specs.Numbers.{most}
-use Rattle.definitions.specs.Limits.{signed-half, lead-limit, span-limit, stride, arcs-size}
+use Rattle.base.specs.Filled.{FilledFrom}
+use Rattle.definitions.specs.Limits.{signed-half, signed-bytes, lead-limit, span-limit, stride, arcs-size}
+use Rattle.records.specs.Decoded.{Near}
+use Rattle.problem_records.specs.Tables.{leadAt}
 use Rattle.closed_walks.specs.Gains.{arc-zero}
 
 -- What row i is raised by, as an offset number: t for the objective, 0 for an inequality.
@@ -40,6 +43,18 @@ strictArc a r b = cond (eqb a 0) 0 (lifted (lift a r) b)
 unfoldable pub variableArc : List ℕ → List ℕ → ℕ → ℕ → ℕ → ℕ → ℕ → ℕ
 variableArc left right m t zero j l = 0
 variableArc left right m t (suc i) j l = strictArc (getD left (i * stride + j) 0) (raisedBy t m i) (getD right (i * stride + l) 0)
+
+-- What filling `width` entries asks, from `from` on, by a row whose right leads start at a place of the bytes;
+pub record LiftSized (arcs : List ℕ) (from : ℕ) (s : List ℕ) (at width up : ℕ) : Type 0 where
+  pub length-is : length arcs ≡ arcs-size
+  pub room : from + width ≤ arcs-size
+  pub inside : at + signed-bytes * width ≤ length s
+  pub up-most : up ≤ lift-most
+  pub leads : (l : ℕ) → l < width → Near lead-limit (leadAt s (at + signed-bytes * l))
+
+-- and what it leaves.
+abbrev pub LiftFilled : ℕ → List ℕ → ℕ → ℕ → ℕ → List ℕ → List ℕ → Type 0
+LiftFilled from s at width up old new = FilledFrom (λ l. lifted up (leadAt s (at + signed-bytes * l))) from width old new
 
 -- The table of a strategy of variables, once the first k variables have had their turn.
 pub record VariableArcs (left right : List ℕ) (m t : ℕ) (picks : List ℕ) (width k : ℕ) (arcs : List ℕ) : Type 0 where

@@ -1,11 +1,10 @@
--- What the tests ask of the two tables of a problem, of stamps and of picks: lengths and ranges.
+-- What the tests ask of the two tables of a problem and of picks: lengths and ranges.
 use Prim.Native.Nat.{ℕ, suc, _≤_, _<_}
 use mathlib.Core.Path.{_≡_}
 use mathlib.Core.List.{List}
 use lib.ListN.{length, getD}
-use Rattle.definitions.specs.Limits.{highest-n, highest-m, lead-limit, stamp-limit, span-limit, table-size, stride, table-rows}
-use Rattle.definitions.specs.Problem.{Problem, Point}
-use Rattle.definitions.specs.Offset.{tropOf}
+use Rattle.definitions.specs.Limits.{highest-n, highest-m, lead-limit, span-limit, table-size, stride, table-rows}
+use Rattle.definitions.specs.Problem.{Problem}
 use Rattle.records.specs.Decoded.{Near, Decoded}
 
 -- Two tables of coefficients for n + 1 variables and m + 1 rows, whatever problem they hold.
@@ -22,15 +21,6 @@ pub record Holds (p : Problem) (left right : List ℕ) (n m : ℕ) : Type 0 wher
   pub n-is : p .n ≡ n
   pub m-is : p .m ≡ m
   pub decoded : Decoded p left right
-
--- The point that stamps, as offset numbers, stand for.
-unfoldable pub stampsPoint : List ℕ → Point
-stampsPoint x j = tropOf (getD x j 0)
-
--- Stamps within their limit.
-pub record Stamped (x : List ℕ) : Type 0 where
-  pub length-is : length x ≡ stride
-  pub near : (k : ℕ) → Near stamp-limit (getD x k 0)
 
 -- Picks, none above the highest.
 pub record Picked (picks : List ℕ) (highest : ℕ) : Type 0 where

@@ -6,10 +6,10 @@ ghost use lib.ListN.{length, getD};
 ghost use Rattle.base.specs.Filled.{FilledFrom};
 ghost use Rattle.definitions.specs.Limits.{signed-half, lead-limit, span-limit, arcs-size, signed-bytes, stride, table-size};
 ghost use Rattle.records.specs.Decoded.{Near};
-ghost use Rattle.problem_records.specs.Tables.{leadAt, leftTable, rightTable, Laid};
+ghost use Rattle.problem_records.specs.Tables.{leftTable, rightTable, Laid};
 ghost use Rattle.closed_walks.specs.Gains.{arc-zero};
 ghost use Rattle.closed_walks.specs.Tables.{Sized, Picked, Trial};
-ghost use Rattle.closed_walks.specs.Arcs.{raisedBy, lift, lift-most, lifted, variableArc, VariableArcs, fall, fall-most, fallen, rowArc, heaviest, RowArcs, Column};
+ghost use Rattle.closed_walks.specs.Arcs.{raisedBy, lift, lift-most, lifted, LiftSized, LiftFilled, variableArc, VariableArcs, fall, fall-most, fallen, rowArc, heaviest, RowArcs, Column};
 use base::larger;
 use problem_records::reader::lead_in;
 use problem_records::reader::row_place;
@@ -59,8 +59,8 @@ fn lifted_by(up: u32, b: u32) -> u32
 // The entries from one variable, whose row of the table starts at `from`, by a row whose right leads start at a place of the
 // bytes.
 fn fill_run(arcs: &mut [u32; ARCS], from: usize, bytes: &[u8], at: usize, width: usize, up: u32)
-    requires { ⌜ (length (now arcs) ≡ arcs-size) × (from + width ≤ arcs-size) × (at + signed-bytes * width ≤ length (now bytes)) × (up ≤ lift-most) × ((l : ℕ) → l < width → Near lead-limit (leadAt (now bytes) (at + signed-bytes * l))) ⌝ }
-    ensures { λ _. ⌜ FilledFrom (λ l. lifted up (leadAt (now (bytes .entry)) (at + signed-bytes * l))) from width (now (arcs .entry)) (now (arcs .exit)) ⌝ }
+    requires { ⌜ LiftSized (now arcs) from (now bytes) at width up ⌝ }
+    ensures { λ _. ⌜ LiftFilled from (now (bytes .entry)) at width up (now (arcs .entry)) (now (arcs .exit)) ⌝ }
 {
     let mut place = at;
     for l in 0..width {
@@ -71,8 +71,8 @@ fn fill_run(arcs: &mut [u32; ARCS], from: usize, bytes: &[u8], at: usize, width:
 
 // The same. Rows of the full width have a call of their own, which is compiled for that length.
 fn fill_lifted(arcs: &mut [u32; ARCS], from: usize, bytes: &[u8], at: usize, width: usize, up: u32)
-    requires { ⌜ (length (now arcs) ≡ arcs-size) × (from + width ≤ arcs-size) × (at + signed-bytes * width ≤ length (now bytes)) × (up ≤ lift-most) × ((l : ℕ) → l < width → Near lead-limit (leadAt (now bytes) (at + signed-bytes * l))) ⌝ }
-    ensures { λ _. ⌜ FilledFrom (λ l. lifted up (leadAt (now (bytes .entry)) (at + signed-bytes * l))) from width (now (arcs .entry)) (now (arcs .exit)) ⌝ }
+    requires { ⌜ LiftSized (now arcs) from (now bytes) at width up ⌝ }
+    ensures { λ _. ⌜ LiftFilled from (now (bytes .entry)) at width up (now (arcs .entry)) (now (arcs .exit)) ⌝ }
 {
     if width == STRIDE {
         fill_run(arcs, from, bytes, at, STRIDE, up);

@@ -120,19 +120,23 @@ fn values_small(values: &[u32; STRIDE], width: usize) -> bool
     true
 }
 
-// No closed walk from a marked variable weighs above zero: rounds until one raises nothing, at most one more than variables.
+// No closed walk from a marked variable weighs above zero: rounds until one raises nothing, at most one more than variables. The
+// marks are those that the order is of.
 // Public for `strategy_tests::certify`.
-pub fn none_gains(arcs: &[u32; ARCS], marks: &[u8; STRIDE], width: usize) -> bool
-    requires { ⌜ Table (now arcs) width × Flags (now marks) × (0 < width) ⌝ }
+pub fn none_gains(
+    arcs: &[u32; ARCS],
+    marks: &[u8; STRIDE],
+    places: &[usize; STRIDE],
+    count: usize,
+    width: usize,
+) -> bool
+    requires { ⌜ Table (now arcs) width × Ordered (now marks) width (now places) count × (0 < width) ⌝ }
     ensures { λ r. ⌜ Tested (now (arcs .entry)) (now (marks .entry)) width r ⌝ }
 {
-    let order = order_of(marks, width);
-    let places = order.places;
-    let count = order.count;
     let mut values = [0u32; STRIDE];
     let mut done = [0u32; STRIDE];
     for _ in 0..width + 1 {
-        if !push_round(arcs, marks, &places, count, width, &mut values, &mut done) {
+        if !push_round(arcs, marks, places, count, width, &mut values, &mut done) {
             return true;
         }
         if !values_small(&values, width) {

@@ -20,7 +20,7 @@ use Rattle.definitions.specs.Programs.{cutPlace, problemPart, answerPart
 use Rattle.definitions.specs.Programs as Programs
 use Rattle.definitions.proofs.Bytes.{numAt-same, numAt-bound, bytes-take, bytes-drop, bytes-put, zero-bytes}
 use Rattle.definitions.proofs.Put.{take-put, length-put}
-use Rattle.definitions.proofs.Refusals.{or-else-suc, or-else-none, or-else-zero, limits-clause, enough-clause, equal-clause, problem-fits}
+use Rattle.definitions.proofs.Refusals.{or-else-suc, or-else-none, limits-clause, enough-clause, equal-clause, problem-fits}
 
 -- ---- what was kept
 

@@ -92,10 +92,6 @@ trop-off w h = ⊎-elim
 pub record FitsField (x : Trop) : Type 0 where
   pub size : (z : ℤ) → x ≡ fin z → natAbs z < signed-half
 
--- Blank fits a field.
-pub bot-fits : FitsField bot
-bot-fits = record { size = λ z e. absurd (bot-not-fin e) }
-
 -- A whole number that is blank or within a limit is within it.
 pub within-size : (limit : ℕ) {x : Trop} {z : ℤ} → blank-or-within limit x ≡ true → x ≡ fin z → natAbs z ≤ limit
 unfolding blank-or-within

@@ -20,10 +20,6 @@ use Rattle.definitions.proofs.Offset.{within-size}
 
 -- ---- the first of several
 
--- Where the first is none, the second counts.
-pub or-else-zero : (k : ℕ) → or-else 0 k ≡ k
-or-else-zero k = refl
-
 -- Where the first is one, it counts.
 pub or-else-suc : (a b : ℕ) → 0 < a → or-else a b ≡ a
 or-else-suc zero b h = absurd (omega arith)

@@ -20,3 +20,4 @@ pub mod Attain
 pub mod Classes
 pub mod Unused
 pub mod CycleMaps
+pub mod SmallLeads

@@ -17,7 +17,7 @@ use Rattle.definitions.specs.Solved as Results
 use Rattle.definitions.specs.Solved.{Answers, Solves, turned-away, solved, engineRefusal}
 use Rattle.definitions.proofs.Refusals.{or-else-suc, or-else-none, WriterFits, writer-fits}
 use Rattle.definitions.proofs.Outcomes.{outcome-none}
-use Rattle.definitions.proofs.Solved.{answers-taken}
+use Rattle.definitions.proofs.Solved.{answers-taken, Wrote, wrote}
 use Rattle.records.specs.declared.problem.Header.{Header}
 use Rattle.records.specs.declared.problem.Layout.{Layout}
 use Rattle.definitions.specs.ProblemRecord as Problems
@@ -186,3 +186,11 @@ module _
         let bytes : written before (answerBytes (nField p) a) ≡ after = ap (λ (i : ℕ). written before (answerBytes i a)) (read .n-is) ∙ sym (w .buffer-is) in
         subst₂ (λ (x : Results.Solved) (y : List ℕ). Solves p before x y) size bytes
         (solved a nothing-refused (found .answers (problemOf p) (read .decoded) (read .n-is) (read .m-is)))
+
+-- ---- what an answered result means
+
+-- The code's result, answered.
+pub own-wrote : {p before after : List ℕ} {r : Solved} {class span trials size : ℕ} → Solves p before (solvedOf r) after → r ≡ Results′.Answered class span trials size
+    → Wrote p before class (tropOf span) trials size after
+unfolding solvedOf
+own-wrote h e = wrote h (ap solvedOf e)

@@ -5,8 +5,8 @@ use mathlib.Core.List.{List}
 use mathlib.Core.Logic.{⊎-elim}
 use native.Mathlib.Omega.{arith}
 use native.Mathlib.Nat.{eq-zero-or-pos}
-use lib.ListN.{length, take, drop, length-take, length-drop}
-use lib.Seq.{take-all}
+use lib.ListN.{length, getD, take, drop, length-take, length-drop}
+use lib.Seq.{take-all, getD-take}
 use Rattle.base.proofs.Numbers.{nat-le-or-lt}
 use Rattle.definitions.specs.Limits.{kept-bytes, length-bytes, problem-header, span-limit}
 use Rattle.definitions.specs.Tropical.{Trop}
@@ -25,7 +25,7 @@ use Rattle.definitions.specs.Demands.{Slice, Numbered, Demands}
 use Rattle.definitions.proofs.Bytes.{bytes-take, bytes-drop}
 use Rattle.definitions.proofs.Refusals.{or-else-none, or-else-suc, problem-fits, answer-fits, form-fits}
 use Rattle.definitions.proofs.RoundTrip.{span-within}
-use Rattle.definitions.proofs.Inputs.{kept-whole, kept-at, header-agrees, span-read, verdict-read}
+use Rattle.definitions.proofs.Inputs.{kept-whole, kept-at, header-agrees, n-agrees, m-agrees, span-read, verdict-read}
 use Rattle.records.specs.declared.problem.Header.{Header}
 use Rattle.records.specs.declared.problem.Header.the-variants as Headers
 use Rattle.records.specs.ProblemHeader.{headerOf, problemRefused}
@@ -48,13 +48,13 @@ use Rattle.checker.specs.declared.check.Verdict.{Verdict}
 use Rattle.checker.specs.declared.check.Verdict.the-variants as Turned
 use Rattle.checker.specs.Outcome.{verdictOf}
 use Rattle.checker.proofs.Judgement.{the-checker, the-checker-judges}
-use Rattle.checker.proofs.Verdicts.{turned}
+use Rattle.checker.proofs.Verdicts.{HeaderRead, turned}
 use Rattle.checker.proofs.Decided.{pad, padded}
-use Rattle.checker.proofs.LongInputs.{kept-longer, judged-parts, long-past, long-cut, long-header, long-refused, long-answered, header-small, problem-kept}
+use Rattle.checker.proofs.LongInputs.{kept-longer, judged-parts, long-past, long-cut, header-turned, long-refused, long-answered, header-small, problem-kept}
 use Rattle.guarantees.specs.Entries as Entries
 use Rattle.guarantees.specs.Entries.{Solve, Check, ReadProblem, ReadAnswer, WriteAnswer, WriterFields}
 use Rattle.guarantees.proofs.Handing.{numberFor, number-back, within-numbered}
-use Rattle.guarantees.proofs.Engine.{within-leads}
+use Rattle.duality.proofs.SmallLeads.{layout-within}
 use Rattle.guarantees.proofs.Solvable.{SomeAnswer, answer-exists}
 use Rattle.guarantees.proofs.Contracts.{engineOf, checkerOf, problemReaderOf, readerOf, writerOf, programOf}
 use Rattle.guarantees.proofs.Demands.{demands}
@@ -117,7 +117,7 @@ solution-exists p before = go (engineRefusal p (length before)) refl
     go (suc k) e = record { result = Solutions.Refused (suc k); buffer = before; solves = Results.turned-away e }
     go zero e =
         let w : WithinLayout p = or-else-none (problemRefusal p) _ .0 e .0 in
-        let s = answer-exists (problemOf p) (problem-fits p .0 w .n-most) (within-leads p w) in
+        let s = answer-exists (problemOf p) (problem-fits p .0 w .n-most) (layout-within p w) in
         record {
           result = Solutions.Answered (s .class) (numberFor (s .span)) (s .trials) (answerSize (s .class) (nField p) (mField p));
           buffer = written before (answerBytes (nField p) (s .answer));
@@ -226,7 +226,7 @@ span-text input = go (problemRefusal input) refl
     go : (k : ℕ) → problemRefusal input ≡ k → SpanText input
     go (suc k) e = record { text = refusedLine (suc k); holds = Programs.refusal e }
     go zero e =
-        let s = answer-exists (problemOf input) (problem-fits input .0 e .n-most) (within-leads input e) in
+        let s = answer-exists (problemOf input) (problem-fits input .0 e .n-most) (layout-within input e) in
         record { text = answerBytes (nField input) (s .answer); holds = Programs.answer (s .answer) e (s .answers) }
 
 -- A header of a size beyond what is kept is refused.
@@ -308,13 +308,15 @@ module _ (kept : List ℕ) (size : ℕ) (h : kept-bytes < size) (cut : lengthFie
       by-answer e w =
           let small = header-small kept end {header = headerBy 0 kept} (header-numbered 0 e) refl in
           let some = long-refused (drop end kept) (size - end) (nField kept) (mField kept) (small .2) (small .3) (omega (arith, small .1)) in
+          let same : (i : ℕ) → i < problem-header → getD (take end kept) i 0 ≡ getD kept i 0 = λ i b. getD-take end kept i 0 (omega (arith, small .0)) in
+          let read : HeaderRead (take end kept) (nField kept) (mField kept) =
+          record { none = w; n-is = sym (n-agrees (take end kept) kept same); m-is = sym (m-agrees (take end kept) kept same) } in
           record {
             verdict = Verdicts.refused (answerHeaderRefusal (drop end kept) (size - end) (nField kept) (mField kept));
             judged = λ b l input k.
                 let longer = kept-longer k h in
                 judged-parts input (long-cut longer h cut)
-                (long-answered longer cut {header = headerBy 0 kept} (header-numbered 0 e) refl
-                (subst WithinLayout (problem-kept longer cut l (omega (arith, small .1))) w) refl some);
+                (long-answered longer cut (subst (λ (s : List ℕ). HeaderRead s (nField kept) (mField kept)) (problem-kept longer cut l (omega (arith, small .1))) read) refl some);
           }
 
       by-problem : headerRefusal kept end ≡ 0 → (j : ℕ) → problemRefusal (take end kept) ≡ j → KeptVerdict kept size
@@ -335,7 +337,7 @@ module _ (kept : List ℕ) (size : ℕ) (h : kept-bytes < size) (cut : lengthFie
         verdict = Verdicts.refused (suc k);
         judged = λ b l input f.
             let longer = kept-longer f h in
-            judged-parts input (long-cut longer h cut) (long-header longer cut {header = headerBy (suc k) kept} (header-numbered (suc k) e) refl refl);
+            judged-parts input (long-cut longer h cut) (header-turned longer cut {header = headerBy (suc k) kept} (header-numbered (suc k) e) refl refl);
       }
 
 verdict-kept : (kept : List ℕ) (size : ℕ) → KeptVerdict kept size

@@ -1,6 +1,6 @@
 -- The engine's own record, judged by the checker and read by the reader.
 use Prim.Native.Nat.{ℕ, zero, suc, _+_, _≤_}
-use mathlib.Core.Path.{_≡_, refl, ap, ap₂, sym, subst, subst₂, subst₃, _∙_}
+use mathlib.Core.Path.{_≡_, ap, ap₂, sym, subst, subst₂, _∙_}
 use mathlib.Core.List.{List}
 use native.Mathlib.Omega.{arith}
 use native.Mathlib.Nat.{zero-add}
@@ -9,16 +9,15 @@ use Rattle.definitions.specs.Limits.{answer-most}
 use Rattle.definitions.specs.Tropical.{Trop, bot}
 use Rattle.definitions.specs.Offset.{tropOf}
 use Rattle.definitions.specs.Bytes.{Bytes, numAt, Outcome, gives, outcome}
-use Rattle.definitions.specs.ProblemRecord.{WithinLayout, headerOutcome, problemRefusal, problemOf, nField, mField}
-use Rattle.definitions.specs.AnswerRecord.{Answer, answerRefusal, answerOutcome, answerOf, answerSize, answerBytes, written, classField, spanField}
+use Rattle.definitions.specs.ProblemRecord.{WithinLayout, headerOutcome, nField, mField}
+use Rattle.definitions.specs.AnswerRecord.{Answer, answerRefusal, answerOutcome, answerOf, answerBytes, classField, spanField}
 use Rattle.definitions.specs.Verdict as Verdicts
 use Rattle.definitions.specs.Verdict.{Verdict, accepted, Judged, pointOf, strategyOf}
 use Rattle.definitions.specs.Solved as Results
-use Rattle.definitions.specs.Solved.{Solved, answered, Answers, Solves, solved, engineRefusal}
+use Rattle.definitions.specs.Solved.{Solved, answered, Solves, solved}
 use Rattle.definitions.proofs.Inputs.{header-passes}
-use Rattle.definitions.proofs.Refusals.{or-else-none, enough-clause, problem-fits}
-use Rattle.definitions.proofs.RoundTrip.{answer-length, answer-back, answer-accepted, size-most, answer-bytes}
-use Rattle.definitions.proofs.Put.{take-put, length-put}
+use Rattle.definitions.proofs.RoundTrip.{answer-back, answer-accepted, answer-bytes}
+use Rattle.definitions.proofs.Solved.{answer-takes}
 use Rattle.definitions.proofs.Outcomes.{outcome-none}
 use Rattle.records.specs.declared.problem.Header.{Header}
 use Rattle.records.specs.declared.problem.Layout.{Layout}
@@ -32,52 +31,9 @@ use Rattle.answer_reader.proofs.Meaning.{stamps-point, picks-strategy}
 use Rattle.engine.specs.declared.solve.Solved as Declared
 use Rattle.engine.specs.declared.solve.Solved.the-variants.{Refused, Answered}
 use Rattle.engine.specs.Outcome.{solvedOf}
+use Rattle.engine.proofs.Outcomes.{own-wrote}
 use Rattle.guarantees.specs.OwnAnswers.{OwnVerdict, HeldIn, OwnReading}
-use Rattle.guarantees.proofs.Engine.{answer-takes, result-parts, record-stands, verdict-on}
-
--- The engine answered: the record of an answer stands at the buffer's start.
-pub record Wrote (p before : List ℕ) (class : ℕ) (span : Trop) (trials size : ℕ) (after : List ℕ) : Type 0 where
-  pub none : engineRefusal p (length before) ≡ 0
-  pub within : WithinLayout p
-  pub answer : Answer
-  pub answers : Answers (problemOf p) class span trials answer
-  pub inside : size ≤ length after
-  pub buffer-is : after ≡ written before (answerBytes (nField p) answer)
-  pub bytes : take size after ≡ answerBytes (nField p) answer
-
-none-refused : (p : List ℕ) (room : ℕ) → engineRefusal p room ≡ 0 → WithinLayout p × (answer-most ≤ room)
-unfolding engineRefusal
-none-refused p room e =
-    let h = or-else-none (problemRefusal p) _ .0 e in
-    (h .0, enough-clause room answer-most 6 0 .0 (h .1) .0)
-
-wrote-record : (p before : List ℕ) {class : ℕ} {span : Trop} {trials : ℕ} (a : Answer) → engineRefusal p (length before) ≡ 0 → Answers (problemOf p) class span trials a
-    → Wrote p before class span trials (answerSize class (nField p) (mField p)) (written before (answerBytes (nField p) a))
-unfolding written
-wrote-record p before {class} a e ans =
-    let h = none-refused p (length before) e in
-    let f = problem-fits p .0 (h .0) in
-    let size : length (answerBytes (nField p) a) ≡ answerSize class (nField p) (mField p) =
-    answer-length a (nField p) (mField p) answer-most (answer-takes p (h .0) a ans) ∙ ap (λ (k : ℕ). answerSize k (nField p) (mField p)) (ans .class-is) in
-    let most = size-most class (nField p) (mField p) (f .n-most) (f .m-most) in
-    record {
-      none = e;
-      within = h .0;
-      answer = a;
-      answers = ans;
-      inside = rw (length-put before 0 (answerBytes (nField p) a) (omega arith) (omega (arith, size, most, h .1))) (omega (arith, most, h .1));
-      buffer-is = refl;
-      bytes = record-stands p before (h .0) a ans;
-    }
-
--- What an answered result means.
-pub wrote : {p before after : List ℕ} {r : Solved} {class : ℕ} {span : Trop} {trials size : ℕ} → Solves p before r after → r ≡ answered class span trials size
-    → Wrote p before class span trials size after
-wrote (Results.turned-away e) f = absurd (let z : _≡_ {A = ℕ} 0 1 = cc in omega arith)
-wrote {p} {before} {after} {class = class} {span = span} {trials = trials} {size = size} (solved {class = c} a e ans) f =
-    let same = result-parts f in
-    let w = subst₃ (λ x y z. Wrote p before x y z (answerSize c (nField p) (mField p)) after) (same .0) (same .1) (same .2) (wrote-record p before a e ans) in
-    subst (λ (z : ℕ). Wrote p before class span trials z after) (same .3) w
+use Rattle.guarantees.proofs.Engine.{verdict-on}
 
 -- The code's result, refused.
 pub own-refused : {p before after : List ℕ} {r : Declared.Solved} {k : ℕ} → Solves p before (solvedOf r) after → r ≡ Refused k
@@ -93,12 +49,6 @@ own-refused {p} {before} {after} {r} {k} h e = go h (ap solvedOf e)
           λ stamps picks. subst (λ (x : ℕ). OwnReading p before stamps picks (Outcome.refusal x) before stamps picks) same (OwnReading.turned-away z),
         )
     go (solved a z ans) f = absurd (let z : _≡_ {A = ℕ} 0 1 = cc in omega arith)
-
--- The code's result, answered.
-pub own-wrote : {p before after : List ℕ} {r : Declared.Solved} {class span trials size : ℕ} → Solves p before (solvedOf r) after → r ≡ Answered class span trials size
-    → Wrote p before class (tropOf span) trials size after
-unfolding solvedOf
-own-wrote h e = wrote h (ap solvedOf e)
 
 pub own-inside : {p before after : List ℕ} {r : Declared.Solved} {class span trials size : ℕ} → Solves p before (solvedOf r) after → r ≡ Answered class span trials size → size ≤ length after
 own-inside h e = own-wrote h e .inside

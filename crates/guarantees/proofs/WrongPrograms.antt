@@ -34,7 +34,8 @@ use Rattle.definitions.proofs.Refusals.{answer-fits, writer-fits}
 use Rattle.definitions.proofs.RoundTrip.{writer-accepts, answer-length, answer-bytes, size-most}
 use Rattle.checker.proofs.Answers.{picks-at}
 use Rattle.definitions.proofs.Examples.{anchor-only, not-accepted-M}
-use Rattle.guarantees.proofs.Engine.{found-as, engine-answer, answer-takes}
+use Rattle.definitions.proofs.Solved.{answer-takes}
+use Rattle.guarantees.proofs.Engine.{found-as, engine-answer}
 use Rattle.guarantees.proofs.Records.{read-fields}
 
 -- ---- the examples' bytes, and a buffer of 206 zeros

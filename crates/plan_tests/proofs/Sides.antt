@@ -28,8 +28,8 @@ use Rattle.records.specs.Decoded.{Near}
 use Rattle.records.proofs.ProblemHeader.{product-most}
 use Rattle.problem_records.specs.Tables.{leadAt, Laid}
 use Rattle.problem_records.proofs.LeadTables.{row-inside, left-near-at, right-near-at, left-lead-means, right-lead-means}
-use Rattle.closed_walks.specs.Tables.{Stamped, stampsPoint}
-use Rattle.plan_tests.specs.Sides.{stamp-drop, lowered, Lowered, side-floor, run, bestSum, sideBy, sideOf, RowSized}
+use Rattle.records.specs.Stamps.{Stamped, stampsPoint}
+use Rattle.plan_tests.specs.Sides.{stamp-drop, lowered, Lowered, side-floor, run, bestSum, sideBy, sideOf, Low, RowSized}
 
 -- ---- the largest sum
 
@@ -124,7 +124,7 @@ lowered-small e near = ⊎-elim
     (eq-zero-or-pos e)
 
 -- They are in range.
-pub low-small : {stamps : List ℕ} {k : ℕ} {x : List ℕ} → Stamped stamps → Lowered stamps k x → (l : ℕ) → getD x l 0 ≤ stamp-drop + stamp-limit
+pub low-small : {stamps : List ℕ} {k : ℕ} {x : List ℕ} → Stamped stamps → Lowered stamps k x → Low x
 low-small {stamps} {k} stamped low l = ⊎-elim
     (λ (b : k ≤ l). omega (arith, low .rest l b))
     (λ (b : l < k). rw (low .each l b) (lowered-small (getD stamps l 0) (stamped .near l)))
@@ -217,25 +217,27 @@ full e = omega arith
 pub row-small : {s : List ℕ} {n m : ℕ} → Laid s n m → (i : ℕ) {left : ℕ} → i ≤ m → left ≡ leftPlace n i 0 → left + 2 * signed-bytes * (n + 1) ≤ problem-most
 row-small {n = n} {m} laid i row place = omega (arith, laid .size-is, row-inside laid i row, product-most n m (laid .n-most) (laid .m-most))
 
+-- Both sides of row i are in range.
+module _ {s : List ℕ} {n m : ℕ} (laid : Laid s n m) {x : List ℕ} (small : Low x) (i : ℕ) {left right : ℕ} (row : i ≤ m) (place : left ≡ leftPlace n i 0)
+    (next : right ≡ left + 4 * (n + 1)) where
+  pub left-sized : RowSized s left (n + 1) x
+  left-sized = record {
+    inside = omega (arith, row-inside laid i row);
+    few = omega (arith, laid .n-most);
+    leads = λ l h. left-near-at laid i left l row place (omega arith);
+    points = small;
+  }
+
+  pub right-sized : RowSized s right (n + 1) x
+  right-sized = record {
+    inside = omega (arith, row-inside laid i row);
+    few = omega (arith, laid .n-most);
+    leads = λ l h. rw next (right-near-at laid i left l row place (omega arith));
+    points = small;
+  }
+
 module _ {s : List ℕ} {n m : ℕ} (laid : Laid s n m) {stamps x : List ℕ} (stamped : Stamped stamps) (low : Lowered stamps (n + 1) x) where
   module _ (i : ℕ) {left right : ℕ} (row : i ≤ m) (place : left ≡ leftPlace n i 0) (next : right ≡ left + 4 * (n + 1)) where
-    -- Both sides of row i are in range.
-    pub left-sized : RowSized s left (n + 1) x
-    left-sized = record {
-      inside = omega (arith, row-inside laid i row);
-      few = omega (arith, laid .n-most);
-      leads = λ l h. left-near-at laid i left l row place (omega arith);
-      points = low-small stamped low;
-    }
-
-    pub right-sized : RowSized s right (n + 1) x
-    right-sized = record {
-      inside = omega (arith, row-inside laid i row);
-      few = omega (arith, laid .n-most);
-      leads = λ l h. rw next (right-near-at laid i left l row place (omega arith));
-      points = low-small stamped low;
-    }
-
     one-side : (at : ℕ) (coefficients : ℕ → Trop) → RowSized s at (n + 1) x → ((j : ℕ) → j ≤ n → tropOf (run s at j) ≡ coefficients j)
         → tropOf (sideOf (run s at) x (n + 1)) ≡ side (problemOf s .n) coefficients (stampsPoint stamps)
     unfolding side sideOf stampsPoint problemOf
@@ -246,11 +248,11 @@ module _ {s : List ℕ} {n m : ℕ} (laid : Laid s n m) {stamps x : List ℕ} (s
 
     -- The left side of the row, and the right side.
     pub left-side : tropOf (sideOf (run s left) x (n + 1)) ≡ side (problemOf s .n) (problemOf s .left i) (stampsPoint stamps)
-    left-side = one-side left (problemOf s .left i) left-sized (λ j b.
+    left-side = one-side left (problemOf s .left i) (left-sized laid (low-small stamped low) i row place next) (λ j b.
         let e : left + 4 * j ≡ leftPlace n i j = omega arith in rw e (left-lead-means laid i j row b))
 
     pub right-side : tropOf (sideOf (run s right) x (n + 1)) ≡ side (problemOf s .n) (problemOf s .right i) (stampsPoint stamps)
-    right-side = one-side right (problemOf s .right i) right-sized (λ j b.
+    right-side = one-side right (problemOf s .right i) (right-sized laid (low-small stamped low) i row place next) (λ j b.
         let e : right + 4 * j ≡ rightPlace n i j = omega arith in rw e (right-lead-means laid i j row b))
 
     -- The row is kept exactly when no left sum is above the right side.

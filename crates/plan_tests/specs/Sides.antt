@@ -2,13 +2,15 @@
 -- below 2³².
 use Prim.Native.Nat.{ℕ, zero, suc, _+_, _*_, _-_, _≤_, _<_}
 use mathlib.Core.Path.{_≡_}
-use mathlib.Core.Bool.{cond}
+use mathlib.Core.Bool.{Bool, cond}
 use mathlib.Core.List.{List}
 use lib.Dec.{eqb}
 use lib.ListN.{length, getD}
 use Rattle.base.specs.Numbers.{most}
 use Rattle.base.specs.Filled.{Filled}
-use Rattle.definitions.specs.Limits.{lead-limit, stamp-limit, signed-bytes, stride}
+use Rattle.base.specs.Decides.{Decides}
+use Rattle.definitions.specs.Limits.{lead-limit, stamp-limit, signed-bytes, signed-full, stride}
+use Rattle.definitions.specs.Offset.{off}
 use Rattle.records.specs.Decoded.{Near}
 use Rattle.problem_records.specs.Tables.{leadAt}
 
@@ -45,9 +47,22 @@ sideBy best = cond (eqb best side-floor) 0 (best - stamp-drop)
 unfoldable pub sideOf : (ℕ → ℕ) → List ℕ → ℕ → ℕ
 sideOf f x k = sideBy (bestSum f x k)
 
+-- Lowered stamps, none above the highest.
+abbrev pub Low : List ℕ → Type 0
+Low x = (l : ℕ) → getD x l 0 ≤ stamp-drop + stamp-limit
+
 -- At most 32 leads from a place on, inside the bytes and in range, and lowered stamps, none above the highest.
 pub record RowSized (s : List ℕ) (at count : ℕ) (x : List ℕ) : Type 0 where
   pub inside : at + signed-bytes * count ≤ length s
   pub few : count ≤ stride
   pub leads : (l : ℕ) → l < count → Near lead-limit (run s at l)
-  pub points : (l : ℕ) → getD x l 0 ≤ stamp-drop + stamp-limit
+  pub points : Low x
+
+-- The largest of the floor and `count` sums of leads from a place on and lowered stamps, as a field.
+pub record BestIs (s : List ℕ) (at count : ℕ) (x : List ℕ) (r : ℕ) : Type 0 where
+  pub is : off r ≡ bestSum (run s at) x count
+  pub field : r < signed-full
+
+-- Whether none of these sums is above a limit.
+abbrev pub NoneOver : List ℕ → ℕ → ℕ → List ℕ → ℕ → Bool → Type 0
+NoneOver s at count x limit r = Decides (bestSum (run s at) x count ≤ limit) r

@@ -1,6 +1,7 @@
 // A point at the rows of a problem, which are read where they stand: the sides of a row, the rules, the value.
 ghost use mathlib.Core.Path.{_≡_};
 ghost use mathlib.Core.Bool.{cond, false};
+ghost use mathlib.Core.List.{List};
 ghost use Prim.Native.Nat.{ℕ, suc, _+_, _*_, _≤_, _<_};
 ghost use lib.Dec.{ltb};
 ghost use lib.ListN.{length};
@@ -12,9 +13,9 @@ ghost use Rattle.definitions.specs.Problem.{Keeps, value, whole};
 ghost use Rattle.definitions.specs.Offset.{tropOf, off};
 ghost use Rattle.definitions.specs.ProblemRecord.{problemOf};
 ghost use Rattle.records.specs.Decoded.{Near};
+ghost use Rattle.records.specs.Stamps.{Stamped, stampsPoint};
 ghost use Rattle.problem_records.specs.Tables.{leadAt, Laid};
-ghost use Rattle.closed_walks.specs.Tables.{Stamped, stampsPoint};
-ghost use Rattle.plan_tests.specs.Sides.{lowered, Lowered, side-floor, run, bestSum, sideOf, RowSized};
+ghost use Rattle.plan_tests.specs.Sides.{lowered, Lowered, side-floor, run, bestSum, sideOf, Low, RowSized, BestIs, NoneOver};
 use problem_records::reader::row_place;
 use records::bytes::word_in;
 use records::limits::HIGHEST_N;
@@ -45,8 +46,8 @@ fn lower(stamp: u64) -> u32
     }
 }
 
-// The stamps lowered, then blanks.
-fn lower_point(stamps: &[u64; STRIDE], width: usize) -> [u32; STRIDE]
+// The stamps lowered, then blanks. Public for the checker's `check`, which asks both questions below of them.
+pub fn lower_point(stamps: &[u64; STRIDE], width: usize) -> [u32; STRIDE]
     requires { ⌜ Stamped (now stamps) × (width ≤ stride) ⌝ }
     ensures { λ r. ⌜ Lowered (now (stamps .entry)) width r ⌝ }
 {
@@ -68,7 +69,7 @@ fn sum_in(bytes: &[u8], at: usize, x: u32) -> u32
 // The largest of `count` sums, as a field: one side of a row whose leads start at a place.
 fn best_of(bytes: &[u8], at: usize, count: usize, x: &[u32; STRIDE]) -> u32
     requires { ⌜ RowSized (now bytes) at count (now x) ⌝ }
-    ensures { λ r. ⌜ (off r ≡ bestSum (run (now (bytes .entry)) at) (now (x .entry)) count) × (r < signed-full) ⌝ }
+    ensures { λ r. ⌜ BestIs (now (bytes .entry)) at count (now (x .entry)) r ⌝ }
 {
     let mut best = offset_32(SIDE_FLOOR);
     let mut from = at;
@@ -82,7 +83,7 @@ fn best_of(bytes: &[u8], at: usize, count: usize, x: &[u32; STRIDE]) -> u32
 // The same for a row of n + 1 leads. Rows of the full width have a call of their own, which is compiled for that length.
 fn best(bytes: &[u8], at: usize, n: usize, x: &[u32; STRIDE]) -> u32
     requires { ⌜ RowSized (now bytes) at (n + 1) (now x) ⌝ }
-    ensures { λ r. ⌜ (off r ≡ bestSum (run (now (bytes .entry)) at) (now (x .entry)) (n + 1)) × (r < signed-full) ⌝ }
+    ensures { λ r. ⌜ BestIs (now (bytes .entry)) at (n + 1) (now (x .entry)) r ⌝ }
 {
     if n == HIGHEST_N {
         return best_of(bytes, at, STRIDE, x);
@@ -101,7 +102,7 @@ fn still(kept: bool, limit: u32, sum: u32) -> bool
 // None of `count` sums is above the limit. All are looked at, so that the loop has no branch.
 fn none_above_of(bytes: &[u8], at: usize, count: usize, x: &[u32; STRIDE], limit: u32) -> bool
     requires { ⌜ RowSized (now bytes) at count (now x) × (side-floor ≤ limit) ⌝ }
-    ensures { λ r. ⌜ Decides (bestSum (run (now (bytes .entry)) at) (now (x .entry)) count ≤ limit) r ⌝ }
+    ensures { λ r. ⌜ NoneOver (now (bytes .entry)) at count (now (x .entry)) limit r ⌝ }
 {
     let mut none = true;
     let mut from = at;
@@ -115,7 +116,7 @@ fn none_above_of(bytes: &[u8], at: usize, count: usize, x: &[u32; STRIDE], limit
 // The same for a row of n + 1 leads.
 fn none_above(bytes: &[u8], at: usize, n: usize, x: &[u32; STRIDE], limit: u32) -> bool
     requires { ⌜ RowSized (now bytes) at (n + 1) (now x) × (side-floor ≤ limit) ⌝ }
-    ensures { λ r. ⌜ Decides (bestSum (run (now (bytes .entry)) at) (now (x .entry)) (n + 1) ≤ limit) r ⌝ }
+    ensures { λ r. ⌜ NoneOver (now (bytes .entry)) at (n + 1) (now (x .entry)) limit r ⌝ }
 {
     if n == HIGHEST_N {
         return none_above_of(bytes, at, STRIDE, x, limit);
@@ -131,17 +132,16 @@ fn row_stands(bytes: &[u8], left: usize, right: usize, n: usize, x: &[u32; STRID
     none_above(bytes, left, n, x, offset_32(best(bytes, right, n, x)))
 }
 
-// The point keeps every inequality. Public for the checker's `check`.
-pub fn keeps_rules(bytes: &[u8], n: usize, m: usize, stamps: &[u64; STRIDE]) -> bool
-    requires { ⌜ Laid (now bytes) n m × Stamped (now stamps) ⌝ }
-    ensures { λ r. ⌜ Decides ((i : ℕ) → i < m → Keeps (problemOf (now (bytes .entry))) (stampsPoint (now (stamps .entry))) i) r ⌝ }
+// The point whose stamps, lowered, are x keeps every inequality. Public for the checker's `check`.
+pub fn keeps_rules(bytes: &[u8], n: usize, m: usize, x: &[u32; STRIDE]) -> bool
+    requires { ⌜ Laid (now bytes) n m × Low (now x) ⌝ }
+    ensures { λ r. ⌜ ((stamps : List ℕ) → Stamped stamps → Lowered stamps (n + 1) (now (x .entry)) → Decides ((i : ℕ) → i < m → Keeps (problemOf (now (bytes .entry))) (stampsPoint stamps) i) r) ⌝ }
 {
-    let x = lower_point(stamps, n + 1);
     let step = LEAD_BYTES * (n + 1);
     let mut left = PROBLEM_HEADER;
     for _ in 0..m {
         let right = left + step;
-        if !row_stands(bytes, left, right, n, &x) {
+        if !row_stands(bytes, left, right, n, x) {
             return false;
         }
         left = right + step;
@@ -162,18 +162,17 @@ fn side(bytes: &[u8], at: usize, n: usize, x: &[u32; STRIDE]) -> u64
     }
 }
 
-// The point's objective value is the span s. Public for the checker's `check`.
-pub fn value_is(bytes: &[u8], n: usize, m: usize, stamps: &[u64; STRIDE], s: u64) -> bool
-    requires { ⌜ Laid (now bytes) n m × Stamped (now stamps) × (s ≤ signed-full) ⌝ }
-    ensures { λ r. ⌜ ((z : ℤ) → tropOf s ≡ fin z → Decides (value (problemOf (now (bytes .entry))) (stampsPoint (now (stamps .entry))) ≡ whole z) r) ⌝ }
+// The objective value of that point is the span s. Public for the checker's `check`.
+pub fn value_is(bytes: &[u8], n: usize, m: usize, x: &[u32; STRIDE], s: u64) -> bool
+    requires { ⌜ Laid (now bytes) n m × Low (now x) × (s ≤ signed-full) ⌝ }
+    ensures { λ r. ⌜ ((stamps : List ℕ) (z : ℤ) → Stamped stamps → Lowered stamps (n + 1) (now (x .entry)) → tropOf s ≡ fin z → Decides (value (problemOf (now (bytes .entry))) (stampsPoint stamps) ≡ whole z) r) ⌝ }
 {
-    let x = lower_point(stamps, n + 1);
     let left = row_place(n, m);
-    let first = side(bytes, left, n, &x);
+    let first = side(bytes, left, n, x);
     if first == 0 {
         return false;
     }
-    let second = side(bytes, left + LEAD_BYTES * (n + 1), n, &x);
+    let second = side(bytes, left + LEAD_BYTES * (n + 1), n, x);
     if second == 0 {
         return false;
     }

@@ -1,6 +1,6 @@
 -- The lines that the programs print, by the cases of the code that puts them.
-use Prim.Native.Nat.{ℕ, zero, suc, _-_, _≤_, _<_}
-use mathlib.Core.Path.{_≡_, refl}
+use Prim.Native.Nat.{ℕ, suc, _-_, _≤_, _<_}
+use mathlib.Core.Path.{_≡_}
 use mathlib.Core.List.{List, [], _∷_, _++_}
 use native.Mathlib.Omega.{arith}
 use lib.ListN.{length}
@@ -9,7 +9,7 @@ use borrow.Author.Tests.{eq-eqb, ne-eqb}
 use Rattle.definitions.specs.Limits.{signed-half, class-optimal, class-unbounded, class-infeasible}
 use Rattle.definitions.specs.Tropical.{Trop}
 use Rattle.definitions.specs.Offset.{tropOf}
-use Rattle.definitions.specs.Verdict.{accepted, refused, not-certified}
+use Rattle.definitions.specs.Verdict.{accepted, not-certified}
 use Rattle.definitions.specs.Programs.{decimal, wholeDecimal, spanDecimal, text-least, text-bottomless, text-none, text-not-certified, newline, classWords, refusedLine, verdictLine}
 use Rattle.definitions.proofs.Offset.{trop-zero, trop-show}
 use Rattle.printing.specs.Text.{Putting, verdictOf}
@@ -66,16 +66,6 @@ words-other l at class span x y z = rw (ne-eqb class class-optimal x, ne-eqb cla
 pub line-puts : {l a one : List ℕ} {i : ℕ} {b two : List ℕ} {j : ℕ} {after : List ℕ} {next : ℕ} → Putting l 0 a one i → Putting one i b two j → Putting two j newline after next
     → i ≤ length one → Putting l 0 (a ++ (b ++ newline)) after next
 line-puts p q r inside = put-then p (put-then q r inside) (omega arith)
-
--- The verdict of refusal 0 accepts, with class and span.
-pub verdict-none : (class span : ℕ) → verdictOf zero class span ≡ accepted class (tropOf span)
-unfolding verdictOf
-verdict-none class span = refl
-
--- The verdict of any other refusal is that refusal.
-pub verdict-some : (k class span : ℕ) → verdictOf (suc k) class span ≡ refused (suc k)
-unfolding verdictOf
-verdict-some k class span = rw (ne-eqb (suc k) 0 (omega arith))
 
 -- Refusal 0 is none: the line of class and span.
 pub verdict-accepted : {l : List ℕ} (refusal class span : ℕ) {after : List ℕ} {next : ℕ} → Putting l 0 (verdictLine (accepted class (tropOf span))) after next → refusal ≡ 0

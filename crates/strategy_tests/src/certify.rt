@@ -75,10 +75,11 @@ pub fn certify_variables(bytes: &[u8], n: usize, m: usize, picks: &[u64; ROWS], 
     let marks = reach(&arcs, width, anchor());
     let order = order_of(&marks, width);
     let places = order.places;
-    if !variables_count(bytes, n, m, picks, &places, order.count) {
+    let count = order.count;
+    if !variables_count(bytes, n, m, picks, &places, count) {
         return false;
     }
-    none_gains(&arcs, &marks, width)
+    none_gains(&arcs, &marks, &places, count, width)
 }
 
 // The row that starts at `base` has no left coefficient of a marked variable.
@@ -165,5 +166,7 @@ pub fn certify_rows(
     if !rows_count(left, right, picks, &marks, width, m + 1) {
         return false;
     }
-    none_gains(&arcs, &marks, width)
+    let order = order_of(&marks, width);
+    let places = order.places;
+    none_gains(&arcs, &marks, &places, order.count, width)
 }

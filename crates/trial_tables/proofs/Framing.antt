@@ -57,12 +57,3 @@ decoded-holds {f = f} d e g o = record {
   right-is = λ i j h k. d .right-is i j (omega (arith, o .m-is)) (omega (arith, o .n-is));
   objective-is = λ j k. ap tropOf (o .copied .each j (omega (arith, d .n-most, o .n-is))) ∙ rw (o .m-is) (d .right-is _ j (omega (arith, o .m-is)) (omega (arith, o .n-is)));
 }
-
--- The requirement can be met: a decoded problem's tables are such.
-pub decoded-coefficients : (p : Problem) (left right : List ℕ) → Decoded p left right → Coefficients (p .n) (p .m) left right
-decoded-coefficients p left right d = record {
-  n-most = d .n-most;
-  m-most = d .m-most;
-  lefts = record { size = d .left-length; near = d .left-near };
-  rights = record { size = d .right-length; near = d .right-near };
-}

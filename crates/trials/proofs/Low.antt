@@ -27,10 +27,6 @@ high-mono a b h = ⊎-elim
     (λ (p : 0 < a). omega (arith, high-whole a p, high-whole b (omega arith)))
     (eq-zero-or-pos a)
 
--- A low number that is not blank has an offset number that is not.
-pub high-some : (k : ℕ) → 0 < high k → 0 < k
-high-some k h = ⊎-elim (λ (e : k ≡ 0). let z : high k ≡ 0 = rw e high-zero in absurd (omega arith)) (λ p. p) (eq-zero-or-pos k)
-
 pub high-blank : (k : ℕ) → high k ≡ 0 → k ≡ 0
 high-blank k e = ⊎-elim (λ z. z) (λ (p : 0 < k). absurd (omega (arith, high-whole k p))) (eq-zero-or-pos k)
 

@@ -37,4 +37,4 @@ best-of-spec =
       omega arith,
       best-turn _ _ (turn .loop .l) (turn .loop .inv .3) (sum-at _ (start .args .at) (turn .loop .l) _ (c .before .sum-in .ensures .0) (turn .loop .inv .1)) (c .later .ensures .0),
     ))
-    (λ c. let e : c .before .loop .l ≡ c .before .before .before .before .args .count = omega arith in (rw e at (c .before .loop .inv .3), omega arith)))
+    (λ c. let e : c .before .loop .l ≡ c .before .before .before .before .args .count = omega arith in record { is = rw e at (c .before .loop .inv .3); field = omega arith }))

@@ -14,5 +14,5 @@ row-stands-spec =
     (λ c κs. search needs)
     (λ c κs. search needs)
     (λ c κs. let start = c .before .before .before in
-    (start .pre .0, omega (arith, c .offset-32 .ensures .0, c .before .best .ensures .0, best-floor (run (start .args .bytes .now) (start .args .right)) (start .args .x .now) (start .args .n + 1))))
-    (λ c. rw (c .before .offset-32 .ensures .0 ∙ c .before .before .best .ensures .0) at (c .none-above .ensures)))
+    (start .pre .0, omega (arith, c .offset-32 .ensures .0, c .before .best .ensures .is, best-floor (run (start .args .bytes .now) (start .args .right)) (start .args .x .now) (start .args .n + 1))))
+    (λ c. rw (c .before .offset-32 .ensures .0 ∙ c .before .before .best .ensures .is) at (c .none-above .ensures)))

@@ -9,7 +9,7 @@ fill-lifted-spec =
     tie.close
     (tie.spec
     (λ c κs. let start = c .before .before .before in
-    (omega arith, omega (arith, c .before .if1 .taken), omega (arith, c .before .if1 .taken), omega arith, λ l h. start .pre .4 l (omega (arith, c .before .if1 .taken))))
+    record { length-is = omega arith; room = omega (arith, c .before .if1 .taken); inside = omega (arith, c .before .if1 .taken); up-most = omega arith; leads = λ l h. start .pre .leads l (omega (arith, c .before .if1 .taken)) })
     (λ c. run-end (c .fill-run .ensures) (omega (arith, c .before .before .if1 .taken)) (omega (arith, c .before .before .if1 .taken)))
     (λ c κs. search needs)
     (λ c. search needs))

@@ -1,10 +1,9 @@
 use borrow.Author.Needs.{needs}
 use lib.ListN.{length, length-set}
-use Rattle.base.specs.Filled.{FilledFrom}
 use Rattle.base.proofs.Filled.{run-none, run-more}
 use Rattle.records.specs.Decoded.{Near}
 use Rattle.problem_records.specs.Tables.{leadAt}
-use Rattle.closed_walks.specs.Arcs.{lifted}
+use Rattle.closed_walks.specs.Arcs.{lifted, LiftFilled}
 use mathlib.Core.Path.{_≡_, refl, ap, _∙_}
 use mathlib.Core.List.{List}
 use native.Mathlib.Omega.{arith}
@@ -18,7 +17,7 @@ lead-at s e f h = rw (e, f) h
 
 abbrev Inv-loop : tie.InvT-loop
 Inv-loop arcs₀ from bytes at width up place₀ l₀ arcs place l =
-    (l ≤ width) × (place ≡ at + 4 * l) × (length arcs ≡ length arcs₀) × FilledFrom (λ i. lifted up (leadAt bytes (at + 4 * i))) from l arcs₀ arcs
+    (l ≤ width) × (place ≡ at + 4 * l) × (length arcs ≡ length arcs₀) × LiftFilled from bytes at l up arcs₀ arcs
 
 abbrev μ-loop : tie.MeasureT-loop
 μ-loop arcs₀ from bytes at width up place₀ l₀ arcs place l = width - l
@@ -33,7 +32,7 @@ fill-run-spec =
     (λ c κs. search needs)
     (λ c κs. let start = c .before .before .before .before in
     let turn = c .before .before in
-    (omega arith, lead-at _ (c .lead-in .ensures .0) (turn .loop .inv .1) (start .pre .4 (turn .loop .l) (omega arith))))
+    (omega arith, lead-at _ (c .lead-in .ensures .0) (turn .loop .inv .1) (start .pre .leads (turn .loop .l) (omega arith))))
     (λ c. search needs)
     (λ c. search needs)
     (λ c. search needs)

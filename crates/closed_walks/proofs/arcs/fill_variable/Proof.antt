@@ -34,13 +34,14 @@ fill-variable-spec =
     (λ c. search needs)
     (λ c. search needs)
     (λ c κs. let start = c .before .before .before .before .before .before .before .before in
-    let place = c .before .before .before .before .before .row-place in (
-      omega arith,
-      omega arith,
-      omega (arith, row-inside (start .pre .0) (start .args .pick - 1) (omega arith)),
-      omega arith,
-      λ l h. right-near-at (start .pre .0) (start .args .pick - 1) (place .result) l (omega arith) (place .ensures .0) (omega arith),
-    ))
+    let place = c .before .before .before .before .before .row-place in
+    record {
+      length-is = omega arith;
+      room = omega arith;
+      inside = omega (arith, row-inside (start .pre .0) (start .args .pick - 1) (omega arith));
+      up-most = omega arith;
+      leads = λ l h. right-near-at (start .pre .0) (start .args .pick - 1) (place .result) l (omega arith) (place .ensures .0) (omega arith);
+    })
     (λ c. let start = c .before .before .before .before .before .before .before .before .before in
     let e : start .args .pick ≡ suc (start .args .pick - 1) = omega arith in
     fill-arcs (start .pre .0) (omega arith) (c .before .before .before .before .before .before .row-place .ensures .0) _ e (omega arith) (c .before .before .before .before .before .lead-in .ensures .0) (c .before .before .before .before .if2 .left)

@@ -20,9 +20,10 @@ certify-rows-spec =
     let start = c .before .before .before .before .before .before .before .before in
     rows-not (start .pre .0) (start .pre .1) (start .pre .2) (c .before .before .before .before .before .before .row-arcs .ensures) h e
     (c .before .before .before .before .anchor .ensures) (c .before .before .before .reach .ensures) (c .before .rows-count .ensures) (not-true _ (c .if1 .taken)))
-    (λ c κs. let start = c .before .before .before .before .before .before .before .before .before .before in
-    (rows-table (start .pre .0) (start .pre .1) (start .pre .2) (c .before .before .before .before .before .before .before .before .row-arcs .ensures), c .before .before .before .before .before .reach .ensures .flags, omega arith))
+    (λ c κs. (c .before .before .before .before .reach .ensures .flags, omega (arith, c .before .before .before .before .before .before .before .before .before .pre .0 .n-most)))
+    (λ c κs. let start = c .before .before .before .before .before .before .before .before .before .before .before .before .before .before in
+    (rows-table (start .pre .0) (start .pre .1) (start .pre .2) (c .before .before .before .before .before .before .before .before .before .before .before .before .row-arcs .ensures), c .before .before .before .before .order-of .ensures, omega arith))
     (λ c. λ p z h e.
-    let start = c .before .before .before .before .before .before .before .before .before .before .before in
-    rows-both (start .pre .0) (start .pre .1) (start .pre .2) (c .before .before .before .before .before .before .before .before .before .row-arcs .ensures) h e
-    (c .before .before .before .before .before .before .before .anchor .ensures) (c .before .before .before .before .before .before .reach .ensures) (c .before .before .before .before .rows-count .ensures) (not-false _ (c .before .before .before .if1 .left)) (c .none-gains .ensures)))
+    let start = c .before .before .before .before .before .before .before .before .before .before .before .before .before .before .before in
+    rows-both (start .pre .0) (start .pre .1) (start .pre .2) (c .before .before .before .before .before .before .before .before .before .before .before .before .before .row-arcs .ensures) h e
+    (c .before .before .before .before .before .before .before .before .before .before .before .anchor .ensures) (c .before .before .before .before .before .before .before .before .before .before .reach .ensures) (c .before .before .before .before .before .before .before .before .rows-count .ensures) (not-false _ (c .before .before .before .before .before .before .before .if1 .left)) (c .none-gains .ensures)))

@@ -23,9 +23,9 @@ certify-variables-spec =
     let start = c .before .before .before .before .before .before .before .before .before .before .before .before in
     variables-not (laid-sized (start .pre .0)) (start .pre .1) (start .pre .2) (c .before .before .before .before .before .before .before .before .before .variable-arcs .ensures) (laid-holds (start .pre .0)) e
     (c .before .before .before .before .before .before .before .anchor .ensures) (c .before .before .before .before .before .before .reach .ensures) (order-counts (start .args .picks .now) (c .before .before .before .before .order-of .ensures) (c .before .variables-count .ensures)) (not-true _ (c .if1 .taken)))
-    (λ c κs. let start = c .before .before .before .before .before .before .before .before .before .before .before .before .before .before in
-    (variables-table (laid-sized (start .pre .0)) (start .pre .1) (start .pre .2) (c .before .before .before .before .before .before .before .before .before .before .before .variable-arcs .ensures), c .before .before .before .before .before .before .before .before .reach .ensures .flags, omega arith))
+    (λ c κs. let start = c .before .before .before .before .before .before .before .before .before .before .before .before .before .before .before in
+    (variables-table (laid-sized (start .pre .0)) (start .pre .1) (start .pre .2) (c .before .before .before .before .before .before .before .before .before .before .before .before .variable-arcs .ensures), c .before .before .before .before .before .before .before .order-of .ensures, omega arith))
     (λ c. λ z e.
-    let start = c .before .before .before .before .before .before .before .before .before .before .before .before .before .before .before in
-    variables-both (laid-sized (start .pre .0)) (start .pre .1) (start .pre .2) (c .before .before .before .before .before .before .before .before .before .before .before .before .variable-arcs .ensures) (laid-holds (start .pre .0)) e
-    (c .before .before .before .before .before .before .before .before .before .before .anchor .ensures) (c .before .before .before .before .before .before .before .before .before .reach .ensures) (order-counts (start .args .picks .now) (c .before .before .before .before .before .before .before .order-of .ensures) (c .before .before .before .before .variables-count .ensures)) (not-false _ (c .before .before .before .if1 .left)) (c .none-gains .ensures)))
+    let start = c .before .before .before .before .before .before .before .before .before .before .before .before .before .before .before .before in
+    variables-both (laid-sized (start .pre .0)) (start .pre .1) (start .pre .2) (c .before .before .before .before .before .before .before .before .before .before .before .before .before .variable-arcs .ensures) (laid-holds (start .pre .0)) e
+    (c .before .before .before .before .before .before .before .before .before .before .before .anchor .ensures) (c .before .before .before .before .before .before .before .before .before .before .reach .ensures) (order-counts (start .args .picks .now) (c .before .before .before .before .before .before .before .before .order-of .ensures) (c .before .before .before .before .before .variables-count .ensures)) (not-false _ (c .before .before .before .before .if1 .left)) (c .none-gains .ensures)))

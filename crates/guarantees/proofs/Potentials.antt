@@ -25,8 +25,8 @@ use Rattle.definitions.proofs.Tropical.{fin-injective, bot-not-fin, not-finite-
 use Rattle.duality.specs.Picks.{NoneAbove, AtLeastZero}
 use Rattle.duality.proofs.Numbers.{below-infeasible, above-unbounded}
 use Rattle.strategy_tests.proofs.Certified.{Scale, strict, loose, strict-scale, loose-scale}
-use Rattle.checker.proofs.Accepting.{layout-within, layout-enough}
-use Rattle.checker.proofs.Holding.{picks-above}
+use Rattle.duality.proofs.SmallLeads.{layout-within, layout-enough}
+use Rattle.guarantees.proofs.Holding.{picks-above}
 
 -- ---- tests
 

@@ -16,10 +16,10 @@ use Rattle.definitions.proofs.Bytes.{length-numsAt}
 use Rattle.definitions.proofs.Refusals.{AnswerFits, answer-fits}
 use Rattle.duality.specs.Picks.{NoneAbove}
 use Rattle.duality.proofs.Classes.{optimal-accepted, accepted-infeasible, accepted-unbounded}
-use Rattle.checker.specs.ClassHolds as Classes
-use Rattle.checker.specs.ClassHolds.{ClassHolds}
+use Rattle.guarantees.specs.ClassHolds as Classes
+use Rattle.guarantees.specs.ClassHolds.{ClassHolds}
 use Rattle.checker.proofs.Agreeing.{fit-above}
 use Rattle.checker.proofs.Accepting.{accepts-only}
 
 -- A span of the form of classes 2 and 3 is blank.
 blank-is : (x : Trop) → is-blank x ≡ true → x ≡ bot

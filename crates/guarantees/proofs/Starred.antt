@@ -20,13 +20,13 @@ use Rattle.definitions.specs.Demands.{Checker, CheckerJudges, SomeTable, leastA
 use Rattle.definitions.proofs.Refusals.{or-else-none}
 use Rattle.definitions.proofs.Examples.{table, asRead, no-refusals, words-are-read, accepted-A, not-accepted-M, plan-E, fits-E, feasible-E, value-E}
 use Rattle.definitions.proofs.Tropical.{fin-injective}
-use Rattle.checker.specs.ClassHolds as Classes
-use Rattle.checker.specs.ClassHolds.{ClassHolds}
+use Rattle.guarantees.specs.ClassHolds as Classes
+use Rattle.guarantees.specs.ClassHolds.{ClassHolds}
 use Rattle.checker.proofs.Judgement.{judged-unique, all-bytes}
-use Rattle.checker.proofs.Holding.{accepted-holds}
+use Rattle.guarantees.proofs.Holding.{accepted-holds}
 use Rattle.checker.proofs.Demand3.{least-exactly}
 use Rattle.strategy_tests.proofs.Certified.{strict, loose}
-use Rattle.checker.proofs.Potentials.{every, atMost, sameWhole, isWhole, isValue, finite?, falls, leftFalls, pickFalls, variableFalls, variablesFall, rises, rowPick, rowLeft, variableRises, variablesRise, leastTested, tested, tested-accepted}
+use Rattle.guarantees.proofs.Potentials.{every, atMost, sameWhole, isWhole, isValue, finite?, falls, leftFalls, pickFalls, variableFalls, variablesFall, rises, rowPick, rowLeft, variableRises, variablesRise, leastTested, tested, tested-accepted}
 
 -- P holds of each example of a list.
 pub data Each (P : Example → Type 0) : List Example → Type 0 where
