@@ -77,6 +77,13 @@ problem-kind = 1
 abbrev pub answer-kind : ℕ
 answer-kind = 2
 
+-- Document 02, 2.1: a problem of several questions, and the most of them.
+abbrev pub questions-kind : ℕ
+questions-kind = 3
+
+abbrev pub most-questions : ℕ
+most-questions = 8
+
 -- Classes of answers: least, bottomless, none.
 abbrev pub class-optimal : ℕ
 class-optimal = 1
@@ -93,6 +100,13 @@ problem-header = m-place + short-bytes
 
 abbrev pub answer-header : ℕ
 answer-header = span-place + signed-bytes
+
+-- Document 02, 2.1: a problem of kind 3 has the count of its questions after m, so that its leads start at 12.
+abbrev pub count-place : ℕ
+count-place = m-place + short-bytes
+
+abbrev pub questions-header : ℕ
+questions-header = count-place + short-bytes
 
 -- The largest answer record, 206 bytes: n = 31, class 1. A shorter answer buffer is refused, whichever class is due.
 abbrev pub answer-most : ℕ

@@ -116,8 +116,11 @@ unfoldable pub rowsBytes : Problem → ℕ → List ℕ
 rowsBytes p zero = []
 rowsBytes p (suc k) = rowsBytes p k ++ rowBytes p k
 
+-- The header of a problem of kind 1: its length, kind, n and m.
+unfoldable pub headerBytes : ℕ → ℕ → List ℕ
+headerBytes n m =
+    (le length-bytes (problemSize n m - length-bytes) ++ le short-bytes problem-kind) ++ (le short-bytes n ++ le short-bytes m)
+
 -- A problem as its record.
 unfoldable pub problemBytes : Problem → List ℕ
-problemBytes p =
-    (le length-bytes (problemSize (p .n) (p .m) - length-bytes) ++ le short-bytes problem-kind)
-    ++ ((le short-bytes (p .n) ++ le short-bytes (p .m)) ++ rowsBytes p (suc (p .m)))
+problemBytes p = headerBytes (p .n) (p .m) ++ rowsBytes p (suc (p .m))
