@@ -10,6 +10,7 @@ use borrow.Author.Tests.{eq-eqb, ne-eqb}
 use lib.ListN.{length, getD, take, drop, length-append, length-drop, List·getD-append}
 use lib.Seq.{getD-append-add, getD-take, getD-drop, length-take-le}
 use Rattle.definitions.specs.Limits.{highest-n, highest-m, signed-bytes, signed-full, problem-kind, problem-header, questions-header}
+use Rattle.definitions.specs.Bytes.{numAt}
 use Rattle.definitions.specs.ProblemRecord.{nField, mField, lengthField, kindField, problemSize, rowPlace, headerBytes}
 use Rattle.definitions.specs.Questions.{part, rowsSize, alone, askedRow}
 use Rattle.definitions.proofs.Whole.{nat-le-or-lt}
@@ -113,3 +114,13 @@ module _ (s : List ℕ) {count : ℕ} (asks : Asks s count) (q : ℕ) (h : q < c
       rw (place, asked, to)
       (rule-byte (2 * signed-bytes * (i * suc (nField s)) + k) (omega (arith, mul-le-mul-right {m = suc i} {n = mField s} (suc (nField s)) b))))
       (nat-le-or-lt (mField s) i)
+
+  -- Each lead of row i, in both records.
+  pub alone-lead : (i o : ℕ) → i ≤ mField s → o + 4 ≤ rowsSize (nField s) 1
+      → numAt signed-bytes (alone s q) (rowPlace problem-header (nField s) i + o) ≡ numAt signed-bytes s (rowPlace questions-header (nField s) (askedRow (mField s) q i) + o)
+  alone-lead i o g l =
+      numAt-same signed-bytes (alone s q) s (rowPlace problem-header (nField s) i + o) (rowPlace questions-header (nField s) (askedRow (mField s) q i) + o)
+      (λ b t.
+      let from : rowPlace problem-header (nField s) i + o + b ≡ rowPlace problem-header (nField s) i + (o + b) = omega arith in
+      let to : rowPlace questions-header (nField s) (askedRow (mField s) q i) + o + b ≡ rowPlace questions-header (nField s) (askedRow (mField s) q i) + (o + b) = omega arith in
+      rw (from, to) (alone-row i (o + b) g (omega arith)))

@@ -2,3 +2,4 @@ pub mod Leads
 pub mod Tables
 pub mod ReadProblem
 pub mod LeadTables
+pub mod QuestionTables
