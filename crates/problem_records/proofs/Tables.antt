@@ -20,7 +20,7 @@ use Rattle.problem_records.specs.Filling.{rowCell, RowOf, Filled, Framed
 
 -- Nothing is filled yet.
 pub filled-none : {f : ℕ → ℕ} {base : ℕ} {l : List ℕ} → Filled f base 0 l l
-filled-none = record { same = refl; before = λ k h. refl; cells = λ j h. absurd (omega arith) }
+filled-none = record { same = refl; before = λ k h. refl; cells = λ j h. absurd (omega arith); after = λ k h. refl }
 
 -- One more element is stored.
 pub filled-more : {f : ℕ → ℕ} {base j : ℕ} {old new : List ℕ} {x : ℕ} → Filled f base j old new → base + j < length old → x ≡ f j
@@ -30,6 +30,7 @@ filled-more {f} {base} {j} {old} {new} {x} l h e =
       same = rw length-set (l .same);
       before = λ k b. getD-set-other new (base + j) k x 0 (λ q. omega arith) ∙ l .before k b;
       cells = λ i b. ⊎-elim (last i b) (earlier i) (nat-le-or-lt j i);
+      after = λ k b. getD-set-other new (base + j) k x 0 (λ q. omega arith) ∙ l .after k (omega arith);
     }
   where
     last : (i : ℕ) → i < j + 1 → j ≤ i → getD (set new (base + j) x) (base + i) 0 ≡ f i
@@ -42,7 +43,7 @@ filled-more {f} {base} {j} {old} {new} {x} l h e =
 
 -- All elements are stored.
 pub filled-end : {f : ℕ → ℕ} {base j count : ℕ} {old new : List ℕ} → Filled f base j old new → j ≤ count → count ≤ j → Filled f base count old new
-filled-end l h k = record { same = l .same; before = l .before; cells = λ i b. l .cells i (omega arith) }
+filled-end l h k = record { same = l .same; before = l .before; cells = λ i b. l .cells i (omega arith); after = λ i b. l .after i (omega arith) }
 
 -- A lead is read, and its offset number taken.
 pub lead-read : (s : List ℕ) {w x from place : ℕ} → w ≡ numAt 4 s from → x ≡ off w → from ≡ place → x ≡ leadAt s place
@@ -77,7 +78,7 @@ row-end r h k = record { size = r .size; cells = λ i b. r .cells i (omega arith
 pub filled-row : (s : List ℕ) (at n : ℕ) {base : ℕ} {row old new : List ℕ} → RowOf (λ j. leadAt s (at + 4 * j)) (n + 1) row
     → Filled (λ j. getD row j 0) base 32 old new → Filled (rowCell s at n) base 32 old new
 unfolding rowCell
-filled-row s at n {row = row} r l = record { same = l .same; before = l .before; cells = λ j b. l .cells j b ∙ cell-of j }
+filled-row s at n {row = row} r l = record { same = l .same; before = l .before; cells = λ j b. l .cells j b ∙ cell-of j; after = l .after }
   where
     cell-of : (j : ℕ) → getD row j 0 ≡ rowCell s at n j
     cell-of j = ⊎-elim

@@ -6,8 +6,8 @@ use mathlib.Core.Bool.{cond}
 use mathlib.Core.List.{List}
 use lib.Dec.{leb}
 use lib.ListN.{length, getD}
-use Rattle.definitions.specs.Limits.{highest-n, highest-m, signed-bytes}
-use Rattle.definitions.specs.ProblemRecord.{leftPlace, rightPlace, problemSize}
+use Rattle.definitions.specs.Limits.{highest-n, highest-m, most-questions, problem-header, signed-bytes}
+use Rattle.definitions.specs.ProblemRecord.{rowPlace, leftPlace, rightPlace, problemSize}
 use Rattle.problem_records.specs.Tables.{table-size, leadAt, cell}
 
 -- A problem's bytes hold the leads of n + 1 variables in m + 1 rows, both within the limits, and the two tables have room.
@@ -18,11 +18,12 @@ pub record Framed (s : List ℕ) (n m : ℕ) (left right : List ℕ) : Type 0 wh
   pub left-room : length left ≡ table-size
   pub right-room : length right ≡ table-size
 
--- From `base` on, `count` elements are those of f; before it everything is as it was.
+-- From `base` on, `count` elements are those of f; before and behind them everything is as it was.
 pub record Filled (f : ℕ → ℕ) (base count : ℕ) (old new : List ℕ) : Type 0 where
   pub same : length new ≡ length old
   pub before : (k : ℕ) → k < base → getD new k 0 ≡ getD old k 0
   pub cells : (j : ℕ) → j < count → getD new (base + j) 0 ≡ f j
+  pub after : (k : ℕ) → base + count ≤ k → getD new k 0 ≡ getD old k 0
 
 -- A row of 32 by itself: f 0, …, f (count − 1), then 0.
 pub record RowOf (f : ℕ → ℕ) (count : ℕ) (row : List ℕ) : Type 0 where
@@ -33,6 +34,15 @@ pub record RowOf (f : ℕ → ℕ) (count : ℕ) (row : List ℕ) : Type 0 where
 -- Element j of a row whose leads start at a place: n + 1 leads, then 0.
 unfoldable pub rowCell : List ℕ → ℕ → ℕ → ℕ → ℕ
 rowCell s at n j = cond (leb j n) (leadAt s (at + signed-bytes * j)) 0
+
+-- What reading a question asks: the bytes hold its row behind m rules and q questions, and the tables have room.
+pub record QuestionHeld (s : List ℕ) (n m q : ℕ) (left right : List ℕ) : Type 0 where
+  pub n-most : n ≤ highest-n
+  pub m-most : m ≤ highest-m
+  pub q-most : q < most-questions
+  pub holds : rowPlace problem-header n (m + q + 1) ≤ length s
+  pub left-room : length left ≡ table-size
+  pub right-room : length right ≡ table-size
 
 -- The first k elements of both tables are those of n + 1 variables in m + 1 rows.
 pub record Tabled (s : List ℕ) (n m k : ℕ) (left right : List ℕ) : Type 0 where

@@ -8,7 +8,7 @@ ghost use Rattle.definitions.specs.Bytes.{tropField, blank-or-within};
 ghost use Rattle.definitions.specs.ProblemRecord.{leftPlace, problemOutcome};
 ghost use Rattle.records.specs.ProblemHeader.{headerOf};
 ghost use Rattle.problem_records.specs.Tables.{runFits, leadAt, ProblemRead};
-ghost use Rattle.problem_records.specs.Filling.{rowCell, RowOf, Filled, Framed, Tabled};
+ghost use Rattle.problem_records.specs.Filling.{rowCell, RowOf, Filled, Framed, QuestionHeld, Tabled};
 use records::bytes::word_in;
 use records::limits::LEAD_BYTES;
 use records::limits::LEAD_LIMIT;
@@ -71,11 +71,11 @@ pub fn lead_in(bytes: &[u8], at: usize) -> u32
     offset_32(word_in(bytes, at))
 }
 
-// Where the leads of row i start, in a problem of n + 1 variables. Public for `closed_walks::arcs`, `plan_tests`,
+// Where the leads of row i start, behind the ten bytes of a header, in a problem of n + 1 variables. Public for `closed_walks::arcs`, `plan_tests`,
 // `strategy_tests::certify`.
 pub fn row_place(n: usize, i: usize) -> usize
-    requires { ⌜ (n ≤ 31) × (i ≤ 63) ⌝ }
-    ensures { λ r. ⌜ (r ≡ leftPlace n i 0) × (r ≤ 16138) ⌝ }
+    requires { ⌜ (n ≤ 31) × (i ≤ 71) ⌝ }
+    ensures { λ r. ⌜ (r ≡ leftPlace n i 0) × (r ≤ 18186) ⌝ }
 {
     PROBLEM_HEADER + 2 * LEAD_BYTES * (i * (n + 1))
 }
@@ -160,6 +160,24 @@ pub fn read_tables(bytes: &[u8], n: usize, m: usize, left: &mut [u32], right: &m
     let used = STRIDE * (m + 1);
     clear(left, used, TABLE - used);
     clear(right, used, TABLE - used);
+}
+
+// Question q, whose row stands behind m rules and q questions, into the row of the question of both tables. Public for the engine's
+// `solve`.
+pub fn read_question(
+    bytes: &[u8],
+    n: usize,
+    m: usize,
+    q: usize,
+    left: &mut [u32; TABLE],
+    right: &mut [u32; TABLE],
+)
+    requires { ⌜ QuestionHeld (now bytes) n m q (now left) (now right) ⌝ }
+    ensures { λ _. ⌜ Filled (rowCell (now (bytes .entry)) (leftPlace n (m + q) 0) n) (32 * m) 32 (now (left .entry)) (now (left .exit)) × Filled (rowCell (now (bytes .entry)) (leftPlace n (m + q) 0 + 4 * (n + 1)) n) (32 * m) 32 (now (right .entry)) (now (right .exit)) ⌝ }
+{
+    let at = row_place(n, m + q);
+    read_row(bytes, at, n, left, STRIDE * m);
+    read_row(bytes, at + LEAD_BYTES * (n + 1), n, right, STRIDE * m);
 }
 
 // The header of a problem within the layout: where things stand in it, or the first of refusals 1 to 6 that applies. Public for the checker's
