@@ -6,8 +6,8 @@ use mathlib.Core.Logic.{⊎-elim}
 use native.Mathlib.Omega.{arith}
 use lib.ListN.{length, getD, set, take, replicate, length-set, length-replicate, length-take, List·getD-eq-default}
 use lib.Seq.{ext-getD, getD-take, getD-set-same, getD-set-other, length-take-le, take-all}
-use Rattle.definitions.proofs.Whole.{nat-le-or-lt}
-use Rattle.records.proofs.Near.{zeros}
+use Rattle.base.proofs.Numbers.{nat-le-or-lt}
+use Rattle.base.proofs.Filled.{zeros}
 use Rattle.answer_reader.specs.Fields.{Padded}
 
 -- What stands in the first n elements of a list, and 0 behind them.

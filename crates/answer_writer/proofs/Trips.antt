@@ -6,6 +6,7 @@ use mathlib.Core.Logic.{⊎-elim}
 use native.Mathlib.Omega.{arith}
 use lib.ListN.{length, take}
 use borrow.Author.Tests.{lt-ltb, le-ltb}
+use Rattle.base.proofs.Numbers.{nat-le-or-lt}
 use Rattle.definitions.specs.Limits.{highest-n, highest-m, answer-most}
 use Rattle.definitions.specs.Tropical.{Trop}
 use Rattle.definitions.specs.Bytes.{Bytes, put, or-else, outcome}
@@ -14,7 +15,6 @@ use Rattle.definitions.specs.AnswerRecord.{Answer, stampCount, pickCount, answe
 use Rattle.definitions.proofs.Put.{take-put, length-put}
 use Rattle.definitions.proofs.Outcomes.{outcome-some, outcome-gives, outcome-refusal}
 use Rattle.definitions.proofs.Offset.{tropOf-injective}
-use Rattle.definitions.proofs.Whole.{nat-le-or-lt}
 use Rattle.definitions.proofs.Refusals.{answer-fits}
 use Rattle.definitions.proofs.RoundTrip.{answer-bytes, write-read, read-write}
 use Rattle.answer_reader.specs.Fields.{fieldsOf, stampsAt, picksAt, stampsOf, picksOf}

@@ -5,9 +5,10 @@ use mathlib.Core.Logic.{⊎-elim}
 use mathlib.Core.List.{List}
 use native.Mathlib.Omega.{arith}
 use lib.IntN.{ℤ}
+use Rattle.base.proofs.Numbers.{nat-le-or-lt}
 use Rattle.definitions.specs.Limits.{signed-half}
 use Rattle.definitions.specs.Week.{Admits}
-use Rattle.definitions.proofs.Whole.{abs-read, nat-le-or-lt}
+use Rattle.definitions.proofs.Whole.{abs-read}
 use Rattle.opening_hours.specs.Lookup.{minuteOf, admissionOf}
 use Rattle.opening_hours.specs.declared.lookup.Admission.{Admission}
 use Rattle.opening_hours.specs.declared.lookup.Admission.the-variants.{At, Never, Refused}

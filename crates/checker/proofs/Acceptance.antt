@@ -7,6 +7,8 @@ use native.Mathlib.Omega.{arith}
 use lib.ListN.{getD}
 use lib.IntN.{ℤ, pos, negsuc, subℕ, natAbs, _-ℤ_}
 use borrow.Author.Tests.{ne-eqb, eq-eqb}
+use Rattle.base.specs.Decides.{Decides}
+use Rattle.base.proofs.Decides.{said-no, decides-as}
 use Rattle.definitions.specs.Limits.{signed-half, lead-limit, span-limit}
 use Rattle.definitions.specs.Tropical.{Trop, fin}
 use Rattle.definitions.specs.Offset.{tropOf}
@@ -21,10 +23,8 @@ use Rattle.duality.specs.Picks.{NoneAbove, AtLeastZero}
 use Rattle.duality.specs.Within.{Within}
 use Rattle.duality.proofs.Numbers.{infeasible-below, below-infeasible, unbounded-above, above-unbounded, top-enough}
 use Rattle.records.specs.Decoded.{Near}
-use Rattle.closed_walks.specs.Decides.{Decides}
 use Rattle.closed_walks.specs.Tables.{Holds, Picked, Trial, stampsPoint}
 use Rattle.checker.specs.Outcome.{Span, Meant}
-use Rattle.closed_walks.proofs.Decides.{said-no, decides-as}
 
 -- ---- problems in the tables are small
 

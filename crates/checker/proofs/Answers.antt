@@ -8,13 +8,13 @@ use native.Mathlib.Omega.{arith}
 use lib.Dec.{leb}
 use lib.ListN.{length, getD, length-map, List·getD-eq-default}
 use borrow.Author.Tests.{leb-true, eqb-true}
+use Rattle.base.proofs.Numbers.{nat-le-or-lt}
 use Rattle.definitions.specs.Limits.{signed-half, stamp-limit, span-limit}
 use Rattle.definitions.specs.Tropical.{Trop, bot}
 use Rattle.definitions.specs.Bytes.{Bytes, all, blank-or-within, whole-within}
 use Rattle.definitions.specs.Offset.{tropOf}
 use Rattle.definitions.specs.AnswerRecord.{is-zero, stampsFit, picksFit, spanFits, stampCount, highestPick, classField, spanField, answerOf, answerRefusal, answerOutcome}
 use Rattle.definitions.specs.Verdict.{pointOf, strategyOf}
-use Rattle.definitions.proofs.Whole.{nat-le-or-lt}
 use Rattle.definitions.proofs.Bytes.{all-true, length-numsAt}
 use Rattle.definitions.proofs.Offset.{zero-offset, whole-offset}
 use Rattle.definitions.proofs.Refusals.{AnswerFits, answer-fits}

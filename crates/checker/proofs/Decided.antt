@@ -11,6 +11,9 @@ use lib.Dec.{eqb}
 use lib.ListN.{length, getD, replicate, List·getD-eq-default}
 use lib.IntN.{ℤ, pos, subℕ, _-ℤ_}
 use borrow.Author.Tests.{eqb-true, eqb-false}
+use Rattle.base.specs.Decides.{Decides}
+use Rattle.base.proofs.Numbers.{nat-le-or-lt}
+use Rattle.base.proofs.Decides.{said-yes, said-no}
 use Rattle.definitions.specs.Limits.{signed-half, span-limit, highest-n}
 use Rattle.definitions.specs.Tropical.{fin}
 use Rattle.definitions.specs.Bytes.{Bytes}
@@ -22,7 +25,7 @@ use Rattle.definitions.specs.ProblemRecord.{listOf, WithinLayout, problemOf, nF
 use Rattle.definitions.specs.AnswerRecord.{Answer, classField, spanField, answerOf, answerRefusal, answerOutcome}
 use Rattle.definitions.specs.Verdict.{Accepted, strategyOf}
 use Rattle.definitions.proofs.Whole as Whole
-use Rattle.definitions.proofs.Whole.{nat-le-or-lt, le-or-lt}
+use Rattle.definitions.proofs.Whole.{le-or-lt}
 use Rattle.definitions.proofs.Tropical.{fin-injective, ⊑-or-above, finite-above}
 use Rattle.definitions.proofs.Offset.{trop-fin}
 use Rattle.definitions.proofs.Refusals.{answer-fits}
@@ -40,13 +43,11 @@ use Rattle.answer_reader.proofs.Passing.{stampsAt-length, picksAt-length}
 use Rattle.answer_reader.proofs.ByClass.{stamps-most, picks-most}
 use Rattle.reach.proofs.Marks.{anchor-marked}
 use Rattle.reach.proofs.Existence.{MarksOf, reach-exists}
-use Rattle.closed_walks.specs.Decides.{Decides}
 use Rattle.closed_walks.specs.Gains.{matrix, anywhere, Table, NoneGains, Tested}
 use Rattle.closed_walks.specs.Tables.{Sized, Holds, Picked, Trial, stampsPoint}
 use Rattle.closed_walks.specs.Arcs.{variableArc, VariableArcs, heaviest, RowArcs}
 use Rattle.strategy_tests.specs.Counts.{PickCounts, RowPickCounts, VariablesCount, RowsCount}
 use Rattle.checker.specs.Outcome.{Meant, Formed}
-use Rattle.closed_walks.proofs.Decides.{said-yes, said-no}
 use Rattle.closed_walks.proofs.ClosedWalks.{all-or-gain}
 use Rattle.strategy_tests.proofs.Variables.{variables-table, variables-not, variables-both}
 use Rattle.strategy_tests.proofs.RowStrategy.{rows-table, rows-not, rows-both}

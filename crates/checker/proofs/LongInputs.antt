@@ -9,6 +9,7 @@ use lib.Dec.{eqb}
 use lib.ListN.{length, getD, take, drop, length-take, length-drop}
 use lib.Seq.{getD-take, getD-drop, length-take-le, ext-getD, take-all}
 use borrow.Author.Tests.{lt-ltb, le-ltb, eqb-true, ne-eqb}
+use Rattle.base.proofs.Numbers.{nat-le-or-lt}
 use Rattle.definitions.specs.Limits.{kept-bytes, length-bytes, problem-header, answer-header, answer-most, highest-n, highest-m, answer-kind}
 use Rattle.definitions.specs.Tropical.{Trop}
 use Rattle.definitions.specs.Bytes.{numAt, Outcome, outcome}
@@ -16,7 +17,6 @@ use Rattle.definitions.specs.ProblemRecord.{lengthField, kindField, nField, mFi
 use Rattle.definitions.specs.AnswerRecord.{known-class, classField, spanField, answerSize, answerHeaderRefusal, answerHeaderOutcome, answerRefusal}
 use Rattle.definitions.specs.Verdict.{Verdict, refused, checkRefusal, Judged}
 use Rattle.definitions.specs.Programs.{cutPlace, problemPart, answerPart, KeptOf}
-use Rattle.definitions.proofs.Whole.{nat-le-or-lt}
 use Rattle.definitions.proofs.Refusals.{or-else-suc, limits-clause, enough-clause, equal-clause, both-clause}
 use Rattle.definitions.proofs.Inputs.{kept-at, length-agrees, n-agrees, m-agrees, header-agrees, answer-agrees, header-short, header-length, cut-past, cut-inside}
 use Rattle.definitions.proofs.RoundTrip.{size-most}

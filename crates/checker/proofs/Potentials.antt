@@ -11,6 +11,7 @@ use lib.ListN.{length, List·getD-eq-default}
 use lib.IntN.{ℤ, pos, negsuc, _+ℤ_, _-ℤ_}
 use lib.Signed.{_≤ℤ_, leZ}
 use borrow.Author.Tests.{eqb-true}
+use Rattle.base.proofs.Numbers.{nat-le-or-lt}
 use Rattle.definitions.specs.Limits.{lead-limit, span-limit, class-optimal, class-unbounded, class-infeasible}
 use Rattle.definitions.specs.Tropical.{Trop, bot, fin, _⊑_, blank-least, whole-least, Finite}
 use Rattle.definitions.specs.Problem as Problems
@@ -19,7 +20,7 @@ use Rattle.definitions.specs.Certificate.{Strategy, Anchor, Reachable, start, o
 use Rattle.definitions.specs.ProblemRecord.{nField, mField, WithinLayout, problemOf}
 use Rattle.definitions.specs.AnswerRecord.{Answer, answerRefusal}
 use Rattle.definitions.specs.Verdict.{Accepted, optimal, unbounded, infeasible, answerFor, pointOf, strategyOf}
-use Rattle.definitions.proofs.Whole.{whole, plus-read, nat-le-or-lt}
+use Rattle.definitions.proofs.Whole.{whole, plus-read}
 use Rattle.definitions.proofs.Tropical.{fin-injective, bot-not-fin, not-finite-bot}
 use Rattle.duality.specs.Picks.{NoneAbove, AtLeastZero}
 use Rattle.duality.proofs.Numbers.{below-infeasible, above-unbounded}

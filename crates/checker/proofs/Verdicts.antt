@@ -6,6 +6,7 @@ use mathlib.Core.List.{List}
 use mathlib.Core.Logic.{⊎-elim}
 use native.Mathlib.Omega.{arith}
 use native.Mathlib.Nat.{eq-zero-or-pos}
+use Rattle.base.specs.Decides.{Decides}
 use Rattle.definitions.specs.Tropical.{Trop}
 use Rattle.definitions.specs.Bytes.{or-else, Outcome, outcome}
 use Rattle.definitions.specs.Offset.{tropOf}
@@ -24,7 +25,6 @@ use Rattle.records.proofs.ProblemHeader.{answer-told, answer-refused}
 use Rattle.answer_reader.specs.AnswerReading.{headOf}
 use Rattle.answer_reader.proofs.Heads.{refused-by}
 use Rattle.checker.specs.Outcome as Judging
-use Rattle.closed_walks.specs.Decides.{Decides}
 use Rattle.checker.specs.Outcome.{answerRefused, Meant, Answered}
 use Rattle.checker.proofs.Answers.{HeadRead}
 

@@ -9,13 +9,13 @@ use lib.Dec.{eqb, leb}
 use lib.ListN.{length, getD, take, length-map, List·getD-map, List·getD-eq-default}
 use lib.Seq.{length-take-le, getD-take}
 use borrow.Author.Tests.{le-leb, eq-eqb}
+use Rattle.base.proofs.Numbers.{nat-le-or-lt}
 use Rattle.definitions.specs.Tropical.{Trop, bot}
 use Rattle.definitions.specs.Limits.{stamp-limit}
 use Rattle.definitions.specs.Offset.{tropOf}
 use Rattle.definitions.specs.Bytes.{all, blank-or-within}
 use Rattle.definitions.specs.AnswerRecord.{is-zero, stampsFit, picksFit}
 use Rattle.definitions.specs.Verdict.{pointOf, strategyOf}
-use Rattle.definitions.proofs.Whole.{nat-le-or-lt}
 use Rattle.definitions.proofs.Offset.{trop-zero}
 use Rattle.trials.specs.Tables as Tables
 use Rattle.trials.specs.Tables.{pickOf}

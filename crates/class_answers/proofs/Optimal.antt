@@ -10,6 +10,7 @@ use lib.ListN.{length, getD, take}
 use lib.IntN.{ℤ, pos, negℤ, natAbs, _+ℤ_, _-ℤ_}
 use lib.Signed.{_≤ℤ_}
 use borrow.Author.Tests.{le-leb}
+use Rattle.base.proofs.Numbers.{nat-le-or-lt}
 use Rattle.definitions.specs.Limits.{signed-half, lead-limit, span-limit, stamp-limit}
 use Rattle.definitions.specs.Tropical.{Trop, bot, fin, plus}
 use Rattle.definitions.specs.Problem.{Problem, Point, Feasible, Attainable, Optimal}
@@ -20,7 +21,7 @@ use Rattle.definitions.specs.AnswerRecord.{is-zero, spanFits, stampsFit, picksF
 use Rattle.definitions.specs.Verdict as Verdict
 use Rattle.definitions.specs.Solved as Solved
 use Rattle.definitions.specs.Solved.{Found, Answers, IdleVariables}
-use Rattle.definitions.proofs.Whole.{whole, minus-read, subℕ-read, nat-le-or-lt}
+use Rattle.definitions.proofs.Whole.{whole, minus-read, subℕ-read}
 use Rattle.definitions.proofs.Tropical.{bot-plus}
 use Rattle.definitions.proofs.Offset.{trop-zero, trop-fin}
 use Rattle.definitions.proofs.Refusals.{form-fits}

@@ -7,18 +7,17 @@ use mathlib.Core.List.{List}
 use native.Mathlib.Omega.{arith}
 use native.Mathlib.Nat.{eq-zero-or-pos}
 use lib.ListN.{getD}
+use Rattle.base.proofs.Numbers.{nat-le-or-lt, positive}
 use Rattle.definitions.specs.Tropical.{Finite}
 use Rattle.definitions.specs.Problem.{Problem}
 use Rattle.definitions.specs.Certificate.{Reachable, Anchor, start, onward, RowLeads}
 use Rattle.definitions.specs.Solved.{IdleRows}
-use Rattle.definitions.proofs.Whole.{nat-le-or-lt}
 use Rattle.duality.specs.Picks.{picksFrom, AgreeInUse}
 use Rattle.duality.proofs.Reach.{reach-keep, reach-map}
 use Rattle.trials.specs.Tables.{pickOf}
 use Rattle.trial_tables.specs.Frames.{LeftHeld}
 use Rattle.reach.specs.Marks.{Led}
 use Rattle.pick_tables.specs.Shown.{RowTo, RowArcIs, UsedBy, RowShown, RowPicks}
-use Rattle.trials.proofs.Filled.{positive}
 use Rattle.pick_tables.proofs.Shown.{shown-unmarked}
 use Rattle.class_answers.proofs.Variables.{finite-offset, offset-finite, full-picked, full-read, shown-full, shown-most}
 

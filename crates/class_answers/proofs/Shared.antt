@@ -7,6 +7,7 @@ use native.Mathlib.Omega.{arith}
 use native.Mathlib.Numerals.{add-one}
 use lib.ListN.{getD, take}
 use lib.IntN.{ℤ}
+use Rattle.base.specs.Filled.{Filled}
 use Rattle.definitions.specs.Limits.{lead-limit, span-limit}
 use Rattle.definitions.specs.Problem.{Problem, Attainable}
 use Rattle.definitions.specs.Certificate.{Strategy, Anchor}
@@ -21,7 +22,6 @@ use Rattle.duality.proofs.Weak.{not-solved-and-blocked}
 use Rattle.duality.proofs.Attain.{attainable-solution, solution-attainable}
 use Rattle.duality.proofs.Numbers.{top-enough}
 use Rattle.trials.specs.Tables.{pointOf, pickOf}
-use Rattle.trials.specs.Filled.{Filled}
 use Rattle.trial_tables.specs.Frames.{wholeOf}
 use Rattle.least_span.specs.State.{PointAt}
 use Rattle.class_answers.proofs.Form.{cut-at, cut-strategy, picks-fit}

@@ -10,12 +10,12 @@ use native.Mathlib.Numerals.{add-one}
 use lib.ListN.{getD}
 use lib.IntN.{subℕ}
 use borrow.Author.Tests.{lt-ltb, le-ltb}
+use Rattle.base.proofs.Numbers.{nat-le-or-lt, positive}
 use Rattle.definitions.specs.Tropical.{Finite}
 use Rattle.definitions.specs.Problem.{Problem}
 use Rattle.definitions.specs.Certificate.{Strategy, Reachable, Anchor, start, onward, Leads}
 use Rattle.definitions.specs.Offset.{tropOf}
 use Rattle.definitions.specs.Solved.{IdleVariables}
-use Rattle.definitions.proofs.Whole.{nat-le-or-lt}
 use Rattle.definitions.proofs.Tropical.{not-finite-bot}
 use Rattle.definitions.proofs.Offset.{trop-zero, trop-fin}
 use Rattle.duality.specs.Picks.{picksFrom, AgreeReached}
@@ -24,7 +24,6 @@ use Rattle.trials.specs.Tables.{entryOf, pickOf}
 use Rattle.trial_tables.specs.Frames.{Held}
 use Rattle.reach.specs.Marks.{Led}
 use Rattle.pick_tables.specs.Shown.{shownPick, arcBy, VariablePicks}
-use Rattle.trials.proofs.Filled.{positive}
 use Rattle.pick_tables.proofs.Shown.{shown-unmarked, shown-picked, shown-none, arc-picked, arc-none}
 
 -- ---- offset numbers

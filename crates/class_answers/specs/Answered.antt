@@ -3,6 +3,7 @@ use Prim.Native.Nat.{ℕ, _≤_, _<_}
 use mathlib.Core.Path.{_≡_}
 use mathlib.Core.List.{List, map}
 use lib.ListN.{getD, take}
+use Rattle.base.specs.Filled.{Filled}
 use Rattle.definitions.specs.Limits.{most-trials}
 use Rattle.definitions.specs.Problem.{Problem}
 use Rattle.definitions.specs.Offset.{tropOf}
@@ -10,7 +11,6 @@ use Rattle.definitions.specs.AnswerRecord.{Answer, stampCount, pickCount}
 use Rattle.definitions.specs.Solved.{Answers}
 use Rattle.duality.specs.Values.{difference}
 use Rattle.records.specs.Decoded.{Decoded}
-use Rattle.trials.specs.Filled.{Filled}
 use Rattle.trial_tables.specs.declared.frame.Frame.{Frame}
 use Rattle.trial_tables.specs.Frames.{Holds}
 use Rattle.least_span.specs.declared.state.Search.{Search}

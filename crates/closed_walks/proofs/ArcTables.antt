@@ -9,12 +9,14 @@ use native.Mathlib.Numerals.{add-one}
 use lib.Dec.{eqb}
 use lib.ListN.{length, getD, set, length-set}
 use borrow.Author.Tests.{eqb-true, eqb-false, eq-eqb, ne-eqb}
+use Rattle.base.specs.Numbers.{most}
+use Rattle.base.specs.Filled.{FilledFrom}
+use Rattle.base.proofs.Numbers.{most-zero, one-more, below-or-last}
+use Rattle.base.proofs.Filled.{set-here, set-there}
 use Rattle.definitions.specs.ProblemRecord.{leftPlace}
 use Rattle.problem_records.specs.Tables.{leadAt, leftTable, rightTable, Laid}
 use Rattle.problem_records.proofs.LeadTables.{left-lead-at, right-lead-at}
-use Rattle.closed_walks.specs.Lists.{most, Filled}
 use Rattle.closed_walks.specs.Arcs.{raisedBy, lift, lifted, strictArc, variableArc, VariableArcs, fall, fallen, looseArc, rowArc, heaviest, RowArcs, Column}
-use Rattle.closed_walks.proofs.Lists.{most-zero, set-here, set-there, one-more, below-or-last}
 
 -- ---- rows of a table
 
@@ -24,12 +26,12 @@ rows-more : {P : ℕ → ℕ → Type 0} {width : ℕ} (j : ℕ) → ((i l : ℕ
 rows-more {P} j h e i l b k = ⊎-elim (λ q. h i l q k) (λ q. subst (λ z. P z l) (sym q) (e l k)) (below-or-last i j b)
 
 -- A row that is filled leaves the rows before it.
-filled-rows : {f : ℕ → ℕ} {width j : ℕ} {old new : List ℕ} → width ≤ 32 → Filled f (j * 32) width old new
+filled-rows : {f : ℕ → ℕ} {width j : ℕ} {old new : List ℕ} → width ≤ 32 → FilledFrom f (j * 32) width old new
     → (i l : ℕ) → i < j → l < width → getD new (i * 32 + l) 0 ≡ getD old (i * 32 + l) 0
 filled-rows w h i l b k = h .before (i * 32 + l) (omega arith)
 
 pub cleared-more : {width j : ℕ} {old new : List ℕ} → width ≤ 32 → ((i l : ℕ) → i < j → l < width → getD old (i * 32 + l) 0 ≡ 0)
-    → Filled (λ _. 0) (j * 32) width old new → (i l : ℕ) → i < j + 1 → l < width → getD new (i * 32 + l) 0 ≡ 0
+    → FilledFrom (λ _. 0) (j * 32) width old new → (i l : ℕ) → i < j + 1 → l < width → getD new (i * 32 + l) 0 ≡ 0
 cleared-more {width} {j} {old} {new} w h f =
     rows-more {P = λ i l. getD new (i * 32 + l) 0 ≡ 0} j (λ i l b k. filled-rows w f i l b k ∙ h i l b k) (f .cells)
 
@@ -53,12 +55,12 @@ module _ (left right : List ℕ) (m t : ℕ) where
   variable-lifted i j l d = rw (ne-eqb _ _ d)
 
 -- A row filled with other words for the same entries.
-filled-as : {f g : ℕ → ℕ} {base count : ℕ} {old new : List ℕ} → ((l : ℕ) → l < count → f l ≡ g l) → Filled f base count old new → Filled g base count old new
-filled-as e h = record { same = h .same; before = h .before; cells = λ l b. h .cells l b ∙ e l b }
+filled-as : {f g : ℕ → ℕ} {base count : ℕ} {old new : List ℕ} → ((l : ℕ) → l < count → f l ≡ g l) → FilledFrom f base count old new → FilledFrom g base count old new
+filled-as e h = record { same = h .same; before = h .before; cells = λ l b. h .cells l b ∙ e l b; after = h .after }
 
 -- A variable that picks nothing.
 pub fill-idle : (left right : List ℕ) (m t j : ℕ) {base count : ℕ} {old new : List ℕ} {pick : ℕ} → pick ≡ 0
-    → Filled (λ _. 0) base count old new → Filled (variableArc left right m t pick j) base count old new
+    → FilledFrom (λ _. 0) base count old new → FilledFrom (variableArc left right m t pick j) base count old new
 fill-idle left right m t j e h = filled-as (λ l b. rw e (sym (variable-none left right m t j l))) h
 
 -- Variable j by row i of a problem as bytes, the row that it picks: the row's leads start at a place.
@@ -68,12 +70,12 @@ module _ {s : List ℕ} {n m : ℕ} (laid : Laid s n m) {i at : ℕ} (row : i �
 
   module _ (t : ℕ) {j pick a base : ℕ} {old new : List ℕ} (picked : pick ≡ suc i) (column : j ≤ n) (lead : a ≡ leadAt s (at + 4 * j)) where
     -- Its left coefficient is blank.
-    pub fill-blank : a ≡ 0 → Filled (λ _. 0) base (n + 1) old new → Filled (variableArc (leftTable s) (rightTable s) m t pick j) base (n + 1) old new
+    pub fill-blank : a ≡ 0 → FilledFrom (λ _. 0) base (n + 1) old new → FilledFrom (variableArc (leftTable s) (rightTable s) m t pick j) base (n + 1) old new
     fill-blank z h = filled-as (λ l b. rw picked (sym (variable-blank (leftTable s) (rightTable s) m t i j l (left-is j column lead ∙ z)))) h
 
     -- It is whole.
-    pub fill-arcs : {up : ℕ} → (a ≡ 0 → ⊥) → up ≡ lift a (raisedBy t m i) → Filled (λ l. lifted up (leadAt s (at + 4 * (n + 1) + 4 * l))) base (n + 1) old new
-        → Filled (variableArc (leftTable s) (rightTable s) m t pick j) base (n + 1) old new
+    pub fill-arcs : {up : ℕ} → (a ≡ 0 → ⊥) → up ≡ lift a (raisedBy t m i) → FilledFrom (λ l. lifted up (leadAt s (at + 4 * (n + 1) + 4 * l))) base (n + 1) old new
+        → FilledFrom (variableArc (leftTable s) (rightTable s) m t pick j) base (n + 1) old new
     fill-arcs {up} d u h = filled-as
         (λ l b. rw (picked, u) (sym (variable-lifted (leftTable s) (rightTable s) m t i j l (λ z. d (sym (left-is j column lead) ∙ z))
         ∙ rw (left-is j column lead, right-lead-at laid i at l row place (omega arith)) refl)))
@@ -84,7 +86,7 @@ pub variable-rows-none : (left right : List ℕ) (m t : ℕ) (picks : List ℕ) 
 variable-rows-none left right m t picks width arcs e = record { length-is = e; cells = λ j l h k. absurd (omega arith) }
 
 pub variable-rows-more : {left right : List ℕ} {m t : ℕ} {picks : List ℕ} {width j : ℕ} {old new : List ℕ} → width ≤ 32
-    → VariableArcs left right m t picks width j old → Filled (variableArc left right m t (getD picks j 0) j) (j * 32) width old new
+    → VariableArcs left right m t picks width j old → FilledFrom (variableArc left right m t (getD picks j 0) j) (j * 32) width old new
     → VariableArcs left right m t picks width (j + 1) new
 variable-rows-more {left} {right} {m} {t} {picks} {width} {j} {old} {new} w h f = record {
   length-is = f .same ∙ h .length-is;

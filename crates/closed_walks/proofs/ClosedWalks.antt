@@ -2,33 +2,33 @@
 -- that no closed walk weighs above zero; a value above the limit, or more rounds than variables, show a short one that does.
 use Prim.Native.Nat.{ℕ, zero, suc, _+_, _*_, _-_, _%_, _≤_, _<_}
 use mathlib.Core.Path.{_≡_, refl, ap, sym, _∙_}
-use mathlib.Core.Bool.{Bool, true, false, cond, false≢true}
+use mathlib.Core.Bool.{Bool, true, false, false≢true}
 use mathlib.Core.List.{List}
 use mathlib.Core.Logic.{_⊎_, inl, inr, ⊎-elim}
 use native.Mathlib.Omega.{arith}
 use native.Mathlib.Numerals.{add-one}
 use native.Mathlib.Nat.{eq-zero-or-pos}
-use lib.Dec.{leb}
 use lib.ListN.{length, getD, replicate, set, length-set}
 use lib.IntN.{ℤ, pos, subℕ, _+ℤ_}
 use lib.Signed.{_≤ℤ_}
-use borrow.Author.Tests.{eq-eqb, ne-eqb, leb-true, leb-false}
+use borrow.Author.Tests.{eq-eqb, ne-eqb}
+use Rattle.base.specs.Numbers.{most}
+use Rattle.base.proofs.Numbers.{nat-le-or-lt, same-or-not, most-one, most-left, most-right, one-more}
+use Rattle.base.proofs.Filled.{zeros, set-here, set-there}
 use Rattle.definitions.specs.Limits.{signed-half, signed-full}
 use Rattle.definitions.specs.Offset.{off}
 use Rattle.definitions.specs.Tropical.{Trop, bot, fin, plus, _⊑_, blank-least, whole-least, larger}
-use Rattle.definitions.proofs.Whole.{whole, subℕ-read, plus-read, nat-le-or-lt}
+use Rattle.definitions.proofs.Whole.{whole, subℕ-read, plus-read}
 use Rattle.definitions.proofs.Tropical.{fin-below, finite-fin, ⊑-refl, ⊑-trans, ⊑-antisym, bot-plus, plus-fin, plus-mono, larger-left, larger-right, larger-least}
 use Rattle.duality.specs.Values.{valueAt}
 use Rattle.duality.specs.Sweeps.{Climbed}
 use Rattle.duality.proofs.Longest.{round-least, potential-closed}
 use Rattle.duality.proofs.Sweeps.{SomeGain, entries-back, gain-back, swept-none, swept-kept, swept-more, all-fixed-or-gains, climbed-start, climbed-more, climbed-under, climbed-beyond}
 use Rattle.reach.specs.Marks.{Marked}
-use Rattle.reach.proofs.Marks.{zeros, same-or-not}
 use Rattle.closed_walks.specs.Gains.{arc-zero, arc-most, weightOf, matrix, anywhere, Table, NoneGains, SomeGains, Tested}
 use Rattle.closed_walks.specs.Order.{past, Ordered}
 use Rattle.closed_walks.specs.GainRound.{value-limit, Small, endValue, Pushed, backward, level, Ready, Pushing, Rounds}
 use Rattle.closed_walks.proofs.Order.{past-most}
-use Rattle.closed_walks.proofs.Lists.{most-one, most-left, set-here, set-there, one-more}
 
 -- ---- weights
 
@@ -90,22 +90,15 @@ field-low r k b e h = ⊎-elim
 
 -- The later of two fields is the value at the end of the arc.
 pub end-value : (was by arc c r : ℕ) → was < arc-zero → by + arc < signed-full → c ≡ (off by + arc) % signed-full → r < signed-full
-    → off r ≡ cond (leb (off was) (off c)) (off c) (off was) → r ≡ endValue was by arc
-end-value was by arc c r h k e b q = go (leb (off was) (off c)) refl q
-  where
-    go : (t : Bool) → leb (off was) (off c) ≡ t → off r ≡ cond t (off c) (off was) → r ≡ endValue was by arc
-    go true t p =
-        let l = leb-true (off was) (off c) t in
-        let f = field-plus by arc c k e in
-        let g = off-low was h in
-        let s : r ≡ off c - signed-half = field-low r (off c) b p (omega arith) in
-        ⊎-elim (λ m. omega arith) (λ m. omega arith) (most-one was (by + arc - arc-zero))
-    go false t p =
-        let l = leb-false (off was) (off c) t in
-        let f = field-plus by arc c k e in
-        let g = off-low was h in
-        let s : r ≡ off was - signed-half = field-low r (off was) b p (omega arith) in
-        ⊎-elim (λ m. omega arith) (λ m. omega arith) (most-one was (by + arc - arc-zero))
+    → off r ≡ most (off was) (off c) → r ≡ endValue was by arc
+end-value was by arc c r h k e b q =
+    let f = field-plus by arc c k e in
+    let g = off-low was h in
+    let p = most-right (off was) (off c) in
+    let o = most-left (off was) (off c) in
+    let s : r ≡ most (off was) (off c) - signed-half = field-low r (most (off was) (off c)) b q (omega arith) in
+    ⊎-elim (λ t. ⊎-elim (λ m. omega arith) (λ m. omega arith) (most-one was (by + arc - arc-zero))) (λ t. ⊎-elim (λ m. omega arith) (λ m. omega arith) (most-one was (by + arc - arc-zero)))
+    (most-one (off was) (off c))
 
 -- It is the larger of what was and, where there is an arc, its weight with the start's value.
 end-level : (was by arc : ℕ) → by ≤ arc-zero

@@ -1,5 +1,3 @@
-pub mod Decides
-pub mod Lists
 pub mod Holding
 pub mod ArcTables
 pub mod Order

@@ -10,10 +10,10 @@ use native.Mathlib.Numerals.{add-one}
 use lib.Dec.{eqb}
 use lib.ListN.{length, getD, set, replicate, length-set}
 use borrow.Author.Tests.{eq-eqb, ne-eqb}
-use Rattle.definitions.proofs.Whole.{nat-le-or-lt}
+use Rattle.base.proofs.Numbers.{nat-le-or-lt, below-or-last}
+use Rattle.base.proofs.Filled.{set-here, set-there}
 use Rattle.reach.specs.Marks.{Marked}
 use Rattle.closed_walks.specs.Order.{past, Ordered}
-use Rattle.closed_walks.proofs.Lists.{set-here, set-there, below-or-last}
 
 -- No variable is looked at.
 pub order-none : (marks : List ℕ) → Ordered marks 0 (replicate 32 0) 0

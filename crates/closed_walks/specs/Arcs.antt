@@ -5,8 +5,8 @@ use mathlib.Core.Bool.{cond}
 use mathlib.Core.List.{List}
 use lib.Dec.{eqb}
 use lib.ListN.{length, getD}
+use Rattle.base.specs.Numbers.{most}
 use Rattle.definitions.specs.Limits.{signed-half, lead-limit, span-limit}
-use Rattle.closed_walks.specs.Lists.{most}
 use Rattle.closed_walks.specs.Gains.{arc-zero}
 
 -- What row i is raised by, as an offset number: t for the objective, 0 for an inequality.

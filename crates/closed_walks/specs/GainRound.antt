@@ -8,12 +8,12 @@ use mathlib.Core.Bool.{Bool, true, false}
 use mathlib.Core.List.{List}
 use lib.ListN.{length, getD}
 use lib.IntN.{pos}
+use Rattle.base.specs.Numbers.{most}
 use Rattle.definitions.specs.Limits.{signed-full}
 use Rattle.definitions.specs.Tropical.{Trop, fin, plus, _⊑_}
 use Rattle.duality.specs.Values.{valueAt}
 use Rattle.duality.specs.Sweeps.{turned, Swept, Fixed, Climbed}
 use Rattle.reach.specs.Marks.{Marked}
-use Rattle.closed_walks.specs.Lists.{most}
 use Rattle.closed_walks.specs.Gains.{arc-zero, arc-most, matrix, anywhere}
 
 -- No walk of at most 32 arcs weighs more.

@@ -1,5 +1,3 @@
-pub mod Decides
-pub mod Lists
 pub mod Tables
 pub mod Gains
 pub mod GainRound

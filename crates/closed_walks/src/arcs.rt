@@ -3,13 +3,14 @@ ghost use mathlib.Core.Path.{_≡_};
 ghost use mathlib.Core.Bool.{cond};
 ghost use Prim.Native.Nat.{ℕ, suc, _+_, _*_, _≤_, _<_};
 ghost use lib.ListN.{length, getD};
+ghost use Rattle.base.specs.Filled.{FilledFrom};
 ghost use Rattle.definitions.specs.Limits.{signed-half, lead-limit, span-limit};
 ghost use Rattle.records.specs.Decoded.{Near};
 ghost use Rattle.problem_records.specs.Tables.{leadAt, leftTable, rightTable, Laid};
-ghost use Rattle.closed_walks.specs.Lists.{most, Filled};
 ghost use Rattle.closed_walks.specs.Gains.{arc-zero};
 ghost use Rattle.closed_walks.specs.Tables.{Sized, Picked, Trial};
 ghost use Rattle.closed_walks.specs.Arcs.{raisedBy, lift, lift-most, lifted, variableArc, VariableArcs, fall, fall-most, fallen, rowArc, heaviest, RowArcs, Column};
+use base::larger;
 use problem_records::reader::lead_in;
 use problem_records::reader::row_place;
 use reach::ARCS;
@@ -56,7 +57,7 @@ fn lifted_by(up: u32, b: u32) -> u32
 // bytes.
 fn fill_run(arcs: &mut [u32; ARCS], from: usize, bytes: &[u8], at: usize, width: usize, up: u32)
     requires { ⌜ (length (now arcs) ≡ 1024) × (from + width ≤ 1024) × (at + 4 * width ≤ length (now bytes)) × (up ≤ lift-most) × ((l : ℕ) → l < width → Near lead-limit (leadAt (now bytes) (at + 4 * l))) ⌝ }
-    ensures { λ _. ⌜ Filled (λ l. lifted up (leadAt (now (bytes .entry)) (at + 4 * l))) from width (now (arcs .entry)) (now (arcs .exit)) ⌝ }
+    ensures { λ _. ⌜ FilledFrom (λ l. lifted up (leadAt (now (bytes .entry)) (at + 4 * l))) from width (now (arcs .entry)) (now (arcs .exit)) ⌝ }
 {
     let mut place = at;
     for l in 0..width {
@@ -68,7 +69,7 @@ fn fill_run(arcs: &mut [u32; ARCS], from: usize, bytes: &[u8], at: usize, width:
 // The same. Rows of the full width have a call of their own, which is compiled for that length.
 fn fill_lifted(arcs: &mut [u32; ARCS], from: usize, bytes: &[u8], at: usize, width: usize, up: u32)
     requires { ⌜ (length (now arcs) ≡ 1024) × (from + width ≤ 1024) × (at + 4 * width ≤ length (now bytes)) × (up ≤ lift-most) × ((l : ℕ) → l < width → Near lead-limit (leadAt (now bytes) (at + 4 * l))) ⌝ }
-    ensures { λ _. ⌜ Filled (λ l. lifted up (leadAt (now (bytes .entry)) (at + 4 * l))) from width (now (arcs .entry)) (now (arcs .exit)) ⌝ }
+    ensures { λ _. ⌜ FilledFrom (λ l. lifted up (leadAt (now (bytes .entry)) (at + 4 * l))) from width (now (arcs .entry)) (now (arcs .exit)) ⌝ }
 {
     if width == STRIDE {
         fill_run(arcs, from, bytes, at, STRIDE, up);
@@ -80,7 +81,7 @@ fn fill_lifted(arcs: &mut [u32; ARCS], from: usize, bytes: &[u8], at: usize, wid
 // No entries from one variable.
 fn fill_none(arcs: &mut [u32; ARCS], from: usize, width: usize)
     requires { ⌜ (length (now arcs) ≡ 1024) × (from + width ≤ 1024) ⌝ }
-    ensures { λ _. ⌜ Filled (λ _. 0) from width (now (arcs .entry)) (now (arcs .exit)) ⌝ }
+    ensures { λ _. ⌜ FilledFrom (λ _. 0) from width (now (arcs .entry)) (now (arcs .exit)) ⌝ }
 {
     for l in 0..width {
         arcs[from + l] = 0;
@@ -98,7 +99,7 @@ fn fill_variable(
     j: usize,
 )
     requires { ⌜ Laid (now bytes) n m × Trial t × (length (now arcs) ≡ 1024) × (pick ≤ m + 1) × (j ≤ n) ⌝ }
-    ensures { λ _. ⌜ Filled (variableArc (leftTable (now (bytes .entry))) (rightTable (now (bytes .entry))) m t pick j) (j * 32) (n + 1) (now (arcs .entry)) (now (arcs .exit)) ⌝ }
+    ensures { λ _. ⌜ FilledFrom (variableArc (leftTable (now (bytes .entry))) (rightTable (now (bytes .entry))) m t pick j) (j * 32) (n + 1) (now (arcs .entry)) (now (arcs .exit)) ⌝ }
 {
     let width = n + 1;
     let from = j * STRIDE;
@@ -150,13 +151,6 @@ fn fallen_by(down: u32, a: u32) -> u32
     ensures { λ r. ⌜ r ≡ fallen down a ⌝ }
 {
     if a == 0 { 0 } else { down + (a - LEAST_LEAD) }
-}
-
-// The larger of two numbers.
-fn larger(a: u32, b: u32) -> u32
-    ensures { λ r. ⌜ r ≡ most a b ⌝ }
-{
-    if a <= b { b } else { a }
 }
 
 // The entries by one row, whose left coefficients start at `base`, to variable l: each where it is the heaviest so far.

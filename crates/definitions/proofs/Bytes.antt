@@ -11,8 +11,8 @@ use lib.Dec.{ltb}
 use lib.ListN.{length, getD, take, drop, replicate, length-append, length-take, length-map, List·getD-append, List·getD-eq-default, List·getD-map}
 use lib.Seq.{drop-cons, append-snoc, getD-at, getD-append-add, getD-take, getD-drop, take-add, drop-drop}
 use borrow.Author.Tests.{ltb-true}
+use Rattle.base.proofs.Numbers.{nat-le-or-lt}
 use Rattle.definitions.specs.Bytes.{Bytes, numAt, le, numsAt, fields, put, all}
-use Rattle.definitions.proofs.Whole.{nat-le-or-lt}
 
 -- ---- lengths
 

@@ -10,6 +10,7 @@ use lib.Dec.{eqb}
 use lib.ListN.{length, getD, take, drop, replicate, length-take, length-drop, length-replicate}
 use lib.Seq.{getD-take, getD-drop, length-take-le, ext-getD, take-all, take-take}
 use borrow.Author.Tests.{lt-ltb, le-ltb, eqb-true, ne-eqb}
+use Rattle.base.proofs.Numbers.{nat-le-or-lt}
 use Rattle.definitions.specs.Limits.{kept-bytes, word-values, length-bytes, problem-header, answer-header, signed-full, highest-n, highest-m, problem-kind}
 use Rattle.definitions.specs.Bytes.{Bytes, numAt, put}
 use Rattle.definitions.specs.ProblemRecord.{lengthField, kindField, nField, mField, headerRefusal, problemRefusal, WithinLayout, problemSize}
@@ -17,7 +18,6 @@ use Rattle.definitions.specs.AnswerRecord.{answerHeaderRefusal, answerRe
 use Rattle.definitions.specs.Verdict.{Verdict, refused, checkRefusal, Judged, turned-away, certified, uncertified}
 use Rattle.definitions.specs.Programs.{cutPlace, problemPart, answerPart, KeptOf, SpanOutput, VerdictOutput, read-most, ReadFrom}
 use Rattle.definitions.specs.Programs as Programs
-use Rattle.definitions.proofs.Whole.{nat-le-or-lt}
 use Rattle.definitions.proofs.Bytes.{numAt-same, numAt-bound, bytes-take, bytes-drop, bytes-put, zero-bytes}
 use Rattle.definitions.proofs.Put.{take-put, length-put}
 use Rattle.definitions.proofs.Refusals.{or-else-suc, or-else-none, or-else-zero, limits-clause, enough-clause, equal-clause, problem-fits}

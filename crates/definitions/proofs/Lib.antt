@@ -23,3 +23,4 @@ pub mod Week
 pub mod WeekFacts
 pub mod Agree
 pub mod Scaling
+pub mod Selection

@@ -8,12 +8,12 @@ use native.Mathlib.Omega.{arith}
 use native.Mathlib.Nat.{mul-le-mul-left, mul-le-mul-right}
 use lib.ListN.{length, getD, length-append, length-map, List·getD-append, List·getD-map}
 use lib.Seq.{getD-at, getD-append-add}
+use Rattle.base.proofs.Numbers.{nat-le-or-lt}
 use Rattle.definitions.specs.Limits.{highest-n, highest-m, lead-limit, length-bytes, short-bytes, signed-bytes, signed-half, signed-full, problem-kind, problem-header}
 use Rattle.definitions.specs.Tropical.{Trop, bot}
 use Rattle.definitions.specs.Problem.{Problem}
 use Rattle.definitions.specs.Bytes.{numAt, numsAt, le, fields, tropField, fieldOf, tropAt, all, blank-or-within}
 use Rattle.definitions.specs.ProblemRecord.{WithinLayout, problemOf, problemSize, headerBytes, problemBytes, rowBytes, rowsBytes, leadsOf, listOf, nField, mField, lengthField, kindField, leftPlace, rightPlace}
-use Rattle.definitions.proofs.Whole.{nat-le-or-lt}
 use Rattle.definitions.proofs.Bytes.{length-le, length-fields, fields-append, nums-fields, Below, getD-numsAt, all-true}
 use Rattle.definitions.proofs.Refusals.{problem-fits}
 use Rattle.definitions.proofs.RoundTrip.{trops-back, trops-below, num-here, num-past}

@@ -13,7 +13,7 @@ use Rattle.definitions.specs.Limits.{highest-n, highest-m, signed-bytes,
 use Rattle.definitions.specs.Bytes.{numAt}
 use Rattle.definitions.specs.ProblemRecord.{nField, mField, lengthField, kindField, problemSize, rowPlace, headerBytes}
 use Rattle.definitions.specs.Questions.{part, rowsSize, alone, askedRow}
-use Rattle.definitions.proofs.Whole.{nat-le-or-lt}
+use Rattle.base.proofs.Numbers.{nat-le-or-lt}
 use Rattle.definitions.proofs.Bytes.{numAt-same}
 use Rattle.definitions.proofs.ProblemBack.{length-header, read-length, read-kind, read-n, read-m}
 

@@ -16,3 +16,4 @@ pub mod Demands
 pub mod Examples
 pub mod Week
 pub mod Scaling
+pub mod Selection

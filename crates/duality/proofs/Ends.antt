@@ -6,10 +6,10 @@ use mathlib.Core.Path.{_≡_, refl, sym, _∙_}
 use mathlib.Core.Logic.{⊎-elim}
 use native.Mathlib.Omega.{arith}
 use lib.IntN.{ℤ, pos, _-ℤ_}
+use Rattle.base.proofs.Numbers.{nat-le-or-lt}
 use Rattle.definitions.specs.Tropical.{bot, fin, plus, _⊑_, Finite}
 use Rattle.definitions.specs.Problem.{Point}
 use Rattle.definitions.specs.Certificate.{Strategy, Walk, stop, step, Reachable, start, onward}
-use Rattle.definitions.proofs.Whole.{nat-le-or-lt}
 use Rattle.definitions.proofs.Tropical.{bot-not-fin, not-finite-bot, finite-above, blank-or-finite, ⊑-trans, ⊑-of-eq, plus-fin, largest-least}
 use Rattle.duality.specs.System.{System, sideOf, Solves, Solution, Leads, Arc, Blocks}
 use Rattle.duality.specs.Values.{weights, exits, valuesAfter, values, Policy}

@@ -7,8 +7,9 @@ use mathlib.Core.Logic.{⊎-elim}
 use native.Mathlib.Omega.{arith}
 use lib.IntN.{ℤ, pos, _+ℤ_, +ℤ-assoc, +ℤ-idl}
 use lib.Signed.{_≤ℤ_, ≤ℤ-refl}
+use Rattle.base.proofs.Numbers.{nat-le-or-lt}
 use Rattle.definitions.specs.Certificate.{Walk, stop, step}
-use Rattle.definitions.proofs.Whole.{whole, plus-read, nat-le-or-lt}
+use Rattle.definitions.proofs.Whole.{whole, plus-read}
 use Rattle.duality.proofs.Pigeonhole.{pigeonhole}
 
 -- Arcs lead to the variables below N.

@@ -7,6 +7,7 @@ use native.Mathlib.Omega.{arith}
 use native.Mathlib.Nat.{eq-zero-or-pos}
 use lib.ListN.{length, take, drop, length-take, length-drop}
 use lib.Seq.{take-all}
+use Rattle.base.proofs.Numbers.{nat-le-or-lt}
 use Rattle.definitions.specs.Limits.{kept-bytes, length-bytes, problem-header, span-limit}
 use Rattle.definitions.specs.Tropical.{Trop}
 use Rattle.definitions.specs.Problem.{Problem}
@@ -21,7 +22,6 @@ use Rattle.definitions.specs.Solved.{Answers, Solves, engineRefusal}
 use Rattle.definitions.specs.Programs as Programs
 use Rattle.definitions.specs.Programs.{SpanOutput, VerdictOutput, KeptOf, ReadFrom, problemPart, answerPart, cutPlace, refusedLine, verdictLine}
 use Rattle.definitions.specs.Demands.{Slice, Numbered, Demands}
-use Rattle.definitions.proofs.Whole.{nat-le-or-lt}
 use Rattle.definitions.proofs.Bytes.{bytes-take, bytes-drop}
 use Rattle.definitions.proofs.Refusals.{or-else-none, or-else-suc, problem-fits, answer-fits, form-fits}
 use Rattle.definitions.proofs.RoundTrip.{span-within}

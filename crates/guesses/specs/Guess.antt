@@ -4,12 +4,12 @@ use mathlib.Core.Path.{_≡_}
 use mathlib.Core.Bool.{Bool, true, false}
 use mathlib.Core.List.{List}
 use lib.ListN.{length, getD}
+use Rattle.base.specs.Filled.{Filled}
 use Rattle.definitions.specs.Limits.{stamp-limit}
 use Rattle.definitions.specs.Problem.{Point}
 use Rattle.duality.specs.System.{System, Solves}
 use Rattle.records.specs.Decoded.{Near}
 use Rattle.trials.specs.Tables.{value-limit, low-half, high}
-use Rattle.trials.specs.Filled.{Filled}
 use Rattle.guesses.specs.declared.guess.Guess.{Guess}
 
 -- The point solves the system, or does not.

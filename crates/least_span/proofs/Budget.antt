@@ -4,8 +4,8 @@ use mathlib.Core.Path.{_≡_, refl, ap, _∙_}
 use mathlib.Core.Logic.{_⊎_, ⊎-elim}
 use native.Mathlib.Omega.{arith}
 use native.Mathlib.Nat.{pow-suc}
+use Rattle.base.proofs.Numbers.{nat-le-or-lt}
 use Rattle.definitions.specs.Limits.{most-trials}
-use Rattle.definitions.proofs.Whole.{nat-le-or-lt}
 use Rattle.trial_tables.specs.Frames.{top-offset, lowest-offset, Trialled}
 use Rattle.least_span.specs.declared.state.Search.{Search}
 use Rattle.least_span.specs.State.{Budgeted, Affordable}

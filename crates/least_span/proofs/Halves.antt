@@ -9,9 +9,10 @@ use native.Mathlib.Omega.{arith}
 use lib.Dec.{T}
 use lib.IntN.{ℤ, _+ℤ_}
 use lib.Signed.{_≤ℤ_, leZ}
+use Rattle.base.proofs.Numbers.{nat-le-or-lt}
 use Rattle.definitions.specs.Limits.{signed-half}
 use Rattle.definitions.specs.Bisection.{Bracket, Brackets, opening, middle, next, width, Halved, counted, halved, trials-optimal}
-use Rattle.definitions.proofs.Whole.{whole, plus-read, subℕ-read, nat-le-or-lt}
+use Rattle.definitions.proofs.Whole.{whole, plus-read, subℕ-read}
 use Rattle.definitions.proofs.Bisection.{half-up-is, width-is, Inside, middle-inside, halved-stop, halved-on, following}
 use Rattle.definitions.specs.Certificate.{Anchor}
 use Rattle.duality.specs.System.{Blocks, systemAt}

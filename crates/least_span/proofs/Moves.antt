@@ -8,13 +8,15 @@ use native.Mathlib.Omega.{arith}
 use native.Mathlib.Nat.{eq-zero-or-pos}
 use lib.ListN.{length, getD, replicate, length-replicate}
 use lib.IntN.{ℤ, pos, _-ℤ_}
+use Rattle.base.proofs.Numbers.{nat-le-or-lt}
+use Rattle.base.proofs.Filled.{zeros}
 use Rattle.definitions.specs.Limits.{signed-half, lead-limit, stamp-limit, most-trials}
 use Rattle.definitions.specs.Tropical.{Trop, bot, fin}
 use Rattle.definitions.specs.Problem.{Problem}
 use Rattle.definitions.specs.Certificate.{Anchor}
 use Rattle.definitions.specs.Bytes.{blank-or-within}
 use Rattle.definitions.specs.Offset.{tropOf}
-use Rattle.definitions.proofs.Whole.{whole, minus-read, nat-le-or-lt}
+use Rattle.definitions.proofs.Whole.{whole, minus-read}
 use Rattle.definitions.proofs.Offset.{within-iff}
 use Rattle.duality.specs.System.{Solves, systemAt}
 use Rattle.duality.specs.Values.{Policy, difference}
@@ -22,7 +24,6 @@ use Rattle.records.specs.Decoded.{Near}
 use Rattle.records.proofs.Near.{near-zero}
 use Rattle.trials.specs.Tables.{systemOf, pointOf, pickOf, value-limit, low-half, high, highs, Ranged}
 use Rattle.trials.specs.Steps.{Tried}
-use Rattle.trials.proofs.Filled.{zeros-at}
 use Rattle.trials.proofs.Low.{high-zero, high-whole, highs-at}
 use Rattle.trials.proofs.Rounds.{low-zero-is}
 use Rattle.trial_tables.specs.declared.frame.Frame.{Frame}
@@ -40,7 +41,7 @@ use Rattle.least_span.proofs.Budget.{room-after, inside-trialled}
 -- ---- the opening
 
 zeros-ranged : Ranged (replicate 32 0)
-zeros-ranged = record { size = length-replicate {A = ℕ} 32 0; near = λ k. rw (zeros-at 32 k) (near-zero value-limit) }
+zeros-ranged = record { size = length-replicate {A = ℕ} 32 0; near = λ k. rw (zeros 32 k) (near-zero value-limit) }
 
 -- Nothing is known at first.
 pub opening : (rows : ℕ) → Opened rows (record {
@@ -65,7 +66,7 @@ opening rows = record {
       room-most = omega arith;
       enough = omega arith;
       ranged = zeros-ranged;
-      anchored = omega (arith, zeros-at 32 0);
+      anchored = omega (arith, zeros 32 0);
       kept-size = length-replicate {A = ℕ} 32 rows;
       blocking-size = length-replicate {A = ℕ} 32 rows;
     };

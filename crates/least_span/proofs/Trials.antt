@@ -10,13 +10,15 @@ use lib.ListN.{length, getD, replicate, length-replicate, getD-replicate}
 use lib.IntN.{ℤ, pos, natAbs, _-ℤ_}
 use lib.Signed.{_≤ℤ_}
 use borrow.Author.Tests.{le-leb}
+use Rattle.base.proofs.Numbers.{nat-le-or-lt}
+use Rattle.base.proofs.Filled.{filled-map, filled-end}
 use Rattle.definitions.specs.Limits.{signed-half, lead-limit, span-limit, stamp-limit}
 use Rattle.definitions.specs.Tropical.{Trop, bot, fin, plus}
 use Rattle.definitions.specs.Problem.{Problem, Point}
 use Rattle.definitions.specs.Certificate.{Anchor}
 use Rattle.definitions.specs.Bytes.{blank-or-within}
 use Rattle.definitions.specs.Offset.{tropOf}
-use Rattle.definitions.proofs.Whole.{up, down, whole, minus-read, abs-show, subℕ-read, nat-le-or-lt}
+use Rattle.definitions.proofs.Whole.{up, down, whole, minus-read, abs-show, subℕ-read}
 use Rattle.definitions.proofs.Tropical.{bot-not-fin}
 use Rattle.definitions.proofs.Offset.{trop-zero, trop-fin, trop-order}
 use Rattle.duality.specs.System.{System, Blocks, systemAt}
@@ -27,7 +29,6 @@ use Rattle.duality.proofs.Warm.{stays-down-at}
 use Rattle.duality.proofs.Stamps.{stamps-at-most-32}
 use Rattle.trials.specs.Tables.{systemOf, pointOf, pickOf, Ranged}
 use Rattle.trials.specs.Steps.{Tried}
-use Rattle.trials.proofs.Filled.{filled-map, filled-end}
 use Rattle.trials.proofs.Rounds.{zero-is}
 use Rattle.trials.proofs.Steps.{values-ranged}
 use Rattle.trial_tables.specs.declared.frame.Frame.{Frame}

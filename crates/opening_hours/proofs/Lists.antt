@@ -5,9 +5,9 @@ use mathlib.Core.Logic.{inl, inr, ⊎-elim}
 use mathlib.Core.List.{List}
 use native.Mathlib.Omega.{arith}
 use lib.ListN.{length}
+use Rattle.base.proofs.Numbers.{nat-le-or-lt}
 use Rattle.definitions.specs.Limits.{week-minutes, most-windows}
 use Rattle.definitions.specs.Week.{windows, opening, closing, InWindow, BadWeek, odd, too-many-windows, closing-not-after-opening, opening-outside, closing-outside, starts-before-last-closes}
-use Rattle.definitions.proofs.Whole.{nat-le-or-lt}
 use Rattle.opening_hours.specs.Lookup.{Asked, FirstFrom}
 
 -- ---- numbers

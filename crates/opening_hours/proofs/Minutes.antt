@@ -9,11 +9,12 @@ use lib.Dec.{leb}
 use lib.ListN.{length}
 use lib.IntN.{ℤ, pos, negsuc, natAbs, _+ℤ_}
 use borrow.Author.Tests.{leb-true, le-leb, not-true, not-false}
+use Rattle.base.proofs.Numbers.{nat-le-or-lt}
 use Rattle.definitions.specs.Limits.{signed-half, week-minutes, minute-limit}
 use Rattle.definitions.specs.Bytes.{whole-within}
 use Rattle.definitions.specs.Offset.{tropOf}
 use Rattle.definitions.specs.Week.{windows, InWindow, minute-of-week, FirstOpen, BadWeek, TurnedAway, bad-week, minute-beyond, week-refusal, Admits, turned-away, never-open, opens}
-use Rattle.definitions.proofs.Whole.{up, down, whole, plus-read, subℕ-read, abs-read, abs-show, nat-le-or-lt}
+use Rattle.definitions.proofs.Whole.{up, down, whole, plus-read, subℕ-read, abs-read, abs-show}
 use Rattle.definitions.proofs.Offset.{whole-offset}
 use Rattle.definitions.proofs.Week.{minute-ahead, ahead}
 use Rattle.opening_hours.specs.declared.lookup.Admission.the-variants.{At, Never, Refused}

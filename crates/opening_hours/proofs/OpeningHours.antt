@@ -7,9 +7,10 @@ use native.Mathlib.Omega.{arith}
 use lib.ListN.{length}
 use lib.IntN.{ℤ, pos, natAbs, _+ℤ_}
 use lib.Signed.{_≤ℤ_, _<ℤ_}
+use Rattle.base.proofs.Numbers.{nat-le-or-lt}
 use Rattle.definitions.specs.Limits.{week-minutes, most-windows, minute-limit}
 use Rattle.definitions.specs.Week.{windows, opening, closing, InWindow, minute-of-week, Open, FirstOpen, BadWeek, odd, too-many-windows, closing-not-after-opening, TurnedAway, bad-week, minute-beyond, week-refusal, Admission, open-at, never, refused, Admits, turned-away, never-open, opens, Promised, OneAdmission, OpeningHours}
-use Rattle.definitions.proofs.Whole.{whole, plus-read, abs-read, abs-show, nat-le-or-lt, le-or-lt}
+use Rattle.definitions.proofs.Whole.{whole, plus-read, abs-read, abs-show, le-or-lt}
 use Rattle.definitions.proofs.Week.{minute-below, minute-ahead, every-week, first-open-unique}
 use Rattle.opening_hours.specs.Lookup.{Asked, FirstFrom}
 use Rattle.opening_hours.proofs.Lists.{Fits, good-fits, fits-good, FitsTo, fits-none, fits-more, fits-all, starts-early, closes-late, ShutTo, shut-none, shut-more, found-open, found-later, found-next-week}

@@ -2,12 +2,12 @@
 use Prim.Native.Nat.{ℕ, _<_}
 use mathlib.Core.List.{List}
 use native.Mathlib.Omega.{arith}
+use Rattle.base.proofs.Numbers.{positive}
 use Rattle.duality.proofs.Reach.{reach-keep}
 use Rattle.reach.specs.Marks as Reach
 use Rattle.reach.specs.Marks.{Led, Anchored}
 use Rattle.reach.proofs.Marks.{reached-anchor, anchor-reached}
 use Rattle.pick_tables.specs.Marks.{Reached}
-use Rattle.trials.proofs.Filled.{positive}
 
 -- Marks of what is reached from the anchor alone mark exactly what is reachable from it.
 pub from-anchor : {arcs : List ℕ} {width : ℕ} {begin marks : List ℕ} → Anchored begin → 0 < width → Reach.Reached arcs width begin marks

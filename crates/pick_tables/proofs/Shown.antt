@@ -9,17 +9,17 @@ use native.Mathlib.Nat.{eq-zero-or-pos}
 use lib.ListN.{length, getD, set, replicate, length-set, length-replicate}
 use lib.Seq.{getD-set-same, getD-set-other}
 use borrow.Author.Tests.{eq-eqb, ne-eqb, lt-ltb, le-ltb}
+use Rattle.base.proofs.Numbers.{nat-le-or-lt, same-or-not}
+use Rattle.base.proofs.Filled.{zeros, filled-more, filled-map}
 use Rattle.definitions.specs.Tropical.{bot, plus, largest, _⊑_, Finite}
 use Rattle.definitions.specs.Offset.{tropOf}
-use Rattle.definitions.proofs.Whole.{nat-le-or-lt}
 use Rattle.definitions.proofs.Tropical.{not-finite-bot, below-bot, ⊑-of-eq, largest-least}
 use Rattle.definitions.proofs.Offset.{trop-zero, trop-order}
 use Rattle.reach.specs.Spreading.{markOf}
-use Rattle.reach.proofs.Marks.{same-or-not, mark-same, mark-arc}
+use Rattle.reach.proofs.Marks.{mark-same, mark-arc}
 use Rattle.trials.specs.Tables.{entryOf, pointOf, raised-limit, fold-limit, Table, Ranged}
 use Rattle.trials.specs.Rounds.{foldedAt, sums}
 use Rattle.pick_tables.specs.Shown.{shownPick, arcBy, VariableArcs, RowArcIs, RowArcs, Column, BothAre, UsedIs, blank-most, Highest, BestIs}
-use Rattle.trials.proofs.Filled.{zeros-at, filled-more, filled-map}
 use Rattle.trials.proofs.Fold.{folded-low, folded-offsets, folded-mono}
 use Rattle.trials.proofs.Rounds.{false-not-true}
 
@@ -103,8 +103,8 @@ arc-marked {left} {picks} {i} {j} {l} {v} s p = ⊎-elim
 pub rows-none : {left picks : List ℕ} (n : ℕ) → RowArcs left picks 0 n (replicate 1024 0)
 rows-none n = record {
   size-is = length-replicate {A = ℕ} 1024 0;
-  each = λ k h. record { some = λ d. absurd (d (zeros-at 1024 k)); none = λ e t. omega (arith, t .inside) };
-  rest = λ k h. zeros-at 1024 k;
+  each = λ k h. record { some = λ d. absurd (d (zeros 1024 k)); none = λ e t. omega (arith, t .inside) };
+  rest = λ k h. zeros 1024 k;
 }
 
 -- A row that picks none is passed.

@@ -5,10 +5,10 @@ use mathlib.Core.Bool.{Bool, true, false, cond}
 use mathlib.Core.List.{List}
 use lib.Dec.{eqb, ltb}
 use lib.ListN.{length, getD}
+use Rattle.base.specs.Filled.{Filled}
 use Rattle.definitions.specs.Tropical.{plus, largest, _⊑_, Finite}
 use Rattle.reach.specs.Spreading.{markOf}
 use Rattle.trials.specs.Tables.{entryOf, pointOf}
-use Rattle.trials.specs.Filled.{Filled}
 use Rattle.trials.specs.Rounds.{sums}
 use Rattle.pick_tables.specs.Marks.{Marked, Reached}
 

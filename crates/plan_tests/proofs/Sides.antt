@@ -7,10 +7,14 @@ use mathlib.Core.Logic.{_⊎_, inl, inr, ⊎-elim, _↔_}
 use native.Mathlib.Omega.{arith}
 use native.Mathlib.Nat.{eq-zero-or-pos}
 use native.Mathlib.Numerals.{add-one}
-use lib.Dec.{leb, ltb}
-use lib.ListN.{length, getD, set, length-set, replicate}
+use lib.Dec.{ltb}
+use lib.ListN.{length, getD}
 use lib.IntN.{ℤ, _-ℤ_}
 use borrow.Author.Tests.{eq-eqb, ne-eqb, ltb-true, ltb-false}
+use Rattle.base.specs.Numbers.{most}
+use Rattle.base.specs.Decides.{Decides}
+use Rattle.base.proofs.Numbers.{nat-le-or-lt, positive, most-one, most-left, most-right}
+use Rattle.base.proofs.Decides.{decides-as, said-yes}
 use Rattle.definitions.specs.Limits.{signed-half, signed-full, lead-limit, stamp-limit}
 use Rattle.definitions.specs.Tropical.{Trop, bot, fin, plus, blank-least, larger, largest}
 use Rattle.definitions.specs.Problem.{Keeps, side, value, minus, minus-infinity, plus-infinity, whole}
@@ -22,14 +26,9 @@ use Rattle.definitions.proofs.Tropical.{⊑-refl, ⊑-antisym, larger-left, lar
 use Rattle.definitions.proofs.Offset.{off-off, trop-zero, trop-fin, trop-read, trop-order, trop-larger, plus-trop}
 use Rattle.records.specs.Decoded.{Near}
 use Rattle.records.proofs.ProblemHeader.{product-most}
-use Rattle.reach.proofs.Marks.{zeros}
 use Rattle.problem_records.specs.Tables.{leadAt, Laid}
 use Rattle.problem_records.proofs.LeadTables.{row-inside, left-near-at, right-near-at, left-lead-means, right-lead-means}
-use Rattle.closed_walks.specs.Lists.{most}
-use Rattle.closed_walks.specs.Decides.{Decides}
 use Rattle.closed_walks.specs.Tables.{Stamped, stampsPoint}
-use Rattle.closed_walks.proofs.Decides.{decides-as, said-yes}
-use Rattle.closed_walks.proofs.Lists.{above-zero, most-one, most-left, most-right, set-here, set-there, one-more}
 use Rattle.plan_tests.specs.Sides.{stamp-drop, lowered, Lowered, side-floor, run, bestSum, sideBy, sideOf, RowSized}
 
 -- ---- the largest sum
@@ -47,8 +46,7 @@ module _ (f : ℕ → ℕ) (x : List ℕ) where
   pub best-start : {r : ℕ} → r ≡ off side-floor → off r ≡ bestSum f x 0
   best-start e = rw e (off-off side-floor (omega arith)) ∙ sym best-none
 
-  pub best-turn : (k : ℕ) {a b v : ℕ} → a ≡ bestSum f x k → b ≡ f k + getD x k 0 → v ≡ cond (leb a b) b a → v ≡ bestSum f x (k + 1)
-  unfolding most
+  pub best-turn : (k : ℕ) {a b v : ℕ} → a ≡ bestSum f x k → b ≡ f k + getD x k 0 → v ≡ most a b → v ≡ bestSum f x (k + 1)
   best-turn k e g h = rw (best-more k, h, e, g) refl
 
   -- It is at least the floor,
@@ -104,7 +102,7 @@ side-cases : (b : ℕ) → side-floor ≤ b → ((b ≡ side-floor) × (sideBy b
 side-cases b h = ⊎-elim
     (λ (l : b ≤ side-floor). let e : b ≡ side-floor = omega arith in inl (e, side-none e))
     (λ (l : side-floor < b). inr (l, side-some (λ e. omega arith)))
-    (Whole.nat-le-or-lt b side-floor)
+    (nat-le-or-lt b side-floor)
 
 trop-most : (a b : ℕ) → larger (tropOf a) (tropOf b) ≡ tropOf (most a b)
 unfolding most
@@ -125,24 +123,12 @@ lowered-small e near = ⊎-elim
     (λ (h : 0 < e). omega (arith, lowered-some h, near .hi))
     (eq-zero-or-pos e)
 
--- Stamps lowered one after another.
-pub low-none : (stamps : List ℕ) → Lowered stamps 0 (replicate 32 0)
-low-none stamps = record { length-is = refl; cells = λ l h. absurd (omega arith); blanks = λ l h. zeros 32 l }
-
-pub low-more : {stamps : List ℕ} {k : ℕ} {x : List ℕ} {v : ℕ} → Lowered stamps k x → k < 32 → v ≡ lowered (getD stamps k 0) → Lowered stamps (k + 1) (set x k v)
-low-more {stamps} {k} {x} {v} h b q = record {
-  length-is = length-set x k v ∙ h .length-is;
-  cells = one-more {P = λ l. getD (set x k v) l 0 ≡ lowered (getD stamps l 0)} k
-      (λ l m. set-there x k l v (λ z. omega arith) ∙ h .cells l m) (set-here x k v (omega (arith, h .length-is)) ∙ q);
-  blanks = λ l m. set-there x k l v (λ z. omega arith) ∙ h .blanks l (omega arith);
-}
-
 -- They are in range.
 pub low-small : {stamps : List ℕ} {k : ℕ} {x : List ℕ} → Stamped stamps → Lowered stamps k x → (l : ℕ) → getD x l 0 ≤ stamp-drop + stamp-limit
 low-small {stamps} {k} stamped low l = ⊎-elim
-    (λ (b : k ≤ l). omega (arith, low .blanks l b))
-    (λ (b : l < k). rw (low .cells l b) (lowered-small (getD stamps l 0) (stamped .near l)))
-    (Whole.nat-le-or-lt k l)
+    (λ (b : k ≤ l). omega (arith, low .rest l b))
+    (λ (b : l < k). rw (low .each l b) (lowered-small (getD stamps l 0) (stamped .near l)))
+    (nat-le-or-lt k l)
 
 -- One more term: a coefficient and a stamp, either of which may be blank.
 term-more : (b c e : ℕ) → side-floor ≤ b → Near lead-limit c → Near stamp-limit e
@@ -254,7 +240,7 @@ module _ {s : List ℕ} {n m : ℕ} (laid : Laid s n m) {stamps x : List ℕ} (s
         → tropOf (sideOf (run s at) x (n + 1)) ≡ side (problemOf s .n) coefficients (stampsPoint stamps)
     unfolding side sideOf stampsPoint problemOf
     one-side at coefficients sized is =
-        terms-value (run s at) stamps x (n + 1) (sized .leads) (stamped .near) (low .cells)
+        terms-value (run s at) stamps x (n + 1) (sized .leads) (stamped .near) (low .each)
         ∙ largest-ext _ _ (n + 1) (λ j b. ap (λ z. plus z (tropOf (getD stamps j 0))) (is j (omega arith)))
         ∙ (let e : n + 1 ≡ suc (nField s) = omega (arith, laid .n-is) in ap (largest (λ j. plus (coefficients j) (tropOf (getD stamps j 0)))) e)
 
@@ -275,7 +261,7 @@ module _ {s : List ℕ} {n m : ℕ} (laid : Laid s n m) {stamps x : List ℕ} (s
         (λ k. ⊎-elim
         (λ h. h)
         (λ h. absurd (omega (arith, side-strict (best-floor (run s right) x (n + 1)) h, trop-order (sideOf (run s left) x (n + 1)) (sideOf (run s right) x (n + 1)) .0 (rw (left-side, right-side) k))))
-        (Whole.nat-le-or-lt (bestSum (run s left) x (n + 1)) (bestSum (run s right) x (n + 1))))
+        (nat-le-or-lt (bestSum (run s left) x (n + 1)) (bestSum (run s right) x (n + 1))))
         d
 
   m-of : problemOf s .m ≡ m
@@ -304,7 +290,7 @@ module _ {s : List ℕ} {n m : ℕ} (laid : Laid s n m) {stamps x : List ℕ} (s
     pub second-blank : {z : ℤ} → (sideOf (run s left) x (n + 1) ≡ 0 → ⊥) → sideOf (run s right) x (n + 1) ≡ 0 → value (problemOf s) (stampsPoint stamps) ≡ whole z → ⊥
     unfolding minus
     second-blank {z} d e v =
-        let q : plus-infinity ≡ whole z = sym (value-sides ∙ rw (trop-fin first (above-zero d), e, trop-zero)) ∙ v in differ q
+        let q : plus-infinity ≡ whole z = sym (value-sides ∙ rw (trop-fin first (positive _ d), e, trop-zero)) ∙ v in differ q
       where
         differ : plus-infinity ≡ whole z → ⊥
         differ q = let d : _≡_ {A = ℕ} 0 1 = cc in omega arith
@@ -332,7 +318,7 @@ module _ {s : List ℕ} {n m : ℕ} (laid : Laid s n m) {stamps x : List ℕ} (s
         read′ = Whole.subℕ-read second signed-half
 
         is : value (problemOf s) (stampsPoint stamps) ≡ whole (a -ℤ b)
-        is = value-sides ∙ rw (trop-fin first (above-zero d), trop-fin second (above-zero d′))
+        is = value-sides ∙ rw (trop-fin first (positive _ d), trop-fin second (positive _ d′))
 
         same : {u v : ℤ} → whole u ≡ whole v → u ≡ v
         same q = cc

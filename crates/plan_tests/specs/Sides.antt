@@ -6,10 +6,11 @@ use mathlib.Core.Bool.{cond}
 use mathlib.Core.List.{List}
 use lib.Dec.{eqb}
 use lib.ListN.{length, getD}
+use Rattle.base.specs.Numbers.{most}
+use Rattle.base.specs.Filled.{Filled}
 use Rattle.definitions.specs.Limits.{lead-limit, stamp-limit, signed-bytes}
 use Rattle.records.specs.Decoded.{Near}
 use Rattle.problem_records.specs.Tables.{leadAt}
-use Rattle.closed_walks.specs.Lists.{most}
 
 -- What stamps are lowered by: 2³⁰.
 abbrev pub stamp-drop : ℕ
@@ -20,10 +21,8 @@ unfoldable pub lowered : ℕ → ℕ
 lowered k = cond (eqb k 0) 0 (k - stamp-drop)
 
 -- The first k stamps, lowered, then blanks: 32 places.
-pub record Lowered (stamps : List ℕ) (k : ℕ) (x : List ℕ) : Type 0 where
-  pub length-is : length x ≡ 32
-  pub cells : (l : ℕ) → l < k → getD x l 0 ≡ lowered (getD stamps l 0)
-  pub blanks : (l : ℕ) → k ≤ l → getD x l 0 ≡ 0
+abbrev pub Lowered : List ℕ → ℕ → List ℕ → Type 0
+Lowered stamps k x = Filled (λ l v. v ≡ lowered (getD stamps l 0)) 32 k x
 
 -- A lead and a lowered stamp in range have a sum above this, 2³¹ + 2²⁹, where both are whole, and below it where one is blank.
 abbrev pub side-floor : ℕ

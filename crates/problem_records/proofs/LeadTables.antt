@@ -9,11 +9,11 @@ use native.Mathlib.Nat.{mul-le-mul-right}
 use lib.Dec.{leb}
 use lib.ListN.{length, getD, List·getD-eq-default}
 use borrow.Author.Tests.{le-leb, lt-leb, leb-true}
+use Rattle.base.proofs.Numbers.{nat-le-or-lt}
 use Rattle.definitions.specs.Limits.{lead-limit, signed-half, signed-full}
 use Rattle.definitions.specs.Bytes.{Bytes, numAt, tropAt, blank-or-within}
 use Rattle.definitions.specs.Offset.{tropOf}
 use Rattle.definitions.specs.ProblemRecord.{nField, mField, leftPlace, rightPlace, listOf, WithinLayout, problemOf}
-use Rattle.definitions.proofs.Whole.{nat-le-or-lt}
 use Rattle.definitions.proofs.Bytes.{numAt-bound}
 use Rattle.definitions.proofs.Offset.{trop-off}
 use Rattle.definitions.proofs.Refusals.{ProblemFits, problem-fits, left-within, right-within}

@@ -11,7 +11,7 @@ use Rattle.definitions.specs.Bytes.{numAt}
 use Rattle.definitions.specs.Offset.{off}
 use Rattle.definitions.specs.ProblemRecord.{nField, mField, rowPlace, leftPlace, rightPlace, listOf}
 use Rattle.definitions.specs.Questions.{rowsSize, alone, askedRow}
-use Rattle.definitions.proofs.Whole.{nat-le-or-lt}
+use Rattle.base.proofs.Numbers.{nat-le-or-lt}
 use Rattle.definitions.proofs.Bytes.{numAt-drop}
 use Rattle.definitions.proofs.Questions.{Asks, alone-n, alone-m, alone-lead}
 use Rattle.problem_records.specs.Tables.{leadAt, cell, leftTable, rightTable}

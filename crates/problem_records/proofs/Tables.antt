@@ -5,45 +5,18 @@ use mathlib.Core.List.{List, [], _∷_}
 use mathlib.Core.Logic.{_⊎_, ⊎-elim}
 use native.Mathlib.Omega.{arith}
 use native.Mathlib.Nat.{mul-le-mul-right}
-use lib.ListN.{length, getD, set, replicate, length-append, length-set, length-replicate, List·getD-append}
-use lib.Seq.{getD-at, getD-set-same, getD-set-other, ext-getD}
+use lib.ListN.{length, getD, length-append, List·getD-append}
+use lib.Seq.{getD-at, ext-getD}
 use borrow.Author.Tests.{le-leb, lt-leb}
+use Rattle.base.specs.Filled.{FilledFrom}
+use Rattle.base.proofs.Numbers.{nat-le-or-lt}
 use Rattle.definitions.specs.Bytes.{numAt}
 use Rattle.definitions.specs.Offset.{off}
 use Rattle.definitions.specs.ProblemRecord.{leftPlace, rightPlace, listOf}
-use Rattle.definitions.proofs.Whole.{nat-le-or-lt}
-use Rattle.records.proofs.Near.{zeros}
 use Rattle.problem_records.specs.Tables.{cell, leadAt}
-use Rattle.problem_records.specs.Filling.{rowCell, RowOf, Filled, Framed, Tabled}
+use Rattle.problem_records.specs.Filling.{rowCell, RowOf, Framed, Tabled}
 
 -- ---- elements
-
--- Nothing is filled yet.
-pub filled-none : {f : ℕ → ℕ} {base : ℕ} {l : List ℕ} → Filled f base 0 l l
-filled-none = record { same = refl; before = λ k h. refl; cells = λ j h. absurd (omega arith); after = λ k h. refl }
-
--- One more element is stored.
-pub filled-more : {f : ℕ → ℕ} {base j : ℕ} {old new : List ℕ} {x : ℕ} → Filled f base j old new → base + j < length old → x ≡ f j
-    → Filled f base (j + 1) old (set new (base + j) x)
-filled-more {f} {base} {j} {old} {new} {x} l h e =
-    record {
-      same = rw length-set (l .same);
-      before = λ k b. getD-set-other new (base + j) k x 0 (λ q. omega arith) ∙ l .before k b;
-      cells = λ i b. ⊎-elim (last i b) (earlier i) (nat-le-or-lt j i);
-      after = λ k b. getD-set-other new (base + j) k x 0 (λ q. omega arith) ∙ l .after k (omega arith);
-    }
-  where
-    last : (i : ℕ) → i < j + 1 → j ≤ i → getD (set new (base + j) x) (base + i) 0 ≡ f i
-    last i b q =
-        let p : i ≡ j = omega arith in
-        rw p (getD-set-same new (base + j) x 0 (omega (arith, l .same)) ∙ e)
-
-    earlier : (i : ℕ) → i < j → getD (set new (base + j) x) (base + i) 0 ≡ f i
-    earlier i b = getD-set-other new (base + j) (base + i) x 0 (λ q. omega arith) ∙ l .cells i b
-
--- All elements are stored.
-pub filled-end : {f : ℕ → ℕ} {base j count : ℕ} {old new : List ℕ} → Filled f base j old new → j ≤ count → count ≤ j → Filled f base count old new
-filled-end l h k = record { same = l .same; before = l .before; cells = λ i b. l .cells i (omega arith); after = λ i b. l .after i (omega arith) }
 
 -- A lead is read, and its offset number taken.
 pub lead-read : (s : List ℕ) {w x from place : ℕ} → w ≡ numAt 4 s from → x ≡ off w → from ≡ place → x ≡ leadAt s place
@@ -51,39 +24,16 @@ lead-read s e f g = rw (f, e, g)
 
 -- ---- rows
 
--- No lead of a row is read yet.
-pub row-none : {f : ℕ → ℕ} → RowOf f 0 (replicate 32 0)
-row-none = record { size = length-replicate {A = ℕ} 32 0; cells = λ j h. absurd (omega arith); rest = λ j h. zeros 32 j }
-
--- One lead more.
-pub row-more : {f : ℕ → ℕ} {j x : ℕ} {row : List ℕ} → RowOf f j row → j < 32 → x ≡ f j → RowOf f (j + 1) (set row j x)
-row-more {f} {j} {x} {row} r h e =
-    record {
-      size = length-set row j x ∙ r .size;
-      cells = λ i b. ⊎-elim (last i b) (earlier i) (nat-le-or-lt j i);
-      rest = λ i b. getD-set-other row j i x 0 (λ q. omega arith) ∙ r .rest i (omega arith);
-    }
-  where
-    last : (i : ℕ) → i < j + 1 → j ≤ i → getD (set row j x) i 0 ≡ f i
-    last i b q = let p : i ≡ j = omega arith in rw p (getD-set-same row j x 0 (omega (arith, r .size)) ∙ e)
-
-    earlier : (i : ℕ) → i < j → getD (set row j x) i 0 ≡ f i
-    earlier i b = getD-set-other row j i x 0 (λ q. omega arith) ∙ r .cells i b
-
--- All leads of a row.
-pub row-end : {f : ℕ → ℕ} {j count : ℕ} {row : List ℕ} → RowOf f j row → j ≤ count → count ≤ j → RowOf f count row
-row-end r h k = record { size = r .size; cells = λ i b. r .cells i (omega arith); rest = λ i b. r .rest i (omega arith) }
-
 -- A row is copied: its leads, then blanks.
 pub filled-row : (s : List ℕ) (at n : ℕ) {base : ℕ} {row old new : List ℕ} → RowOf (λ j. leadAt s (at + 4 * j)) (n + 1) row
-    → Filled (λ j. getD row j 0) base 32 old new → Filled (rowCell s at n) base 32 old new
+    → FilledFrom (λ j. getD row j 0) base 32 old new → FilledFrom (rowCell s at n) base 32 old new
 unfolding rowCell
 filled-row s at n {row = row} r l = record { same = l .same; before = l .before; cells = λ j b. l .cells j b ∙ cell-of j; after = l .after }
   where
     cell-of : (j : ℕ) → getD row j 0 ≡ rowCell s at n j
     cell-of j = ⊎-elim
         (λ (q : n + 1 ≤ j). r .rest j q ∙ rw (lt-leb j n (omega arith)))
-        (λ (q : j < n + 1). r .cells j q ∙ rw (le-leb j n (omega arith)))
+        (λ (q : j < n + 1). r .each j q ∙ rw (le-leb j n (omega arith)))
         (nat-le-or-lt (n + 1) j)
 
 -- Element 32 i + j of a table is element j of its row i.
@@ -104,7 +54,7 @@ pub row-ends : {s : List ℕ} {n m i at : ℕ} {left right : List ℕ} → Frame
 row-ends {n = n} {m} {i} f h e = omega (arith, f .holds, mul-le-mul-right {m = i + 1} {n = m + 1} (n + 1) (omega arith))
 
 -- What holds below 32 i, and in row i, holds below 32 (i + 1).
-rows-more : {f g : ℕ → ℕ} (i : ℕ) {old new : List ℕ} → ((k : ℕ) → k < 32 * i → getD old k 0 ≡ f k) → Filled g (32 * i) 32 old new
+rows-more : {f g : ℕ → ℕ} (i : ℕ) {old new : List ℕ} → ((k : ℕ) → k < 32 * i → getD old k 0 ≡ f k) → FilledFrom g (32 * i) 32 old new
     → ((j : ℕ) → j < 32 → f (32 * i + j) ≡ g j) → (k : ℕ) → k < 32 * (i + 1) → getD new k 0 ≡ f k
 rows-more {f} i {new = new} l r e k h = ⊎-elim in-row (λ (q : k < 32 * i). r .before k q ∙ l k q) (nat-le-or-lt (32 * i) k)
   where
@@ -119,7 +69,7 @@ tabled-none f = record { left-size = f .left-room; right-size = f .right-room; l
 
 -- One more row is read, into both tables.
 pub tabled-row : {s : List ℕ} {n m i at : ℕ} {left right left′ right′ : List ℕ} → Tabled s n m (32 * i) left right → i < m + 1 → at ≡ 10 + 8 * (i * (n + 1))
-    → Filled (rowCell s at n) (32 * i) 32 left left′ → Filled (rowCell s (at + 4 * (n + 1)) n) (32 * i) 32 right right′
+    → FilledFrom (rowCell s at n) (32 * i) 32 left left′ → FilledFrom (rowCell s (at + 4 * (n + 1)) n) (32 * i) 32 right right′
     → Tabled s n m (32 * (i + 1)) left′ right′
 tabled-row {s} {n} {m} {i} {at} t h e l r =
     record {
@@ -135,7 +85,7 @@ tabled-end t h =
     record { left-size = t .left-size; right-size = t .right-size; lefts = λ k q. t .lefts k (omega arith); rights = λ k q. t .rights k (omega arith) }
 
 -- What lies past the rows is blank.
-past-rows : {f : ℕ → ℕ} {used : ℕ} {old new : List ℕ} → ((k : ℕ) → k < used → getD old k 0 ≡ f k) → Filled (λ _. 0) used (2048 - used) old new
+past-rows : {f : ℕ → ℕ} {used : ℕ} {old new : List ℕ} → ((k : ℕ) → k < used → getD old k 0 ≡ f k) → FilledFrom (λ _. 0) used (2048 - used) old new
     → ((k : ℕ) → used ≤ k → f k ≡ 0) → (k : ℕ) → k < 2048 → getD new k 0 ≡ f k
 past-rows {f} {used} {old} {new} l r e k h = ⊎-elim past (λ (q : k < used). r .before k q ∙ l k q) (nat-le-or-lt used k)
   where
@@ -146,7 +96,7 @@ past-rows {f} {used} {old} {new} l r e k h = ⊎-elim past (λ (q : k < used). r
 
 -- Both tables are filled.
 pub tabled-past : {s : List ℕ} {n m : ℕ} {left right left′ right′ : List ℕ} → Tabled s n m (32 * (m + 1)) left right
-    → Filled (λ _. 0) (32 * (m + 1)) (2048 - 32 * (m + 1)) left left′ → Filled (λ _. 0) (32 * (m + 1)) (2048 - 32 * (m + 1)) right right′
+    → FilledFrom (λ _. 0) (32 * (m + 1)) (2048 - 32 * (m + 1)) left left′ → FilledFrom (λ _. 0) (32 * (m + 1)) (2048 - 32 * (m + 1)) right right′
     → Tabled s n m 2048 left′ right′
 tabled-past {s} {n} {m} t l r =
     record {

@@ -6,6 +6,7 @@ use mathlib.Core.Bool.{cond}
 use mathlib.Core.List.{List}
 use lib.Dec.{leb}
 use lib.ListN.{length, getD}
+use Rattle.base.specs.Filled.{Filled}
 use Rattle.definitions.specs.Limits.{highest-n, highest-m, most-questions, problem-header, signed-bytes}
 use Rattle.definitions.specs.ProblemRecord.{rowPlace, leftPlace, rightPlace, problemSize}
 use Rattle.problem_records.specs.Tables.{table-size, leadAt, cell}
@@ -18,18 +19,9 @@ pub record Framed (s : List ℕ) (n m : ℕ) (left right : List ℕ) : Type 0 wh
   pub left-room : length left ≡ table-size
   pub right-room : length right ≡ table-size
 
--- From `base` on, `count` elements are those of f; before and behind them everything is as it was.
-pub record Filled (f : ℕ → ℕ) (base count : ℕ) (old new : List ℕ) : Type 0 where
-  pub same : length new ≡ length old
-  pub before : (k : ℕ) → k < base → getD new k 0 ≡ getD old k 0
-  pub cells : (j : ℕ) → j < count → getD new (base + j) 0 ≡ f j
-  pub after : (k : ℕ) → base + count ≤ k → getD new k 0 ≡ getD old k 0
-
 -- A row of 32 by itself: f 0, …, f (count − 1), then 0.
-pub record RowOf (f : ℕ → ℕ) (count : ℕ) (row : List ℕ) : Type 0 where
-  pub size : length row ≡ 32
-  pub cells : (j : ℕ) → j < count → getD row j 0 ≡ f j
-  pub rest : (j : ℕ) → count ≤ j → getD row j 0 ≡ 0
+abbrev pub RowOf : (ℕ → ℕ) → ℕ → List ℕ → Type 0
+RowOf f count row = Filled (λ j v. v ≡ f j) 32 count row
 
 -- Element j of a row whose leads start at a place: n + 1 leads, then 0.
 unfoldable pub rowCell : List ℕ → ℕ → ℕ → ℕ → ℕ

@@ -3,12 +3,13 @@ ghost use mathlib.Core.Path.{_≡_};
 ghost use Prim.Native.Nat.{_+_, _*_, _-_, _<_, _≤_};
 ghost use mathlib.Core.Bool.{cond};
 ghost use lib.ListN.{length, getD};
+ghost use Rattle.base.specs.Filled.{FilledFrom};
 ghost use Rattle.definitions.specs.Limits.{lead-limit};
 ghost use Rattle.definitions.specs.Bytes.{tropField, blank-or-within};
 ghost use Rattle.definitions.specs.ProblemRecord.{leftPlace, problemOutcome};
 ghost use Rattle.records.specs.ProblemHeader.{headerOf};
 ghost use Rattle.problem_records.specs.Tables.{runFits, leadAt, ProblemRead};
-ghost use Rattle.problem_records.specs.Filling.{rowCell, RowOf, Filled, Framed, QuestionHeld, Tabled};
+ghost use Rattle.problem_records.specs.Filling.{rowCell, RowOf, Framed, QuestionHeld, Tabled};
 use records::bytes::word_in;
 use records::limits::LEAD_BYTES;
 use records::limits::LEAD_LIMIT;
@@ -109,7 +110,7 @@ fn leads_of(bytes: &[u8], at: usize, n: usize) -> [u32; STRIDE]
 // A row is copied into a table, from an element on.
 fn put_row(row: &[u32; STRIDE], table: &mut [u32], base: usize)
     requires { ⌜ (length (now row) ≡ 32) × (base + 32 ≤ length (now table)) ⌝ }
-    ensures { λ _. ⌜ Filled (λ j. getD (now (row .entry)) j 0) base 32 (now (table .entry)) (now (table .exit)) ⌝ }
+    ensures { λ _. ⌜ FilledFrom (λ j. getD (now (row .entry)) j 0) base 32 (now (table .entry)) (now (table .exit)) ⌝ }
 {
     for j in 0..STRIDE {
         table[base + j] = row[j];
@@ -119,7 +120,7 @@ fn put_row(row: &[u32; STRIDE], table: &mut [u32], base: usize)
 // `count` elements of a table from one on are set to 0, blank.
 fn clear(table: &mut [u32], base: usize, count: usize)
     requires { ⌜ base + count ≤ length (now table) ⌝ }
-    ensures { λ _. ⌜ Filled (λ _. 0) base count (now (table .entry)) (now (table .exit)) ⌝ }
+    ensures { λ _. ⌜ FilledFrom (λ _. 0) base count (now (table .entry)) (now (table .exit)) ⌝ }
 {
     for j in 0..count {
         table[base + j] = 0;
@@ -129,7 +130,7 @@ fn clear(table: &mut [u32], base: usize, count: usize)
 // A row of a table: n + 1 leads from a place of the bytes, then blanks.
 fn read_row(bytes: &[u8], at: usize, n: usize, table: &mut [u32], base: usize)
     requires { ⌜ (n ≤ 31) × (at + 4 * (n + 1) ≤ length (now bytes)) × (base + 32 ≤ length (now table)) ⌝ }
-    ensures { λ _. ⌜ Filled (rowCell (now (bytes .entry)) at n) base 32 (now (table .entry)) (now (table .exit)) ⌝ }
+    ensures { λ _. ⌜ FilledFrom (rowCell (now (bytes .entry)) at n) base 32 (now (table .entry)) (now (table .exit)) ⌝ }
 {
     let row = leads_of(bytes, at, n);
     put_row(&row, table, base);
@@ -173,7 +174,7 @@ pub fn read_question(
     right: &mut [u32; TABLE],
 )
     requires { ⌜ QuestionHeld (now bytes) n m q (now left) (now right) ⌝ }
-    ensures { λ _. ⌜ Filled (rowCell (now (bytes .entry)) (leftPlace n (m + q) 0) n) (32 * m) 32 (now (left .entry)) (now (left .exit)) × Filled (rowCell (now (bytes .entry)) (leftPlace n (m + q) 0 + 4 * (n + 1)) n) (32 * m) 32 (now (right .entry)) (now (right .exit)) ⌝ }
+    ensures { λ _. ⌜ FilledFrom (rowCell (now (bytes .entry)) (leftPlace n (m + q) 0) n) (32 * m) 32 (now (left .entry)) (now (left .exit)) × FilledFrom (rowCell (now (bytes .entry)) (leftPlace n (m + q) 0 + 4 * (n + 1)) n) (32 * m) 32 (now (right .entry)) (now (right .exit)) ⌝ }
 {
     let at = row_place(n, m + q);
     read_row(bytes, at, n, left, STRIDE * m);

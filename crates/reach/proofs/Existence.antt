@@ -6,7 +6,7 @@ use mathlib.Core.Logic.{_⊎_, inl, inr, ⊎-elim}
 use native.Mathlib.Omega.{arith}
 use native.Mathlib.Numerals.{add-one}
 use lib.ListN.{length, getD, set, replicate}
-use Rattle.definitions.proofs.Whole.{nat-le-or-lt}
+use Rattle.base.proofs.Numbers.{nat-le-or-lt}
 use Rattle.reach.specs.Marks.{Marked, Flags, Reached}
 use Rattle.reach.specs.Spreading.{markOf, RowMarked, Reaching, undone}
 use Rattle.reach.proofs.Marks.{zero-flags, row-none, row-more, row-flags, done-flags, done-fewer, reaching-start, reaching-row, reaching-done}

@@ -10,20 +10,16 @@ use native.Mathlib.Nat.{eq-zero-or-pos}
 use lib.Dec.{eqb}
 use lib.ListN.{length, getD, set, replicate, length-set, length-replicate}
 use lib.Seq.{getD-set-same, getD-set-other}
-use borrow.Author.Tests.{eqb-true, eqb-false, eq-eqb, ne-eqb}
+use borrow.Author.Tests.{eqb-false, eq-eqb, ne-eqb}
+use Rattle.base.proofs.Numbers.{nat-le-or-lt, same-or-not}
+use Rattle.base.proofs.Filled.{zeros}
 use Rattle.definitions.specs.Certificate.{Reachable, Anchor, start, onward}
-use Rattle.definitions.proofs.Whole.{nat-le-or-lt}
 use Rattle.duality.proofs.Height.{total-falls}
 use Rattle.duality.proofs.Reach.{reach-map}
 use Rattle.reach.specs.Marks.{Marked, Led, Begins, Flags, Anchored, Reached}
 use Rattle.reach.specs.Spreading.{markOf, RowMarked, Reaching, undone, Spreading}
 
 -- ---- the start
-
-pub zeros : (n j : ℕ) → _≡_ {A = ℕ} (getD (replicate n 0) j 0) 0
-zeros zero j = refl
-zeros (suc n) zero = refl
-zeros (suc n) (suc j) = zeros n j
 
 pub zero-flags : Flags (replicate 32 0)
 zero-flags = record { length-is = length-replicate {A = ℕ} 32 0; flag = λ k. omega (arith, zeros 32 k) }
@@ -75,13 +71,6 @@ mark-flag mark arc h = go (eqb arc 0)
     go false = omega arith
 
 -- ---- a row
-
-pub same-or-not : (a b : ℕ) → (a ≡ b) ⊎ (a ≡ b → ⊥)
-same-or-not a b = go (eqb a b) refl
-  where
-    go : (t : Bool) → eqb a b ≡ t → (a ≡ b) ⊎ (a ≡ b → ⊥)
-    go true e = inl (eqb-true a b e)
-    go false e = inr (eqb-false a b e)
 
 pub row-none : (arcs : List ℕ) (base : ℕ) (old : List ℕ) → RowMarked arcs base 0 old old
 row-none arcs base old = record { same = refl; cells = λ l h. absurd (omega arith); others = λ l h. refl }

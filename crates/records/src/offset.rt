@@ -3,9 +3,8 @@ use crate::limits::FULL;
 use crate::limits::OFFSET;
 use crate::limits::OFFSET_32;
 ghost use mathlib.Core.Path.{_≡_};
-ghost use mathlib.Core.Bool.{cond};
 ghost use Prim.Native.Nat.{_+_, _<_};
-ghost use lib.Dec.{leb};
+ghost use Rattle.base.specs.Numbers.{most};
 ghost use Rattle.definitions.specs.Limits.{signed-full};
 ghost use Rattle.definitions.specs.Bytes.{whole-within, blank-or-within};
 ghost use Rattle.definitions.specs.Offset.{tropOf, off};
@@ -35,7 +34,7 @@ pub fn offset_32(w: u32) -> u32
 // `plan_tests`.
 pub fn later(a: u32, b: u32) -> u32
     requires { ⌜ (a < signed-full) × (b < signed-full) ⌝ }
-    ensures { λ r. ⌜ (off r ≡ cond (leb (off a) (off b)) (off b) (off a)) × (r < signed-full) ⌝ }
+    ensures { λ r. ⌜ (off r ≡ most (off a) (off b)) × (r < signed-full) ⌝ }
 {
     if offset_32(a) <= offset_32(b) { b } else { a }
 }

@@ -12,6 +12,8 @@ use lib.ListN.{getD}
 use lib.IntN.{ℤ, pos, subℕ, negℤ, _+ℤ_}
 use lib.Signed.{_≤ℤ_, _<ℤ_}
 use borrow.Author.Tests.{eq-eqb, ne-eqb}
+use Rattle.base.specs.Decides.{Decides}
+use Rattle.base.proofs.Decides.{said-no}
 use Rattle.definitions.specs.Tropical.{Trop, fin}
 use Rattle.definitions.specs.Certificate.{Reachable, Anchor, Walk, stop, step, Cycle}
 use Rattle.definitions.proofs.Whole.{up, down, whole, subℕ-read, plus-read, neg-read}
@@ -21,7 +23,6 @@ use Rattle.duality.proofs.Cycles.{circuits-good}
 use Rattle.duality.proofs.Longest.{entries-end}
 use Rattle.duality.specs.Gains.{Entry}
 use Rattle.reach.specs.Marks.{Marked, Led, Begins, Anchored, Reached}
-use Rattle.closed_walks.specs.Decides.{Decides}
 use Rattle.closed_walks.specs.Gains.{arc-zero, weightOf, matrix, Tested}
 use Rattle.closed_walks.proofs.ClosedWalks.{weight-none, weight-some}
 
@@ -220,7 +221,7 @@ module _ {arcs : List ℕ} {N : ℕ} {Leads : ℕ → ℕ → Type 0} {A : ℕ �
   -- The first test alone, and both.
   pub certified-not : {c : Bool} → Decides ((j : ℕ) → j < N → Marked marks j → Counts j) c → c ≡ false
       → Decides (((j : ℕ) → Reachable Anchor Leads j → Counts j) × ((w : ℤ) → Cycle Anchor Leads A w → Good w)) false
-  certified-not counts c = Rattle.closed_walks.proofs.Decides.said-no (λ h. uncounted counts c (h .0))
+  certified-not counts c = said-no (λ h. uncounted counts c (h .0))
 
   pub certified-both : {c g : Bool} → Decides ((j : ℕ) → j < N → Marked marks j → Counts j) c → c ≡ true → Tested arcs marks N g
       → Decides (((j : ℕ) → Reachable Anchor Leads j → Counts j) × ((w : ℤ) → Cycle Anchor Leads A w → Good w)) g

@@ -9,17 +9,17 @@ use native.Mathlib.Nat.{eq-zero-or-pos}
 use lib.Dec.{eqb}
 use lib.ListN.{getD}
 use borrow.Author.Tests.{eqb-false, eqb-true, not-true, not-false}
-use Rattle.closed_walks.specs.Decides.{Decides}
+use Rattle.base.specs.Decides.{Decides}
+use Rattle.base.proofs.Numbers.{positive}
+use Rattle.base.proofs.Decides.{decides-as}
 use Rattle.strategy_tests.specs.Counts.{PickCounts, RowPickCounts, VariablesCount, PlacesCount, Idle, Stands}
 use Rattle.closed_walks.specs.Order.{Ordered}
-use Rattle.closed_walks.proofs.Lists.{above-zero}
 use Rattle.closed_walks.proofs.Order.{found}
-use Rattle.closed_walks.proofs.Decides.{decides-as}
 
 -- The test `x != 0`.
 pub nonzero-decides : (x : ℕ) → Decides (0 < x) (not (eqb x 0))
 nonzero-decides x = record {
-  yes = λ e. above-zero (eqb-false x 0 (not-true (eqb x 0) e));
+  yes = λ e. positive _ (eqb-false x 0 (not-true (eqb x 0) e));
   no = λ e h. let z : x ≡ 0 = eqb-true x 0 (not-false (eqb x 0) e) in omega arith;
 }
 
@@ -30,7 +30,7 @@ pick-none e c = omega (arith, c .picked)
 
 pub pick-decides : (left : List ℕ) {pick : ℕ} (j : ℕ) → (pick ≡ 0 → ⊥) → Decides (PickCounts left pick j) (not (eqb (getD left ((pick - 1) * 32 + j) 0) 0))
 pick-decides left {pick} j e = decides-as
-    (λ h. record { row = pick - 1; picked = omega (arith, above-zero e); some = h })
+    (λ h. record { row = pick - 1; picked = omega (arith, positive _ e); some = h })
     (λ c. let q : pick - 1 ≡ c .row = omega (arith, c .picked) in rw q (c .some))
     (nonzero-decides (getD left ((pick - 1) * 32 + j) 0))
 
@@ -50,7 +50,7 @@ row-none e c = omega (arith, c .picked)
 pub row-decides : (right : List ℕ) {pick : ℕ} (base : ℕ) → (pick ≡ 0 → ⊥)
     → Decides (RowPickCounts right pick base) (not (eqb (getD right (base + (pick - 1)) 0) 0))
 row-decides right {pick} base e = decides-as
-    (λ h. record { variable = pick - 1; picked = omega (arith, above-zero e); some = h })
+    (λ h. record { variable = pick - 1; picked = omega (arith, positive _ e); some = h })
     (λ c. let q : pick - 1 ≡ c .variable = omega (arith, c .picked) in rw q (c .some))
     (nonzero-decides (getD right (base + (pick - 1)) 0))
 

@@ -10,6 +10,9 @@ use lib.Dec.{eqb}
 use lib.ListN.{getD}
 use lib.IntN.{ℤ, subℕ, _+ℤ_, _-ℤ_}
 use borrow.Author.Tests.{eq-eqb, ne-eqb, eqb-true}
+use Rattle.base.specs.Decides.{Decides}
+use Rattle.base.proofs.Numbers.{most-one, most-left, most-right, below-or-last}
+use Rattle.base.proofs.Decides.{decides-as}
 use Rattle.definitions.specs.Limits.{signed-half, lead-limit, span-limit}
 use Rattle.definitions.specs.Tropical.{fin, Finite}
 use Rattle.definitions.specs.Offset.{tropOf}
@@ -21,13 +24,10 @@ use Rattle.definitions.proofs.Offset.{trop-read}
 use Rattle.duality.specs.Picks.{AtLeastZero}
 use Rattle.records.specs.Decoded.{Near}
 use Rattle.reach.specs.Marks.{Marked, Anchored, Reached}
-use Rattle.closed_walks.specs.Decides.{Decides}
 use Rattle.closed_walks.specs.Gains.{arc-zero, arc-most, weightOf, Table, Tested}
 use Rattle.closed_walks.specs.Tables.{Sized, Holds, Picked, Trial}
 use Rattle.closed_walks.specs.Arcs.{raisedBy, least-lead, fall, fallen, looseArc, rowArc, heaviest, RowArcs}
 use Rattle.strategy_tests.specs.Counts.{RowsCount}
-use Rattle.closed_walks.proofs.Decides.{decides-as}
-use Rattle.closed_walks.proofs.Lists.{most-one, most-left, most-right, below-or-last}
 use Rattle.closed_walks.proofs.ArcTables.{heaviest-more}
 use Rattle.closed_walks.proofs.ClosedWalks.{weight-some}
 use Rattle.strategy_tests.proofs.Certified.{weight-show, weight-read, loose, loose-read, loose-scale, Heavier, Behind, Shows, certified-not, certified-both}

@@ -11,6 +11,8 @@ use lib.ListN.{getD}
 use lib.IntN.{ℤ, pos, subℕ, _+ℤ_, _-ℤ_}
 use lib.Signed.{≤ℤ-refl}
 use borrow.Author.Tests.{eq-eqb, ne-eqb}
+use Rattle.base.specs.Decides.{Decides}
+use Rattle.base.proofs.Decides.{decides-as}
 use Rattle.definitions.specs.Limits.{signed-half, lead-limit, span-limit}
 use Rattle.definitions.specs.Tropical.{Trop, fin, Finite}
 use Rattle.definitions.specs.Offset.{tropOf}
@@ -21,12 +23,10 @@ use Rattle.definitions.proofs.Whole.{whole, plus-read, minus-read}
 use Rattle.definitions.proofs.Offset.{trop-fin, trop-read, trop-show}
 use Rattle.records.specs.Decoded.{Near}
 use Rattle.reach.specs.Marks.{Marked, Anchored, Reached}
-use Rattle.closed_walks.specs.Decides.{Decides}
 use Rattle.closed_walks.specs.Gains.{arc-zero, arc-most, weightOf, Table, Tested}
 use Rattle.closed_walks.specs.Tables.{Sized, Holds, Picked, Trial}
 use Rattle.closed_walks.specs.Arcs.{raisedBy, least-lead, lift, lifted, strictArc, variableArc, VariableArcs}
 use Rattle.strategy_tests.specs.Counts.{VariablesCount}
-use Rattle.closed_walks.proofs.Decides.{decides-as}
 use Rattle.strategy_tests.proofs.Certified.{weight-show, strict, strict-read, strict-scale, Behind, Shows, certified-not, certified-both}
 
 -- ---- coefficients

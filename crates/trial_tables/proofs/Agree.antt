@@ -6,10 +6,10 @@ use mathlib.Core.Logic.{_⊎_, ⊎-elim}
 use native.Mathlib.Omega.{arith}
 use lib.IntN.{ℤ, pos}
 use lib.Signed.{_<ℤ_}
+use Rattle.base.proofs.Numbers.{nat-le-or-lt}
 use Rattle.definitions.specs.Tropical.{Trop, fin, plus, largest, _⊑_, Finite}
 use Rattle.definitions.specs.Problem.{Point}
 use Rattle.definitions.specs.Certificate.{Strategy, Walk}
-use Rattle.definitions.proofs.Whole.{nat-le-or-lt}
 use Rattle.definitions.proofs.Tropical.{⊑-antisym, ⊑-of-eq, ⊑-trans, largest-ext}
 use Rattle.duality.specs.System.{System, sideOf, Solves, Arc}
 use Rattle.duality.specs.Values.{difference, weightBy, exitBy, weights, exits, values, Policy}

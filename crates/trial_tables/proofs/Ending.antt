@@ -5,7 +5,7 @@ use mathlib.Core.Logic.{⊎-elim}
 use mathlib.Core.List.{List}
 use native.Mathlib.Omega.{arith}
 use lib.ListN.{length, getD}
-use Rattle.definitions.proofs.Whole.{nat-le-or-lt}
+use Rattle.base.proofs.Numbers.{nat-le-or-lt}
 use Rattle.trials.specs.Ends.{RowEnds, EndsOf}
 use Rattle.trial_tables.specs.Frames.{shifted, Raised, Copied}
 

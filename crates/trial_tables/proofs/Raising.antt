@@ -12,12 +12,13 @@ use lib.ListN.{length, getD, set, length-set}
 use lib.Seq.{getD-set-same, getD-set-other}
 use lib.IntN.{ℤ, natAbs}
 use borrow.Author.Tests.{eq-eqb, ne-eqb}
+use Rattle.base.proofs.Numbers.{nat-le-or-lt}
 use Rattle.definitions.specs.Limits.{signed-half, lead-limit}
 use Rattle.definitions.specs.Tropical.{Trop, fin, plus}
 use Rattle.definitions.specs.Problem.{Problem}
 use Rattle.definitions.specs.Certificate.{raise}
 use Rattle.definitions.specs.Offset.{tropOf}
-use Rattle.definitions.proofs.Whole.{whole, nat-le-or-lt, subℕ-read}
+use Rattle.definitions.proofs.Whole.{whole, subℕ-read}
 use Rattle.definitions.proofs.Tropical.{plus-zero}
 use Rattle.definitions.proofs.Offset.{trop-zero, trop-fin, plus-trop, plus-trop-zero}
 use Rattle.definitions.proofs.Raise.{raised, unraised, raise-zero}

@@ -1,9 +1,7 @@
 -- The largest size of a problem's coefficients, and the trial that decides for them whether spans are bottomless.
 use Prim.Native.Nat.{ℕ, suc, _+_, _*_, _≤_, _<_}
 use mathlib.Core.Path.{_≡_}
-use mathlib.Core.Bool.{cond}
 use mathlib.Core.List.{List}
-use lib.Dec.{ltb}
 use lib.ListN.{getD}
 use Rattle.definitions.specs.Limits.{signed-half, highest-n, lead-limit}
 use Rattle.definitions.specs.Problem.{Problem}
@@ -11,10 +9,6 @@ use Rattle.duality.specs.Within.{Within}
 use Rattle.records.specs.Decoded.{Near}
 use Rattle.trial_tables.specs.declared.frame.Frame.{Frame}
 use Rattle.trial_tables.specs.Frames.{Holds}
-
--- The larger of two numbers.
-abbrev pub larger : ℕ → ℕ → ℕ
-larger a b = cond (ltb a b) b a
 
 -- How far a number lies from that of 0; 0 for blank.
 pub record SizeIs (k r : ℕ) : Type 0 where

@@ -8,13 +8,13 @@ use mathlib.Core.List.{List}
 use lib.Dec.{eqb}
 use lib.ListN.{length, getD}
 use lib.IntN.{ℤ, subℕ}
+use Rattle.base.specs.Filled.{Filled}
 use Rattle.definitions.specs.Limits.{signed-half, highest-n, highest-m, lead-limit, span-limit}
 use Rattle.definitions.specs.Tropical.{plus, fin}
 use Rattle.definitions.specs.Problem.{Problem}
 use Rattle.definitions.specs.Certificate.{raise}
 use Rattle.records.specs.Decoded.{Near}
 use Rattle.trials.specs.Tables.{entryOf, pointOf, Table, Tables}
-use Rattle.trials.specs.Filled.{Filled}
 use Rattle.trials.specs.Ends.{RowEnds, EndsOf}
 use Rattle.trial_tables.specs.declared.frame.Frame.{Frame}
 

@@ -7,9 +7,10 @@ ghost use Rattle.definitions.specs.Limits.{lead-limit};
 ghost use Rattle.records.specs.Decoded.{Near};
 ghost use Rattle.trials.specs.Ends.{RowEnds, EndsOf};
 ghost use Rattle.trial_tables.specs.Frames.{Ready, Reraised};
-ghost use Rattle.trial_tables.specs.Floor.{larger, SizeIs, RowNear, RowsNear, FloorFor};
+ghost use Rattle.trial_tables.specs.Floor.{SizeIs, RowNear, RowsNear, FloorFor};
 use crate::frame::Frame;
 use crate::frame::raise;
+use base::larger;
 use records::limits::OFFSET;
 use records::limits::OFFSET_32;
 use trials::ends::WIDE;
@@ -31,13 +32,6 @@ fn size(k: u32) -> u32
     }
 }
 
-// The larger of two.
-fn larger_of(a: u32, b: u32) -> u32
-    ensures { λ r. ⌜ r ≡ larger a b ⌝ }
-{
-    if a < b { b } else { a }
-}
-
 // The largest size in a row. All of its places are looked at.
 fn whole_row(table: &[u32; 2048], row: usize) -> u32
     requires { ⌜ (length (now table) ≡ 2048) × (row < 64) ⌝ }
@@ -47,7 +41,7 @@ fn whole_row(table: &[u32; 2048], row: usize) -> u32
     let mut most = 0;
     let mut l = 0;
     while l < 32 {
-        most = larger_of(most, size(table[base + l]));
+        most = larger(most, size(table[base + l]));
         l += 1;
     }
     most
@@ -59,7 +53,7 @@ fn row_at_ends(table: &[u32; 2048], row: usize, ends: u32) -> u32
     ensures { λ r. ⌜ RowNear (now (table .entry)) row 32 r ⌝ }
 {
     let base = row * 32;
-    larger_of(
+    larger(
         size(table[base + (ends / 32) as usize]),
         size(table[base + (ends % 32) as usize]),
     )
@@ -84,7 +78,7 @@ fn largest(table: &[u32; 2048], ends: &[u32; 64], rows: usize) -> u32
     let mut most = 0;
     let mut i = 0;
     while i < rows {
-        most = larger_of(most, row_size(table, i, ends[i]));
+        most = larger(most, row_size(table, i, ends[i]));
         i += 1;
     }
     most
@@ -100,6 +94,6 @@ pub fn floor_of(left: &[u32; 2048], right: &mut [u32; 2048], frame: Frame) -> u6
     let lefts = frame.lefts;
     let rights = frame.rights;
     raise(right, &objective, frame.m, OFFSET);
-    let most = larger_of(largest(left, &lefts, rows), largest(right, &rights, rows));
+    let most = larger(largest(left, &lefts, rows), largest(right, &rights, rows));
     OFFSET - A_WALK * most as u64 - 1
 }

@@ -8,8 +8,8 @@ use native.Mathlib.Nat.{eq-zero-or-pos}
 use lib.ListN.{length, getD, length-map}
 use lib.Seq.{ext-getD}
 use borrow.Author.Tests.{ne-eqb}
+use Rattle.base.specs.Filled.{Filled}
 use Rattle.trials.specs.Tables.{low-half, high, highs}
-use Rattle.trials.specs.Filled.{Filled}
 
 -- ---- one number
 

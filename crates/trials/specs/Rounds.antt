@@ -1,11 +1,12 @@
 -- What the rounds that find the values of a strategy make.
-use Prim.Native.Nat.{ℕ, zero, suc, _+_, _*_, _-_, _≤_, _<_}
+use Prim.Native.Nat.{ℕ, _+_, _*_, _-_, _≤_, _<_}
 use mathlib.Core.Path.{_≡_}
 use mathlib.Core.Bool.{cond}
 use mathlib.Core.List.{List}
-use lib.Dec.{ltb, leb}
+use lib.Dec.{ltb}
 use lib.ListN.{getD}
 use lib.IntN.{pos}
+use Rattle.base.specs.Filled.{Filled}
 use Rattle.definitions.specs.Limits.{signed-half}
 use Rattle.definitions.specs.Tropical.{Trop, fin, plus, largest}
 use Rattle.definitions.specs.Problem.{Point}
@@ -14,15 +15,6 @@ use Rattle.definitions.specs.Offset.{tropOf}
 use Rattle.duality.specs.System.{System, sideOf}
 use Rattle.duality.specs.Values.{difference, exits, valuesAfter, values}
 use Rattle.trials.specs.Tables.{entryOf, pointOf, low-half, high, highs, low-fold, side-most, side-least}
-use Rattle.trials.specs.Filled.{Filled}
-
--- The larger of two numbers, and the largest of f 0, …, f (k − 1).
-abbrev pub upper : ℕ → ℕ → ℕ
-upper a b = cond (leb a b) b a
-
-unfoldable pub uppermost : (ℕ → ℕ) → ℕ → ℕ
-uppermost f zero = 0
-uppermost f (suc k) = upper (uppermost f k) (f k)
 
 -- A sum of a coefficient and a value as a value: blank where one of them was, which is where the sum is below the limit.
 unfoldable pub foldedAt : ℕ → ℕ → ℕ

@@ -10,8 +10,9 @@ ghost use Rattle.definitions.specs.Offset.{tropOf};
 ghost use Rattle.duality.specs.Values.{difference, exitBy};
 ghost use Rattle.trials.specs.Tables.{systemOf, pointOf, pickOf, raised-limit, fold-limit, fold-least, side-most, side-least, high, highs, Table, Lows, Tables};
 ghost use Rattle.trials.specs.Ends.{RowEnds, EndsOf};
-ghost use Rattle.trials.specs.Rounds.{upper, folded, SideIs, PickedSum, PickedLeft, PickedSums, PickedLefts, Stepped, Exits, ValuesIs, SameUpTo};
+ghost use Rattle.trials.specs.Rounds.{folded, SideIs, PickedSum, PickedLeft, PickedSums, PickedLefts, Stepped, Exits, ValuesIs, SameUpTo};
 use crate::ends::WIDE;
+use base::larger;
 use records::limits::OFFSET;
 use records::offset::later;
 use records::offset::offset_32;
@@ -24,13 +25,6 @@ pub const HALF: u32 = 2147483648;
 
 // A coefficient plus a low value is at least this if both are whole, and below it if one is blank.
 const FOLD: u32 = 2684354560;
-
-// The larger of two.
-fn larger(a: u32, b: u32) -> u32
-    ensures { λ r. ⌜ r ≡ upper a b ⌝ }
-{
-    if a <= b { b } else { a }
-}
 
 // A coefficient plus a value. Public for `guesses::guess`, `pick_tables::tables`.
 pub fn plus(a: u32, b: u64) -> u64

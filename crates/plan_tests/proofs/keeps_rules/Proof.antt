@@ -1,6 +1,6 @@
 use borrow.Author.Needs.{needs}
+use Rattle.base.proofs.Decides.{said-yes, said-no}
 use Rattle.plan_tests.proofs.Sides.{row-small, left-sized, right-sized, row-kept}
-use Rattle.closed_walks.proofs.Decides.{said-yes, said-no}
 use Rattle.closed_walks.specs.Tables.{stampsPoint}
 use Rattle.definitions.specs.Problem.{Keeps}
 use Rattle.definitions.specs.ProblemRecord.{leftPlace, problemOf}

@@ -1,5 +1,5 @@
 use borrow.Author.Needs.{needs}
-use Rattle.plan_tests.proofs.Sides.{low-none, low-more}
+use Rattle.base.proofs.Filled.{filled-none, filled-more}
 use Rattle.plan_tests.specs.Sides.{Lowered}
 use mathlib.Core.Path.{_≡_}
 use native.Mathlib.Omega.{arith}
@@ -19,7 +19,7 @@ lower-point-spec =
     (tie.spec
     Inv-loop
     μ-loop
-    (λ c. (omega arith, omega arith, low-none _))
+    (λ c. (omega arith, omega arith, filled-none 32))
     (λ c. search needs)
     (λ c. search needs)
     (λ c κs. c .before .before .before .pre .0 .near (c .before .before .loop .l))
@@ -27,5 +27,5 @@ lower-point-spec =
     (λ c. search needs)
     (λ c. search needs)
     (λ c. omega arith)
-    (λ c. (omega arith, omega arith, low-more (c .before .before .before .loop .inv .2) (omega arith) (c .lower .ensures)))
+    (λ c. (omega arith, omega arith, filled-more (c .before .before .before .loop .inv .2) (omega arith) (c .lower .ensures)))
     (λ c. let e : c .before .loop .l ≡ c .before .before .args .width = omega arith in rw e at (c .before .loop .inv .2)))

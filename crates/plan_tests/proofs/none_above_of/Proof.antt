@@ -2,7 +2,7 @@ use Prim.Native.Nat.{_+_, _*_, _-_, _≤_}
 use mathlib.Core.Path.{_≡_}
 use native.Mathlib.Omega.{arith}
 use borrow.Author.Needs.{needs}
-use Rattle.closed_walks.specs.Decides.{Decides}
+use Rattle.base.specs.Decides.{Decides}
 use Rattle.plan_tests.specs.Sides.{run, bestSum}
 use Rattle.plan_tests.proofs.Sides.{under-none, under-more, sum-fits, sum-at}
 use Rattle.plan_tests.proofs.none_above_of.Statement.{statement}

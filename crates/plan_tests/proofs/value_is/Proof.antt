@@ -1,7 +1,7 @@
 use borrow.Author.Needs.{needs}
+use Rattle.base.proofs.Decides.{said-no}
 use Rattle.definitions.specs.Limits.{signed-half}
 use Rattle.plan_tests.proofs.Sides.{left-sized, right-sized, first-blank, second-blank, value-read, side-small}
-use Rattle.closed_walks.proofs.Decides.{said-no}
 use borrow.Author.Tests.{eqb-true, eqb-false}
 use mathlib.Core.Path.{refl, sym, _∙_}
 use native.Mathlib.Omega.{arith}

@@ -1,6 +1,6 @@
 use Prim.Native.Nat.{_≤_, _-_}
 use native.Mathlib.Omega.{arith}
-use Rattle.trials.proofs.Filled.{filled-none, filled-more, filled-end}
+use Rattle.base.proofs.Filled.{filled-none, filled-more, filled-end}
 use Rattle.class_answers.specs.Answered.{Stamps}
 use borrow.Author.Needs.{needs}
 use Rattle.class_answers.proofs.answer.stamps.Statement.{statement}

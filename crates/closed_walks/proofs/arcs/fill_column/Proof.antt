@@ -1,6 +1,6 @@
 use borrow.Author.Needs.{needs}
+use Rattle.base.specs.Numbers.{most}
 use Rattle.closed_walks.proofs.ArcTables.{column-none, column-more}
-use Rattle.closed_walks.specs.Lists.{most}
 use Rattle.closed_walks.specs.Arcs.{Column, fallen}
 use lib.ListN.{length, getD, length-set}
 use mathlib.Core.Path.{_≡_, ap, _∙_}

@@ -1,5 +1,5 @@
 use borrow.Author.Needs.{needs}
-use Rattle.closed_walks.proofs.Lists.{filled-count}
+use Rattle.base.proofs.Filled.{run-end}
 use native.Mathlib.Omega.{arith}
 use Rattle.closed_walks.proofs.arcs.fill_lifted.Statement.{statement}
 use Rattle.closed_walks.proofs.arcs.fill_lifted.Tie as tie
@@ -10,6 +10,6 @@ fill-lifted-spec =
     (tie.spec
     (λ c κs. let start = c .before .before .before in
     (omega arith, omega (arith, c .before .if1 .taken), omega (arith, c .before .if1 .taken), omega arith, λ l h. start .pre .4 l (omega (arith, c .before .if1 .taken))))
-    (λ c. filled-count (omega (arith, c .before .before .if1 .taken)) (c .fill-run .ensures))
+    (λ c. run-end (c .fill-run .ensures) (omega (arith, c .before .before .if1 .taken)) (omega (arith, c .before .before .if1 .taken)))
     (λ c κs. search needs)
     (λ c. search needs))

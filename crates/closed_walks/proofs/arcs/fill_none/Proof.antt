@@ -1,7 +1,7 @@
 use borrow.Author.Needs.{needs}
 use lib.ListN.{length, length-set}
-use Rattle.closed_walks.proofs.Lists.{filled-none, filled-more}
-use Rattle.closed_walks.specs.Lists.{Filled}
+use Rattle.base.specs.Filled.{FilledFrom}
+use Rattle.base.proofs.Filled.{run-none, run-more}
 use lib.ListN.{length}
 use mathlib.Core.Path.{_≡_, refl}
 use native.Mathlib.Omega.{arith}
@@ -10,7 +10,7 @@ use Rattle.closed_walks.proofs.arcs.fill_none.Statement.{statement}
 use Rattle.closed_walks.proofs.arcs.fill_none.Tie as tie
 
 abbrev Inv-loop : tie.InvT-loop
-Inv-loop arcs₀ from width l₀ arcs l = (l ≤ width) × (length arcs ≡ length arcs₀) × Filled (λ _. 0) from l arcs₀ arcs
+Inv-loop arcs₀ from width l₀ arcs l = (l ≤ width) × (length arcs ≡ length arcs₀) × FilledFrom (λ _. 0) from l arcs₀ arcs
 
 abbrev μ-loop : tie.MeasureT-loop
 μ-loop arcs₀ from width l₀ arcs l = width - l
@@ -21,11 +21,11 @@ fill-none-spec =
     (tie.spec
     Inv-loop
     μ-loop
-    (λ c. (omega arith, refl, filled-none _ _ _))
+    (λ c. (omega arith, refl, run-none _ _ _))
     (λ c. search needs)
     (λ c. search needs)
     (λ c. search needs)
     (λ c. search needs)
     (λ c. search needs)
-    (λ c. (omega arith, simp length-set (omega arith), filled-more (c .before .loop .inv .2) (omega arith) refl))
+    (λ c. (omega arith, simp length-set (omega arith), run-more (c .before .loop .inv .2) (omega arith) refl))
     (λ c. let e : c .before .loop .l ≡ c .before .before .args .width = omega arith in rw e at (c .before .loop .inv .2)))

@@ -1,10 +1,10 @@
 use borrow.Author.Needs.{needs}
 use lib.ListN.{length, length-set}
+use Rattle.base.specs.Filled.{FilledFrom}
+use Rattle.base.proofs.Filled.{run-none, run-more}
 use Rattle.records.specs.Decoded.{Near}
 use Rattle.problem_records.specs.Tables.{leadAt}
-use Rattle.closed_walks.proofs.Lists.{filled-none, filled-more}
 use Rattle.closed_walks.specs.Arcs.{lifted}
-use Rattle.closed_walks.specs.Lists.{Filled}
 use mathlib.Core.Path.{_≡_, refl, ap, _∙_}
 use mathlib.Core.List.{List}
 use native.Mathlib.Omega.{arith}
@@ -18,7 +18,7 @@ lead-at s e f h = rw (e, f) h
 
 abbrev Inv-loop : tie.InvT-loop
 Inv-loop arcs₀ from bytes at width up place₀ l₀ arcs place l =
-    (l ≤ width) × (place ≡ at + 4 * l) × (length arcs ≡ length arcs₀) × Filled (λ i. lifted up (leadAt bytes (at + 4 * i))) from l arcs₀ arcs
+    (l ≤ width) × (place ≡ at + 4 * l) × (length arcs ≡ length arcs₀) × FilledFrom (λ i. lifted up (leadAt bytes (at + 4 * i))) from l arcs₀ arcs
 
 abbrev μ-loop : tie.MeasureT-loop
 μ-loop arcs₀ from bytes at width up place₀ l₀ arcs place l = width - l
@@ -29,7 +29,7 @@ fill-run-spec =
     (tie.spec
     Inv-loop
     μ-loop
-    (λ c. (omega arith, omega arith, refl, filled-none _ _ _))
+    (λ c. (omega arith, omega arith, refl, run-none _ _ _))
     (λ c κs. search needs)
     (λ c κs. let start = c .before .before .before .before in
     let turn = c .before .before in
@@ -44,6 +44,6 @@ fill-run-spec =
       omega arith,
       omega arith,
       simp length-set (omega arith),
-      filled-more (turn .loop .inv .3) (omega arith) (c .lifted-by .ensures ∙ ap (lifted _) (rw (turn .loop .inv .1) at (c .before .lead-in .ensures .0))),
+      run-more (turn .loop .inv .3) (omega arith) (c .lifted-by .ensures ∙ ap (lifted _) (rw (turn .loop .inv .1) at (c .before .lead-in .ensures .0))),
     ))
     (λ c. let e : c .before .loop .l ≡ c .before .before .before .args .width = omega arith in rw e at (c .before .loop .inv .3)))

@@ -1,5 +1,5 @@
 use borrow.Author.Needs.{needs}
-use Rattle.closed_walks.proofs.Decides.{said-yes, said-no}
+use Rattle.base.proofs.Decides.{said-yes, said-no}
 use Rattle.closed_walks.specs.GainRound.{Small}
 use borrow.Author.Count.{below-more}
 use native.Mathlib.Omega.{arith}

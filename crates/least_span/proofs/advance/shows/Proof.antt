@@ -1,7 +1,7 @@
+use Rattle.base.proofs.Numbers.{positive}
 use Rattle.least_span.proofs.Moves.{shown-point}
 use Rattle.guesses.proofs.Stamping.{stamped-lows}
 use Rattle.trial_tables.proofs.Raising.{raised-ready, raised-ends, raised-reraised, reraised-refl}
-use Rattle.trials.proofs.Filled.{positive}
 use native.Mathlib.Omega.{arith}
 use Prim.Native.Nat.{ℕ}
 use mathlib.Core.Path.{_≡_}

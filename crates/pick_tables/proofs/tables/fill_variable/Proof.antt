@@ -1,8 +1,8 @@
 use borrow.Author.Needs.{needs}
 use Prim.Native.Nat.{_+_, _*_, _-_, _≤_}
 use native.Mathlib.Omega.{arith}
+use Rattle.base.proofs.Filled.{filled-end}
 use Rattle.pick_tables.specs.Shown.{VariableArcs}
-use Rattle.trials.proofs.Filled.{filled-end}
 use Rattle.pick_tables.proofs.Shown.{arcs-more}
 use Rattle.pick_tables.proofs.tables.fill_variable.Statement.{statement}
 use Rattle.pick_tables.proofs.tables.fill_variable.Tie as tie

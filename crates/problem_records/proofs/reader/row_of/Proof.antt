@@ -1,9 +1,9 @@
 use Prim.Native.Nat.{_+_, _*_, _-_, _≤_}
 use mathlib.Core.Path.{_≡_}
 use native.Mathlib.Omega.{arith}
+use Rattle.base.proofs.Filled.{filled-none, filled-more, filled-end}
 use Rattle.problem_records.specs.Tables.{leadAt}
 use Rattle.problem_records.specs.Filling.{RowOf}
-use Rattle.problem_records.proofs.Tables.{row-none, row-more, row-end}
 use borrow.Author.Needs.{needs}
 use Rattle.problem_records.proofs.reader.row_of.Statement.{statement}
 use Rattle.problem_records.proofs.reader.row_of.Tie as tie
@@ -20,7 +20,7 @@ row-of-spec =
     (tie.spec
     Inv-loop
     μ-loop
-    (λ c. (omega arith, omega arith, row-none))
+    (λ c. (omega arith, omega arith, filled-none 32))
     (λ c κs. search needs)
     (λ c. search needs)
     (λ c. search needs)
@@ -31,6 +31,6 @@ row-of-spec =
     let turn = c .before .before .loop in (
       omega arith,
       omega arith,
-      row-more (turn .inv .2) (omega arith) (rw (turn .inv .1) at (c .lead-in .ensures .0)),
+      filled-more (turn .inv .2) (omega arith) (rw (turn .inv .1) at (c .lead-in .ensures .0)),
     ))
-    (λ c. search row-end))
+    (λ c. search filled-end))

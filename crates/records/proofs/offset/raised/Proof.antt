@@ -3,9 +3,9 @@ use mathlib.Core.Path.{_≡_}
 use mathlib.Core.Logic.{⊎-elim}
 use native.Mathlib.Omega.{arith}
 use borrow.Author.Needs.{needs}
+use Rattle.base.proofs.Numbers.{nat-le-or-lt}
 use Rattle.definitions.specs.Limits.{signed-half, signed-full}
 use Rattle.definitions.specs.Offset.{off}
-use Rattle.definitions.proofs.Whole.{nat-le-or-lt}
 use Rattle.records.proofs.offset.raised.Statement.{statement}
 use Rattle.records.proofs.offset.raised.Tie as tie
 

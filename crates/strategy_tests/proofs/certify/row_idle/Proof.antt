@@ -1,8 +1,8 @@
 use borrow.Author.Needs.{needs}
+use Rattle.base.proofs.Numbers.{positive}
+use Rattle.base.proofs.Decides.{said-yes, said-no}
 use Rattle.strategy_tests.specs.Counts.{Idle}
 use mathlib.Core.Logic.{⊎-elim}
-use Rattle.closed_walks.proofs.Lists.{above-zero}
-use Rattle.closed_walks.proofs.Decides.{said-yes, said-no}
 use borrow.Author.Count.{below-more}
 use native.Mathlib.Omega.{arith}
 use Prim.Native.Nat.{_-_, _≤_}
@@ -26,7 +26,7 @@ row-idle-spec =
     (λ c. search needs)
     (λ c. search needs)
     (λ c. search needs)
-    (λ c. said-no (λ h. c .if2 .taken (h (c .before .before .before .before .before .loop .j) (c .before .before .before .before .loop-test .taken) (above-zero (c .before .before .if1 .taken)))))
+    (λ c. said-no (λ h. c .if2 .taken (h (c .before .before .before .before .before .loop .j) (c .before .before .before .before .loop-test .taken) (positive _ (c .before .before .if1 .taken)))))
     (λ c. search needs)
     (λ c. omega arith)
     (λ c. (omega arith, below-more _ _ (c .before .before .before .loop .inv .1) (λ m. ⊎-elim (λ w. w .2 .left) (λ w. absurd (omega arith)) (c .if1 .came))))

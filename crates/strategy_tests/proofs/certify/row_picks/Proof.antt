@@ -1,6 +1,6 @@
 use borrow.Author.Needs.{needs}
+use Rattle.base.proofs.Decides.{said-no}
 use Rattle.strategy_tests.proofs.Counting.{row-none, row-decides}
-use Rattle.closed_walks.proofs.Decides.{said-no}
 use Rattle.strategy_tests.proofs.certify.row_picks.Statement.{statement}
 use Rattle.strategy_tests.proofs.certify.row_picks.Tie as tie
 

@@ -1,6 +1,6 @@
 use borrow.Author.Needs.{needs}
+use Rattle.base.proofs.Decides.{said-yes}
 use Rattle.strategy_tests.proofs.Counting.{idle-stands, used-stands}
-use Rattle.closed_walks.proofs.Decides.{said-yes}
 use Rattle.strategy_tests.proofs.certify.row_stands.Statement.{statement}
 use Rattle.strategy_tests.proofs.certify.row_stands.Tie as tie
 

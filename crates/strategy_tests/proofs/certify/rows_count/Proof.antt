@@ -1,6 +1,6 @@
 use borrow.Author.Needs.{needs}
+use Rattle.base.proofs.Decides.{said-yes, said-no}
 use Rattle.strategy_tests.specs.Counts.{RowsCount}
-use Rattle.closed_walks.proofs.Decides.{said-yes, said-no}
 use borrow.Author.Tests.{not-true, not-false}
 use borrow.Author.Count.{below-more}
 use native.Mathlib.Omega.{arith}

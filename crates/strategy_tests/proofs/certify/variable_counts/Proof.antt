@@ -1,7 +1,7 @@
 use borrow.Author.Needs.{needs}
+use Rattle.base.proofs.Decides.{said-no}
 use Rattle.problem_records.proofs.LeadTables.{row-inside, left-lead-at}
 use Rattle.strategy_tests.proofs.Counting.{pick-none, pick-decides}
-use Rattle.closed_walks.proofs.Decides.{said-no}
 use native.Mathlib.Omega.{arith}
 use Prim.Native.Nat.{_-_}
 use Rattle.strategy_tests.proofs.certify.variable_counts.Statement.{statement}

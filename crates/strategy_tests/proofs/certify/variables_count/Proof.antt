@@ -1,7 +1,7 @@
 use borrow.Author.Needs.{needs}
+use Rattle.base.proofs.Decides.{said-yes, said-no}
 use Rattle.problem_records.specs.Tables.{leftTable}
 use Rattle.strategy_tests.specs.Counts.{PlacesCount}
-use Rattle.closed_walks.proofs.Decides.{said-yes, said-no}
 use borrow.Author.Tests.{not-true, not-false}
 use borrow.Author.Count.{below-more}
 use native.Mathlib.Omega.{arith}

@@ -1,4 +1,4 @@
-use Rattle.trial_tables.proofs.Floors.{most-least, floor-for}
+use Rattle.trial_tables.proofs.Floors.{top-least, floor-for}
 use Rattle.trial_tables.proofs.Raising.{raised-ends, raised-reraised}
 use Rattle.trial_tables.specs.Frames.{zero-offset}
 use native.Mathlib.Omega.{arith}
@@ -18,7 +18,7 @@ floor-of-spec =
     (λ c κs. search needs)
     (λ c. search needs)
     (λ c. search needs)
-    (λ c. omega (arith, most-least (c .before .before .before .before .before .before .before .before .before .before .before .before .before .pre) (c .before .before .before .before .before .before .raise .ensures) (c .before .before .before .before .largest .ensures) (c .before .largest2 .ensures) (c .larger-of .ensures)))
-    (λ c. omega (arith, most-least (c .before .before .before .before .before .before .before .before .before .before .before .before .before .pre) (c .before .before .before .before .before .before .raise .ensures) (c .before .before .before .before .largest .ensures) (c .before .largest2 .ensures) (c .larger-of .ensures)))
+    (λ c. omega (arith, top-least (c .before .before .before .before .before .before .before .before .before .before .before .before .before .pre) (c .before .before .before .before .before .before .raise .ensures) (c .before .before .before .before .largest .ensures) (c .before .largest2 .ensures) (c .larger .ensures)))
+    (λ c. omega (arith, top-least (c .before .before .before .before .before .before .before .before .before .before .before .before .before .pre) (c .before .before .before .before .before .before .raise .ensures) (c .before .before .before .before .largest .ensures) (c .before .largest2 .ensures) (c .larger .ensures)))
     (λ c. let start = c .before .before .before .before .before .before .before .before .before .before .before .before .before in let a = start .args in let r = c .before .before .before .before .before .before .raise in
-    (floor-for (start .pre) (r .ensures) (c .before .before .before .before .largest .ensures) (c .before .largest2 .ensures) (c .larger-of .ensures), raised-reraised (a .frame) zero-offset (a .left .now) (a .right .now) (r .last .0) (start .pre) (record { lowest = omega arith; highest = omega arith }) (r .ensures))))
+    (floor-for (start .pre) (r .ensures) (c .before .before .before .before .largest .ensures) (c .before .largest2 .ensures) (c .larger .ensures), raised-reraised (a .frame) zero-offset (a .left .now) (a .right .now) (r .last .0) (start .pre) (record { lowest = omega arith; highest = omega arith }) (r .ensures))))

@@ -1,4 +1,4 @@
-use Rattle.trials.proofs.Filled.{positive}
+use Rattle.base.proofs.Numbers.{positive}
 use Rattle.trial_tables.proofs.Floors.{size-blank, size-below, size-above}
 use borrow.Author.Needs.{needs}
 use Rattle.trial_tables.proofs.floor.size.Statement.{statement}

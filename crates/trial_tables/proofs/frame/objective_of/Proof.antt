@@ -1,6 +1,6 @@
 use Prim.Native.Nat.{_≤_, _-_}
 use native.Mathlib.Omega.{arith}
-use Rattle.trials.proofs.Filled.{filled-none, filled-more, filled-end}
+use Rattle.base.proofs.Filled.{filled-none, filled-more, filled-end}
 use mathlib.Core.Path.{refl}
 use Rattle.trial_tables.specs.Frames.{Copied}
 use borrow.Author.Needs.{needs}

@@ -1,5 +1,5 @@
 use native.Mathlib.Omega.{arith}
-use Rattle.trials.proofs.Filled.{positive}
+use Rattle.base.proofs.Numbers.{positive}
 use Rattle.trial_tables.proofs.Raising.{shifted-blank, shifted-whole}
 use borrow.Author.Needs.{needs}
 use Rattle.trial_tables.proofs.frame.shift.Statement.{statement}

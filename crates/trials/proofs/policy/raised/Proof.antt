@@ -1,5 +1,5 @@
+use Rattle.base.proofs.Numbers.{positive}
 use Rattle.trials.proofs.Low.{high-zero, high-whole}
-use Rattle.trials.proofs.Filled.{positive}
 use mathlib.Core.Path.{sym}
 use borrow.Author.Needs.{needs}
 use Rattle.trials.proofs.policy.raised.Statement.{statement}

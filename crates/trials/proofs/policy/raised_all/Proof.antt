@@ -2,9 +2,9 @@ use Prim.Native.Nat.{_≤_, _-_}
 use mathlib.Core.Path.{_≡_}
 use native.Mathlib.Omega.{arith}
 use lib.ListN.{getD}
+use Rattle.base.specs.Filled.{Filled}
+use Rattle.base.proofs.Filled.{filled-none, filled-more, filled-end}
 use Rattle.trials.specs.Tables.{high}
-use Rattle.trials.specs.Filled.{Filled}
-use Rattle.trials.proofs.Filled.{filled-none, filled-more, filled-end}
 use Rattle.trials.proofs.Low.{is-highs}
 use borrow.Author.Needs.{needs}
 use Rattle.trials.proofs.policy.raised_all.Statement.{statement}

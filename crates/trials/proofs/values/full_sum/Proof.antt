@@ -1,10 +1,12 @@
 use Prim.Native.Nat.{_≤_, _<_, _-_}
 use mathlib.Core.Path.{_≡_, _∙_}
 use native.Mathlib.Omega.{arith}
+use Rattle.base.specs.Numbers.{uppermost}
+use Rattle.base.proofs.Numbers.{uppermost-none}
 use Rattle.definitions.specs.Limits.{signed-full}
 use Rattle.definitions.specs.Offset.{off}
-use Rattle.trials.specs.Rounds.{uppermost, sums}
-use Rattle.trials.proofs.Fold.{uppermost-none, uppermost-field, field-back, low-fits, sum-most, side-end}
+use Rattle.trials.specs.Rounds.{sums}
+use Rattle.trials.proofs.Fold.{uppermost-field, field-back, low-fits, sum-most, side-end}
 use borrow.Author.Needs.{needs}
 use Rattle.trials.proofs.values.full_sum.Statement.{statement}
 use Rattle.trials.proofs.values.full_sum.Tie as tie

@@ -1,7 +1,7 @@
 -- Laws of tests: a result that is known, one that another test gives, and all of several.
 use mathlib.Core.Path.{sym}
 use mathlib.Core.Bool.{Bool, true, false, false≢true}
-use Rattle.closed_walks.specs.Decides.{Decides}
+use Rattle.base.specs.Decides.{Decides}
 
 -- What holds is answered by yes,
 pub said-yes : {P : Type 0} → P → Decides P true
