@@ -11,7 +11,7 @@ use Rattle.definitions.specs.Limits.{highest-n, highest-m, length-bytes, signed
 use Rattle.definitions.specs.Bytes.{Bytes, numAt, tropField, tropAt, or-else}
 use Rattle.definitions.specs.Offset.{tropOf, off}
 use Rattle.definitions.specs.ProblemRecord.{lengthField, kindField, nField}
-use Rattle.definitions.specs.AnswerRecord.{Answer, known-class, answerSize, spanFits, stampsFit, picksFit, highestPick, formRefusal, stampCount, pickCount, classField, answerOf, spanField, answerHeaderRefusal, answerHeaderOutcome, answerRefusal, answerOutcome}
+use Rattle.definitions.specs.AnswerRecord.{Answer, known-class, answerSize, spanFits, stampsFit, picksFit, highestPick, formRefusal, stampCount, pickCount, classField, answerOf, spanField, answerHeaderRefusal, answerHeaderJudged, answerHeaderOutcome, answerRefusal, answerOutcome}
 use Rattle.definitions.proofs.Bytes.{numAt-bound, Below, numsAt-below}
 use Rattle.definitions.proofs.Offset.{trop-off}
 use Rattle.definitions.proofs.Refusals.{limits-clause, enough-clause, equal-clause, both-clause}
@@ -83,7 +83,7 @@ pub record HeadRight (s : List ℕ) (n m class span : ℕ) : Type 0 where
 
 pub head-right : (s : List ℕ) (n m : ℕ) {head : AnswerHead} {class span : ℕ} → headOf head ≡ answerHeaderOutcome s (length s) n m → head ≡ Fields class span
     → HeadRight s n m class span
-unfolding answerHeaderOutcome answerHeaderRefusal
+unfolding answerHeaderOutcome answerHeaderRefusal answerHeaderJudged
 head-right s n m e f =
     let h = fields-by (answerHeaderRefusal s (length s) n m) (classField s) (spanField s) e f in
     let a = limits-clause n m _ _ .0 (h .0) in

@@ -5,15 +5,32 @@ use crate::class::known_record;
 use crate::class::pick_count;
 use crate::class::span_fits;
 use crate::class::stamp_count;
-use crate::limits::ANSWER_HEADER;
-use crate::limits::STAMP_LIMIT;
 use records::bytes::short_at;
 use records::bytes::short_in;
 use records::bytes::word_at;
 use records::bytes::word_in;
-use records::limits::MOST_INEQUALITIES;
-use records::limits::MOST_VARIABLES;
+use records::limits::ANSWER_HEADER;
+use records::limits::CLASS_PLACE;
+use records::limits::HIGHEST_M;
+use records::limits::HIGHEST_N;
+use records::limits::KIND_PLACE;
+use records::limits::LEAD_BYTES;
+use records::limits::LENGTH_BYTES;
+use records::limits::LENGTH_PLACE;
+use records::limits::N_PLACE;
 use records::limits::OFFSET;
+use records::limits::REFUSED_ANSWER_CLASS;
+use records::limits::REFUSED_ANSWER_LENGTH;
+use records::limits::REFUSED_ANSWER_SHORT;
+use records::limits::REFUSED_ANSWER_SIZE;
+use records::limits::REFUSED_FORM;
+use records::limits::REFUSED_LIMITS;
+use records::limits::REFUSED_PICK;
+use records::limits::ROWS;
+use records::limits::SHORT_BYTES;
+use records::limits::SPAN_PLACE;
+use records::limits::STAMP_LIMIT;
+use records::limits::STRIDE;
 use records::offset::blank_or_within;
 use records::offset::offset;
 use records::offset::offset_32;
@@ -21,11 +38,12 @@ ghost use mathlib.Core.Path.{_≡_};
 ghost use mathlib.Core.List.{map};
 ghost use Prim.Native.Nat.{_<_, _≤_, _+_, _*_};
 ghost use lib.ListN.{length};
+ghost use Rattle.definitions.specs.Limits.{highest-n, highest-m, short-full, signed-full, short-bytes, signed-bytes, answer-header, stride, table-rows};
 ghost use Rattle.definitions.specs.Bytes.{numAt};
 ghost use Rattle.definitions.specs.Offset.{tropOf, off};
-ghost use Rattle.definitions.specs.AnswerRecord.{answerSize, stampsFit, picksFit, formRefusal, answerHeaderOutcome};
+ghost use Rattle.definitions.specs.AnswerRecord.{answerSize, stampsFit, picksFit, formRefusal, answerHeaderJudged, answerHeaderOutcome};
 ghost use Rattle.answer_reader.specs.Fields.{bodyOf, stampsAt, picksAt, stampFits, Padded};
-ghost use Rattle.answer_reader.specs.AnswerReading.{headOf, headerJudged, AnswerRead};
+ghost use Rattle.answer_reader.specs.AnswerReading.{headOf, AnswerRead};
 
 // What reading an answer answers: its class and its span's offset number, or the number of the refusal.
 pub enum AnswerHead {
@@ -43,29 +61,29 @@ fn judge_header(
     n: usize,
     m: usize,
 ) -> usize
-    requires { ⌜ length < 4294967296 ⌝ }
-    ensures { λ r. ⌜ r ≡ headerJudged size length kind own class n m ⌝ }
+    requires { ⌜ length < signed-full ⌝ }
+    ensures { λ r. ⌜ r ≡ answerHeaderJudged size length kind own class n m ⌝ }
 {
-    if n > MOST_VARIABLES {
-        return 4;
+    if n > HIGHEST_N {
+        return REFUSED_LIMITS;
     }
-    if m > MOST_INEQUALITIES {
-        return 4;
+    if m > HIGHEST_M {
+        return REFUSED_LIMITS;
     }
     if size < ANSWER_HEADER {
-        return 8;
+        return REFUSED_ANSWER_SHORT;
     }
-    if length + 4 != size as u64 {
-        return 9;
+    if length + LENGTH_BYTES as u64 != size as u64 {
+        return REFUSED_ANSWER_LENGTH;
     }
     if !known_record(kind, class) {
-        return 10;
+        return REFUSED_ANSWER_CLASS;
     }
     if own != n as u64 {
-        return 11;
+        return REFUSED_ANSWER_SIZE;
     }
     if size != answer_size(class, n, m) {
-        return 11;
+        return REFUSED_ANSWER_SIZE;
     }
     0
 }
@@ -75,11 +93,11 @@ fn judge_header(
 pub fn read_answer_header(bytes: &[u8], size: usize, n: usize, m: usize) -> AnswerHead
     ensures { λ r. ⌜ headOf r ≡ answerHeaderOutcome (now (bytes .entry)) size n m ⌝ }
 {
-    let length = word_at(bytes, 0);
-    let kind = short_at(bytes, 4);
-    let own = short_at(bytes, 6);
-    let class = short_at(bytes, 8);
-    let span = word_at(bytes, 10);
+    let length = word_at(bytes, LENGTH_PLACE);
+    let kind = short_at(bytes, KIND_PLACE);
+    let own = short_at(bytes, N_PLACE);
+    let class = short_at(bytes, CLASS_PLACE);
+    let span = word_at(bytes, SPAN_PLACE);
     let refusal = judge_header(size, length, kind, own, class, n, m);
     match refusal {
         0 => AnswerHead::Fields(class, offset(span)),
@@ -100,15 +118,15 @@ pub fn stamp_fits(i: usize, k: u64) -> bool
 
 // The stamp at a place that lies inside the bytes.
 fn stamp_at(bytes: &[u8], i: usize) -> u64
-    requires { ⌜ 14 + 4 * i + 4 ≤ length (now bytes) ⌝ }
-    ensures { λ r. ⌜ (r ≡ off (numAt 4 (now (bytes .entry)) (14 + 4 * i))) × (r < 4294967296) ⌝ }
+    requires { ⌜ answer-header + signed-bytes * i + signed-bytes ≤ length (now bytes) ⌝ }
+    ensures { λ r. ⌜ (r ≡ off (numAt signed-bytes (now (bytes .entry)) (answer-header + signed-bytes * i))) × (r < signed-full) ⌝ }
 {
-    offset_32(word_in(bytes, ANSWER_HEADER + 4 * i)) as u64
+    offset_32(word_in(bytes, ANSWER_HEADER + LEAD_BYTES * i)) as u64
 }
 
 // The stamps in the bytes have their form.
 fn stamps_fit_at(bytes: &[u8], count: usize) -> bool
-    requires { ⌜ 14 + 4 * count ≤ length (now bytes) ⌝ }
+    requires { ⌜ answer-header + signed-bytes * count ≤ length (now bytes) ⌝ }
     ensures { λ r. ⌜ r ≡ stampsFit (map tropOf (stampsAt (now (bytes .entry)) count)) ⌝ }
 {
     let mut i: usize = 0;
@@ -123,15 +141,15 @@ fn stamps_fit_at(bytes: &[u8], count: usize) -> bool
 
 // The pick at a place that lies inside the bytes, behind so many stamps.
 fn pick_at(bytes: &[u8], stamps: usize, i: usize) -> u64
-    requires { ⌜ 14 + 4 * stamps + 2 * i + 2 ≤ length (now bytes) ⌝ }
-    ensures { λ r. ⌜ (r ≡ numAt 2 (now (bytes .entry)) (14 + 4 * stamps + 2 * i)) × (r < 65536) ⌝ }
+    requires { ⌜ answer-header + signed-bytes * stamps + short-bytes * i + short-bytes ≤ length (now bytes) ⌝ }
+    ensures { λ r. ⌜ (r ≡ numAt short-bytes (now (bytes .entry)) (answer-header + signed-bytes * stamps + short-bytes * i)) × (r < short-full) ⌝ }
 {
-    short_in(bytes, ANSWER_HEADER + 4 * stamps + 2 * i)
+    short_in(bytes, ANSWER_HEADER + LEAD_BYTES * stamps + SHORT_BYTES * i)
 }
 
 // No pick in the bytes is above the highest.
 fn picks_fit_at(bytes: &[u8], stamps: usize, count: usize, highest: u64) -> bool
-    requires { ⌜ 14 + 4 * stamps + 2 * count ≤ length (now bytes) ⌝ }
+    requires { ⌜ answer-header + signed-bytes * stamps + short-bytes * count ≤ length (now bytes) ⌝ }
     ensures { λ r. ⌜ r ≡ picksFit highest (picksAt (now (bytes .entry)) stamps count) ⌝ }
 {
     let mut i: usize = 0;
@@ -146,29 +164,29 @@ fn picks_fit_at(bytes: &[u8], stamps: usize, count: usize, highest: u64) -> bool
 
 // The first of refusals 12 and 13 that applies to the body of an answer whose header is right, 0 where none does.
 fn judge_body(bytes: &[u8], class: u64, span: u64, n: usize, m: usize) -> usize
-    requires { ⌜ (n ≤ 31) × (m ≤ 63) × (length (now bytes) ≡ answerSize class n m) ⌝ }
+    requires { ⌜ (n ≤ highest-n) × (m ≤ highest-m) × (length (now bytes) ≡ answerSize class n m) ⌝ }
     ensures { λ r. ⌜ r ≡ formRefusal (bodyOf (now (bytes .entry)) class span n m) n m ⌝ }
 {
     if !span_fits(class, span) {
-        return 12;
+        return REFUSED_FORM;
     }
     let stamps = stamp_count(class, n);
     if !stamps_fit_at(bytes, stamps) {
-        return 12;
+        return REFUSED_FORM;
     }
     let picks = pick_count(class, n, m);
     if !picks_fit_at(bytes, stamps, picks, highest_pick(class, n, m)) {
-        return 13;
+        return REFUSED_PICK;
     }
     0
 }
 
 // The stamps in the bytes, and 0 behind them.
-fn stamps_from(bytes: &[u8], count: usize) -> [u64; 32]
-    requires { ⌜ (count ≤ 32) × (14 + 4 * count ≤ length (now bytes)) ⌝ }
-    ensures { λ r. ⌜ Padded 32 (stampsAt (now (bytes .entry)) count) r ⌝ }
+fn stamps_from(bytes: &[u8], count: usize) -> [u64; STRIDE]
+    requires { ⌜ (count ≤ stride) × (answer-header + signed-bytes * count ≤ length (now bytes)) ⌝ }
+    ensures { λ r. ⌜ Padded stride (stampsAt (now (bytes .entry)) count) r ⌝ }
 {
-    let mut out = [0u64; 32];
+    let mut out = [0u64; STRIDE];
     let mut i: usize = 0;
     while i < count {
         out[i] = stamp_at(bytes, i);
@@ -178,11 +196,11 @@ fn stamps_from(bytes: &[u8], count: usize) -> [u64; 32]
 }
 
 // The picks in the bytes behind so many stamps, and 0 behind them.
-fn picks_from(bytes: &[u8], stamps: usize, count: usize) -> [u64; 64]
-    requires { ⌜ (count ≤ 64) × (14 + 4 * stamps + 2 * count ≤ length (now bytes)) ⌝ }
-    ensures { λ r. ⌜ Padded 64 (picksAt (now (bytes .entry)) stamps count) r ⌝ }
+fn picks_from(bytes: &[u8], stamps: usize, count: usize) -> [u64; ROWS]
+    requires { ⌜ (count ≤ table-rows) × (answer-header + signed-bytes * stamps + short-bytes * count ≤ length (now bytes)) ⌝ }
+    ensures { λ r. ⌜ Padded table-rows (picksAt (now (bytes .entry)) stamps count) r ⌝ }
 {
-    let mut out = [0u64; 64];
+    let mut out = [0u64; ROWS];
     let mut i: usize = 0;
     while i < count {
         out[i] = pick_at(bytes, stamps, i);
@@ -197,8 +215,8 @@ pub fn read_answer(
     bytes: &[u8],
     n: usize,
     m: usize,
-    stamps: &mut [u64; 32],
-    picks: &mut [u64; 64],
+    stamps: &mut [u64; STRIDE],
+    picks: &mut [u64; ROWS],
 ) -> AnswerHead
     ensures { λ r. ⌜ AnswerRead (now (bytes .entry)) n m r (now (stamps .entry)) (now (stamps .exit)) (now (picks .entry)) (now (picks .exit)) ⌝ }
 {

@@ -11,7 +11,7 @@ use Rattle.definitions.specs.Limits.{highest-n, highest-m, answer-most}
 use Rattle.definitions.specs.Tropical.{Trop}
 use Rattle.definitions.specs.Bytes.{Bytes, put, or-else, outcome}
 use Rattle.definitions.specs.Offset.{tropOf}
-use Rattle.definitions.specs.AnswerRecord.{Answer, stampCount, pickCount, answerSize, classField, spanField, answerOf, answerBytes, answerRefusal, answerOutcome, writerRefusal, writerOutcome, written}
+use Rattle.definitions.specs.AnswerRecord.{Answer, stampCount, pickCount, answerSize, classField, spanField, answerOf, answerBytes, answerRefusal, answerOutcome, writerRefusal, writerJudged, writerOutcome, written}
 use Rattle.definitions.proofs.Put.{take-put, length-put}
 use Rattle.definitions.proofs.Outcomes.{outcome-some, outcome-gives, outcome-refusal}
 use Rattle.definitions.proofs.Offset.{tropOf-injective}
@@ -167,7 +167,7 @@ again-enough s n m r before after b none room w =
     }
 
 short-refused : (a : Answer) (n m room : ℕ) → n ≤ highest-n → m ≤ highest-m → room < answer-most → writerRefusal a n m room ≡ 7
-unfolding writerRefusal
+unfolding writerRefusal writerJudged
 short-refused a n m room h k l = rw (le-ltb highest-n n h, le-ltb highest-m m k, lt-ltb room answer-most l)
 
 -- A shorter one gets 7.

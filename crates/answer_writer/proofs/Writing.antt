@@ -13,14 +13,14 @@ use borrow.Author.Tests.{eq-eqb, ne-eqb, le-ltb}
 use Rattle.definitions.specs.Limits.{highest-n, highest-m, answer-most, signed-half, signed-full, span-limit, stamp-limit}
 use Rattle.definitions.specs.Offset.{tropOf, off}
 use Rattle.definitions.specs.Bytes.{le, fields, put, fieldOf, tropField, all, blank-or-within, or-else, outcome}
-use Rattle.definitions.specs.AnswerRecord.{known-class, stampCount, pickCount, answerSize, formRefusal, rightCounts, writerRefusal, writerOutcome, answerBytes, written}
+use Rattle.definitions.specs.AnswerRecord.{known-class, stampCount, pickCount, answerSize, formRefusal, rightCounts, writerRefusal, writerJudged, writerOutcome, answerBytes, written}
 use Rattle.definitions.proofs.Bytes.{length-le, length-fields}
 use Rattle.definitions.proofs.Outcomes.{outcome-some}
 use Rattle.definitions.proofs.Offset.{trop-off, off-off, off-bound, fieldOf-tropField, within-iff}
 use Rattle.definitions.proofs.Refusals.{writer-fits, limits-clause}
 use Rattle.definitions.proofs.RoundTrip.{span-within, stamps-within, size-most}
 use Rattle.definitions.proofs.Put.{put-nil, put-one, put-put, length-put}
-use Rattle.answer_writer.specs.AnswerWriting.{countsJudged, stored, headerBytes, recordBytes, writtenOf, unlessRefused, AnswerWritten}
+use Rattle.answer_writer.specs.AnswerWriting.{stored, headerBytes, recordBytes, writtenOf, unlessRefused, AnswerWritten}
 use Rattle.answer_reader.specs.Fields.{fieldsOf}
 use Rattle.answer_writer.specs.declared.writer.Written.the-variants.{Record, Refused}
 
@@ -120,38 +120,38 @@ record-put l size n class span stamps picks {at = at} h e a b c =
 
 module _ (class stamps picks n m room : ℕ) {known : Bool} (a : n ≤ highest-n) (b : m ≤ highest-m) (c : answer-most ≤ room)
     (e : known ≡ known-class class) where
-  pub counts-class : known ≡ false → 10 ≡ countsJudged class stamps picks n m room
-  unfolding countsJudged
+  pub counts-class : known ≡ false → 10 ≡ writerJudged class stamps picks n m room
+  unfolding writerJudged
   counts-class f = rw (le-ltb highest-n n a, le-ltb highest-m m b, le-ltb room answer-most c, ← e, f)
 
-  pub counts-stamps : {k : ℕ} → known ≡ true → k ≡ stampCount class n → (stamps ≡ k → ⊥) → 11 ≡ countsJudged class stamps picks n m room
-  unfolding countsJudged
+  pub counts-stamps : {k : ℕ} → known ≡ true → k ≡ stampCount class n → (stamps ≡ k → ⊥) → 11 ≡ writerJudged class stamps picks n m room
+  unfolding writerJudged
   counts-stamps f g h = rw (le-ltb highest-n n a, le-ltb highest-m m b, le-ltb room answer-most c, ← e, f, ← g, ne-eqb stamps _ h)
 
   pub counts-picks : {k j : ℕ} → known ≡ true → k ≡ stampCount class n → stamps ≡ k → j ≡ pickCount class n m → (picks ≡ j → ⊥)
-      → 11 ≡ countsJudged class stamps picks n m room
-  unfolding countsJudged
+      → 11 ≡ writerJudged class stamps picks n m room
+  unfolding writerJudged
   counts-picks f g h i j = rw (le-ltb highest-n n a, le-ltb highest-m m b, le-ltb room answer-most c, ← e, f, ← g, eq-eqb stamps _ h, ← i, ne-eqb picks _ j)
 
   pub counts-right : {k j : ℕ} → known ≡ true → k ≡ stampCount class n → stamps ≡ k → j ≡ pickCount class n m → picks ≡ j
-      → 0 ≡ countsJudged class stamps picks n m room
-  unfolding countsJudged
+      → 0 ≡ writerJudged class stamps picks n m room
+  unfolding writerJudged
   counts-right f g h i j = rw (le-ltb highest-n n a, le-ltb highest-m m b, le-ltb room answer-most c, ← e, f, ← g, eq-eqb stamps _ h, ← i, eq-eqb picks _ j)
 
 -- ---- the whole refusal
 
 -- Nothing refused so far: n and m are within their limits.
-pub counts-limits : (class stamps picks n m room : ℕ) {k : ℕ} → k ≡ countsJudged class stamps picks n m room → k ≡ 0 → (n ≤ highest-n) × (m ≤ highest-m)
-unfolding countsJudged
+pub counts-limits : (class stamps picks n m room : ℕ) {k : ℕ} → k ≡ writerJudged class stamps picks n m room → k ≡ 0 → (n ≤ highest-n) × (m ≤ highest-m)
+unfolding writerJudged
 counts-limits class stamps picks n m room e z = limits-clause n m _ _ .0 (sym e ∙ z) .0
 
 module _ (class span : ℕ) (stamps picks : List ℕ) (n m room : ℕ) where
   refusal-split : writerRefusal (fieldsOf class span stamps picks) n m room
-      ≡ or-else (countsJudged class (length stamps) (length picks) n m room) (formRefusal (fieldsOf class span stamps picks) n m)
-  unfolding writerRefusal countsJudged rightCounts
+      ≡ or-else (writerJudged class (length stamps) (length picks) n m room) (formRefusal (fieldsOf class span stamps picks) n m)
+  unfolding writerRefusal writerJudged rightCounts
   refusal-split = rw length-map
 
-  pub counts-refused : {k : ℕ} → k ≡ countsJudged class (length stamps) (length picks) n m room → (k ≡ 0 → ⊥)
+  pub counts-refused : {k : ℕ} → k ≡ writerJudged class (length stamps) (length picks) n m room → (k ≡ 0 → ⊥)
       → k ≡ writerRefusal (fieldsOf class span stamps picks) n m room
   counts-refused {k} e h = rw (refusal-split, ← e) (go k h)
     where
@@ -159,7 +159,7 @@ module _ (class span : ℕ) (stamps picks : List ℕ) (n m room : ℕ) where
       go zero h = absurd (h refl)
       go (suc k) h = refl
 
-  pub counts-then-form : {k j : ℕ} → k ≡ countsJudged class (length stamps) (length picks) n m room → k ≡ 0
+  pub counts-then-form : {k j : ℕ} → k ≡ writerJudged class (length stamps) (length picks) n m room → k ≡ 0
       → j ≡ formRefusal (fieldsOf class span stamps picks) n m → j ≡ writerRefusal (fieldsOf class span stamps picks) n m room
   counts-then-form e z f = rw (refusal-split, ← e, z) f
 

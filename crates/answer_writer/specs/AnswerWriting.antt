@@ -1,14 +1,11 @@
 -- What writing an answer answers: the record's size, or the number of the first refusal that applies; and the buffer.
 use Prim.Native.Nat.{ℕ, zero, suc, _+_, _%_, _/_}
 use mathlib.Core.Path.{_≡_}
-use mathlib.Core.Bool.{not, _&&_}
-use mathlib.Core.List.{List, [], _∷_, _++_}
-use lib.Dec.{eqb, ltb}
+use mathlib.Core.List.{List, _++_}
 use lib.ListN.{length, set}
-use Rattle.definitions.specs.Limits.{byte-values, length-bytes, short-bytes, signed-bytes, answer-kind, answer-most}
-use Rattle.definitions.specs.Bytes.{le, fields, first, Outcome, refusal, gives}
-use Rattle.definitions.specs.ProblemRecord.{above-limits}
-use Rattle.definitions.specs.AnswerRecord.{Answer, known-class, stampCount, pickCount, answerBytes, writerRefusal, writerOutcome, written}
+use Rattle.definitions.specs.Limits.{byte-values, length-bytes, short-bytes, signed-bytes, answer-kind}
+use Rattle.definitions.specs.Bytes.{le, fields, Outcome, refusal, gives}
+use Rattle.definitions.specs.AnswerRecord.{Answer, answerBytes, writerRefusal, writerOutcome, written}
 use Rattle.answer_writer.specs.declared.writer.Written.{Written}
 use Rattle.answer_writer.specs.declared.writer.Written.the-variants.{Record, Refused}
 
@@ -27,16 +24,6 @@ unlessRefused (suc k) before after = before
 pub record AnswerWritten (a : Answer) (n m : ℕ) (r : Written) (before after : List ℕ) : Type 0 where
   pub answered : writtenOf r ≡ writerOutcome a n m (length before)
   pub buffer : after ≡ unlessRefused (writerRefusal a n m (length before)) before (written before (answerBytes n a))
-
--- Refusals 4, 7, 10 and 11 on the numbers handed over: class, how many stamps and picks, and the buffer's size.
-unfoldable pub countsJudged : ℕ → ℕ → ℕ → ℕ → ℕ → ℕ → ℕ
-countsJudged class stamps picks n m room =
-    first
-    (record { applies = above-limits n m; number = 4 }
-    ∷ record { applies = ltb room answer-most; number = 7 }
-    ∷ record { applies = not (known-class class); number = 10 }
-    ∷ record { applies = not (eqb stamps (stampCount class n) && eqb picks (pickCount class n m)); number = 11 }
-    ∷ [])
 
 -- A list with a number stored from a place on, k bytes, lowest first.
 unfoldable pub stored : ℕ → List ℕ → ℕ → ℕ → List ℕ

@@ -2,12 +2,11 @@
 use Prim.Native.Nat.{ℕ}
 use mathlib.Core.Path.{_≡_}
 use mathlib.Core.List.{List, [], _∷_}
-use lib.Dec.{ltb}
 use lib.ListN.{length}
-use Rattle.definitions.specs.Limits.{answer-most}
+use Rattle.definitions.specs.Limits.{stride, table-rows}
 use Rattle.definitions.specs.Bytes.{first, or-else, outcome}
 use Rattle.definitions.specs.Offset.{tropOf}
-use Rattle.definitions.specs.AnswerRecord.{answerBytes, answerRefusal, writerRefusal, written}
+use Rattle.definitions.specs.AnswerRecord.{answerBytes, answerRefusal, roomRefused, writerRefusal, written}
 use Rattle.answer_reader.specs.Fields.{fieldsOf, Padded}
 use Rattle.answer_reader.specs.AnswerReading.{headOf}
 use Rattle.answer_writer.specs.AnswerWriting.{writtenOf, unlessRefused}
@@ -24,12 +23,12 @@ pub record WrittenThenRead (class span : ℕ) (stamps picks : List ℕ) (n m : �
   pub answered : headOf r ≡ outcome (fieldsRefusal class span stamps picks n m (length before)) (class, tropOf span)
   pub buffer : after ≡ unlessRefused (fieldsRefusal class span stamps picks n m (length before)) before (written before (answerBytes n (fieldsOf class span stamps picks)))
   pub kept : (fieldsRefusal class span stamps picks n m (length before) ≡ 0 → ⊥) → (stamps-back ≡ stamps-before) × (picks-back ≡ picks-before)
-  pub stamps-same : fieldsRefusal class span stamps picks n m (length before) ≡ 0 → Padded 32 stamps stamps-back
-  pub picks-same : fieldsRefusal class span stamps picks n m (length before) ≡ 0 → Padded 64 picks picks-back
+  pub stamps-same : fieldsRefusal class span stamps picks n m (length before) ≡ 0 → Padded stride stamps stamps-back
+  pub picks-same : fieldsRefusal class span stamps picks n m (length before) ≡ 0 → Padded table-rows picks picks-back
 
 -- The reader's first refusal, then 7 where the buffer is too short.
 unfoldable pub backRefusal : List ℕ → ℕ → ℕ → ℕ → ℕ
-backRefusal s n m room = or-else (answerRefusal s n m) (first (record { applies = ltb room answer-most; number = 7 } ∷ []))
+backRefusal s n m room = or-else (answerRefusal s n m) (first (roomRefused room ∷ []))
 
 -- Read and written back: the refusal with the buffer as it was, or the same bytes.
 pub record ReadThenWritten (s : List ℕ) (n m : ℕ) (r : Written) (before after : List ℕ) : Type 0 where

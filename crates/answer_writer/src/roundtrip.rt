@@ -5,10 +5,12 @@ use answer_reader::answer::AnswerHead;
 use answer_reader::answer::read_answer;
 use answer_reader::class::pick_count;
 use answer_reader::class::stamp_count;
+use records::limits::ROWS;
+use records::limits::STRIDE;
 ghost use mathlib.Core.Path.{_≡_};
 ghost use Prim.Native.Nat.{_≤_};
 ghost use lib.ListN.{length, take};
-ghost use Rattle.definitions.specs.Limits.{highest-n, highest-m};
+ghost use Rattle.definitions.specs.Limits.{highest-n, highest-m, stride, table-rows};
 ghost use Rattle.definitions.specs.AnswerRecord.{stampCount, pickCount};
 ghost use Rattle.answer_reader.specs.Fields.{fieldsOf};
 ghost use Rattle.answer_writer.specs.AnswerWriting.{AnswerWritten};
@@ -23,8 +25,8 @@ pub fn write_then_read(
     n: usize,
     m: usize,
     buffer: &mut [u8],
-    stamps_back: &mut [u64; 32],
-    picks_back: &mut [u64; 64],
+    stamps_back: &mut [u64; STRIDE],
+    picks_back: &mut [u64; ROWS],
 ) -> AnswerHead
     ensures { λ r. ⌜ WrittenThenRead class span (now (stamps .entry)) (now (picks .entry)) n m r (now (buffer .entry)) (now (buffer .exit)) (now («stamps_back» .entry)) (now («stamps_back» .exit)) (now («picks_back» .entry)) (now («picks_back» .exit)) ⌝ }
 {
@@ -45,7 +47,7 @@ fn write_counted(
     m: usize,
     buffer: &mut [u8],
 ) -> Written
-    requires { ⌜ (n ≤ highest-n) × (m ≤ highest-m) × (length (now stamps) ≡ 32) × (length (now picks) ≡ 64) ⌝ }
+    requires { ⌜ (n ≤ highest-n) × (m ≤ highest-m) × (length (now stamps) ≡ stride) × (length (now picks) ≡ table-rows) ⌝ }
     ensures { λ r. ⌜ AnswerWritten (fieldsOf class span (take (stampCount class n) (now (stamps .entry))) (take (pickCount class n m) (now (picks .entry)))) n m r (now (buffer .entry)) (now (buffer .exit)) ⌝ }
 {
     let s = stamp_count(class, n);
@@ -58,8 +60,8 @@ fn write_counted(
 pub fn read_then_write(bytes: &[u8], n: usize, m: usize, buffer: &mut [u8]) -> Written
     ensures { λ r. ⌜ ReadThenWritten (now (bytes .entry)) n m r (now (buffer .entry)) (now (buffer .exit)) ⌝ }
 {
-    let mut stamps = [0u64; 32];
-    let mut picks = [0u64; 64];
+    let mut stamps = [0u64; STRIDE];
+    let mut picks = [0u64; ROWS];
     let head = read_answer(bytes, n, m, &mut stamps, &mut picks);
     match head {
         AnswerHead::Fields(class, span) => write_counted(

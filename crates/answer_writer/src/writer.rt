@@ -1,6 +1,5 @@
 // The answer writer: class, span, stamps and picks to bytes. Document 01, "Records" and "What is turned away", 4, 7 and
 // 10 to 13.
-use crate::limits::ANSWER_MOST;
 use answer_reader::answer::stamp_fits;
 use answer_reader::class::answer_size;
 use answer_reader::class::highest_pick;
@@ -8,20 +7,37 @@ use answer_reader::class::known_class;
 use answer_reader::class::pick_count;
 use answer_reader::class::span_fits;
 use answer_reader::class::stamp_count;
-use answer_reader::limits::ANSWER_HEADER;
-use records::limits::MOST_INEQUALITIES;
-use records::limits::MOST_VARIABLES;
+use records::limits::ANSWER_HEADER;
+use records::limits::ANSWER_KIND;
+use records::limits::ANSWER_MOST;
+use records::limits::BYTE;
+use records::limits::CLASS_PLACE;
+use records::limits::HIGHEST_M;
+use records::limits::HIGHEST_N;
+use records::limits::KIND_PLACE;
+use records::limits::LEAD_BYTES;
+use records::limits::LENGTH_BYTES;
+use records::limits::LENGTH_PLACE;
+use records::limits::N_PLACE;
+use records::limits::REFUSED_ANSWER_CLASS;
+use records::limits::REFUSED_ANSWER_SIZE;
+use records::limits::REFUSED_FORM;
+use records::limits::REFUSED_LIMITS;
+use records::limits::REFUSED_PICK;
+use records::limits::REFUSED_ROOM;
+use records::limits::SHORT_BYTES;
+use records::limits::SPAN_PLACE;
 use records::offset::offset;
 ghost use mathlib.Core.Path.{_≡_};
 ghost use mathlib.Core.List.{map};
 ghost use Prim.Native.Nat.{_+_, _*_, _-_, _≤_};
 ghost use lib.ListN.{length};
-ghost use Rattle.definitions.specs.Limits.{highest-n, highest-m};
+ghost use Rattle.definitions.specs.Limits.{highest-n, highest-m, length-bytes, short-bytes, signed-bytes, answer-header};
 ghost use Rattle.definitions.specs.Bytes.{le, fields, put};
 ghost use Rattle.definitions.specs.Offset.{tropOf, off};
-ghost use Rattle.definitions.specs.AnswerRecord.{stampsFit, picksFit, formRefusal, writerRefusal};
+ghost use Rattle.definitions.specs.AnswerRecord.{stampsFit, picksFit, formRefusal, writerJudged, writerRefusal};
 ghost use Rattle.answer_reader.specs.Fields.{fieldsOf};
-ghost use Rattle.answer_writer.specs.AnswerWriting.{countsJudged, headerBytes, recordBytes, AnswerWritten};
+ghost use Rattle.answer_writer.specs.AnswerWriting.{headerBytes, recordBytes, AnswerWritten};
 
 // What writing an answer answers: the record's size, or the number of the refusal.
 pub enum Written {
@@ -31,25 +47,25 @@ pub enum Written {
 
 // The first of refusals 4, 7, 10 and 11 that applies, 0 where none does.
 fn judge_counts(class: u64, stamps: usize, picks: usize, n: usize, m: usize, room: usize) -> usize
-    ensures { λ r. ⌜ r ≡ countsJudged class stamps picks n m room ⌝ }
+    ensures { λ r. ⌜ r ≡ writerJudged class stamps picks n m room ⌝ }
 {
-    if n > MOST_VARIABLES {
-        return 4;
+    if n > HIGHEST_N {
+        return REFUSED_LIMITS;
     }
-    if m > MOST_INEQUALITIES {
-        return 4;
+    if m > HIGHEST_M {
+        return REFUSED_LIMITS;
     }
     if room < ANSWER_MOST {
-        return 7;
+        return REFUSED_ROOM;
     }
     if !known_class(class) {
-        return 10;
+        return REFUSED_ANSWER_CLASS;
     }
     if stamps != stamp_count(class, n) {
-        return 11;
+        return REFUSED_ANSWER_SIZE;
     }
     if picks != pick_count(class, n, m) {
-        return 11;
+        return REFUSED_ANSWER_SIZE;
     }
     0
 }
@@ -89,13 +105,13 @@ fn judge_fields(class: u64, span: u64, stamps: &[u64], picks: &[u64], n: usize, 
     ensures { λ r. ⌜ r ≡ formRefusal (fieldsOf class span (now (stamps .entry)) (now (picks .entry))) n m ⌝ }
 {
     if !span_fits(class, span) {
-        return 12;
+        return REFUSED_FORM;
     }
     if !stamps_fit(stamps) {
-        return 12;
+        return REFUSED_FORM;
     }
     if !picks_fit(picks, highest_pick(class, n, m)) {
-        return 13;
+        return REFUSED_PICK;
     }
     0
 }
@@ -121,70 +137,70 @@ fn judge_writing(
 
 // A number of 2 bytes put at a place.
 fn put_short(buffer: &mut [u8], at: usize, x: u64)
-    requires { ⌜ at + 2 ≤ length (now buffer) ⌝ }
-    ensures { λ _. ⌜ now (buffer .exit) ≡ put (now (buffer .entry)) at (le 2 x) ⌝ }
+    requires { ⌜ at + short-bytes ≤ length (now buffer) ⌝ }
+    ensures { λ _. ⌜ now (buffer .exit) ≡ put (now (buffer .entry)) at (le short-bytes x) ⌝ }
 {
-    let y = x / 256;
+    let y = x / BYTE;
     let b = at + 1;
-    buffer[at] = (x % 256) as u8;
-    buffer[b] = (y % 256) as u8;
+    buffer[at] = (x % BYTE) as u8;
+    buffer[b] = (y % BYTE) as u8;
 }
 
 // A number of 4 bytes put at a place.
 fn put_word(buffer: &mut [u8], at: usize, x: u64)
-    requires { ⌜ at + 4 ≤ length (now buffer) ⌝ }
-    ensures { λ _. ⌜ now (buffer .exit) ≡ put (now (buffer .entry)) at (le 4 x) ⌝ }
+    requires { ⌜ at + signed-bytes ≤ length (now buffer) ⌝ }
+    ensures { λ _. ⌜ now (buffer .exit) ≡ put (now (buffer .entry)) at (le signed-bytes x) ⌝ }
 {
-    let y = x / 256;
-    let z = y / 256;
-    let w = z / 256;
+    let y = x / BYTE;
+    let z = y / BYTE;
+    let w = z / BYTE;
     let b = at + 1;
     let c = b + 1;
     let d = c + 1;
-    buffer[at] = (x % 256) as u8;
-    buffer[b] = (y % 256) as u8;
-    buffer[c] = (z % 256) as u8;
-    buffer[d] = (w % 256) as u8;
+    buffer[at] = (x % BYTE) as u8;
+    buffer[b] = (y % BYTE) as u8;
+    buffer[c] = (z % BYTE) as u8;
+    buffer[d] = (w % BYTE) as u8;
 }
 
 // The stamps, offset numbers, put from a place on.
 fn put_stamps(stamps: &[u64], buffer: &mut [u8], at: usize)
-    requires { ⌜ at + 4 * length (now stamps) ≤ length (now buffer) ⌝ }
-    ensures { λ _. ⌜ now (buffer .exit) ≡ put (now (buffer .entry)) at (fields 4 (map off (now (stamps .entry)))) ⌝ }
+    requires { ⌜ at + signed-bytes * length (now stamps) ≤ length (now buffer) ⌝ }
+    ensures { λ _. ⌜ now (buffer .exit) ≡ put (now (buffer .entry)) at (fields signed-bytes (map off (now (stamps .entry)))) ⌝ }
 {
     let mut p = at;
     let mut i: usize = 0;
     while i < stamps.len() {
         put_word(buffer, p, offset(stamps[i]));
-        p += 4;
+        p += LEAD_BYTES;
         i += 1;
     }
 }
 
 // The picks put from a place on.
 fn put_picks(picks: &[u64], buffer: &mut [u8], at: usize)
-    requires { ⌜ at + 2 * length (now picks) ≤ length (now buffer) ⌝ }
-    ensures { λ _. ⌜ now (buffer .exit) ≡ put (now (buffer .entry)) at (fields 2 (now (picks .entry))) ⌝ }
+    requires { ⌜ at + short-bytes * length (now picks) ≤ length (now buffer) ⌝ }
+    ensures { λ _. ⌜ now (buffer .exit) ≡ put (now (buffer .entry)) at (fields short-bytes (now (picks .entry))) ⌝ }
 {
     let mut p = at;
     let mut i: usize = 0;
     while i < picks.len() {
         put_short(buffer, p, picks[i]);
-        p += 2;
+        p += SHORT_BYTES;
         i += 1;
     }
 }
 
 // The header put at the front: the length field, the kind, n, class, and the span's field.
 fn put_header(buffer: &mut [u8], size: u64, n: u64, class: u64, span: u64)
-    requires { ⌜ 14 ≤ length (now buffer) ⌝ }
+    requires { ⌜ answer-header ≤ length (now buffer) ⌝ }
     ensures { λ _. ⌜ now (buffer .exit) ≡ put (now (buffer .entry)) 0 (headerBytes size n class span) ⌝ }
 {
-    put_word(buffer, 0, size);
-    put_short(buffer, 4, 2);
-    put_short(buffer, 6, n);
-    put_short(buffer, 8, class);
-    put_word(buffer, 10, span);
+    put_word(buffer, LENGTH_PLACE, size);
+    put_short(buffer, KIND_PLACE, ANSWER_KIND);
+    put_short(buffer, N_PLACE, n);
+    put_short(buffer, CLASS_PLACE, class);
+    put_word(buffer, SPAN_PLACE, span);
 }
 
 // The whole record put at the front of the buffer.
@@ -197,11 +213,17 @@ fn put_record(
     n: usize,
     buffer: &mut [u8],
 )
-    requires { ⌜ (14 + 4 * length (now stamps) + 2 * length (now picks) ≡ size) × (size ≤ length (now buffer)) ⌝ }
-    ensures { λ _. ⌜ now (buffer .exit) ≡ put (now (buffer .entry)) 0 (recordBytes (size - 4) n class (off span) (map off (now (stamps .entry))) (now (picks .entry))) ⌝ }
+    requires { ⌜ (answer-header + signed-bytes * length (now stamps) + short-bytes * length (now picks) ≡ size) × (size ≤ length (now buffer)) ⌝ }
+    ensures { λ _. ⌜ now (buffer .exit) ≡ put (now (buffer .entry)) 0 (recordBytes (size - length-bytes) n class (off span) (map off (now (stamps .entry))) (now (picks .entry))) ⌝ }
 {
-    let at = ANSWER_HEADER + 4 * stamps.len();
-    put_header(buffer, size as u64 - 4, n as u64, class, offset(span));
+    let at = ANSWER_HEADER + LEAD_BYTES * stamps.len();
+    put_header(
+        buffer,
+        (size - LENGTH_BYTES) as u64,
+        n as u64,
+        class,
+        offset(span),
+    );
     put_stamps(stamps, buffer, ANSWER_HEADER);
     put_picks(picks, buffer, at);
 }

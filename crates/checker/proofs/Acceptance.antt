@@ -6,10 +6,10 @@ use mathlib.Core.List.{List}
 use native.Mathlib.Omega.{arith}
 use lib.ListN.{getD}
 use lib.IntN.{ℤ, pos, negsuc, subℕ, natAbs, _-ℤ_}
-use borrow.Author.Tests.{ne-eqb, eq-eqb}
+use borrow.Author.Tests.{ne-eqb}
 use Rattle.base.specs.Decides.{Decides}
 use Rattle.base.proofs.Decides.{said-no, decides-as}
-use Rattle.definitions.specs.Limits.{signed-half, lead-limit, span-limit}
+use Rattle.definitions.specs.Limits.{signed-half, lead-limit, span-limit, class-optimal, class-unbounded, class-infeasible}
 use Rattle.definitions.specs.Tropical.{Trop, fin}
 use Rattle.definitions.specs.Offset.{tropOf}
 use Rattle.definitions.specs.Problem.{Problem, Keeps, value, whole}
@@ -172,12 +172,18 @@ module _ {p : Problem} {a : Answer} {class span : ℕ} {stamps picks : List ℕ}
       back (infeasible c h) = rw (strategy-same meant) h
 
 -- The highest pick of each class.
-pub highest-row : (n m class : ℕ) → (class ≡ 2 → ⊥) → highestPick class n m ≡ m + 1
-highest-row n m class d = rw (ne-eqb class 2 d) (omega arith)
+pub highest-optimal : (n m class : ℕ) → class ≡ class-optimal → highestPick class n m ≡ m + 1
+highest-optimal n m class e = rw e (omega arith)
 
-pub highest-variable : (n m class : ℕ) → class ≡ 2 → highestPick class n m ≡ n + 1
-highest-variable n m class e = rw (eq-eqb class 2 e) (omega arith)
+pub highest-unbounded : (n m class : ℕ) → class ≡ class-unbounded → highestPick class n m ≡ n + 1
+highest-unbounded n m class e = rw e (omega arith)
+
+pub highest-infeasible : (n m class : ℕ) → class ≡ class-infeasible → highestPick class n m ≡ m + 1
+highest-infeasible n m class e = rw e (omega arith)
 
 -- There is no other class.
+pub class-zero : {class : ℕ} → class ≡ 0 → known-class class ≡ true → ⊥
+class-zero e k = false≢true (rw e at k)
+
 pub class-other : {class : ℕ} → known-class class ≡ true → (class ≡ 1 → ⊥) → (class ≡ 2 → ⊥) → (class ≡ 3 → ⊥) → ⊥
 class-other {class} k a b c = false≢true (rw (ne-eqb class 1 a, ne-eqb class 2 b, ne-eqb class 3 c) at k)

@@ -51,7 +51,7 @@ use Rattle.checker.specs.Outcome.{Meant, Formed}
 use Rattle.closed_walks.proofs.ClosedWalks.{all-or-gain}
 use Rattle.strategy_tests.proofs.Variables.{variables-table, variables-not, variables-both}
 use Rattle.strategy_tests.proofs.RowStrategy.{rows-table, rows-not, rows-both}
-use Rattle.checker.proofs.Acceptance.{trial-below, optimal-broken, optimal-other, optimal-picks, trial-below-is, top-trial, top-trial-is, lowest-trial, lowest-trial-is, infeasible-at, unbounded-at, by-optimal, by-unbounded, by-infeasible, highest-row, highest-variable, class-other}
+use Rattle.checker.proofs.Acceptance.{trial-below, optimal-broken, optimal-other, optimal-picks, trial-below-is, top-trial, top-trial-is, lowest-trial, lowest-trial-is, infeasible-at, unbounded-at, by-optimal, by-unbounded, by-infeasible, highest-optimal, highest-unbounded, highest-infeasible, class-other}
 use Rattle.checker.proofs.Answers.{HeadRead, read-means, read-formed}
 use Rattle.closed_walks.proofs.Holding.{holds-sized}
 use Rattle.problem_records.proofs.LeadTables.{problem-decoded}
@@ -246,7 +246,7 @@ module _ {p : Problem} {left right : List ℕ} {n m class span : ℕ} {stamps pi
 
       walks : Decided (PicksCount p (strategyOf picks) × BelowZero p (strategyOf picks) (z -ℤ pos 1))
       walks = strategy-decided (span - 1) holds (trial-below (formed .whole-span e)) (trial-below-is span (formed .whole-span e) f)
-          (rw (highest-row n m class (λ q. omega arith)) at (formed .picked))
+          (rw (highest-optimal n m class e) at (formed .picked))
 
       go : (a : Bool) → rules .answer ≡ a → (b : Bool) → is .answer ≡ b → Decided (AcceptedOptimal p z (stampsPoint stamps) (strategyOf picks))
       go false a b c = record { answer = false; decides = optimal-broken holds stamps (rules .decides) a }
@@ -270,12 +270,12 @@ module _ {p : Problem} {left right : List ℕ} {n m class span : ℕ} {stamps pi
           }
       by-class false e true f d g =
           let two : class ≡ 2 = eqb-true class 2 f in
-          let picked = rw (highest-variable n m class two) at (formed .picked) in
+          let picked = rw (highest-unbounded n m class two) at (formed .picked) in
           let d = row-strategy-decided (signed-half - span-limit - 1) holds lowest-trial lowest-trial-is picked in
           record { answer = d .answer; decides = by-unbounded meant two (unbounded-at holds picked (d .decides)) }
       by-class false e false f true g =
           let three : class ≡ 3 = eqb-true class 3 g in
-          let picked = rw (highest-row n m class (eqb-false class 2 f)) at (formed .picked) in
+          let picked = rw (highest-infeasible n m class three) at (formed .picked) in
           let d = strategy-decided (signed-half + span-limit) holds top-trial top-trial-is picked in
           record { answer = d .answer; decides = by-infeasible meant three (infeasible-at holds picked (d .decides)) }
       by-class false e false f false g = absurd (class-other (formed .class-known) (eqb-false class 1 e) (eqb-false class 2 f) (eqb-false class 3 g))

@@ -1,11 +1,12 @@
 -- Soundness by bytes: an answer that nothing refuses and that is accepted says the class and span of the problem.
 use Prim.Native.Nat.{ℕ, suc}
 use mathlib.Core.Path.{_≡_, refl, _∙_}
-use mathlib.Core.Bool.{true, false≢true}
+use mathlib.Core.Bool.{Bool, true, false, cond, false≢true}
 use mathlib.Core.List.{List}
 use native.Mathlib.Omega.{arith}
+use lib.Dec.{eqb}
 use borrow.Author.Tests.{ne-eqb}
-use Rattle.definitions.specs.Limits.{class-optimal}
+use Rattle.definitions.specs.Limits.{class-optimal, class-unbounded, class-infeasible}
 use Rattle.definitions.specs.Tropical.{Trop, bot, fin}
 use Rattle.definitions.specs.ProblemRecord.{nField, mField, problemOf}
 use Rattle.definitions.specs.AnswerRecord.{is-blank, spanFits, pickCount, highestPick, answerOf, answerRefusal}
@@ -28,7 +29,12 @@ blank-is (fin z) e = absurd (false≢true e)
 
 span-blank : {class : ℕ} {x : Trop} → (class ≡ class-optimal → ⊥) → spanFits class x ≡ true → x ≡ bot
 unfolding spanFits
-span-blank {class} {x} d h = blank-is x (rw (ne-eqb class class-optimal d) at h)
+span-blank {class} {x} d h = blank-is x (go (eqb class class-unbounded) (eqb class class-infeasible) (rw (ne-eqb class class-optimal d) at h))
+  where
+    go : (s t : Bool) → cond s (is-blank x) (cond t (is-blank x) false) ≡ true → is-blank x ≡ true
+    go true t e = e
+    go false true e = e
+    go false false e = absurd (false≢true e)
 
 module _ (p a : List ℕ) (none : answerRefusal a (nField p) (mField p) ≡ 0) where
   fits : AnswerFits a (nField p) (mField p)

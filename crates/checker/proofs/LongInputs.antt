@@ -14,7 +14,7 @@ use Rattle.definitions.specs.Limits.{kept-bytes, length-bytes, problem-header, 
 use Rattle.definitions.specs.Tropical.{Trop}
 use Rattle.definitions.specs.Bytes.{numAt, Outcome, outcome}
 use Rattle.definitions.specs.ProblemRecord.{lengthField, kindField, nField, mField, headerRefusal, headerOutcome, problemRefusal, WithinLayout}
-use Rattle.definitions.specs.AnswerRecord.{known-class, classField, spanField, answerSize, answerHeaderRefusal, answerHeaderOutcome, answerRefusal}
+use Rattle.definitions.specs.AnswerRecord.{known-class, classField, spanField, answerSize, answerHeaderRefusal, answerHeaderJudged, answerHeaderOutcome, answerRefusal}
 use Rattle.definitions.specs.Verdict.{Verdict, refused, checkRefusal, Judged}
 use Rattle.definitions.specs.Programs.{cutPlace, problemPart, answerPart, KeptOf}
 use Rattle.definitions.proofs.Refusals.{or-else-suc, limits-clause, enough-clause, equal-clause, both-clause}
@@ -46,7 +46,7 @@ header-small kept end {l = l} e f =
 
 -- What is longer than every answer record is refused by its header.
 pub long-refused : (s : List ℕ) (size n m : ℕ) → n ≤ highest-n → m ≤ highest-m → answer-most < size → 0 < answerHeaderRefusal s size n m
-unfolding answerHeaderRefusal
+unfolding answerHeaderRefusal answerHeaderJudged
 long-refused s size n m h k l = ⊎-elim
     (λ (e : answerHeaderRefusal s size n m ≡ 0).
     let a = limits-clause n m _ _ .0 e in

@@ -16,14 +16,17 @@ ghost use Rattle.closed_walks.specs.Tables.{Stamped, Picked, stampsPoint};
 ghost use Rattle.checker.specs.Outcome.{verdictOf, answerRefused, Span, Meant, Formed, Answered};
 use answer_reader::answer::AnswerHead;
 use answer_reader::answer::read_answer;
-use answer_reader::limits::SPAN_LIMIT;
 use plan_tests::keeps_rules;
 use plan_tests::value_is;
 use problem_records::reader::judge_problem;
 use problem_records::reader::read_tables;
+use records::limits::INFEASIBLE;
 use records::limits::NOT_CERTIFIED;
 use records::limits::OFFSET;
+use records::limits::OPTIMAL;
+use records::limits::SPAN_LIMIT;
 use records::limits::TABLE;
+use records::limits::UNBOUNDED;
 use records::problem::Header;
 use records::problem::problem_refusal;
 use strategy_tests::certify::certify_rows;
@@ -83,10 +86,10 @@ fn certify(
     ensures { λ r. ⌜ ((a : Answer) → Meant a class span (now (stamps .entry)) (now (picks .entry)) → Decides (Accepted (problemOf (now (problem .entry))) a) r) ⌝ }
 {
     match class {
-        1 => certify_optimal(problem, n, m, stamps, picks, span),
-        2 => certify_unbounded(problem, n, m, picks),
-        3 => certify_variables(problem, n, m, picks, OFFSET + SPAN_LIMIT),
-        _ => false,
+        OPTIMAL => certify_optimal(problem, n, m, stamps, picks, span),
+        UNBOUNDED => certify_unbounded(problem, n, m, picks),
+        INFEASIBLE => certify_variables(problem, n, m, picks, OFFSET + SPAN_LIMIT),
+        0 | 4.. => false,
     }
 }
 

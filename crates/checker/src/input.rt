@@ -18,6 +18,8 @@ use problem_records::reader::judge_problem;
 use records::bytes::word_at;
 use records::limits::KEPT;
 use records::limits::LENGTH_BYTES;
+use records::limits::LENGTH_PLACE;
+use records::limits::REFUSED_LENGTH;
 use records::problem::Header;
 use records::problem::problem_refusal;
 use records::problem::read_header;
@@ -30,7 +32,7 @@ fn cut_place(input: &[u8]) -> usize
     if size < LENGTH_BYTES {
         return size;
     }
-    let end = word_at(input, 0) as usize + LENGTH_BYTES;
+    let end = word_at(input, LENGTH_PLACE) as usize + LENGTH_BYTES;
     if size < end {
         return size;
     }
@@ -78,9 +80,9 @@ fn judge_kept(kept: &[u8], size: usize) -> Verdict
     if size <= KEPT {
         return judge_whole(&kept[..size]);
     }
-    let end = word_at(kept, 0) as usize + LENGTH_BYTES;
+    let end = word_at(kept, LENGTH_PLACE) as usize + LENGTH_BYTES;
     if size < end {
-        return Verdict::Refused(2);
+        return Verdict::Refused(REFUSED_LENGTH);
     }
     judge_long(kept, size, end)
 }

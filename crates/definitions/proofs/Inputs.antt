@@ -13,8 +13,8 @@ use borrow.Author.Tests.{lt-ltb, le-ltb, eqb-true, ne-eqb}
 use Rattle.base.proofs.Numbers.{nat-le-or-lt}
 use Rattle.definitions.specs.Limits.{kept-bytes, word-values, length-bytes, problem-header, answer-header, signed-full, highest-n, highest-m, problem-kind}
 use Rattle.definitions.specs.Bytes.{Bytes, numAt, put}
-use Rattle.definitions.specs.ProblemRecord.{lengthField, kindField, nField, mField, headerRefusal, problemRefusal, WithinLayout, problemSize}
-use Rattle.definitions.specs.AnswerRecord.{answerHeaderRefusal, answerRefusal}
+use Rattle.definitions.specs.ProblemRecord.{lengthField, kindField, nField, mField, headerRefusal, headerJudged, problemRefusal, WithinLayout, problemSize}
+use Rattle.definitions.specs.AnswerRecord.{answerHeaderRefusal, answerHeaderJudged, answerRefusal}
 use Rattle.definitions.specs.Verdict.{Verdict, refused, checkRefusal, Judged, turned-away, certified, uncertified}
 use Rattle.definitions.specs.Programs.{cutPlace, problemPart, answerPart, KeptOf, SpanOutput, VerdictOutput, read-most, ReadFrom}
 use Rattle.definitions.specs.Programs as Programs
@@ -103,24 +103,24 @@ module _ (s t : List ℕ) (same : (i : ℕ) → i < problem-header → getD s i 
   m-agrees = fields-agree problem-header s t same 2 8 (omega arith)
 
   pub header-agrees : (size : ℕ) → headerRefusal s size ≡ headerRefusal t size
-  unfolding headerRefusal
+  unfolding headerRefusal headerJudged
   header-agrees size = rw (length-agrees, fields-agree problem-header s t same 2 4 (omega arith), n-agrees, m-agrees)
 
 pub answer-agrees : (s t : List ℕ) → ((i : ℕ) → i < answer-header → getD s i 0 ≡ getD t i 0) → (size n m : ℕ)
     → answerHeaderRefusal s size n m ≡ answerHeaderRefusal t size n m
-unfolding answerHeaderRefusal
+unfolding answerHeaderRefusal answerHeaderJudged
 answer-agrees s t same size n m =
     let at = fields-agree answer-header s t same in
     rw (at 4 0 (omega arith), at 2 4 (omega arith), at 2 6 (omega arith), at 2 8 (omega arith))
 
 -- Fewer than 10 bytes: refusal 1, whatever they are.
 pub header-short : (s : List ℕ) (size : ℕ) → size < problem-header → headerRefusal s size ≡ 1
-unfolding headerRefusal
+unfolding headerRefusal headerJudged
 header-short s size h = rw (lt-ltb size problem-header h)
 
 -- The length field is another than the size: refusal 2.
 pub header-length : (s : List ℕ) (size : ℕ) → problem-header ≤ size → (lengthField s + length-bytes ≡ size → ⊥) → headerRefusal s size ≡ 2
-unfolding headerRefusal
+unfolding headerRefusal headerJudged
 header-length s size h d = rw (le-ltb size problem-header h, ne-eqb (lengthField s + length-bytes) size d)
 
 -- ---- where an input is cut
@@ -151,7 +151,7 @@ far-problem {s} b h =
 
 -- And so is that of so long an answer.
 far-answer : {a : List ℕ} → Bytes a → signed-full + length-bytes ≤ length a → (n m : ℕ) → n ≤ highest-n → m ≤ highest-m → answerRefusal a n m ≡ 9
-unfolding answerRefusal answerHeaderRefusal
+unfolding answerRefusal answerHeaderRefusal answerHeaderJudged
 far-answer {a} b h n m f g =
     let nine : answerHeaderRefusal a (length a) n m ≡ 9 =
     rw (le-ltb highest-n n f, le-ltb highest-m m g, le-ltb (length a) answer-header (omega arith), ne-eqb (lengthField a + length-bytes) (length a) (λ e. omega (arith, field-below b))) in
@@ -167,7 +167,7 @@ span-far input other b c h g (Programs.answer a e ans) = absurd (let z = far-pro
 
 -- A header that nothing refuses says a size that is kept.
 header-most : (s : List ℕ) (size : ℕ) → headerRefusal s size ≡ 0 → size ≤ kept-bytes
-unfolding headerRefusal
+unfolding headerRefusal headerJudged
 header-most s size e =
     let a = enough-clause size problem-header _ _ .0 e in
     let b = equal-clause (lengthField s + length-bytes) size _ _ .0 (a .1) in

@@ -13,8 +13,8 @@ use borrow.Author.Tests.{ltb-false, eqb-true, not-false, le-ltb, eq-eqb}
 use Rattle.definitions.specs.Limits.{highest-n, highest-m, lead-limit, length-bytes, signed-bytes, problem-kind, answer-kind, problem-header, answer-header, answer-most}
 use Rattle.definitions.specs.Tropical.{fin}
 use Rattle.definitions.specs.Bytes.{tropField, tropAt, all, blank-or-within, or-else}
-use Rattle.definitions.specs.ProblemRecord.{problemSize, lengthField, kindField, nField, mField, leadsOf, above-limits, headerRefusal, problemRefusal, WithinLayout, problemOf, leftPlace, rightPlace}
-use Rattle.definitions.specs.AnswerRecord.{Answer, known-class, stampCount, pickCount, highestPick, answerSize, spanFits, stampsFit, picksFit, formRefusal, rightCounts, classField, answerOf, answerHeaderRefusal, answerRefusal, writerRefusal}
+use Rattle.definitions.specs.ProblemRecord.{problemSize, lengthField, kindField, nField, mField, leadsOf, above-limits, headerRefusal, headerJudged, problemRefusal, WithinLayout, problemOf, leftPlace, rightPlace}
+use Rattle.definitions.specs.AnswerRecord.{Answer, known-class, stampCount, pickCount, highestPick, answerSize, spanFits, stampsFit, picksFit, formRefusal, rightCounts, classField, answerOf, answerHeaderRefusal, answerHeaderJudged, answerRefusal, writerRefusal, writerJudged}
 use Rattle.definitions.proofs.Bytes.{all-numsAt}
 use Rattle.definitions.proofs.Offset.{within-size}
 
@@ -92,7 +92,7 @@ pub record ProblemFits (s : List ℕ) : Type 0 where
 
 -- Nothing refuses a problem exactly when these hold.
 pub problem-fits : (s : List ℕ) → WithinLayout s ↔ ProblemFits s
-unfolding problemRefusal headerRefusal
+unfolding problemRefusal headerRefusal headerJudged
 problem-fits s = (fits, within)
   where
     fits : WithinLayout s → ProblemFits s
@@ -201,7 +201,7 @@ pub record AnswerFits (s : List ℕ) (n m : ℕ) : Type 0 where
 
 -- Nothing refuses an answer exactly when these hold.
 pub answer-fits : (s : List ℕ) (n m : ℕ) → (answerRefusal s n m ≡ 0) ↔ AnswerFits s n m
-unfolding answerRefusal answerHeaderRefusal
+unfolding answerRefusal answerHeaderRefusal answerHeaderJudged
 answer-fits s n m = (fits, within)
   where
     fits : answerRefusal s n m ≡ 0 → AnswerFits s n m
@@ -255,7 +255,7 @@ pub record WriterFits (a : Answer) (n m room : ℕ) : Type 0 where
 
 -- The writer refuses nothing exactly when these hold.
 pub writer-fits : (a : Answer) (n m room : ℕ) → (writerRefusal a n m room ≡ 0) ↔ WriterFits a n m room
-unfolding writerRefusal rightCounts
+unfolding writerRefusal writerJudged rightCounts
 writer-fits a n m room = (fits, within)
   where
     fits : writerRefusal a n m room ≡ 0 → WriterFits a n m room

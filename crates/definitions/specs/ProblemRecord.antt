@@ -6,7 +6,7 @@ use mathlib.Core.Bool.{Bool, not, _||_}
 use mathlib.Core.List.{List, [], _∷_, _++_, map}
 use lib.Dec.{eqb, ltb}
 use lib.ListN.{length}
-use Rattle.definitions.specs.Limits.{highest-n, highest-m, lead-limit, length-bytes, short-bytes, signed-bytes, kind-place, n-place, m-place, problem-kind, problem-header}
+use Rattle.definitions.specs.Limits.{highest-n, highest-m, lead-limit, length-bytes, short-bytes, signed-bytes, kind-place, n-place, m-place, problem-kind, problem-header, refused-short, refused-length, refused-kind, refused-limits, refused-size, refused-lead}
 use Rattle.definitions.specs.Tropical.{Trop}
 use Rattle.definitions.specs.Problem.{Problem}
 use Rattle.definitions.specs.Bytes.{numAt, numsAt, le, fields, tropField, fieldOf, tropAt, all, blank-or-within, Clause, first, or-else, Outcome, outcome}
@@ -36,16 +36,29 @@ leadsOf s = map tropField (numsAt signed-bytes (2 * (suc (nField s) * suc (mFiel
 abbrev pub above-limits : ℕ → ℕ → Bool
 above-limits n m = ltb highest-n n || ltb highest-m m
 
+-- Refusal 4: n or m is above its limit.
+abbrev pub limitsRefused : ℕ → ℕ → Clause
+limitsRefused n m = record { applies = above-limits n m; number = refused-limits }
+
+-- Refusals 4 and 5 on numbers: the size, n and m.
+abbrev pub countsRefused : ℕ → ℕ → ℕ → List Clause
+countsRefused size n m =
+    limitsRefused n m
+    ∷ record { applies = not (eqb size (problemSize n m)); number = refused-size }
+    ∷ []
+
+-- The first of refusals 1 to 5 on numbers: the size, and the header's length, kind, n and m.
+unfoldable pub headerJudged : ℕ → ℕ → ℕ → ℕ → ℕ → ℕ
+headerJudged size length kind n m =
+    first
+    (record { applies = ltb size problem-header; number = refused-short }
+    ∷ record { applies = not (eqb (length + length-bytes) size); number = refused-length }
+    ∷ record { applies = not (eqb kind problem-kind); number = refused-kind }
+    ∷ countsRefused size n m)
+
 -- Refusals 1 to 5 concern the first bytes of a problem and its size.
 unfoldable pub headerRefusal : List ℕ → ℕ → ℕ
-headerRefusal s size =
-    first
-    (record { applies = ltb size problem-header; number = 1 }
-    ∷ record { applies = not (eqb (lengthField s + length-bytes) size); number = 2 }
-    ∷ record { applies = not (eqb (kindField s) problem-kind); number = 3 }
-    ∷ record { applies = above-limits (nField s) (mField s); number = 4 }
-    ∷ record { applies = not (eqb size (problemSize (nField s) (mField s))); number = 5 }
-    ∷ [])
+headerRefusal s size = headerJudged size (lengthField s) (kindField s) (nField s) (mField s)
 
 -- Refusal 6: a lead is neither blank nor within ±10,080.
 abbrev pub leadRefused : List ℕ → Bool
@@ -53,7 +66,7 @@ leadRefused s = not (all (blank-or-within lead-limit) (leadsOf s))
 
 -- The first of refusals 1 to 6 that applies to a problem, 0 where none does.
 unfoldable pub problemRefusal : List ℕ → ℕ
-problemRefusal s = or-else (headerRefusal s (length s)) (first (record { applies = leadRefused s; number = 6 } ∷ []))
+problemRefusal s = or-else (headerRefusal s (length s)) (first (record { applies = leadRefused s; number = refused-lead } ∷ []))
 
 -- A problem is within the layout if no refusal that concerns the problem applies to it.
 abbrev pub WithinLayout : List ℕ → Type 0

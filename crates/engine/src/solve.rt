@@ -7,12 +7,12 @@ ghost use Rattle.definitions.specs.Solved.{Solves};
 ghost use Rattle.engine.specs.Outcome.{solvedOf, FoundFor, WroteFor};
 use answer_reader::class::pick_count;
 use answer_reader::class::stamp_count;
-use answer_writer::limits::ANSWER_MOST;
 use answer_writer::writer::Written;
 use answer_writer::writer::write_answer;
 use class_answers::answer::Answer;
 use class_answers::answer::solve_tables;
 use problem_records::reader::read_problem;
+use records::limits::ANSWER_MOST;
 use records::problem::Header;
 use records::problem::problem_refusal;
 

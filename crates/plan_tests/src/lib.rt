@@ -17,8 +17,8 @@ ghost use Rattle.closed_walks.specs.Tables.{Stamped, stampsPoint};
 ghost use Rattle.plan_tests.specs.Sides.{lowered, Lowered, side-floor, run, bestSum, sideOf, RowSized};
 use problem_records::reader::row_place;
 use records::bytes::word_in;
+use records::limits::HIGHEST_N;
 use records::limits::LEAD_BYTES;
-use records::limits::MOST_VARIABLES;
 use records::limits::OFFSET;
 use records::limits::PROBLEM_HEADER;
 use records::limits::STRIDE;
@@ -83,7 +83,7 @@ fn best(bytes: &[u8], at: usize, n: usize, x: &[u32; 32]) -> u32
     requires { ⌜ RowSized (now bytes) at (n + 1) (now x) ⌝ }
     ensures { λ r. ⌜ (off r ≡ bestSum (run (now (bytes .entry)) at) (now (x .entry)) (n + 1)) × (r < signed-full) ⌝ }
 {
-    if n == MOST_VARIABLES {
+    if n == HIGHEST_N {
         return best_of(bytes, at, STRIDE, x);
     }
     best_of(bytes, at, n + 1, x)
@@ -116,7 +116,7 @@ fn none_above(bytes: &[u8], at: usize, n: usize, x: &[u32; 32], limit: u32) -> b
     requires { ⌜ RowSized (now bytes) at (n + 1) (now x) × (side-floor ≤ limit) ⌝ }
     ensures { λ r. ⌜ Decides (bestSum (run (now (bytes .entry)) at) (now (x .entry)) (n + 1) ≤ limit) r ⌝ }
 {
-    if n == MOST_VARIABLES {
+    if n == HIGHEST_N {
         return none_above_of(bytes, at, STRIDE, x, limit);
     }
     none_above_of(bytes, at, n + 1, x, limit)

@@ -6,7 +6,7 @@ use native.Mathlib.Omega.{arith}
 use lib.ListN.{length}
 use lib.IntN.{pos, negsuc}
 use borrow.Author.Tests.{eq-eqb, ne-eqb}
-use Rattle.definitions.specs.Limits.{signed-half}
+use Rattle.definitions.specs.Limits.{signed-half, class-optimal, class-unbounded, class-infeasible}
 use Rattle.definitions.specs.Tropical.{Trop}
 use Rattle.definitions.specs.Offset.{tropOf}
 use Rattle.definitions.specs.Verdict.{accepted, refused, not-certified}
@@ -40,19 +40,25 @@ span-down {span = span} p q n h inside =
 
 module _ {l : List ℕ} {at : ℕ} (class : ℕ) (span : Trop) {after : List ℕ} {next : ℕ} where
   -- Class 1 is least.
-  pub words-least : Putting l at (text-least ++ spanDecimal span) after next → class ≡ 1 → Putting l at (classWords class span) after next
+  pub words-least : Putting l at (text-least ++ spanDecimal span) after next → class ≡ class-optimal → Putting l at (classWords class span) after next
   unfolding classWords
-  words-least p e = rw (eq-eqb class 1 e) p
+  words-least p e = rw e p
 
   -- Class 2 is bottomless.
-  pub words-bottomless : Putting l at text-bottomless after next → class ≡ 2 → Putting l at (classWords class span) after next
+  pub words-bottomless : Putting l at text-bottomless after next → class ≡ class-unbounded → Putting l at (classWords class span) after next
   unfolding classWords
-  words-bottomless p e = rw (ne-eqb class 1 (omega arith), eq-eqb class 2 e) p
+  words-bottomless p e = rw e p
 
-  -- Any other is none.
-  pub words-none : Putting l at text-none after next → (class ≡ 1 → ⊥) → (class ≡ 2 → ⊥) → Putting l at (classWords class span) after next
+  -- Class 3 is none.
+  pub words-none : Putting l at text-none after next → class ≡ class-infeasible → Putting l at (classWords class span) after next
   unfolding classWords
-  words-none p m n = rw (ne-eqb class 1 m, ne-eqb class 2 n) p
+  words-none p e = rw e p
+
+-- A number that is no class has no words.
+pub words-other : (l : List ℕ) (at class : ℕ) (span : Trop) → (class ≡ class-optimal → ⊥) → (class ≡ class-unbounded → ⊥) → (class ≡ class-infeasible → ⊥)
+    → Putting l at (classWords class span) l at
+unfolding classWords
+words-other l at class span x y z = rw (ne-eqb class class-optimal x, ne-eqb class class-unbounded y, ne-eqb class class-infeasible z) (put-nothing l at)
 
 -- ---- lines
 

@@ -1,8 +1,11 @@
 // The lines that the programs print, as bytes. Document 01, "Two programs". Each ends with one newline.
 use crate::text::copy;
 use crate::text::put_decimal;
+use records::limits::INFEASIBLE;
 use records::limits::NOT_CERTIFIED;
 use records::limits::OFFSET;
+use records::limits::OPTIMAL;
+use records::limits::UNBOUNDED;
 ghost use mathlib.Core.Path.{_≡_};
 ghost use Prim.Native.Nat.{_+_, _≤_, _<_};
 ghost use mathlib.Core.List.{_++_};
@@ -39,15 +42,16 @@ fn put_least(line: &mut [u8], at: usize, span: u64) -> usize
     put_span(line, next, span)
 }
 
-// Puts the class in words, then the span for least.
+// Puts the class in words, then the span for least. A number that is no class has no words.
 fn put_class(line: &mut [u8], at: usize, class: u64, span: u64) -> usize
     requires { ⌜ at + 27 ≤ length (now line) ⌝ }
     ensures { λ r. ⌜ Putting (now (line .entry)) at (classWords class (tropOf span)) (now (line .exit)) r × (r ≤ at + 27) ⌝ }
 {
     match class {
-        1 => put_least(line, at, span),
-        2 => copy(line, at, b"bottomless"),
-        _ => copy(line, at, b"none"),
+        OPTIMAL => put_least(line, at, span),
+        UNBOUNDED => copy(line, at, b"bottomless"),
+        INFEASIBLE => copy(line, at, b"none"),
+        0 | 4.. => at,
     }
 }
 

@@ -11,11 +11,12 @@ ghost use Rattle.records.specs.ProblemHeader.{headerOf};
 ghost use Rattle.problem_records.specs.Tables.{runFits, leadAt, ProblemRead};
 ghost use Rattle.problem_records.specs.Filling.{rowCell, RowOf, Framed, QuestionHeld, Tabled};
 use records::bytes::word_in;
+use records::limits::HIGHEST_N;
 use records::limits::LEAD_BYTES;
 use records::limits::LEAD_LIMIT;
-use records::limits::MOST_VARIABLES;
 use records::limits::OFFSET_32;
 use records::limits::PROBLEM_HEADER;
+use records::limits::REFUSED_LEAD;
 use records::limits::STRIDE;
 use records::limits::TABLE;
 use records::offset::offset_32;
@@ -101,7 +102,7 @@ fn leads_of(bytes: &[u8], at: usize, n: usize) -> [u32; STRIDE]
     requires { ⌜ (n ≤ 31) × (at + 4 * (n + 1) ≤ length (now bytes)) ⌝ }
     ensures { λ r. ⌜ RowOf (λ j. leadAt (now (bytes .entry)) (at + 4 * j)) (n + 1) r ⌝ }
 {
-    if n == MOST_VARIABLES {
+    if n == HIGHEST_N {
         return row_of(bytes, at, STRIDE);
     }
     row_of(bytes, at, n + 1)
@@ -191,7 +192,7 @@ pub fn judge_problem(bytes: &[u8]) -> Header
         return header;
     };
     if !leads_fit(bytes, lead_count(layout.n, layout.m)) {
-        return Header::Refused(6);
+        return Header::Refused(REFUSED_LEAD);
     }
     header
 }

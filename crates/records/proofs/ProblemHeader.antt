@@ -6,14 +6,14 @@ use native.Mathlib.Omega.{arith}
 use native.Mathlib.Nat.{mul-le-mul-left, mul-le-mul-right}
 use Rattle.definitions.specs.Limits.{highest-n, highest-m, length-bytes, problem-kind, problem-header}
 use Rattle.definitions.specs.Bytes.{Outcome, outcome}
-use Rattle.definitions.specs.ProblemRecord.{lengthField, kindField, nField, mField, layoutOf, headerRefusal, headerOutcome, problemSize}
+use Rattle.definitions.specs.ProblemRecord.{lengthField, kindField, nField, mField, layoutOf, headerRefusal, headerJudged, headerOutcome, problemSize}
 use Rattle.definitions.specs.ProblemRecord as Problems
 use Rattle.definitions.proofs.Outcomes.{outcome-none, outcome-some, outcome-gives, outcome-refusal}
 use Rattle.definitions.proofs.Refusals.{enough-clause, equal-clause, limits-clause}
 use Rattle.records.specs.declared.problem.Layout.{Layout}
 use Rattle.records.specs.declared.problem.Header.{Header}
 use Rattle.records.specs.declared.problem.Header.the-variants.{Told, Refused}
-use Rattle.records.specs.ProblemHeader.{layoutIn, headerOf, judged}
+use Rattle.records.specs.ProblemHeader.{layoutIn, headerOf}
 
 -- No refusal: the layout.
 pub header-told : (refusal : ℕ) (l : Layout) → refusal ≡ 0 → headerOf (Told l) ≡ outcome refusal (layoutIn l)
@@ -27,10 +27,10 @@ header-refused refusal l h = sym (outcome-some refusal (layoutIn l) h)
 
 -- The numbers that the header holds decide: judging them is judging the bytes.
 pub header-judged : (s : List ℕ) (size : ℕ) (r : Header) {len kind n m refusal : ℕ} {l : Problems.Layout}
-    → len ≡ lengthField s → kind ≡ kindField s → n ≡ nField s → m ≡ mField s → refusal ≡ judged size len kind n m
+    → len ≡ lengthField s → kind ≡ kindField s → n ≡ nField s → m ≡ mField s → refusal ≡ headerJudged size len kind n m
     → l ≡ record { kind = kind; n = n; m = m; leads = problem-header; questions = 1 } → headerOf r ≡ outcome refusal l
     → headerOf r ≡ headerOutcome s size
-unfolding headerOutcome headerRefusal judged
+unfolding headerOutcome headerRefusal
 header-judged s size r a b c d e g f = rw (f, g, e, a, b, c, d)
 
 -- The leads of a table within the limits are at most 2,048.
@@ -61,7 +61,7 @@ answer-refused refusal a {k = k} e f = outcome-refusal refusal a k (sym e ∙ ap
 
 -- A header that gives a layout fits.
 pub header-fits : (s : List ℕ) (size : ℕ) {r : Header} {l : Layout} → headerOf r ≡ headerOutcome s size → r ≡ Told l → HeaderFits s size l
-unfolding headerOutcome headerRefusal
+unfolding headerOutcome headerRefusal headerJudged
 header-fits s size {l = l} e f =
     let g = answer-told (headerRefusal s size) (layoutOf s) e f in
     let a = enough-clause size problem-header _ _ .0 (g .0) in

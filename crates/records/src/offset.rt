@@ -5,7 +5,7 @@ use crate::limits::OFFSET_32;
 ghost use mathlib.Core.Path.{_≡_};
 ghost use Prim.Native.Nat.{_+_, _<_};
 ghost use Rattle.base.specs.Numbers.{most};
-ghost use Rattle.definitions.specs.Limits.{signed-full};
+ghost use Rattle.definitions.specs.Limits.{signed-half, signed-full};
 ghost use Rattle.definitions.specs.Bytes.{whole-within, blank-or-within};
 ghost use Rattle.definitions.specs.Offset.{tropOf, off};
 
@@ -49,7 +49,7 @@ pub fn raised(w: u32, d: u32) -> u32
 
 // The number is whole and within ±limit. Public for `answer_reader::class`.
 pub fn whole_within(limit: u64, k: u64) -> bool
-    requires { ⌜ limit < 2147483648 ⌝ }
+    requires { ⌜ limit < signed-half ⌝ }
     ensures { λ r. ⌜ r ≡ whole-within limit (tropOf k) ⌝ }
 {
     if k < OFFSET - limit {
@@ -60,7 +60,7 @@ pub fn whole_within(limit: u64, k: u64) -> bool
 
 // The number is blank, or within ±limit. Public for `answer_reader::answer`.
 pub fn blank_or_within(limit: u64, k: u64) -> bool
-    requires { ⌜ limit < 2147483648 ⌝ }
+    requires { ⌜ limit < signed-half ⌝ }
     ensures { λ r. ⌜ r ≡ blank-or-within limit (tropOf k) ⌝ }
 {
     match k {

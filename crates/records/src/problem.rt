@@ -1,16 +1,27 @@
 // The problem record: its header judged.
 ghost use mathlib.Core.Path.{_≡_};
 ghost use Prim.Native.Nat.{_+_, _*_, _<_, _≤_};
-ghost use Rattle.definitions.specs.Bytes.{outcome};
-ghost use Rattle.definitions.specs.ProblemRecord.{problemSize, headerOutcome};
-ghost use Rattle.records.specs.ProblemHeader.{layoutIn, headerOf, problemRefused, judged, countsJudged};
+ghost use Rattle.definitions.specs.Limits.{highest-n, highest-m, signed-full, leads-most, problem-most};
+ghost use Rattle.definitions.specs.Bytes.{first, outcome};
+ghost use Rattle.definitions.specs.ProblemRecord.{problemSize, countsRefused, headerJudged, headerOutcome};
+ghost use Rattle.records.specs.ProblemHeader.{layoutIn, headerOf, problemRefused};
 use crate::bytes::short_at;
 use crate::bytes::word_at;
+use crate::limits::HIGHEST_M;
+use crate::limits::HIGHEST_N;
+use crate::limits::KIND_PLACE;
 use crate::limits::LEAD_BYTES;
 use crate::limits::LENGTH_BYTES;
-use crate::limits::MOST_INEQUALITIES;
-use crate::limits::MOST_VARIABLES;
+use crate::limits::LENGTH_PLACE;
+use crate::limits::M_PLACE;
+use crate::limits::N_PLACE;
 use crate::limits::PROBLEM_HEADER;
+use crate::limits::PROBLEM_KIND;
+use crate::limits::REFUSED_KIND;
+use crate::limits::REFUSED_LENGTH;
+use crate::limits::REFUSED_LIMITS;
+use crate::limits::REFUSED_SHORT;
+use crate::limits::REFUSED_SIZE;
 
 // Where things stand in a problem record: its kind, n and m, where its leads start, and how many questions follow its rules.
 pub struct Layout {
@@ -29,51 +40,51 @@ pub enum Header {
 
 // How many leads a problem has, from n and m within their limits. Public for `problem_records::reader`.
 pub fn lead_count(n: usize, m: usize) -> usize
-    requires { ⌜ (n ≤ 31) × (m ≤ 63) ⌝ }
-    ensures { λ r. ⌜ (r ≡ 2 * ((n + 1) * (m + 1))) × (r ≤ 4096) ⌝ }
+    requires { ⌜ (n ≤ highest-n) × (m ≤ highest-m) ⌝ }
+    ensures { λ r. ⌜ (r ≡ 2 * ((n + 1) * (m + 1))) × (r ≤ leads-most) ⌝ }
 {
     2 * ((n + 1) * (m + 1))
 }
 
 // The size of a problem record, from n and m within their limits.
 fn problem_size(n: usize, m: usize) -> usize
-    requires { ⌜ (n ≤ 31) × (m ≤ 63) ⌝ }
-    ensures { λ r. ⌜ (r ≡ problemSize n m) × (r ≤ 16394) ⌝ }
+    requires { ⌜ (n ≤ highest-n) × (m ≤ highest-m) ⌝ }
+    ensures { λ r. ⌜ (r ≡ problemSize n m) × (r ≤ problem-most) ⌝ }
 {
     PROBLEM_HEADER + LEAD_BYTES * lead_count(n, m)
 }
 
 // Refusals 4 and 5: n and m against their limits, then the size.
 fn judge_counts(size: usize, n: usize, m: usize) -> usize
-    ensures { λ r. ⌜ r ≡ countsJudged size n m ⌝ }
+    ensures { λ r. ⌜ r ≡ first (countsRefused size n m) ⌝ }
 {
-    if MOST_VARIABLES < n {
-        return 4;
+    if HIGHEST_N < n {
+        return REFUSED_LIMITS;
     }
-    if MOST_INEQUALITIES < m {
-        return 4;
+    if HIGHEST_M < m {
+        return REFUSED_LIMITS;
     }
     if size != problem_size(n, m) {
-        return 5;
+        return REFUSED_SIZE;
     }
     0
 }
 
 // Refusals 1 to 5 on the header's numbers: the first that applies, 0 where none does.
 fn judge(size: usize, length: usize, kind: u16, n: usize, m: usize) -> usize
-    requires { ⌜ length < 4294967296 ⌝ }
-    ensures { λ r. ⌜ r ≡ judged size length kind n m ⌝ }
+    requires { ⌜ length < signed-full ⌝ }
+    ensures { λ r. ⌜ r ≡ headerJudged size length kind n m ⌝ }
 {
     let whole = length + LENGTH_BYTES;
     if size < PROBLEM_HEADER {
-        return 1;
+        return REFUSED_SHORT;
     }
     if whole != size {
-        return 2;
+        return REFUSED_LENGTH;
     }
     match kind {
-        1 => judge_counts(size, n, m),
-        0 | 2..=65535 => 3,
+        PROBLEM_KIND => judge_counts(size, n, m),
+        0 | 2.. => REFUSED_KIND,
     }
 }
 
@@ -92,10 +103,10 @@ fn answered(refusal: usize, layout: Layout) -> Header
 pub fn read_header(bytes: &[u8], size: usize) -> Header
     ensures { λ r. ⌜ headerOf r ≡ headerOutcome (now (bytes .entry)) size ⌝ }
 {
-    let length = word_at(bytes, 0) as usize;
-    let kind = short_at(bytes, 4) as u16;
-    let n = short_at(bytes, 6) as usize;
-    let m = short_at(bytes, 8) as usize;
+    let length = word_at(bytes, LENGTH_PLACE) as usize;
+    let kind = short_at(bytes, KIND_PLACE) as u16;
+    let n = short_at(bytes, N_PLACE) as usize;
+    let m = short_at(bytes, M_PLACE) as usize;
     let layout = Layout {
         kind: kind as usize,
         n,

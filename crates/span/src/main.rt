@@ -6,13 +6,13 @@ ghost use mathlib.Core.List.{List};
 ghost use lib.ListN.{length, take};
 ghost use Rattle.definitions.specs.Programs.{ReadFrom, SpanOutput};
 ghost use Rattle.span.specs.Shown.{out-most, Shown, shownRecord};
-use answer_writer::limits::ANSWER_MOST;
 use engine::input::solve_input;
 use engine::solve::Solved;
 use input::read_all;
 use libc::STDOUT_FILENO;
 use output::writer::write_record;
 use output::writer::write_refused;
+use records::limits::ANSWER_MOST;
 use records::limits::KEPT;
 
 // Room for what is put out: a record, or a line.

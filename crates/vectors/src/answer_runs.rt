@@ -3,6 +3,9 @@ use crate::noise;
 use crate::print;
 use answer_reader::answer::AnswerHead;
 use answer_reader::answer::read_answer;
+use records::limits::INFEASIBLE;
+use records::limits::OPTIMAL;
+use records::limits::UNBOUNDED;
 
 fn show_refused(number: usize, stamps: &[u64; 32], picks: &[u64; 64]) {
     print::counted(b"refused ", number as u64);
@@ -38,12 +41,13 @@ fn show_read(class: u64, span: u64) {
 // What the class has of stamps and picks.
 fn show_lists(class: u64, n: usize, m: usize, stamps: &[u64; 32], picks: &[u64; 64]) {
     match class {
-        1 => {
+        OPTIMAL => {
             show_stamps(stamps, n);
             show_picks(picks, n);
         }
-        2 => show_picks(picks, m),
-        _ => show_picks(picks, n),
+        UNBOUNDED => show_picks(picks, m),
+        INFEASIBLE => show_picks(picks, n),
+        0 | 4.. => (),
     }
 }
 

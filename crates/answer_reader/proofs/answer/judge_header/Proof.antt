@@ -1,24 +1,24 @@
 use Rattle.answer_reader.proofs.Reading.{judged-kind, judged-n, judged-size, judged-none}
-use Rattle.answer_reader.specs.AnswerReading.{headerJudged}
+use Rattle.definitions.specs.AnswerRecord.{answerHeaderJudged}
 use borrow.Author.Tests.{ne-eqb, lt-ltb, le-ltb, not-true, not-false}
 use borrow.Author.Needs.{needs}
 use Rattle.answer_reader.proofs.answer.judge_header.Statement.{statement}
 use Rattle.answer_reader.proofs.answer.judge_header.Tie as tie
 
 returns : tie.Need-returns
-unfolding headerJudged
+unfolding answerHeaderJudged
 returns c = search (lt-ltb)
 
 returns-2 : tie.Need-returns-2
-unfolding headerJudged
+unfolding answerHeaderJudged
 returns-2 c = search (lt-ltb, le-ltb)
 
 returns-3 : tie.Need-returns-3
-unfolding headerJudged
+unfolding answerHeaderJudged
 returns-3 c = search (lt-ltb, le-ltb)
 
 returns-4 : tie.Need-returns-4
-unfolding headerJudged
+unfolding answerHeaderJudged
 returns-4 c = search (lt-ltb, le-ltb, ne-eqb)
 
 pub judge-header-spec : {M : Type 1} → statement M

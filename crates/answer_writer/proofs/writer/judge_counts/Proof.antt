@@ -1,20 +1,20 @@
 use Rattle.answer_writer.proofs.Writing.{counts-class, counts-stamps, counts-picks, counts-right}
-use Rattle.answer_writer.specs.AnswerWriting.{countsJudged}
+use Rattle.definitions.specs.AnswerRecord.{writerJudged}
 use borrow.Author.Tests.{lt-ltb, le-ltb, not-true, not-false}
 use borrow.Author.Needs.{needs}
 use Rattle.answer_writer.proofs.writer.judge_counts.Statement.{statement}
 use Rattle.answer_writer.proofs.writer.judge_counts.Tie as tie
 
 returns : tie.Need-returns
-unfolding countsJudged
+unfolding writerJudged
 returns c = search lt-ltb
 
 returns-2 : tie.Need-returns-2
-unfolding countsJudged
+unfolding writerJudged
 returns-2 c = search (lt-ltb, le-ltb)
 
 returns-3 : tie.Need-returns-3
-unfolding countsJudged
+unfolding writerJudged
 returns-3 c = search (lt-ltb, le-ltb)
 
 pub judge-counts-spec : {M : Type 1} → statement M

@@ -1,23 +1,18 @@
 use Rattle.records.proofs.Tests.{tests}
-use Rattle.records.specs.ProblemHeader.{countsJudged}
 use borrow.Author.Needs.{needs}
 use Rattle.records.proofs.problem.judge_counts.Statement.{statement}
 use Rattle.records.proofs.problem.judge_counts.Tie as tie
 
 returns : tie.Need-returns
-unfolding countsJudged
 returns c = search tests
 
 returns-2 : tie.Need-returns-2
-unfolding countsJudged
 returns-2 c = search tests
 
 returns-3 : tie.Need-returns-3
-unfolding countsJudged
 returns-3 c = search (tests, ← c .before .problem-size .ensures .0)
 
 returns-4 : tie.Need-returns-4
-unfolding countsJudged
 returns-4 c = search (tests, ← c .before .problem-size .ensures .0)
 
 pub judge-counts-spec : {M : Type 1} → statement M
