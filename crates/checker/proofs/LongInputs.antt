@@ -13,7 +13,7 @@ use Rattle.base.proofs.Numbers.{nat-le-or-lt}
 use Rattle.definitions.specs.Limits.{kept-bytes, length-bytes, problem-header, answer-header, answer-most, highest-n, highest-m, answer-kind}
 use Rattle.definitions.specs.Tropical.{Trop}
 use Rattle.definitions.specs.Bytes.{numAt, Outcome, outcome}
-use Rattle.definitions.specs.ProblemRecord.{lengthField, kindField, nField, mField, headerRefusal, headerOutcome, problemRefusal, WithinLayout}
+use Rattle.definitions.specs.ProblemRecord.{lengthField, kindField, nField, mField, headerRefusal, headerOutcome, problemRefusal, WithinLayout, refusalFor}
 use Rattle.definitions.specs.AnswerRecord.{known-class, classField, spanField, answerSize, answerHeaderRefusal, answerHeaderJudged, answerHeaderOutcome, answerRefusal}
 use Rattle.definitions.specs.Verdict.{Verdict, refused, checkRefusal, Judged}
 use Rattle.definitions.specs.Programs.{cutPlace, problemPart, answerPart, KeptOf}
@@ -106,7 +106,7 @@ module _ {kept input : List ℕ} {size end : ℕ} (longer : Longer kept size inp
   -- The header is refused.
   pub long-header : {header : Header} {j r : ℕ} → headerOf header ≡ headerOutcome kept end → header ≡ Headers.Refused j → r ≡ problemRefused header
       → Judged (take end input) (drop end input) (refused r)
-  unfolding problemRefusal checkRefusal problemRefused
+  unfolding refusalFor checkRefusal problemRefused
   long-header {header} {j} {r} e f g =
       let q = header-refuses kept end e f in
       let is : r ≡ j = g ∙ ap problemRefused f in
@@ -144,7 +144,7 @@ module _ {kept input : List ℕ} {size end : ℕ} (longer : Longer kept size inp
 -- The length field reaches past the input: all of it is the problem, and refusal 2 applies.
 pub long-past : {kept input : List ℕ} {size : ℕ} → Longer kept size input → kept-bytes < size → size < lengthField kept + length-bytes
     → Judged (problemPart input) (answerPart input) (refused 2)
-unfolding problemRefusal checkRefusal
+unfolding refusalFor checkRefusal
 long-past {kept} {input} {size} longer h k =
     let e = length-agrees input kept (λ i b. longer .begins i (omega arith)) in
     let cut : size ≡ cutPlace input = sym (longer .size-is) ∙ cut-past input (omega (arith, longer .size-is)) (omega (arith, longer .size-is)) in

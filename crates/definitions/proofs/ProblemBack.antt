@@ -15,7 +15,7 @@ use Rattle.definitions.specs.Problem.{Problem}
 use Rattle.definitions.specs.Bytes.{numAt, numsAt, le, fields, tropField, fieldOf, tropAt, all, blank-or-within}
 use Rattle.definitions.specs.ProblemRecord.{WithinLayout, problemOf, problemSize, headerBytes, problemBytes, rowBytes, rowsBytes, leadsOf, listOf, nField, mField, lengthField, kindField, leftPlace, rightPlace}
 use Rattle.definitions.proofs.Bytes.{length-le, length-fields, fields-append, nums-fields, Below, getD-numsAt, all-true}
-use Rattle.definitions.proofs.Refusals.{problem-fits}
+use Rattle.definitions.proofs.Refusals.{problem-fits, leads-one}
 use Rattle.definitions.proofs.RoundTrip.{trops-back, trops-below, num-here, num-past}
 
 -- ---- a function as a list
@@ -206,11 +206,15 @@ module _ (p : Problem) (n-most : p .n ≤ highest-n) (m-most : p .m ≤ highest-
   unfolding whole
   read-back = rw record-is (read-n (p .n) (p .m) _ (omega arith), read-m (p .n) (p .m) _ (omega arith))
 
+  kind-back : kindField (problemBytes p) ≡ problem-kind
+  unfolding whole
+  kind-back = rw record-is (read-kind (p .n) (p .m) _)
+
   leads-back : leadsOf (problemBytes p) ≡ all-leads
-  unfolding leadsOf fields-of
+  unfolding fields-of
   leads-back =
       let e : 2 * (suc (nField (problemBytes p)) * suc (mField (problemBytes p))) ≡ length fields-of = rw (read-back .0, read-back .1) (sym many) in
-      rw (e, record-is) (ap (map tropField) (read-leads (p .n) (p .m) fields-of small) ∙ trops-back lead-limit (omega arith) all-leads fit)
+      leads-one (problemBytes p) kind-back ∙ rw (e, record-is) (ap (map tropField) (read-leads (p .n) (p .m) fields-of small) ∙ trops-back lead-limit (omega arith) all-leads fit)
 
   size-is : length (problemBytes p) ≡ problemSize (p .n) (p .m)
   size-is = rw record-is (length-whole (p .n) (p .m) fields-of ∙ rw many (omega arith))
@@ -229,7 +233,7 @@ problem-back p n-most m-most l =
       within = problem-fits (problemBytes p) .1 (record {
         size-enough = omega arith;
         length-is = omega arith;
-        kind-is = rw same (read-kind (p .n) (p .m) _);
+        kind-is = kind-back p n-most m-most l;
         n-most = omega (arith, back .0);
         m-most = omega (arith, back .1);
         size-is = rw (back .0, back .1) size;

@@ -180,7 +180,7 @@ refused-short = 1
 abbrev pub refused-length : ℕ
 refused-length = 2
 
--- Its kind is not 1.
+-- Its kind is not one that the entry knows.
 abbrev pub refused-kind : ℕ
 refused-kind = 3
 
@@ -195,6 +195,10 @@ refused-size = 5
 -- A lead is neither blank nor within ±10,080.
 abbrev pub refused-lead : ℕ
 refused-lead = 6
+
+-- Document 02, 2.1: the count of questions is 0 or above 8.
+abbrev pub refused-count : ℕ
+refused-count = 15
 
 -- The answer buffer is shorter than 206 bytes, whichever class is due.
 abbrev pub refused-room : ℕ

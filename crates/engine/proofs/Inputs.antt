@@ -7,7 +7,7 @@ use lib.ListN.{length, getD, take, length-take}
 use lib.Seq.{getD-take, take-all}
 use Rattle.definitions.specs.Limits.{kept-bytes, problem-header}
 use Rattle.definitions.specs.Bytes.{numAt}
-use Rattle.definitions.specs.ProblemRecord.{headerRefusal, headerOutcome, problemRefusal}
+use Rattle.definitions.specs.ProblemRecord.{headerRefusal, headerOutcome, problemRefusal, refusalFor}
 use Rattle.definitions.specs.Programs.{KeptOf}
 use Rattle.definitions.specs.Solved as Results
 use Rattle.definitions.specs.Solved.{Solves}
@@ -28,7 +28,7 @@ kept-solves kept {before = before} {r} {after} s input k h = subst (λ (x : List
 -- A longer one is refused by its header: no problem is that long.
 pub long-refused : {kept input : List ℕ} {size : ℕ} {before : List ℕ} (header : Header) {r : ℕ} → KeptOf kept size input → kept-bytes < size
     → headerOf header ≡ headerOutcome kept size → r ≡ problemRefused header → Solves input before (solvedOf (Results′.Refused r)) before
-unfolding solvedOf problemRefused problemRefusal
+unfolding solvedOf problemRefused refusalFor
 long-refused {kept} {input} {size} {before} header {r} k h e g = go header refl
   where
     go : (x : Header) → header ≡ x → Solves input before (Results.refused r) before

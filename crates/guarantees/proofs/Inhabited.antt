@@ -13,7 +13,7 @@ use Rattle.definitions.specs.Tropical.{Trop}
 use Rattle.definitions.specs.Problem.{Problem}
 use Rattle.definitions.specs.Bytes.{Bytes, outcome}
 use Rattle.definitions.specs.Offset.{tropOf}
-use Rattle.definitions.specs.ProblemRecord.{lengthField, kindField, nField, mField, layoutOf, headerRefusal, headerOutcome, problemRefusal, problemOutcome, WithinLayout, problemOf}
+use Rattle.definitions.specs.ProblemRecord.{lengthField, kindField, nField, mField, layoutOf, headerRefusal, headerOutcome, problemRefusal, problemOutcome, WithinLayout, problemOf, refusalFor}
 use Rattle.definitions.specs.AnswerRecord.{Answer, answerRefusal, answerOutcome, answerOf, answerHeaderRefusal, classField, spanField, answerSize, answerBytes, writerRefusal, writerOutcome, written}
 use Rattle.definitions.specs.Verdict as Verdicts
 use Rattle.definitions.specs.Verdict.{Judged, turned-away, certified, uncertified, answerFor, checkRefusal}
@@ -240,7 +240,7 @@ long-number kept size h = ⊎-elim
     (eq-zero-or-pos (headerRefusal kept size))
 
 span-kept : (kept : List ℕ) (size : ℕ) → KeptOutput kept size
-unfolding problemRefusal
+unfolding refusalFor
 span-kept kept size = ⊎-elim
     (λ (h : size ≤ kept-bytes).
     let t = span-text (take size kept) in

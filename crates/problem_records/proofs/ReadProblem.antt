@@ -7,7 +7,7 @@ use native.Mathlib.Omega.{arith}
 use lib.ListN.{length}
 use Rattle.definitions.specs.Limits.{problem-header}
 use Rattle.definitions.specs.Bytes.{Bytes, outcome}
-use Rattle.definitions.specs.ProblemRecord.{nField, mField, layoutOf, leftPlace, rightPlace, leadsOf, headerRefusal, headerOutcome, problemRefusal, problemOutcome, WithinLayout, problemSize}
+use Rattle.definitions.specs.ProblemRecord.{nField, mField, layoutOf, leftPlace, rightPlace, leadsOf, headerRefusal, headerOutcome, problemRefusal, problemOutcome, WithinLayout, problemSize, refusalFor}
 use Rattle.definitions.proofs.Refusals.{or-else-suc, problem-fits}
 use Rattle.records.specs.declared.problem.Header.{Header}
 use Rattle.records.specs.declared.problem.Header.the-variants.{Told, Refused}
@@ -23,7 +23,7 @@ use Rattle.problem_records.proofs.Tables.{is-listOf}
 
 -- The header is refused.
 pub refused-header : (s : List ℕ) {r : Header} {k : ℕ} → headerOf r ≡ headerOutcome s (length s) → r ≡ Refused k → headerOf r ≡ problemOutcome s
-unfolding problemRefusal headerOutcome problemOutcome
+unfolding refusalFor headerOutcome problemOutcome
 refused-header s e f =
     let g = header-refuses s (length s) e f in
     let same : problemRefusal s ≡ headerRefusal s (length s) = or-else-suc (headerRefusal s (length s)) _ (omega arith) in
@@ -38,12 +38,12 @@ module _ (s : List ℕ) {l : Layout} {count : ℕ} (h : HeaderFits s (length s) 
 
   -- A lead does not fit: refusal 6.
   pub refused-lead : false ≡ runFits s count problem-header → headerOf (Refused 6) ≡ problemOutcome s
-  unfolding problemOutcome problemRefusal leadsOf outcome headerOf
+  unfolding problemOutcome refusalFor leadsOf outcome headerOf
   refused-lead e = rw (h .none, ← run-leads, ← e)
 
   -- Every lead fits: no refusal.
   pub judged-told : true ≡ runFits s count problem-header → headerOf (Told l) ≡ problemOutcome s
-  unfolding problemOutcome problemRefusal leadsOf
+  unfolding problemOutcome refusalFor leadsOf
   judged-told e =
       let none : problemRefusal s ≡ 0 = rw (h .none, ← run-leads, ← e) in
       rw (← h .layout-is) (header-told (problemRefusal s) l none)
