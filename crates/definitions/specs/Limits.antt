@@ -139,6 +139,10 @@ last-row = problem-header + 2 * signed-bytes * (highest-m * stride)
 abbrev pub problem-most : ℕ
 problem-most = problem-header + signed-bytes * leads-most
 
+-- The most leads of a record of several questions, 4,544.
+abbrev pub questions-leads : ℕ
+questions-leads = 2 * (stride * (highest-m + most-questions))
+
 -- How many bytes of their input the programs keep.
 abbrev pub kept-bytes : ℕ
 kept-bytes = 20000

@@ -5,7 +5,7 @@ use mathlib.Core.List.{List, _++_}
 use lib.Dec.{eqb}
 use lib.ListN.{take, drop}
 use Rattle.definitions.specs.Limits.{signed-bytes, questions-header}
-use Rattle.definitions.specs.ProblemRecord.{nField, mField, rowPlace, headerBytes}
+use Rattle.definitions.specs.ProblemRecord.{kindField, nField, mField, by-kind, rowPlace, headerBytes}
 
 -- `count` bytes of a string from a place on.
 abbrev pub part : List ℕ → ℕ → ℕ → List ℕ
@@ -21,6 +21,10 @@ alone s q =
     headerBytes (nField s) (mField s)
     ++ (part s questions-header (rowsSize (nField s) (mField s))
     ++ part s (rowPlace questions-header (nField s) (mField s + q)) (rowsSize (nField s) 1))
+
+-- The kind 1 record of question q: of a record that asks one question, itself.
+abbrev pub asking : List ℕ → ℕ → List ℕ
+asking s q = by-kind (kindField s) (alone s q) s
 
 -- Row i of `alone s q` is this row of the record: the rules as they stand, and question q for the question.
 abbrev pub askedRow : ℕ → ℕ → ℕ → ℕ

@@ -4,7 +4,7 @@ ghost use Prim.Native.Nat.{_+_, _*_, _-_, _<_, _≤_};
 ghost use mathlib.Core.Bool.{cond};
 ghost use lib.ListN.{length, getD};
 ghost use Rattle.base.specs.Filled.{FilledFrom};
-ghost use Rattle.definitions.specs.Limits.{lead-limit};
+ghost use Rattle.definitions.specs.Limits.{lead-limit, questions-header, questions-leads};
 ghost use Rattle.definitions.specs.Bytes.{tropField, blank-or-within};
 ghost use Rattle.definitions.specs.ProblemRecord.{leftPlace, problemOutcome};
 ghost use Rattle.records.specs.ProblemHeader.{headerOf};
@@ -50,13 +50,13 @@ fn misfit(w: u32) -> u32
     if lead_fits(w) { 0 } else { 1 }
 }
 
-// Each of the first `count` leads of a problem is blank or within the limit. All are looked at, so that the loop has no
+// Each of `count` leads of a problem from a place on is blank or within the limit. All are looked at, so that the loop has no
 // branch.
-fn leads_fit(bytes: &[u8], count: usize) -> bool
-    requires { ⌜ (count ≤ 4096) × (10 + 4 * count ≤ length (now bytes)) ⌝ }
-    ensures { λ r. ⌜ r ≡ runFits (now (bytes .entry)) count 10 ⌝ }
+fn leads_fit(bytes: &[u8], start: usize, count: usize) -> bool
+    requires { ⌜ (start ≤ questions-header) × (count ≤ questions-leads) × (start + 4 * count ≤ length (now bytes)) ⌝ }
+    ensures { λ r. ⌜ r ≡ runFits (now (bytes .entry)) count start ⌝ }
 {
-    let mut at = PROBLEM_HEADER;
+    let mut at = start;
     let mut misfits = 0u32;
     for _ in 0..count {
         misfits += misfit(word_in(bytes, at));
@@ -182,30 +182,40 @@ pub fn read_question(
     read_row(bytes, at + LEAD_BYTES * (n + 1), n, right, STRIDE * m);
 }
 
-// The header of a problem within the layout: where things stand in it, or the first of refusals 1 to 6 that applies. Public for the checker's
-// `check` and `input`.
-pub fn judge_problem(bytes: &[u8]) -> Header
-    ensures { λ r. ⌜ headerOf r ≡ problemOutcome (now (bytes .entry)) ⌝ }
+// The header of a problem within the layout, of several questions or one: where things stand in it, or the first of refusals 1 to 6
+// and 15 that applies. Public for the checker's `check` and `input`.
+pub fn judge_problem(bytes: &[u8], several: bool) -> Header
+    ensures { λ r. ⌜ headerOf r ≡ problemOutcome several (now (bytes .entry)) ⌝ }
 {
-    let header = read_header(bytes, bytes.len());
+    let header = read_header(bytes, bytes.len(), several);
     let Header::Told(layout) = header else {
         return header;
     };
-    if !leads_fit(bytes, lead_count(layout.n, layout.m)) {
+    if !leads_fit(
+        bytes,
+        layout.leads,
+        lead_count(layout.n, layout.m + layout.questions),
+    ) {
         return Header::Refused(REFUSED_LEAD);
     }
     header
 }
 
-// A problem from its bytes, into two lent tables: its layout, with the leads as offset numbers in rows of 32, or the first of
-// refusals 1 to 6 that applies. A refused problem leaves both tables as they are.
+// A problem from its bytes, into two lent tables: its layout, with the leads of its rules and of its first question as offset numbers
+// in rows of 32, or the first of refusals 1 to 6 and 15 that applies. A refused problem leaves both tables as they are.
 pub fn read_problem(bytes: &[u8], left: &mut [u32; TABLE], right: &mut [u32; TABLE]) -> Header
     ensures { λ r. ⌜ ProblemRead (now (bytes .entry)) (now (left .entry)) (now (right .entry)) r (now (left .exit)) (now (right .exit)) ⌝ }
 {
-    let header = judge_problem(bytes);
+    let header = judge_problem(bytes, true);
     let Header::Told(layout) = header else {
         return header;
     };
-    read_tables(bytes, layout.n, layout.m, left, right);
+    read_tables(
+        &bytes[layout.leads - PROBLEM_HEADER..],
+        layout.n,
+        layout.m,
+        left,
+        right,
+    );
     header
 }

@@ -51,6 +51,7 @@ pub record HeaderFits (several : Bool) (s : List ℕ) (size : ℕ) (l : Layout) 
   pub questions-is : l .questions ≡ questionsAsked (kindField s) (countField s)
   pub n-most : l .n ≤ highest-n
   pub m-most : l .m ≤ highest-m
+  pub questions-least : 0 < l .questions
   pub questions-most : l .questions ≤ most-questions
   pub leads-least : problem-header ≤ l .leads
   pub size-is : size ≡ l .leads + 2 * signed-bytes * (suc (l .n) * (l .m + l .questions))
@@ -67,26 +68,28 @@ pub answer-refused : (refusal : ℕ) (a : Problems.Layout) {r : Header} {k : ℕ
 unfolding headerOf
 answer-refused refusal a {k = k} e f = outcome-refusal refusal a k (sym e ∙ ap headerOf f)
 
--- A header that gives a layout fits.
-pub header-fits : (several : Bool) (s : List ℕ) (size : ℕ) {r : Header} {l : Layout} → headerOf r ≡ headerOutcome several s size → r ≡ Told l → HeaderFits several s size l
-unfolding headerOutcome
-header-fits several s size {l = l} e f =
-    let g = answer-told (headerRefusal several s size) (layoutOf s) e f in
-    let h = header-passes several s size .0 (g .0) in
-    let n-is : l .n ≡ nField s = ap (λ (x : Problems.Layout). x .n) (g .1) in
-    let m-is : l .m ≡ mField s = ap (λ (x : Problems.Layout). x .m) (g .1) in
-    let leads-is : l .leads ≡ leadsPlace (kindField s) = ap (λ (x : Problems.Layout). x .leads) (g .1) in
-    let questions-is : l .questions ≡ questionsAsked (kindField s) (countField s) = ap (λ (x : Problems.Layout). x .questions) (g .1) in
+-- A header that nothing refuses, with its layout, fits.
+pub fits-of : (several : Bool) (s : List ℕ) (size : ℕ) {l : Layout} → headerRefusal several s size ≡ 0 → layoutIn l ≡ layoutOf s → HeaderFits several s size l
+fits-of several s size {l = l} none layout-is =
+    let h = header-passes several s size .0 none in
+    let n-is : l .n ≡ nField s = ap (λ (x : Problems.Layout). x .n) layout-is in
+    let m-is : l .m ≡ mField s = ap (λ (x : Problems.Layout). x .m) layout-is in
+    let leads-is : l .leads ≡ leadsPlace (kindField s) = ap (λ (x : Problems.Layout). x .leads) layout-is in
+    let questions-is : l .questions ≡ questionsAsked (kindField s) (countField s) = ap (λ (x : Problems.Layout). x .questions) layout-is in
     record {
-      none = g .0;
-      layout-is = g .1;
+      none = none;
+      layout-is = layout-is;
       n-is = n-is;
       m-is = m-is;
-      kind-is = ap (λ (x : Problems.Layout). x .kind) (g .1);
+      kind-is = ap (λ (x : Problems.Layout). x .kind) layout-is;
       leads-is = leads-is;
       questions-is = questions-is;
       n-most = rw n-is (h .n-most);
       m-most = rw m-is (h .m-most);
+      questions-least = ⊎-elim
+          (λ (k : kindField s ≡ problem-kind). rw (questions-is, k) (omega arith))
+          (λ (k : kindField s ≡ questions-kind). let c = few-questions s size k h in rw (questions-is, k) (c .some))
+          (kind-known several (kindField s) (h .kind-known));
       questions-most = ⊎-elim
           (λ (k : kindField s ≡ problem-kind). rw (questions-is, k) (omega arith))
           (λ (k : kindField s ≡ questions-kind). let c = few-questions s size k h in rw (questions-is, k) (c .few))
@@ -97,6 +100,11 @@ header-fits several s size {l = l} e f =
           (kind-known several (kindField s) (h .kind-known));
       size-is = rw (n-is, m-is, leads-is, questions-is) (h .size-is);
     }
+
+-- A header that gives a layout fits.
+pub header-fits : (several : Bool) (s : List ℕ) (size : ℕ) {r : Header} {l : Layout} → headerOf r ≡ headerOutcome several s size → r ≡ Told l → HeaderFits several s size l
+unfolding headerOutcome
+header-fits several s size e f = let g = answer-told (headerRefusal several s size) (layoutOf s) e f in fits-of several s size (g .0) (g .1)
 
 -- A header that gives a number is refused by it.
 pub header-refuses : (several : Bool) (s : List ℕ) (size : ℕ) {r : Header} {k : ℕ} → headerOf r ≡ headerOutcome several s size → r ≡ Refused k → (headerRefusal several s size ≡ k) × (0 < k)
