@@ -61,11 +61,11 @@ fn judge_long(kept: &[u8], size: usize, end: usize) -> Verdict
     requires { ⌜ (length (now kept) ≡ 20000) × (20000 < size) × (end ≤ size) ⌝ }
     ensures { λ r. ⌜ ((input : List ℕ) → Longer (now (kept .entry)) size input → Judged (take end input) (drop end input) (verdictOf r)) ⌝ }
 {
-    let header = read_header(kept, end);
+    let header = read_header(kept, end, false);
     let Header::Told(layout) = header else {
         return Verdict::Refused(problem_refusal(header));
     };
-    let whole = judge_problem(&kept[..end]);
+    let whole = judge_problem(&kept[..end], false);
     let Header::Told(_) = whole else {
         return Verdict::Refused(problem_refusal(whole));
     };

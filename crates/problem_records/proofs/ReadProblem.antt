@@ -85,6 +85,20 @@ laid {s} {l = l} b e f =
       size-is = rw (← n-is, ← m-is) (p .size-is);
     }
 
+-- ---- a problem within the layout, in tables
+
+-- What reading the tables asks, and what they then hold.
+pub laid-framed : {s : List ℕ} {n m : ℕ} {left right : List ℕ} → Laid s n m → length left ≡ 2048 → length right ≡ 2048 → Framed s n m left right
+laid-framed l e f = record { n-most = l .n-most; m-most = l .m-most; holds = omega (arith, l .size-is); left-room = e; right-room = f }
+
+pub left-tabled : {s : List ℕ} {n m : ℕ} {left right : List ℕ} → Laid s n m → Tabled s n m 2048 left right → left ≡ leftTable s
+unfolding leftTable
+left-tabled {s} {n} {m} {left} l t = rw (l .n-is, l .m-is) (is-listOf (cell (leftPlace n) s n m) 2048 left (t .left-size) (t .lefts))
+
+pub right-tabled : {s : List ℕ} {n m : ℕ} {left right : List ℕ} → Laid s n m → Tabled s n m 2048 left right → right ≡ rightTable s
+unfolding rightTable
+right-tabled {s} {n} {m} {right = right} l t = rw (l .n-is, l .m-is) (is-listOf (cell (rightPlace n) s n m) 2048 right (t .right-size) (t .rights))
+
 -- ---- reading
 
 -- What a record that nothing refuses tells.

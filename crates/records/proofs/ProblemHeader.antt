@@ -9,10 +9,10 @@ use borrow.Author.Tests.{ne-eqb, eq-eqb}
 use mathlib.Core.Logic.{_⊎_, inl, inr, ⊎-elim}
 use Rattle.definitions.specs.Limits.{highest-n, highest-m, stride, table-rows, table-size, signed-bytes, problem-kind, questions-kind, most-questions, problem-header, questions-header}
 use Rattle.definitions.specs.Bytes.{Outcome, outcome}
-use Rattle.definitions.specs.ProblemRecord.{lengthField, kindField, nField, mField, countField, leadsPlace, questionsAsked, known-kind, wrong-count, layoutOf, headerRefusal, headerJudged, headerOutcome}
+use Rattle.definitions.specs.ProblemRecord.{lengthField, kindField, nField, mField, countField, leadsPlace, questionsAsked, known-kind, wrong-count, layoutOf, headerRefusal, headerJudged, headerOutcome, problemSize}
 use Rattle.definitions.specs.ProblemRecord as Problems
 use Rattle.definitions.proofs.Outcomes.{outcome-none, outcome-some, outcome-gives, outcome-refusal}
-use Rattle.definitions.proofs.Refusals.{header-passes, few-questions, kind-known}
+use Rattle.definitions.proofs.Refusals.{header-passes, few-questions, kind-known, kind-one, size-one}
 use Rattle.records.specs.declared.problem.Layout.{Layout}
 use Rattle.records.specs.declared.problem.Fields.{Fields}
 use Rattle.records.specs.declared.problem.Header.{Header}
@@ -100,6 +100,12 @@ fits-of several s size {l = l} none layout-is =
           (kind-known several (kindField s) (h .kind-known));
       size-is = rw (n-is, m-is, leads-is, questions-is) (h .size-is);
     }
+
+-- The size where one question is asked for.
+pub fits-one : {s : List ℕ} {size : ℕ} {l : Layout} → HeaderFits false s size l → size ≡ problemSize (l .n) (l .m)
+fits-one {s} {size} h =
+    let p = header-passes false s size .0 (h .none) in
+    rw (h .n-is, h .m-is) (p .size-is ∙ size-one (kindField s) (nField s) (mField s) (countField s) (kind-one (kindField s) .0 (p .kind-known)))
 
 -- A header that gives a layout fits.
 pub header-fits : (several : Bool) (s : List ℕ) (size : ℕ) {r : Header} {l : Layout} → headerOf r ≡ headerOutcome several s size → r ≡ Told l → HeaderFits several s size l
