@@ -1,7 +1,7 @@
 -- The kind 1 record of one question: its fields, and where its leads stand in the record of all questions. Document 02, 2.1.
 use Prim.Native.Nat.{ℕ, zero, suc, _+_, _*_, _-_, _≤_, _<_}
 use mathlib.Core.Path.{_≡_, refl, ap, sym, _∙_}
-use mathlib.Core.Bool.{cond, true}
+use mathlib.Core.Bool.{Bool, cond, true}
 use mathlib.Core.Logic.{_↔_, ⊎-elim}
 use mathlib.Core.List.{List, [], _∷_, _++_}
 use native.Mathlib.Omega.{arith}
@@ -170,9 +170,9 @@ pub record Several (s : List ℕ) : Type 0 where
   pub few : countField s ≤ most-questions
   pub asks : Asks s (countField s)
 
-pub several-passes : {s : List ℕ} → kindField s ≡ questions-kind → headerRefusal true s (length s) ≡ 0 → Several s
-several-passes {s} k e =
-    let h = header-passes true s (length s) .0 e in
+pub several-passes : (several : Bool) {s : List ℕ} → kindField s ≡ questions-kind → headerRefusal several s (length s) ≡ 0 → Several s
+several-passes several {s} k e =
+    let h = header-passes several s (length s) .0 e in
     let f = few-questions s (length s) k h in
     record {
       kind-is = k;
@@ -236,7 +236,7 @@ module _ (s : List ℕ) (v : Several s) where
 pub alone-within : (s : List ℕ) → kindField s ≡ questions-kind → WithinLayouts s → (q : ℕ) → q < countField s → WithinLayout (alone s q)
 alone-within s k w q h =
     let r = record-fits true s .0 w in
-    let v = several-passes k (header-passes true s (length s) .1 (r .header)) in
+    let v = several-passes true k (header-passes true s (length s) .1 (r .header)) in
     let size = alone-length s (v .asks) q h in
     let n-is = alone-n s (v .asks) q h in
     let m-is = alone-m s (v .asks) q h in

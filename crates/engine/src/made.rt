@@ -10,7 +10,7 @@ pub fn trials_made(problem: &[u8]) -> u64
 {
     let mut left = [0u32; 2048];
     let mut right = [0u32; 2048];
-    let header = read_problem(problem, &mut left, &mut right);
+    let header = read_problem(problem, false, &mut left, &mut right);
     let Header::Told(layout) = header else {
         return 0;
     };

@@ -11,7 +11,7 @@ use Rattle.base.proofs.Numbers.{nat-le-or-lt}
 use Rattle.definitions.specs.Limits.{problem-kind, questions-kind, problem-header, questions-header, questions-leads, signed-bytes}
 use Rattle.definitions.specs.Bytes.{Bytes, outcome}
 use Rattle.definitions.specs.ProblemRecord as Problems
-use Rattle.definitions.specs.ProblemRecord.{kindField, nField, mField, countField, leadsPlace, questionsAsked, layoutOf, rowPlace, leftPlace, rightPlace, leadsOf, headerRefusal, headerOutcome, refusalFor, problemRefusal, problemOutcome, WithinLayout, WithinLayouts, problemSize}
+use Rattle.definitions.specs.ProblemRecord.{kindField, nField, mField, countField, leadsPlace, questionsAsked, layoutOf, rowPlace, leftPlace, rightPlace, leadsOf, headerRefusal, headerOutcome, refusalFor, problemRefusal, problemOutcome, WithinLayout, problemSize}
 use Rattle.definitions.specs.Questions.{alone, asking}
 use Rattle.definitions.proofs.Inputs.{header-none}
 use Rattle.definitions.proofs.Refusals.{or-else-suc, problem-fits, header-passes, kind-known}
@@ -102,27 +102,27 @@ right-tabled {s} {n} {m} {right = right} l t = rw (l .n-is, l .m-is) (is-listOf 
 -- ---- reading
 
 -- What a record that nothing refuses tells.
-pub record Told-of (s : List ℕ) (l : Layout) : Type 0 where
-  pub within : WithinLayouts s
-  pub fits : HeaderFits true s (length s) l
+pub record Told-of (several : Bool) (s : List ℕ) (l : Layout) : Type 0 where
+  pub within : refusalFor several s ≡ 0
+  pub fits : HeaderFits several s (length s) l
 
-pub told-of : {s : List ℕ} {r : Header} {l : Layout} → headerOf r ≡ problemOutcome true s → r ≡ Told l → Told-of s l
+pub told-of : (several : Bool) {s : List ℕ} {r : Header} {l : Layout} → headerOf r ≡ problemOutcome several s → r ≡ Told l → Told-of several s l
 unfolding problemOutcome
-told-of {s} e f =
-    let g = answer-told (refusalFor true s) (layoutOf s) e f in
-    record { within = g .0; fits = fits-of true s (length s) (header-none true s (g .0)) (g .1) }
+told-of several {s} e f =
+    let g = answer-told (refusalFor several s) (layoutOf s) e f in
+    record { within = g .0; fits = fits-of several s (length s) (header-none several s (g .0)) (g .1) }
 
 -- The problem is refused.
-pub refused-read : (s : List ℕ) {r : Header} {k : ℕ} {left right : List ℕ} → headerOf r ≡ problemOutcome true s → r ≡ Refused k → ProblemRead s left right r left right
+pub refused-read : (several : Bool) (s : List ℕ) {r : Header} {k : ℕ} {left right : List ℕ} → headerOf r ≡ problemOutcome several s → r ≡ Refused k → ProblemRead several s left right r left right
 unfolding problemOutcome
-refused-read s e f =
-    let g = answer-refused (refusalFor true s) (layoutOf s) e f in
+refused-read several s e f =
+    let g = answer-refused (refusalFor several s) (layoutOf s) e f in
     record { result = e; left-kept = λ h. refl; right-kept = λ h. refl; left-read = λ w. absurd (omega arith); right-read = λ w. absurd (omega arith) }
 
 -- What reading the tables asks, of the bytes from where ten bytes stand before the leads.
-pub told-framed : {s : List ℕ} {l : Layout} {left right : List ℕ} → Told-of s l → length left ≡ 2048 → length right ≡ 2048
+pub told-framed : {several : Bool} {s : List ℕ} {l : Layout} {left right : List ℕ} → Told-of several s l → length left ≡ 2048 → length right ≡ 2048
     → Framed (drop (l .leads - problem-header) s) (l .n) (l .m) left right
-told-framed {s} {l} t e f = record {
+told-framed {s = s} {l} t e f = record {
   n-most = t .fits .n-most;
   m-most = t .fits .m-most;
   holds =
@@ -133,7 +133,7 @@ told-framed {s} {l} t e f = record {
 }
 
 -- Tables of the rules and the first question, as they were read behind d bytes.
-module _ {s : List ℕ} {l : Layout} {left right : List ℕ} (t : Told-of s l) (b : Tabled (drop (l .leads - problem-header) s) (l .n) (l .m) 2048 left right) where
+module _ {several : Bool} {s : List ℕ} {l : Layout} {left right : List ℕ} (t : Told-of several s l) (b : Tabled (drop (l .leads - problem-header) s) (l .n) (l .m) 2048 left right) where
   -- One question.
   one-drop : kindField s ≡ problem-kind → l .leads - problem-header ≡ 0
   one-drop k = let e : l .leads ≡ problem-header = rw (t .fits .leads-is, k) refl in omega arith
@@ -176,7 +176,7 @@ module _ {s : List ℕ} {l : Layout} {left right : List ℕ} (t : Told-of s l) (
   several-left k =
       let d = several-drop k in
       let own : asking s 0 ≡ alone s 0 = rw k refl in
-      let v = several-passes k (t .fits .none) in
+      let v = several-passes several k (t .fits .none) in
       let c = rw d at (b .lefts) in
       rw own (asked-left s (v .asks) 0 (v .some) (rw (← t .fits .n-is, ← t .fits .m-is) (first-row 0 (leftPlace (l .n)) (λ i j. omega arith) left (b .left-size) c)))
 
@@ -184,15 +184,15 @@ module _ {s : List ℕ} {l : Layout} {left right : List ℕ} (t : Told-of s l) (
   several-right k =
       let d = several-drop k in
       let own : asking s 0 ≡ alone s 0 = rw k refl in
-      let v = several-passes k (t .fits .none) in
+      let v = several-passes several k (t .fits .none) in
       let c = rw d at (b .rights) in
       rw own (asked-right s (v .asks) 0 (v .some) (rw (← t .fits .n-is, ← t .fits .m-is) (first-row (4 * (l .n + 1)) (rightPlace (l .n)) (λ i j. omega arith) right (b .right-size) c)))
 
   either : (kindField s ≡ problem-kind) ⊎ (kindField s ≡ questions-kind)
-  either = kind-known true (kindField s) (header-passes true s (length s) .0 (t .fits .none) .kind-known)
+  either = kind-known several (kindField s) (header-passes several s (length s) .0 (t .fits .none) .kind-known)
 
   -- The problem is read.
-  pub problem-read : {r : Header} {left₀ right₀ : List ℕ} → headerOf r ≡ problemOutcome true s → ProblemRead s left₀ right₀ r left right
+  pub problem-read : {r : Header} {left₀ right₀ : List ℕ} → headerOf r ≡ problemOutcome several s → ProblemRead several s left₀ right₀ r left right
   problem-read e = record {
     result = e;
     left-kept = λ q. absurd (omega (arith, t .within));

@@ -2,14 +2,14 @@
 -- m there is 0, which is blank.
 use Prim.Native.Nat.{ℕ, _/_, _%_, _≤_, _<_}
 use mathlib.Core.Path.{_≡_}
-use mathlib.Core.Bool.{Bool, true, cond, _&&_}
+use mathlib.Core.Bool.{Bool, cond, _&&_}
 use mathlib.Core.List.{List, map}
 use lib.Dec.{leb}
 use lib.ListN.{length}
 use Rattle.definitions.specs.Limits.{highest-n, highest-m, lead-limit, signed-bytes}
 use Rattle.definitions.specs.Bytes.{Bytes, numAt, numsAt, tropField, all, blank-or-within}
 use Rattle.definitions.specs.Offset.{off}
-use Rattle.definitions.specs.ProblemRecord.{problemSize, nField, mField, leftPlace, rightPlace, listOf, recordRefusal, problemOutcome, WithinLayout, WithinLayouts}
+use Rattle.definitions.specs.ProblemRecord.{problemSize, nField, mField, leftPlace, rightPlace, listOf, refusalFor, problemOutcome, WithinLayout}
 use Rattle.definitions.specs.Questions.{asking}
 use Rattle.records.specs.declared.problem.Header.{Header}
 use Rattle.records.specs.ProblemHeader.{headerOf}
@@ -52,9 +52,9 @@ pub record Laid (s : List ℕ) (n m : ℕ) : Type 0 where
 
 -- What reading a problem into two tables leaves: the answer; both tables as they were where the problem is refused, else the left and
 -- the right leads of its rules and its first question.
-pub record ProblemRead (s left right : List ℕ) (r : Header) (left′ right′ : List ℕ) : Type 0 where
-  pub result : headerOf r ≡ problemOutcome true s
-  pub left-kept : 0 < recordRefusal s → left′ ≡ left
-  pub right-kept : 0 < recordRefusal s → right′ ≡ right
-  pub left-read : WithinLayouts s → left′ ≡ leftTable (asking s 0)
-  pub right-read : WithinLayouts s → right′ ≡ rightTable (asking s 0)
+pub record ProblemRead (several : Bool) (s left right : List ℕ) (r : Header) (left′ right′ : List ℕ) : Type 0 where
+  pub result : headerOf r ≡ problemOutcome several s
+  pub left-kept : 0 < refusalFor several s → left′ ≡ left
+  pub right-kept : 0 < refusalFor several s → right′ ≡ right
+  pub left-read : refusalFor several s ≡ 0 → left′ ≡ leftTable (asking s 0)
+  pub right-read : refusalFor several s ≡ 0 → right′ ≡ rightTable (asking s 0)

@@ -202,11 +202,16 @@ pub fn judge_problem(bytes: &[u8], several: bool) -> Header
 }
 
 // A problem from its bytes, into two lent tables: its layout, with the leads of its rules and of its first question as offset numbers
-// in rows of 32, or the first of refusals 1 to 6 and 15 that applies. A refused problem leaves both tables as they are.
-pub fn read_problem(bytes: &[u8], left: &mut [u32; TABLE], right: &mut [u32; TABLE]) -> Header
-    ensures { λ r. ⌜ ProblemRead (now (bytes .entry)) (now (left .entry)) (now (right .entry)) r (now (left .exit)) (now (right .exit)) ⌝ }
+// in rows of 32, or the first of refusals 1 to 6 and 15 that applies, where several questions may be asked or one. A refused problem leaves both tables as they are.
+pub fn read_problem(
+    bytes: &[u8],
+    several: bool,
+    left: &mut [u32; TABLE],
+    right: &mut [u32; TABLE],
+) -> Header
+    ensures { λ r. ⌜ ProblemRead several (now (bytes .entry)) (now (left .entry)) (now (right .entry)) r (now (left .exit)) (now (right .exit)) ⌝ }
 {
-    let header = judge_problem(bytes, true);
+    let header = judge_problem(bytes, several);
     let Header::Told(layout) = header else {
         return header;
     };

@@ -15,13 +15,13 @@ read-problem-spec =
     (λ c κs. search needs)
     (λ c. search needs)
     (λ c. search needs)
-    (λ c. refused-read _ (c .before .before .judge-problem .ensures) (c .enum-told .given .1))
-    (λ c. let t = told-of (c .before .before .before .before .judge-problem .ensures) (c .before .before .header .given .1) in omega (arith, t .fits .leads-least))
-    (λ c. let t = told-of (c .before .before .before .before .judge-problem .ensures) (c .before .before .header .given .1) in omega (arith, t .fits .leads-least, t .fits .size-is))
-    (λ c. let t = told-of (c .before .before .before .before .judge-problem .ensures) (c .before .before .header .given .1) in omega (arith, t .fits .leads-least, t .fits .size-is))
+    (λ c. refused-read _ _ (c .before .before .judge-problem .ensures) (c .enum-told .given .1))
+    (λ c. let t = told-of _ (c .before .before .before .before .judge-problem .ensures) (c .before .before .header .given .1) in omega (arith, t .fits .leads-least))
+    (λ c. let t = told-of _ (c .before .before .before .before .judge-problem .ensures) (c .before .before .header .given .1) in omega (arith, t .fits .leads-least, t .fits .size-is))
+    (λ c. let t = told-of _ (c .before .before .before .before .judge-problem .ensures) (c .before .before .header .given .1) in omega (arith, t .fits .leads-least, t .fits .size-is))
     (λ c. search needs)
-    (λ c κs. let t = told-of (c .before .before .before .before .before .before .before .judge-problem .ensures) (c .before .before .before .before .before .header .given .1) in
+    (λ c κs. let t = told-of _ (c .before .before .before .before .before .before .before .judge-problem .ensures) (c .before .before .before .before .before .header .given .1) in
     rw (rest-whole (c .before .before .before .before .before .before .before .before .before .args .bytes .now) (c .before .before .before .before .before .header .given .0 .0 .leads - 10)) (told-framed t (search needs) (search needs)))
     (λ c. let read = c .before .before .before .before .before .before .before .before .judge-problem .ensures in
     let told = c .before .before .before .before .before .before .header .given .1 in
-    problem-read (told-of read told) (rw (rest-whole (c .before .before .before .before .before .before .before .before .before .before .args .bytes .now) (c .before .before .before .before .before .before .header .given .0 .0 .leads - 10)) at (c .read-tables .ensures)) (sym (ap headerOf told) ∙ read)))
+    problem-read (told-of _ read told) (rw (rest-whole (c .before .before .before .before .before .before .before .before .before .before .args .bytes .now) (c .before .before .before .before .before .before .header .given .0 .0 .leads - 10)) at (c .read-tables .ensures)) (sym (ap headerOf told) ∙ read)))
