@@ -12,7 +12,7 @@ use lib.Seq.{getD-append-add, getD-take, getD-drop, length-take-le}
 use Rattle.definitions.specs.Limits.{highest-n, highest-m, lead-limit, signed-bytes, signed-full, problem-kind, questions-kind, most-questions, problem-header, questions-header}
 use Rattle.definitions.specs.Bytes.{numAt, tropField, tropAt, all, blank-or-within}
 use Rattle.definitions.specs.ProblemRecord.{nField, mField, lengthField, kindField, countField, problemSize, leadsOf, leadsPlace, questionsAsked, headerRefusal, WithinLayout, WithinLayouts, rowPlace, headerBytes}
-use Rattle.definitions.specs.Questions.{part, rowsSize, alone, askedRow}
+use Rattle.definitions.specs.Questions.{part, rowsSize, alone, asking, askedRow}
 use Rattle.base.proofs.Numbers.{nat-le-or-lt}
 use Rattle.definitions.proofs.Bytes.{numAt-same, all-numsAt}
 use Rattle.definitions.proofs.Refusals.{header-passes, few-questions, record-fits, problem-fits, leads-one}
@@ -249,3 +249,7 @@ alone-within s k w q h =
       size-is = rw (n-is, m-is) size;
       leads-fit = leads-alone s v (r .leads-fit) q h;
     })
+
+-- A problem of one question is its own record.
+pub asking-itself : (p : List ℕ) (q : ℕ) → WithinLayout p → asking p q ≡ p
+asking-itself p q w = rw (problem-fits p .0 w .kind-is) refl

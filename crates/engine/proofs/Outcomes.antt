@@ -13,10 +13,10 @@ use Rattle.definitions.specs.Offset.{tropOf}
 use Rattle.definitions.specs.Problem.{Problem}
 use Rattle.definitions.specs.ProblemRecord.{nField, mField, layoutOf, problemRefusal, problemOutcome, WithinLayout, problemOf}
 use Rattle.definitions.specs.AnswerRecord.{Answer, stampCount, pickCount, answerSize, answerBytes, writerRefusal, writerOutcome, written}
-use Rattle.definitions.specs.Questions.{asking}
+use Rattle.definitions.proofs.Questions.{asking-itself}
 use Rattle.definitions.specs.Solved as Results
 use Rattle.definitions.specs.Solved.{Answers, Solves, turned-away, solved, engineRefusal}
-use Rattle.definitions.proofs.Refusals.{or-else-suc, or-else-none, WriterFits, writer-fits, problem-fits}
+use Rattle.definitions.proofs.Refusals.{or-else-suc, or-else-none, WriterFits, writer-fits}
 use Rattle.definitions.proofs.Outcomes.{outcome-none}
 use Rattle.definitions.proofs.Solved.{answers-taken}
 use Rattle.records.specs.declared.problem.Header.{Header}
@@ -127,10 +127,6 @@ pub refuses-room : (p before : List ℕ) → WithinLayout p → length before < 
 unfolding solvedOf
 refuses-room p before w h = turned-away {k = 6} (room-next p (length before) w ∙ ap (λ (t : Bool). cond t 7 0) (lt-ltb (length before) answer-most h))
 
--- A problem of one question is its own record.
-itself : (p : List ℕ) → WithinLayout p → asking p 0 ≡ p
-itself p w = rw (problem-fits p .0 w .kind-is) refl
-
 -- What was read, where nothing was refused.
 pub record Read (p : List ℕ) (n m : ℕ) (left right : List ℕ) : Type 0 where
   pub none : WithinLayout p
@@ -146,7 +142,7 @@ read-problem {p} b r f =
       none = h .0;
       n-is = ap (λ (x : Problems.Layout). x .n) (sym (h .1));
       m-is = ap (λ (x : Problems.Layout). x .m) (sym (h .1));
-      decoded = rw (r .left-read (h .0), r .right-read (h .0), itself p (h .0)) (problem-decoded p b (h .0));
+      decoded = rw (r .left-read (h .0), r .right-read (h .0), asking-itself p 0 (h .0)) (problem-decoded p b (h .0));
     }
 
 -- The trials made for a problem that is refused, and for one that is not.
