@@ -62,7 +62,7 @@ filled-map g f = record { size-is = f .size-is; each = λ k h. g k _ h (f .each 
 
 -- Nothing is filled yet.
 pub run-none : (f : ℕ → ℕ) (base : ℕ) (old : List ℕ) → FilledFrom f base 0 old old
-run-none f base old = record { same = refl; before = λ k h. refl; cells = λ l h. absurd (omega arith) }
+run-none f base old = record { same = refl; before = λ k h. refl; cells = λ l h. absurd (omega arith); after = λ k h. refl }
 
 -- One more element is stored.
 pub run-more : {f : ℕ → ℕ} {base k : ℕ} {old new : List ℕ} {v : ℕ} → FilledFrom f base k old new → base + k < length new → v ≡ f k
@@ -71,8 +71,9 @@ run-more {f} {base} {k} {old} {new} {v} h b e = record {
   same = length-set new (base + k) v ∙ h .same;
   before = λ i l. set-there new (base + k) i v (λ q. omega arith) ∙ h .before i l;
   cells = one-more k (λ l m. set-there new (base + k) (base + l) v (λ q. omega arith) ∙ h .cells l m) (set-here new (base + k) v b ∙ e);
+  after = λ i l. set-there new (base + k) i v (λ q. omega arith) ∙ h .after i (omega arith);
 }
 
 -- All elements are stored.
 pub run-end : {f : ℕ → ℕ} {base j count : ℕ} {old new : List ℕ} → FilledFrom f base j old new → j ≤ count → count ≤ j → FilledFrom f base count old new
-run-end l h k = record { same = l .same; before = l .before; cells = λ i b. l .cells i (omega arith) }
+run-end l h k = record { same = l .same; before = l .before; cells = λ i b. l .cells i (omega arith); after = λ i b. l .after i (omega arith) }

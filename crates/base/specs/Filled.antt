@@ -10,9 +10,10 @@ pub record Filled (P : ℕ → ℕ → Type 0) (size n : ℕ) (xs : List ℕ) : 
   pub each : (k : ℕ) → k < n → P k (getD xs k 0)
   pub rest : (k : ℕ) → n ≤ k → getD xs k 0 ≡ 0
 
--- A run of a list that had other contents. From `base` on, `count` elements are those of f; before it everything is as it was, and
--- the length is the same.
+-- A run of a list that had other contents. From `base` on, `count` elements are those of f; before and behind them everything is as
+-- it was, and the length is the same.
 pub record FilledFrom (f : ℕ → ℕ) (base count : ℕ) (old new : List ℕ) : Type 0 where
   pub same : length new ≡ length old
   pub before : (k : ℕ) → k < base → getD new k 0 ≡ getD old k 0
   pub cells : (l : ℕ) → l < count → getD new (base + l) 0 ≡ f l
+  pub after : (k : ℕ) → base + count ≤ k → getD new k 0 ≡ getD old k 0

@@ -36,7 +36,7 @@ pub record HeaderRead (s : List ℕ) (n m : ℕ) : Type 0 where
   pub n-is : n ≡ nField s
   pub m-is : m ≡ mField s
 
-pub header-read : (s : List ℕ) {header : Header} {l : Layout} → headerOf header ≡ problemOutcome s → header ≡ Headers.Told l → HeaderRead s (l .n) (l .m)
+pub header-read : (s : List ℕ) {header : Header} {l : Layout} → headerOf header ≡ problemOutcome false s → header ≡ Headers.Told l → HeaderRead s (l .n) (l .m)
 unfolding problemOutcome
 header-read s e f =
     let r = answer-told (problemRefusal s) (layoutOf s) e f in
@@ -71,7 +71,7 @@ answer-turned p n m a zero e h = absurd (omega arith)
 answer-turned p n m a (suc k) e h = Judging.turned-away e
 
 -- The problem is refused.
-pub judged-problem : (p a : List ℕ) {j r : ℕ} {header : Header} → headerOf header ≡ problemOutcome p → header ≡ Headers.Refused j
+pub judged-problem : (p a : List ℕ) {j r : ℕ} {header : Header} → headerOf header ≡ problemOutcome false p → header ≡ Headers.Refused j
     → r ≡ problemRefused header → Judged p a (refused r)
 unfolding checkRefusal problemOutcome
 judged-problem p a {r = r} e f g =

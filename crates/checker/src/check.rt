@@ -129,7 +129,7 @@ fn check_answer(problem: &[u8], n: usize, m: usize, answer: &[u8]) -> Verdict
 pub fn check(problem: &[u8], answer: &[u8]) -> Verdict
     ensures { λ r. ⌜ Judged (now (problem .entry)) (now (answer .entry)) (verdictOf r) ⌝ }
 {
-    let header = judge_problem(problem);
+    let header = judge_problem(problem, false);
     let Header::Told(layout) = header else {
         return Verdict::Refused(problem_refusal(header));
     };

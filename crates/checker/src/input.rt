@@ -64,9 +64,9 @@ fn judge_long(kept: &[u8], size: usize, end: usize) -> Verdict
     ensures { λ r. ⌜ ((input : List ℕ) → Longer (now (kept .entry)) size input → Judged (take end input) (drop end input) (verdictOf r)) ⌝ }
 {
     if KEPT < end {
-        return Verdict::Refused(problem_refusal(read_header(kept, end)));
+        return Verdict::Refused(problem_refusal(read_header(kept, end, false)));
     }
-    let header = judge_problem(&kept[..end]);
+    let header = judge_problem(&kept[..end], false);
     let Header::Told(layout) = header else {
         return Verdict::Refused(problem_refusal(header));
     };

@@ -4,7 +4,7 @@ ghost use Prim.Native.Nat.{_+_, _<_, _≤_};
 ghost use lib.ListN.{getD};
 ghost use Rattle.definitions.specs.Limits.{most-trials, stride};
 ghost use Rattle.trials.specs.Tables.{Ranged};
-ghost use Rattle.trial_tables.specs.Frames.{zero-offset, top-offset, Coefficients, Ready};
+ghost use Rattle.trial_tables.specs.Frames.{zero-offset, top-offset, Coefficients, Ready, Reraised, Rewritten};
 ghost use Rattle.least_span.specs.State.{Searched};
 ghost use Rattle.class_answers.specs.Answered.{Stamps, Settled, AnswerOf, Answered};
 use least_span::advance::floored;
@@ -61,7 +61,7 @@ fn stamps(point: &[u64; STRIDE], width: usize) -> [u64; STRIDE]
 // Class 3: the trial at 645,120 is not possible.
 fn infeasible(left: &[u32; TABLE], right: &mut [u32; TABLE], frame: Frame, search: Search) -> Answer
     requires { ⌜ Ready frame (now left) (now right) × Searched frame (now left) (now right) search × (search .blocked ≡ top-offset) ⌝ }
-    ensures { λ r. ⌜ Settled frame (now (left .entry)) (now (right .entry)) search r ⌝ }
+    ensures { λ r. ⌜ Settled frame (now (left .entry)) (now (right .entry)) search r × Reraised frame (now (left .entry)) (now (right .entry)) (now (right .exit)) ⌝ }
 {
     let rows = frame.m + 1;
     let objective = frame.objective;
@@ -81,7 +81,7 @@ fn infeasible(left: &[u32; TABLE], right: &mut [u32; TABLE], frame: Frame, searc
 // Class 2: the trial at the floor is possible, so that at −645,121 is; each row picks a variable that attains its largest there.
 fn unbounded(left: &[u32; TABLE], right: &mut [u32; TABLE], frame: Frame, search: Search) -> Answer
     requires { ⌜ Ready frame (now left) (now right) × Searched frame (now left) (now right) search × (search .reached ≤ search .floor) × (search .reached ≤ top-offset) ⌝ }
-    ensures { λ r. ⌜ Settled frame (now (left .entry)) (now (right .entry)) search r ⌝ }
+    ensures { λ r. ⌜ Settled frame (now (left .entry)) (now (right .entry)) search r × Reraised frame (now (left .entry)) (now (right .entry)) (now (right .exit)) ⌝ }
 {
     let rows = frame.m + 1;
     let objective = frame.objective;
@@ -102,7 +102,7 @@ fn unbounded(left: &[u32; TABLE], right: &mut [u32; TABLE], frame: Frame, search
 // Class 1: the halving ends at the least span.
 fn optimal(left: &[u32; TABLE], right: &mut [u32; TABLE], frame: Frame, search: Search) -> Answer
     requires { ⌜ Ready frame (now left) (now right) × Searched frame (now left) (now right) search × (search .reached ≤ top-offset) × (search .floor ≤ search .blocked) ⌝ }
-    ensures { λ r. ⌜ Settled frame (now (left .entry)) (now (right .entry)) search r ⌝ }
+    ensures { λ r. ⌜ Settled frame (now (left .entry)) (now (right .entry)) search r × Reraised frame (now (left .entry)) (now (right .entry)) (now (right .exit)) ⌝ }
 {
     let least = halve(left, right, frame, search);
     let rows = frame.m + 1;
@@ -127,7 +127,7 @@ fn optimal(left: &[u32; TABLE], right: &mut [u32; TABLE], frame: Frame, search: 
 // the same is possible.
 fn solve_framed(left: &[u32; TABLE], right: &mut [u32; TABLE], frame: Frame) -> Answer
     requires { ⌜ Ready frame (now left) (now right) ⌝ }
-    ensures { λ r. ⌜ AnswerOf frame (now (left .entry)) (now (right .entry)) r ⌝ }
+    ensures { λ r. ⌜ AnswerOf frame (now (left .entry)) (now (right .entry)) r × Reraised frame (now (left .entry)) (now (right .entry)) (now (right .exit)) ⌝ }
 {
     let top = try_at(left, right, frame, opened(frame.m + 1), TOP);
     if top.blocked == TOP {
@@ -141,11 +141,11 @@ fn solve_framed(left: &[u32; TABLE], right: &mut [u32; TABLE], frame: Frame) -> 
     optimal(left, right, frame, search)
 }
 
-// The answer of the problem in two tables. The right table's row of the objective is rewritten on the way.
+// The answer of the problem in two tables. The right table's row of the objective is rewritten on the way, the others stay.
 // Public for the engine's `solve`.
 pub fn solve_tables(left: &[u32; TABLE], right: &mut [u32; TABLE], n: usize, m: usize) -> Answer
     requires { ⌜ Coefficients n m (now left) (now right) ⌝ }
-    ensures { λ r. ⌜ Answered n m (now (left .entry)) (now (right .entry)) (r .class) (r .span) (r .trials) (r .stamps) (r .picks) × (0 < r .made) × (r .made ≤ most-trials) ⌝ }
+    ensures { λ r. ⌜ Answered n m (now (left .entry)) (now (right .entry)) (r .class) (r .span) (r .trials) (r .stamps) (r .picks) × (0 < r .made) × (r .made ≤ most-trials) × Rewritten m (now (right .entry)) (now (right .exit)) ⌝ }
 {
     let frame = frame_of(left, right, n, m);
     solve_framed(left, right, frame)

@@ -56,7 +56,7 @@ module _ (left right : List ℕ) (m t : ℕ) where
 
 -- A row filled with other words for the same entries.
 filled-as : {f g : ℕ → ℕ} {base count : ℕ} {old new : List ℕ} → ((l : ℕ) → l < count → f l ≡ g l) → FilledFrom f base count old new → FilledFrom g base count old new
-filled-as e h = record { same = h .same; before = h .before; cells = λ l b. h .cells l b ∙ e l b }
+filled-as e h = record { same = h .same; before = h .before; cells = λ l b. h .cells l b ∙ e l b; after = h .after }
 
 -- A variable that picks nothing.
 pub fill-idle : (left right : List ℕ) (m t j : ℕ) {base count : ℕ} {old new : List ℕ} {pick : ℕ} → pick ≡ 0

@@ -53,6 +53,10 @@ numAt-front k s t at h = numAt-same k (s ++ t) s at at (λ i l. List·getD-appen
 pub numAt-back : (k : ℕ) (s t : List ℕ) (n at : ℕ) → length s ≡ n → numAt k (s ++ t) (n + at) ≡ numAt k t at
 numAt-back k s t n at e = numAt-same k (s ++ t) t (n + at) at (λ i l. rw (add-assoc, ← e) (getD-append-add s t (at + i) 0))
 
+-- A field behind the first d bytes.
+pub numAt-drop : (k d : ℕ) (s : List ℕ) (at : ℕ) → numAt k (drop d s) at ≡ numAt k s (d + at)
+numAt-drop k d s at = numAt-same k (drop d s) s at (d + at) (λ i l. rw add-assoc (getD-drop d s (at + i) 0))
+
 -- A number written as k bytes is read back, if it fits.
 pub num-le : (k x : ℕ) (p q : List ℕ) (n : ℕ) → length p ≡ n → x < 256 ^ k → numAt k (p ++ (le k x ++ q)) n ≡ x
 unfolding numAt le

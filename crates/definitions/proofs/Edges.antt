@@ -2,13 +2,13 @@
 -- of fields, with its number. The lines that are printed, and document 01's numbers that no list shows.
 use Prim.Native.Nat.{ℕ}
 use mathlib.Core.Path.{_≡_, refl}
-use mathlib.Core.Bool.{false}
+use mathlib.Core.Bool.{true, false}
 use mathlib.Core.List.{List, [], _∷_, map}
 use lib.IntN.{ℤ, pos, negsuc}
 use Rattle.definitions.specs.Limits.{kept-bytes, top-trial, lowest-trial, problem-most, answer-most}
 use Rattle.definitions.specs.Tropical.{Trop, bot, fin}
 use Rattle.definitions.specs.Bytes.{numAt, numsAt, signed, tropField, tropAt, all, blank-or-within, whole-within}
-use Rattle.definitions.specs.ProblemRecord.{headerRefusal, headerJudged, problemRefusal, leadsOf}
+use Rattle.definitions.specs.ProblemRecord.{headerRefusal, headerJudged, problemRefusal, leadsOf, refusalFor}
 use Rattle.definitions.specs.Bisection.{trials-infeasible, trials-unbounded}
 use Rattle.definitions.specs.Verdict.{Verdict, accepted, refused, checkRefusal}
 use Rattle.definitions.specs.Solved.{engineRefusal}
@@ -52,7 +52,7 @@ problems =
     []
 
 problems-refused : map (λ d. problemRefusal (d .bytes)) problems ≡ map (λ d. d .number) problems
-unfolding problems problemRefusal headerRefusal headerJudged leadsOf numAt numsAt all blank-or-within tropField signed
+unfolding problems refusalFor headerRefusal headerJudged leadsOf numAt numsAt all blank-or-within tropField signed
 problems-refused = refl
 
 -- A problem's first bytes, its size, and the refusal of its header.
@@ -73,7 +73,7 @@ headers =
     record { number = 4; size = 274; bytes = (14 ∷ 1 ∷ 0 ∷ 0 ∷ 1 ∷ 0 ∷ 32 ∷ 0 ∷ 0 ∷ 0 ∷ []) } ∷
     []
 
-headers-refused : map (λ d. headerRefusal (d .bytes) (d .size)) headers ≡ map (λ d. d .number) headers
+headers-refused : map (λ d. headerRefusal false (d .bytes) (d .size)) headers ≡ map (λ d. d .number) headers
 unfolding headers headerRefusal headerJudged numAt
 headers-refused = refl
 
@@ -184,16 +184,16 @@ handed-refused = refl
 
 -- The engine looks at the problem before the room, the checker at the problem before the answer.
 engine-order : engineRefusal [] 0 ≡ 1
-unfolding engineRefusal problemRefusal headerRefusal headerJudged numAt
+unfolding engineRefusal refusalFor headerRefusal headerJudged numAt
 engine-order = refl
 
 check-order : checkRefusal [] [] ≡ 1
-unfolding checkRefusal problemRefusal headerRefusal headerJudged numAt
+unfolding checkRefusal refusalFor headerRefusal headerJudged numAt
 check-order = refl
 
 -- A's problem with a buffer of 205 bytes, and with one of 206.
 engine-room : map (engineRefusal (example-A .problem)) (205 ∷ 206 ∷ []) ≡ 7 ∷ 0 ∷ []
-unfolding engineRefusal problemRefusal headerRefusal headerJudged leadsOf numAt numsAt all blank-or-within tropField signed example-A
+unfolding engineRefusal refusalFor headerRefusal headerJudged leadsOf numAt numsAt all blank-or-within tropField signed example-A
 engine-room = refl
 
 -- ---- lines

@@ -18,6 +18,7 @@ pub mod Decimals
 pub mod Hours
 pub mod Inputs
 pub mod ProblemBack
+pub mod Questions
 pub mod Week
 pub mod WeekFacts
 pub mod Agree

@@ -5,6 +5,7 @@ pub mod Certificate
 pub mod Bytes
 pub mod Offset
 pub mod ProblemRecord
+pub mod Questions
 pub mod AnswerRecord
 pub mod Bisection
 pub mod Verdict

@@ -80,6 +80,13 @@ problem-kind = 1
 abbrev pub answer-kind : ℕ
 answer-kind = 2
 
+-- Document 02, 2.1: a problem of several questions, and the most of them.
+abbrev pub questions-kind : ℕ
+questions-kind = 3
+
+abbrev pub most-questions : ℕ
+most-questions = 8
+
 -- Classes of answers: least, bottomless, none.
 abbrev pub class-optimal : ℕ
 class-optimal = 1
@@ -96,6 +103,13 @@ problem-header = m-place + short-bytes
 
 abbrev pub answer-header : ℕ
 answer-header = span-place + signed-bytes
+
+-- Document 02, 2.1: a problem of kind 3 has the count of its questions after m, so that its leads start at 12.
+abbrev pub count-place : ℕ
+count-place = m-place + short-bytes
+
+abbrev pub questions-header : ℕ
+questions-header = count-place + short-bytes
 
 -- The largest answer record, 206 bytes: n = 31, class 1. A shorter answer buffer is refused, whichever class is due.
 abbrev pub answer-most : ℕ
@@ -124,6 +138,13 @@ last-row = problem-header + 2 * signed-bytes * (highest-m * stride)
 
 abbrev pub problem-most : ℕ
 problem-most = problem-header + signed-bytes * leads-most
+
+-- The most leads of a record of several questions, 4,544, and where its last row may end at most.
+abbrev pub questions-leads : ℕ
+questions-leads = 2 * (stride * (highest-m + most-questions))
+
+abbrev pub questions-row : ℕ
+questions-row = problem-header + signed-bytes * questions-leads
 
 -- How many bytes of their input the programs keep.
 abbrev pub kept-bytes : ℕ
@@ -166,7 +187,7 @@ refused-short = 1
 abbrev pub refused-length : ℕ
 refused-length = 2
 
--- Its kind is not 1.
+-- Its kind is not one that the entry knows.
 abbrev pub refused-kind : ℕ
 refused-kind = 3
 
@@ -181,6 +202,10 @@ refused-size = 5
 -- A lead is neither blank nor within ±10,080.
 abbrev pub refused-lead : ℕ
 refused-lead = 6
+
+-- Document 02, 2.1: the count of questions is 0 or above 8.
+abbrev pub refused-count : ℕ
+refused-count = 15
 
 -- The answer buffer is shorter than 206 bytes, whichever class is due.
 abbrev pub refused-room : ℕ

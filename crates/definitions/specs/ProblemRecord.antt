@@ -1,21 +1,21 @@
 -- The problem record: its size, its refusals, what its bytes mean, and a problem as bytes. Document 01, "Records"
--- and "What is turned away", 1 to 6.
+-- and "What is turned away", 1 to 6; document 02, 2.1.
 use Prim.Native.Nat.{ℕ, zero, suc, _+_, _*_, _-_}
 use mathlib.Core.Path.{_≡_}
-use mathlib.Core.Bool.{Bool, not, _||_}
+use mathlib.Core.Bool.{Bool, true, false, not, cond, _&&_, _||_}
 use mathlib.Core.List.{List, [], _∷_, _++_, map}
-use lib.Dec.{eqb, ltb}
+use lib.Dec.{eqb, ltb, leb}
 use lib.ListN.{length}
-use Rattle.definitions.specs.Limits.{highest-n, highest-m, lead-limit, length-bytes, short-bytes, signed-bytes, kind-place, n-place, m-place, problem-kind, problem-header, refused-short, refused-length, refused-kind, refused-limits, refused-size, refused-lead}
+use Rattle.definitions.specs.Limits.{highest-n, highest-m, lead-limit, length-bytes, short-bytes, signed-bytes, kind-place, n-place, m-place, count-place, problem-kind, questions-kind, most-questions, problem-header, questions-header, refused-short, refused-length, refused-kind, refused-limits, refused-count, refused-size, refused-lead}
 use Rattle.definitions.specs.Tropical.{Trop}
 use Rattle.definitions.specs.Problem.{Problem}
 use Rattle.definitions.specs.Bytes.{numAt, numsAt, le, fields, tropField, fieldOf, tropAt, all, blank-or-within, Clause, first, or-else, Outcome, outcome}
 
--- Size of a problem record: 10 + 8 × (n + 1) × (m + 1).
+-- Size of a problem record of one question: 10 + 8 × (n + 1) × (m + 1).
 abbrev pub problemSize : ℕ → ℕ → ℕ
 problemSize n m = problem-header + 2 * signed-bytes * (suc n * suc m)
 
--- Fields of the header: length, kind, n, m.
+-- Fields of the header: length, kind, n, m; and the count of questions, which a record of kind 3 has after m.
 abbrev pub lengthField : List ℕ → ℕ
 lengthField s = numAt length-bytes s 0
 
@@ -28,9 +28,33 @@ nField s = numAt short-bytes s n-place
 abbrev pub mField : List ℕ → ℕ
 mField s = numAt short-bytes s m-place
 
+abbrev pub countField : List ℕ → ℕ
+countField s = numAt short-bytes s count-place
+
+-- By kind: several questions, kind 3, or one.
+abbrev pub by-kind : {A : Type 0} → ℕ → A → A → A
+by-kind kind several one = cond (eqb kind questions-kind) several one
+
+-- Where the leads start, and how many questions follow the rules.
+abbrev pub leadsPlace : ℕ → ℕ
+leadsPlace kind = by-kind kind questions-header problem-header
+
+abbrev pub questionsAsked : ℕ → ℕ → ℕ
+questionsAsked kind count = by-kind kind count 1
+
+-- Size of a problem record: what stands before the leads, and 8 × (n + 1) bytes for each rule and each question.
+abbrev pub recordSize : ℕ → ℕ → ℕ → ℕ → ℕ
+recordSize kind n m count = leadsPlace kind + 2 * signed-bytes * (suc n * (m + questionsAsked kind count))
+
 -- The leads of a problem record in their order: for each row n + 1 left leads, then n + 1 right leads.
 unfoldable pub leadsOf : List ℕ → List Trop
-leadsOf s = map tropField (numsAt signed-bytes (2 * (suc (nField s) * suc (mField s))) s problem-header)
+leadsOf s =
+    map tropField
+    (numsAt signed-bytes (2 * (suc (nField s) * (mField s + questionsAsked (kindField s) (countField s)))) s (leadsPlace (kindField s)))
+
+-- The kinds that an entry knows: kind 1, and kind 3 if it takes several questions.
+abbrev pub known-kind : Bool → ℕ → Bool
+known-kind several kind = eqb kind problem-kind || (several && eqb kind questions-kind)
 
 -- n is above its limit, 31, or m above its, 63.
 abbrev pub above-limits : ℕ → ℕ → Bool
@@ -40,37 +64,53 @@ above-limits n m = ltb highest-n n || ltb highest-m m
 abbrev pub limitsRefused : ℕ → ℕ → Clause
 limitsRefused n m = record { applies = above-limits n m; number = refused-limits }
 
--- Refusals 4 and 5 on numbers: the size, n and m.
-abbrev pub countsRefused : ℕ → ℕ → ℕ → List Clause
-countsRefused size n m =
+-- A record of kind 3 that reaches to the end of its count asks no question, or more than 8.
+abbrev pub wrong-count : ℕ → ℕ → ℕ → Bool
+wrong-count size kind count = eqb kind questions-kind && (leb questions-header size && (eqb count 0 || ltb most-questions count))
+
+-- Refusals 4, 15 and 5 on numbers: the size, and the header's kind, n, m and count.
+abbrev pub countsRefused : ℕ → ℕ → ℕ → ℕ → ℕ → List Clause
+countsRefused size kind n m count =
     limitsRefused n m
-    ∷ record { applies = not (eqb size (problemSize n m)); number = refused-size }
+    ∷ record { applies = wrong-count size kind count; number = refused-count }
+    ∷ record { applies = not (eqb size (recordSize kind n m count)); number = refused-size }
     ∷ []
 
--- The first of refusals 1 to 5 on numbers: the size, and the header's length, kind, n and m.
-unfoldable pub headerJudged : ℕ → ℕ → ℕ → ℕ → ℕ → ℕ
-headerJudged size length kind n m =
+-- The first of refusals 1 to 5 and 15 on numbers: the size, and the header's length, kind, n, m and count.
+unfoldable pub headerJudged : Bool → ℕ → ℕ → ℕ → ℕ → ℕ → ℕ → ℕ
+headerJudged several size length kind n m count =
     first
     (record { applies = ltb size problem-header; number = refused-short }
     ∷ record { applies = not (eqb (length + length-bytes) size); number = refused-length }
-    ∷ record { applies = not (eqb kind problem-kind); number = refused-kind }
-    ∷ countsRefused size n m)
+    ∷ record { applies = not (known-kind several kind); number = refused-kind }
+    ∷ countsRefused size kind n m count)
 
--- Refusals 1 to 5 concern the first bytes of a problem and its size.
-unfoldable pub headerRefusal : List ℕ → ℕ → ℕ
-headerRefusal s size = headerJudged size (lengthField s) (kindField s) (nField s) (mField s)
+-- Refusals 1 to 5 and 15 concern the first bytes of a problem and its size.
+unfoldable pub headerRefusal : Bool → List ℕ → ℕ → ℕ
+headerRefusal several s size = headerJudged several size (lengthField s) (kindField s) (nField s) (mField s) (countField s)
 
 -- Refusal 6: a lead is neither blank nor within ±10,080.
 abbrev pub leadRefused : List ℕ → Bool
 leadRefused s = not (all (blank-or-within lead-limit) (leadsOf s))
 
--- The first of refusals 1 to 6 that applies to a problem, 0 where none does.
-unfoldable pub problemRefusal : List ℕ → ℕ
-problemRefusal s = or-else (headerRefusal s (length s)) (first (record { applies = leadRefused s; number = refused-lead } ∷ []))
+-- The first of refusals 1 to 6 and 15 that applies to a problem, 0 where none does, in an entry that takes several questions or one.
+unfoldable pub refusalFor : Bool → List ℕ → ℕ
+refusalFor several s = or-else (headerRefusal several s (length s)) (first (record { applies = leadRefused s; number = refused-lead } ∷ []))
 
--- A problem is within the layout if no refusal that concerns the problem applies to it.
+-- Where one question is asked for, and where several may be.
+abbrev pub problemRefusal : List ℕ → ℕ
+problemRefusal s = refusalFor false s
+
+abbrev pub recordRefusal : List ℕ → ℕ
+recordRefusal s = refusalFor true s
+
+-- A problem of one question is within the layout if no refusal that concerns the problem applies to it; a record of one question
+-- or several.
 abbrev pub WithinLayout : List ℕ → Type 0
 WithinLayout s = problemRefusal s ≡ 0
+
+abbrev pub WithinLayouts : List ℕ → Type 0
+WithinLayouts s = recordRefusal s ≡ 0
 
 -- What a problem's header tells: its kind, n and m, where its leads start, and how many questions follow its rules.
 pub record Layout : Type 0 where
@@ -80,17 +120,22 @@ pub record Layout : Type 0 where
   pub leads : ℕ
   pub questions : ℕ
 
--- The layout of a problem of kind 1: its leads follow the header, and it asks one question.
 abbrev pub layoutOf : List ℕ → Layout
-layoutOf s = record { kind = kindField s; n = nField s; m = mField s; leads = problem-header; questions = 1 }
+layoutOf s = record {
+  kind = kindField s;
+  n = nField s;
+  m = mField s;
+  leads = leadsPlace (kindField s);
+  questions = questionsAsked (kindField s) (countField s);
+}
 
--- What a problem's header, its first bytes and its size, gives: the layout, or the first of refusals 1 to 5.
-unfoldable pub headerOutcome : List ℕ → ℕ → Outcome Layout
-headerOutcome s size = outcome (headerRefusal s size) (layoutOf s)
+-- What a problem's header, its first bytes and its size, gives: the layout, or the first of refusals 1 to 5 and 15.
+unfoldable pub headerOutcome : Bool → List ℕ → ℕ → Outcome Layout
+headerOutcome several s size = outcome (headerRefusal several s size) (layoutOf s)
 
--- What a whole problem gives: its layout, or the first of refusals 1 to 6.
-unfoldable pub problemOutcome : List ℕ → Outcome Layout
-problemOutcome s = outcome (problemRefusal s) (layoutOf s)
+-- What a whole problem gives: its layout, or the first of refusals 1 to 6 and 15.
+unfoldable pub problemOutcome : Bool → List ℕ → Outcome Layout
+problemOutcome several s = outcome (refusalFor several s) (layoutOf s)
 
 -- The place of a row, in a record of n + 1 variables whose leads start at `start`.
 abbrev pub rowPlace : ℕ → ℕ → ℕ → ℕ
@@ -129,8 +174,11 @@ unfoldable pub rowsBytes : Problem → ℕ → List ℕ
 rowsBytes p zero = []
 rowsBytes p (suc k) = rowsBytes p k ++ rowBytes p k
 
+-- The header of a problem of kind 1: its length, kind, n and m.
+unfoldable pub headerBytes : ℕ → ℕ → List ℕ
+headerBytes n m =
+    (le length-bytes (problemSize n m - length-bytes) ++ le short-bytes problem-kind) ++ (le short-bytes n ++ le short-bytes m)
+
 -- A problem as its record.
 unfoldable pub problemBytes : Problem → List ℕ
-problemBytes p =
-    (le length-bytes (problemSize (p .n) (p .m) - length-bytes) ++ le short-bytes problem-kind)
-    ++ ((le short-bytes (p .n) ++ le short-bytes (p .m)) ++ rowsBytes p (suc (p .m)))
+problemBytes p = headerBytes (p .n) (p .m) ++ rowsBytes p (suc (p .m))

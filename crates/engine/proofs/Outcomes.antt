@@ -1,7 +1,7 @@
 -- From what was found and written to the engine's result on bytes.
 use Prim.Native.Nat.{ℕ, zero, suc, _+_, _≤_, _<_}
 use mathlib.Core.Path.{_≡_, refl, ap, ap₂, sym, subst₂, _∙_}
-use mathlib.Core.Bool.{Bool, cond}
+use mathlib.Core.Bool.{Bool, cond, false}
 use mathlib.Core.List.{List, map}
 use lib.Dec.{ltb}
 use native.Mathlib.Omega.{arith}
@@ -13,6 +13,7 @@ use Rattle.definitions.specs.Offset.{tropOf}
 use Rattle.definitions.specs.Problem.{Problem}
 use Rattle.definitions.specs.ProblemRecord.{nField, mField, layoutOf, problemRefusal, problemOutcome, WithinLayout, problemOf}
 use Rattle.definitions.specs.AnswerRecord.{Answer, stampCount, pickCount, answerSize, answerBytes, writerRefusal, writerOutcome, written}
+use Rattle.definitions.proofs.Questions.{asking-itself}
 use Rattle.definitions.specs.Solved as Results
 use Rattle.definitions.specs.Solved.{Answers, Solves, turned-away, solved, engineRefusal}
 use Rattle.definitions.proofs.Refusals.{or-else-suc, or-else-none, WriterFits, writer-fits}
@@ -113,7 +114,7 @@ refuses-with p before zero e h = absurd (omega arith)
 refuses-with p before (suc k) e h = turned-away (problem-first p (length before) (rw e h) ∙ e)
 
 -- A problem that is refused.
-pub refuses-problem : (p before : List ℕ) {header : Header} {k r : ℕ} → headerOf header ≡ problemOutcome p → header ≡ Headers.Refused k → r ≡ problemRefused header
+pub refuses-problem : (p before : List ℕ) {header : Header} {k r : ℕ} → headerOf header ≡ problemOutcome false p → header ≡ Headers.Refused k → r ≡ problemRefused header
     → Solves p before (solvedOf (Results′.Refused r)) before
 unfolding solvedOf problemRefused problemOutcome
 refuses-problem p before {header} {k} {r} e f g =
@@ -133,7 +134,7 @@ pub record Read (p : List ℕ) (n m : ℕ) (left right : List ℕ) : Type 0 wher
   pub m-is : problemOf p .m ≡ m
   pub decoded : Decoded (problemOf p) left right
 
-pub read-problem : {p left₀ right₀ left right : List ℕ} {header : Header} {l : Layout} → Bytes p → ProblemRead p left₀ right₀ header left right → header ≡ Headers.Told l → Read p (l .n) (l .m) left right
+pub read-problem : {p left₀ right₀ left right : List ℕ} {header : Header} {l : Layout} → Bytes p → ProblemRead false p left₀ right₀ header left right → header ≡ Headers.Told l → Read p (l .n) (l .m) left right
 unfolding problemOf problemOutcome
 read-problem {p} b r f =
     let h = answer-told (problemRefusal p) (layoutOf p) (r .result) f in
@@ -141,11 +142,11 @@ read-problem {p} b r f =
       none = h .0;
       n-is = ap (λ (x : Problems.Layout). x .n) (sym (h .1));
       m-is = ap (λ (x : Problems.Layout). x .m) (sym (h .1));
-      decoded = rw (r .left-read (h .0), r .right-read (h .0)) (problem-decoded p b (h .0));
+      decoded = rw (r .left-read (h .0), r .right-read (h .0), asking-itself p 0 (h .0)) (problem-decoded p b (h .0));
     }
 
 -- The trials made for a problem that is refused, and for one that is not.
-pub none-made : {p : List ℕ} {header : Header} {k : ℕ} → headerOf header ≡ problemOutcome p → header ≡ Headers.Refused k → TrialsMade p 0
+pub none-made : {p : List ℕ} {header : Header} {k : ℕ} → headerOf header ≡ problemOutcome false p → header ≡ Headers.Refused k → TrialsMade p 0
 unfolding problemOutcome
 none-made {p} e f =
     let h = answer-refused (problemRefusal p) (layoutOf p) e f in

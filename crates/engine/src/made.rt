@@ -11,7 +11,7 @@ pub fn trials_made(problem: &[u8]) -> u64
 {
     let mut left = [0u32; TABLE];
     let mut right = [0u32; TABLE];
-    let header = read_problem(problem, &mut left, &mut right);
+    let header = read_problem(problem, false, &mut left, &mut right);
     let Header::Told(layout) = header else {
         return 0;
     };

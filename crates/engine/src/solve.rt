@@ -50,7 +50,7 @@ pub fn solve(problem: &[u8], answer: &mut [u8]) -> Solved
 {
     let mut left = [0u32; TABLE];
     let mut right = [0u32; TABLE];
-    let header = read_problem(problem, &mut left, &mut right);
+    let header = read_problem(problem, false, &mut left, &mut right);
     let Header::Told(layout) = header else {
         return Solved::Refused(problem_refusal(header));
     };

@@ -2,6 +2,7 @@
 -- speak of, and the laws that it then keeps.
 use Prim.Native.Nat.{ℕ, zero, suc, _+_, _*_, _≤_}
 use mathlib.Core.Path.{_≡_, refl, ap, sym, _∙_}
+use mathlib.Core.Bool.{false}
 use mathlib.Core.List.{List}
 use native.Mathlib.Omega.{arith}
 use lib.ListN.{length, getD, take}
@@ -16,6 +17,7 @@ use Rattle.definitions.proofs.Outcomes.{refusal-outcome}
 use Rattle.records.specs.declared.problem.Header.{Header}
 use Rattle.records.specs.declared.problem.Layout.{Layout}
 use Rattle.definitions.specs.ProblemRecord as Problems
+use Rattle.definitions.proofs.Questions.{asking-itself}
 use Rattle.records.specs.declared.problem.Header.the-variants as Headers
 use Rattle.records.specs.ProblemHeader.{headerOf}
 use Rattle.records.proofs.ProblemHeader.{answer-told, answer-refused}
@@ -81,7 +83,7 @@ module _ {left₀ right₀ : List ℕ} (read : ReadProblem left₀ right₀) whe
   }
 
   -- A header that nothing refuses tells the layout.
-  header-given : (p : List ℕ) → problemRefusal p ≡ 0 → (h : Header) → headerOf h ≡ problemOutcome p → Given p h
+  header-given : (p : List ℕ) → problemRefusal p ≡ 0 → (h : Header) → headerOf h ≡ problemOutcome false p → Given p h
   unfolding problemOutcome
   header-given p w (Headers.Told l) e =
       let f = answer-told (problemRefusal p) (layoutOf p) {r = Headers.Told l} e refl in
@@ -98,8 +100,8 @@ module _ {left₀ right₀ : List ℕ} (read : ReadProblem left₀ right₀) whe
       record {
         n-is = rw (told .is) (told .n-is);
         m-is = rw (told .is) (told .m-is);
-        left-is = λ i j h g. rw (told .is, c .left-read w) (d .left-is i j h g);
-        right-is = λ i j h g. rw (told .is, c .right-read w) (d .right-is i j h g);
+        left-is = λ i j h g. rw (told .is, c .left-read w, asking-itself p 0 w) (d .left-is i j h g);
+        right-is = λ i j h g. rw (told .is, c .right-read w, asking-itself p 0 w) (d .right-is i j h g);
       }
 
 -- ---- `read_answer`

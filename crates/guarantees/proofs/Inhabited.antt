@@ -1,6 +1,7 @@
 -- The contracts of the code can be met: for each entry a function built from the definitions, and the demands of all of them.
 use Prim.Native.Nat.{ℕ, zero, suc, _+_, _-_, _≤_, _<_}
 use mathlib.Core.Path.{_≡_, refl, ap, sym, subst, _∙_}
+use mathlib.Core.Bool.{false}
 use mathlib.Core.List.{List}
 use mathlib.Core.Logic.{⊎-elim}
 use native.Mathlib.Omega.{arith}
@@ -8,28 +9,29 @@ use native.Mathlib.Nat.{eq-zero-or-pos}
 use lib.ListN.{length, getD, take, drop, length-take, length-drop}
 use lib.Seq.{take-all, getD-take}
 use Rattle.base.proofs.Numbers.{nat-le-or-lt}
-use Rattle.definitions.specs.Limits.{kept-bytes, length-bytes, problem-header, span-limit}
+use Rattle.definitions.specs.Limits.{kept-bytes, length-bytes, span-limit}
 use Rattle.definitions.specs.Tropical.{Trop}
 use Rattle.definitions.specs.Problem.{Problem}
 use Rattle.definitions.specs.Bytes.{Bytes, outcome}
 use Rattle.definitions.specs.Offset.{tropOf}
-use Rattle.definitions.specs.ProblemRecord.{lengthField, kindField, nField, mField, layoutOf, headerRefusal, headerOutcome, problemRefusal, problemOutcome, WithinLayout, problemOf}
+use Rattle.definitions.specs.ProblemRecord.{lengthField, kindField, nField, mField, countField, leadsPlace, questionsAsked, layoutOf, headerRefusal, headerOutcome, problemRefusal, problemOutcome, WithinLayout, problemOf, refusalFor}
 use Rattle.definitions.specs.AnswerRecord.{Answer, answerRefusal, answerOutcome, answerOf, answerHeaderRefusal, classField, spanField, answerSize, answerBytes, writerRefusal, writerOutcome, written}
 use Rattle.definitions.specs.Verdict as Verdicts
 use Rattle.definitions.specs.Verdict.{Judged, turned-away, certified, uncertified, answerFor, checkRefusal}
 use Rattle.definitions.specs.Solved as Results
 use Rattle.definitions.specs.Solved.{Answers, Solves, engineRefusal}
+use Rattle.definitions.specs.Questions.{asking}
 use Rattle.definitions.specs.Programs as Programs
 use Rattle.definitions.specs.Programs.{SpanOutput, VerdictOutput, KeptOf, ReadFrom, problemPart, answerPart, cutPlace, refusedLine, verdictLine}
 use Rattle.definitions.specs.Demands.{Slice, Numbered, Demands}
 use Rattle.definitions.proofs.Bytes.{bytes-take, bytes-drop}
 use Rattle.definitions.proofs.Refusals.{or-else-none, or-else-suc, problem-fits, answer-fits, form-fits}
 use Rattle.definitions.proofs.RoundTrip.{span-within}
-use Rattle.definitions.proofs.Inputs.{kept-whole, kept-at, header-agrees, n-agrees, m-agrees, span-read, verdict-read}
+use Rattle.definitions.proofs.Inputs.{kept-whole, kept-at, one-agrees, n-agrees, m-agrees, span-read, verdict-read}
 use Rattle.records.specs.declared.problem.Header.{Header}
 use Rattle.records.specs.declared.problem.Header.the-variants as Headers
 use Rattle.records.specs.ProblemHeader.{headerOf, problemRefused}
-use Rattle.records.proofs.ProblemHeader.{header-fits, product-most}
+use Rattle.records.proofs.ProblemHeader.{header-fits, product-most, fits-one}
 use Rattle.problem_records.specs.Tables.{leftTable, rightTable}
 use Rattle.answer_reader.specs.declared.answer.AnswerHead.{AnswerHead}
 use Rattle.answer_reader.specs.declared.answer.AnswerHead.the-variants as Heads
@@ -63,7 +65,8 @@ use Rattle.guarantees.proofs.Demands.{demands}
 
 -- The case of each enum that a refusal's number, 0 for none, and what is given have.
 headerBy : ℕ → List ℕ → Header
-headerBy zero s = Headers.Told (record { kind = kindField s; n = nField s; m = mField s; leads = problem-header; questions = 1 })
+headerBy zero s =
+    Headers.Told (record { kind = kindField s; n = nField s; m = mField s; leads = leadsPlace (kindField s); questions = questionsAsked (kindField s) (countField s) })
 headerBy (suc k) s = Headers.Refused (suc k)
 
 header-by : (k : ℕ) (s : List ℕ) → headerOf (headerBy k s) ≡ outcome k (layoutOf s)
@@ -158,14 +161,14 @@ pub the-read-problem : (left₀ right₀ : List ℕ) → ReadProblem left₀ rig
 unfolding problemOutcome
 the-read-problem left₀ right₀ = record {
   header = λ p. headerBy (problemRefusal p) p;
-  left = λ p. unlessRefused (problemRefusal p) left₀ (leftTable p);
-  right = λ p. unlessRefused (problemRefusal p) right₀ (rightTable p);
+  left = λ p. unlessRefused (problemRefusal p) left₀ (leftTable (asking p 0));
+  right = λ p. unlessRefused (problemRefusal p) right₀ (rightTable (asking p 0));
   contract = λ p b. record {
     result = header-by (problemRefusal p) p;
-    left-kept = λ h. unless-refused (problemRefusal p) left₀ (leftTable p) h;
-    right-kept = λ h. unless-refused (problemRefusal p) right₀ (rightTable p) h;
-    left-read = λ w. unless-none (problemRefusal p) left₀ (leftTable p) w;
-    right-read = λ w. unless-none (problemRefusal p) right₀ (rightTable p) w;
+    left-kept = λ h. unless-refused (problemRefusal p) left₀ (leftTable (asking p 0)) h;
+    right-kept = λ h. unless-refused (problemRefusal p) right₀ (rightTable (asking p 0)) h;
+    left-read = λ w. unless-none (problemRefusal p) left₀ (leftTable (asking p 0)) w;
+    right-read = λ w. unless-none (problemRefusal p) right₀ (rightTable (asking p 0)) w;
   };
 }
 
@@ -230,31 +233,31 @@ span-text input = go (problemRefusal input) refl
         record { text = answerBytes (nField input) (s .answer); holds = Programs.answer (s .answer) e (s .answers) }
 
 -- A header of a size beyond what is kept is refused.
-long-number : (kept : List ℕ) (size : ℕ) → kept-bytes < size → 0 < headerRefusal kept size
+long-number : (kept : List ℕ) (size : ℕ) → kept-bytes < size → 0 < headerRefusal false kept size
 unfolding headerOutcome headerBy
 long-number kept size h = ⊎-elim
-    (λ (e : headerRefusal kept size ≡ 0).
-    let f = header-fits kept size {r = headerBy 0 kept} (rw e (header-by 0 kept)) refl in
-    absurd (omega (arith, f .size-is, product-most (nField kept) (mField kept) (f .n-most) (f .m-most))))
+    (λ (e : headerRefusal false kept size ≡ 0).
+    let f = header-fits false kept size {r = headerBy 0 kept} (rw e (header-by 0 kept)) refl in
+    absurd (omega (arith, fits-one f, product-most (nField kept) (mField kept) (f .n-most) (f .m-most))))
     (λ g. g)
-    (eq-zero-or-pos (headerRefusal kept size))
+    (eq-zero-or-pos (headerRefusal false kept size))
 
 span-kept : (kept : List ℕ) (size : ℕ) → KeptOutput kept size
-unfolding problemRefusal
+unfolding refusalFor
 span-kept kept size = ⊎-elim
     (λ (h : size ≤ kept-bytes).
     let t = span-text (take size kept) in
     record { output = t .text; holds = λ input k. subst (λ (x : List ℕ). SpanOutput x (t .text)) (sym (kept-whole k h)) (t .holds) })
-    (λ (h : kept-bytes < size). long h (headerRefusal kept size) refl (long-number kept size h))
+    (λ (h : kept-bytes < size). long h (headerRefusal false kept size) refl (long-number kept size h))
     (nat-le-or-lt size kept-bytes)
   where
-    long : kept-bytes < size → (k : ℕ) → headerRefusal kept size ≡ k → 0 < k → KeptOutput kept size
+    long : kept-bytes < size → (k : ℕ) → headerRefusal false kept size ≡ k → 0 < k → KeptOutput kept size
     long h zero e s = absurd (omega arith)
     long h (suc k) e s = record {
       output = refusedLine (suc k);
       holds = λ input f.
-          let same : headerRefusal input (length input) ≡ suc k = ap (headerRefusal input) (f .size-is) ∙ header-agrees input kept (λ i b. kept-at f h i (omega arith)) size ∙ e in
-          Programs.refusal (or-else-suc (headerRefusal input (length input)) _ (omega arith) ∙ same);
+          let same : headerRefusal false input (length input) ≡ suc k = ap (headerRefusal false input) (f .size-is) ∙ one-agrees input kept (λ i b. kept-at f h i (omega arith)) size ∙ e in
+          Programs.refusal (or-else-suc (headerRefusal false input (length input)) _ (omega arith) ∙ same);
     }
 
 pub the-span : Entries.Answer SpanOutput
@@ -295,16 +298,16 @@ module _ (kept : List ℕ) (size : ℕ) (h : kept-bytes < size) (cut : lengthFie
   end : ℕ
   end = lengthField kept + length-bytes
 
-  header-numbered : (k : ℕ) → headerRefusal kept end ≡ k → headerOf (headerBy k kept) ≡ headerOutcome kept end
+  header-numbered : (k : ℕ) → headerRefusal false kept end ≡ k → headerOf (headerBy k kept) ≡ headerOutcome false kept end
   unfolding headerOutcome
   header-numbered k e = header-by k kept ∙ ap (λ (i : ℕ). outcome i (layoutOf kept)) (sym e)
 
   -- Its problem is refused by its header, by a lead, or its answer by its header.
   verdict-cut : KeptVerdict kept size
   unfolding end headerBy problemRefused checkRefusal
-  verdict-cut = by-header (headerRefusal kept end) refl
+  verdict-cut = by-header (headerRefusal false kept end) refl
     where
-      by-answer : headerRefusal kept end ≡ 0 → problemRefusal (take end kept) ≡ 0 → KeptVerdict kept size
+      by-answer : headerRefusal false kept end ≡ 0 → problemRefusal (take end kept) ≡ 0 → KeptVerdict kept size
       by-answer e w =
           let small = header-small kept end {header = headerBy 0 kept} (header-numbered 0 e) refl in
           let some = long-refused (drop end kept) (size - end) (nField kept) (mField kept) (small .2) (small .3) (omega (arith, small .1)) in
@@ -319,7 +322,7 @@ module _ (kept : List ℕ) (size : ℕ) (h : kept-bytes < size) (cut : lengthFie
                 (long-answered longer cut (subst (λ (s : List ℕ). HeaderRead s (nField kept) (mField kept)) (problem-kept longer cut l (omega (arith, small .1))) read) refl some);
           }
 
-      by-problem : headerRefusal kept end ≡ 0 → (j : ℕ) → problemRefusal (take end kept) ≡ j → KeptVerdict kept size
+      by-problem : headerRefusal false kept end ≡ 0 → (j : ℕ) → problemRefusal (take end kept) ≡ j → KeptVerdict kept size
       by-problem e zero w = by-answer e w
       by-problem e (suc j) w =
           let small = header-small kept end {header = headerBy 0 kept} (header-numbered 0 e) refl in
@@ -331,7 +334,7 @@ module _ (kept : List ℕ) (size : ℕ) (h : kept-bytes < size) (cut : lengthFie
                 judged-parts input (long-cut longer h cut) (turned (take end input) (drop end input) (suc j) (or-else-suc (problemRefusal (take end input)) _ (omega arith) ∙ is) (omega arith));
           }
 
-      by-header : (k : ℕ) → headerRefusal kept end ≡ k → KeptVerdict kept size
+      by-header : (k : ℕ) → headerRefusal false kept end ≡ k → KeptVerdict kept size
       by-header zero e = by-problem e (problemRefusal (take end kept)) refl
       by-header (suc k) e = record {
         verdict = Verdicts.refused (suc k);

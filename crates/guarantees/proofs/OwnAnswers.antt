@@ -1,6 +1,7 @@
 -- The engine's own record, judged by the checker and read by the reader.
 use Prim.Native.Nat.{ℕ, zero, suc, _+_, _≤_}
 use mathlib.Core.Path.{_≡_, ap, ap₂, sym, subst, subst₂, _∙_}
+use mathlib.Core.Bool.{false}
 use mathlib.Core.List.{List}
 use native.Mathlib.Omega.{arith}
 use native.Mathlib.Nat.{zero-add}
@@ -15,7 +16,7 @@ use Rattle.definitions.specs.Verdict as Verdicts
 use Rattle.definitions.specs.Verdict.{Verdict, accepted, Judged, pointOf, strategyOf}
 use Rattle.definitions.specs.Solved as Results
 use Rattle.definitions.specs.Solved.{Solved, answered, Solves, solved}
-use Rattle.definitions.proofs.Inputs.{header-passes}
+use Rattle.definitions.proofs.Inputs.{header-none}
 use Rattle.definitions.proofs.RoundTrip.{answer-back, answer-accepted, answer-bytes}
 use Rattle.definitions.proofs.Solved.{answer-takes}
 use Rattle.definitions.proofs.Outcomes.{outcome-none}
@@ -90,11 +91,11 @@ own-reading {p} {before} {after} {class = class} {span} {trials} {size} h e head
 
 -- ---- the problem's n and m
 
-pub never-refused : (p : List ℕ) {header : Header} {k : ℕ} {A : Type 0} → headerOf header ≡ headerOutcome p (length p) → header ≡ Headers.Refused k → WithinLayout p → A
-never-refused p e f w = absurd (let g = header-refuses p (length p) e f in omega (arith, header-passes p w, g .0, g .1))
+pub never-refused : (p : List ℕ) {header : Header} {k : ℕ} {A : Type 0} → headerOf header ≡ headerOutcome false p (length p) → header ≡ Headers.Refused k → WithinLayout p → A
+never-refused p e f w = absurd (let g = header-refuses false p (length p) e f in omega (arith, header-none false p w, g .0, g .1))
 
-pub reads-there : (p s : List ℕ) {header : Header} {l : Layout} {head : AnswerHead} {stamps₀ stamps picks₀ picks : List ℕ} → headerOf header ≡ headerOutcome p (length p)
+pub reads-there : (p s : List ℕ) {header : Header} {l : Layout} {head : AnswerHead} {stamps₀ stamps picks₀ picks : List ℕ} → headerOf header ≡ headerOutcome false p (length p)
     → header ≡ Headers.Told l → AnswerRead s (l .n) (l .m) head stamps₀ stamps picks₀ picks → WithinLayout p → AnswerRead s (nField p) (mField p) head stamps₀ stamps picks₀ picks
 reads-there p s {head = head} {stamps₀} {stamps} {picks₀} {picks} e f g w =
-    let h = header-fits p (length p) e f in
+    let h = header-fits false p (length p) e f in
     subst₂ (λ (n m : ℕ). AnswerRead s n m head stamps₀ stamps picks₀ picks) (h .n-is) (h .m-is) g

@@ -17,7 +17,7 @@ use Rattle.definitions.specs.Tropical.{Trop, bot, fin, plus, larger, largest, F
 use Rattle.definitions.specs.Problem.{Problem, Point, Feasible, Value, side, value, minus, minus-infinity, plus-infinity, Optimal, _≼_, lowest, between, highest}
 use Rattle.definitions.specs.Problem as Problems
 use Rattle.definitions.specs.Bytes.{Outcome, gives, put, numAt, numsAt, signed, tropField, tropAt, all, blank-or-within, whole-within}
-use Rattle.definitions.specs.ProblemRecord.{WithinLayout, problemOf, nField, mField, problemRefusal, headerRefusal, headerJudged, leadsOf}
+use Rattle.definitions.specs.ProblemRecord.{WithinLayout, problemOf, nField, mField, problemRefusal, headerRefusal, headerJudged, leadsOf, refusalFor}
 use Rattle.definitions.specs.AnswerRecord.{Answer, known-class, answerBytes, answerSize, pickCount, highestPick, written, writerRefusal, writerJudged, answerRefusal, answerHeaderRefusal, answerHeaderJudged, answerOf, formRefusal, spanFits, stampsFit, picksFit, is-zero, is-blank}
 use Rattle.definitions.specs.Certificate.{Strategy, Reachable, start, onward, Anchor, Leads, RowLeads}
 use Rattle.definitions.specs.Verdict.{accepts, accepted, Accepted, answerFor, pointOf, strategyOf}
@@ -45,7 +45,7 @@ unfolding example-A all
 slice-A = record { bytes = bytes-tested (example-A .problem) refl; size = omega arith }
 
 within-A : WithinLayout (example-A .problem)
-unfolding example-A problemRefusal headerRefusal headerJudged leadsOf numAt numsAt all blank-or-within tropField signed
+unfolding example-A refusalFor headerRefusal headerJudged leadsOf numAt numsAt all blank-or-within tropField signed
 within-A = refl
 
 slice-B : Slice (example-B .problem)
@@ -53,7 +53,7 @@ unfolding example-B all
 slice-B = record { bytes = bytes-tested (example-B .problem) refl; size = omega arith }
 
 within-B : WithinLayout (example-B .problem)
-unfolding example-B problemRefusal headerRefusal headerJudged leadsOf numAt numsAt all blank-or-within tropField signed
+unfolding example-B refusalFor headerRefusal headerJudged leadsOf numAt numsAt all blank-or-within tropField signed
 within-B = refl
 
 slices-M : Slice (example-M .problem) × Slice (example-M .answer)
@@ -64,7 +64,7 @@ slices-M = (
 )
 
 within-M : WithinLayout (example-M .problem)
-unfolding example-M problemRefusal headerRefusal headerJudged leadsOf numAt numsAt all blank-or-within tropField signed
+unfolding example-M refusalFor headerRefusal headerJudged leadsOf numAt numsAt all blank-or-within tropField signed
 within-M = refl
 
 zeros : List ℕ
@@ -256,7 +256,7 @@ unfolding problem-idle all
 slice-idle = record { bytes = bytes-tested problem-idle refl; size = omega arith }
 
 within-idle : WithinLayout problem-idle
-unfolding problem-idle problemRefusal headerRefusal headerJudged leadsOf numAt numsAt all blank-or-within tropField signed
+unfolding problem-idle refusalFor headerRefusal headerJudged leadsOf numAt numsAt all blank-or-within tropField signed
 within-idle = refl
 
 counts-idle : (nField problem-idle ≡ 1) × (mField problem-idle ≡ 0)
@@ -353,7 +353,7 @@ unfolding written put
 mark-seen e = let z : _≡_ {A = ℕ} 1 (getD zeros 0 0) = ap (λ (l : List ℕ). getD l 0 0) e in omega (arith, z, zero-at 0)
 
 none-refused : (room : ℕ) → engineRefusal [] room ≡ 1
-unfolding engineRefusal problemRefusal headerRefusal headerJudged numAt
+unfolding engineRefusal refusalFor headerRefusal headerJudged numAt
 none-refused room = refl
 
 pub refusal-marked : (engine : Engine) → ((p buffer : List ℕ) → engine .buffer p buffer ≡ written buffer (1 ∷ [])) → EngineRefuses engine → ⊥

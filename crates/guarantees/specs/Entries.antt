@@ -2,6 +2,7 @@
 -- proofs/Demands.antt ask for. That each can be met is shown in proofs/Inhabited.antt.
 use Prim.Native.Nat.{ℕ}
 use mathlib.Core.Path.{_≡_}
+use mathlib.Core.Bool.{false}
 use mathlib.Core.List.{List}
 use lib.ListN.{length, take}
 use Rattle.definitions.specs.Limits.{kept-bytes}
@@ -38,7 +39,7 @@ pub record ReadProblem (left₀ right₀ : List ℕ) : Type 0 where
   pub header : List ℕ → Header
   pub left : List ℕ → List ℕ
   pub right : List ℕ → List ℕ
-  pub contract : (p : List ℕ) → Slice p → ProblemRead p left₀ right₀ (header p) (left p) (right p)
+  pub contract : (p : List ℕ) → Slice p → ProblemRead false p left₀ right₀ (header p) (left p) (right p)
 
 -- `answer_reader::answer::read_answer`, lent two arrays: the head, and the arrays afterwards.
 pub record ReadAnswer (stamps₀ picks₀ : List ℕ) : Type 0 where

@@ -35,7 +35,7 @@ fn read_own(
 ) -> AnswerHead
     ensures { λ r. ⌜ (WithinLayout (now (problem .entry)) → AnswerRead (now (written .entry)) (nField (now (problem .entry))) (mField (now (problem .entry))) r (now (stamps .entry)) (now (stamps .exit)) (now (picks .entry)) (now (picks .exit))) ⌝ }
 {
-    let header = read_header(problem, problem.len());
+    let header = read_header(problem, problem.len(), false);
     match header {
         Header::Refused(k) => AnswerHead::Refused(k),
         Header::Told(layout) => read_answer(written, layout.n, layout.m, stamps, picks),

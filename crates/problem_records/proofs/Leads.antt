@@ -8,7 +8,7 @@ use native.Mathlib.Omega.{arith}
 use native.Mathlib.Nat.{eq-zero-or-pos}
 use borrow.Author.Tests.{eq-eqb, ne-eqb, le-leb, lt-leb}
 use lib.Dec.{eqb, leb}
-use Rattle.definitions.specs.Limits.{lead-limit, signed-half, signed-full, problem-header}
+use Rattle.definitions.specs.Limits.{lead-limit, signed-half, signed-full}
 use Rattle.definitions.specs.Bytes.{numAt, numsAt, tropField, all, blank-or-within}
 use Rattle.definitions.specs.Offset.{off}
 use Rattle.definitions.proofs.Offset.{trop-off, within-offset}
@@ -34,23 +34,23 @@ pub misfit-one : {b r : Bool} → r ≡ b → r ≡ false → (_≡_ {A = ℕ} 1
 misfit-one e t = (rw (← e, t), omega arith)
 
 -- i of `count` leads are judged, and so many do not fit: with none the run fits exactly if the rest does, else it does not.
-pub record Judged (s : List ℕ) (count i at misfits : ℕ) : Type 0 where
+pub record Judged (s : List ℕ) (start count i at misfits : ℕ) : Type 0 where
   pub inside : i ≤ count
-  pub place : at ≡ problem-header + 4 * i
+  pub place : at ≡ start + 4 * i
   pub few : misfits ≤ i
-  pub rest : misfits ≡ 0 → runFits s (count - i) at ≡ runFits s count problem-header
-  pub some : 0 < misfits → false ≡ runFits s count problem-header
+  pub rest : misfits ≡ 0 → runFits s (count - i) at ≡ runFits s count start
+  pub some : 0 < misfits → false ≡ runFits s count start
 
 -- No lead is judged yet.
-pub judged-none : (s : List ℕ) (count : ℕ) → Judged s count 0 problem-header 0
-judged-none s count =
+pub judged-none : (s : List ℕ) (start count : ℕ) → Judged s start count 0 start 0
+judged-none s start count =
     let e : count - 0 ≡ count = omega arith in
     record { inside = omega arith; place = omega arith; few = omega arith; rest = λ _. rw e; some = λ h. absurd (omega arith) }
 
-module _ {s : List ℕ} {count i at misfits : ℕ} (j : Judged s count i at misfits) where
+module _ {s : List ℕ} {start count i at misfits : ℕ} (j : Judged s start count i at misfits) where
   -- Where a lead is left, the rest is that lead and what comes after it.
   rest-more : i < count → misfits ≡ 0
-      → (blank-or-within lead-limit (tropField (numAt 4 s at)) && runFits s (count - (i + 1)) (at + 4)) ≡ runFits s count problem-header
+      → (blank-or-within lead-limit (tropField (numAt 4 s at)) && runFits s (count - (i + 1)) (at + 4)) ≡ runFits s count start
   unfolding numsAt all
   rest-more h z =
       let next : count - i ≡ suc (count - (i + 1)) = omega arith in
@@ -58,10 +58,10 @@ module _ {s : List ℕ} {count i at misfits : ℕ} (j : Judged s count i at misf
 
   -- One lead more is judged.
   pub judged-more : {w r : ℕ} → i < count → w ≡ numAt 4 s at → r ≡ cond (blank-or-within lead-limit (tropField w)) 0 1
-      → Judged s count (i + 1) (at + 4) (misfits + r)
+      → Judged s start count (i + 1) (at + 4) (misfits + r)
   judged-more {w} {r} h e f = go (blank-or-within lead-limit (tropField w)) refl
     where
-      go : (b : Bool) → blank-or-within lead-limit (tropField w) ≡ b → Judged s count (i + 1) (at + 4) (misfits + r)
+      go : (b : Bool) → blank-or-within lead-limit (tropField w) ≡ b → Judged s start count (i + 1) (at + 4) (misfits + r)
       go true t =
           let none : r ≡ 0 = f ∙ rw t in
           record {
@@ -82,7 +82,7 @@ module _ {s : List ℕ} {count i at misfits : ℕ} (j : Judged s count i at misf
           }
 
   -- No lead is left: the run fits exactly if none did not.
-  pub judged-end : count ≤ i → eqb misfits 0 ≡ runFits s count problem-header
+  pub judged-end : count ≤ i → eqb misfits 0 ≡ runFits s count start
   unfolding numsAt all
   judged-end h = ⊎-elim
       (λ (z : misfits ≡ 0). let none : count - i ≡ 0 = omega arith in eq-eqb misfits 0 z ∙ rw none at (j .rest z))

@@ -28,7 +28,7 @@ lead-read s e f g = rw (f, e, g)
 pub filled-row : (s : List ℕ) (at n : ℕ) {base : ℕ} {row old new : List ℕ} → RowOf (λ j. leadAt s (at + 4 * j)) (n + 1) row
     → FilledFrom (λ j. getD row j 0) base 32 old new → FilledFrom (rowCell s at n) base 32 old new
 unfolding rowCell
-filled-row s at n {row = row} r l = record { same = l .same; before = l .before; cells = λ j b. l .cells j b ∙ cell-of j }
+filled-row s at n {row = row} r l = record { same = l .same; before = l .before; cells = λ j b. l .cells j b ∙ cell-of j; after = l .after }
   where
     cell-of : (j : ℕ) → getD row j 0 ≡ rowCell s at n j
     cell-of j = ⊎-elim

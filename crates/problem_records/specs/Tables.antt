@@ -9,7 +9,8 @@ use lib.ListN.{length}
 use Rattle.definitions.specs.Limits.{highest-n, highest-m, lead-limit, signed-bytes, stride, table-size}
 use Rattle.definitions.specs.Bytes.{Bytes, numAt, numsAt, tropField, all, blank-or-within}
 use Rattle.definitions.specs.Offset.{off}
-use Rattle.definitions.specs.ProblemRecord.{problemSize, nField, mField, leftPlace, rightPlace, listOf, problemRefusal, problemOutcome, WithinLayout}
+use Rattle.definitions.specs.ProblemRecord.{problemSize, nField, mField, leftPlace, rightPlace, listOf, refusalFor, problemOutcome, WithinLayout}
+use Rattle.definitions.specs.Questions.{asking}
 use Rattle.records.specs.declared.problem.Header.{Header}
 use Rattle.records.specs.ProblemHeader.{headerOf}
 
@@ -42,11 +43,11 @@ pub record Laid (s : List ℕ) (n m : ℕ) : Type 0 where
   pub m-most : m ≤ highest-m
   pub size-is : length s ≡ problemSize n m
 
--- What reading a problem into two tables leaves: the answer; both tables as they were where the problem is refused, else its
--- left and its right leads.
-pub record ProblemRead (s left right : List ℕ) (r : Header) (left′ right′ : List ℕ) : Type 0 where
-  pub result : headerOf r ≡ problemOutcome s
-  pub left-kept : 0 < problemRefusal s → left′ ≡ left
-  pub right-kept : 0 < problemRefusal s → right′ ≡ right
-  pub left-read : WithinLayout s → left′ ≡ leftTable s
-  pub right-read : WithinLayout s → right′ ≡ rightTable s
+-- What reading a problem into two tables leaves: the answer; both tables as they were where the problem is refused, else the left and
+-- the right leads of its rules and its first question.
+pub record ProblemRead (several : Bool) (s left right : List ℕ) (r : Header) (left′ right′ : List ℕ) : Type 0 where
+  pub result : headerOf r ≡ problemOutcome several s
+  pub left-kept : 0 < refusalFor several s → left′ ≡ left
+  pub right-kept : 0 < refusalFor several s → right′ ≡ right
+  pub left-read : refusalFor several s ≡ 0 → left′ ≡ leftTable (asking s 0)
+  pub right-read : refusalFor several s ≡ 0 → right′ ≡ rightTable (asking s 0)

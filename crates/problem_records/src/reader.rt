@@ -4,12 +4,12 @@ ghost use Prim.Native.Nat.{_+_, _*_, _-_, _<_, _≤_};
 ghost use mathlib.Core.Bool.{cond};
 ghost use lib.ListN.{length, getD};
 ghost use Rattle.base.specs.Filled.{FilledFrom};
-ghost use Rattle.definitions.specs.Limits.{lead-limit, signed-full, leads-most, problem-header, signed-bytes, highest-n, highest-m, last-row, stride, table-size};
+ghost use Rattle.definitions.specs.Limits.{lead-limit, signed-full, signed-bytes, highest-n, highest-m, most-questions, questions-header, questions-leads, questions-row, stride, table-size};
 ghost use Rattle.definitions.specs.Bytes.{tropField, blank-or-within};
 ghost use Rattle.definitions.specs.ProblemRecord.{leftPlace, problemOutcome};
 ghost use Rattle.records.specs.ProblemHeader.{headerOf};
 ghost use Rattle.problem_records.specs.Tables.{runFits, leadAt, ProblemRead};
-ghost use Rattle.problem_records.specs.Filling.{rowCell, RowOf, Framed, Tabled};
+ghost use Rattle.problem_records.specs.Filling.{rowCell, RowOf, Framed, QuestionHeld, Tabled};
 use records::bytes::word_in;
 use records::limits::HIGHEST_N;
 use records::limits::LEAD_BYTES;
@@ -50,13 +50,13 @@ fn misfit(w: u32) -> u32
     if lead_fits(w) { 0 } else { 1 }
 }
 
-// Each of the first `count` leads of a problem is blank or within the limit. All are looked at, so that the loop has no
+// Each of `count` leads of a problem from a place on is blank or within the limit. All are looked at, so that the loop has no
 // branch.
-fn leads_fit(bytes: &[u8], count: usize) -> bool
-    requires { ⌜ (count ≤ leads-most) × (problem-header + signed-bytes * count ≤ length (now bytes)) ⌝ }
-    ensures { λ r. ⌜ r ≡ runFits (now (bytes .entry)) count problem-header ⌝ }
+fn leads_fit(bytes: &[u8], start: usize, count: usize) -> bool
+    requires { ⌜ (start ≤ questions-header) × (count ≤ questions-leads) × (start + signed-bytes * count ≤ length (now bytes)) ⌝ }
+    ensures { λ r. ⌜ r ≡ runFits (now (bytes .entry)) count start ⌝ }
 {
-    let mut at = PROBLEM_HEADER;
+    let mut at = start;
     let mut misfits = 0u32;
     for _ in 0..count {
         misfits += misfit(word_in(bytes, at));
@@ -73,11 +73,11 @@ pub fn lead_in(bytes: &[u8], at: usize) -> u32
     offset_32(word_in(bytes, at))
 }
 
-// Where the leads of row i start, in a problem of n + 1 variables. Public for `closed_walks::arcs`, `plan_tests`,
+// Where the leads of row i start, behind the ten bytes of a header, in a problem of n + 1 variables. Public for `closed_walks::arcs`, `plan_tests`,
 // `strategy_tests::certify`.
 pub fn row_place(n: usize, i: usize) -> usize
-    requires { ⌜ (n ≤ highest-n) × (i ≤ highest-m) ⌝ }
-    ensures { λ r. ⌜ (r ≡ leftPlace n i 0) × (r ≤ last-row) ⌝ }
+    requires { ⌜ (n ≤ highest-n) × (i ≤ highest-m + most-questions) ⌝ }
+    ensures { λ r. ⌜ (r ≡ leftPlace n i 0) × (r ≤ questions-row) ⌝ }
 {
     PROBLEM_HEADER + 2 * LEAD_BYTES * (i * (n + 1))
 }
@@ -164,30 +164,63 @@ pub fn read_tables(bytes: &[u8], n: usize, m: usize, left: &mut [u32], right: &m
     clear(right, used, TABLE - used);
 }
 
-// The header of a problem within the layout: where things stand in it, or the first of refusals 1 to 6 that applies. Public for the checker's
-// `check` and `input`.
-pub fn judge_problem(bytes: &[u8]) -> Header
-    ensures { λ r. ⌜ headerOf r ≡ problemOutcome (now (bytes .entry)) ⌝ }
+// Question q, whose row stands behind m rules and q questions, into the row of the question of both tables. Public for the engine's
+// `solve`.
+pub fn read_question(
+    bytes: &[u8],
+    n: usize,
+    m: usize,
+    q: usize,
+    left: &mut [u32; TABLE],
+    right: &mut [u32; TABLE],
+)
+    requires { ⌜ QuestionHeld (now bytes) n m q (now left) (now right) ⌝ }
+    ensures { λ _. ⌜ FilledFrom (rowCell (now (bytes .entry)) (leftPlace n (m + q) 0) n) (32 * m) 32 (now (left .entry)) (now (left .exit)) × FilledFrom (rowCell (now (bytes .entry)) (leftPlace n (m + q) 0 + 4 * (n + 1)) n) (32 * m) 32 (now (right .entry)) (now (right .exit)) ⌝ }
 {
-    let header = read_header(bytes, bytes.len());
+    let at = row_place(n, m + q);
+    read_row(bytes, at, n, left, STRIDE * m);
+    read_row(bytes, at + LEAD_BYTES * (n + 1), n, right, STRIDE * m);
+}
+
+// The header of a problem within the layout, of several questions or one: where things stand in it, or the first of refusals 1 to 6
+// and 15 that applies. Public for the checker's `check` and `input`.
+pub fn judge_problem(bytes: &[u8], several: bool) -> Header
+    ensures { λ r. ⌜ headerOf r ≡ problemOutcome several (now (bytes .entry)) ⌝ }
+{
+    let header = read_header(bytes, bytes.len(), several);
     let Header::Told(layout) = header else {
         return header;
     };
-    if !leads_fit(bytes, lead_count(layout.n, layout.m)) {
+    if !leads_fit(
+        bytes,
+        layout.leads,
+        lead_count(layout.n, layout.m + layout.questions),
+    ) {
         return Header::Refused(REFUSED_LEAD);
     }
     header
 }
 
-// A problem from its bytes, into two lent tables: its layout, with the leads as offset numbers in rows of 32, or the first of
-// refusals 1 to 6 that applies. A refused problem leaves both tables as they are.
-pub fn read_problem(bytes: &[u8], left: &mut [u32; TABLE], right: &mut [u32; TABLE]) -> Header
-    ensures { λ r. ⌜ ProblemRead (now (bytes .entry)) (now (left .entry)) (now (right .entry)) r (now (left .exit)) (now (right .exit)) ⌝ }
+// A problem from its bytes, into two lent tables: its layout, with the leads of its rules and of its first question as offset numbers
+// in rows of 32, or the first of refusals 1 to 6 and 15 that applies, where several questions may be asked or one. A refused problem leaves both tables as they are.
+pub fn read_problem(
+    bytes: &[u8],
+    several: bool,
+    left: &mut [u32; TABLE],
+    right: &mut [u32; TABLE],
+) -> Header
+    ensures { λ r. ⌜ ProblemRead several (now (bytes .entry)) (now (left .entry)) (now (right .entry)) r (now (left .exit)) (now (right .exit)) ⌝ }
 {
-    let header = judge_problem(bytes);
+    let header = judge_problem(bytes, several);
     let Header::Told(layout) = header else {
         return header;
     };
-    read_tables(bytes, layout.n, layout.m, left, right);
+    read_tables(
+        &bytes[layout.leads - PROBLEM_HEADER..],
+        layout.n,
+        layout.m,
+        left,
+        right,
+    );
     header
 }

@@ -68,12 +68,21 @@ pub const SPAN_PLACE: usize = CLASS_PLACE + SHORT_BYTES;
 // The sizes of a problem's header and of an answer's, and of the largest answer record.
 pub const PROBLEM_HEADER: usize = M_PLACE + SHORT_BYTES;
 
+// Document 02, 2.1: where a record of several questions has their count, the size of its header, and the most questions.
+pub const COUNT_PLACE: usize = M_PLACE + SHORT_BYTES;
+
+pub const QUESTIONS_HEADER: usize = COUNT_PLACE + SHORT_BYTES;
+
+pub const MOST_QUESTIONS: usize = 8;
+
 pub const ANSWER_HEADER: usize = SPAN_PLACE + LEAD_BYTES;
 
 pub const ANSWER_MOST: usize = ANSWER_HEADER + (LEAD_BYTES + SHORT_BYTES) * STRIDE;
 
 // Kinds of records.
 pub const PROBLEM_KIND: u16 = 1;
+
+pub const QUESTIONS_KIND: u16 = 3;
 
 pub const ANSWER_KIND: u64 = 2;
 
@@ -118,6 +127,9 @@ pub const REFUSED_LIMITS: usize = 4;
 pub const REFUSED_SIZE: usize = 5;
 
 pub const REFUSED_LEAD: usize = 6;
+
+// Of a problem of several questions: none, or too many.
+pub const REFUSED_COUNT: usize = 15;
 
 // Of an answer buffer: too few bytes.
 pub const REFUSED_ROOM: usize = 7;

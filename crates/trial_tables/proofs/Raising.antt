@@ -30,7 +30,7 @@ use Rattle.trials.specs.Ends.{EndsOf}
 use Rattle.trials.proofs.Small.{near-small}
 use Rattle.trials.proofs.Steps.{table-raised}
 use Rattle.trial_tables.specs.declared.frame.Frame.{Frame}
-use Rattle.trial_tables.specs.Frames.{wholeOf, zero-offset, Trialled, shifted, Raised, Steady, Copied, Coefficients, Holds, Ready, FrameOf, Reraised, At, LeftHeld, Held}
+use Rattle.trial_tables.specs.Frames.{wholeOf, zero-offset, Trialled, shifted, Raised, Steady, Copied, Coefficients, Holds, Ready, FrameOf, Reraised, Rewritten, At, LeftHeld, Held}
 use Rattle.trial_tables.proofs.Agree.{Agree}
 use Rattle.trial_tables.proofs.Ending.{ends-of-blanker, first-row, raised-row-ends}
 
@@ -106,10 +106,10 @@ raised-end before objective after row t n h k r =
 -- ---- what raising leaves
 
 pub steady-refl : {m : ℕ} {right : List ℕ} → Steady m right right
-steady-refl = record { above = λ k h. refl }
+steady-refl = record { above = λ k h. refl; below = λ k h. refl }
 
 pub steady-trans : {m : ℕ} {a b c : List ℕ} → Steady m a b → Steady m b c → Steady m a c
-steady-trans s t = record { above = λ k h. t .above k h ∙ s .above k h }
+steady-trans s t = record { above = λ k h. t .above k h ∙ s .above k h; below = λ k h. t .below k h ∙ s .below k h }
 
 -- The raised table stays ready, and every row but the objective's is as it was.
 pub raised-ready : (f : Frame) (t : ℕ) (left right right′ : List ℕ) → Ready f left right → Trialled t
@@ -144,13 +144,17 @@ raised-ready f t left right right′ y b r = record {
 
 pub raised-reraised : (f : Frame) (t : ℕ) (left right right′ : List ℕ) → Ready f left right → Trialled t
     → Raised right (f .objective) (f .m) t 32 right′ → Reraised f left right right′
-raised-reraised f t left right right′ y b r = record { ready = raised-ready f t left right right′ y b r; steady = record { above = r .above } }
+raised-reraised f t left right right′ y b r = record { ready = raised-ready f t left right right′ y b r; steady = record { above = r .above; below = r .below } }
 
 pub reraised-refl : {f : Frame} {left right : List ℕ} → Ready f left right → Reraised f left right right
 reraised-refl y = record { ready = y; steady = steady-refl }
 
 pub reraised-trans : {f : Frame} {left a b c : List ℕ} → Reraised f left a b → Reraised f left b c → Reraised f left a c
 reraised-trans s t = record { ready = t .ready; steady = steady-trans (s .steady) (t .steady) }
+
+-- What is left of the right table of a problem whose frame was made.
+pub rewritten : {n m : ℕ} {left before after : List ℕ} {f : Frame} → FrameOf n m left before f → Reraised f left before after → Rewritten m before after
+rewritten o r = record { size = r .ready .tables .rights .size; steady = rw (← o .m-is) (r .steady) }
 
 -- The raised table has the frame's ends.
 pub raised-ends : (f : Frame) (t : ℕ) (left right right′ : List ℕ) → Ready f left right

@@ -48,9 +48,15 @@ pub record Raised (before objective : List ℕ) (row t n : ℕ) (after : List �
   pub above : (k : ℕ) → k < row * stride → getD after k 0 ≡ getD before k 0
   pub below : (k : ℕ) → row * stride + n ≤ k → getD after k 0 ≡ getD before k 0
 
--- Two right tables that agree in every row before the objective's.
+-- Two right tables that agree in every row but the objective's.
 pub record Steady (m : ℕ) (before after : List ℕ) : Type 0 where
   pub above : (k : ℕ) → k < m * stride → getD after k 0 ≡ getD before k 0
+  pub below : (k : ℕ) → m * stride + stride ≤ k → getD after k 0 ≡ getD before k 0
+
+-- What an answer leaves of the right table: its size, and every row but the objective's.
+pub record Rewritten (m : ℕ) (before after : List ℕ) : Type 0 where
+  pub size : length after ≡ table-size
+  pub steady : Steady m before after
 
 -- The row of the objective, copied.
 abbrev pub Copied : List ℕ → ℕ → ℕ → List ℕ → Type 0
@@ -92,7 +98,7 @@ pub record FrameOf (n m : ℕ) (left right : List ℕ) (f : Frame) : Type 0 wher
   pub copied : Copied right m stride (f .objective)
   pub ready : Ready f left right
 
--- What a call leaves of the right table: it is ready again, and agrees with before in every row above the objective's.
+-- What a call leaves of the right table: it is ready again, and agrees with before in every row but the objective's.
 pub record Reraised (f : Frame) (left before after : List ℕ) : Type 0 where
   pub ready : Ready f left after
   pub steady : Steady (f .m) before after

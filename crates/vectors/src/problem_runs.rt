@@ -47,7 +47,7 @@ pub fn run(line: &[u8], bytes: &[u8]) {
     let mut left = noise::table();
     let mut right = noise::table();
     print::edge(b"problem", line);
-    let header = read_problem(bytes, &mut left, &mut right);
+    let header = read_problem(bytes, false, &mut left, &mut right);
     match header {
         Header::Told(layout) => show_read(layout.n, layout.m, &left, &right),
         Header::Refused(k) => show_refused(k, &left, &right),
@@ -82,7 +82,7 @@ pub fn run_places(line: &[u8], bytes: &[u8]) {
     let mut left = noise::table();
     let mut right = noise::table();
     print::edge(b"problem", line);
-    read_problem(bytes, &mut left, &mut right);
+    read_problem(bytes, false, &mut left, &mut right);
     show_places(&left, &right);
     print::end();
 }

@@ -1,7 +1,8 @@
+use Rattle.base.proofs.Lists.{rest-whole}
 use borrow.Author.Needs.{needs}
 use Rattle.checker.specs.Outcome.{verdictOf}
 use Rattle.checker.proofs.Verdicts.{judged-problem, header-read}
-use Rattle.checker.proofs.LongInputs.{kept-small, rest-whole, long-header, problem-kept, long-answered}
+use Rattle.checker.proofs.LongInputs.{kept-small, long-header, problem-kept, long-answered}
 use lib.Seq.{length-take-le}
 use lib.ListN.{drop}
 use mathlib.Core.Path.{sym}

@@ -1,5 +1,5 @@
 use Rattle.class_answers.proofs.Unbounded.{unbounded-settled}
-use Rattle.trial_tables.proofs.Raising.{raised-ready}
+use Rattle.trial_tables.proofs.Raising.{raised-ready, raised-reraised}
 use native.Mathlib.Omega.{arith}
 use borrow.Author.Needs.{needs}
 use Rattle.class_answers.proofs.answer.unbounded.Statement.{statement}
@@ -18,4 +18,4 @@ unbounded-spec =
     (λ c. search needs)
     (λ c κs. search needs)
     (λ c. let start = c .before .before .before .before .before .before .before .before .before .before .before .before .before in let a = start .args in let p = start .pre in let r = c .before .before .before .before .before .before .before .before .raise in
-    unbounded-settled (a .frame) (a .left .now) (a .right .now) (r .last .0) (a .search) (c .before .before .before .induced .result) (c .row-picks .result) _ (p .0) (p .1) (p .2) (p .3) (r .ensures) (c .before .before .before .induced .ensures) (c .row-picks .ensures)))
+    (unbounded-settled (a .frame) (a .left .now) (a .right .now) (r .last .0) (a .search) (c .before .before .before .induced .result) (c .row-picks .result) _ (p .0) (p .1) (p .2) (p .3) (r .ensures) (c .before .before .before .induced .ensures) (c .row-picks .ensures), raised-reraised (a .frame) (a .search .reached) (a .left .now) (a .right .now) (r .last .0) (p .0) (record { lowest = omega (arith, p .1 .numbers .lowest, p .1 .numbers .low, p .1 .numbers .apart); highest = omega (arith, p .3) }) (r .ensures))))

@@ -5,10 +5,10 @@ use Rattle.problem_records.proofs.reader.leads_fit.Statement.{statement
 use Rattle.problem_records.proofs.reader.leads_fit.Tie as tie
 
 abbrev Inv-loop : tie.InvT-loop
-Inv-loop bytes count at₀ misfits₀ counter₀ at misfits counter = Judged bytes count counter at misfits
+Inv-loop bytes start count at₀ misfits₀ counter₀ at misfits counter = Judged bytes start count counter at misfits
 
 abbrev μ-loop : tie.MeasureT-loop
-μ-loop bytes count at₀ misfits₀ counter₀ at misfits counter = count - counter
+μ-loop bytes start count at₀ misfits₀ counter₀ at misfits counter = count - counter
 
 pub leads-fit-spec : {M : Type 1} → statement M
 leads-fit-spec =

@@ -1,6 +1,8 @@
-use Rattle.definitions.specs.Bytes.{Bytes}
-use Rattle.problem_records.proofs.ReadProblem.{laid, laid-framed, refused-read, problem-read}
+use Rattle.problem_records.proofs.ReadProblem.{told-of, told-framed, refused-read, problem-read}
 use mathlib.Core.Path.{ap, sym, _∙_}
+use native.Mathlib.Omega.{arith}
+use Prim.Native.Nat.{_-_}
+use Rattle.base.proofs.Lists.{rest-whole}
 use Rattle.records.specs.ProblemHeader.{headerOf}
 use borrow.Author.Needs.{needs}
 use Rattle.problem_records.proofs.reader.read_problem.Statement.{statement}
@@ -13,10 +15,13 @@ read-problem-spec =
     (λ c κs. search needs)
     (λ c. search needs)
     (λ c. search needs)
-    (λ c. refused-read _ (c .before .before .judge-problem .ensures) (c .enum-told .given .1))
-    (λ c κs. let bytes : Bytes (c .before .before .before .before .before .before .before .args .bytes .now) = record { byte = λ i. c .before .before .before .before .before .before .shared-slice-known .given i .fits } in
-    laid-framed (laid bytes (c .before .before .before .before .before .judge-problem .ensures) (c .before .before .before .header .given .1)) (search needs) (search needs))
-    (λ c. let bytes : Bytes (c .before .before .before .before .before .before .before .before .args .bytes .now) = record { byte = λ i. c .before .before .before .before .before .before .before .shared-slice-known .given i .fits } in
-    let read = c .before .before .before .before .before .before .judge-problem .ensures in
-    let fields = c .before .before .before .before .header .given .1 in
-    problem-read (laid bytes read fields) (sym (ap headerOf fields) ∙ read) (c .read-tables .ensures)))
+    (λ c. refused-read _ _ (c .before .before .judge-problem .ensures) (c .enum-told .given .1))
+    (λ c. let t = told-of _ (c .before .before .before .before .judge-problem .ensures) (c .before .before .header .given .1) in omega (arith, t .fits .leads-least))
+    (λ c. let t = told-of _ (c .before .before .before .before .judge-problem .ensures) (c .before .before .header .given .1) in omega (arith, t .fits .leads-least, t .fits .size-is))
+    (λ c. let t = told-of _ (c .before .before .before .before .judge-problem .ensures) (c .before .before .header .given .1) in omega (arith, t .fits .leads-least, t .fits .size-is))
+    (λ c. search needs)
+    (λ c κs. let t = told-of _ (c .before .before .before .before .before .before .before .judge-problem .ensures) (c .before .before .before .before .before .header .given .1) in
+    rw (rest-whole (c .before .before .before .before .before .before .before .before .before .args .bytes .now) (c .before .before .before .before .before .header .given .0 .0 .leads - 10)) (told-framed t (search needs) (search needs)))
+    (λ c. let read = c .before .before .before .before .before .before .before .before .judge-problem .ensures in
+    let told = c .before .before .before .before .before .before .header .given .1 in
+    problem-read (told-of _ read told) (rw (rest-whole (c .before .before .before .before .before .before .before .before .before .before .args .bytes .now) (c .before .before .before .before .before .before .header .given .0 .0 .leads - 10)) at (c .read-tables .ensures)) (sym (ap headerOf told) ∙ read)))

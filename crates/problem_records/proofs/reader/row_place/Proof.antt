@@ -6,8 +6,8 @@ use Rattle.problem_records.proofs.reader.row_place.Statement.{statement
 use Rattle.problem_records.proofs.reader.row_place.Tie as tie
 
 -- The variables of the rows before row i.
-before : (n i : ℕ) → n ≤ 31 → i ≤ 63 → i * (n + 1) ≤ 2016
-before n i h k = omega (arith, mul-le-mul-right {m = i} {n = 63} (n + 1) k)
+before : (n i : ℕ) → n ≤ 31 → i ≤ 71 → i * (n + 1) ≤ 2272
+before n i h k = omega (arith, mul-le-mul-right {m = i} {n = 71} (n + 1) k)
 
 pub row-place-spec : {M : Type 1} → statement M
 row-place-spec =
