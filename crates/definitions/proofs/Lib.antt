@@ -22,3 +22,4 @@ pub mod Week
 pub mod WeekFacts
 pub mod Agree
 pub mod Scaling
+pub mod Marks

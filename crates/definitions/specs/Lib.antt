@@ -15,3 +15,4 @@ pub mod Demands
 pub mod Examples
 pub mod Week
 pub mod Scaling
+pub mod Marks

@@ -4,6 +4,8 @@ ghost use Prim.Native.Nat.{_+_, _*_, _≤_, _<_};
 ghost use lib.ListN.{length};
 ghost use Rattle.reach.specs.Marks.{Flags, Anchored, Reached};
 ghost use Rattle.reach.specs.Spreading.{markOf, RowMarked, Spreading};
+pub mod compare;
+use crate::compare::marks_differ;
 use records::limits::STRIDE;
 
 // The elements of a table of arcs.
