@@ -13,44 +13,14 @@ Inv-loop old new words w₀ w = (w ≤ words) × (DifferBelow (8 * w) old new �
 abbrev μ-loop : tie.MeasureT-loop
 μ-loop old new words w₀ w = words - w
 
--- src/compare.rt:27:5
-loop-holds : tie.Need-loop-holds Inv-loop μ-loop
-loop-holds c = (omega arith, differ-none)
-
--- src/compare.rt:28:18
-mul-at : tie.Need-mul-at Inv-loop μ-loop
-mul-at c = search needs
-
--- src/compare.rt:29:12
-eight-at-requires : tie.Need-eight-at-requires Inv-loop μ-loop
-eight-at-requires c κs = search needs
-
--- src/compare.rt:29:33
-eight-at-requires-2 : tie.Need-eight-at-requires-2 Inv-loop μ-loop
-eight-at-requires-2 c κs = search needs
-
--- src/compare.rt:30:13
 returns : tie.Need-returns Inv-loop μ-loop
 returns c =
     says-yes (differ-more (omega arith) (differ-word 8 _ _ _ (λ q. c .if1 .taken (c .before .before .eight-at .ensures ∙ q ∙ sym (c .before .eight-at2 .ensures)))))
 
--- src/compare.rt:27:9
-add-w : tie.Need-add-w Inv-loop μ-loop
-add-w c = search needs
-
--- src/compare.rt:27:5
-loop-less : tie.Need-loop-less Inv-loop μ-loop
-loop-less c = search needs
-
--- src/compare.rt:27:5
 loop-again : tie.Need-loop-again Inv-loop μ-loop
 loop-again c =
     let e : 8 * c .before .before .before .before .loop .w + 8 ≡ 8 * (c .before .before .before .before .loop .w + 1) = omega arith in
     (omega arith, rw e at (same-word 8 _ (record { byte = λ i. c .before .before .before .before .before .before .shared-slice-known .given i .fits }) (record { byte = λ i. c .before .before .before .before .before .shared-slice-known2 .given i .fits }) (c .before .before .before .before .loop .inv .1) (sym (c .before .before .eight-at .ensures) ∙ c .if1 .left ∙ c .before .eight-at2 .ensures)))
-
--- src/compare.rt:23:1
-returns-2 : tie.Need-returns-2 Inv-loop μ-loop
-returns-2 c = says-no (λ d. c .before .loop .inv .1 (differ-more (omega arith) d))
 
 pub words-differ-spec : {M : Type 1} → statement M
 words-differ-spec =
@@ -58,12 +28,12 @@ words-differ-spec =
     (tie.spec
     Inv-loop
     μ-loop
-    loop-holds
-    mul-at
-    eight-at-requires
-    eight-at-requires-2
+    (λ c. (omega arith, differ-none))
+    (λ c. search needs)
+    (λ c κs. search needs)
+    (λ c κs. search needs)
     returns
-    add-w
-    loop-less
+    (λ c. search needs)
+    (λ c. search needs)
     loop-again
-    returns-2)
+    (λ c. says-no (λ d. c .before .loop .inv .1 (differ-more (omega arith) d))))
