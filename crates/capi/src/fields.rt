@@ -17,7 +17,7 @@ const STAMP_PLACES: usize = 32;
 
 const PICK_PLACES: usize = 64;
 
-const TOO_FEW_PLACES: u64 = 255;
+pub const TOO_FEW_PLACES: u64 = 255;
 
 // 256 × size where written, else the refusal.
 fn written_number(written: Written) -> u64

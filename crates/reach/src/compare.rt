@@ -33,22 +33,22 @@ fn words_differ(old: &[u8], new: &[u8], words: usize) -> bool
     false
 }
 
-// Whether two lists differ in some byte of their first `count`: word by word, then what is left after the last whole word byte by
-// byte. Public for `reach`, and for `capi::marks`.
+// Whether two lists differ in some byte of their first `count`: word by word, then byte by byte where fewer than eight are left.
+// Public for `reach` and `capi::marks`.
 pub fn marks_differ(old: &[u8], new: &[u8], count: usize) -> bool
     requires { ⌜ (count ≤ length (now old)) × (count ≤ length (now new)) ⌝ }
     ensures { λ r. ⌜ MarksCompared count (now (old .entry)) (now (new .entry)) r ⌝ }
 {
-    let words = count / WORD;
-    if words_differ(old, new, words) {
+    if words_differ(old, new, count / WORD) {
         return true;
     }
-    let mut k = WORD * words;
-    while k < count {
+    let mut left = count % WORD;
+    while 0 < left {
+        let k = count - left;
         if old[k] != new[k] {
             return true;
         }
-        k += 1;
+        left -= 1;
     }
     false
 }

@@ -1,4 +1,3 @@
-use mathlib.Core.Path.{sym}
 use borrow.Author.Needs.{needs}
 use borrow.Author.Tests.{not-true, not-false}
 use Rattle.definitions.proofs.Marks.{told-yes, told-no}
@@ -22,8 +21,8 @@ reach-spec =
     μ-loop
     (λ c. (c .pre .1, zero-flags, reaching-start _ _ _))
     (λ c κs. (c .before .pre .0, c .loop .inv .0, c .loop .inv .1))
-    (λ c. sym (c .before .before .before .loop .inv .0 .length-is))
-    (λ c. sym (c .before .before .before .spread-round .ensures .flags .length-is))
+    (λ c. search needs)
+    (λ c. search needs)
     (λ c κs. search needs)
     (λ c. spreading-reached (c .before .before .before .before .before .before .loop .inv .2) (c .before .before .before .before .before .spread-round .ensures) (told-no (c .before .marks-differ .ensures) (not-true _ (c .if1 .taken))))
     (λ c. spreading-fewer (c .before .before .before .before .before .before .before .loop .inv .0) (c .before .before .before .before .before .before .spread-round .ensures) (told-yes (c .before .before .marks-differ .ensures) (not-false _ (c .before .if1 .left))))
