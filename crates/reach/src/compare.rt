@@ -39,16 +39,16 @@ pub fn marks_differ(old: &[u8], new: &[u8], count: usize) -> bool
     requires { ⌜ (count ≤ length (now old)) × (count ≤ length (now new)) ⌝ }
     ensures { λ r. ⌜ MarksCompared count (now (old .entry)) (now (new .entry)) r ⌝ }
 {
-    if words_differ(old, new, count / WORD) {
+    let words = count / WORD;
+    if words_differ(old, new, words) {
         return true;
     }
-    let mut left = count % WORD;
-    while 0 < left {
-        let k = count - left;
+    let mut k = WORD * words;
+    while 0 < count - k {
         if old[k] != new[k] {
             return true;
         }
-        left -= 1;
+        k += 1;
     }
     false
 }

@@ -7,10 +7,10 @@ use Rattle.reach.proofs.compare.marks_differ.Statement.{statement}
 use Rattle.reach.proofs.compare.marks_differ.Tie as tie
 
 abbrev Inv-loop : tie.InvT-loop
-Inv-loop old new count left₀ left = (left ≤ count) × (DifferBelow (count - left) old new → ⊥)
+Inv-loop old new count words k₀ k = (k ≤ count) × (DifferBelow k old new → ⊥)
 
 abbrev μ-loop : tie.MeasureT-loop
-μ-loop old new count left₀ left = left
+μ-loop old new count words k₀ k = count - k
 
 pub marks-differ-spec : {M : Type 1} → statement M
 marks-differ-spec =
@@ -20,6 +20,7 @@ marks-differ-spec =
     μ-loop
     (λ c κs. search needs)
     (λ c. says-yes (differ-more (omega arith) (told-yes (c .before .words-differ .ensures) (c .if1 .taken))))
+    (λ c. search needs)
     (λ c. (omega arith, λ d. told-no (c .before .words-differ .ensures) (c .if1 .left) (differ-more (omega arith) d)))
     (λ c. search needs)
     (λ c. search needs)
@@ -27,5 +28,5 @@ marks-differ-spec =
     (λ c. says-yes (differ-here (omega arith) (c .if2 .taken)))
     (λ c. search needs)
     (λ c. search needs)
-    (λ c. (omega arith, λ d. same-byte (c .before .before .before .before .loop .inv .1) (c .if2 .left) (differ-more (omega arith) d)))
+    (λ c. (omega arith, same-byte (c .before .before .before .before .loop .inv .1) (c .if2 .left)))
     (λ c. says-no (λ d. c .before .loop .inv .1 (differ-more (omega arith) d))))
