@@ -95,11 +95,12 @@ uint64_t span_hours_write(uint64_t value, uint8_t *buffer, size_t buffer_size);
  * a window that starts before the last one closes, or a minute beyond 6,000,000. */
 uint64_t span_first_open(const uint64_t *week, size_t week_count, uint64_t minute);
 
-/* Whether two lists of mark bytes differ in some byte of their first `count`, whatever stands behind these (document 02, 2.3): the
- * test that tells whether a round of reach, in the engine and in the checker, has found a new moment. It compares eight bytes at a time;
- * any count will do, 0 too.
+/* Whether two lists of mark bytes differ in some byte of their first `count`, whatever stands behind these: the test that tells
+ * whether a round of reach, in the engine and in the checker, has found a new moment. It compares eight bytes at a time; any
+ * count will do, 0 too.
  * Result: SPAN_DIFFER, or 0 where they are the same; SPAN_TOO_FEW_PLACES where a list has fewer than `count` bytes. */
-uint64_t span_marks_differ(const uint8_t *before, size_t before_size, const uint8_t *after, size_t after_size, uint64_t count);
+uint64_t span_marks_differ(const uint8_t *before, size_t before_size, const uint8_t *after, size_t after_size,
+                           uint64_t count);
 
 /* What a result holds. */
 static inline unsigned span_refusal(uint64_t result) { return (unsigned)(result & 255); }

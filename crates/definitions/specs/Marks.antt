@@ -1,6 +1,7 @@
--- Mark bytes compared. Document 02, 2.3: "The test whether a round has reached a new moment, however it is done now, is to compare mark
--- bytes eight to a word. For every pair of lists of n+1 mark bytes, also where n+1 is no multiple of eight, it says yes exactly when they
--- differ in some byte." That it goes by words of eight is the code's; what it says is here, for any count in place of n + 1.
+-- Mark bytes compared. Document 02, 2.3: "The test whether a round has reached a new moment, however it is done now, is to compare
+-- mark bytes eight to a word. For every pair of lists of n+1 mark bytes, also where n+1 is no multiple of eight, it says yes
+-- exactly when they differ in some byte." That it goes by words of eight is the code's; what it says stands here, for any count
+-- in place of n + 1.
 use Prim.Native.Nat.{ℕ, _<_}
 use mathlib.Core.Path.{_≡_}
 use mathlib.Core.Bool.{Bool, true}

@@ -68,9 +68,9 @@ fn spread_round(arcs: &[u32; ARCS], width: usize, marks: [u8; 32], done: [u8; 32
     }
 }
 
-// Marks of the variables that are reachable from the start, by rounds until one reaches no new variable: the marks before and after it
-// are compared by words (document 02, 2.3). Each round but the last marks one more, so there are at most as many of these as
-// variables. Public for `strategy_tests`, `pick_tables`.
+// Marks of the variables that are reachable from the start, by rounds until one reaches no new variable: the marks before and
+// after it are compared by words (document 02, 2.3). Each round but the last marks one more, so there are at most as many of
+// these as variables. Public for `strategy_tests`, `pick_tables`.
 pub fn reach(arcs: &[u32; ARCS], width: usize, start: [u8; 32]) -> [u8; 32]
     requires { ⌜ (width ≤ 32) × Flags start ⌝ }
     ensures { λ r. ⌜ Reached (now (arcs .entry)) width start r ⌝ }
