@@ -21,7 +21,7 @@ const STAMP_PLACES: usize = STRIDE;
 
 const PICK_PLACES: usize = ROWS;
 
-const TOO_FEW_PLACES: u64 = 255;
+pub const TOO_FEW_PLACES: u64 = 255;
 
 // 256 × size where written, else the refusal.
 fn written_number(written: Written) -> u64

@@ -24,3 +24,4 @@ pub mod WeekFacts
 pub mod Agree
 pub mod Scaling
 pub mod Selection
+pub mod Marks

@@ -17,3 +17,4 @@ pub mod Examples
 pub mod Week
 pub mod Scaling
 pub mod Selection
+pub mod Marks

@@ -5,6 +5,10 @@ ghost use lib.ListN.{length};
 ghost use Rattle.definitions.specs.Limits.{stride, arcs-size};
 ghost use Rattle.reach.specs.Marks.{Flags, Anchored, Reached};
 ghost use Rattle.reach.specs.Spreading.{markOf, RowMarked, Spreading};
+
+pub mod compare;
+
+use crate::compare::marks_differ;
 use records::limits::ARCS;
 use records::limits::STRIDE;
 
@@ -37,38 +41,35 @@ fn mark_row(arcs: &[u32; ARCS], base: usize, marks: [u8; STRIDE]) -> [u8; STRIDE
     new
 }
 
-// Marks, which variables are done (they have marked all to which they lead), and whether a round has made one done.
+// Marks, and which variables are done: they have marked all to which they lead.
 pub struct Spread {
     pub marks: [u8; STRIDE],
     pub done: [u8; STRIDE],
-    pub moved: bool,
 }
 
 // A round: each marked variable that is not done marks all to which it leads. Marks of this round count in it already.
 fn spread_round(arcs: &[u32; ARCS], width: usize, marks: [u8; STRIDE], done: [u8; STRIDE]) -> Spread
     requires { ⌜ (width ≤ stride) × Flags marks × Flags done ⌝ }
-    ensures { λ r. ⌜ Spreading (now (arcs .entry)) width marks done width (r .marks) (r .done) (r .moved) ⌝ }
+    ensures { λ r. ⌜ Spreading (now (arcs .entry)) width marks done width (r .marks) (r .done) ⌝ }
 {
     let mut new = marks;
     let mut spread = done;
-    let mut moved = false;
     for j in 0..width {
         if spread[j] < new[j] {
             let more = mark_row(arcs, j * STRIDE, new);
             new = more;
             spread[j] = 1;
-            moved = true;
         }
     }
     Spread {
         marks: new,
         done: spread,
-        moved,
     }
 }
 
-// Marks of the variables that are reachable from the start, by rounds until one finds every marked variable done. Each
-// round but the last makes one done, so there are at most as many of these as variables. Public for `strategy_tests`, `pick_tables`.
+// Marks of the variables that are reachable from the start, by rounds until one reaches no new variable: the marks before and
+// after it are compared by words (document 02, 2.3). Each round but the last marks one more, so there are at most as many of
+// these as variables. Public for `strategy_tests`, `pick_tables`.
 pub fn reach(arcs: &[u32; ARCS], width: usize, start: [u8; STRIDE]) -> [u8; STRIDE]
     requires { ⌜ (width ≤ stride) × Flags start ⌝ }
     ensures { λ r. ⌜ Reached (now (arcs .entry)) width start r ⌝ }
@@ -78,7 +79,7 @@ pub fn reach(arcs: &[u32; ARCS], width: usize, start: [u8; STRIDE]) -> [u8; STRI
     loop {
         let next = spread_round(arcs, width, marks, done);
         let more = next.marks;
-        if !next.moved {
+        if !marks_differ(&marks, &more, width) {
             return more;
         }
         let spread = next.done;
