@@ -27,7 +27,7 @@ use Rattle.duality.proofs.Sweeps.{SomeGain, entries-back, gain-back, swept-none
 use Rattle.reach.specs.Marks.{Marked}
 use Rattle.closed_walks.specs.Gains.{arc-zero, arc-most, weightOf, matrix, anywhere, Table, NoneGains, SomeGains, Tested}
 use Rattle.closed_walks.specs.Order.{past, Ordered}
-use Rattle.closed_walks.specs.GainRound.{value-limit, Small, endValue, Pushed, backward, level, Ready, Pushing, Rounds}
+use Rattle.closed_walks.specs.GainRound.{walk-limit, Small, endValue, Pushed, backward, level, Ready, Pushing, Rounds}
 use Rattle.closed_walks.proofs.Order.{past-most}
 
 -- ---- weights
@@ -327,7 +327,7 @@ module _ (arcs marks : List ℕ) (width : ℕ) (table : Table arcs width) where
   pub rounds-beyond : {i : ℕ} {values done new pushed : List ℕ} {moved : Bool} → Rounds arcs marks width i values done
       → Pushing arcs marks width values done width new pushed moved → (Small width new → ⊥) → 0 < width → SomeGains arcs marks width
   rounds-beyond r p s h = some-gains (climbed-beyond (backward arcs marks) anywhere width
-      (climbed-more (backward arcs marks) anywhere width (r .climbed) (p .swept)) (fin (pos value-limit))
+      (climbed-more (backward arcs marks) anywhere width (r .climbed) (p .swept)) (fin (pos walk-limit))
       (λ j b. ⊑-trans (value-most (width - 1) j b) (whole-least (omega (whole, table .width-most)))) h
       (λ q. s (λ j b. omega (whole, fin-below (q j b)))))
 

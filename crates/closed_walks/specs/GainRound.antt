@@ -17,12 +17,12 @@ use Rattle.reach.specs.Marks.{Marked}
 use Rattle.closed_walks.specs.Gains.{arc-zero, arc-most, matrix, anywhere}
 
 -- No walk of at most 32 arcs weighs more.
-abbrev pub value-limit : ℕ
-value-limit = stride * arc-most
+abbrev pub walk-limit : ℕ
+walk-limit = stride * arc-most
 
 -- The first `width` values are within the limit.
 abbrev pub Small : ℕ → List ℕ → Type 0
-Small width values = (l : ℕ) → l < width → getD values l 0 ≤ value-limit
+Small width values = (l : ℕ) → l < width → getD values l 0 ≤ walk-limit
 
 -- The value at the end of an arc: the larger of what it was and the start's value with the arc's weight, this cut off at 0.
 -- Where there is no arc it stays, as a start's value is below 2³¹.
@@ -61,7 +61,7 @@ pub record Ready (arcs marks : List ℕ) (width : ℕ) (values done : List ℕ) 
 pub record Pushing (arcs marks : List ℕ) (width : ℕ) (values done : List ℕ) (k : ℕ) (new pushed : List ℕ) (moved : Bool) : Type 0 where
   pub length-is : length new ≡ stride
   pub done-length : length pushed ≡ stride
-  pub small : (l : ℕ) → l < width → getD new l 0 ≤ value-limit + k * arc-most
+  pub small : (l : ℕ) → l < width → getD new l 0 ≤ walk-limit + k * arc-most
   pub held :
       (j l v : ℕ) → j < width → l < width → v < getD pushed j 0 → plus (matrix arcs marks j l) (fin (pos v)) ⊑ level new l
   pub swept : Swept (backward arcs marks) width k (level values) (level new)

@@ -17,7 +17,7 @@ use records::limits::STAMP_LIMIT;
 use records::limits::STRIDE;
 use records::limits::TABLE;
 use trial_tables::frame::Frame;
-use trials::policy::raised;
+use trials::policy::high_of;
 use trials::values::LOW;
 use trials::values::full_side;
 use trials::values::plus;
@@ -143,7 +143,7 @@ fn guess_from(
 {
     let point = joined(heights, x, first, there, width);
     Guess {
-        span: raised(first) + OFFSET - plus(coefficient, 0),
+        span: high_of(first) + OFFSET - plus(coefficient, 0),
         point: anchored(&point, width),
     }
 }

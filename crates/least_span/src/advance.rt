@@ -13,7 +13,7 @@ use guesses::pass::rows_stand;
 use records::limits::TABLE;
 use trial_tables::frame::Frame;
 use trial_tables::frame::raise;
-use trials::policy::raised_all;
+use trials::policy::highs_of;
 
 // A floor closer than the lowest trial: nothing has to be tried below it. Public for `class_answers::answer`.
 pub fn floored(search: Search, floor: u64) -> Search
@@ -105,7 +105,7 @@ fn fallen(
         return search;
     }
     let point = found.point;
-    let values = raised_all(&point);
+    let values = highs_of(&point);
     let mut next = search;
     next.reached = span;
     next.point = values;

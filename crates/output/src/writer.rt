@@ -10,7 +10,7 @@ ghost use Prim.Native.Nat.{_≤_};
 ghost use lib.ListN.{length};
 ghost use Rattle.definitions.specs.Programs.{refusedLine, verdictLine};
 ghost use Rattle.printing.specs.Text.{Appended, Output, line-most, verdictOf};
-ghost use Rattle.output.specs.Written.{written};
+ghost use Rattle.output.specs.Written.{writerAfter};
 
 // A lent slice, and the place in it where the next record or line goes.
 pub struct Writer<'a> {
@@ -27,7 +27,7 @@ pub fn made<'a>(buf: &'a mut [u8], at: usize) -> Writer<'a>
 
 // The writer after a record or a line was appended: the same slice, and the next place.
 pub fn added<'a, 'b>(w: Writer<'a>, text: &'b [u8]) -> Writer<'a>
-    ensures { λ r. ⌜ r ≡ written (w .entry) (now (text .entry)) ⌝ }
+    ensures { λ r. ⌜ r ≡ writerAfter (w .entry) (now (text .entry)) ⌝ }
 {
     let at = w.at;
     let next = append(&mut *w.buf, at, text);

@@ -26,7 +26,7 @@ use records::limits::PROBLEM_HEADER;
 use records::limits::STRIDE;
 use records::offset::later;
 use records::offset::offset_32;
-use records::offset::raised;
+use records::offset::offset_added;
 
 // What stamps are lowered by, so that their sums with coefficients stay below 2³².
 const STAMP_DROP: u32 = OFFSET_32 / 2;
@@ -35,7 +35,7 @@ const STAMP_DROP: u32 = OFFSET_32 / 2;
 const SIDE_FLOOR: u32 = OFFSET_32 + STAMP_DROP / 2;
 
 // A stamp lowered.
-fn lower(stamp: u64) -> u32
+fn lower_stamp(stamp: u64) -> u32
     requires { ⌜ Near stamp-limit stamp ⌝ }
     ensures { λ r. ⌜ r ≡ lowered stamp ⌝ }
 {
@@ -53,7 +53,7 @@ pub fn lower_point(stamps: &[u64; STRIDE], width: usize) -> [u32; STRIDE]
 {
     let mut x = [0u32; STRIDE];
     for l in 0..width {
-        x[l] = lower(stamps[l]);
+        x[l] = lower_stamp(stamps[l]);
     }
     x
 }
@@ -63,7 +63,7 @@ fn sum_in(bytes: &[u8], at: usize, x: u32) -> u32
     requires { ⌜ (at + signed-bytes ≤ length (now bytes)) × (leadAt (now bytes) at + x < signed-full) ⌝ }
     ensures { λ r. ⌜ (off r ≡ leadAt (now (bytes .entry)) at + x) × (r < signed-full) ⌝ }
 {
-    raised(word_in(bytes, at), x)
+    offset_added(word_in(bytes, at), x)
 }
 
 // The largest of `count` sums, as a field: one side of a row whose leads start at a place.

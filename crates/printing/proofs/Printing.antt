@@ -12,7 +12,7 @@ use Rattle.definitions.specs.Offset.{tropOf}
 use Rattle.definitions.specs.Verdict.{accepted, not-certified}
 use Rattle.definitions.specs.Programs.{decimal, wholeDecimal, spanDecimal, text-least, text-bottomless, text-none, text-not-certified, newline, classWords, refusedLine, verdictLine}
 use Rattle.definitions.proofs.Offset.{trop-zero, trop-show}
-use Rattle.printing.specs.Text.{Putting, verdictOf}
+use Rattle.printing.specs.Text.{Putting, verdictBy}
 use Rattle.printing.proofs.Copy.{put-nothing, put-then}
 
 -- ---- a span
@@ -69,18 +69,18 @@ line-puts p q r inside = put-then p (put-then q r inside) (omega arith)
 
 -- Refusal 0 is none: the line of class and span.
 pub verdict-accepted : {l : List ℕ} (refusal class span : ℕ) {after : List ℕ} {next : ℕ} → Putting l 0 (verdictLine (accepted class (tropOf span))) after next → refusal ≡ 0
-    → Putting l 0 (verdictLine (verdictOf refusal class span)) after next
-unfolding verdictOf
+    → Putting l 0 (verdictLine (verdictBy refusal class span)) after next
+unfolding verdictBy
 verdict-accepted refusal class span p e = rw (eq-eqb refusal 0 e) p
 
 -- Refusal 14 is printed in words.
 pub verdict-uncertified : {l : List ℕ} (refusal class span : ℕ) {after : List ℕ} {next : ℕ} → Putting l 0 (text-not-certified ++ newline) after next → refusal ≡ not-certified
-    → Putting l 0 (verdictLine (verdictOf refusal class span)) after next
-unfolding verdictOf verdictLine
+    → Putting l 0 (verdictLine (verdictBy refusal class span)) after next
+unfolding verdictBy verdictLine
 verdict-uncertified refusal class span p e = rw (ne-eqb refusal 0 (omega arith), eq-eqb refusal not-certified e) p
 
 -- Any other by its number.
 pub verdict-refused : {l : List ℕ} (refusal class span : ℕ) {after : List ℕ} {next : ℕ} → Putting l 0 (refusedLine refusal) after next → (refusal ≡ 0 → ⊥) → (refusal ≡ not-certified → ⊥)
-    → Putting l 0 (verdictLine (verdictOf refusal class span)) after next
-unfolding verdictOf verdictLine
+    → Putting l 0 (verdictLine (verdictBy refusal class span)) after next
+unfolding verdictBy verdictLine
 verdict-refused refusal class span p m n = rw (ne-eqb refusal 0 m, ne-eqb refusal not-certified n) p

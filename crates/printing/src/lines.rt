@@ -13,7 +13,7 @@ ghost use lib.ListN.{length};
 ghost use Rattle.definitions.specs.Offset.{tropOf};
 ghost use Rattle.definitions.specs.Verdict.{accepted};
 ghost use Rattle.definitions.specs.Programs.{text-least, spanDecimal, classWords, refusedLine, verdictLine};
-ghost use Rattle.printing.specs.Text.{Putting, line-most, verdictOf};
+ghost use Rattle.printing.specs.Text.{Putting, line-most, verdictBy};
 
 // Room enough for every line.
 pub const LINE_MOST: usize = 64;
@@ -78,7 +78,7 @@ pub fn refused_line(line: &mut [u8], number: usize) -> usize
 // Puts the line of a verdict: that of refusal `refusal`, or of class and span where it is 0. Public for `output::writer`.
 pub fn verdict_line(line: &mut [u8], refusal: usize, class: u64, span: u64) -> usize
     requires { ⌜ line-most ≤ length (now line) ⌝ }
-    ensures { λ r. ⌜ Putting (now (line .entry)) 0 (verdictLine (verdictOf refusal class span)) (now (line .exit)) r × (r ≤ line-most) ⌝ }
+    ensures { λ r. ⌜ Putting (now (line .entry)) 0 (verdictLine (verdictBy refusal class span)) (now (line .exit)) r × (r ≤ line-most) ⌝ }
 {
     if refusal == 0 {
         return accepted_line(line, class, span);

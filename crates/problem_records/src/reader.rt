@@ -164,8 +164,8 @@ pub fn read_tables(bytes: &[u8], n: usize, m: usize, left: &mut [u32], right: &m
     clear(right, used, TABLE - used);
 }
 
-// Question q, whose row stands behind m rules and q questions, into the row of the question of both tables. Public for the engine's
-// `solve`.
+// Question q, whose row stands behind m rules and q questions, into the row of the question of both tables. Public for what is to answer
+// several questions (document 02, 2.1); `asked-left` and `asked-right` of `QuestionTables` say what the tables then are.
 pub fn read_question(
     bytes: &[u8],
     n: usize,

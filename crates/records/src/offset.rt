@@ -40,7 +40,7 @@ pub fn later(a: u32, b: u32) -> u32
 }
 
 // A 4-byte field with a number added to its offset number. Public for `trials`, `plan_tests`.
-pub fn raised(w: u32, d: u32) -> u32
+pub fn offset_added(w: u32, d: u32) -> u32
     requires { ⌜ (w < signed-full) × (off w + d < signed-full) ⌝ }
     ensures { λ r. ⌜ (off r ≡ off w + d) × (r < signed-full) ⌝ }
 {

@@ -105,7 +105,7 @@ pub record SomeArc (A : ℕ → ℕ → ℤ → Type 0) (j l : ℕ) : Type 0 whe
   pub arc : A j l weight
 
 -- The table shows the arcs A, which lead; a variable that counts has an arc to each that it leads to.
-pub record Shows (arcs : List ℕ) (N : ℕ) (Leads : ℕ → ℕ → Type 0) (A : ℕ → ℕ → ℤ → Type 0) (Counts : ℕ → Type 0) (s : ℕ → ℤ → ℤ) : Type 0 where
+pub record ShownArcs (arcs : List ℕ) (N : ℕ) (Leads : ℕ → ℕ → Type 0) (A : ℕ → ℕ → ℤ → Type 0) (Counts : ℕ → Type 0) (s : ℕ → ℤ → ℤ) : Type 0 where
   pub to : (j l : ℕ) (w : ℤ) → j < N → A j l w → (l < N) × Heavier (weightOf (getD arcs (j * 32 + l) 0)) (s 1 w)
   pub from : (j l : ℕ) → j < N → l < N → 0 < getD arcs (j * 32 + l) 0 → Behind A s j l (weightOf (getD arcs (j * 32 + l) 0))
   pub leads : (j l : ℕ) (w : ℤ) → A j l w → Leads j l
@@ -138,7 +138,7 @@ first-marked arcs marks h stop = absurd (omega arith)
 first-marked arcs marks h (step {j = j} {l = l} a p) = matrix-some arcs marks j l (a .entry)
 
 module _ {arcs : List ℕ} {N : ℕ} {Leads : ℕ → ℕ → Type 0} {A : ℕ → ℕ → ℤ → Type 0} {Counts : ℕ → Type 0} {s : ℕ → ℤ → ℤ} {Good : ℤ → Type 0}
-    (shows : Shows arcs N Leads A Counts s) (scale : Scale s Good) (small : N ≤ 32) (some : 0 < N)
+    (shows : ShownArcs arcs N Leads A Counts s) (scale : Scale s Good) (small : N ≤ 32) (some : 0 < N)
     {begin marks : List ℕ} (anchored : Anchored begin) (reached : Reached arcs N begin marks) where
   -- An arc of the strategy leads in the table.
   led : (j l : ℕ) (w : ℤ) → j < N → A j l w → Led arcs N j l

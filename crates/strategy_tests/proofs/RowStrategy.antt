@@ -30,7 +30,7 @@ use Rattle.closed_walks.specs.Arcs.{raisedBy, least-lead, fall, fallen, looseAr
 use Rattle.strategy_tests.specs.Counts.{RowsCount}
 use Rattle.closed_walks.proofs.ArcTables.{heaviest-more}
 use Rattle.closed_walks.proofs.ClosedWalks.{weight-some}
-use Rattle.strategy_tests.proofs.Certified.{weight-show, weight-read, loose, loose-read, loose-scale, Heavier, Behind, Shows, certified-not, certified-both}
+use Rattle.strategy_tests.proofs.Certified.{weight-show, weight-read, loose, loose-read, loose-scale, Heavier, Behind, ShownArcs, certified-not, certified-both}
 use Rattle.strategy_tests.proofs.Variables.{finite-trop, trop-some, raise-is, raise-near}
 
 -- ---- one entry
@@ -196,7 +196,7 @@ module _ {left right : List ℕ} {n m t : ℕ} {picks arcs : List ℕ} (sized : 
     RowsStand j = (i : ℕ) → i ≤ p .m → Finite (p .left i j) → RowHasPick p (strategyOf picks) i
 
     -- The table shows the strategy.
-    pub rows-shown : Shows arcs (n + 1) (RowLeads p (strategyOf picks)) (RowArc p (strategyOf picks) z) RowsStand loose
+    pub rows-shown : ShownArcs arcs (n + 1) (RowLeads p (strategyOf picks)) (RowArc p (strategyOf picks) z) RowsStand loose
     rows-shown = record {
       to = heavier;
       from = behind;

@@ -27,7 +27,7 @@ use Rattle.closed_walks.specs.Gains.{arc-zero, arc-most, weightOf, Table, Teste
 use Rattle.closed_walks.specs.Tables.{Sized, Holds, Picked, Trial}
 use Rattle.closed_walks.specs.Arcs.{raisedBy, least-lead, lift, lifted, strictArc, variableArc, VariableArcs}
 use Rattle.strategy_tests.specs.Counts.{VariablesCount}
-use Rattle.strategy_tests.proofs.Certified.{weight-show, strict, strict-read, strict-scale, Behind, Shows, certified-not, certified-both}
+use Rattle.strategy_tests.proofs.Certified.{weight-show, strict, strict-read, strict-scale, Behind, ShownArcs, certified-not, certified-both}
 
 -- ---- coefficients
 
@@ -148,7 +148,7 @@ module _ {left right : List ℕ} {n m t : ℕ} {picks arcs : List ℕ} (sized : 
             }
 
     -- The table shows the strategy.
-    pub variables-shown : Shows arcs (n + 1) (Leads p (strategyOf picks)) (Arc p (strategyOf picks) z) (HasPick p (strategyOf picks)) strict
+    pub variables-shown : ShownArcs arcs (n + 1) (Leads p (strategyOf picks)) (Arc p (strategyOf picks) z) (HasPick p (strategyOf picks)) strict
     variables-shown = record {
       to = λ j l w h a.
           let k : l < n + 1 = omega (arith, a .inside, holds .n-is) in

@@ -32,8 +32,8 @@ fn top_of(side: u32) -> u32
     if side == 0 { BLANK_TOP } else { side + HALF }
 }
 
-// The lower of two.
-fn lower(a: u32, b: u32) -> u32
+// The smaller of two.
+fn smaller(a: u32, b: u32) -> u32
     ensures { λ r. ⌜ r ≡ lesser a b ⌝ }
 {
     if a < b { a } else { b }
@@ -64,7 +64,7 @@ fn lower_row(
         let given = top - left[base + j];
         let was = least[j];
         chosen[j] = choice(given, was, row, chosen[j]);
-        least[j] = lower(given, was);
+        least[j] = smaller(given, was);
         j += 1;
     }
 }
@@ -84,7 +84,7 @@ fn lower_place(
     let given = top - left[i * STRIDE + j];
     let was = least[j];
     chosen[j] = choice(given, was, i as u32, chosen[j]);
-    least[j] = lower(given, was);
+    least[j] = smaller(given, was);
 }
 
 // Row i lowers the least values of the variables at its ends: it holds no others.
@@ -196,21 +196,21 @@ fn improve(
 }
 
 // The offset number of a low one. Public for `guesses::guess`.
-pub fn raised(k: u32) -> u64
+pub fn high_of(k: u32) -> u64
     ensures { λ r. ⌜ r ≡ high k ⌝ }
 {
     if k == 0 { 0 } else { k as u64 + LOW_64 }
 }
 
 // Low values as offset numbers. Public for `least_span::advance`.
-pub fn raised_all(x: &[u32; STRIDE]) -> [u64; STRIDE]
+pub fn highs_of(x: &[u32; STRIDE]) -> [u64; STRIDE]
     requires { ⌜ length (now x) ≡ stride ⌝ }
     ensures { λ r. ⌜ r ≡ highs (now (x .entry)) ⌝ }
 {
     let mut out = [0u64; STRIDE];
     let mut j = 0;
     while j < STRIDE {
-        out[j] = raised(x[j]);
+        out[j] = high_of(x[j]);
         j += 1;
     }
     out
@@ -239,7 +239,7 @@ pub fn trial(
     let mut kept = picks;
     loop {
         let x = evaluate(left, right, rights, &kept, width, rows);
-        let values = raised_all(&x);
+        let values = highs_of(&x);
         if x[0] == 0 {
             return Outcome {
                 values,

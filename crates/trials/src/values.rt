@@ -21,7 +21,7 @@ use records::limits::STRIDE_32;
 use records::limits::TABLE;
 use records::offset::later;
 use records::offset::offset_32;
-use records::offset::raised;
+use records::offset::offset_added;
 
 // The low number of 0, and the offset of coefficients.
 pub const LOW: u32 = HALF / 2;
@@ -59,7 +59,7 @@ fn full_sum(table: &[u32; TABLE], row: usize, x: &[u32; STRIDE], width: usize) -
     let mut best = offset_32(0);
     let mut l = 0;
     while l < STRIDE {
-        best = later(best, raised(offset_32(x[l]), table[base + l]));
+        best = later(best, offset_added(offset_32(x[l]), table[base + l]));
         l += 1;
     }
     offset_32(best)

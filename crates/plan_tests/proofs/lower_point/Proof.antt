@@ -27,5 +27,5 @@ lower-point-spec =
     (λ c. search needs)
     (λ c. search needs)
     (λ c. omega arith)
-    (λ c. (omega arith, omega arith, filled-more (c .before .before .before .loop .inv .2) (omega arith) (c .lower .ensures)))
+    (λ c. (omega arith, omega arith, filled-more (c .before .before .before .loop .inv .2) (omega arith) (c .lower-stamp .ensures)))
     (λ c. let e : c .before .loop .l ≡ c .before .before .args .width = omega arith in rw e at (c .before .loop .inv .2)))

@@ -12,4 +12,4 @@ sum-in-spec =
     (tie.spec
     (λ c κs. search needs)
     (λ c κs. (omega arith, rw (c .word-in .ensures .0) (c .before .before .pre .1)))
-    (λ c. (c .raised .ensures .0 ∙ ap (λ k. off k + c .before .before .before .args .x) (c .before .word-in .ensures .0), omega arith)))
+    (λ c. (c .offset-added .ensures .0 ∙ ap (λ k. off k + c .before .before .before .args .x) (c .before .word-in .ensures .0), omega arith)))

@@ -16,4 +16,4 @@ fallen-spec =
     (λ c. let p = c .before .before .before .before .before .before .before .pre in fallen-none (c .before .shows .ensures .raised) (p .1))
     (λ c κs. search needs)
     (λ c. let start = c .before .before .before .before .before .before .before .before .before .before in let a = start .args in let p = start .pre in let s = c .before .before .before .before .shows .ensures in
-    rw (c .raised-all .ensures) (fallen-to (a .search) (a .found .span) _ (s .raised) (p .1) (omega (arith, c .before .before .before .before .before .before .before .before .if1 .left)) (omega (arith, c .before .before .before .before .before .before .if2 .left)) (stamps-ranged (p .3)) (stamps-anchored (p .3)) (s .yes (not-false _ (c .before .before .before .if3 .left))))))
+    rw (c .highs-of .ensures) (fallen-to (a .search) (a .found .span) _ (s .raised) (p .1) (omega (arith, c .before .before .before .before .before .before .before .before .if1 .left)) (omega (arith, c .before .before .before .before .before .before .if2 .left)) (stamps-ranged (p .3)) (stamps-anchored (p .3)) (s .yes (not-false _ (c .before .before .before .if3 .left))))))

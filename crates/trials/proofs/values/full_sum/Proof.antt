@@ -46,7 +46,7 @@ full-sum-spec =
     let a = start .args in
     let turn = c .before .before .before .before .before .before .loop in
     let e = field-back _ _ (low-fits (a .x .now) (start .pre .3 .ranged) (turn .l)) (c .before .before .before .offset-322 .ensures .0) in
-    (omega arith, uppermost-field (sums (a .table .now) (a .row) (a .x .now)) (turn .l) _ _ _ (turn .inv .1) (omega (arith, e, c .before .raised .ensures .0)) (c .later .ensures .0), c .later .ensures .1))
+    (omega arith, uppermost-field (sums (a .table .now) (a .row) (a .x .now)) (turn .l) _ _ _ (turn .inv .1) (omega (arith, e, c .before .offset-added .ensures .0)) (c .later .ensures .0), c .later .ensures .1))
     (λ c κs. search needs)
     (λ c.
     let start = c .before .before .before .before in

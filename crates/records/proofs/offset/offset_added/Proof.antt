@@ -6,8 +6,8 @@ use borrow.Author.Needs.{needs}
 use Rattle.base.proofs.Numbers.{nat-le-or-lt}
 use Rattle.definitions.specs.Limits.{signed-half, signed-full}
 use Rattle.definitions.specs.Offset.{off}
-use Rattle.records.proofs.offset.raised.Statement.{statement}
-use Rattle.records.proofs.offset.raised.Tie as tie
+use Rattle.records.proofs.offset.offset_added.Statement.{statement}
+use Rattle.records.proofs.offset.offset_added.Tie as tie
 
 -- The offset number of a field without a sign, and of one with it.
 off-low : (w : ℕ) → w < signed-half → off w ≡ w + signed-half
@@ -33,7 +33,7 @@ off-plus w d r h k e = ⊎-elim
     omega (arith, off-low r (omega arith)))
     (nat-le-or-lt signed-half w)
 
-pub raised-spec : {M : Type 1} → statement M
-raised-spec = tie.close (tie.spec
+pub offset-added-spec : {M : Type 1} → statement M
+offset-added-spec = tie.close (tie.spec
     (λ c κs. search needs)
     (λ c. (off-plus _ _ _ (c .before .pre .0) (c .before .pre .1) (c .wrapping-add-u32 .ensures), omega arith)))
