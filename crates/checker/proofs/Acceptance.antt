@@ -24,7 +24,7 @@ use Rattle.duality.specs.Within.{Within}
 use Rattle.duality.proofs.Numbers.{infeasible-below, below-infeasible, unbounded-above, above-unbounded, top-enough}
 use Rattle.records.specs.Decoded.{Near}
 use Rattle.records.specs.Stamps.{stampsPoint}
-use Rattle.closed_walks.specs.Tables.{Holds, Picked, Trial}
+use Rattle.closed_walks.specs.Tables.{DecodedAs, Picked, Trial}
 use Rattle.checker.specs.Outcome.{Span, Meant}
 
 -- ---- problems in the tables are small
@@ -33,13 +33,13 @@ use Rattle.checker.specs.Outcome.{Span, Meant}
 near-size : {d : ℕ} (k : ℕ) {x : Trop} {z : ℤ} → Near d k → tropOf k ≡ x → x ≡ fin z → natAbs z ≤ d
 near-size k {z = z} h e f = let r = trop-read k (e ∙ f) in abs-show z (omega (arith, h .hi)) (omega (arith, h .lo (r .0)))
 
-pub holds-within : {p : Problem} {left right : List ℕ} {n m : ℕ} → Holds p left right n m → Within p lead-limit
+pub holds-within : {p : Problem} {left right : List ℕ} {n m : ℕ} → DecodedAs p left right n m → Within p lead-limit
 holds-within {left = left} {right = right} h = record {
   left = λ i j a b c e. near-size (getD left (i * 32 + j) 0) (h .decoded .left-near (i * 32 + j)) (h .decoded .left-is i j b c) e;
   right = λ i j a b c e. near-size (getD right (i * 32 + j) 0) (h .decoded .right-near (i * 32 + j)) (h .decoded .right-is i j b c) e;
 }
 
-pub holds-enough : {p : Problem} {left right : List ℕ} {n m : ℕ} → Holds p left right n m → 2 * (suc (p .n) * lead-limit) ≤ span-limit
+pub holds-enough : {p : Problem} {left right : List ℕ} {n m : ℕ} → DecodedAs p left right n m → 2 * (suc (p .n) * lead-limit) ≤ span-limit
 holds-enough {p} h = top-enough (p .n) lead-limit (omega (arith, h .decoded .n-most))
 
 -- ---- class 1
@@ -56,7 +56,7 @@ trial-below-is span {z} s e =
     let r = trop-read span e in
     trop-show (span - 1) (z -ℤ pos 1) (omega (arith, s .near .lo (s .some))) (omega (arith, minus-read z (pos 1), s .near .lo (s .some)))
 
-module _ {p : Problem} {left right : List ℕ} {n m : ℕ} (holds : Holds p left right n m) (stamps : List ℕ) {picks : Strategy} {z : ℤ} where
+module _ {p : Problem} {left right : List ℕ} {n m : ℕ} (holds : DecodedAs p left right n m) (stamps : List ℕ) {picks : Strategy} {z : ℤ} where
   -- The rules are broken.
   pub optimal-broken : {c : Bool} → Decides ((i : ℕ) → i < m → Keeps p (stampsPoint stamps) i) c → c ≡ false
       → Decides (AcceptedOptimal p z (stampsPoint stamps) picks) false
@@ -111,7 +111,7 @@ none-above : {many width : ℕ} {picks : List ℕ} → Picked picks many → Non
 unfolding strategyOf
 none-above h j b = h .none-above j
 
-module _ {p : Problem} {left right : List ℕ} {n m : ℕ} (holds : Holds p left right n m) {picks : List ℕ} {r : Bool} where
+module _ {p : Problem} {left right : List ℕ} {n m : ℕ} (holds : DecodedAs p left right n m) {picks : List ℕ} {r : Bool} where
   pub infeasible-at : Picked picks (m + 1) → Decides (PicksCount p (strategyOf picks) × BelowZero p (strategyOf picks) (pos span-limit)) r
       → Decides (AcceptedInfeasible p (strategyOf picks)) r
   infeasible-at picked d =

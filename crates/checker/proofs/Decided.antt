@@ -45,7 +45,7 @@ use Rattle.reach.proofs.Marks.{anchor-marked}
 use Rattle.reach.proofs.Existence.{MarksOf, reach-exists}
 use Rattle.closed_walks.specs.Gains.{matrix, anywhere, Table, NoneGains, Tested}
 use Rattle.records.specs.Stamps.{stampsPoint}
-use Rattle.closed_walks.specs.Tables.{Sized, Holds, Picked, Trial}
+use Rattle.closed_walks.specs.Tables.{Sized, DecodedAs, Picked, Trial}
 use Rattle.closed_walks.specs.Arcs.{variableArc, VariableArcs, heaviest, RowArcs}
 use Rattle.strategy_tests.specs.Counts.{PickCounts, RowPickCounts, VariablesCount, RowsCount}
 use Rattle.checker.specs.Outcome.{Meant, Formed}
@@ -168,7 +168,7 @@ row-cells left right n m t picks w = record {
   cells = λ j l h k. cell-at (heaviest left right m t picks (m + 1)) n j l w h k;
 }
 
-module _ {p : Problem} {left right : List ℕ} {n m : ℕ} (t : ℕ) {picks : List ℕ} {z : ℤ} (holds : Holds p left right n m) (trial : Trial t) (trial-is : tropOf t ≡ fin z) where
+module _ {p : Problem} {left right : List ℕ} {n m : ℕ} (t : ℕ) {picks : List ℕ} {z : ℤ} (holds : DecodedAs p left right n m) (trial : Trial t) (trial-is : tropOf t ≡ fin z) where
   pub strategy-decided : Picked picks (m + 1) → Decided (PicksCount p (strategyOf picks) × BelowZero p (strategyOf picks) z)
   strategy-decided picked = go (counts .answer) refl
     where
@@ -234,7 +234,7 @@ value-decided (Problems.whole y) z = ⊎-elim
 
 -- ---- answers
 
-module _ {p : Problem} {left right : List ℕ} {n m class span : ℕ} {stamps picks : List ℕ} (holds : Holds p left right n m)
+module _ {p : Problem} {left right : List ℕ} {n m class span : ℕ} {stamps picks : List ℕ} (holds : DecodedAs p left right n m)
     (formed : Formed n m class span stamps picks) where
   pub optimal-decided : class ≡ 1 → {z : ℤ} → tropOf span ≡ fin z → Decided (AcceptedOptimal p z (stampsPoint stamps) (strategyOf picks))
   optimal-decided e {z} f = go (rules .answer) refl (is .answer) refl
@@ -300,7 +300,7 @@ padded width xs h = record {
       (nat-le-or-lt width k);
 }
 
-held-by : (p : List ℕ) → Bytes p → WithinLayout p → Holds (problemOf p) (leftTable p) (rightTable p) (nField p) (mField p)
+held-by : (p : List ℕ) → Bytes p → WithinLayout p → DecodedAs (problemOf p) (leftTable p) (rightTable p) (nField p) (mField p)
 unfolding problemOf
 held-by p b w = record { n-is = refl; m-is = refl; decoded = problem-decoded p b w }
 
@@ -322,7 +322,7 @@ pub bytes-decided : (p a : List ℕ) → Bytes p → Bytes a → WithinLayout p 
 unfolding answerOf
 bytes-decided p a b c w none = accepted-decided held (read-formed c read right) (read-means c read right)
   where
-    held : Holds (problemOf p) (leftTable p) (rightTable p) (nField p) (mField p)
+    held : DecodedAs (problemOf p) (leftTable p) (rightTable p) (nField p) (mField p)
     held = held-by p b w
 
     right : HeadRead a (nField p) (mField p) (classField a) (spanNumber a)

@@ -27,7 +27,7 @@ use Rattle.duality.proofs.Sweeps.{SomeGain, entries-back, gain-back, swept-none
 use Rattle.reach.specs.Marks.{Marked}
 use Rattle.closed_walks.specs.Gains.{arc-zero, arc-most, weightOf, matrix, anywhere, Table, NoneGains, SomeGains, Tested}
 use Rattle.closed_walks.specs.Order.{past, Ordered}
-use Rattle.closed_walks.specs.GainRound.{walk-limit, Small, endValue, Pushed, backward, level, Ready, Pushing, Rounds}
+use Rattle.closed_walks.specs.GainRound.{walk-limit, Small, endValue, Pushed, backward, level, RoundReady, Pushing, Rounds}
 use Rattle.closed_walks.proofs.Order.{past-most}
 
 -- ---- weights
@@ -162,7 +162,7 @@ module _ (arcs marks : List ℕ) (width : ℕ) (table : Table arcs width) where
   unfolding matrix
   marked j l n = rw (ne-eqb (getD marks j 0) 0 n)
 
-  pub pushing-none : {values done : List ℕ} → Ready arcs marks width values done → Pushing arcs marks width values done 0 values done false
+  pub pushing-none : {values done : List ℕ} → RoundReady arcs marks width values done → Pushing arcs marks width values done 0 values done false
   pushing-none {values} r = record {
     length-is = r .length-is;
     done-length = r .done-length;

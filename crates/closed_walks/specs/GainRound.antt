@@ -47,7 +47,7 @@ level values l = fin (pos (getD values l 0))
 
 -- What a round may start from: values within the limit, and for each variable that it has raised the ends of its arcs
 -- with every value below `done`: one more than the value with which it last did, 0 for none.
-pub record Ready (arcs marks : List ℕ) (width : ℕ) (values done : List ℕ) : Type 0 where
+pub record RoundReady (arcs marks : List ℕ) (width : ℕ) (values done : List ℕ) : Type 0 where
   pub length-is : length values ≡ stride
   pub done-length : length done ≡ stride
   pub small : Small width values
@@ -74,7 +74,7 @@ pub record Pushing (arcs marks : List ℕ) (width : ℕ) (values done : List ℕ
 -- potential that is at least 0; each marked variable has raised with its value of i − 1 rounds of Bellman–Ford; and those of
 -- i − 2 rounds are not fixed, else the last round had moved nothing.
 pub record Rounds (arcs marks : List ℕ) (width i : ℕ) (values done : List ℕ) : Type 0 where
-  pub ready : Ready arcs marks width values done
+  pub ready : RoundReady arcs marks width values done
   pub climbed : Climbed (backward arcs marks) anywhere width i (level values)
   pub passed :
       (k : ℕ) → suc k ≡ i → (j v : ℕ) → j < width → Marked marks j

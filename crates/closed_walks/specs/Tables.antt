@@ -17,7 +17,7 @@ pub record Sized (left right : List ℕ) (n m : ℕ) : Type 0 where
   pub right-near : (k : ℕ) → Near lead-limit (getD right k 0)
 
 -- The tables hold this problem of n + 1 variables and m + 1 rows.
-pub record Holds (p : Problem) (left right : List ℕ) (n m : ℕ) : Type 0 where
+pub record DecodedAs (p : Problem) (left right : List ℕ) (n m : ℕ) : Type 0 where
   pub n-is : p .n ≡ n
   pub m-is : p .m ≡ m
   pub decoded : Decoded p left right

@@ -13,7 +13,7 @@ ghost use Rattle.definitions.specs.Limits.{signed-full, stride, arcs-size};
 ghost use Rattle.reach.specs.Marks.{Flags};
 ghost use Rattle.closed_walks.specs.Gains.{arc-zero, Table, Tested};
 ghost use Rattle.closed_walks.specs.Order.{Ordered};
-ghost use Rattle.closed_walks.specs.GainRound.{Small, endValue, Pushed, Ready, Pushing};
+ghost use Rattle.closed_walks.specs.GainRound.{Small, endValue, Pushed, RoundReady, Pushing};
 use records::limits::ARCS;
 use records::limits::LEAD_LIMIT;
 use records::limits::SPAN_LIMIT;
@@ -91,7 +91,7 @@ fn push_round(
     values: &mut [u32; STRIDE],
     done: &mut [u32; STRIDE],
 ) -> bool
-    requires { ⌜ Table (now arcs) width × Ordered (now marks) width (now places) count × Ready (now arcs) (now marks) width (now values) (now done) ⌝ }
+    requires { ⌜ Table (now arcs) width × Ordered (now marks) width (now places) count × RoundReady (now arcs) (now marks) width (now values) (now done) ⌝ }
     ensures { λ r. ⌜ Pushing (now (arcs .entry)) (now (marks .entry)) width (now (values .entry)) (now (done .entry)) width (now (values .exit)) (now (done .exit)) r ⌝ }
 {
     let mut moved = false;

@@ -139,7 +139,8 @@ last-row = problem-header + 2 * signed-bytes * (highest-m * stride)
 abbrev pub problem-most : ℕ
 problem-most = problem-header + signed-bytes * leads-most
 
--- The most leads of a record of several questions, 4,544, and where its last row may end at most.
+-- The most leads of a record of several questions, 4,544, and where these end behind ten bytes, 18,186 (in the record they start two
+-- bytes later).
 abbrev pub questions-leads : ℕ
 questions-leads = 2 * (stride * (highest-m + most-questions))
 
@@ -177,7 +178,7 @@ most-windows = 14
 abbrev pub minute-limit : ℕ
 minute-limit = 6000000
 
--- ---- refusals, as document 01 counts them under "What is turned away"
+-- ---- refusals, as document 01 counts them under "What is turned away" and document 02 goes on
 
 -- The problem has fewer than 10 bytes.
 abbrev pub refused-short : ℕ
@@ -195,7 +196,7 @@ refused-kind = 3
 abbrev pub refused-limits : ℕ
 refused-limits = 4
 
--- Its size does not fit n and m.
+-- Its size does not fit its kind, n and m.
 abbrev pub refused-size : ℕ
 refused-size = 5
 

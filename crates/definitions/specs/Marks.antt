@@ -9,7 +9,8 @@ use mathlib.Core.Logic.{_↔_}
 use mathlib.Core.List.{List}
 use lib.ListN.{getD}
 
--- Two lists differ in some byte of their first `count`.
+-- Two lists differ in some byte of their first `count`. Who compares them has both lists at least so long; past its end a list's byte
+-- counts as 0.
 pub record DifferBelow (count : ℕ) (xs ys : List ℕ) : Type 0 where
   pub place : ℕ
   pub inside : place < count

@@ -31,9 +31,9 @@ mField s = numAt short-bytes s m-place
 abbrev pub countField : List ℕ → ℕ
 countField s = numAt short-bytes s count-place
 
--- By kind: several questions, kind 3, or one.
+-- By kind: of several questions, kind 3, or of one. A kind that an entry does not know is refused before it is asked.
 abbrev pub by-kind : {A : Type 0} → ℕ → A → A → A
-by-kind kind several one = cond (eqb kind questions-kind) several one
+by-kind kind of-several of-one = cond (eqb kind questions-kind) of-several of-one
 
 -- Where the leads start, and how many questions follow the rules.
 abbrev pub leadsPlace : ℕ → ℕ
@@ -148,7 +148,7 @@ leftPlace n i j = rowPlace problem-header n i + signed-bytes * j
 abbrev pub rightPlace : ℕ → ℕ → ℕ → ℕ
 rightPlace n i j = rowPlace problem-header n i + signed-bytes * suc n + signed-bytes * j
 
--- The problem that the bytes mean.
+-- The problem that the bytes of a record of one question mean.
 unfoldable pub problemOf : List ℕ → Problem
 problemOf s =
     record {

@@ -15,7 +15,8 @@ part s from count = take count (drop from s)
 abbrev pub rowsSize : ℕ → ℕ → ℕ
 rowsSize n count = 2 * signed-bytes * (count * suc n)
 
--- "A kind 1 problem with that question alone": n, m and the rules of the record, then the row of question q, counted from 0.
+-- "A kind 1 problem with that question alone": n, m and the rules of the record, then the row of question q, counted from 0 and
+-- below the record's count.
 unfoldable pub alone : List ℕ → ℕ → List ℕ
 alone s q =
     headerBytes (nField s) (mField s)

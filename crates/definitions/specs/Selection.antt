@@ -1,6 +1,6 @@
 -- Rows chosen: the problem with some of the inequalities (rules) of another, and its objective (question) last. Document 02 speaks of
--- such problems in 2.1 ("a kind 1 problem with that question alone"), 2.5 ("the problem with only these rules and the question"),
--- 2.6 ("drops these rules and closes up the numbers") and 2.10 ("the problem that holds only the rules in force").
+-- such problems in 2.5 ("the problem with only these rules and the question"), 2.6 ("drops these rules and closes up the numbers")
+-- and 2.10 ("the problem that holds only the rules in force").
 use Prim.Native.Nat.{ℕ, zero, suc, _≤_, _<_}
 use mathlib.Core.Path.{_≡_}
 use mathlib.Core.Bool.{cond}
@@ -11,7 +11,7 @@ use Rattle.definitions.specs.Tropical.{bot, fin}
 use Rattle.definitions.specs.Problem.{Problem, Point, Keeps, Optimal, Unbounded, Infeasible}
 use Rattle.definitions.specs.Certificate.{Strategy}
 
--- The row of p that becomes row i: f i for each i below m′, and the objective for the next.
+-- The row of p that becomes row i: f i for each i below m′, and the objective for row m′ and what would come after it.
 unfoldable pub rowOf : Problem → (ℕ → ℕ) → ℕ → ℕ → ℕ
 rowOf p f m′ i = cond (ltb i m′) (f i) (p .m)
 

@@ -9,7 +9,7 @@ ghost use mathlib.Core.Path.{_≡_};
 ghost use Prim.Native.Nat.{_≤_};
 ghost use lib.ListN.{length};
 ghost use Rattle.definitions.specs.Programs.{refusedLine, verdictLine};
-ghost use Rattle.printing.specs.Text.{Appended, Output, line-most, verdictOf};
+ghost use Rattle.printing.specs.Text.{Appended, Output, line-most, verdictBy};
 ghost use Rattle.output.specs.Written.{writerAfter};
 
 // A lent slice, and the place in it where the next record or line goes.
@@ -72,7 +72,7 @@ pub fn write_refused(buf: &mut [u8], number: usize) -> usize
 // What the verdict program puts out: the line of refusal `refusal`, or of class and span where it is 0. Public for
 // `verdict`.
 pub fn write_verdict(buf: &mut [u8], refusal: usize, class: u64, span: u64) -> usize
-    ensures { λ r. ⌜ Output (now (buf .entry)) (verdictLine (verdictOf refusal class span)) (now (buf .exit)) r × (length (verdictLine (verdictOf refusal class span)) ≤ line-most) ⌝ }
+    ensures { λ r. ⌜ Output (now (buf .entry)) (verdictLine (verdictBy refusal class span)) (now (buf .exit)) r × (length (verdictLine (verdictBy refusal class span)) ≤ line-most) ⌝ }
 {
     let mut line: [u8; LINE_MOST] = [0; LINE_MOST];
     let size = verdict_line(&mut line, refusal, class, span);

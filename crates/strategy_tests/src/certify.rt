@@ -15,7 +15,7 @@ ghost use Rattle.definitions.specs.ProblemRecord.{problemOf};
 ghost use Rattle.definitions.specs.Verdict.{strategyOf};
 ghost use Rattle.duality.specs.Picks.{AtLeastZero};
 ghost use Rattle.problem_records.specs.Tables.{leftTable, Laid};
-ghost use Rattle.closed_walks.specs.Tables.{Sized, Holds, Picked, Trial};
+ghost use Rattle.closed_walks.specs.Tables.{Sized, DecodedAs, Picked, Trial};
 ghost use Rattle.strategy_tests.specs.Counts.{PickCounts, RowPickCounts, PlacesCount, Idle, Stands, RowsCount};
 use closed_walks::arcs::row_arcs;
 use closed_walks::arcs::variable_arcs;
@@ -157,7 +157,7 @@ pub fn certify_rows(
     t: u64,
 ) -> bool
     requires { ⌜ Sized (now left) (now right) n m × Trial t × Picked (now picks) (n + 1) ⌝ }
-    ensures { λ r. ⌜ ((p : Problem) (z : ℤ) → Holds p (now (left .entry)) (now (right .entry)) n m → tropOf t ≡ fin z → Decides (RowPicksCount p (strategyOf (now (picks .entry))) × AtLeastZero p (strategyOf (now (picks .entry))) z) r) ⌝ }
+    ensures { λ r. ⌜ ((p : Problem) (z : ℤ) → DecodedAs p (now (left .entry)) (now (right .entry)) n m → tropOf t ≡ fin z → Decides (RowPicksCount p (strategyOf (now (picks .entry))) × AtLeastZero p (strategyOf (now (picks .entry))) z) r) ⌝ }
 {
     let width = n + 1;
     let mut arcs = [0u32; ARCS];
