@@ -43,10 +43,12 @@ extern "C" {
 #define SPAN_NONE 3
 #define SPAN_NOT_CERTIFIED 14
 #define SPAN_NO_TEXT 18           /* span_hours_read, span_hours_write only */
-#define SPAN_TOO_FEW_PLACES 255   /* span_read only */
+#define SPAN_TOO_FEW_PLACES 255   /* span_read, span_marks_differ only */
 
 #define SPAN_WINDOWS 14           /* the most windows of a week list, with two minutes each */
 #define SPAN_NEVER 0              /* span_first_open only: the week list is empty */
+
+#define SPAN_DIFFER 256           /* span_marks_differ only */
 
 /* Answers a problem: writes the answer record at the start of `answer`; the bytes after it stay.
  * Result: 256 * trials + refusal. Answered: refusal 0, trials 1 to 23. Refused: 1 to 7, trials 0. */
@@ -92,6 +94,13 @@ uint64_t span_hours_write(uint64_t value, uint8_t *buffer, size_t buffer_size);
  * refusal 19: an odd list, more than 14 windows, a closing not after its opening, an opening or closing outside its range,
  * a window that starts before the last one closes, or a minute beyond 6,000,000. */
 uint64_t span_first_open(const uint64_t *week, size_t week_count, uint64_t minute);
+
+/* Whether two lists of mark bytes differ in some byte of their first `count`, whatever stands behind these: the test that tells
+ * whether a round of reach, in the engine and in the checker, has found a new moment. It compares eight bytes at a time; any
+ * count will do, 0 too.
+ * Result: SPAN_DIFFER, or 0 where they are the same; SPAN_TOO_FEW_PLACES where a list has fewer than `count` bytes. */
+uint64_t span_marks_differ(const uint8_t *before, size_t before_size, const uint8_t *after, size_t after_size,
+                           uint64_t count);
 
 /* What a result holds. */
 static inline unsigned span_refusal(uint64_t result) { return (unsigned)(result & 255); }

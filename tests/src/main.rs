@@ -33,7 +33,7 @@ fn main() {
         return;
     }
     println!("tests from outside, on {TRIED}");
-    let all: [Suite; 12] = [
+    let all: [Suite; 13] = [
         ("examples", suites::examples::run),
         ("all-small", suites::small::every_small_problem),
         ("random-small", suites::small::random_problems),
@@ -46,6 +46,7 @@ fn main() {
         ("unproved", suites::unproved::run),
         ("opening", suites::opening::run),
         ("parts", suites::parts::run),
+        ("marks", suites::marks::run),
     ];
     let mut failures = 0;
     let mut run = 0;

@@ -110,3 +110,12 @@ pub fn hours_write(value: u64, buffer: &mut [u8]) -> u64 {
         _ => 18,
     }
 }
+
+/// 255 where a list has fewer than `count` bytes, 256 where the first `count` differ in some byte, 0 where they do not.
+pub fn marks_differ(before: &[u8], after: &[u8], count: u64) -> u64 {
+    let count = count as usize;
+    match (before.get(..count), after.get(..count)) {
+        (Some(before), Some(after)) => 256 * (before != after) as u64,
+        _ => 255,
+    }
+}

@@ -37,6 +37,13 @@ mod archive {
         pub fn span_first_open(week: *const u64, week_count: usize, minute: u64) -> u64;
         pub fn span_hours_read(text: *const u8, text_size: usize) -> u64;
         pub fn span_hours_write(value: u64, buffer: *mut u8, buffer_size: usize) -> u64;
+        pub fn span_marks_differ(
+            before: *const u8,
+            before_size: usize,
+            after: *const u8,
+            after_size: usize,
+            count: u64,
+        ) -> u64;
     }
 }
 
@@ -105,4 +112,10 @@ pub fn hours_read(text: &[u8]) -> u64 {
 pub fn hours_write(value: u64, buffer: &mut [u8]) -> u64 {
     // SAFETY: the part is valid for its length, and a `&mut` overlaps nothing.
     unsafe { archive::span_hours_write(value, buffer.as_mut_ptr(), buffer.len()) }
+}
+
+/// Whether two lists differ in some byte of their first `count`: 256 or 0, or 255 where a list is shorter.
+pub fn marks_differ(before: &[u8], after: &[u8], count: u64) -> u64 {
+    // SAFETY: both parts are valid for their lengths and are only read.
+    unsafe { archive::span_marks_differ(before.as_ptr(), before.len(), after.as_ptr(), after.len(), count) }
 }

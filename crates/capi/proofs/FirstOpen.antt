@@ -5,14 +5,15 @@ use mathlib.Core.Logic.{⊎-elim}
 use mathlib.Core.List.{List}
 use native.Mathlib.Omega.{arith}
 use lib.IntN.{ℤ}
+use Rattle.base.proofs.Numbers.{nat-le-or-lt}
 use Rattle.definitions.specs.Limits.{signed-half}
 use Rattle.definitions.specs.Week.{Admits}
-use Rattle.definitions.proofs.Whole.{abs-read, nat-le-or-lt}
-use Rattle.week.specs.Lookup.{minuteOf, admissionOf}
-use Rattle.week.specs.declared.lookup.Admission.{Admission}
-use Rattle.week.specs.declared.lookup.Admission.the-variants.{At, Never, Refused}
-use Rattle.week.proofs.Minutes.{minute-read, minute-before, minute-from}
-use Rattle.week.proofs.OpeningHours.{answer-near, admits-unique}
+use Rattle.definitions.proofs.Whole.{abs-read}
+use Rattle.opening_hours.specs.Lookup.{minuteOf, admissionOf}
+use Rattle.opening_hours.specs.declared.lookup.Admission.{Admission}
+use Rattle.opening_hours.specs.declared.lookup.Admission.the-variants.{At, Never, Refused}
+use Rattle.opening_hours.proofs.Minutes.{minute-read, minute-before, minute-from}
+use Rattle.opening_hours.proofs.OpeningHours.{answer-near, admits-unique}
 use Rattle.capi.specs.Numbers.{low-half}
 use Rattle.capi.specs.Opening.{offsetOf, admissionNumber, AdmitsAs, SmallMinute}
 

@@ -13,11 +13,11 @@ use Rattle.definitions.specs.Hours as Results
 use Rattle.definitions.specs.Hours.{has-text, HoursWriting, ReadsHours, WritesHours, textOf}
 use Rattle.definitions.proofs.Offset.{within-iff}
 use Rattle.definitions.proofs.Hours.{read-is, text-within, text-short, hours-fits}
-use Rattle.hours.specs.declared.reader.Read.{Read}
-use Rattle.hours.specs.declared.reader.Read.the-variants as Reads
-use Rattle.hours.specs.declared.writer.Written.{Written}
-use Rattle.hours.specs.declared.writer.Written.the-variants as Writes
-use Rattle.hours.specs.Outcome.{readingOf, writingOf}
+use Rattle.hour_texts.specs.declared.reader.Read.{Read}
+use Rattle.hour_texts.specs.declared.reader.Read.the-variants as Reads
+use Rattle.hour_texts.specs.declared.writer.Written.{Written}
+use Rattle.hour_texts.specs.declared.writer.Written.the-variants as Writes
+use Rattle.hour_texts.specs.Outcome.{readingOf, writingOf}
 use Rattle.capi.specs.Numbers.{low-byte, low-half}
 use Rattle.capi.specs.HoursNumbers.{HoursNumbered, SmallValue, SmallText, writingNumber}
 

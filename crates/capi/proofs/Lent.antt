@@ -13,11 +13,11 @@ use Rattle.definitions.proofs.Offset.{off-bound, tropOf-injective}
 use Rattle.definitions.proofs.Refusals.{answer-fits}
 use Rattle.definitions.proofs.RoundTrip.{class-most}
 use Rattle.definitions.proofs.Put.{put-nil, put-more, length-put}
-use Rattle.answers.specs.declared.answer.AnswerHead.{AnswerHead}
-use Rattle.answers.specs.declared.answer.AnswerHead.the-variants as Heads
-use Rattle.answers.specs.AnswerReading.{AnswerRead, spanNumber}
-use Rattle.answers.proofs.Heads.{fields-by, refused-by}
-use Rattle.answers.proofs.Judging.{span-meant}
+use Rattle.answer_reader.specs.declared.answer.AnswerHead.{AnswerHead}
+use Rattle.answer_reader.specs.declared.answer.AnswerHead.the-variants as Heads
+use Rattle.answer_reader.specs.AnswerReading.{AnswerRead, spanNumber}
+use Rattle.answer_reader.proofs.Heads.{fields-by, refused-by}
+use Rattle.answer_reader.proofs.Judging.{span-meant}
 use Rattle.capi.specs.Numbers.{ReadsAs, PlacesAs, stamp-places, pick-places, fieldsNumber, low-byte, low-half}
 
 -- The first i numbers are copied.

@@ -18,22 +18,22 @@ use Rattle.definitions.specs.Solved.{Solves}
 use Rattle.definitions.proofs.Offset.{within-iff}
 use Rattle.definitions.proofs.Refusals.{or-else-none, answer-fits, writer-fits}
 use Rattle.definitions.proofs.RoundTrip.{class-most, span-within, size-most}
-use Rattle.writing.specs.declared.writer.Written.{Written}
-use Rattle.writing.specs.declared.writer.Written.the-variants as Results
-use Rattle.writing.specs.AnswerWriting.{AnswerWritten, writtenOf}
-use Rattle.writing.proofs.Trips.{record-by}
+use Rattle.duality.proofs.SmallLeads.{trials-few}
+use Rattle.answer_writer.specs.declared.writer.Written.{Written}
+use Rattle.answer_writer.specs.declared.writer.Written.the-variants as Results
+use Rattle.answer_writer.specs.AnswerWriting.{AnswerWritten, writtenOf}
+use Rattle.answer_writer.proofs.Trips.{record-by}
 use Rattle.engine.specs.declared.solve.Solved.{Solved}
 use Rattle.engine.specs.declared.solve.Solved.the-variants as Solutions
 use Rattle.engine.specs.Outcome.{solvedOf}
 use Rattle.checker.specs.declared.check.Verdict.{Verdict}
 use Rattle.checker.specs.declared.check.Verdict.the-variants as Turned
 use Rattle.checker.specs.Outcome.{verdictOf}
-use Rattle.guarantees.proofs.Engine.{few}
-use Rattle.guarantees.proofs.OwnAnswers.{own-wrote}
+use Rattle.engine.proofs.Outcomes.{own-wrote}
 use Rattle.capi.specs.Numbers.{FewTrials, SmallFields, SmallRecord, Numbered, WritesAs, solvedNumber, fieldsNumber, writtenNumber, low-byte, low-half}
 
 pub few-trials : {p before after : List ℕ} {r : Solved} → Solves p before (solvedOf r) after → FewTrials r
-few-trials {p} h = record { few = λ e. let w = own-wrote h e in few p (w .within) (w .answers .found) }
+few-trials {p} h = record { few = λ e. let w = own-wrote h e in trials-few p (w .within) (w .answers .found) }
 
 -- An accepted answer has the form of its class.
 small-answer : (p a : List ℕ) → checkRefusal p a ≡ 0 → (class span : ℕ) → answerFor p a .class ≡ class → answerFor p a .span ≡ tropOf span → (class < low-byte) × (span < low-half)

@@ -7,10 +7,10 @@ use Rattle.definitions.specs.Tropical.{Trop}
 use Rattle.definitions.specs.Offset.{tropOf}
 use Rattle.definitions.specs.Hours as Results
 use Rattle.definitions.specs.Hours.{HoursReading, HoursWriting, ReadsHours, WritesHours}
-use Rattle.hours.specs.declared.reader.Read.{Read}
-use Rattle.hours.specs.declared.reader.Read.the-variants.{Value}
-use Rattle.hours.specs.declared.writer.Written.{Written}
-use Rattle.hours.specs.declared.writer.Written.the-variants.{Text}
+use Rattle.hour_texts.specs.declared.reader.Read.{Read}
+use Rattle.hour_texts.specs.declared.reader.Read.the-variants.{Value}
+use Rattle.hour_texts.specs.declared.writer.Written.{Written}
+use Rattle.hour_texts.specs.declared.writer.Written.the-variants.{Text}
 use Rattle.capi.specs.Numbers.{low-byte, low-half}
 
 -- ---- span_hours_read

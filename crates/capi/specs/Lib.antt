@@ -1,3 +1,4 @@
 pub mod Numbers
 pub mod Opening
 pub mod HoursNumbers
+pub mod Marks

@@ -12,11 +12,11 @@ use Rattle.definitions.specs.Verdict as Verdicts
 use Rattle.definitions.specs.Verdict.{Judged}
 use Rattle.definitions.specs.Solved as Results
 use Rattle.definitions.specs.Solved.{Solves}
-use Rattle.answers.specs.Fields.{Padded, stampsOf, picksOf}
-use Rattle.answers.specs.AnswerReading.{spanNumber}
-use Rattle.writing.specs.AnswerWriting.{unlessRefused}
-use Rattle.writing.specs.declared.writer.Written.{Written}
-use Rattle.writing.specs.declared.writer.Written.the-variants.{Record}
+use Rattle.answer_reader.specs.Fields.{Padded, stampsOf, picksOf}
+use Rattle.answer_reader.specs.AnswerReading.{spanNumber}
+use Rattle.answer_writer.specs.AnswerWriting.{unlessRefused}
+use Rattle.answer_writer.specs.declared.writer.Written.{Written}
+use Rattle.answer_writer.specs.declared.writer.Written.the-variants.{Record}
 use Rattle.engine.specs.declared.solve.Solved.{Solved}
 use Rattle.engine.specs.declared.solve.Solved.the-variants.{Answered}
 use Rattle.checker.specs.declared.check.Verdict.{Verdict}

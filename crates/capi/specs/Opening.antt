@@ -6,9 +6,9 @@ use lib.IntN.{ℤ, pos, negsuc}
 use Rattle.definitions.specs.Limits.{signed-half}
 use Rattle.definitions.specs.Week as Weeks
 use Rattle.definitions.specs.Week.{Admits}
-use Rattle.week.specs.Lookup.{minuteOf}
-use Rattle.week.specs.declared.lookup.Admission.{Admission}
-use Rattle.week.specs.declared.lookup.Admission.the-variants.{At}
+use Rattle.opening_hours.specs.Lookup.{minuteOf}
+use Rattle.opening_hours.specs.declared.lookup.Admission.{Admission}
+use Rattle.opening_hours.specs.declared.lookup.Admission.the-variants.{At}
 use Rattle.capi.specs.Numbers.{low-half}
 
 -- The offset number of a minute: 2³¹ more.

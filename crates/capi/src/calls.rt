@@ -8,6 +8,8 @@ use checker::check::Verdict;
 use checker::check::check;
 use engine::solve::Solved;
 use engine::solve::solve;
+use records::limits::BYTE;
+use records::limits::FULL;
 
 // 256 × trials where answered, else the refusal.
 fn solved_number(solved: Solved) -> u64
@@ -16,7 +18,7 @@ fn solved_number(solved: Solved) -> u64
 {
     match solved {
         Solved::Refused(k) => k as u64,
-        Solved::Answered(_, _, trials, _) => 256 * trials,
+        Solved::Answered(_, _, trials, _) => BYTE * trials,
     }
 }
 
@@ -35,7 +37,7 @@ fn verdict_number(verdict: Verdict) -> u64
     ensures { λ r. ⌜ Numbered (verdictOf verdict) r ⌝ }
 {
     match verdict {
-        Verdict::Accepted(class, span) => 256 * class + 4294967296 * span,
+        Verdict::Accepted(class, span) => BYTE * class + FULL * span,
         Verdict::Refused(k) => k as u64,
     }
 }

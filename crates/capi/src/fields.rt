@@ -4,20 +4,24 @@ ghost use mathlib.Core.List.{List};
 ghost use Prim.Native.Nat.{ℕ, _≤_, _<_};
 ghost use lib.ListN.{length};
 ghost use Rattle.definitions.specs.Bytes.{put};
-ghost use Rattle.answers.specs.Fields.{fieldsOf};
-ghost use Rattle.writing.specs.AnswerWriting.{writtenOf};
+ghost use Rattle.answer_reader.specs.Fields.{fieldsOf};
+ghost use Rattle.answer_writer.specs.AnswerWriting.{writtenOf};
 ghost use Rattle.capi.specs.Numbers.{WritesAs, SmallRecord, ReadsAs, PlacesAs, writtenNumber, low-byte, low-half, fieldsNumber};
-use answers::answer::AnswerHead;
-use answers::answer::read_answer;
-use writing::writer::Written;
-use writing::writer::write_answer;
+use answer_reader::answer::AnswerHead;
+use answer_reader::answer::read_answer;
+use answer_writer::writer::Written;
+use answer_writer::writer::write_answer;
+use records::limits::BYTE;
+use records::limits::FULL;
+use records::limits::ROWS;
+use records::limits::STRIDE;
 
 // What `span_read` is lent for stamps and for picks, and its result where that is fewer.
-const STAMP_PLACES: usize = 32;
+const STAMP_PLACES: usize = STRIDE;
 
-const PICK_PLACES: usize = 64;
+const PICK_PLACES: usize = ROWS;
 
-const TOO_FEW_PLACES: u64 = 255;
+pub const TOO_FEW_PLACES: u64 = 255;
 
 // 256 × size where written, else the refusal.
 fn written_number(written: Written) -> u64
@@ -25,7 +29,7 @@ fn written_number(written: Written) -> u64
     ensures { λ r. ⌜ r ≡ writtenNumber (writtenOf written) ⌝ }
 {
     match written {
-        Written::Record(size) => 256 * size as u64,
+        Written::Record(size) => BYTE * size as u64,
         Written::Refused(k) => k as u64,
     }
 }
@@ -62,8 +66,8 @@ fn copy(from: &[u64], to: &mut [u64])
 fn lend(
     class: u64,
     span: u64,
-    stamps: &[u64; 32],
-    picks: &[u64; 64],
+    stamps: &[u64; STRIDE],
+    picks: &[u64; ROWS],
     stamps_out: &mut [u64],
     picks_out: &mut [u64],
 ) -> u64
@@ -78,7 +82,7 @@ fn lend(
     }
     copy(stamps, stamps_out);
     copy(picks, picks_out);
-    256 * class + 4294967296 * span
+    BYTE * class + FULL * span
 }
 
 // Reads an answer for a problem of n and m.
@@ -92,8 +96,8 @@ pub extern "C" fn span_read(
 ) -> u64
     ensures { λ r. ⌜ ReadsAs (now (bytes .entry)) n m (now (stamps .entry)) (now (picks .entry)) r (now (stamps .exit)) (now (picks .exit)) ⌝ }
 {
-    let mut own_stamps = [0u64; 32];
-    let mut own_picks = [0u64; 64];
+    let mut own_stamps = [0u64; STRIDE];
+    let mut own_picks = [0u64; ROWS];
     let head = read_answer(
         bytes,
         n as usize,

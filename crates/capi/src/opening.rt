@@ -1,10 +1,10 @@
 // The first open minute of a ward, with the result as one number.
 ghost use mathlib.Core.Path.{_≡_};
-ghost use Rattle.week.specs.Lookup.{admissionOf};
+ghost use Rattle.opening_hours.specs.Lookup.{admissionOf};
 ghost use Rattle.capi.specs.Opening.{AdmitsAs, SmallMinute, admissionNumber};
+use opening_hours::lookup::Admission;
+use opening_hours::lookup::first_open;
 use records::limits::FULL;
-use week::lookup::Admission;
-use week::lookup::first_open;
 
 // 2³² × the minute's offset number where there is one, 0 for never, else the refusal.
 fn admission_number(admission: Admission) -> u64

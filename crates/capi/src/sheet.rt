@@ -1,12 +1,14 @@
 // The reader and the writer of hours and minutes over lent bytes, with results as one number.
 ghost use mathlib.Core.Path.{_≡_};
 ghost use Rattle.definitions.specs.Offset.{tropOf};
-ghost use Rattle.hours.specs.Outcome.{readingOf, writingOf};
+ghost use Rattle.hour_texts.specs.Outcome.{readingOf, writingOf};
 ghost use Rattle.capi.specs.HoursNumbers.{HoursNumbered, ReadsHoursAs, SmallValue, writingNumber, WritesHoursAs, SmallText};
-use hours::reader::Read;
-use hours::reader::read_hours;
-use hours::writer::Written;
-use hours::writer::write_hours;
+use hour_texts::reader::Read;
+use hour_texts::reader::read_hours;
+use hour_texts::writer::Written;
+use hour_texts::writer::write_hours;
+use records::limits::BYTE;
+use records::limits::FULL;
 
 // 2³² × the value's offset number where read, else the refusal.
 fn read_number(read: Read) -> u64
@@ -14,7 +16,7 @@ fn read_number(read: Read) -> u64
     ensures { λ r. ⌜ HoursNumbered (readingOf read) r ⌝ }
 {
     match read {
-        Read::Value(value) => 4294967296 * value,
+        Read::Value(value) => FULL * value,
         Read::Refused(k) => k as u64,
     }
 }
@@ -34,7 +36,7 @@ fn text_number(written: Written) -> u64
     ensures { λ r. ⌜ r ≡ writingNumber (writingOf written) ⌝ }
 {
     match written {
-        Written::Text(size) => 256 * size as u64,
+        Written::Text(size) => BYTE * size as u64,
         Written::Refused(k) => k as u64,
     }
 }

@@ -6,8 +6,10 @@ use mathlib.Core.List.{List}
 use native.Mathlib.Omega.{arith}
 use lib.ListN.{getD}
 use lib.IntN.{ℤ, pos, negsuc, subℕ, natAbs, _-ℤ_}
-use borrow.Author.Tests.{ne-eqb, eq-eqb}
-use Rattle.definitions.specs.Limits.{signed-half, lead-limit, span-limit}
+use borrow.Author.Tests.{ne-eqb}
+use Rattle.base.specs.Decides.{Decides}
+use Rattle.base.proofs.Decides.{said-no, decides-as}
+use Rattle.definitions.specs.Limits.{signed-half, lead-limit, span-limit, class-optimal, class-unbounded, class-infeasible}
 use Rattle.definitions.specs.Tropical.{Trop, fin}
 use Rattle.definitions.specs.Offset.{tropOf}
 use Rattle.definitions.specs.Problem.{Problem, Keeps, value, whole}
@@ -21,10 +23,9 @@ use Rattle.duality.specs.Picks.{NoneAbove, AtLeastZero}
 use Rattle.duality.specs.Within.{Within}
 use Rattle.duality.proofs.Numbers.{infeasible-below, below-infeasible, unbounded-above, above-unbounded, top-enough}
 use Rattle.records.specs.Decoded.{Near}
-use Rattle.walks.specs.Decides.{Decides}
-use Rattle.walks.specs.Tables.{Holds, Picked, Trial, stampsPoint}
+use Rattle.records.specs.Stamps.{stampsPoint}
+use Rattle.closed_walks.specs.Tables.{DecodedAs, Picked, Trial}
 use Rattle.checker.specs.Outcome.{Span, Meant}
-use Rattle.walks.proofs.Decides.{said-no, decides-as}
 
 -- ---- problems in the tables are small
 
@@ -32,13 +33,13 @@ use Rattle.walks.proofs.Decides.{said-no, decides-as}
 near-size : {d : ℕ} (k : ℕ) {x : Trop} {z : ℤ} → Near d k → tropOf k ≡ x → x ≡ fin z → natAbs z ≤ d
 near-size k {z = z} h e f = let r = trop-read k (e ∙ f) in abs-show z (omega (arith, h .hi)) (omega (arith, h .lo (r .0)))
 
-pub holds-within : {p : Problem} {left right : List ℕ} {n m : ℕ} → Holds p left right n m → Within p lead-limit
+pub holds-within : {p : Problem} {left right : List ℕ} {n m : ℕ} → DecodedAs p left right n m → Within p lead-limit
 holds-within {left = left} {right = right} h = record {
   left = λ i j a b c e. near-size (getD left (i * 32 + j) 0) (h .decoded .left-near (i * 32 + j)) (h .decoded .left-is i j b c) e;
   right = λ i j a b c e. near-size (getD right (i * 32 + j) 0) (h .decoded .right-near (i * 32 + j)) (h .decoded .right-is i j b c) e;
 }
 
-pub holds-enough : {p : Problem} {left right : List ℕ} {n m : ℕ} → Holds p left right n m → 2 * (suc (p .n) * lead-limit) ≤ span-limit
+pub holds-enough : {p : Problem} {left right : List ℕ} {n m : ℕ} → DecodedAs p left right n m → 2 * (suc (p .n) * lead-limit) ≤ span-limit
 holds-enough {p} h = top-enough (p .n) lead-limit (omega (arith, h .decoded .n-most))
 
 -- ---- class 1
@@ -55,7 +56,7 @@ trial-below-is span {z} s e =
     let r = trop-read span e in
     trop-show (span - 1) (z -ℤ pos 1) (omega (arith, s .near .lo (s .some))) (omega (arith, minus-read z (pos 1), s .near .lo (s .some)))
 
-module _ {p : Problem} {left right : List ℕ} {n m : ℕ} (holds : Holds p left right n m) (stamps : List ℕ) {picks : Strategy} {z : ℤ} where
+module _ {p : Problem} {left right : List ℕ} {n m : ℕ} (holds : DecodedAs p left right n m) (stamps : List ℕ) {picks : Strategy} {z : ℤ} where
   -- The rules are broken.
   pub optimal-broken : {c : Bool} → Decides ((i : ℕ) → i < m → Keeps p (stampsPoint stamps) i) c → c ≡ false
       → Decides (AcceptedOptimal p z (stampsPoint stamps) picks) false
@@ -110,7 +111,7 @@ none-above : {many width : ℕ} {picks : List ℕ} → Picked picks many → Non
 unfolding strategyOf
 none-above h j b = h .none-above j
 
-module _ {p : Problem} {left right : List ℕ} {n m : ℕ} (holds : Holds p left right n m) {picks : List ℕ} {r : Bool} where
+module _ {p : Problem} {left right : List ℕ} {n m : ℕ} (holds : DecodedAs p left right n m) {picks : List ℕ} {r : Bool} where
   pub infeasible-at : Picked picks (m + 1) → Decides (PicksCount p (strategyOf picks) × BelowZero p (strategyOf picks) (pos span-limit)) r
       → Decides (AcceptedInfeasible p (strategyOf picks)) r
   infeasible-at picked d =
@@ -172,12 +173,18 @@ module _ {p : Problem} {a : Answer} {class span : ℕ} {stamps picks : List ℕ}
       back (infeasible c h) = rw (strategy-same meant) h
 
 -- The highest pick of each class.
-pub highest-row : (n m class : ℕ) → (class ≡ 2 → ⊥) → highestPick class n m ≡ m + 1
-highest-row n m class d = rw (ne-eqb class 2 d) (omega arith)
+pub highest-optimal : (n m class : ℕ) → class ≡ class-optimal → highestPick class n m ≡ m + 1
+highest-optimal n m class e = rw e (omega arith)
 
-pub highest-variable : (n m class : ℕ) → class ≡ 2 → highestPick class n m ≡ n + 1
-highest-variable n m class e = rw (eq-eqb class 2 e) (omega arith)
+pub highest-unbounded : (n m class : ℕ) → class ≡ class-unbounded → highestPick class n m ≡ n + 1
+highest-unbounded n m class e = rw e (omega arith)
+
+pub highest-infeasible : (n m class : ℕ) → class ≡ class-infeasible → highestPick class n m ≡ m + 1
+highest-infeasible n m class e = rw e (omega arith)
 
 -- There is no other class.
+pub class-zero : {class : ℕ} → class ≡ 0 → known-class class ≡ true → ⊥
+class-zero e k = false≢true (rw e at k)
+
 pub class-other : {class : ℕ} → known-class class ≡ true → (class ≡ 1 → ⊥) → (class ≡ 2 → ⊥) → (class ≡ 3 → ⊥) → ⊥
 class-other {class} k a b c = false≢true (rw (ne-eqb class 1 a, ne-eqb class 2 b, ne-eqb class 3 c) at k)

@@ -1,19 +1,17 @@
 -- What a checker that judges as document 01 says accepts. For any function with `CheckerJudges`.
-use Prim.Native.Nat.{ℕ, suc, _*_, _≤_}
+use Prim.Native.Nat.{ℕ}
 use mathlib.Core.Path.{_≡_, ap}
 use mathlib.Core.Bool.{true, false≢true}
 use mathlib.Core.List.{List}
 use mathlib.Core.Logic.{_↔_}
 use native.Mathlib.Omega.{arith}
-use Rattle.definitions.specs.Limits.{lead-limit, span-limit, answer-most}
+use Rattle.definitions.specs.Limits.{answer-most}
 use Rattle.definitions.specs.ProblemRecord.{nField, mField, problemRefusal, WithinLayout, problemOf}
 use Rattle.definitions.specs.AnswerRecord.{Answer, answerRefusal, answerBytes}
 use Rattle.definitions.specs.Verdict.{Verdict, accepts, Accepted, optimal, unbounded, infeasible, checkRefusal, answerFor, Judged, turned-away, certified, uncertified}
 use Rattle.definitions.specs.Demands.{Slice, Checker, Accepts, CheckerJudges, CheckerRefuses, AcceptsExactly, PlanHolds, NeverBroken}
-use Rattle.definitions.proofs.Refusals.{problem-fits, or-else-none, left-size, right-size, WriterFits}
+use Rattle.definitions.proofs.Refusals.{or-else-none, WriterFits}
 use Rattle.definitions.proofs.RoundTrip.{answer-bytes, answer-back, answer-accepted, answer-length-most}
-use Rattle.duality.specs.Within.{Within}
-use Rattle.duality.proofs.Numbers.{top-enough}
 use Rattle.checker.proofs.Judgement.{judged-unique}
 
 -- ---- verdicts that accept
@@ -71,13 +69,3 @@ module _ (check : Checker) (judges : CheckerJudges check) where
         λ t. rw back at (accepts-only p (answerBytes (nField p) a) b s t .1),
         λ h. accepts-all p (answerBytes (nField p) a) b s w (answer-accepted a (nField p) (mField p) answer-most f) (rw back h),
       )
-
--- ---- problems within the layout are small
-
-pub layout-within : (p : List ℕ) → WithinLayout p → Within (problemOf p) lead-limit
-unfolding problemOf
-layout-within p w = record { left = λ i j a h k e. left-size p w i j h k e; right = λ i j a h k e. right-size p w i j h k e }
-
-pub layout-enough : (p : List ℕ) → WithinLayout p → 2 * (suc (problemOf p .n) * lead-limit) ≤ span-limit
-unfolding problemOf
-layout-enough p w = top-enough (nField p) lead-limit (omega (arith, problem-fits p .0 w .n-most))

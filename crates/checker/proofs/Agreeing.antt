@@ -10,13 +10,13 @@ use lib.ListN.{length, getD, length-append, List·getD-append}
 use lib.Seq.{getD-at}
 use lib.IntN.{ℤ, pos}
 use borrow.Author.Tests.{leb-true, le-leb}
+use Rattle.base.proofs.Numbers.{nat-le-or-lt}
 use Rattle.definitions.specs.Tropical.{Trop, bot, plus}
 use Rattle.definitions.specs.Problem.{Problem, Point, Feasible, side, value}
 use Rattle.definitions.specs.Certificate.{Strategy, Leads, Arc, PicksCount, BelowZero, RowLeads, RowArc, AcceptedOptimal, AcceptedInfeasible, AcceptedUnbounded}
 use Rattle.definitions.specs.ProblemRecord.{listOf}
 use Rattle.definitions.specs.AnswerRecord.{picksFit}
 use Rattle.definitions.specs.Verdict.{pointOf, strategyOf}
-use Rattle.definitions.proofs.Whole.{nat-le-or-lt}
 use Rattle.definitions.proofs.Tropical.{largest-ext}
 use Rattle.definitions.proofs.Bytes.{all-true}
 use Rattle.definitions.proofs.ProblemBack.{listed-length, listed-at}

@@ -8,24 +8,24 @@ use native.Mathlib.Omega.{arith}
 use lib.Dec.{leb}
 use lib.ListN.{length, getD, length-map, List·getD-eq-default}
 use borrow.Author.Tests.{leb-true, eqb-true}
+use Rattle.base.proofs.Numbers.{nat-le-or-lt}
 use Rattle.definitions.specs.Limits.{signed-half, stamp-limit, span-limit}
 use Rattle.definitions.specs.Tropical.{Trop, bot}
 use Rattle.definitions.specs.Bytes.{Bytes, all, blank-or-within, whole-within}
 use Rattle.definitions.specs.Offset.{tropOf}
 use Rattle.definitions.specs.AnswerRecord.{is-zero, stampsFit, picksFit, spanFits, stampCount, highestPick, classField, spanField, answerOf, answerRefusal, answerOutcome}
 use Rattle.definitions.specs.Verdict.{pointOf, strategyOf}
-use Rattle.definitions.proofs.Whole.{nat-le-or-lt}
 use Rattle.definitions.proofs.Bytes.{all-true, length-numsAt}
 use Rattle.definitions.proofs.Offset.{zero-offset, whole-offset}
 use Rattle.definitions.proofs.Refusals.{AnswerFits, answer-fits}
 use Rattle.definitions.proofs.RoundTrip.{stamps-within}
-use Rattle.answers.specs.declared.answer.AnswerHead.{AnswerHead}
-use Rattle.answers.specs.declared.answer.AnswerHead.the-variants as Heads
+use Rattle.answer_reader.specs.declared.answer.AnswerHead.{AnswerHead}
+use Rattle.answer_reader.specs.declared.answer.AnswerHead.the-variants as Heads
 use Rattle.records.specs.Decoded.{Near}
-use Rattle.answers.specs.AnswerReading.{headOf, AnswerRead}
+use Rattle.answer_reader.specs.AnswerReading.{headOf, AnswerRead}
 use Rattle.records.proofs.Near.{near-within}
-use Rattle.answers.proofs.Heads.{fields-by}
-use Rattle.answers.proofs.Meaning.{stamps-point, picks-strategy}
+use Rattle.answer_reader.proofs.Heads.{fields-by}
+use Rattle.answer_reader.proofs.Meaning.{stamps-point, picks-strategy}
 use Rattle.checker.specs.Outcome.{Span, Meant, Formed}
 
 -- ---- what the reader answers

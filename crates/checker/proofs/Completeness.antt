@@ -11,7 +11,8 @@ use Rattle.definitions.specs.Demands.{Slice, Checker, CheckerJudges, SomeTable,
 use Rattle.definitions.proofs.ProblemBack.{listed-length}
 use Rattle.duality.proofs.Classes.{optimal-accepted, infeasible-accepted, unbounded-accepted}
 use Rattle.checker.proofs.Agreeing.{listed-point, listed-strategy, listed-fit, optimal-agrees, infeasible-agrees, unbounded-agrees}
-use Rattle.checker.proofs.Accepting.{record-accepted, layout-within, layout-enough}
+use Rattle.duality.proofs.SmallLeads.{layout-within, layout-enough}
+use Rattle.checker.proofs.Accepting.{record-accepted}
 use Rattle.checker.proofs.Soundness.{least-fits, infeasible-fits, unbounded-fits}
 
 module _ (check : Checker) (judges : CheckerJudges check) (p : List ℕ) (b : Slice p) (w : WithinLayout p) where

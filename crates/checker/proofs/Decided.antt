@@ -11,6 +11,9 @@ use lib.Dec.{eqb}
 use lib.ListN.{length, getD, replicate, List·getD-eq-default}
 use lib.IntN.{ℤ, pos, subℕ, _-ℤ_}
 use borrow.Author.Tests.{eqb-true, eqb-false}
+use Rattle.base.specs.Decides.{Decides}
+use Rattle.base.proofs.Numbers.{nat-le-or-lt}
+use Rattle.base.proofs.Decides.{said-yes, said-no}
 use Rattle.definitions.specs.Limits.{signed-half, span-limit, highest-n}
 use Rattle.definitions.specs.Tropical.{fin}
 use Rattle.definitions.specs.Bytes.{Bytes}
@@ -22,38 +25,37 @@ use Rattle.definitions.specs.ProblemRecord.{listOf, WithinLayout, problemOf, nF
 use Rattle.definitions.specs.AnswerRecord.{Answer, classField, spanField, answerOf, answerRefusal, answerOutcome}
 use Rattle.definitions.specs.Verdict.{Accepted, strategyOf}
 use Rattle.definitions.proofs.Whole as Whole
-use Rattle.definitions.proofs.Whole.{nat-le-or-lt, le-or-lt}
+use Rattle.definitions.proofs.Whole.{le-or-lt}
 use Rattle.definitions.proofs.Tropical.{fin-injective, ⊑-or-above, finite-above}
 use Rattle.definitions.proofs.Offset.{trop-fin}
 use Rattle.definitions.proofs.Refusals.{answer-fits}
 use Rattle.duality.specs.Picks.{AtLeastZero}
 use Rattle.duality.specs.Values.{valueAt}
 use Rattle.duality.proofs.Longest.{exit-value, stable-potential, still-stable, potential-closed}
-use Rattle.leads.specs.Tables.{leftTable, rightTable}
-use Rattle.answers.specs.Fields.{Padded, stampsOf, picksOf}
-use Rattle.answers.specs.declared.answer.AnswerHead.the-variants as Heads
-use Rattle.answers.specs.AnswerReading.{spanNumber, AnswerRead}
-use Rattle.answers.proofs.Heads.{head-fields}
-use Rattle.answers.proofs.Judging.{span-meant}
-use Rattle.leads.proofs.Tables.{length-listOf, getD-listOf}
-use Rattle.answers.proofs.Passing.{stampsAt-length, picksAt-length}
-use Rattle.answers.proofs.ByClass.{stamps-most, picks-most}
+use Rattle.problem_records.specs.Tables.{leftTable, rightTable}
+use Rattle.answer_reader.specs.Fields.{Padded, stampsOf, picksOf}
+use Rattle.answer_reader.specs.declared.answer.AnswerHead.the-variants as Heads
+use Rattle.answer_reader.specs.AnswerReading.{spanNumber, AnswerRead}
+use Rattle.answer_reader.proofs.Heads.{head-fields}
+use Rattle.answer_reader.proofs.Judging.{span-meant}
+use Rattle.problem_records.proofs.Tables.{length-listOf, getD-listOf}
+use Rattle.answer_reader.proofs.Passing.{stampsAt-length, picksAt-length}
+use Rattle.answer_reader.proofs.ByClass.{stamps-most, picks-most}
 use Rattle.reach.proofs.Marks.{anchor-marked}
 use Rattle.reach.proofs.Existence.{MarksOf, reach-exists}
-use Rattle.walks.specs.Decides.{Decides}
-use Rattle.walks.specs.Gains.{matrix, anywhere, Table, NoneGains, Tested}
-use Rattle.walks.specs.Tables.{Sized, Holds, Picked, Trial, stampsPoint}
-use Rattle.walks.specs.Arcs.{variableArc, VariableArcs, heaviest, RowArcs}
-use Rattle.certificates.specs.Counts.{PickCounts, RowPickCounts, VariablesCount, RowsCount}
+use Rattle.closed_walks.specs.Gains.{matrix, anywhere, Table, NoneGains, Tested}
+use Rattle.records.specs.Stamps.{stampsPoint}
+use Rattle.closed_walks.specs.Tables.{Sized, DecodedAs, Picked, Trial}
+use Rattle.closed_walks.specs.Arcs.{variableArc, VariableArcs, heaviest, RowArcs}
+use Rattle.strategy_tests.specs.Counts.{PickCounts, RowPickCounts, VariablesCount, RowsCount}
 use Rattle.checker.specs.Outcome.{Meant, Formed}
-use Rattle.walks.proofs.Decides.{said-yes, said-no}
-use Rattle.walks.proofs.ClosedWalks.{all-or-gain}
-use Rattle.certificates.proofs.Variables.{variables-table, variables-not, variables-both}
-use Rattle.certificates.proofs.RowStrategy.{rows-table, rows-not, rows-both}
-use Rattle.checker.proofs.Acceptance.{trial-below, optimal-broken, optimal-other, optimal-picks, trial-below-is, top-trial, top-trial-is, lowest-trial, lowest-trial-is, infeasible-at, unbounded-at, by-optimal, by-unbounded, by-infeasible, highest-row, highest-variable, class-other}
+use Rattle.closed_walks.proofs.ClosedWalks.{all-or-gain}
+use Rattle.strategy_tests.proofs.Variables.{variables-table, variables-not, variables-both}
+use Rattle.strategy_tests.proofs.RowStrategy.{rows-table, rows-not, rows-both}
+use Rattle.checker.proofs.Acceptance.{trial-below, optimal-broken, optimal-other, optimal-picks, trial-below-is, top-trial, top-trial-is, lowest-trial, lowest-trial-is, infeasible-at, unbounded-at, by-optimal, by-unbounded, by-infeasible, highest-optimal, highest-unbounded, highest-infeasible, class-other}
 use Rattle.checker.proofs.Answers.{HeadRead, read-means, read-formed}
-use Rattle.walks.proofs.Holding.{holds-sized}
-use Rattle.leads.proofs.LeadTables.{problem-decoded}
+use Rattle.closed_walks.proofs.Holding.{holds-sized}
+use Rattle.problem_records.proofs.LeadTables.{problem-decoded}
 
 -- P holds or not, with the answer as a Boolean.
 pub record Decided (P : Type 0) : Type 0 where
@@ -166,7 +168,7 @@ row-cells left right n m t picks w = record {
   cells = λ j l h k. cell-at (heaviest left right m t picks (m + 1)) n j l w h k;
 }
 
-module _ {p : Problem} {left right : List ℕ} {n m : ℕ} (t : ℕ) {picks : List ℕ} {z : ℤ} (holds : Holds p left right n m) (trial : Trial t) (trial-is : tropOf t ≡ fin z) where
+module _ {p : Problem} {left right : List ℕ} {n m : ℕ} (t : ℕ) {picks : List ℕ} {z : ℤ} (holds : DecodedAs p left right n m) (trial : Trial t) (trial-is : tropOf t ≡ fin z) where
   pub strategy-decided : Picked picks (m + 1) → Decided (PicksCount p (strategyOf picks) × BelowZero p (strategyOf picks) z)
   strategy-decided picked = go (counts .answer) refl
     where
@@ -232,7 +234,7 @@ value-decided (Problems.whole y) z = ⊎-elim
 
 -- ---- answers
 
-module _ {p : Problem} {left right : List ℕ} {n m class span : ℕ} {stamps picks : List ℕ} (holds : Holds p left right n m)
+module _ {p : Problem} {left right : List ℕ} {n m class span : ℕ} {stamps picks : List ℕ} (holds : DecodedAs p left right n m)
     (formed : Formed n m class span stamps picks) where
   pub optimal-decided : class ≡ 1 → {z : ℤ} → tropOf span ≡ fin z → Decided (AcceptedOptimal p z (stampsPoint stamps) (strategyOf picks))
   optimal-decided e {z} f = go (rules .answer) refl (is .answer) refl
@@ -245,7 +247,7 @@ module _ {p : Problem} {left right : List ℕ} {n m class span : ℕ} {stamps pi
 
       walks : Decided (PicksCount p (strategyOf picks) × BelowZero p (strategyOf picks) (z -ℤ pos 1))
       walks = strategy-decided (span - 1) holds (trial-below (formed .whole-span e)) (trial-below-is span (formed .whole-span e) f)
-          (rw (highest-row n m class (λ q. omega arith)) at (formed .picked))
+          (rw (highest-optimal n m class e) at (formed .picked))
 
       go : (a : Bool) → rules .answer ≡ a → (b : Bool) → is .answer ≡ b → Decided (AcceptedOptimal p z (stampsPoint stamps) (strategyOf picks))
       go false a b c = record { answer = false; decides = optimal-broken holds stamps (rules .decides) a }
@@ -269,12 +271,12 @@ module _ {p : Problem} {left right : List ℕ} {n m class span : ℕ} {stamps pi
           }
       by-class false e true f d g =
           let two : class ≡ 2 = eqb-true class 2 f in
-          let picked = rw (highest-variable n m class two) at (formed .picked) in
+          let picked = rw (highest-unbounded n m class two) at (formed .picked) in
           let d = row-strategy-decided (signed-half - span-limit - 1) holds lowest-trial lowest-trial-is picked in
           record { answer = d .answer; decides = by-unbounded meant two (unbounded-at holds picked (d .decides)) }
       by-class false e false f true g =
           let three : class ≡ 3 = eqb-true class 3 g in
-          let picked = rw (highest-row n m class (eqb-false class 2 f)) at (formed .picked) in
+          let picked = rw (highest-infeasible n m class three) at (formed .picked) in
           let d = strategy-decided (signed-half + span-limit) holds top-trial top-trial-is picked in
           record { answer = d .answer; decides = by-infeasible meant three (infeasible-at holds picked (d .decides)) }
       by-class false e false f false g = absurd (class-other (formed .class-known) (eqb-false class 1 e) (eqb-false class 2 f) (eqb-false class 3 g))
@@ -298,7 +300,7 @@ padded width xs h = record {
       (nat-le-or-lt width k);
 }
 
-held-by : (p : List ℕ) → Bytes p → WithinLayout p → Holds (problemOf p) (leftTable p) (rightTable p) (nField p) (mField p)
+held-by : (p : List ℕ) → Bytes p → WithinLayout p → DecodedAs (problemOf p) (leftTable p) (rightTable p) (nField p) (mField p)
 unfolding problemOf
 held-by p b w = record { n-is = refl; m-is = refl; decoded = problem-decoded p b w }
 
@@ -320,7 +322,7 @@ pub bytes-decided : (p a : List ℕ) → Bytes p → Bytes a → WithinLayout p 
 unfolding answerOf
 bytes-decided p a b c w none = accepted-decided held (read-formed c read right) (read-means c read right)
   where
-    held : Holds (problemOf p) (leftTable p) (rightTable p) (nField p) (mField p)
+    held : DecodedAs (problemOf p) (leftTable p) (rightTable p) (nField p) (mField p)
     held = held-by p b w
 
     right : HeadRead a (nField p) (mField p) (classField a) (spanNumber a)

@@ -1,6 +1,5 @@
 -- Demand 3 for every checker function that judges as document 01 says, and one that does.
 use Rattle.definitions.specs.Demands.{Checker, CheckerJudges, CheckerRefuses, AcceptsExactly, NeverBroken, LeastExactly, NoneExactly, BottomlessExactly}
-use Rattle.checker.proofs.Judgement.{the-checker, the-checker-judges}
 use Rattle.checker.proofs.Accepting as Accepting
 use Rattle.checker.proofs.Soundness.{least-sound, none-sound, bottomless-sound}
 use Rattle.checker.proofs.Completeness.{least-complete, none-complete, bottomless-complete}
@@ -38,7 +37,3 @@ module _ (check : Checker) (judges : CheckerJudges check) where
     none-exactly = none-exactly;
     bottomless-exactly = bottomless-exactly;
   }
-
--- There is such a function.
-pub the-demand : CheckerDemand the-checker
-the-demand = checker-demand the-checker the-checker-judges

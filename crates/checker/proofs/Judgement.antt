@@ -8,13 +8,13 @@ use native.Mathlib.Omega.{arith}
 use lib.Dec.{ltb}
 use lib.ListN.{length, getD, List·getD-eq-default}
 use borrow.Author.Tests.{ltb-true, lt-ltb}
+use Rattle.base.proofs.Numbers.{nat-le-or-lt}
 use Rattle.definitions.specs.Limits.{byte-values}
 use Rattle.definitions.specs.Bytes.{Bytes, all}
 use Rattle.definitions.specs.ProblemRecord.{nField, mField, problemRefusal}
 use Rattle.definitions.specs.AnswerRecord.{answerRefusal}
 use Rattle.definitions.specs.Verdict.{Verdict, accepted, refused, checkRefusal, answerFor, not-certified, Judged, turned-away, certified, uncertified}
 use Rattle.definitions.specs.Demands.{Checker, CheckerJudges}
-use Rattle.definitions.proofs.Whole.{nat-le-or-lt}
 use Rattle.definitions.proofs.Bytes.{all-true}
 use Rattle.definitions.proofs.Refusals.{or-else-none}
 use Rattle.checker.proofs.Decided.{known, bytes-decided}

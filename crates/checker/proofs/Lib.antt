@@ -9,6 +9,3 @@ pub mod Soundness
 pub mod Completeness
 pub mod LongInputs
 pub mod Demand3
-pub mod Holding
-pub mod Potentials
-pub mod Starred

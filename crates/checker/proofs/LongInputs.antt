@@ -1,6 +1,7 @@
 -- Long inputs: what is decided from the first bytes and the size holds of every input that begins so.
 use Prim.Native.Nat.{ℕ, zero, suc, _+_, _-_, _≤_, _<_}
 use mathlib.Core.Path.{_≡_, refl, ap, sym, _∙_}
+use mathlib.Core.Bool.{false}
 use mathlib.Core.List.{List}
 use mathlib.Core.Logic.{⊎-elim}
 use native.Mathlib.Omega.{arith}
@@ -9,43 +10,53 @@ use lib.Dec.{eqb}
 use lib.ListN.{length, getD, take, drop, length-take, length-drop}
 use lib.Seq.{getD-take, getD-drop, length-take-le, ext-getD, take-all}
 use borrow.Author.Tests.{lt-ltb, le-ltb, eqb-true, ne-eqb}
-use Rattle.definitions.specs.Limits.{kept-bytes, length-bytes, problem-header, answer-header, answer-most, highest-n, highest-m, answer-kind}
+use Rattle.base.proofs.Numbers.{nat-le-or-lt}
+use Rattle.definitions.specs.Limits.{kept-bytes, length-bytes, problem-header, answer-header, answer-most, highest-n, highest-m, answer-kind, problem-most}
 use Rattle.definitions.specs.Tropical.{Trop}
 use Rattle.definitions.specs.Bytes.{numAt, Outcome, outcome}
-use Rattle.definitions.specs.ProblemRecord.{lengthField, kindField, nField, mField, headerRefusal, headerOutcome, problemRefusal, WithinLayout}
-use Rattle.definitions.specs.AnswerRecord.{known-class, classField, spanField, answerSize, answerHeaderRefusal, answerHeaderOutcome, answerRefusal}
+use Rattle.definitions.specs.ProblemRecord.{lengthField, kindField, nField, mField, headerRefusal, headerOutcome, problemRefusal, refusalFor}
+use Rattle.definitions.specs.AnswerRecord.{known-class, classField, spanField, answerSize, answerHeaderRefusal, answerHeaderJudged, answerHeaderOutcome, answerRefusal}
 use Rattle.definitions.specs.Verdict.{Verdict, refused, checkRefusal, Judged}
 use Rattle.definitions.specs.Programs.{cutPlace, problemPart, answerPart, KeptOf}
-use Rattle.definitions.proofs.Whole.{nat-le-or-lt}
-use Rattle.definitions.proofs.Refusals.{or-else-suc, limits-clause, enough-clause, equal-clause, both-clause}
-use Rattle.definitions.proofs.Inputs.{kept-at, length-agrees, n-agrees, m-agrees, header-agrees, answer-agrees, header-short, header-length, cut-past, cut-inside}
+use Rattle.definitions.proofs.Refusals.{or-else-suc, limits-clause, enough-clause, equal-clause, both-clause, problem-fits}
+use Rattle.definitions.proofs.Inputs.{kept-at, length-agrees, one-agrees, answer-agrees, header-short, header-length, cut-past, cut-inside}
 use Rattle.definitions.proofs.RoundTrip.{size-most}
 use Rattle.definitions.proofs.Outcomes.{outcome-gives, outcome-refusal}
 use Rattle.records.specs.declared.problem.Header.{Header}
+use Rattle.records.specs.declared.problem.Layout.{Layout}
 use Rattle.records.specs.declared.problem.Header.the-variants as Headers
-use Rattle.answers.specs.declared.answer.AnswerHead.{AnswerHead}
-use Rattle.answers.specs.declared.answer.AnswerHead.the-variants as Heads
+use Rattle.answer_reader.specs.declared.answer.AnswerHead.{AnswerHead}
+use Rattle.answer_reader.specs.declared.answer.AnswerHead.the-variants as Heads
 use Rattle.records.specs.ProblemHeader.{problemRefused, headerOf}
-use Rattle.answers.specs.AnswerReading.{headOf}
-use Rattle.records.proofs.ProblemHeader.{header-fits, header-refuses, product-most}
+use Rattle.answer_reader.specs.AnswerReading.{headOf}
+use Rattle.records.proofs.ProblemHeader.{fits-one, header-fits, header-refuses, product-most}
 use Rattle.checker.specs.Outcome.{answerRefused}
 use Rattle.checker.specs.LongInput.{Longer}
-use Rattle.checker.proofs.Verdicts.{turned}
+use Rattle.checker.proofs.Verdicts.{HeaderRead, turned}
 
 -- ---- long problems
 
 -- A header that is right says a size that is kept whole.
-pub header-small : (kept : List ℕ) (end : ℕ) {header : Header} {n m : ℕ} → headerOf header ≡ headerOutcome kept end → header ≡ Headers.Fields n m
-    → (problem-header ≤ end) × (end ≤ 16394) × (n ≤ highest-n) × (m ≤ highest-m)
-header-small kept end {n = n} {m = m} e f =
-    let h = header-fits kept end e f in
-    (omega (arith, h .size-is), omega (arith, h .size-is, product-most n m (h .n-most) (h .m-most)), h .n-most, h .m-most)
+pub header-small : (kept : List ℕ) (end : ℕ) {header : Header} {l : Layout} → headerOf header ≡ headerOutcome false kept end → header ≡ Headers.Told l
+    → (problem-header ≤ end) × (end ≤ problem-most) × (l .n ≤ highest-n) × (l .m ≤ highest-m)
+header-small kept end {l = l} e f =
+    let h = header-fits false kept end e f in
+    (omega (arith, fits-one h), omega (arith, fits-one h, product-most (l .n) (l .m) (h .n-most) (h .m-most)), h .n-most, h .m-most)
+
+-- A problem that is read is no longer than the longest.
+pub read-small : {s : List ℕ} {n m : ℕ} → HeaderRead s n m → (length s ≤ 16394) × (n ≤ highest-n) × (m ≤ highest-m)
+read-small {s} {n} {m} h =
+    let f = problem-fits s .0 (h .none) in
+    (omega (arith, f .size-is, product-most (nField s) (mField s) (f .n-most) (f .m-most)), omega (arith, h .n-is, f .n-most), omega (arith, h .m-is, f .m-most))
+
+pub kept-small : (kept : List ℕ) (end : ℕ) {n m : ℕ} → HeaderRead (take end kept) n m → end ≤ length kept → (end ≤ 16394) × (n ≤ highest-n) × (m ≤ highest-m)
+kept-small kept end h l = let s = read-small h in (omega (arith, s .0, length-take-le end kept l), s .1, s .2)
 
 -- ---- long answers
 
 -- What is longer than every answer record is refused by its header.
 pub long-refused : (s : List ℕ) (size n m : ℕ) → n ≤ highest-n → m ≤ highest-m → answer-most < size → 0 < answerHeaderRefusal s size n m
-unfolding answerHeaderRefusal
+unfolding answerHeaderRefusal answerHeaderJudged
 long-refused s size n m h k l = ⊎-elim
     (λ (e : answerHeaderRefusal s size n m ≡ 0).
     let a = limits-clause n m _ _ .0 e in
@@ -73,10 +84,6 @@ long-answer s size n m head {r} h k l e f =
 
 -- ---- inputs that are kept whole
 
--- A part of a list that goes to its end is what is left of the list.
-pub rest-whole : (s : List ℕ) (a : ℕ) → take (length s - a) (drop a s) ≡ drop a s
-rest-whole s a = take-all (length s - a) (drop a s) (rw length-drop (omega arith))
-
 pub judged-parts : (s : List ℕ) {cut : ℕ} {v : Verdict} → cut ≡ cutPlace s → Judged (take cut s) (drop cut s) v → Judged (problemPart s) (answerPart s) v
 unfolding problemPart answerPart
 judged-parts s e j = rw (← e) j
@@ -96,23 +103,29 @@ module _ {kept input : List ℕ} {size end : ℕ} (longer : Longer kept size inp
   part-same : (i : ℕ) → i < end → i < kept-bytes → getD (take end input) i 0 ≡ getD kept i 0
   part-same i h k = getD-take end input i 0 h ∙ longer .begins i k
 
-  header-same : headerRefusal (take end input) (length (take end input)) ≡ headerRefusal kept end
+  header-same : headerRefusal false (take end input) (length (take end input)) ≡ headerRefusal false kept end
   header-same = rw part-length (⊎-elim
-      (λ (h : problem-header ≤ end). header-agrees (take end input) kept (λ i b. part-same i (omega arith) (omega arith)) end)
-      (λ (h : end < problem-header). header-short (take end input) end h ∙ sym (header-short kept end h))
+      (λ (h : problem-header ≤ end). one-agrees (take end input) kept (λ i b. part-same i (omega arith) (omega arith)) end)
+      (λ (h : end < problem-header). header-short false (take end input) end h ∙ sym (header-short false kept end h))
       (nat-le-or-lt problem-header end))
 
-  -- The header is refused.
-  pub long-header : {header : Header} {j r : ℕ} → headerOf header ≡ headerOutcome kept end → header ≡ Headers.Refused j → r ≡ problemRefused header
+  -- The header is refused,
+  pub header-turned : {header : Header} {j r : ℕ} → headerOf header ≡ headerOutcome false kept end → header ≡ Headers.Refused j → r ≡ problemRefused header
       → Judged (take end input) (drop end input) (refused r)
-  unfolding problemRefusal checkRefusal problemRefused
-  long-header {header} {j} {r} e f g =
-      let q = header-refuses kept end e f in
+  unfolding refusalFor checkRefusal problemRefused
+  header-turned {header} {j} {r} e f g =
+      let q = header-refuses false kept end e f in
       let is : r ≡ j = g ∙ ap problemRefused f in
-      let first : headerRefusal (take end input) (length (take end input)) ≡ j = header-same ∙ q .0 in
-      let some : 0 < headerRefusal (take end input) (length (take end input)) = omega (arith, q .1) in
-      let whole : problemRefusal (take end input) ≡ headerRefusal (take end input) (length (take end input)) = or-else-suc _ _ some in
+      let first : headerRefusal false (take end input) (length (take end input)) ≡ j = header-same ∙ q .0 in
+      let some : 0 < headerRefusal false (take end input) (length (take end input)) = omega (arith, q .1) in
+      let whole : problemRefusal (take end input) ≡ headerRefusal false (take end input) (length (take end input)) = or-else-suc _ _ some in
       turned (take end input) (drop end input) r (or-else-suc _ _ (omega arith) ∙ whole ∙ first ∙ sym is) (omega (arith, q .1))
+
+  -- as it is where the problem was not kept whole.
+  pub long-header : (header : Header) {r : ℕ} → kept-bytes < end → headerOf header ≡ headerOutcome false kept end → r ≡ problemRefused header
+      → Judged (take end input) (drop end input) (refused r)
+  long-header (Headers.Told l) far e g = absurd (omega (arith, header-small kept end e refl .1))
+  long-header (Headers.Refused j) far e g = header-turned e refl g
 
   -- The problem is kept whole.
   pub problem-kept : length kept ≡ kept-bytes → end ≤ kept-bytes → take end kept ≡ take end input
@@ -122,32 +135,28 @@ module _ {kept input : List ℕ} {size end : ℕ} (longer : Longer kept size inp
       (λ i b. getD-take end kept i 0 (omega arith) ∙ sym (part-same i (omega arith) (omega arith)))
 
   -- The problem is not refused, and the answer is, by its header.
-  pub long-answered : {header : Header} {n m r : ℕ} → headerOf header ≡ headerOutcome kept end → header ≡ Headers.Fields n m → WithinLayout (take end input)
-      → r ≡ answerHeaderRefusal (drop end kept) (size - end) n m → 0 < r → Judged (take end input) (drop end input) (refused r)
+  pub long-answered : {n m r : ℕ} → HeaderRead (take end input) n m → r ≡ answerHeaderRefusal (drop end kept) (size - end) n m → 0 < r
+      → Judged (take end input) (drop end input) (refused r)
   unfolding checkRefusal answerRefusal
-  long-answered {header} {n} {m} {r} d f w g some =
-      let small = header-small kept end d f in
-      let h = header-fits kept end d f in
-      let same : (i : ℕ) → i < problem-header → getD (take end input) i 0 ≡ getD kept i 0 = λ i b. part-same i (omega arith) (omega arith) in
-      let n-is : nField (take end input) ≡ n = n-agrees (take end input) kept same ∙ sym (h .n-is) in
-      let m-is : mField (take end input) ≡ m = m-agrees (take end input) kept same ∙ sym (h .m-is) in
+  long-answered {n} {m} {r} h g some =
+      let small = read-small h in
       let rest : length (drop end input) ≡ size - end = length-drop end input ∙ ap (λ k. k - end) (longer .size-is) in
       let agree : answerHeaderRefusal (drop end input) (size - end) n m ≡ answerHeaderRefusal (drop end kept) (size - end) n m =
       answer-agrees (drop end input) (drop end kept)
-      (λ i b. getD-drop end input i 0 ∙ longer .begins (end + i) (omega arith) ∙ sym (getD-drop end kept i 0)) (size - end) n m in
+      (λ i b. getD-drop end input i 0 ∙ longer .begins (end + i) (omega (arith, small .0, part-length)) ∙ sym (getD-drop end kept i 0)) (size - end) n m in
       let head : answerHeaderRefusal (drop end input) (length (drop end input)) n m ≡ r = rw rest (agree ∙ sym g) in
-      turned (take end input) (drop end input) r (rw (w, n-is, m-is) (or-else-suc _ _ (omega arith) ∙ head)) some
+      turned (take end input) (drop end input) r (rw (h .none, ← h .n-is, ← h .m-is) (or-else-suc _ _ (omega arith) ∙ head)) some
 
 -- The length field reaches past the input: all of it is the problem, and refusal 2 applies.
 pub long-past : {kept input : List ℕ} {size : ℕ} → Longer kept size input → kept-bytes < size → size < lengthField kept + length-bytes
     → Judged (problemPart input) (answerPart input) (refused 2)
-unfolding problemRefusal checkRefusal
+unfolding refusalFor checkRefusal
 long-past {kept} {input} {size} longer h k =
     let e = length-agrees input kept (λ i b. longer .begins i (omega arith)) in
     let cut : size ≡ cutPlace input = sym (longer .size-is) ∙ cut-past input (omega (arith, longer .size-is)) (omega (arith, longer .size-is)) in
-    let first : headerRefusal (take size input) (length (take size input)) ≡ 2 =
-    header-same {end = size} longer (omega arith) ∙ header-length kept size (omega arith) (λ q. omega arith) in
-    let whole : problemRefusal (take size input) ≡ headerRefusal (take size input) (length (take size input)) = or-else-suc _ _ (omega arith) in
+    let first : headerRefusal false (take size input) (length (take size input)) ≡ 2 =
+    header-same {end = size} longer (omega arith) ∙ header-length false kept size (omega arith) (λ q. omega arith) in
+    let whole : problemRefusal (take size input) ≡ headerRefusal false (take size input) (length (take size input)) = or-else-suc _ _ (omega arith) in
     judged-parts input cut (turned (take size input) (drop size input) 2 (or-else-suc _ _ (omega arith) ∙ whole ∙ first) (omega arith))
 
 -- It does not: the problem is cut there.

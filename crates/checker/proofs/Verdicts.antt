@@ -6,23 +6,25 @@ use mathlib.Core.List.{List}
 use mathlib.Core.Logic.{⊎-elim}
 use native.Mathlib.Omega.{arith}
 use native.Mathlib.Nat.{eq-zero-or-pos}
+use Rattle.base.specs.Decides.{Decides}
 use Rattle.definitions.specs.Tropical.{Trop}
 use Rattle.definitions.specs.Bytes.{or-else, Outcome, outcome}
 use Rattle.definitions.specs.Offset.{tropOf}
 use Rattle.definitions.specs.Problem.{Problem}
-use Rattle.definitions.specs.ProblemRecord.{nField, mField, problemRefusal, problemOutcome, WithinLayout, problemOf}
+use Rattle.definitions.specs.ProblemRecord.{nField, mField, layoutOf, problemRefusal, problemOutcome, WithinLayout, problemOf}
 use Rattle.definitions.specs.AnswerRecord.{classField, spanField, answerRefusal, answerOutcome, answerOf}
 use Rattle.definitions.specs.Verdict.{Verdict, accepted, refused, Accepted, checkRefusal, not-certified, Judged, turned-away, certified, uncertified}
 use Rattle.records.specs.declared.problem.Header.{Header}
+use Rattle.records.specs.declared.problem.Layout.{Layout}
+use Rattle.definitions.specs.ProblemRecord as Problems
 use Rattle.records.specs.declared.problem.Header.the-variants as Headers
-use Rattle.answers.specs.declared.answer.AnswerHead.{AnswerHead}
-use Rattle.answers.specs.declared.answer.AnswerHead.the-variants as Heads
+use Rattle.answer_reader.specs.declared.answer.AnswerHead.{AnswerHead}
+use Rattle.answer_reader.specs.declared.answer.AnswerHead.the-variants as Heads
 use Rattle.records.specs.ProblemHeader.{headerOf, problemRefused}
-use Rattle.records.proofs.ProblemHeader.{answer-fields, answer-refused}
-use Rattle.answers.specs.AnswerReading.{headOf}
-use Rattle.answers.proofs.Heads.{refused-by}
+use Rattle.records.proofs.ProblemHeader.{answer-told, answer-refused}
+use Rattle.answer_reader.specs.AnswerReading.{headOf}
+use Rattle.answer_reader.proofs.Heads.{refused-by}
 use Rattle.checker.specs.Outcome as Judging
-use Rattle.walks.specs.Decides.{Decides}
 use Rattle.checker.specs.Outcome.{answerRefused, Meant, Answered}
 use Rattle.checker.proofs.Answers.{HeadRead}
 
@@ -34,18 +36,18 @@ pub record HeaderRead (s : List ℕ) (n m : ℕ) : Type 0 where
   pub n-is : n ≡ nField s
   pub m-is : m ≡ mField s
 
-pub header-read : (s : List ℕ) {header : Header} {n m : ℕ} → headerOf header ≡ problemOutcome s → header ≡ Headers.Fields n m → HeaderRead s n m
+pub header-read : (s : List ℕ) {header : Header} {l : Layout} → headerOf header ≡ problemOutcome false s → header ≡ Headers.Told l → HeaderRead s (l .n) (l .m)
 unfolding problemOutcome
 header-read s e f =
-    let r = answer-fields (problemRefusal s) (nField s) (mField s) e f in
-    record { none = r .0; n-is = r .1; m-is = r .2 }
+    let r = answer-told (problemRefusal s) (layoutOf s) e f in
+    record { none = r .0; n-is = ap (λ (x : Problems.Layout). x .n) (r .1); m-is = ap (λ (x : Problems.Layout). x .m) (r .1) }
 
 -- ---- verdicts
 
-header-refused : (k a b : ℕ) {j : ℕ} {header : Header} → headerOf header ≡ outcome k (a, b) → header ≡ Headers.Refused j → {r : ℕ} → r ≡ problemRefused header → (k ≡ r) × (0 < r)
+header-refused : (k : ℕ) (a : Problems.Layout) {j : ℕ} {header : Header} → headerOf header ≡ outcome k a → header ≡ Headers.Refused j → {r : ℕ} → r ≡ problemRefused header → (k ≡ r) × (0 < r)
 unfolding problemRefused
-header-refused k a b {j} e f {r} g =
-    let q = answer-refused k a b e f in
+header-refused k a {j} e f {r} g =
+    let q = answer-refused k a e f in
     let same : r ≡ j = g ∙ ap problemRefused f in
     (q .0 ∙ sym same, omega (arith, q .1))
 
@@ -69,11 +71,11 @@ answer-turned p n m a zero e h = absurd (omega arith)
 answer-turned p n m a (suc k) e h = Judging.turned-away e
 
 -- The problem is refused.
-pub judged-problem : (p a : List ℕ) {j r : ℕ} {header : Header} → headerOf header ≡ problemOutcome p → header ≡ Headers.Refused j
+pub judged-problem : (p a : List ℕ) {j r : ℕ} {header : Header} → headerOf header ≡ problemOutcome false p → header ≡ Headers.Refused j
     → r ≡ problemRefused header → Judged p a (refused r)
 unfolding checkRefusal problemOutcome
 judged-problem p a {r = r} e f g =
-    let q = header-refused (problemRefusal p) (nField p) (mField p) e f g in
+    let q = header-refused (problemRefusal p) (layoutOf p) e f g in
     turned p a r (first-counts (problemRefusal p) r (q .0) (q .1)) (q .1)
   where
     first-counts : (k r : ℕ) → k ≡ r → 0 < r → or-else k (answerRefusal a (nField p) (mField p)) ≡ r

@@ -10,12 +10,13 @@ use Rattle.definitions.specs.Problem.{Problem}
 use Rattle.definitions.specs.AnswerRecord.{Answer, known-class, highestPick, answerRefusal, answerOf}
 use Rattle.definitions.specs.Verdict as Verdicts
 use Rattle.definitions.specs.Verdict.{Accepted, not-certified, pointOf, strategyOf}
-use Rattle.answers.specs.declared.answer.AnswerHead.{AnswerHead}
-use Rattle.answers.specs.declared.answer.AnswerHead.the-variants as Heads
+use Rattle.answer_reader.specs.declared.answer.AnswerHead.{AnswerHead}
+use Rattle.answer_reader.specs.declared.answer.AnswerHead.the-variants as Heads
 use Rattle.records.specs.Decoded.{Near}
+use Rattle.records.specs.Stamps.{Stamped}
 use Rattle.checker.specs.declared.check.Verdict.{Verdict}
 use Rattle.checker.specs.declared.check.Verdict.the-variants.{Accepted as Certified, Refused}
-use Rattle.walks.specs.Tables.{Stamped, Picked}
+use Rattle.closed_walks.specs.Tables.{Picked}
 
 -- Document 01's verdict for each case: accepted with class and span, or refused with the number.
 unfoldable pub verdictOf : Verdict → Verdicts.Verdict

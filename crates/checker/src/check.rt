@@ -3,6 +3,7 @@ ghost use mathlib.Core.Path.{_≡_};
 ghost use Prim.Native.Nat.{ℕ, suc, _+_, _≤_, _<_};
 ghost use lib.IntN.{ℤ};
 ghost use lib.ListN.{length, getD};
+ghost use Rattle.base.specs.Decides.{Decides};
 ghost use Rattle.definitions.specs.Limits.{signed-half, span-limit};
 ghost use Rattle.definitions.specs.Tropical.{fin};
 ghost use Rattle.definitions.specs.Offset.{tropOf};
@@ -10,24 +11,30 @@ ghost use Rattle.definitions.specs.ProblemRecord.{problemOf};
 ghost use Rattle.definitions.specs.AnswerRecord.{Answer, highestPick};
 ghost use Rattle.definitions.specs.Certificate.{AcceptedOptimal, AcceptedUnbounded};
 ghost use Rattle.definitions.specs.Verdict.{Accepted, Judged, strategyOf};
-ghost use Rattle.leads.specs.Tables.{Laid};
-ghost use Rattle.walks.specs.Decides.{Decides};
-ghost use Rattle.walks.specs.Tables.{Stamped, Picked, stampsPoint};
+ghost use Rattle.records.specs.Stamps.{Stamped, stampsPoint};
+ghost use Rattle.problem_records.specs.Tables.{Laid};
+ghost use Rattle.closed_walks.specs.Tables.{Picked};
 ghost use Rattle.checker.specs.Outcome.{verdictOf, answerRefused, Span, Meant, Formed, Answered};
-use answers::answer::AnswerHead;
-use answers::answer::read_answer;
-use answers::limits::SPAN_LIMIT;
-use certificates::certify::certify_rows;
-use certificates::certify::certify_variables;
-use leads::reader::judge_problem;
-use leads::reader::read_tables;
-use points::keeps_rules;
-use points::value_is;
+use answer_reader::answer::AnswerHead;
+use answer_reader::answer::read_answer;
+use plan_tests::keeps_rules;
+use plan_tests::lower_point;
+use plan_tests::value_is;
+use problem_records::reader::judge_problem;
+use problem_records::reader::read_tables;
+use records::limits::INFEASIBLE;
 use records::limits::NOT_CERTIFIED;
 use records::limits::OFFSET;
+use records::limits::OPTIMAL;
+use records::limits::ROWS;
+use records::limits::SPAN_LIMIT;
+use records::limits::STRIDE;
 use records::limits::TABLE;
+use records::limits::UNBOUNDED;
 use records::problem::Header;
 use records::problem::problem_refusal;
+use strategy_tests::certify::certify_rows;
+use strategy_tests::certify::certify_variables;
 
 // What the checker answers: accepted, with class and the span's offset number, or refused, with the number.
 pub enum Verdict {
@@ -41,24 +48,25 @@ fn certify_optimal(
     problem: &[u8],
     n: usize,
     m: usize,
-    stamps: &[u64; 32],
-    picks: &[u64; 64],
+    stamps: &[u64; STRIDE],
+    picks: &[u64; ROWS],
     span: u64,
 ) -> bool
     requires { ⌜ Laid (now problem) n m × Stamped (now stamps) × (getD (now stamps) 0 0 ≡ signed-half) × Picked (now picks) (m + 1) × Span span ⌝ }
     ensures { λ r. ⌜ ((z : ℤ) → tropOf span ≡ fin z → Decides (AcceptedOptimal (problemOf (now (problem .entry))) z (stampsPoint (now (stamps .entry))) (strategyOf (now (picks .entry)))) r) ⌝ }
 {
-    if !keeps_rules(problem, n, m, stamps) {
+    let x = lower_point(stamps, n + 1);
+    if !keeps_rules(problem, n, m, &x) {
         return false;
     }
-    if !value_is(problem, n, m, stamps, span) {
+    if !value_is(problem, n, m, &x, span) {
         return false;
     }
     certify_variables(problem, n, m, picks, span - 1)
 }
 
 // Class 2, bottomless: judged at the lowest trial, on tables: a cycle that uses the objective then weighs below zero.
-fn certify_unbounded(problem: &[u8], n: usize, m: usize, picks: &[u64; 64]) -> bool
+fn certify_unbounded(problem: &[u8], n: usize, m: usize, picks: &[u64; ROWS]) -> bool
     requires { ⌜ Laid (now problem) n m × Picked (now picks) (n + 1) ⌝ }
     ensures { λ r. ⌜ Decides (AcceptedUnbounded (problemOf (now (problem .entry))) (strategyOf (now (picks .entry)))) r ⌝ }
 {
@@ -76,17 +84,17 @@ fn certify(
     m: usize,
     class: u64,
     span: u64,
-    stamps: &[u64; 32],
-    picks: &[u64; 64],
+    stamps: &[u64; STRIDE],
+    picks: &[u64; ROWS],
 ) -> bool
     requires { ⌜ Laid (now problem) n m × Formed n m class span (now stamps) (now picks) ⌝ }
     ensures { λ r. ⌜ ((a : Answer) → Meant a class span (now (stamps .entry)) (now (picks .entry)) → Decides (Accepted (problemOf (now (problem .entry))) a) r) ⌝ }
 {
     match class {
-        1 => certify_optimal(problem, n, m, stamps, picks, span),
-        2 => certify_unbounded(problem, n, m, picks),
-        3 => certify_variables(problem, n, m, picks, OFFSET + SPAN_LIMIT),
-        _ => false,
+        OPTIMAL => certify_optimal(problem, n, m, stamps, picks, span),
+        UNBOUNDED => certify_unbounded(problem, n, m, picks),
+        INFEASIBLE => certify_variables(problem, n, m, picks, OFFSET + SPAN_LIMIT),
+        0 | 4.. => false,
     }
 }
 
@@ -105,8 +113,8 @@ fn check_answer(problem: &[u8], n: usize, m: usize, answer: &[u8]) -> Verdict
     requires { ⌜ Laid (now problem) n m ⌝ }
     ensures { λ r. ⌜ Answered (problemOf (now (problem .entry))) n m (now (answer .entry)) (verdictOf r) ⌝ }
 {
-    let mut stamps = [0u64; 32];
-    let mut picks = [0u64; 64];
+    let mut stamps = [0u64; STRIDE];
+    let mut picks = [0u64; ROWS];
     let head = read_answer(answer, n, m, &mut stamps, &mut picks);
     let AnswerHead::Fields(class, span) = head else {
         return Verdict::Refused(answer_refusal(head));
@@ -121,9 +129,9 @@ fn check_answer(problem: &[u8], n: usize, m: usize, answer: &[u8]) -> Verdict
 pub fn check(problem: &[u8], answer: &[u8]) -> Verdict
     ensures { λ r. ⌜ Judged (now (problem .entry)) (now (answer .entry)) (verdictOf r) ⌝ }
 {
-    let header = judge_problem(problem);
-    let Header::Fields(n, m) = header else {
+    let header = judge_problem(problem, false);
+    let Header::Told(layout) = header else {
         return Verdict::Refused(problem_refusal(header));
     };
-    check_answer(problem, n, m, answer)
+    check_answer(problem, layout.n, layout.m, answer)
 }

@@ -11,9 +11,10 @@ use lib.Dec.{T, eqb}
 use lib.IntN.{ℤ, pos, negsuc, negℤ, natAbs, _+ℤ_, _-ℤ_}
 use lib.Signed.{_≤ℤ_, _<ℤ_, leZ}
 use borrow.Author.Tests.{eqb-true, eqb-false, eq-eqb, ne-eqb}
+use Rattle.base.proofs.Numbers.{nat-le-or-lt}
 use Rattle.definitions.specs.Limits.{span-limit, top-trial, lowest-trial, most-trials}
 use Rattle.definitions.specs.Bisection.{Brackets, Bracket, opening, half-up, middle, next, width, Halved, counted, halve, halved, trials-optimal}
-use Rattle.definitions.proofs.Whole.{up, down, whole, le-read, le-show, lt-read, lt-show, plus-read, minus-read, neg-read, abs-read, parts, le-or-lt, nat-le-or-lt}
+use Rattle.definitions.proofs.Whole.{up, down, whole, le-read, le-show, lt-read, lt-show, plus-read, minus-read, neg-read, abs-read, parts, le-or-lt}
 
 -- ---- the middle
 

@@ -11,8 +11,8 @@ use lib.Dec.{ltb}
 use lib.ListN.{length, getD, take, drop, replicate, length-append, length-take, length-map, List·getD-append, List·getD-eq-default, List·getD-map}
 use lib.Seq.{drop-cons, append-snoc, getD-at, getD-append-add, getD-take, getD-drop, take-add, drop-drop}
 use borrow.Author.Tests.{ltb-true}
+use Rattle.base.proofs.Numbers.{nat-le-or-lt}
 use Rattle.definitions.specs.Bytes.{Bytes, numAt, le, numsAt, fields, put, all}
-use Rattle.definitions.proofs.Whole.{nat-le-or-lt}
 
 -- ---- lengths
 
@@ -52,10 +52,6 @@ numAt-front k s t at h = numAt-same k (s ++ t) s at at (λ i l. List·getD-appen
 -- A field in the second of two lists is read from the second.
 pub numAt-back : (k : ℕ) (s t : List ℕ) (n at : ℕ) → length s ≡ n → numAt k (s ++ t) (n + at) ≡ numAt k t at
 numAt-back k s t n at e = numAt-same k (s ++ t) t (n + at) at (λ i l. rw (add-assoc, ← e) (getD-append-add s t (at + i) 0))
-
--- A field inside the first n bytes is read from them.
-pub numAt-take : (k n : ℕ) (s : List ℕ) (at : ℕ) → at + k ≤ n → numAt k (take n s) at ≡ numAt k s at
-numAt-take k n s at h = numAt-same k (take n s) s at at (λ i l. getD-take n s (at + i) 0 (omega arith))
 
 -- A field behind the first d bytes.
 pub numAt-drop : (k d : ℕ) (s : List ℕ) (at : ℕ) → numAt k (drop d s) at ≡ numAt k s (d + at)
@@ -104,18 +100,6 @@ numsAt-same k (suc count) s t at to h =
     ap₂ _∷_
     (numAt-same k s t at to (λ i l. h i (omega arith)))
     (numsAt-same k count s t (at + k) (to + k) (λ i l. simp add-assoc (h (k + i) (omega arith))))
-
--- A run inside the first of two lists is read from the first.
-pub numsAt-front : (k count : ℕ) (s t : List ℕ) (at : ℕ) → at + k * count ≤ length s → numsAt k count (s ++ t) at ≡ numsAt k count s at
-numsAt-front k count s t at h = numsAt-same k count (s ++ t) s at at (λ i l. List·getD-append s t 0 (at + i) (omega arith))
-
--- A run inside the first n bytes is read from them.
-pub numsAt-take : (k count n : ℕ) (s : List ℕ) (at : ℕ) → at + k * count ≤ n → numsAt k count (take n s) at ≡ numsAt k count s at
-numsAt-take k count n s at h = numsAt-same k count (take n s) s at at (λ i l. getD-take n s (at + i) 0 (omega arith))
-
--- A run behind the first d bytes.
-pub numsAt-drop : (k count d : ℕ) (s : List ℕ) (at : ℕ) → numsAt k count (drop d s) at ≡ numsAt k count s (d + at)
-numsAt-drop k count d s at = numsAt-same k count (drop d s) s at (d + at) (λ i l. rw add-assoc (getD-drop d s (at + i) 0))
 
 -- Number i of a run stands k bytes further for each number before it.
 pub getD-numsAt : (k count : ℕ) (s : List ℕ) (at i : ℕ) → i < count → getD (numsAt k count s at) i 0 ≡ numAt k s (at + k * i)

@@ -7,8 +7,8 @@ use native.Mathlib.Omega.{arith}
 use native.Mathlib.Nat.{pow-suc}
 use lib.ListN.{length, getD, length-append, List·getD-append}
 use lib.Seq.{getD-append-add}
+use Rattle.base.proofs.Numbers.{nat-le-or-lt}
 use Rattle.definitions.specs.Programs.{decimal}
-use Rattle.definitions.proofs.Whole.{nat-le-or-lt}
 use Rattle.definitions.proofs.Programs.{decimal-one, decimal-more}
 
 -- What holds of one digit, and of a number where it holds of the tenth part, holds of every number.

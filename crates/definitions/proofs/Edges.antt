@@ -2,18 +2,19 @@
 -- of fields, with its number. The lines that are printed, and document 01's numbers that no list shows.
 use Prim.Native.Nat.{ℕ}
 use mathlib.Core.Path.{_≡_, refl}
+use mathlib.Core.Bool.{true, false}
 use mathlib.Core.List.{List, [], _∷_, map}
 use lib.IntN.{ℤ, pos, negsuc}
-use Rattle.definitions.specs.Limits.{kept-bytes, top-trial, lowest-trial}
+use Rattle.definitions.specs.Limits.{kept-bytes, top-trial, lowest-trial, problem-most, answer-most}
 use Rattle.definitions.specs.Tropical.{Trop, bot, fin}
 use Rattle.definitions.specs.Bytes.{numAt, numsAt, signed, tropField, tropAt, all, blank-or-within, whole-within}
-use Rattle.definitions.specs.ProblemRecord.{headerRefusal, problemRefusal, leadsOf}
+use Rattle.definitions.specs.ProblemRecord.{headerRefusal, headerJudged, problemRefusal, leadsOf, refusalFor}
 use Rattle.definitions.specs.Bisection.{trials-infeasible, trials-unbounded}
 use Rattle.definitions.specs.Verdict.{Verdict, accepted, refused, checkRefusal}
 use Rattle.definitions.specs.Solved.{engineRefusal}
 use Rattle.definitions.specs.Programs.{verdictLine, classWords, refusedLine, decimal, digits, wholeDecimal, spanDecimal, text-refused, text-not-certified, text-accepted, text-least, text-bottomless, text-none}
 use Rattle.definitions.specs.Examples.{example-A}
-use Rattle.definitions.specs.AnswerRecord.{Answer, answerHeaderRefusal, answerRefusal, answerOf, writerRefusal, rightCounts, formRefusal, spanFits, stampsFit, picksFit, is-zero, is-blank}
+use Rattle.definitions.specs.AnswerRecord.{Answer, stampCount, pickCount, highestPick, answerHeaderRefusal, answerHeaderJudged, answerRefusal, answerOf, writerRefusal, writerJudged, rightCounts, formRefusal, spanFits, stampsFit, picksFit, is-zero, is-blank}
 
 -- A problem's bytes and its refusal.
 record Damaged : Type 0 where
@@ -51,7 +52,7 @@ problems =
     []
 
 problems-refused : map (λ d. problemRefusal (d .bytes)) problems ≡ map (λ d. d .number) problems
-unfolding problems problemRefusal headerRefusal leadsOf numAt numsAt all blank-or-within tropField signed
+unfolding problems refusalFor headerRefusal headerJudged leadsOf numAt numsAt all blank-or-within tropField signed
 problems-refused = refl
 
 -- A problem's first bytes, its size, and the refusal of its header.
@@ -72,8 +73,8 @@ headers =
     record { number = 4; size = 274; bytes = (14 ∷ 1 ∷ 0 ∷ 0 ∷ 1 ∷ 0 ∷ 32 ∷ 0 ∷ 0 ∷ 0 ∷ []) } ∷
     []
 
-headers-refused : map (λ d. headerRefusal (d .bytes) (d .size)) headers ≡ map (λ d. d .number) headers
-unfolding headers headerRefusal numAt
+headers-refused : map (λ d. headerRefusal false (d .bytes) (d .size)) headers ≡ map (λ d. d .number) headers
+unfolding headers headerRefusal headerJudged numAt
 headers-refused = refl
 
 -- An answer's bytes, read with n and m, and its refusal.
@@ -140,7 +141,7 @@ answers =
     []
 
 answers-refused : map (λ d. answerRefusal (d .bytes) (d .n) (d .m)) answers ≡ map (λ d. d .number) answers
-unfolding answers answerRefusal answerHeaderRefusal answerOf formRefusal spanFits stampsFit picksFit is-zero is-blank numAt numsAt all blank-or-within whole-within tropField tropAt signed
+unfolding answers answerRefusal answerHeaderRefusal answerHeaderJudged answerOf formRefusal spanFits stampsFit picksFit is-zero is-blank numAt numsAt all blank-or-within whole-within tropField tropAt signed
 answers-refused = refl
 
 -- Fields handed to the writer with n, m and the room of the buffer, and their refusal.
@@ -178,21 +179,21 @@ handed =
     []
 
 handed-refused : map (λ d. writerRefusal (d .answer) (d .n) (d .m) (d .room)) handed ≡ map (λ d. d .number) handed
-unfolding handed writerRefusal rightCounts formRefusal spanFits stampsFit picksFit is-zero is-blank all blank-or-within whole-within
+unfolding handed writerRefusal writerJudged rightCounts formRefusal spanFits stampsFit picksFit is-zero is-blank all blank-or-within whole-within
 handed-refused = refl
 
 -- The engine looks at the problem before the room, the checker at the problem before the answer.
 engine-order : engineRefusal [] 0 ≡ 1
-unfolding engineRefusal problemRefusal headerRefusal numAt
+unfolding engineRefusal refusalFor headerRefusal headerJudged numAt
 engine-order = refl
 
 check-order : checkRefusal [] [] ≡ 1
-unfolding checkRefusal problemRefusal headerRefusal numAt
+unfolding checkRefusal refusalFor headerRefusal headerJudged numAt
 check-order = refl
 
 -- A's problem with a buffer of 205 bytes, and with one of 206.
 engine-room : map (engineRefusal (example-A .problem)) (205 ∷ 206 ∷ []) ≡ 7 ∷ 0 ∷ []
-unfolding engineRefusal problemRefusal headerRefusal leadsOf numAt numsAt all blank-or-within tropField signed example-A
+unfolding engineRefusal refusalFor headerRefusal headerJudged leadsOf numAt numsAt all blank-or-within tropField signed example-A
 engine-room = refl
 
 -- ---- lines
@@ -235,3 +236,12 @@ outer-trials = (refl, refl)
 
 outer-counts : (trials-infeasible ≡ 1) × (trials-unbounded ≡ 2)
 outer-counts = (refl, refl)
+
+-- The largest problem and the largest answer.
+largest-records : (problem-most ≡ 16394) × (answer-most ≡ 206)
+largest-records = (refl, refl)
+
+-- A number that is no class has no stamps and no picks, fits no span, and has no words.
+no-class : (stampCount 4 31 ≡ 0) × (pickCount 4 31 63 ≡ 0) × (highestPick 4 31 63 ≡ 0) × (spanFits 4 bot ≡ false) × (classWords 4 bot ≡ [])
+unfolding spanFits classWords
+no-class = (refl, refl, refl, refl, refl)

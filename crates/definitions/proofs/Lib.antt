@@ -18,7 +18,10 @@ pub mod Decimals
 pub mod Hours
 pub mod Inputs
 pub mod ProblemBack
+pub mod Questions
 pub mod Week
 pub mod WeekFacts
 pub mod Agree
 pub mod Scaling
+pub mod Selection
+pub mod Marks

@@ -8,13 +8,14 @@ use native.Mathlib.Nat.{eq-zero-or-pos}
 use lib.Dec.{eqb, leb}
 use lib.IntN.{ℤ, pos, negsuc, subℕ, natAbs, _+ℤ_, _-ℤ_}
 use lib.Signed.{_≤ℤ_}
-use borrow.Author.Tests.{leb-true, leb-false, eqb-true, eqb-false, ne-eqb, eq-eqb, lt-ltb, le-ltb, le-leb, lt-leb}
+use borrow.Author.Tests.{leb-true, leb-false, eqb-true, ne-eqb, eq-eqb, lt-ltb, le-ltb, le-leb, lt-leb}
+use Rattle.base.proofs.Numbers.{nat-le-or-lt, same-or-not}
 use Rattle.definitions.specs.Limits.{signed-half, signed-full}
 use Rattle.definitions.specs.Tropical.{Trop, bot, fin, plus, _⊑_, blank-least, whole-least, larger}
 use Rattle.definitions.specs.Bytes.{signed, tropField, fieldOf, whole-within, blank-or-within}
 use Rattle.definitions.specs.AnswerRecord.{is-zero, is-blank}
 use Rattle.definitions.specs.Offset.{tropOf, off}
-use Rattle.definitions.proofs.Whole.{up, down, whole, subℕ-read, plus-read, minus-read, abs-read, abs-show, nat-le-or-lt}
+use Rattle.definitions.proofs.Whole.{up, down, whole, subℕ-read, plus-read, minus-read, abs-read, abs-show}
 use Rattle.definitions.proofs.Tropical.{fin-injective, bot-not-fin, fin-below, below-bot, ⊑-refl, ⊑-antisym, plus-bot, larger-left, larger-right, larger-least}
 
 -- ---- what an offset number stands for
@@ -79,14 +80,6 @@ pub field-fin : (w : ℕ) → (w ≡ signed-half → ⊥) → tropField w ≡ fi
 unfolding tropField
 field-fin w h = rw (ne-eqb w signed-half h)
 
--- Two numbers are the same or not.
-same-or-not : (a b : ℕ) → (a ≡ b) ⊎ (a ≡ b → ⊥)
-same-or-not a b = go (eqb a b) refl
-  where
-    go : (t : Bool) → eqb a b ≡ t → (a ≡ b) ⊎ (a ≡ b → ⊥)
-    go true e = inl (eqb-true a b e)
-    go false e = inr (eqb-false a b e)
-
 -- The offset number of a field stands for what the field stands for.
 pub trop-off : (w : ℕ) → w < signed-full → tropOf (off w) ≡ tropField w
 unfolding off
@@ -98,10 +91,6 @@ trop-off w h = ⊎-elim
 -- A number that is blank or less than 2³¹ in size, so that a 4-byte field holds it.
 pub record FitsField (x : Trop) : Type 0 where
   pub size : (z : ℤ) → x ≡ fin z → natAbs z < signed-half
-
--- Blank fits a field.
-pub bot-fits : FitsField bot
-bot-fits = record { size = λ z e. absurd (bot-not-fin e) }
 
 -- A whole number that is blank or within a limit is within it.
 pub within-size : (limit : ℕ) {x : Trop} {z : ℤ} → blank-or-within limit x ≡ true → x ≡ fin z → natAbs z ≤ limit

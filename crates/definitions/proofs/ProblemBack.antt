@@ -8,14 +8,14 @@ use native.Mathlib.Omega.{arith}
 use native.Mathlib.Nat.{mul-le-mul-left, mul-le-mul-right}
 use lib.ListN.{length, getD, length-append, length-map, List·getD-append, List·getD-map}
 use lib.Seq.{getD-at, getD-append-add}
-use Rattle.definitions.specs.Limits.{highest-n, highest-m, lead-limit, length-bytes, short-bytes, signed-bytes, signed-half, signed-full, problem-kind, problem-header}
+use Rattle.base.proofs.Numbers.{nat-le-or-lt}
+use Rattle.definitions.specs.Limits.{highest-n, highest-m, lead-limit, length-bytes, short-bytes, signed-bytes, signed-half, signed-full, problem-kind, problem-header, problem-most}
 use Rattle.definitions.specs.Tropical.{Trop, bot}
 use Rattle.definitions.specs.Problem.{Problem}
 use Rattle.definitions.specs.Bytes.{numAt, numsAt, le, fields, tropField, fieldOf, tropAt, all, blank-or-within}
-use Rattle.definitions.specs.ProblemRecord.{WithinLayout, problemOf, problemSize, problemBytes, rowBytes, rowsBytes, leadsOf, listOf, nField, mField, lengthField, kindField, leftPlace, rightPlace}
-use Rattle.definitions.proofs.Whole.{nat-le-or-lt}
+use Rattle.definitions.specs.ProblemRecord.{WithinLayout, problemOf, problemSize, headerBytes, problemBytes, rowBytes, rowsBytes, leadsOf, listOf, nField, mField, lengthField, kindField, leftPlace, rightPlace}
 use Rattle.definitions.proofs.Bytes.{length-le, length-fields, fields-append, nums-fields, Below, getD-numsAt, all-true}
-use Rattle.definitions.proofs.Refusals.{problem-fits}
+use Rattle.definitions.proofs.Refusals.{problem-fits, leads-one}
 use Rattle.definitions.proofs.RoundTrip.{trops-back, trops-below, num-here, num-past}
 
 -- ---- a function as a list
@@ -122,41 +122,41 @@ pub record ReadsAsItself (p : Problem) : Type 0 where
   pub left-is : (i j : ℕ) → i ≤ p .m → j ≤ p .n → problemOf (problemBytes p) .left i j ≡ p .left i j
   pub right-is : (i j : ℕ) → i ≤ p .m → j ≤ p .n → problemOf (problemBytes p) .right i j ≡ p .right i j
 
--- The ten bytes of a header, and fields behind them.
-module _ (size kind n m : ℕ) (xs : List ℕ) where
-  front : List ℕ
-  front = (le length-bytes size ++ le short-bytes kind) ++ (le short-bytes n ++ le short-bytes m)
+-- The ten bytes of a header, and what stands behind them.
+module _ (n m : ℕ) (rest : List ℕ) where
+  pub length-header : length (headerBytes n m) ≡ problem-header
+  unfolding headerBytes
+  length-header = simp (length-append, length-le)
 
+  pub read-length : problemSize n m - length-bytes < signed-full → lengthField (headerBytes n m ++ rest) ≡ problemSize n m - length-bytes
+  unfolding headerBytes
+  read-length h = simp append-assoc (num-here length-bytes (problemSize n m - length-bytes) _ h)
+
+  pub read-kind : kindField (headerBytes n m ++ rest) ≡ problem-kind
+  unfolding headerBytes
+  read-kind = simp append-assoc (num-past short-bytes length-bytes (problemSize n m - length-bytes) _ 0 ∙ num-here short-bytes problem-kind _ (omega arith))
+
+  pub read-n : n < 65536 → nField (headerBytes n m ++ rest) ≡ n
+  unfolding headerBytes
+  read-n h = simp append-assoc (num-past short-bytes length-bytes (problemSize n m - length-bytes) _ 2 ∙ num-past short-bytes short-bytes problem-kind _ 0 ∙ num-here short-bytes n _ h)
+
+  pub read-m : m < 65536 → mField (headerBytes n m ++ rest) ≡ m
+  unfolding headerBytes
+  read-m h = simp append-assoc (num-past short-bytes length-bytes (problemSize n m - length-bytes) _ 4 ∙ num-past short-bytes short-bytes problem-kind _ 2 ∙ num-past short-bytes short-bytes n _ 0 ∙ num-here short-bytes m _ h)
+
+-- A header, and fields behind it.
+module _ (n m : ℕ) (xs : List ℕ) where
   whole : List ℕ
-  whole = front ++ (fields signed-bytes xs ++ [])
-
-  length-front : length front ≡ problem-header
-  unfolding front
-  length-front = simp (length-append, length-le)
+  whole = headerBytes n m ++ fields signed-bytes xs
 
   length-whole : length whole ≡ problem-header + signed-bytes * length xs
   unfolding whole
-  length-whole = rw (length-append, length-front, length-append, length-fields) (omega arith)
-
-  read-length : size < signed-full → numAt length-bytes whole 0 ≡ size
-  unfolding whole front
-  read-length h = simp append-assoc (num-here length-bytes size _ h)
-
-  read-kind : kind < 65536 → numAt short-bytes whole 4 ≡ kind
-  unfolding whole front
-  read-kind h = simp append-assoc (num-past short-bytes length-bytes size _ 0 ∙ num-here short-bytes kind _ h)
-
-  read-n : n < 65536 → numAt short-bytes whole 6 ≡ n
-  unfolding whole front
-  read-n h = simp append-assoc (num-past short-bytes length-bytes size _ 2 ∙ num-past short-bytes short-bytes kind _ 0 ∙ num-here short-bytes n _ h)
-
-  read-m : m < 65536 → numAt short-bytes whole 8 ≡ m
-  unfolding whole front
-  read-m h = simp append-assoc (num-past short-bytes length-bytes size _ 4 ∙ num-past short-bytes short-bytes kind _ 2 ∙ num-past short-bytes short-bytes n _ 0 ∙ num-here short-bytes m _ h)
+  length-whole = rw (length-append, length-header n m [], length-fields) (omega arith)
 
   read-leads : Below signed-full xs → numsAt signed-bytes (length xs) whole problem-header ≡ xs
   unfolding whole
-  read-leads b = nums-fields signed-bytes xs front [] problem-header length-front b
+  read-leads b =
+      rw (← append-nil (fields signed-bytes xs)) (nums-fields signed-bytes xs (headerBytes n m) [] problem-header (length-header n m []) b)
 
   -- Field k of them.
   read-lead : Below signed-full xs → (k : ℕ) → k < length xs → numAt signed-bytes whole (problem-header + signed-bytes * k) ≡ getD xs k 0
@@ -181,15 +181,15 @@ module _ (p : Problem) (n-most : p .n ≤ highest-n) (m-most : p .m ≤ highest-
   unfolding fields-of
   small = trops-below lead-limit (omega arith) all-leads fit
 
-  size-most : problemSize (p .n) (p .m) ≤ 16394
+  size-most : problemSize (p .n) (p .m) ≤ problem-most
   size-most =
       let wide = mul-le-mul-right {m = suc (p .n)} {n = 32} (suc (p .m)) (omega arith) in
       let high = mul-le-mul-left {m = suc (p .m)} {n = 64} 32 (omega arith) in
       omega (arith, wide, high)
 
-  record-is : problemBytes p ≡ whole (problemSize (p .n) (p .m) - length-bytes) problem-kind (p .n) (p .m) fields-of
-  unfolding problemBytes whole front fields-of all-leads
-  record-is = rw (rows-bytes p (suc (p .m))) (simp (append-assoc, append-nil))
+  record-is : problemBytes p ≡ whole (p .n) (p .m) fields-of
+  unfolding problemBytes whole fields-of all-leads
+  record-is = rw (rows-bytes p (suc (p .m))) refl
 
   -- Lead k of row i stands in its place.
   lead-is : (i k : ℕ) → i ≤ p .m → k < 2 * suc (p .n) → tropAt (problemBytes p) (problem-header + signed-bytes * (2 * (i * suc (p .n)) + k)) ≡ getD (row p i) k (tropField 0)
@@ -197,38 +197,43 @@ module _ (p : Problem) (n-most : p .n ≤ highest-n) (m-most : p .m ≤ highest-
   lead-is i k h g =
       let at : ℕ = 2 * (i * suc (p .n)) + k in
       let inside : 2 * (i * suc (p .n)) + k < length fields-of = rw many (omega (arith, mul-le-mul-right {m = suc i} {n = suc (p .m)} (suc (p .n)) (omega arith))) in
-      let number = read-lead (problemSize (p .n) (p .m) - length-bytes) problem-kind (p .n) (p .m) fields-of small at inside in
+      let number = read-lead (p .n) (p .m) fields-of small at inside in
       let meant : tropField (getD (map fieldOf all-leads) at 0) ≡ getD all-leads at (tropField 0) =
       sym (List·getD-map tropField (map fieldOf all-leads) at 0) ∙ ap (λ (xs : List Trop). getD xs at (tropField 0)) (trops-back lead-limit (omega arith) all-leads fit) in
       rw (record-is, number) (meant ∙ rows-at p (tropField 0) (suc (p .m)) i k (omega arith) g)
 
   read-back : (nField (problemBytes p) ≡ p .n) × (mField (problemBytes p) ≡ p .m)
-  read-back = rw record-is (read-n _ problem-kind (p .n) (p .m) fields-of (omega arith), read-m _ problem-kind (p .n) (p .m) fields-of (omega arith))
+  unfolding whole
+  read-back = rw record-is (read-n (p .n) (p .m) _ (omega arith), read-m (p .n) (p .m) _ (omega arith))
+
+  kind-back : kindField (problemBytes p) ≡ problem-kind
+  unfolding whole
+  kind-back = rw record-is (read-kind (p .n) (p .m) _)
 
   leads-back : leadsOf (problemBytes p) ≡ all-leads
-  unfolding leadsOf fields-of
+  unfolding fields-of
   leads-back =
       let e : 2 * (suc (nField (problemBytes p)) * suc (mField (problemBytes p))) ≡ length fields-of = rw (read-back .0, read-back .1) (sym many) in
-      rw (e, record-is) (ap (map tropField) (read-leads _ problem-kind (p .n) (p .m) fields-of small) ∙ trops-back lead-limit (omega arith) all-leads fit)
+      leads-one (problemBytes p) kind-back ∙ rw (e, record-is) (ap (map tropField) (read-leads (p .n) (p .m) fields-of small) ∙ trops-back lead-limit (omega arith) all-leads fit)
 
   size-is : length (problemBytes p) ≡ problemSize (p .n) (p .m)
-  size-is = rw record-is (length-whole _ problem-kind (p .n) (p .m) fields-of ∙ rw many (omega arith))
+  size-is = rw record-is (length-whole (p .n) (p .m) fields-of ∙ rw many (omega arith))
 
 -- A problem within the limits, written, reads back as itself.
 pub problem-back : (p : Problem) → p .n ≤ highest-n → p .m ≤ highest-m → SmallLeads p → ReadsAsItself p
-unfolding problemOf
+unfolding problemOf whole
 problem-back p n-most m-most l =
     let back = read-back p n-most m-most l in
     let size = size-is p n-most m-most l in
     let most = size-most p n-most m-most l in
     let same = record-is p n-most m-most l in
     let xs : List ℕ = fields-of p n-most m-most l in
-    let long : lengthField (problemBytes p) ≡ problemSize (p .n) (p .m) - length-bytes = rw same (read-length _ problem-kind (p .n) (p .m) xs (omega arith)) in
+    let long : lengthField (problemBytes p) ≡ problemSize (p .n) (p .m) - length-bytes = rw same (read-length (p .n) (p .m) _ (omega arith)) in
     record {
       within = problem-fits (problemBytes p) .1 (record {
         size-enough = omega arith;
         length-is = omega arith;
-        kind-is = rw same (read-kind _ problem-kind (p .n) (p .m) xs (omega arith));
+        kind-is = kind-back p n-most m-most l;
         n-most = omega (arith, back .0);
         m-most = omega (arith, back .1);
         size-is = rw (back .0, back .1) size;

@@ -9,8 +9,8 @@ use native.Mathlib.Nat.{pow-suc}
 use lib.Dec.{ltb}
 use lib.ListN.{length, length-append}
 use borrow.Author.Tests.{lt-ltb, le-ltb}
+use Rattle.base.proofs.Numbers.{nat-le-or-lt}
 use Rattle.definitions.specs.Programs.{digits, decimal}
-use Rattle.definitions.proofs.Whole.{nat-le-or-lt}
 
 digits-one : (turns k : ℕ) → k < 10 → digits (suc turns) k ≡ (48 + k) ∷ []
 unfolding digits

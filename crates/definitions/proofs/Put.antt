@@ -1,23 +1,18 @@
 -- Laws of `put`, the list with values put from a place on. Everything that is said of a written buffer goes through these.
 use Prim.Native.Nat.{ℕ, suc, _+_, _-_, _≤_, _<_}
-use mathlib.Core.Path.{_≡_, sym, subst, _∙_}
+use mathlib.Core.Path.{_≡_, subst, _∙_}
 use mathlib.Core.List.{List, [], _∷_, _++_, append-assoc}
 use native.Mathlib.Omega.{arith}
-use native.Mathlib.Nat.{add-zero, zero-add}
+use native.Mathlib.Nat.{add-zero}
 use native.Mathlib.Numerals.{add-one}
-use lib.ListN.{length, getD, set, take, drop, length-append, length-drop, take-append-drop, List·getD-append}
-use lib.Seq.{length-take-le, take-suc, take-at, take-append-le, take-take, drop-append-add, drop-drop, set-split, getD-take, getD-drop, getD-append-add}
+use lib.ListN.{length, getD, set, take, drop, length-append, length-drop, take-append-drop}
+use lib.Seq.{length-take-le, take-suc, take-at, drop-append-add, drop-drop, set-split, getD-drop}
 use Rattle.definitions.specs.Bytes.{put}
 
 -- Nothing put changes nothing.
 pub put-nil : (l : List ℕ) (at : ℕ) → put l at [] ≡ l
 unfolding put
 put-nil l at = rw (add-zero, take-append-drop)
-
--- Values put at the front stand before the rest.
-pub put-zero : (l vs : List ℕ) → put l 0 vs ≡ vs ++ drop (length vs) l
-unfolding put
-put-zero l vs = rw zero-add
 
 -- A store puts one value.
 pub put-one : (l : List ℕ) (at x : ℕ) → at < length l → set l at x ≡ put l at (x ∷ [])
@@ -44,11 +39,6 @@ module _ (l : List ℕ) (at : ℕ) (vs : List ℕ) (inside : at ≤ length l) wh
   pub take-put : take (at + length vs) (put l at vs) ≡ take at l ++ vs
   take-put = rw put-split (take-at (take at l ++ vs) (drop (at + length vs) l) (at + length vs) front-length)
 
-  -- What stands before the values is as it was.
-  pub take-put-front : (n : ℕ) → n ≤ at → take n (put l at vs) ≡ take n l
-  unfolding put
-  take-put-front n h = rw (take-append-le n (take at l) (vs ++ drop (at + length vs) l) (rw (length-take-le at l inside) h), take-take n at l h)
-
   -- What stands from the end of the values on is as it was.
   pub drop-put : (n : ℕ) → at + length vs ≤ n → drop n (put l at vs) ≡ drop n l
   drop-put n h =
@@ -58,18 +48,6 @@ module _ (l : List ℕ) (at : ℕ) (vs : List ℕ) (inside : at ≤ length l) wh
   -- The length stays where the values fit.
   pub length-put : at + length vs ≤ length l → length (put l at vs) ≡ length l
   length-put h = rw (put-split, length-append, front-length, length-drop) (omega arith)
-
-  -- An element before the values is as it was.
-  pub getD-put-front : (i : ℕ) → i < at → getD (put l at vs) i 0 ≡ getD l i 0
-  getD-put-front i h = sym (getD-take at (put l at vs) i 0 h) ∙ rw (take-put-front at (omega arith)) (getD-take at l i 0 h)
-
-  -- An element of the values.
-  pub getD-put : (i : ℕ) → i < length vs → getD (put l at vs) (at + i) 0 ≡ getD vs i 0
-  unfolding put
-  getD-put i h =
-      let e : length (take at l) ≡ at = length-take-le at l inside in
-      subst (λ (n : ℕ). getD (take at l ++ (vs ++ drop (at + length vs) l)) (n + i) 0 ≡ getD vs i 0) e
-      (getD-append-add (take at l) (vs ++ drop (at + length vs) l) i 0 ∙ List·getD-append vs (drop (at + length vs) l) 0 i h)
 
   -- An element after the values is as it was.
   pub getD-put-after : (i : ℕ) → at + length vs ≤ i → getD (put l at vs) i 0 ≡ getD l i 0

@@ -1,28 +1,24 @@
 -- What it means that nothing is refused: the refusals of problems, answers and the writer as records of facts.
 use Prim.Native.Nat.{ℕ, zero, suc, _+_, _*_, _≤_, _<_}
-use mathlib.Core.Path.{_≡_, refl, ap, sym}
+use mathlib.Core.Path.{_≡_, refl, ap, sym, _∙_}
 use mathlib.Core.Bool.{Bool, true, false, not, cond, _&&_, _||_, and-eq-true-iff, false≢true}
-use mathlib.Core.List.{List, []}
-use mathlib.Core.Logic.{_↔_}
+use mathlib.Core.List.{List, [], map}
+use mathlib.Core.Logic.{_↔_, _⊎_, inl, inr, ⊎-elim}
 use native.Mathlib.Omega.{arith}
-use native.Mathlib.Nat.{mul-le-mul-right}
-use lib.Dec.{eqb, ltb}
+use native.Mathlib.Nat.{mul-le-mul-right, eq-zero-or-pos}
+use lib.Dec.{eqb, ltb, leb}
 use lib.ListN.{length}
 use lib.IntN.{ℤ, natAbs}
-use borrow.Author.Tests.{ltb-false, eqb-true, not-false, le-ltb, eq-eqb}
-use Rattle.definitions.specs.Limits.{highest-n, highest-m, lead-limit, length-bytes, signed-bytes, problem-kind, answer-kind, problem-header, answer-header, answer-most}
+use borrow.Author.Tests.{ltb-false, eqb-true, not-false, le-ltb, le-leb, eq-eqb}
+use Rattle.definitions.specs.Limits.{highest-n, highest-m, lead-limit, length-bytes, signed-bytes, problem-kind, questions-kind, most-questions, answer-kind, problem-header, questions-header, answer-header, answer-most}
 use Rattle.definitions.specs.Tropical.{fin}
-use Rattle.definitions.specs.Bytes.{tropField, tropAt, all, blank-or-within, or-else}
-use Rattle.definitions.specs.ProblemRecord.{problemSize, lengthField, kindField, nField, mField, leadsOf, above-limits, headerRefusal, problemRefusal, WithinLayout, problemOf, leftPlace, rightPlace}
-use Rattle.definitions.specs.AnswerRecord.{Answer, known-class, stampCount, pickCount, highestPick, answerSize, spanFits, stampsFit, picksFit, formRefusal, rightCounts, classField, answerOf, answerHeaderRefusal, answerRefusal, writerRefusal}
+use Rattle.definitions.specs.Bytes.{numsAt, tropField, tropAt, all, blank-or-within, or-else}
+use Rattle.definitions.specs.ProblemRecord.{problemSize, recordSize, lengthField, kindField, nField, mField, countField, leadsPlace, questionsAsked, leadsOf, known-kind, above-limits, wrong-count, headerRefusal, headerJudged, refusalFor, WithinLayout, problemOf, leftPlace, rightPlace}
+use Rattle.definitions.specs.AnswerRecord.{Answer, known-class, stampCount, pickCount, highestPick, answerSize, spanFits, stampsFit, picksFit, formRefusal, rightCounts, classField, answerOf, answerHeaderRefusal, answerHeaderJudged, answerRefusal, writerRefusal, writerJudged}
 use Rattle.definitions.proofs.Bytes.{all-numsAt}
 use Rattle.definitions.proofs.Offset.{within-size}
 
 -- ---- the first of several
-
--- Where the first is none, the second counts.
-pub or-else-zero : (k : ℕ) → or-else 0 k ≡ k
-or-else-zero k = refl
 
 -- Where the first is one, it counts.
 pub or-else-suc : (a b : ℕ) → 0 < a → or-else a b ≡ a
@@ -63,6 +59,10 @@ equal-clause a b n k = clause (not (eqb a b)) (λ e. eqb-true a b (not-false (eq
 pub enough-clause : (a b n k : ℕ) → (cond (ltb a b) (suc n) k ≡ 0) ↔ ((b ≤ a) × (k ≡ 0))
 enough-clause a b n k = clause (ltb a b) (ltb-false a b, le-ltb a b) n k
 
+or-false : (s t : Bool) → ((s || t) ≡ false) ↔ ((s ≡ false) × (t ≡ false))
+or-false true t = (λ e. absurd (false≢true (sym e)), λ h. h .0)
+or-false false t = (λ e. (refl, e), λ h. h .1)
+
 -- A clause of the limits of n and m.
 pub limits-clause : (n m c k : ℕ) → (cond (above-limits n m) (suc c) k ≡ 0) ↔ (((n ≤ highest-n) × (m ≤ highest-m)) × (k ≡ 0))
 limits-clause n m c k =
@@ -73,12 +73,122 @@ limits-clause n m c k =
     )
     c
     k
-  where
-    or-false : (s t : Bool) → ((s || t) ≡ false) ↔ ((s ≡ false) × (t ≡ false))
-    or-false true t = (λ e. absurd (false≢true (sym e)), λ h. h .0)
-    or-false false t = (λ e. (refl, e), λ h. h .1)
 
--- ---- problems
+-- ---- headers and records
+
+-- A clause of a test.
+pub fails-clause : (t : Bool) (n k : ℕ) → (cond t (suc n) k ≡ 0) ↔ ((t ≡ false) × (k ≡ 0))
+fails-clause t n k = clause-none t n k
+
+-- The facts of a header that nothing refuses, of one question or several.
+pub record HeaderPasses (several : Bool) (s : List ℕ) (size : ℕ) : Type 0 where
+  pub size-enough : problem-header ≤ size
+  pub length-is : lengthField s + length-bytes ≡ size
+  pub kind-known : known-kind several (kindField s) ≡ true
+  pub n-most : nField s ≤ highest-n
+  pub m-most : mField s ≤ highest-m
+  pub count-right : wrong-count size (kindField s) (countField s) ≡ false
+  pub size-is : size ≡ recordSize (kindField s) (nField s) (mField s) (countField s)
+
+pub header-passes : (several : Bool) (s : List ℕ) (size : ℕ) → (headerRefusal several s size ≡ 0) ↔ HeaderPasses several s size
+unfolding headerRefusal headerJudged
+header-passes several s size = (passes, none)
+  where
+    passes : headerRefusal several s size ≡ 0 → HeaderPasses several s size
+    passes e =
+        let a = enough-clause size problem-header _ _ .0 e in
+        let b = equal-clause (lengthField s + length-bytes) size _ _ .0 (a .1) in
+        let c = passes-clause (known-kind several (kindField s)) _ _ .0 (b .1) in
+        let d = limits-clause (nField s) (mField s) _ _ .0 (c .1) in
+        let f = fails-clause (wrong-count size (kindField s) (countField s)) _ _ .0 (d .1) in
+        let g = equal-clause size (recordSize (kindField s) (nField s) (mField s) (countField s)) _ _ .0 (f .1) in
+        record {
+          size-enough = a .0;
+          length-is = b .0;
+          kind-known = c .0;
+          n-most = d .0 .0;
+          m-most = d .0 .1;
+          count-right = f .0;
+          size-is = g .0;
+        }
+
+    none : HeaderPasses several s size → headerRefusal several s size ≡ 0
+    none f =
+        enough-clause size problem-header _ _ .1 (
+          f .size-enough,
+          equal-clause _ _ _ _ .1 (
+            f .length-is,
+            passes-clause (known-kind several (kindField s)) _ _ .1 (
+              f .kind-known,
+              limits-clause _ _ _ _ .1 ((f .n-most, f .m-most), fails-clause _ _ _ .1 (f .count-right, equal-clause _ _ _ _ .1 (f .size-is, refl))),
+            ),
+          ),
+        )
+
+-- A record that nothing refuses: its header, and its leads.
+pub record RecordFits (several : Bool) (s : List ℕ) : Type 0 where
+  pub header : HeaderPasses several s (length s)
+  pub leads-fit : all (blank-or-within lead-limit) (leadsOf s) ≡ true
+
+pub record-fits : (several : Bool) (s : List ℕ) → (refusalFor several s ≡ 0) ↔ RecordFits several s
+unfolding refusalFor
+record-fits several s = (
+  λ e.
+      let h = or-else-none (headerRefusal several s (length s)) _ .0 e in
+      record {
+        header = header-passes several s (length s) .0 (h .0);
+        leads-fit = passes-clause (all (blank-or-within lead-limit) (leadsOf s)) _ _ .0 (h .1) .0;
+      },
+  λ f. or-else-none (headerRefusal several s (length s)) _ .1 (header-passes several s (length s) .1 (f .header), passes-clause _ _ _ .1 (f .leads-fit, refl)),
+)
+
+-- ---- kinds
+
+-- An entry that takes one question knows kind 1 alone.
+pub kind-one : (kind : ℕ) → (known-kind false kind ≡ true) ↔ (kind ≡ problem-kind)
+kind-one kind = (λ e. go (eqb kind problem-kind) refl e, λ e. rw (eq-eqb kind problem-kind e))
+  where
+    go : (t : Bool) → eqb kind problem-kind ≡ t → (t || (false && eqb kind questions-kind)) ≡ true → kind ≡ problem-kind
+    go true f e = eqb-true kind problem-kind f
+    go false f e = absurd (false≢true e)
+
+-- One that takes several knows it too, and kind 3.
+pub kind-either : (kind : ℕ) → known-kind true kind ≡ true → (kind ≡ problem-kind) ⊎ (kind ≡ questions-kind)
+kind-either kind e = go (eqb kind problem-kind) (eqb kind questions-kind) refl refl e
+  where
+    go : (t u : Bool) → eqb kind problem-kind ≡ t → eqb kind questions-kind ≡ u → (t || (true && u)) ≡ true → (kind ≡ problem-kind) ⊎ (kind ≡ questions-kind)
+    go true u f g e = inl (eqb-true kind problem-kind f)
+    go false true f g e = inr (eqb-true kind questions-kind g)
+    go false false f g e = absurd (false≢true e)
+
+-- Whatever an entry knows is one of the two.
+pub kind-known : (several : Bool) (kind : ℕ) → known-kind several kind ≡ true → (kind ≡ problem-kind) ⊎ (kind ≡ questions-kind)
+kind-known true kind e = kind-either kind e
+kind-known false kind e = inl (kind-one kind .0 e)
+
+-- A record of kind 3 that passes asks at most 8 questions, and one at least.
+pub record Questions (s : List ℕ) (size : ℕ) : Type 0 where
+  pub some : 0 < countField s
+  pub few : countField s ≤ most-questions
+  pub size-is : size ≡ questions-header + 2 * signed-bytes * (suc (nField s) * (mField s + countField s))
+
+pub few-questions : {several : Bool} (s : List ℕ) (size : ℕ) → kindField s ≡ questions-kind → HeaderPasses several s size → Questions s size
+few-questions s size k h =
+    let size-is : size ≡ questions-header + 2 * signed-bytes * (suc (nField s) * (mField s + countField s)) = rw k at (h .size-is) in
+    let long : leb questions-header size ≡ true = le-leb questions-header size (omega arith) in
+    let right : (eqb (countField s) 0 || ltb most-questions (countField s)) ≡ false = rw (k, long) at (h .count-right) in
+    let both = or-false (eqb (countField s) 0) (ltb most-questions (countField s)) .0 right in
+    record {
+      some = ⊎-elim (λ (z : countField s ≡ 0). absurd (false≢true (sym (both .0) ∙ eq-eqb (countField s) 0 z))) (λ z. z) (eq-zero-or-pos (countField s));
+      few = ltb-false most-questions (countField s) (both .1);
+      size-is = size-is;
+    }
+
+-- The size of a record of kind 1.
+pub size-one : (kind n m count : ℕ) → kind ≡ problem-kind → recordSize kind n m count ≡ problemSize n m
+size-one kind n m count e = rw e (omega arith)
+
+-- ---- problems of one question
 
 -- The facts of a problem record that nothing refuses.
 pub record ProblemFits (s : List ℕ) : Type 0 where
@@ -90,54 +200,67 @@ pub record ProblemFits (s : List ℕ) : Type 0 where
   pub size-is : length s ≡ problemSize (nField s) (mField s)
   pub leads-fit : all (blank-or-within lead-limit) (leadsOf s) ≡ true
 
--- Nothing refuses a problem exactly when these hold.
+-- They are those of a record.
+pub fit-record : (several : Bool) (s : List ℕ) → ProblemFits s → RecordFits several s
+fit-record several s f = record {
+  header = record {
+    size-enough = f .size-enough;
+    length-is = f .length-is;
+    kind-known = rw (f .kind-is) refl;
+    n-most = f .n-most;
+    m-most = f .m-most;
+    count-right = rw (f .kind-is) refl;
+    size-is = f .size-is ∙ sym (size-one (kindField s) (nField s) (mField s) (countField s) (f .kind-is));
+  };
+  leads-fit = f .leads-fit;
+}
+
+-- Nothing refuses a problem exactly when these hold, whether the entry takes several questions too or not.
 pub problem-fits : (s : List ℕ) → WithinLayout s ↔ ProblemFits s
-unfolding problemRefusal headerRefusal
-problem-fits s = (fits, within)
+problem-fits s = (fits, λ f. record-fits false s .1 (fit-record false s f))
   where
     fits : WithinLayout s → ProblemFits s
     fits e =
-        let h = or-else-none (headerRefusal s (length s)) _ .0 e in
-        let a = enough-clause (length s) problem-header _ _ .0 (h .0) in
-        let b = equal-clause (lengthField s + length-bytes) (length s) _ _ .0 (a .1) in
-        let c = equal-clause (kindField s) problem-kind _ _ .0 (b .1) in
-        let d = limits-clause (nField s) (mField s) _ _ .0 (c .1) in
-        let g = equal-clause (length s) (problemSize (nField s) (mField s)) _ _ .0 (d .1) in
-        let l = passes-clause (all (blank-or-within lead-limit) (leadsOf s)) _ _ .0 (h .1) in
+        let r = record-fits false s .0 e in
+        let k = kind-one (kindField s) .0 (r .header .kind-known) in
         record {
-          size-enough = a .0;
-          length-is = b .0;
-          kind-is = c .0;
-          n-most = d .0 .0;
-          m-most = d .0 .1;
-          size-is = g .0;
-          leads-fit = l .0;
+          size-enough = r .header .size-enough;
+          length-is = r .header .length-is;
+          kind-is = k;
+          n-most = r .header .n-most;
+          m-most = r .header .m-most;
+          size-is = r .header .size-is ∙ size-one (kindField s) (nField s) (mField s) (countField s) k;
+          leads-fit = r .leads-fit;
         }
-
-    within : ProblemFits s → WithinLayout s
-    within f =
-        or-else-none (headerRefusal s (length s)) _ .1 (
-          enough-clause (length s) problem-header _ _ .1 (
-            f .size-enough,
-            equal-clause _ _ _ _ .1 (
-              f .length-is,
-              equal-clause _ _ _ _ .1 (f .kind-is, limits-clause _ _ _ _ .1 ((f .n-most, f .m-most), equal-clause _ _ _ _ .1 (f .size-is, refl))),
-            ),
-          ),
-          passes-clause _ _ _ .1 (f .leads-fit, refl),
-        )
 
 -- ---- leads
 
--- Each lead of a problem within the layout is blank or within the limit.
-pub lead-within : (s : List ℕ) → WithinLayout s → (k : ℕ) → k < 2 * (suc (nField s) * suc (mField s))
-    → blank-or-within lead-limit (tropAt s (problem-header + signed-bytes * k)) ≡ true
+-- Each lead of a record that nothing refuses is blank or within the limit.
+pub record-lead : (several : Bool) (s : List ℕ) → refusalFor several s ≡ 0 → (k : ℕ) → k < 2 * (suc (nField s) * (mField s + questionsAsked (kindField s) (countField s)))
+    → blank-or-within lead-limit (tropAt s (leadsPlace (kindField s) + signed-bytes * k)) ≡ true
 unfolding leadsOf tropAt
-lead-within s w k h =
-    all-numsAt (blank-or-within lead-limit) tropField signed-bytes (2 * (suc (nField s) * suc (mField s))) s problem-header .0
-    (problem-fits s .0 w .leads-fit)
+record-lead several s w k h =
+    all-numsAt (blank-or-within lead-limit) tropField signed-bytes (2 * (suc (nField s) * (mField s + questionsAsked (kindField s) (countField s)))) s (leadsPlace (kindField s)) .0
+    (record-fits several s .0 w .leads-fit)
     k
     h
+
+-- The leads of a record of kind 1.
+pub leads-one : (s : List ℕ) → kindField s ≡ problem-kind → leadsOf s ≡ map tropField (numsAt signed-bytes (2 * (suc (nField s) * suc (mField s))) s problem-header)
+unfolding leadsOf
+leads-one s e =
+    let place : leadsPlace (kindField s) ≡ problem-header = rw e refl in
+    let count : 2 * (suc (nField s) * (mField s + questionsAsked (kindField s) (countField s))) ≡ 2 * (suc (nField s) * suc (mField s)) = rw e (omega arith) in
+    rw (place, count)
+
+-- Each lead of a problem within the layout is.
+pub lead-within : (s : List ℕ) → WithinLayout s → (k : ℕ) → k < 2 * (suc (nField s) * suc (mField s))
+    → blank-or-within lead-limit (tropAt s (problem-header + signed-bytes * k)) ≡ true
+lead-within s w k h =
+    let e = problem-fits s .0 w .kind-is in
+    let place : leadsPlace (kindField s) ≡ problem-header = rw e refl in
+    let count : questionsAsked (kindField s) (countField s) ≡ 1 = rw e refl in
+    rw place at (record-lead false s w k (rw count (omega arith)))
 
 -- Lead k of row i, of the left ones and the right ones counted together, stands at this place among all leads.
 pub lead-inside : (n m i k : ℕ) → i ≤ m → k < 2 * suc n → 2 * (i * suc n) + k < 2 * (suc n * suc m)
@@ -201,7 +324,7 @@ pub record AnswerFits (s : List ℕ) (n m : ℕ) : Type 0 where
 
 -- Nothing refuses an answer exactly when these hold.
 pub answer-fits : (s : List ℕ) (n m : ℕ) → (answerRefusal s n m ≡ 0) ↔ AnswerFits s n m
-unfolding answerRefusal answerHeaderRefusal
+unfolding answerRefusal answerHeaderRefusal answerHeaderJudged
 answer-fits s n m = (fits, within)
   where
     fits : answerRefusal s n m ≡ 0 → AnswerFits s n m
@@ -255,7 +378,7 @@ pub record WriterFits (a : Answer) (n m room : ℕ) : Type 0 where
 
 -- The writer refuses nothing exactly when these hold.
 pub writer-fits : (a : Answer) (n m room : ℕ) → (writerRefusal a n m room ≡ 0) ↔ WriterFits a n m room
-unfolding writerRefusal rightCounts
+unfolding writerRefusal writerJudged rightCounts
 writer-fits a n m room = (fits, within)
   where
     fits : writerRefusal a n m room ≡ 0 → WriterFits a n m room

@@ -9,11 +9,11 @@ use lib.ListN.{length, getD, drop, length-append, length-map, take-append-drop, 
 use lib.IntN.{natAbs}
 use lib.Seq.{drop-drop}
 use borrow.Author.Tests.{leb-true, le-leb, eqb-true}
-use Rattle.definitions.specs.Limits.{span-limit, stamp-limit, length-bytes, short-bytes, signed-bytes, signed-half, signed-full, answer-kind, class-optimal, class-unbounded, answer-header, answer-most, highest-n, highest-m}
+use Rattle.definitions.specs.Limits.{span-limit, stamp-limit, length-bytes, short-bytes, signed-bytes, signed-half, signed-full, answer-kind, class-optimal, class-unbounded, class-infeasible, answer-header, answer-most, highest-n, highest-m, table-rows}
 use Rattle.definitions.specs.Tropical.{Trop, bot, fin}
 use Rattle.definitions.specs.Bytes.{Bytes, numAt, numsAt, le, fields, tropField, fieldOf, tropAt, all, whole-within, blank-or-within}
 use Rattle.definitions.specs.ProblemRecord.{lengthField, kindField, nField}
-use Rattle.definitions.specs.AnswerRecord.{Answer, known-class, stampCount, pickCount, highestPick, answerSize, is-zero, is-blank, spanFits, stampsFit, picksFit, classField, spanField, answerOf, answerBytes, answerRefusal, writerRefusal}
+use Rattle.definitions.specs.AnswerRecord.{Answer, known-class, by-class, stampCount, pickCount, highestPick, answerSize, is-zero, is-blank, spanFits, stampsFit, picksFit, classField, spanField, answerOf, answerBytes, answerRefusal, writerRefusal}
 use Rattle.definitions.proofs.Bytes.{length-le, length-fields, length-numsAt, numAt-back, num-le, numAt-bound, le-num, Below, numsAt-below, nums-fields, fields-nums, all-true, bytes-append, bytes-le, bytes-fields}
 use Rattle.definitions.proofs.Offset.{FitsField, within-fits, fieldOf-bound, tropField-fieldOf, fieldOf-tropField}
 use Rattle.definitions.proofs.Refusals.{WriterFits, answer-fits, writer-fits}
@@ -48,15 +48,26 @@ fields-back (x ∷ xs) b =
 
 -- ---- what the form gives
 
+-- What holds of each class, and where there is none, holds of what a class number gives.
+pub by-class-each : {A : Type 0} (P : A → Type 0) (class : ℕ) {least bottomless none no-class : A} → P least → P bottomless → P none → P no-class
+    → P (by-class class least bottomless none no-class)
+by-class-each P class {least} {bottomless} {none} {no-class} p q r s = go (eqb class class-optimal) (eqb class class-unbounded) (eqb class class-infeasible)
+  where
+    go : (a b c : Bool) → P (cond a least (cond b bottomless (cond c none no-class)))
+    go true b c = p
+    go false true c = q
+    go false false true = r
+    go false false false = s
+
 -- A span that has its form is blank or within its limit.
 pub span-within : (class : ℕ) (x : Trop) → spanFits class x ≡ true → blank-or-within span-limit x ≡ true
 unfolding spanFits whole-within is-blank blank-or-within
 span-within class bot e = refl
-span-within class (fin z) e = go (eqb class class-optimal) e
+span-within class (fin z) e =
+    by-class-each (λ (t : Bool). t ≡ true → leb (natAbs z) span-limit ≡ true) class (λ t. t) false≢true-at false≢true-at false≢true-at e
   where
-    go : (t : Bool) → cond t (leb (natAbs z) span-limit) false ≡ true → leb (natAbs z) span-limit ≡ true
-    go true e = e
-    go false e = absurd (false≢true e)
+    false≢true-at : false ≡ true → leb (natAbs z) span-limit ≡ true
+    false≢true-at t = absurd (false≢true t)
 
 -- Stamps that have their form are blank or within their limit, stamp 0 among them.
 pub stamps-within : (xs : List Trop) → stampsFit xs ≡ true → all (blank-or-within stamp-limit) xs ≡ true
@@ -86,21 +97,18 @@ class-most class e = go (eqb class 1) (eqb class 2) (eqb class 3) refl refl refl
 
 -- An answer has at most 206 bytes.
 pub size-most : (class n m : ℕ) → n ≤ highest-n → m ≤ highest-m → answerSize class n m ≤ answer-most
-size-most class n m h k = go (eqb class class-optimal) (eqb class class-unbounded) refl refl
+size-most class n m h k = go (eqb class class-optimal) (eqb class class-unbounded) (eqb class class-infeasible)
   where
-    go : (s t : Bool) → eqb class class-optimal ≡ s → eqb class class-unbounded ≡ t → 14 + 4 * cond s (suc n) 0 + 2 * cond t (suc m) (suc n) ≤ 206
-    go true true a b = omega (arith, eqb-true class class-optimal a, eqb-true class class-unbounded b)
-    go true false a b = omega arith
-    go false true a b = omega arith
-    go false false a b = omega arith
+    go : (r s t : Bool)
+        → answer-header + signed-bytes * cond r (suc n) (cond s 0 (cond t 0 0)) + short-bytes * cond r (suc n) (cond s (suc m) (cond t (suc n) 0)) ≤ answer-most
+    go true s t = omega arith
+    go false true t = omega arith
+    go false false true = omega arith
+    go false false false = omega arith
 
 -- No pick is above 64.
-pub highest-most : (class n m : ℕ) → n ≤ highest-n → m ≤ highest-m → highestPick class n m ≤ 64
-highest-most class n m h k = go (eqb class class-unbounded)
-  where
-    go : (t : Bool) → cond t (suc n) (suc m) ≤ 64
-    go true = omega arith
-    go false = omega arith
+pub highest-most : (class n m : ℕ) → n ≤ highest-n → m ≤ highest-m → highestPick class n m ≤ table-rows
+highest-most class n m h k = by-class-each (λ k. k ≤ table-rows) class (omega arith) (omega arith) (omega arith) (omega arith)
 
 -- ---- from an answer to its bytes and back
 

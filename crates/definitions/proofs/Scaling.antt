@@ -12,7 +12,7 @@ use Rattle.definitions.specs.ProblemRecord.{nField, mField, leadsOf, lef
 use Rattle.definitions.specs.Scaling.{times, scaled, GainsNothing, ScaledRecord}
 use Rattle.definitions.specs.Examples.{example-E}
 use Rattle.definitions.proofs.Whole.{whole, neg-read}
-use Rattle.definitions.proofs.Refusals.{lead-inside}
+use Rattle.definitions.proofs.Refusals.{lead-inside, leads-one}
 use Rattle.definitions.proofs.Agree.{Agree}
 
 -- Field by field: where the leads of a run are d times those of another, each is.
@@ -34,10 +34,10 @@ module _ {d : ℕ} {s t : List ℕ} (r : ScaledRecord d s t) where
   lead-scaled :
       (k : ℕ) → k < 2 * (suc (nField s) * suc (mField s))
       → tropAt t (problem-header + signed-bytes * k) ≡ times d (tropAt s (problem-header + signed-bytes * k))
-  unfolding leadsOf tropAt
+  unfolding tropAt
   lead-scaled k h =
       run-scaled d signed-bytes (2 * (suc (nField s) * suc (mField s))) s t problem-header
-      (rw (r .same-n, r .same-m) at (r .leads)) k h
+      (rw (leads-one t (r .kind), leads-one s (r .of-kind), r .same-n, r .same-m) at (r .leads)) k h
 
   pub record-agrees : Agree (scaled d (problemOf s)) (problemOf t)
   unfolding problemOf
@@ -63,7 +63,7 @@ half-minutes-E = 38 ∷ 0 ∷ 0 ∷ 0 ∷ 1 ∷ 0 ∷ 1 ∷ 0 ∷ 1 ∷ 0 ∷ 60
 
 scaled-E : ScaledRecord 2 (example-E .problem) half-minutes-E
 unfolding half-minutes-E example-E leadsOf numAt numsAt tropField signed times
-scaled-E = record { same-n = refl; same-m = refl; leads = refl }
+scaled-E = record { of-kind = refl; kind = refl; same-n = refl; same-m = refl; leads = refl }
 
 -- With one part a minute nothing changes.
 once : (a : ℤ) → pos 1 *ℤ a ≡ a

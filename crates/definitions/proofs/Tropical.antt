@@ -7,6 +7,7 @@ use native.Mathlib.Omega.{arith}
 use lib.Dec.{T}
 use lib.IntN.{ℤ, pos, negsuc, negℤ, _+ℤ_, _-ℤ_, +ℤ-assoc, +ℤ-comm, +ℤ-idl, +ℤ-idr}
 use lib.Signed.{_≤ℤ_, _<ℤ_, leZ, ≤ℤ-refl}
+use Rattle.base.proofs.Numbers.{nat-le-or-lt}
 use Rattle.definitions.specs.Tropical.{Trop, bot, fin, plus, _⊑_, blank-least, whole-least, larger, largest, Finite}
 use Rattle.definitions.proofs.Whole.{up, down, le-read, le-show, whole, plus-read, minus-read, le-or-lt}
 
@@ -229,7 +230,7 @@ largest-above f (suc k) j h =
     (last-or-before j k h)
   where
     last-or-before : (j k : ℕ) → j < suc k → (j ≡ k) ⊎ (j < k)
-    last-or-before j k h = ⊎-elim (λ (l : k ≤ j). inl (omega arith)) (λ (l : j < k). inr l) (Rattle.definitions.proofs.Whole.nat-le-or-lt k j)
+    last-or-before j k h = ⊎-elim (λ (l : k ≤ j). inl (omega arith)) (λ (l : j < k). inr l) (nat-le-or-lt k j)
 
 -- It is at most whatever all are at most.
 pub largest-least : (f : ℕ → Trop) (k : ℕ) {z : Trop} → ((j : ℕ) → j < k → f j ⊑ z) → largest f k ⊑ z

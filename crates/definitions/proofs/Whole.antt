@@ -10,15 +10,8 @@ use native.Mathlib.Nat as NatL
 use lib.Dec.{T, ltb, leb, ltb→lt, leb→le, lt→ltb, le→leb}
 use lib.IntN.{ℤ, pos, negsuc, subℕ, negℤ, natAbs, _+ℤ_, _-ℤ_}
 use lib.Signed.{_≤ℤ_, _<ℤ_, leZ, ltZ}
-use borrow.Author.Tests.{ltb-true, ltb-false, leb-true, leb-false}
-
--- Natural numbers are ordered one way or the other.
-pub nat-le-or-lt : (a b : ℕ) → (a ≤ b) ⊎ (b < a)
-nat-le-or-lt a b = go (leb a b) refl
-  where
-    go : (t : Bool) → leb a b ≡ t → (a ≤ b) ⊎ (b < a)
-    go true e = inl (leb-true a b e)
-    go false e = inr (leb-false a b e)
+use borrow.Author.Tests.{ltb-true, ltb-false}
+use Rattle.base.proofs.Numbers.{nat-le-or-lt}
 
 abbrev pub up : ℤ → ℕ
 up (pos n) = n

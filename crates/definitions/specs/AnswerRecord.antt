@@ -7,10 +7,10 @@ use mathlib.Core.List.{List, [], _∷_, _++_, map}
 use lib.Dec.{eqb, ltb, leb}
 use lib.ListN.{length}
 use lib.IntN.{ℤ, pos, natAbs}
-use Rattle.definitions.specs.Limits.{span-limit, stamp-limit, length-bytes, short-bytes, signed-bytes, class-place, span-place, answer-kind, class-optimal, class-unbounded, class-infeasible, answer-header, answer-most}
+use Rattle.definitions.specs.Limits.{span-limit, stamp-limit, length-bytes, short-bytes, signed-bytes, class-place, span-place, answer-kind, class-optimal, class-unbounded, class-infeasible, answer-header, answer-most, refused-room, refused-answer-short, refused-answer-length, refused-answer-class, refused-answer-size, refused-form, refused-pick}
 use Rattle.definitions.specs.Tropical.{Trop, bot, fin}
 use Rattle.definitions.specs.Bytes.{numAt, numsAt, le, fields, tropField, fieldOf, tropAt, put, all, whole-within, blank-or-within, Clause, first, or-else, Outcome, outcome}
-use Rattle.definitions.specs.ProblemRecord.{above-limits, lengthField, kindField, nField}
+use Rattle.definitions.specs.ProblemRecord.{limitsRefused, lengthField, kindField, nField}
 
 -- The fields of an answer: class, span, and by class stamps and picks.
 pub record Answer : Type 0 where
@@ -23,17 +23,24 @@ pub record Answer : Type 0 where
 abbrev pub known-class : ℕ → Bool
 known-class class = eqb class class-optimal || (eqb class class-unbounded || eqb class class-infeasible)
 
+-- What a class number gives: for least, for bottomless, for none, and for a number that is no class.
+abbrev pub by-class : {A : Type 0} → ℕ → A → A → A → A → A
+by-class class least bottomless none no-class =
+    cond (eqb class class-optimal) least
+    (cond (eqb class class-unbounded) bottomless
+    (cond (eqb class class-infeasible) none no-class))
+
 -- How many stamps an answer of this class has: n + 1 for least, else none.
 abbrev pub stampCount : ℕ → ℕ → ℕ
-stampCount class n = cond (eqb class class-optimal) (suc n) 0
+stampCount class n = by-class class (suc n) 0 0 0
 
--- How many picks: one a row for bottomless, else one a moment.
+-- How many picks: one a row for bottomless, one a moment for least and none.
 abbrev pub pickCount : ℕ → ℕ → ℕ → ℕ
-pickCount class n m = cond (eqb class class-unbounded) (suc m) (suc n)
+pickCount class n m = by-class class (suc n) (suc m) (suc n) 0
 
--- The highest pick: 1 + a moment's number for bottomless, else m + 1, the question.
+-- The highest pick: 1 + a moment's number for bottomless, m + 1, the question, for least and none.
 abbrev pub highestPick : ℕ → ℕ → ℕ → ℕ
-highestPick class n m = cond (eqb class class-unbounded) (suc n) (suc m)
+highestPick class n m = by-class class (suc m) (suc n) (suc m) 0
 
 -- Sizes: 14 + 6 (n + 1), 14 + 2 (m + 1), 14 + 2 (n + 1).
 abbrev pub answerSize : ℕ → ℕ → ℕ → ℕ
@@ -50,9 +57,9 @@ unfoldable pub is-blank : Trop → Bool
 is-blank bot = true
 is-blank (fin z) = false
 
--- The span's form: whole and within ±645,120 for least, else blank.
+-- The span's form: whole and within ±645,120 for least, blank for bottomless and none.
 unfoldable pub spanFits : ℕ → Trop → Bool
-spanFits class span = cond (eqb class class-optimal) (whole-within span-limit span) (is-blank span)
+spanFits class span = by-class class (whole-within span-limit span) (is-blank span) (is-blank span) false
 
 -- The stamps' form: stamp 0 is 0, the others are blank or within ±2,000,000. Classes 2 and 3 have none.
 unfoldable pub stampsFit : List Trop → Bool
@@ -67,13 +74,16 @@ picksFit highest picks = all (λ pick. leb pick highest) picks
 unfoldable pub formRefusal : Answer → ℕ → ℕ → ℕ
 formRefusal a n m =
     first
-    (record { applies = not (spanFits (a .class) (a .span) && stampsFit (a .stamps)); number = 12 }
-    ∷ record { applies = not (picksFit (highestPick (a .class) n m) (a .picks)); number = 13 }
+    (record { applies = not (spanFits (a .class) (a .span) && stampsFit (a .stamps)); number = refused-form }
+    ∷ record { applies = not (picksFit (highestPick (a .class) n m) (a .picks)); number = refused-pick }
     ∷ [])
 
--- As many stamps and as many picks as the class has.
+-- As many stamps and as many picks as the class has: on numbers, and of an answer.
+abbrev pub counts-fit : ℕ → ℕ → ℕ → ℕ → ℕ → Bool
+counts-fit class stamps picks n m = eqb stamps (stampCount class n) && eqb picks (pickCount class n m)
+
 unfoldable pub rightCounts : Answer → ℕ → ℕ → Bool
-rightCounts a n m = eqb (length (a .stamps)) (stampCount (a .class) n) && eqb (length (a .picks)) (pickCount (a .class) n m)
+rightCounts a n m = counts-fit (a .class) (length (a .stamps)) (length (a .picks)) n m
 
 -- ---- bytes
 
@@ -103,16 +113,20 @@ answerBytes n a =
 
 -- ---- refusals
 
+-- The first of refusals 4 and 8 to 11 on numbers: the size, the header's length, kind, n and class, and the problem's n and m.
+unfoldable pub answerHeaderJudged : ℕ → ℕ → ℕ → ℕ → ℕ → ℕ → ℕ → ℕ
+answerHeaderJudged size length kind own class n m =
+    first
+    (limitsRefused n m
+    ∷ record { applies = ltb size answer-header; number = refused-answer-short }
+    ∷ record { applies = not (eqb (length + length-bytes) size); number = refused-answer-length }
+    ∷ record { applies = not (eqb kind answer-kind && known-class class); number = refused-answer-class }
+    ∷ record { applies = not (eqb own n && eqb size (answerSize class n m)); number = refused-answer-size }
+    ∷ [])
+
 -- Refusals 4 and 8 to 11 concern the first bytes of an answer, its size, and the problem's n and m.
 unfoldable pub answerHeaderRefusal : List ℕ → ℕ → ℕ → ℕ → ℕ
-answerHeaderRefusal s size n m =
-    first
-    (record { applies = above-limits n m; number = 4 }
-    ∷ record { applies = ltb size answer-header; number = 8 }
-    ∷ record { applies = not (eqb (lengthField s + length-bytes) size); number = 9 }
-    ∷ record { applies = not (eqb (kindField s) answer-kind && known-class (classField s)); number = 10 }
-    ∷ record { applies = not (eqb (nField s) n && eqb size (answerSize (classField s) n m)); number = 11 }
-    ∷ [])
+answerHeaderRefusal s size n m = answerHeaderJudged size (lengthField s) (kindField s) (nField s) (classField s) n m
 
 -- The first of refusals 4 and 8 to 13 that applies to an answer read with the problem's n and m, 0 where none does.
 unfoldable pub answerRefusal : List ℕ → ℕ → ℕ → ℕ
@@ -126,18 +140,26 @@ answerHeaderOutcome s size n m = outcome (answerHeaderRefusal s size n m) (class
 unfoldable pub answerOutcome : List ℕ → ℕ → ℕ → Outcome (ℕ × Trop)
 answerOutcome s n m = outcome (answerRefusal s n m) (classField s, spanField s)
 
+-- Refusal 7: the answer buffer, of `room` bytes, is shorter than the largest answer.
+abbrev pub roomRefused : ℕ → Clause
+roomRefused room = record { applies = ltb room answer-most; number = refused-room }
+
+-- The first of refusals 4, 7, 10 and 11 on numbers: the class, how many stamps and picks, the problem's n and m, and the
+-- buffer's size. Stamps or picks in another count than the class has get 11.
+unfoldable pub writerJudged : ℕ → ℕ → ℕ → ℕ → ℕ → ℕ → ℕ
+writerJudged class stamps picks n m room =
+    first
+    (limitsRefused n m
+    ∷ roomRefused room
+    ∷ record { applies = not (known-class class); number = refused-answer-class }
+    ∷ record { applies = not (counts-fit class stamps picks n m); number = refused-answer-size }
+    ∷ [])
+
 -- The first of refusals 4, 7 and 10 to 13 that applies to fields handed to the writer with n, m and a buffer of `room`
--- bytes, 0 where none does. Stamps or picks in another count than the class has get 11.
+-- bytes, 0 where none does.
 unfoldable pub writerRefusal : Answer → ℕ → ℕ → ℕ → ℕ
 writerRefusal a n m room =
-    or-else
-    (first
-    (record { applies = above-limits n m; number = 4 }
-    ∷ record { applies = ltb room answer-most; number = 7 }
-    ∷ record { applies = not (known-class (a .class)); number = 10 }
-    ∷ record { applies = not (rightCounts a n m); number = 11 }
-    ∷ []))
-    (formRefusal a n m)
+    or-else (writerJudged (a .class) (length (a .stamps)) (length (a .picks)) n m room) (formRefusal a n m)
 
 -- What the writer gives: the record's size, or the first of its refusals.
 unfoldable pub writerOutcome : Answer → ℕ → ℕ → ℕ → Outcome ℕ

@@ -5,6 +5,7 @@ pub mod Certificate
 pub mod Bytes
 pub mod Offset
 pub mod ProblemRecord
+pub mod Questions
 pub mod AnswerRecord
 pub mod Bisection
 pub mod Verdict
@@ -15,3 +16,5 @@ pub mod Demands
 pub mod Examples
 pub mod Week
 pub mod Scaling
+pub mod Selection
+pub mod Marks

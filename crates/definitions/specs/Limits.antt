@@ -1,5 +1,5 @@
--- The numbers of documents 01 and 02, each once; those that follow from others are derived. (Refusals have their numbers where
--- they are listed, in ProblemRecord, AnswerRecord, Solved, Verdict, Hours and Week, and the two outer trials are counted in Bisection.)
+-- The numbers of documents 01 and 02, each once; those that follow from others are derived. (Refusals 14, 18 and 19 are named in
+-- Verdict, Hours and Week, and the two outer trials are counted in Bisection.)
 use Prim.Native.Nat.{ℕ, suc, _+_, _*_}
 use lib.IntN.{ℤ, pos, negsuc}
 
@@ -37,6 +37,9 @@ most-trials = 23
 abbrev pub byte-values : ℕ
 byte-values = 256
 
+abbrev pub short-full : ℕ
+short-full = byte-values * byte-values
+
 -- The size of a length field, and of the fields of 2 bytes and of 4 bytes.
 abbrev pub length-bytes : ℕ
 length-bytes = 4
@@ -52,7 +55,7 @@ abbrev pub signed-half : ℕ
 signed-half = 2147483648
 
 abbrev pub signed-full : ℕ
-signed-full = 4294967296
+signed-full = 2 * signed-half
 
 -- Places in a record's header: the length, the kind, n; then m of a problem, or class and span of an answer.
 abbrev pub kind-place : ℕ
@@ -77,6 +80,13 @@ problem-kind = 1
 abbrev pub answer-kind : ℕ
 answer-kind = 2
 
+-- Document 02, 2.1: a problem of several questions, and the most of them.
+abbrev pub questions-kind : ℕ
+questions-kind = 3
+
+abbrev pub most-questions : ℕ
+most-questions = 8
+
 -- Classes of answers: least, bottomless, none.
 abbrev pub class-optimal : ℕ
 class-optimal = 1
@@ -94,9 +104,48 @@ problem-header = m-place + short-bytes
 abbrev pub answer-header : ℕ
 answer-header = span-place + signed-bytes
 
+-- Document 02, 2.1: a problem of kind 3 has the count of its questions after m, so that its leads start at 12.
+abbrev pub count-place : ℕ
+count-place = m-place + short-bytes
+
+abbrev pub questions-header : ℕ
+questions-header = count-place + short-bytes
+
 -- The largest answer record, 206 bytes: n = 31, class 1. A shorter answer buffer is refused, whichever class is due.
 abbrev pub answer-most : ℕ
 answer-most = answer-header + (signed-bytes + short-bytes) * suc highest-n
+
+-- Tables of a problem: as many columns as it has variables at most, 32, and as many rows as it has rules and the question at most,
+-- 64; the elements of a table, 2,048, and those of a table of arcs between variables, 1,024.
+abbrev pub stride : ℕ
+stride = suc highest-n
+
+abbrev pub table-rows : ℕ
+table-rows = suc highest-m
+
+abbrev pub table-size : ℕ
+table-size = table-rows * stride
+
+abbrev pub arcs-size : ℕ
+arcs-size = stride * stride
+
+-- The most leads of a problem, 4,096, the place of its last row, 16,138, and the largest problem record, 16,394 bytes.
+abbrev pub leads-most : ℕ
+leads-most = 2 * table-size
+
+abbrev pub last-row : ℕ
+last-row = problem-header + 2 * signed-bytes * (highest-m * stride)
+
+abbrev pub problem-most : ℕ
+problem-most = problem-header + signed-bytes * leads-most
+
+-- The most leads of a record of several questions, 4,544, and where these end behind ten bytes, 18,186 (in the record they start two
+-- bytes later).
+abbrev pub questions-leads : ℕ
+questions-leads = 2 * (stride * (highest-m + most-questions))
+
+abbrev pub questions-row : ℕ
+questions-row = problem-header + signed-bytes * questions-leads
 
 -- How many bytes of their input the programs keep.
 abbrev pub kept-bytes : ℕ
@@ -128,3 +177,61 @@ most-windows = 14
 -- Document 02, 2.8: "a minute to be looked up beyond ±6,000,000".
 abbrev pub minute-limit : ℕ
 minute-limit = 6000000
+
+-- ---- refusals, as document 01 counts them under "What is turned away" and document 02 goes on
+
+-- The problem has fewer than 10 bytes.
+abbrev pub refused-short : ℕ
+refused-short = 1
+
+-- Its length field is not its size − 4.
+abbrev pub refused-length : ℕ
+refused-length = 2
+
+-- Its kind is not one that the entry knows.
+abbrev pub refused-kind : ℕ
+refused-kind = 3
+
+-- n is above 31 or m above 63.
+abbrev pub refused-limits : ℕ
+refused-limits = 4
+
+-- Its size does not fit its kind, n and m.
+abbrev pub refused-size : ℕ
+refused-size = 5
+
+-- A lead is neither blank nor within ±10,080.
+abbrev pub refused-lead : ℕ
+refused-lead = 6
+
+-- Document 02, 2.1: the count of questions is 0 or above 8.
+abbrev pub refused-count : ℕ
+refused-count = 15
+
+-- The answer buffer is shorter than 206 bytes, whichever class is due.
+abbrev pub refused-room : ℕ
+refused-room = 7
+
+-- The answer has fewer than 14 bytes.
+abbrev pub refused-answer-short : ℕ
+refused-answer-short = 8
+
+-- Its length field is not its size − 4.
+abbrev pub refused-answer-length : ℕ
+refused-answer-length = 9
+
+-- Its kind is not 2 or its class not 1 to 3.
+abbrev pub refused-answer-class : ℕ
+refused-answer-class = 10
+
+-- Its n is not the problem's, or its size does not fit its class.
+abbrev pub refused-answer-size : ℕ
+refused-answer-size = 11
+
+-- Its span or a stamp is outside the form of its class.
+abbrev pub refused-form : ℕ
+refused-form = 12
+
+-- A pick is above its highest value.
+abbrev pub refused-pick : ℕ
+refused-pick = 13

@@ -1,21 +1,21 @@
 -- The problem record: its size, its refusals, what its bytes mean, and a problem as bytes. Document 01, "Records"
--- and "What is turned away", 1 to 6.
+-- and "What is turned away", 1 to 6; document 02, 2.1.
 use Prim.Native.Nat.{ℕ, zero, suc, _+_, _*_, _-_}
 use mathlib.Core.Path.{_≡_}
-use mathlib.Core.Bool.{Bool, not, _||_}
+use mathlib.Core.Bool.{Bool, true, false, not, cond, _&&_, _||_}
 use mathlib.Core.List.{List, [], _∷_, _++_, map}
-use lib.Dec.{eqb, ltb}
+use lib.Dec.{eqb, ltb, leb}
 use lib.ListN.{length}
-use Rattle.definitions.specs.Limits.{highest-n, highest-m, lead-limit, length-bytes, short-bytes, signed-bytes, kind-place, n-place, m-place, problem-kind, problem-header}
+use Rattle.definitions.specs.Limits.{highest-n, highest-m, lead-limit, length-bytes, short-bytes, signed-bytes, kind-place, n-place, m-place, count-place, problem-kind, questions-kind, most-questions, problem-header, questions-header, refused-short, refused-length, refused-kind, refused-limits, refused-count, refused-size, refused-lead}
 use Rattle.definitions.specs.Tropical.{Trop}
 use Rattle.definitions.specs.Problem.{Problem}
 use Rattle.definitions.specs.Bytes.{numAt, numsAt, le, fields, tropField, fieldOf, tropAt, all, blank-or-within, Clause, first, or-else, Outcome, outcome}
 
--- Size of a problem record: 10 + 8 × (n + 1) × (m + 1).
+-- Size of a problem record of one question: 10 + 8 × (n + 1) × (m + 1).
 abbrev pub problemSize : ℕ → ℕ → ℕ
 problemSize n m = problem-header + 2 * signed-bytes * (suc n * suc m)
 
--- Fields of the header: length, kind, n, m.
+-- Fields of the header: length, kind, n, m; and the count of questions, which a record of kind 3 has after m.
 abbrev pub lengthField : List ℕ → ℕ
 lengthField s = numAt length-bytes s 0
 
@@ -28,53 +28,127 @@ nField s = numAt short-bytes s n-place
 abbrev pub mField : List ℕ → ℕ
 mField s = numAt short-bytes s m-place
 
+abbrev pub countField : List ℕ → ℕ
+countField s = numAt short-bytes s count-place
+
+-- By kind: of several questions, kind 3, or of one. A kind that an entry does not know is refused before it is asked.
+abbrev pub by-kind : {A : Type 0} → ℕ → A → A → A
+by-kind kind of-several of-one = cond (eqb kind questions-kind) of-several of-one
+
+-- Where the leads start, and how many questions follow the rules.
+abbrev pub leadsPlace : ℕ → ℕ
+leadsPlace kind = by-kind kind questions-header problem-header
+
+abbrev pub questionsAsked : ℕ → ℕ → ℕ
+questionsAsked kind count = by-kind kind count 1
+
+-- Size of a problem record: what stands before the leads, and 8 × (n + 1) bytes for each rule and each question.
+abbrev pub recordSize : ℕ → ℕ → ℕ → ℕ → ℕ
+recordSize kind n m count = leadsPlace kind + 2 * signed-bytes * (suc n * (m + questionsAsked kind count))
+
 -- The leads of a problem record in their order: for each row n + 1 left leads, then n + 1 right leads.
 unfoldable pub leadsOf : List ℕ → List Trop
-leadsOf s = map tropField (numsAt signed-bytes (2 * (suc (nField s) * suc (mField s))) s problem-header)
+leadsOf s =
+    map tropField
+    (numsAt signed-bytes (2 * (suc (nField s) * (mField s + questionsAsked (kindField s) (countField s)))) s (leadsPlace (kindField s)))
+
+-- The kinds that an entry knows: kind 1, and kind 3 if it takes several questions.
+abbrev pub known-kind : Bool → ℕ → Bool
+known-kind several kind = eqb kind problem-kind || (several && eqb kind questions-kind)
 
 -- n is above its limit, 31, or m above its, 63.
 abbrev pub above-limits : ℕ → ℕ → Bool
 above-limits n m = ltb highest-n n || ltb highest-m m
 
--- Refusals 1 to 5 concern the first bytes of a problem and its size.
-unfoldable pub headerRefusal : List ℕ → ℕ → ℕ
-headerRefusal s size =
+-- Refusal 4: n or m is above its limit.
+abbrev pub limitsRefused : ℕ → ℕ → Clause
+limitsRefused n m = record { applies = above-limits n m; number = refused-limits }
+
+-- A record of kind 3 that reaches to the end of its count asks no question, or more than 8.
+abbrev pub wrong-count : ℕ → ℕ → ℕ → Bool
+wrong-count size kind count = eqb kind questions-kind && (leb questions-header size && (eqb count 0 || ltb most-questions count))
+
+-- Refusals 4, 15 and 5 on numbers: the size, and the header's kind, n, m and count.
+abbrev pub countsRefused : ℕ → ℕ → ℕ → ℕ → ℕ → List Clause
+countsRefused size kind n m count =
+    limitsRefused n m
+    ∷ record { applies = wrong-count size kind count; number = refused-count }
+    ∷ record { applies = not (eqb size (recordSize kind n m count)); number = refused-size }
+    ∷ []
+
+-- The first of refusals 1 to 5 and 15 on numbers: the size, and the header's length, kind, n, m and count.
+unfoldable pub headerJudged : Bool → ℕ → ℕ → ℕ → ℕ → ℕ → ℕ → ℕ
+headerJudged several size length kind n m count =
     first
-    (record { applies = ltb size problem-header; number = 1 }
-    ∷ record { applies = not (eqb (lengthField s + length-bytes) size); number = 2 }
-    ∷ record { applies = not (eqb (kindField s) problem-kind); number = 3 }
-    ∷ record { applies = above-limits (nField s) (mField s); number = 4 }
-    ∷ record { applies = not (eqb size (problemSize (nField s) (mField s))); number = 5 }
-    ∷ [])
+    (record { applies = ltb size problem-header; number = refused-short }
+    ∷ record { applies = not (eqb (length + length-bytes) size); number = refused-length }
+    ∷ record { applies = not (known-kind several kind); number = refused-kind }
+    ∷ countsRefused size kind n m count)
+
+-- Refusals 1 to 5 and 15 concern the first bytes of a problem and its size.
+unfoldable pub headerRefusal : Bool → List ℕ → ℕ → ℕ
+headerRefusal several s size = headerJudged several size (lengthField s) (kindField s) (nField s) (mField s) (countField s)
 
 -- Refusal 6: a lead is neither blank nor within ±10,080.
 abbrev pub leadRefused : List ℕ → Bool
 leadRefused s = not (all (blank-or-within lead-limit) (leadsOf s))
 
--- The first of refusals 1 to 6 that applies to a problem, 0 where none does.
-unfoldable pub problemRefusal : List ℕ → ℕ
-problemRefusal s = or-else (headerRefusal s (length s)) (first (record { applies = leadRefused s; number = 6 } ∷ []))
+-- The first of refusals 1 to 6 and 15 that applies to a problem, 0 where none does, in an entry that takes several questions or one.
+unfoldable pub refusalFor : Bool → List ℕ → ℕ
+refusalFor several s = or-else (headerRefusal several s (length s)) (first (record { applies = leadRefused s; number = refused-lead } ∷ []))
 
--- A problem is within the layout if no refusal that concerns the problem applies to it.
+-- Where one question is asked for, and where several may be.
+abbrev pub problemRefusal : List ℕ → ℕ
+problemRefusal s = refusalFor false s
+
+abbrev pub recordRefusal : List ℕ → ℕ
+recordRefusal s = refusalFor true s
+
+-- A problem of one question is within the layout if no refusal that concerns the problem applies to it; a record of one question
+-- or several.
 abbrev pub WithinLayout : List ℕ → Type 0
 WithinLayout s = problemRefusal s ≡ 0
 
--- What a problem's header, its first bytes and its size, gives: n and m, or the first of refusals 1 to 5.
-unfoldable pub headerOutcome : List ℕ → ℕ → Outcome (ℕ × ℕ)
-headerOutcome s size = outcome (headerRefusal s size) (nField s, mField s)
+abbrev pub WithinLayouts : List ℕ → Type 0
+WithinLayouts s = recordRefusal s ≡ 0
 
--- What a whole problem gives: n and m, or the first of refusals 1 to 6.
-unfoldable pub problemOutcome : List ℕ → Outcome (ℕ × ℕ)
-problemOutcome s = outcome (problemRefusal s) (nField s, mField s)
+-- What a problem's header tells: its kind, n and m, where its leads start, and how many questions follow its rules.
+pub record Layout : Type 0 where
+  pub kind : ℕ
+  pub n : ℕ
+  pub m : ℕ
+  pub leads : ℕ
+  pub questions : ℕ
+
+abbrev pub layoutOf : List ℕ → Layout
+layoutOf s = record {
+  kind = kindField s;
+  n = nField s;
+  m = mField s;
+  leads = leadsPlace (kindField s);
+  questions = questionsAsked (kindField s) (countField s);
+}
+
+-- What a problem's header, its first bytes and its size, gives: the layout, or the first of refusals 1 to 5 and 15.
+unfoldable pub headerOutcome : Bool → List ℕ → ℕ → Outcome Layout
+headerOutcome several s size = outcome (headerRefusal several s size) (layoutOf s)
+
+-- What a whole problem gives: its layout, or the first of refusals 1 to 6 and 15.
+unfoldable pub problemOutcome : Bool → List ℕ → Outcome Layout
+problemOutcome several s = outcome (refusalFor several s) (layoutOf s)
+
+-- The place of a row, in a record of n + 1 variables whose leads start at `start`.
+abbrev pub rowPlace : ℕ → ℕ → ℕ → ℕ
+rowPlace start n i = start + 2 * signed-bytes * (i * suc n)
 
 -- Places of the leads: row i has its left leads first, then its right leads, anchor first.
 abbrev pub leftPlace : ℕ → ℕ → ℕ → ℕ
-leftPlace n i j = problem-header + 2 * signed-bytes * (i * suc n) + signed-bytes * j
+leftPlace n i j = rowPlace problem-header n i + signed-bytes * j
 
 abbrev pub rightPlace : ℕ → ℕ → ℕ → ℕ
-rightPlace n i j = problem-header + 2 * signed-bytes * (i * suc n) + signed-bytes * suc n + signed-bytes * j
+rightPlace n i j = rowPlace problem-header n i + signed-bytes * suc n + signed-bytes * j
 
--- The problem that the bytes mean.
+-- The problem that the bytes of a record of one question mean.
 unfoldable pub problemOf : List ℕ → Problem
 problemOf s =
     record {
@@ -100,8 +174,11 @@ unfoldable pub rowsBytes : Problem → ℕ → List ℕ
 rowsBytes p zero = []
 rowsBytes p (suc k) = rowsBytes p k ++ rowBytes p k
 
+-- The header of a problem of kind 1: its length, kind, n and m.
+unfoldable pub headerBytes : ℕ → ℕ → List ℕ
+headerBytes n m =
+    (le length-bytes (problemSize n m - length-bytes) ++ le short-bytes problem-kind) ++ (le short-bytes n ++ le short-bytes m)
+
 -- A problem as its record.
 unfoldable pub problemBytes : Problem → List ℕ
-problemBytes p =
-    (le length-bytes (problemSize (p .n) (p .m) - length-bytes) ++ le short-bytes problem-kind)
-    ++ ((le short-bytes (p .n) ++ le short-bytes (p .m)) ++ rowsBytes p (suc (p .m)))
+problemBytes p = headerBytes (p .n) (p .m) ++ rowsBytes p (suc (p .m))

@@ -7,11 +7,11 @@ use mathlib.Core.List.{List, [], _∷_, _++_}
 use lib.Dec.{eqb, ltb}
 use lib.ListN.{length, take, drop}
 use lib.IntN.{ℤ, pos, negsuc}
-use Rattle.definitions.specs.Limits.{kept-bytes, length-bytes, signed-full, class-optimal, class-unbounded}
+use Rattle.definitions.specs.Limits.{kept-bytes, length-bytes, signed-full}
 use Rattle.definitions.specs.Tropical.{Trop, bot, fin}
 use Rattle.definitions.specs.Bytes.{Bytes}
 use Rattle.definitions.specs.ProblemRecord.{problemRefusal, problemOf, nField, lengthField}
-use Rattle.definitions.specs.AnswerRecord.{Answer, answerBytes}
+use Rattle.definitions.specs.AnswerRecord.{Answer, by-class, answerBytes}
 use Rattle.definitions.specs.Verdict.{Verdict, accepted, refused, not-certified, Judged}
 use Rattle.definitions.specs.Solved.{Answers}
 
@@ -66,7 +66,7 @@ refusedLine k = text-refused ++ (decimal k ++ newline)
 
 -- What stands after `accepted`: the class in words, then the span for least.
 unfoldable pub classWords : ℕ → Trop → List ℕ
-classWords class span = cond (eqb class class-optimal) (text-least ++ spanDecimal span) (cond (eqb class class-unbounded) text-bottomless text-none)
+classWords class span = by-class class (text-least ++ spanDecimal span) text-bottomless text-none []
 
 -- The line of a verdict. A right form that is not accepted prints `not certified`.
 unfoldable pub verdictLine : Verdict → List ℕ

@@ -8,7 +8,8 @@ use mathlib.Core.List.{List, map}
 use lib.IntN.{ℤ, pos, _*ℤ_}
 use Rattle.definitions.specs.Tropical.{Trop, bot, fin}
 use Rattle.definitions.specs.Problem.{Problem, Optimal, Unbounded, Infeasible}
-use Rattle.definitions.specs.ProblemRecord.{nField, mField, leadsOf, problemOf}
+use Rattle.definitions.specs.ProblemRecord.{kindField, nField, mField, leadsOf, problemOf}
+use Rattle.definitions.specs.Limits.{problem-kind}
 
 -- d times a lead; blank stays blank.
 unfoldable pub times : ℕ → Trop → Trop
@@ -38,9 +39,11 @@ pub record GainsNothing (d : ℕ) (p q : Problem) : Type 0 where
   pub bottomless-exactly : Unbounded p ↔ Unbounded q
   pub none-exactly : Infeasible p ↔ Infeasible q
 
--- Strings of bytes s and t, read as problem records of the same n and m (whatever refusals apply to them): each lead of t is d
--- times the lead there in s.
+-- Strings of bytes s and t, read as problem records of kind 1 of the same n and m (whatever refusals apply to them): each lead of t
+-- is d times the lead there in s.
 pub record ScaledRecord (d : ℕ) (s t : List ℕ) : Type 0 where
+  pub of-kind : kindField s ≡ problem-kind
+  pub kind : kindField t ≡ problem-kind
   pub same-n : nField t ≡ nField s
   pub same-m : mField t ≡ mField s
   pub leads : leadsOf t ≡ map (times d) (leadsOf s)

@@ -3,22 +3,21 @@ use Prim.Native.Nat.{ℕ, zero, suc}
 use mathlib.Core.Path.{_≡_}
 use mathlib.Core.Bool.{true}
 use mathlib.Core.List.{List, [], _∷_}
-use lib.Dec.{ltb}
 use lib.ListN.{length, getD}
 use lib.IntN.{ℤ}
-use Rattle.definitions.specs.Limits.{class-optimal, class-unbounded, class-infeasible, answer-most}
+use Rattle.definitions.specs.Limits.{class-optimal, class-unbounded, class-infeasible}
 use Rattle.definitions.specs.Tropical.{Trop, bot, fin, Finite}
 use Rattle.definitions.specs.Problem.{Problem, Optimal, Unbounded, Infeasible}
 use Rattle.definitions.specs.Certificate.{Strategy, Reachable, Anchor, Leads, RowLeads}
-use Rattle.definitions.specs.Bytes.{Clause, first, or-else}
+use Rattle.definitions.specs.Bytes.{first, or-else}
 use Rattle.definitions.specs.ProblemRecord.{problemRefusal, problemOf, nField, mField}
-use Rattle.definitions.specs.AnswerRecord.{Answer, rightCounts, formRefusal, answerSize, answerBytes, written}
+use Rattle.definitions.specs.AnswerRecord.{Answer, roomRefused, rightCounts, formRefusal, answerSize, answerBytes, written}
 use Rattle.definitions.specs.Bisection.{trials-optimal, trials-unbounded, trials-infeasible}
 use Rattle.definitions.specs.Verdict.{Accepted, strategyOf}
 
 -- The first of refusals 1 to 6 for the problem, then 7 for a buffer of `room` bytes; 0 where none applies.
 unfoldable pub engineRefusal : List ℕ → ℕ → ℕ
-engineRefusal p room = or-else (problemRefusal p) (first (record { applies = ltb room answer-most; number = 7 } ∷ []))
+engineRefusal p room = or-else (problemRefusal p) (first (roomRefused room ∷ []))
 
 -- The class, span and trials of a problem: least s, bottomless or none, by its plans alone. The count is document 01's for
 -- that class and span; how many trials a run makes is not said here.

@@ -2,7 +2,6 @@
 -- at t has a solution that is finite at variable 0. Such a solution is moved so that variable 0 stands at 0.
 use Prim.Native.Nat.{ℕ, suc, _<_}
 use mathlib.Core.Path.{_≡_, refl, sym, ap, _∙_}
-use mathlib.Core.Logic.{_↔_}
 use native.Mathlib.Omega.{arith}
 use native.Mathlib.Decide.{ℕ-discrete}
 use lib.IntN.{ℤ, pos, negℤ, +ℤ-invr}
@@ -114,10 +113,6 @@ solution-attainable p t v =
       feasible = solves-feasible p t x (moved-anchored (v .point) (v .finite .whole) d) h;
       within = solves-within p t x h;
     }
-
--- Attainable at t exactly when the system at t has a solution.
-pub attainable-exactly : (p : Problem) (t : ℤ) → Attainable p t ↔ Solution (systemAt p t) Anchor
-attainable-exactly p t = (attainable-solution p t, solution-attainable p t)
 
 -- Attainable at t, attainable above t.
 pub attainable-above : (p : Problem) {t u : ℤ} → t ≤ℤ u → Attainable p t → Attainable p u

@@ -5,15 +5,15 @@ use Prim.Native.Nat.{ℕ, _≤_, _<_}
 use mathlib.Core.Path.{_≡_, refl, sym, _∙_}
 use mathlib.Core.Logic.{⊎-elim}
 use native.Mathlib.Omega.{arith}
-use lib.IntN.{ℤ, pos, _-ℤ_}
-use Rattle.definitions.specs.Tropical.{bot, fin, plus, _⊑_, Finite}
+use lib.IntN.{ℤ, _-ℤ_}
+use Rattle.base.proofs.Numbers.{nat-le-or-lt}
+use Rattle.definitions.specs.Tropical.{bot, plus, _⊑_, Finite}
 use Rattle.definitions.specs.Problem.{Point}
 use Rattle.definitions.specs.Certificate.{Strategy, Walk, stop, step, Reachable, start, onward}
-use Rattle.definitions.proofs.Whole.{nat-le-or-lt}
-use Rattle.definitions.proofs.Tropical.{bot-not-fin, not-finite-bot, finite-above, blank-or-finite, ⊑-trans, ⊑-of-eq, plus-fin, largest-least}
+use Rattle.definitions.proofs.Tropical.{bot-not-fin, not-finite-bot, finite-above, blank-or-finite, ⊑-of-eq, plus-fin, largest-least}
 use Rattle.duality.specs.System.{System, sideOf, Solves, Solution, Leads, Arc, Blocks}
-use Rattle.duality.specs.Values.{weights, exits, valuesAfter, values, Policy}
-use Rattle.duality.proofs.Longest.{stable-potential, stable-exit, value-under}
+use Rattle.duality.specs.Values.{weights, exits, values, Policy}
+use Rattle.duality.proofs.Longest.{stable-potential}
 use Rattle.duality.proofs.Weights.{round-terminal, arc-entry, values-stable}
 
 -- ---- the start
@@ -49,15 +49,6 @@ pub started-solution : (s : System) (Start : ℕ → Type 0) (x : Point) → Sol
 started-solution s Start x h j i b f = record { point = x; solves = h; at = j; inside = i; started = b; finite = f }
 
 module _ (s : System) (τ : Strategy) (policy : Policy s τ) where
-  -- In no round is a value above zero.
-  pub rounds-below : (k j : ℕ) → j < s .variables → valuesAfter s τ k j ⊑ fin (pos 0)
-  rounds-below k j h =
-      let stable = values-stable s τ (policy .negative) in
-      ⊑-trans
-      (value-under (weights s τ) (exits s τ) (s .variables)
-      (stable-potential (weights s τ) (exits s τ) (s .variables) stable) (stable-exit (weights s τ) (exits s τ) (s .variables) stable) k j h)
-      (policy .below j h)
-
   -- What a blank variable leads to is blank.
   blank-onward : (j l : ℕ) → j < s .variables → values s τ j ≡ bot → Leads s τ j l → values s τ l ≡ bot
   blank-onward j l h e b = ⊎-elim (λ n. n) (λ f. absurd (clash f)) (blank-or-finite (values s τ l))

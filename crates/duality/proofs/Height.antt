@@ -6,9 +6,10 @@ use mathlib.Core.Logic.{⊎-elim}
 use native.Mathlib.Omega.{arith}
 use lib.IntN.{ℤ}
 use lib.Signed.{_<ℤ_}
+use Rattle.base.proofs.Numbers.{nat-le-or-lt}
 use Rattle.definitions.specs.Tropical.{Trop, bot, fin, plus, _⊑_, blank-least, whole-least, larger, largest}
 use Rattle.definitions.specs.Certificate.{Strategy}
-use Rattle.definitions.proofs.Whole.{up, down, whole, eq-read, plus-read, minus-read, abs-read, nat-le-or-lt, le-or-lt}
+use Rattle.definitions.proofs.Whole.{up, down, whole, eq-read, plus-read, minus-read, abs-read, le-or-lt}
 use Rattle.definitions.proofs.Tropical.{bot-not-fin, fin-injective, larger-one}
 use Rattle.duality.specs.System.{System, Arc}
 use Rattle.duality.specs.Values.{valueAt, exitBy, weights, exits, values, Policy, Switched, Switch}

@@ -19,3 +19,5 @@ pub mod Rows
 pub mod Attain
 pub mod Classes
 pub mod Unused
+pub mod CycleMaps
+pub mod SmallLeads

@@ -7,9 +7,10 @@ use mathlib.Core.Logic.{_⊎_, inl, inr, ⊎-elim}
 use native.Mathlib.Omega.{arith}
 use lib.IntN.{ℤ, pos, _+ℤ_, +ℤ-idl}
 use lib.Signed.{_≤ℤ_, _<ℤ_}
+use Rattle.base.proofs.Numbers.{nat-le-or-lt}
 use Rattle.definitions.specs.Tropical.{Trop, bot, fin, plus, _⊑_, whole-least, larger, largest, Finite}
 use Rattle.definitions.specs.Certificate.{Walk, stop, step}
-use Rattle.definitions.proofs.Whole.{whole, plus-read, nat-le-or-lt, le-or-lt}
+use Rattle.definitions.proofs.Whole.{whole, plus-read, le-or-lt}
 use Rattle.definitions.proofs.Tropical.{blank-or-finite, ⊑-refl, ⊑-trans, ⊑-of-eq, ⊑-antisym, fin-below, finite-above, below-bot, zero-plus, plus-twice, plus-fin, Parts, plus-above, plus-mono, plus-cancel, larger-left, larger-right, larger-one, larger-least, larger-mono, largest-above, largest-least, largest-mono, largest-ext, Attains, largest-at}
 use Rattle.duality.specs.Values.{valueAt}
 use Rattle.duality.specs.Gains.{Entry, Gain}

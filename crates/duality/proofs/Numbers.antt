@@ -5,7 +5,6 @@
 -- argument: arcs by any choice of rows, and weights under a sign.
 use Prim.Native.Nat.{ℕ, suc, _+_, _*_, _≤_, _<_}
 use mathlib.Core.Path.{_≡_, refl}
-use mathlib.Core.Logic.{_↔_}
 use native.Mathlib.Omega.{arith}
 use native.Mathlib.Decide.{ℕ-discrete}
 use native.Mathlib.Nat.{mul-le-mul-right}
@@ -17,14 +16,13 @@ use Rattle.definitions.proofs.Whole.{up, down, whole, plus-read, minus-read, ne
 use Rattle.definitions.proofs.Tropical.{plus-zero}
 use Rattle.definitions.proofs.Raise.{raised, unraised, raise-zero}
 use Rattle.duality.specs.Circuits.{Circuit, UsesObjective, ObjectiveArc, RowObjectiveArc}
-use Rattle.duality.specs.System.{systemAt, Blocks, Saves}
+use Rattle.duality.specs.System.{systemAt}
 use Rattle.duality.specs.Height.{Bounded}
-use Rattle.duality.specs.Picks.{strategyOf, NoneAbove, AtLeastZero}
+use Rattle.duality.specs.Picks.{NoneAbove, AtLeastZero}
 use Rattle.duality.specs.Within.{Within, Enough, upper, lower}
 use Rattle.duality.proofs.Walks.{Brief, brief}
 use Rattle.duality.proofs.Reach.{reach-keep, circuit-map, uses-map}
 use Rattle.duality.proofs.Strong.{bound, bounded}
-use Rattle.duality.proofs.Picks.{blocks-exactly, saves-exactly}
 use Rattle.duality.proofs.Cycles.{cycle-circuit, below-exactly, at-least-exactly, objective-exactly, row-objective-exactly}
 use Rattle.duality.proofs.Objective.{By, ByObjective, weight-at, arc-at, Kind, circuit-moved, Picked, picked-kind, RowPicked, row-picked-kind}
 
@@ -182,16 +180,6 @@ below-infeasible p L T picks within h above count below = record {
         (reached-inside p picks) q in
         omega (whole, walks (r .weight) (r .circuit), r .heavy)
 
--- Class 3 accepts exactly the picks that block the system at T.
-pub infeasible-blocks : (p : Problem) (L T : ℕ) (picks : Strategy) → Within p L → Enough (p .n) L T
-    → NoneAbove (suc (p .m)) (suc (p .n)) picks
-    → AcceptedInfeasible p picks ↔ Blocks (systemAt p (upper T)) Anchor (strategyOf picks (suc (p .m)))
-infeasible-blocks p L T picks within h above =
-    let e = blocks-exactly p (upper T) picks above in (
-      λ c. e .0 (c .picks-count, infeasible-below p picks (upper T) c),
-      λ b. below-infeasible p L T picks within h above (e .1 b .0) (e .1 b .1),
-    )
-
 -- ---- class 2
 
 -- Its choice stays inside.
@@ -226,16 +214,6 @@ above-unbounded p L T picks within h above count more = record {
         let r = outweighs (row-picked-kind p picks) L within (row-picked-choice p picks above) negated (lower T) (omega arith)
         (row-reached-inside p picks above) q in
         omega (whole, walks (r .weight) (r .circuit), r .heavy, neg-read (r .weight))
-
--- Class 2 accepts exactly the row picks that save the system at −T − 1.
-pub unbounded-saves : (p : Problem) (L T : ℕ) (picks : Strategy) → Within p L → Enough (p .n) L T
-    → NoneAbove (suc (p .n)) (suc (p .m)) picks
-    → AcceptedUnbounded p picks ↔ Saves (systemAt p (lower T)) Anchor (strategyOf picks (suc (p .n)))
-unbounded-saves p L T picks within h above =
-    let e = saves-exactly p (lower T) picks above in (
-      λ c. e .0 (c .picks-count, unbounded-above p picks (lower T) c),
-      λ b. above-unbounded p L T picks within h above (e .1 b .0) (e .1 b .1),
-    )
 
 -- ---- the limit
 

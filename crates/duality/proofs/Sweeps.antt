@@ -6,9 +6,9 @@ use mathlib.Core.Path.{_≡_, sym, subst}
 use mathlib.Core.Logic.{_⊎_, inl, inr, ⊎-elim}
 use native.Mathlib.Omega.{arith}
 use lib.IntN.{ℤ, pos}
+use Rattle.base.proofs.Numbers.{nat-le-or-lt}
 use Rattle.definitions.specs.Tropical.{Trop, plus, _⊑_, larger}
 use Rattle.definitions.specs.Certificate.{Walk, stop}
-use Rattle.definitions.proofs.Whole.{nat-le-or-lt}
 use Rattle.definitions.proofs.Tropical.{⊑-refl, ⊑-trans, plus-mono, larger-left, larger-right, larger-least}
 use Rattle.duality.specs.Values.{valueAt}
 use Rattle.duality.specs.Gains.{Entry, Gain}

@@ -6,9 +6,10 @@ use mathlib.Core.Path.{_≡_, refl, sym, subst}
 use mathlib.Core.Logic.{⊎-elim}
 use native.Mathlib.Omega.{arith}
 use lib.IntN.{ℤ, pos, _+ℤ_, +ℤ-assoc, +ℤ-idl}
-use lib.Signed.{_≤ℤ_, ≤ℤ-refl}
+use lib.Signed.{_≤ℤ_}
+use Rattle.base.proofs.Numbers.{nat-le-or-lt}
 use Rattle.definitions.specs.Certificate.{Walk, stop, step}
-use Rattle.definitions.proofs.Whole.{whole, plus-read, nat-le-or-lt}
+use Rattle.definitions.proofs.Whole.{whole, plus-read}
 use Rattle.duality.proofs.Pigeonhole.{pigeonhole}
 
 -- Arcs lead to the variables below N.
@@ -18,14 +19,6 @@ pub record Inside (A : ℕ → ℕ → ℤ → Type 0) (N : ℕ) : Type 0 where
 -- No closed walk of 1 to N arcs weighs above zero.
 pub record NoGain (A : ℕ → ℕ → ℤ → Type 0) (N : ℕ) : Type 0 where
   pub no-gain : (j n : ℕ) (w : ℤ) → 0 < n → n ≤ N → Walk A j j n w → w ≤ℤ pos 0
-
--- A walk of fewer than N arcs that weighs at least w.
-pub record Short (A : ℕ → ℕ → ℤ → Type 0) (N j k : ℕ) (w : ℤ) : Type 0 where
-  pub arcs : ℕ
-  pub weight : ℤ
-  pub few : arcs < N
-  pub heavy : w ≤ℤ weight
-  pub walk : Walk A j k arcs weight
 
 -- A walk of fewer than N arcs whose weight has the property P.
 pub record Trimmed (A : ℕ → ℕ → ℤ → Type 0) (P : ℤ → Type 0) (N j k : ℕ) : Type 0 where
@@ -235,18 +228,6 @@ trim {A} {N} P s f (suc fuel) {j} {k} {n} {w} b h g p = ⊎-elim
     again : Looped A N j k n w → ((m : ℕ) (v : ℤ) → m < n → P v → Walk A j k m v → Trimmed A P N j k) → Trimmed A P N j k
     again r t = t (r .rest-arcs) (r .rest-weight) (omega arith)
         (f (r .at) (r .loop-arcs) (r .loop-weight) (r .rest-weight) (r .some) (r .most) (r .loop) (rw (r .weights) g)) (r .rest)
-
--- Where closed walks gain nothing, a walk has one with the same ends, fewer than N arcs and at least its weight.
-pub shorten : {A : ℕ → ℕ → ℤ → Type 0} {N k n : ℕ} {w : ℤ} → Inside A N → NoGain A N → (j : ℕ) → j < N
-    → Walk A j k n w → Short A N j k w
-shorten {A} {N} {k} {n} {w} s g j h p =
-    record { arcs = t .arcs; weight = t .weight; few = t .few; heavy = t .good; walk = t .walk }
-  where
-    heavier : (i m : ℕ) (u v : ℤ) → 0 < m → m ≤ N → Walk A i i m u → w ≤ℤ (u +ℤ v) → w ≤ℤ v
-    heavier i m u v o b q l = omega (whole, g .no-gain i m u o b q, plus-read u v)
-
-    t : Trimmed A (λ v. w ≤ℤ v) N j k
-    t = trim (λ v. w ≤ℤ v) s heavier n (omega arith) h (≤ℤ-refl w) p
 
 -- Every walk has one with the same ends and fewer than N arcs.
 pub brief : {A : ℕ → ℕ → ℤ → Type 0} {N j k n : ℕ} {w : ℤ} → Inside A N → j < N → Walk A j k n w → Brief A N j k

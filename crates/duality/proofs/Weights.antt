@@ -7,9 +7,10 @@ use native.Mathlib.Omega.{arith}
 use lib.IntN.{ℤ, pos, negℤ, _+ℤ_, _-ℤ_}
 use lib.Signed.{_≤ℤ_, _<ℤ_}
 use borrow.Author.Tests.{lt-ltb, le-ltb}
+use Rattle.base.proofs.Numbers.{nat-le-or-lt}
 use Rattle.definitions.specs.Tropical.{Trop, bot, fin, plus, _⊑_, blank-least, larger, largest}
 use Rattle.definitions.specs.Certificate.{Strategy, Walk}
-use Rattle.definitions.proofs.Whole.{whole, nat-le-or-lt, plus-read, minus-read}
+use Rattle.definitions.proofs.Whole.{whole, plus-read, minus-read}
 use Rattle.definitions.proofs.Tropical.{bot-not-fin, fin-injective, ⊑-of-eq, ⊑-antisym, below-bot, plus-comm, plus-assoc, bot-plus, largest-least, largest-ext, largest-plus}
 use Rattle.duality.specs.System.{System, sideOf, Arc}
 use Rattle.duality.specs.Values.{valueAt, difference, weightBy, exitBy, weights, exits, valuesAfter, values}

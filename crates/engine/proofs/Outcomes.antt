@@ -1,7 +1,7 @@
 -- From what was found and written to the engine's result on bytes.
 use Prim.Native.Nat.{ℕ, zero, suc, _+_, _≤_, _<_}
 use mathlib.Core.Path.{_≡_, refl, ap, ap₂, sym, subst₂, _∙_}
-use mathlib.Core.Bool.{Bool, cond}
+use mathlib.Core.Bool.{Bool, cond, false}
 use mathlib.Core.List.{List, map}
 use lib.Dec.{ltb}
 use native.Mathlib.Omega.{arith}
@@ -11,29 +11,32 @@ use Rattle.definitions.specs.Limits.{answer-most, highest-n, highest-m, most-tr
 use Rattle.definitions.specs.Bytes.{Bytes, or-else, Outcome, gives}
 use Rattle.definitions.specs.Offset.{tropOf}
 use Rattle.definitions.specs.Problem.{Problem}
-use Rattle.definitions.specs.ProblemRecord.{nField, mField, problemRefusal, problemOutcome, WithinLayout, problemOf}
+use Rattle.definitions.specs.ProblemRecord.{nField, mField, layoutOf, problemRefusal, problemOutcome, WithinLayout, problemOf}
 use Rattle.definitions.specs.AnswerRecord.{Answer, stampCount, pickCount, answerSize, answerBytes, writerRefusal, writerOutcome, written}
+use Rattle.definitions.proofs.Questions.{asking-itself}
 use Rattle.definitions.specs.Solved as Results
 use Rattle.definitions.specs.Solved.{Answers, Solves, turned-away, solved, engineRefusal}
 use Rattle.definitions.proofs.Refusals.{or-else-suc, or-else-none, WriterFits, writer-fits}
 use Rattle.definitions.proofs.Outcomes.{outcome-none}
-use Rattle.definitions.proofs.Solved.{answers-taken}
+use Rattle.definitions.proofs.Solved.{answers-taken, Wrote, wrote}
 use Rattle.records.specs.declared.problem.Header.{Header}
+use Rattle.records.specs.declared.problem.Layout.{Layout}
+use Rattle.definitions.specs.ProblemRecord as Problems
 use Rattle.records.specs.declared.problem.Header.the-variants as Headers
-use Rattle.writing.specs.declared.writer.Written.{Written}
-use Rattle.writing.specs.declared.writer.Written.the-variants as Writes
+use Rattle.answer_writer.specs.declared.writer.Written.{Written}
+use Rattle.answer_writer.specs.declared.writer.Written.the-variants as Writes
 use Rattle.records.specs.Decoded.{Decoded}
-use Rattle.leads.specs.Tables.{leftTable, rightTable, ProblemRead}
+use Rattle.problem_records.specs.Tables.{leftTable, rightTable, ProblemRead}
 use Rattle.records.specs.ProblemHeader.{headerOf, problemRefused}
-use Rattle.answers.specs.Fields.{fieldsOf}
-use Rattle.writing.specs.AnswerWriting.{AnswerWritten, writtenOf, unlessRefused}
-use Rattle.leads.proofs.LeadTables.{problem-decoded}
-use Rattle.records.proofs.ProblemHeader.{answer-fields, answer-refused}
+use Rattle.answer_reader.specs.Fields.{fieldsOf}
+use Rattle.answer_writer.specs.AnswerWriting.{AnswerWritten, writtenOf, unlessRefused}
+use Rattle.problem_records.proofs.LeadTables.{problem-decoded}
+use Rattle.records.proofs.ProblemHeader.{answer-told, answer-refused}
 use Rattle.engine.specs.declared.solve.Solved.{Solved}
 use Rattle.engine.specs.declared.solve.Solved.the-variants as Results′
-use Rattle.classes.specs.Answered.{answerIn}
-use Rattle.frames.specs.Frames.{Coefficients}
-use Rattle.classes.specs.Answered as Tables
+use Rattle.class_answers.specs.Answered.{answerIn}
+use Rattle.trial_tables.specs.Frames.{Coefficients}
+use Rattle.class_answers.specs.Answered as Tables
 use Rattle.engine.specs.Outcome.{solvedOf, FoundFor, WroteFor, TrialsMade}
 
 -- ---- writing what was found
@@ -111,11 +114,11 @@ refuses-with p before zero e h = absurd (omega arith)
 refuses-with p before (suc k) e h = turned-away (problem-first p (length before) (rw e h) ∙ e)
 
 -- A problem that is refused.
-pub refuses-problem : (p before : List ℕ) {header : Header} {k r : ℕ} → headerOf header ≡ problemOutcome p → header ≡ Headers.Refused k → r ≡ problemRefused header
+pub refuses-problem : (p before : List ℕ) {header : Header} {k r : ℕ} → headerOf header ≡ problemOutcome false p → header ≡ Headers.Refused k → r ≡ problemRefused header
     → Solves p before (solvedOf (Results′.Refused r)) before
 unfolding solvedOf problemRefused problemOutcome
 refuses-problem p before {header} {k} {r} e f g =
-    let h = answer-refused (problemRefusal p) (nField p) (mField p) e f in
+    let h = answer-refused (problemRefusal p) (layoutOf p) e f in
     let q : r ≡ k = g ∙ ap problemRefused f in
     rw q (refuses-with p before k (h .0) (h .1))
 
@@ -131,22 +134,22 @@ pub record Read (p : List ℕ) (n m : ℕ) (left right : List ℕ) : Type 0 wher
   pub m-is : problemOf p .m ≡ m
   pub decoded : Decoded (problemOf p) left right
 
-pub read-problem : {p left₀ right₀ left right : List ℕ} {header : Header} {n m : ℕ} → Bytes p → ProblemRead p left₀ right₀ header left right → header ≡ Headers.Fields n m → Read p n m left right
+pub read-problem : {p left₀ right₀ left right : List ℕ} {header : Header} {l : Layout} → Bytes p → ProblemRead false p left₀ right₀ header left right → header ≡ Headers.Told l → Read p (l .n) (l .m) left right
 unfolding problemOf problemOutcome
 read-problem {p} b r f =
-    let h = answer-fields (problemRefusal p) (nField p) (mField p) (r .result) f in
+    let h = answer-told (problemRefusal p) (layoutOf p) (r .result) f in
     record {
       none = h .0;
-      n-is = sym (h .1);
-      m-is = sym (h .2);
-      decoded = rw (r .left-read (h .0), r .right-read (h .0)) (problem-decoded p b (h .0));
+      n-is = ap (λ (x : Problems.Layout). x .n) (sym (h .1));
+      m-is = ap (λ (x : Problems.Layout). x .m) (sym (h .1));
+      decoded = rw (r .left-read (h .0), r .right-read (h .0), asking-itself p 0 (h .0)) (problem-decoded p b (h .0));
     }
 
 -- The trials made for a problem that is refused, and for one that is not.
-pub none-made : {p : List ℕ} {header : Header} {k : ℕ} → headerOf header ≡ problemOutcome p → header ≡ Headers.Refused k → TrialsMade p 0
+pub none-made : {p : List ℕ} {header : Header} {k : ℕ} → headerOf header ≡ problemOutcome false p → header ≡ Headers.Refused k → TrialsMade p 0
 unfolding problemOutcome
 none-made {p} e f =
-    let h = answer-refused (problemRefusal p) (nField p) (mField p) e f in
+    let h = answer-refused (problemRefusal p) (layoutOf p) e f in
     record { refused = λ _. refl; some = λ w. absurd (omega (arith, h .0, h .1, w)); most = omega arith }
 
 pub some-made : {p : List ℕ} {n m r : ℕ} {left right : List ℕ} → Read p n m left right → 0 < r → r ≤ most-trials → TrialsMade p r
@@ -184,3 +187,11 @@ module _
         let bytes : written before (answerBytes (nField p) a) ≡ after = ap (λ (i : ℕ). written before (answerBytes i a)) (read .n-is) ∙ sym (w .buffer-is) in
         subst₂ (λ (x : Results.Solved) (y : List ℕ). Solves p before x y) size bytes
         (solved a nothing-refused (found .answers (problemOf p) (read .decoded) (read .n-is) (read .m-is)))
+
+-- ---- what an answered result means
+
+-- The code's result, answered.
+pub own-wrote : {p before after : List ℕ} {r : Solved} {class span trials size : ℕ} → Solves p before (solvedOf r) after → r ≡ Results′.Answered class span trials size
+    → Wrote p before class (tropOf span) trials size after
+unfolding solvedOf
+own-wrote h e = wrote h (ap solvedOf e)

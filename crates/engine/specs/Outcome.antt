@@ -10,7 +10,7 @@ use Rattle.definitions.specs.AnswerRecord.{stampCount, pickCount, answerSize, a
 use Rattle.definitions.specs.Solved as Results
 use Rattle.engine.specs.declared.solve.Solved.{Solved}
 use Rattle.engine.specs.declared.solve.Solved.the-variants.{Refused, Answered}
-use Rattle.classes.specs.Answered.{answerIn}
+use Rattle.class_answers.specs.Answered.{answerIn}
 
 -- Document 01's result for each case: the refusal's number, or class, span, trials and the record's length.
 unfoldable pub solvedOf : Solved → Results.Solved

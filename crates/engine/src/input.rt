@@ -22,7 +22,7 @@ fn solve_kept(kept: &[u8], size: usize, answer: &mut [u8]) -> Solved
     if size <= KEPT {
         return solve(&kept[..size], answer);
     }
-    let header = read_header(kept, size);
+    let header = read_header(kept, size, false);
     Solved::Refused(problem_refusal(header))
 }
 

@@ -5,16 +5,18 @@ ghost use lib.ListN.{length};
 ghost use Rattle.definitions.specs.Limits.{answer-most};
 ghost use Rattle.definitions.specs.Solved.{Solves};
 ghost use Rattle.engine.specs.Outcome.{solvedOf, FoundFor, WroteFor};
-use answers::class::pick_count;
-use answers::class::stamp_count;
-use classes::answer::Answer;
-use classes::answer::solve_tables;
-use leads::reader::read_problem;
+use answer_reader::class::pick_count;
+use answer_reader::class::stamp_count;
+use answer_writer::writer::Written;
+use answer_writer::writer::write_answer;
+use class_answers::answer::Answer;
+use class_answers::answer::solve_tables;
+use problem_records::reader::read_problem;
+use records::limits::ANSWER_MOST;
+use records::limits::REFUSED_ROOM;
+use records::limits::TABLE;
 use records::problem::Header;
 use records::problem::problem_refusal;
-use writing::limits::ANSWER_MOST;
-use writing::writer::Written;
-use writing::writer::write_answer;
 
 // What the engine answers: refused with the number, or answered with class, the span's offset number, trials and the
 // record's length.
@@ -46,15 +48,15 @@ fn write_found(found: Answer, n: usize, m: usize, answer: &mut [u8]) -> Solved
 pub fn solve(problem: &[u8], answer: &mut [u8]) -> Solved
     ensures { λ r. ⌜ Solves (now (problem .entry)) (now (answer .entry)) (solvedOf r) (now (answer .exit)) ⌝ }
 {
-    let mut left = [0u32; 2048];
-    let mut right = [0u32; 2048];
-    let header = read_problem(problem, &mut left, &mut right);
-    let Header::Fields(n, m) = header else {
+    let mut left = [0u32; TABLE];
+    let mut right = [0u32; TABLE];
+    let header = read_problem(problem, false, &mut left, &mut right);
+    let Header::Told(layout) = header else {
         return Solved::Refused(problem_refusal(header));
     };
     if answer.len() < ANSWER_MOST {
-        return Solved::Refused(7);
+        return Solved::Refused(REFUSED_ROOM);
     }
-    let found = solve_tables(&left, &mut right, n, m);
-    write_found(found, n, m, answer)
+    let found = solve_tables(&left, &mut right, layout.n, layout.m);
+    write_found(found, layout.n, layout.m, answer)
 }

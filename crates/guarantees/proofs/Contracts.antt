@@ -2,29 +2,33 @@
 -- speak of, and the laws that it then keeps.
 use Prim.Native.Nat.{ℕ, zero, suc, _+_, _*_, _≤_}
 use mathlib.Core.Path.{_≡_, refl, ap, sym, _∙_}
+use mathlib.Core.Bool.{false}
 use mathlib.Core.List.{List}
 use native.Mathlib.Omega.{arith}
 use lib.ListN.{length, getD, take}
 use Rattle.definitions.specs.Offset.{tropOf}
 use Rattle.definitions.specs.Problem.{Problem}
 use Rattle.definitions.specs.Bytes.{Outcome, refusal, gives, outcome, refusalOf}
-use Rattle.definitions.specs.ProblemRecord.{problemOf, problemRefusal, problemOutcome, nField, mField}
+use Rattle.definitions.specs.ProblemRecord.{problemOf, problemRefusal, problemOutcome, nField, mField, layoutOf}
 use Rattle.definitions.specs.AnswerRecord.{Answer, answerRefusal, answerOutcome, answerOf, stampCount, pickCount, classField, spanField, writerRefusal, writerOutcome, answerBytes, written}
 use Rattle.definitions.specs.Programs.{SpanOutput, VerdictOutput}
 use Rattle.definitions.specs.Demands.{Word, Slice, Handed, Engine, Checker, ProblemReader, Reader, Writer, Program, EngineSolves, CheckerJudges, ProblemReaderRefuses, ReadsProblems, ReaderRefuses, ReadsFields, WriterRefuses, WritesRecord, ProgramsAnswer}
 use Rattle.definitions.proofs.Outcomes.{refusal-outcome}
 use Rattle.records.specs.declared.problem.Header.{Header}
+use Rattle.records.specs.declared.problem.Layout.{Layout}
+use Rattle.definitions.specs.ProblemRecord as Problems
+use Rattle.definitions.proofs.Questions.{asking-itself}
 use Rattle.records.specs.declared.problem.Header.the-variants as Headers
 use Rattle.records.specs.ProblemHeader.{headerOf}
-use Rattle.records.proofs.ProblemHeader.{answer-fields, answer-refused}
-use Rattle.answers.specs.declared.answer.AnswerHead.{AnswerHead}
-use Rattle.answers.specs.declared.answer.AnswerHead.the-variants as Heads
-use Rattle.answers.specs.Fields.{fieldsOf}
-use Rattle.answers.specs.AnswerReading.{headOf}
-use Rattle.answers.proofs.Heads.{fields-by, refused-by}
-use Rattle.leads.proofs.LeadTables.{problem-decoded}
-use Rattle.writing.specs.AnswerWriting.{AnswerWritten, writtenOf, unlessRefused}
-use Rattle.writing.proofs.Trips.{counted}
+use Rattle.records.proofs.ProblemHeader.{answer-told, answer-refused}
+use Rattle.answer_reader.specs.declared.answer.AnswerHead.{AnswerHead}
+use Rattle.answer_reader.specs.declared.answer.AnswerHead.the-variants as Heads
+use Rattle.answer_reader.specs.Fields.{fieldsOf}
+use Rattle.answer_reader.specs.AnswerReading.{headOf}
+use Rattle.answer_reader.proofs.Heads.{fields-by, refused-by}
+use Rattle.problem_records.proofs.LeadTables.{problem-decoded}
+use Rattle.answer_writer.specs.AnswerWriting.{AnswerWritten, writtenOf, unlessRefused}
+use Rattle.answer_writer.proofs.Trips.{counted}
 use Rattle.engine.specs.Outcome.{solvedOf}
 use Rattle.checker.specs.Outcome.{verdictOf}
 use Rattle.guarantees.specs.Entries as Entries
@@ -49,9 +53,16 @@ checker-meets check = check .contract
 
 -- The problem in two tables.
 unfoldable pub problemIn : Header → List ℕ → List ℕ → Problem
-problemIn (Headers.Fields n m) left right =
-    record { n = n; m = m; left = λ i j. tropOf (getD left (i * 32 + j) 0); right = λ i j. tropOf (getD right (i * 32 + j) 0) }
+problemIn (Headers.Told l) left right =
+    record { n = l .n; m = l .m; left = λ i j. tropOf (getD left (i * 32 + j) 0); right = λ i j. tropOf (getD right (i * 32 + j) 0) }
 problemIn (Headers.Refused k) left right = record { n = 0; m = 0; left = λ i j. tropOf 0; right = λ i j. tropOf 0 }
+
+-- A header with the problem's n and m.
+record Given (p : List ℕ) (h : Header) : Type 0 where
+  layout : Layout
+  is : h ≡ Headers.Told layout
+  n-is : layout .n ≡ nField p
+  m-is : layout .m ≡ mField p
 
 module _ {left₀ right₀ : List ℕ} (read : ReadProblem left₀ right₀) where
   abbrev pub problemReaderOf : ProblemReader
@@ -71,25 +82,26 @@ module _ {left₀ right₀ : List ℕ} (read : ReadProblem left₀ right₀) whe
     untouched = λ p b k e. (read .contract p b .left-kept (omega arith), read .contract p b .right-kept (omega arith));
   }
 
-  -- A header that nothing refuses gives n and m.
-  header-given : (p : List ℕ) → problemRefusal p ≡ 0 → (h : Header) → headerOf h ≡ problemOutcome p → h ≡ Headers.Fields (nField p) (mField p)
+  -- A header that nothing refuses tells the layout.
+  header-given : (p : List ℕ) → problemRefusal p ≡ 0 → (h : Header) → headerOf h ≡ problemOutcome false p → Given p h
   unfolding problemOutcome
-  header-given p w (Headers.Fields n m) e =
-      let f = answer-fields (problemRefusal p) (nField p) (mField p) {r = Headers.Fields n m} e refl in rw (f .1, f .2) refl
+  header-given p w (Headers.Told l) e =
+      let f = answer-told (problemRefusal p) (layoutOf p) {r = Headers.Told l} e refl in
+      record { layout = l; is = refl; n-is = ap (λ (x : Problems.Layout). x .n) (f .1); m-is = ap (λ (x : Problems.Layout). x .m) (f .1) }
   header-given p w (Headers.Refused k) e =
-      absurd (let f = answer-refused (problemRefusal p) (nField p) (mField p) {r = Headers.Refused k} e refl in omega (arith, f .0, f .1))
+      absurd (let f = answer-refused (problemRefusal p) (layoutOf p) {r = Headers.Refused k} e refl in omega (arith, f .0, f .1))
 
   pub problem-reader-reads : ReadsProblems problemReaderOf
   unfolding problemIn problemOf
   problem-reader-reads p b w =
       let c = read .contract p b in
-      let told : read .header p ≡ Headers.Fields (nField p) (mField p) = header-given p w (read .header p) (c .result) in
+      let told = header-given p w (read .header p) (c .result) in
       let d = problem-decoded p (b .bytes) w in
       record {
-        n-is = rw told refl;
-        m-is = rw told refl;
-        left-is = λ i j h g. rw (told, c .left-read w) (d .left-is i j h g);
-        right-is = λ i j h g. rw (told, c .right-read w) (d .right-is i j h g);
+        n-is = rw (told .is) (told .n-is);
+        m-is = rw (told .is) (told .m-is);
+        left-is = λ i j h g. rw (told .is, c .left-read w, asking-itself p 0 w) (d .left-is i j h g);
+        right-is = λ i j h g. rw (told .is, c .right-read w, asking-itself p 0 w) (d .right-is i j h g);
       }
 
 -- ---- `read_answer`

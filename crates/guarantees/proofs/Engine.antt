@@ -1,15 +1,14 @@
 -- What follows for any engine whose result and buffer are those that document 01 gives (`EngineSolves`): first refusals
 -- with the buffer untouched; else class and least span of the theory, in few trials, in a record that reads back and
 -- that any true checker accepts.
-use Prim.Native.Nat.{ℕ, zero, suc, _+_, _≤_}
+use Prim.Native.Nat.{ℕ, zero, suc, _≤_}
 use mathlib.Core.Path.{_≡_, refl, ap, ap₂, sym, subst, subst₃, _∙_}
 use mathlib.Core.List.{List}
 use native.Mathlib.Omega.{arith}
-use native.Mathlib.Nat.{zero-add}
-use lib.ListN.{length, take}
+use lib.ListN.{length}
 use lib.IntN.{ℤ}
 use borrow.Author.Tests.{le-ltb}
-use Rattle.definitions.specs.Limits.{answer-most, most-trials, class-optimal, class-unbounded, class-infeasible, lead-limit, span-limit}
+use Rattle.definitions.specs.Limits.{answer-most, class-optimal, class-unbounded, class-infeasible}
 use Rattle.definitions.specs.Tropical.{Trop, fin}
 use Rattle.definitions.specs.Problem.{Problem, Optimal}
 use Rattle.definitions.specs.Bytes.{or-else, Outcome, gives}
@@ -20,15 +19,11 @@ use Rattle.definitions.specs.Solved as Results
 use Rattle.definitions.specs.Solved.{Solved, answered, Found, optimal, unbounded, infeasible, Answers, Solves, solved, engineRefusal}
 use Rattle.definitions.specs.Demands.{Slice, Engine, Reader, Checker, EngineSolves, EngineRefuses, LeastSpans, FoundBy, ReadsFields, EngineReadsBack, ReadBy, CheckerJudges, OwnAnswers, OwnAnswer}
 use Rattle.definitions.proofs.Tropical.{fin-injective}
-use Rattle.definitions.proofs.Bisection.{few-trials}
-use Rattle.definitions.proofs.Refusals.{or-else-none, ProblemFits, problem-fits, left-size, right-size, WriterFits}
-use Rattle.definitions.proofs.RoundTrip.{answer-length, answer-back, answer-accepted}
-use Rattle.definitions.proofs.Solved.{answers-taken}
-use Rattle.definitions.proofs.Put.{take-put}
+use Rattle.definitions.proofs.Refusals.{or-else-none, ProblemFits}
+use Rattle.definitions.proofs.RoundTrip.{answer-back, answer-accepted}
+use Rattle.definitions.proofs.Solved.{answer-takes, record-stands, result-parts}
 use Rattle.checker.proofs.Accepting.{record-slice}
-use Rattle.duality.specs.Within.{Within}
-use Rattle.duality.proofs.Classes.{optimal-range}
-use Rattle.duality.proofs.Numbers.{top-enough}
+use Rattle.duality.proofs.SmallLeads.{trials-few}
 
 -- ---- refusals
 
@@ -68,30 +63,12 @@ module _ (engine : Engine) (solves : EngineSolves engine) (p buffer : List ℕ) 
   pub engine-answer : EngineAnswer engine p buffer
   engine-answer = answered-by engine p buffer (solves p buffer b c) (nothing-refused p (length buffer) w long) refl refl
 
--- The problem's leads are small, as duality asks.
-pub within-leads : (p : List ℕ) → WithinLayout p → Within (problemOf p) lead-limit
-unfolding problemOf
-within-leads p w = record {
-  left = λ i j a h g e. left-size p w i j h g e;
-  right = λ i j a h g e. right-size p w i j h g e;
-}
-
-pub few : (p : List ℕ) → WithinLayout p → {class : ℕ} {span : Trop} {trials : ℕ} → Found (problemOf p) class span trials → trials ≤ most-trials
-unfolding problemOf
-few p w (optimal {s = s} o) =
-    few-trials s (optimal-range (problemOf p) lead-limit span-limit (within-leads p w) (top-enough (nField p) lead-limit (omega (arith, problem-fits p .0 w .n-most))) s o)
-few p w (unbounded u) = omega arith
-few p w (infeasible n) = omega arith
-
 pub least-spans : (engine : Engine) → EngineSolves engine → LeastSpans engine
 least-spans engine solves p buffer b c w long =
     let e = engine-answer engine solves p buffer b c w long in
-    record { class = e .class; span = e .span; trials = e .trials; size = answerSize (e .class) (nField p) (mField p); result-is = e .result-is; found = e .answers .found; few = few p w (e .answers .found) }
+    record { class = e .class; span = e .span; trials = e .trials; size = answerSize (e .class) (nField p) (mField p); result-is = e .result-is; found = e .answers .found; few = trials-few p w (e .answers .found) }
 
 -- What an engine finds, with class, span and trials as its result says them.
-pub result-parts : {c c′ : ℕ} {s s′ : Trop} {t t′ z z′ : ℕ} → answered c s t z ≡ answered c′ s′ t′ z′ → (c ≡ c′) × (s ≡ s′) × (t ≡ t′) × (z ≡ z′)
-result-parts e = (cc, cc, cc, cc)
-
 pub found-as : (engine : Engine) (p buffer : List ℕ) (c : ℕ) (s : Trop) (t z : ℕ) → FoundBy engine p buffer → engine .result p buffer ≡ answered c s t z
     → Found (problemOf p) c s t
 found-as engine p buffer c s t z f e =
@@ -110,22 +87,6 @@ quoted-is-smallest engine solves p buffer b c w long s trials size e =
     quoted (found-as engine p buffer class-optimal (fin s) trials size (least-spans engine solves p buffer b c w long) e) s refl refl
 
 -- ---- the record that was written
-
--- The answer's fields are such as the writer takes, so they read back from their bytes.
-pub answer-takes : (p : List ℕ) → WithinLayout p → {class : ℕ} {span : Trop} {trials : ℕ} (a : Answer) → Answers (problemOf p) class span trials a
-    → WriterFits a (nField p) (mField p) answer-most
-unfolding problemOf
-answer-takes p w a ans = let f = problem-fits p .0 w in answers-taken answer-most (f .n-most) (f .m-most) (omega arith) ans
-
--- A record as long as its class asks stands at the buffer's start.
-pub record-stands : (p buffer : List ℕ) → WithinLayout p → {class : ℕ} {span : Trop} {trials : ℕ} (a : Answer) → Answers (problemOf p) class span trials a
-    → take (answerSize class (nField p) (mField p)) (written buffer (answerBytes (nField p) a)) ≡ answerBytes (nField p) a
-unfolding written
-record-stands p buffer w {class} a ans =
-    let f = answer-takes p w a ans in
-    let size : answerSize class (nField p) (mField p) ≡ 0 + length (answerBytes (nField p) a) =
-    ap (λ (k : ℕ). answerSize k (nField p) (mField p)) (sym (ans .class-is)) ∙ sym (answer-length a (nField p) (mField p) answer-most f) ∙ sym (zero-add _) in
-    rw size (take-put buffer 0 (answerBytes (nField p) a) (omega arith))
 
 -- It reads back as itself.
 reads-itself : (read : Reader) → ReadsFields read → (p : List ℕ) → WithinLayout p → {class : ℕ} {span : Trop} {trials : ℕ} (a : Answer)

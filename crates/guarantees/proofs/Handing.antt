@@ -19,8 +19,8 @@ use Rattle.definitions.proofs.Tropical.{bot-not-fin}
 use Rattle.definitions.proofs.Offset.{trop-fin, trop-read, within-fits, trop-fieldOf, off-bound}
 use Rattle.definitions.proofs.Refusals.{WriterFits}
 use Rattle.definitions.proofs.RoundTrip.{class-most, span-within, stamps-within, size-most, highest-most}
-use Rattle.answers.specs.Fields.{fieldsOf}
-use Rattle.answers.proofs.ByClass.{stamps-most, picks-most}
+use Rattle.answer_reader.specs.Fields.{fieldsOf}
+use Rattle.answer_reader.proofs.ByClass.{stamps-most, picks-most}
 use Rattle.checker.proofs.Answers.{within-at, picks-at}
 use Rattle.guarantees.specs.Entries.{WriterFields, WriterFieldsFit}
 

@@ -1,46 +1,48 @@
 -- The contracts of the code can be met: for each entry a function built from the definitions, and the demands of all of them.
 use Prim.Native.Nat.{ℕ, zero, suc, _+_, _-_, _≤_, _<_}
 use mathlib.Core.Path.{_≡_, refl, ap, sym, subst, _∙_}
+use mathlib.Core.Bool.{false}
 use mathlib.Core.List.{List}
 use mathlib.Core.Logic.{⊎-elim}
 use native.Mathlib.Omega.{arith}
 use native.Mathlib.Nat.{eq-zero-or-pos}
-use lib.ListN.{length, take, drop, length-take, length-drop}
-use lib.Seq.{take-all}
-use Rattle.definitions.specs.Limits.{kept-bytes, length-bytes, span-limit}
+use lib.ListN.{length, getD, take, drop, length-take, length-drop}
+use lib.Seq.{take-all, getD-take}
+use Rattle.base.proofs.Numbers.{nat-le-or-lt}
+use Rattle.definitions.specs.Limits.{kept-bytes, length-bytes, span-limit, problem-header}
 use Rattle.definitions.specs.Tropical.{Trop}
 use Rattle.definitions.specs.Problem.{Problem}
 use Rattle.definitions.specs.Bytes.{Bytes, outcome}
 use Rattle.definitions.specs.Offset.{tropOf}
-use Rattle.definitions.specs.ProblemRecord.{lengthField, nField, mField, headerRefusal, headerOutcome, problemRefusal, problemOutcome, WithinLayout, problemOf}
+use Rattle.definitions.specs.ProblemRecord.{lengthField, kindField, nField, mField, countField, leadsPlace, questionsAsked, layoutOf, headerRefusal, headerOutcome, problemRefusal, problemOutcome, WithinLayout, problemOf, refusalFor}
 use Rattle.definitions.specs.AnswerRecord.{Answer, answerRefusal, answerOutcome, answerOf, answerHeaderRefusal, classField, spanField, answerSize, answerBytes, writerRefusal, writerOutcome, written}
 use Rattle.definitions.specs.Verdict as Verdicts
 use Rattle.definitions.specs.Verdict.{Judged, turned-away, certified, uncertified, answerFor, checkRefusal}
 use Rattle.definitions.specs.Solved as Results
 use Rattle.definitions.specs.Solved.{Answers, Solves, engineRefusal}
+use Rattle.definitions.specs.Questions.{asking}
 use Rattle.definitions.specs.Programs as Programs
 use Rattle.definitions.specs.Programs.{SpanOutput, VerdictOutput, KeptOf, ReadFrom, problemPart, answerPart, cutPlace, refusedLine, verdictLine}
 use Rattle.definitions.specs.Demands.{Slice, Numbered, Demands}
-use Rattle.definitions.proofs.Whole.{nat-le-or-lt}
 use Rattle.definitions.proofs.Bytes.{bytes-take, bytes-drop}
 use Rattle.definitions.proofs.Refusals.{or-else-none, or-else-suc, problem-fits, answer-fits, form-fits}
 use Rattle.definitions.proofs.RoundTrip.{span-within}
-use Rattle.definitions.proofs.Inputs.{kept-whole, kept-at, header-agrees, span-read, verdict-read}
+use Rattle.definitions.proofs.Inputs.{kept-whole, kept-at, one-agrees, n-agrees, m-agrees, span-read, verdict-read}
 use Rattle.records.specs.declared.problem.Header.{Header}
 use Rattle.records.specs.declared.problem.Header.the-variants as Headers
 use Rattle.records.specs.ProblemHeader.{headerOf, problemRefused}
-use Rattle.records.proofs.ProblemHeader.{header-fits, product-most}
-use Rattle.leads.specs.Tables.{leftTable, rightTable}
-use Rattle.answers.specs.declared.answer.AnswerHead.{AnswerHead}
-use Rattle.answers.specs.declared.answer.AnswerHead.the-variants as Heads
-use Rattle.answers.specs.Fields.{fieldsOf, stampsOf, picksOf}
-use Rattle.answers.specs.AnswerReading.{headOf, spanNumber}
-use Rattle.answers.proofs.Judging.{span-meant}
-use Rattle.answers.proofs.Passing.{stampsAt-length, picksAt-length}
-use Rattle.answers.proofs.ByClass.{stamps-most, picks-most}
-use Rattle.writing.specs.declared.writer.Written.{Written}
-use Rattle.writing.specs.declared.writer.Written.the-variants as Writes
-use Rattle.writing.specs.AnswerWriting.{writtenOf, unlessRefused}
+use Rattle.records.proofs.ProblemHeader.{header-fits, product-most, fits-one}
+use Rattle.problem_records.specs.Tables.{leftTable, rightTable}
+use Rattle.answer_reader.specs.declared.answer.AnswerHead.{AnswerHead}
+use Rattle.answer_reader.specs.declared.answer.AnswerHead.the-variants as Heads
+use Rattle.answer_reader.specs.Fields.{fieldsOf, stampsOf, picksOf}
+use Rattle.answer_reader.specs.AnswerReading.{headOf, spanNumber}
+use Rattle.answer_reader.proofs.Judging.{span-meant}
+use Rattle.answer_reader.proofs.Passing.{stampsAt-length, picksAt-length}
+use Rattle.answer_reader.proofs.ByClass.{stamps-most, picks-most}
+use Rattle.answer_writer.specs.declared.writer.Written.{Written}
+use Rattle.answer_writer.specs.declared.writer.Written.the-variants as Writes
+use Rattle.answer_writer.specs.AnswerWriting.{writtenOf, unlessRefused}
 use Rattle.engine.specs.declared.solve.Solved.{Solved}
 use Rattle.engine.specs.declared.solve.Solved.the-variants as Solutions
 use Rattle.engine.specs.Outcome.{solvedOf}
@@ -48,13 +50,13 @@ use Rattle.checker.specs.declared.check.Verdict.{Verdict}
 use Rattle.checker.specs.declared.check.Verdict.the-variants as Turned
 use Rattle.checker.specs.Outcome.{verdictOf}
 use Rattle.checker.proofs.Judgement.{the-checker, the-checker-judges}
-use Rattle.checker.proofs.Verdicts.{turned}
+use Rattle.checker.proofs.Verdicts.{HeaderRead, turned}
 use Rattle.checker.proofs.Decided.{pad, padded}
-use Rattle.checker.proofs.LongInputs.{kept-longer, judged-parts, long-past, long-cut, long-header, long-refused, long-answered, header-small, problem-kept}
+use Rattle.checker.proofs.LongInputs.{kept-longer, judged-parts, long-past, long-cut, header-turned, long-refused, long-answered, header-small, problem-kept}
 use Rattle.guarantees.specs.Entries as Entries
 use Rattle.guarantees.specs.Entries.{Solve, Check, ReadProblem, ReadAnswer, WriteAnswer, WriterFields}
 use Rattle.guarantees.proofs.Handing.{numberFor, number-back, within-numbered}
-use Rattle.guarantees.proofs.Engine.{within-leads}
+use Rattle.duality.proofs.SmallLeads.{layout-within}
 use Rattle.guarantees.proofs.Solvable.{SomeAnswer, answer-exists}
 use Rattle.guarantees.proofs.Contracts.{engineOf, checkerOf, problemReaderOf, readerOf, writerOf, programOf}
 use Rattle.guarantees.proofs.Demands.{demands}
@@ -62,14 +64,15 @@ use Rattle.guarantees.proofs.Demands.{demands}
 -- ---- cases of the code by numbers
 
 -- The case of each enum that a refusal's number, 0 for none, and what is given have.
-headerBy : ℕ → ℕ → ℕ → Header
-headerBy zero n m = Headers.Fields n m
-headerBy (suc k) n m = Headers.Refused (suc k)
+headerBy : ℕ → List ℕ → Header
+headerBy zero s =
+    Headers.Told (record { kind = kindField s; n = nField s; m = mField s; leads = leadsPlace (kindField s); questions = questionsAsked (kindField s) (countField s) })
+headerBy (suc k) s = Headers.Refused (suc k)
 
-header-by : (k n m : ℕ) → headerOf (headerBy k n m) ≡ outcome k (n, m)
+header-by : (k : ℕ) (s : List ℕ) → headerOf (headerBy k s) ≡ outcome k (layoutOf s)
 unfolding headerBy headerOf outcome
-header-by zero n m = refl
-header-by (suc k) n m = refl
+header-by zero s = refl
+header-by (suc k) s = refl
 
 headBy : ℕ → ℕ → ℕ → AnswerHead
 headBy zero class span = Heads.Fields class span
@@ -117,7 +120,7 @@ solution-exists p before = go (engineRefusal p (length before)) refl
     go (suc k) e = record { result = Solutions.Refused (suc k); buffer = before; solves = Results.turned-away e }
     go zero e =
         let w : WithinLayout p = or-else-none (problemRefusal p) _ .0 e .0 in
-        let s = answer-exists (problemOf p) (problem-fits p .0 w .n-most) (within-leads p w) in
+        let s = answer-exists (problemOf p) (problem-fits p .0 w .n-most) (layout-within p w) in
         record {
           result = Solutions.Answered (s .class) (numberFor (s .span)) (s .trials) (answerSize (s .class) (nField p) (mField p));
           buffer = written before (answerBytes (nField p) (s .answer));
@@ -157,15 +160,15 @@ the-check = record {
 pub the-read-problem : (left₀ right₀ : List ℕ) → ReadProblem left₀ right₀
 unfolding problemOutcome
 the-read-problem left₀ right₀ = record {
-  header = λ p. headerBy (problemRefusal p) (nField p) (mField p);
-  left = λ p. unlessRefused (problemRefusal p) left₀ (leftTable p);
-  right = λ p. unlessRefused (problemRefusal p) right₀ (rightTable p);
+  header = λ p. headerBy (problemRefusal p) p;
+  left = λ p. unlessRefused (problemRefusal p) left₀ (leftTable (asking p 0));
+  right = λ p. unlessRefused (problemRefusal p) right₀ (rightTable (asking p 0));
   contract = λ p b. record {
-    result = header-by (problemRefusal p) (nField p) (mField p);
-    left-kept = λ h. unless-refused (problemRefusal p) left₀ (leftTable p) h;
-    right-kept = λ h. unless-refused (problemRefusal p) right₀ (rightTable p) h;
-    left-read = λ w. unless-none (problemRefusal p) left₀ (leftTable p) w;
-    right-read = λ w. unless-none (problemRefusal p) right₀ (rightTable p) w;
+    result = header-by (problemRefusal p) p;
+    left-kept = λ h. unless-refused (problemRefusal p) left₀ (leftTable (asking p 0)) h;
+    right-kept = λ h. unless-refused (problemRefusal p) right₀ (rightTable (asking p 0)) h;
+    left-read = λ w. unless-none (problemRefusal p) left₀ (leftTable (asking p 0)) w;
+    right-read = λ w. unless-none (problemRefusal p) right₀ (rightTable (asking p 0)) w;
   };
 }
 
@@ -226,35 +229,35 @@ span-text input = go (problemRefusal input) refl
     go : (k : ℕ) → problemRefusal input ≡ k → SpanText input
     go (suc k) e = record { text = refusedLine (suc k); holds = Programs.refusal e }
     go zero e =
-        let s = answer-exists (problemOf input) (problem-fits input .0 e .n-most) (within-leads input e) in
+        let s = answer-exists (problemOf input) (problem-fits input .0 e .n-most) (layout-within input e) in
         record { text = answerBytes (nField input) (s .answer); holds = Programs.answer (s .answer) e (s .answers) }
 
 -- A header of a size beyond what is kept is refused.
-long-number : (kept : List ℕ) (size : ℕ) → kept-bytes < size → 0 < headerRefusal kept size
+long-number : (kept : List ℕ) (size : ℕ) → kept-bytes < size → 0 < headerRefusal false kept size
 unfolding headerOutcome headerBy
 long-number kept size h = ⊎-elim
-    (λ (e : headerRefusal kept size ≡ 0).
-    let f = header-fits kept size {r = headerBy 0 (nField kept) (mField kept)} (rw e (header-by 0 (nField kept) (mField kept))) refl in
-    absurd (omega (arith, f .size-is, product-most (nField kept) (mField kept) (f .n-most) (f .m-most))))
+    (λ (e : headerRefusal false kept size ≡ 0).
+    let f = header-fits false kept size {r = headerBy 0 kept} (rw e (header-by 0 kept)) refl in
+    absurd (omega (arith, fits-one f, product-most (nField kept) (mField kept) (f .n-most) (f .m-most))))
     (λ g. g)
-    (eq-zero-or-pos (headerRefusal kept size))
+    (eq-zero-or-pos (headerRefusal false kept size))
 
 span-kept : (kept : List ℕ) (size : ℕ) → KeptOutput kept size
-unfolding problemRefusal
+unfolding refusalFor
 span-kept kept size = ⊎-elim
     (λ (h : size ≤ kept-bytes).
     let t = span-text (take size kept) in
     record { output = t .text; holds = λ input k. subst (λ (x : List ℕ). SpanOutput x (t .text)) (sym (kept-whole k h)) (t .holds) })
-    (λ (h : kept-bytes < size). long h (headerRefusal kept size) refl (long-number kept size h))
+    (λ (h : kept-bytes < size). long h (headerRefusal false kept size) refl (long-number kept size h))
     (nat-le-or-lt size kept-bytes)
   where
-    long : kept-bytes < size → (k : ℕ) → headerRefusal kept size ≡ k → 0 < k → KeptOutput kept size
+    long : kept-bytes < size → (k : ℕ) → headerRefusal false kept size ≡ k → 0 < k → KeptOutput kept size
     long h zero e s = absurd (omega arith)
     long h (suc k) e s = record {
       output = refusedLine (suc k);
       holds = λ input f.
-          let same : headerRefusal input (length input) ≡ suc k = ap (headerRefusal input) (f .size-is) ∙ header-agrees input kept (λ i b. kept-at f h i (omega arith)) size ∙ e in
-          Programs.refusal (or-else-suc (headerRefusal input (length input)) _ (omega arith) ∙ same);
+          let same : headerRefusal false input (length input) ≡ suc k = ap (headerRefusal false input) (f .size-is) ∙ one-agrees input kept (λ i b. kept-at f h i (omega arith)) size ∙ e in
+          Programs.refusal (or-else-suc (headerRefusal false input (length input)) _ (omega arith) ∙ same);
     }
 
 pub the-span : Entries.Answer SpanOutput
@@ -295,32 +298,34 @@ module _ (kept : List ℕ) (size : ℕ) (h : kept-bytes < size) (cut : lengthFie
   end : ℕ
   end = lengthField kept + length-bytes
 
-  header-numbered : (k : ℕ) → headerRefusal kept end ≡ k → headerOf (headerBy k (nField kept) (mField kept)) ≡ headerOutcome kept end
+  header-numbered : (k : ℕ) → headerRefusal false kept end ≡ k → headerOf (headerBy k kept) ≡ headerOutcome false kept end
   unfolding headerOutcome
-  header-numbered k e = header-by k (nField kept) (mField kept) ∙ ap (λ (i : ℕ). outcome i (nField kept, mField kept)) (sym e)
+  header-numbered k e = header-by k kept ∙ ap (λ (i : ℕ). outcome i (layoutOf kept)) (sym e)
 
   -- Its problem is refused by its header, by a lead, or its answer by its header.
   verdict-cut : KeptVerdict kept size
   unfolding end headerBy problemRefused checkRefusal
-  verdict-cut = by-header (headerRefusal kept end) refl
+  verdict-cut = by-header (headerRefusal false kept end) refl
     where
-      by-answer : headerRefusal kept end ≡ 0 → problemRefusal (take end kept) ≡ 0 → KeptVerdict kept size
+      by-answer : headerRefusal false kept end ≡ 0 → problemRefusal (take end kept) ≡ 0 → KeptVerdict kept size
       by-answer e w =
-          let small = header-small kept end {header = headerBy 0 (nField kept) (mField kept)} (header-numbered 0 e) refl in
+          let small = header-small kept end {header = headerBy 0 kept} (header-numbered 0 e) refl in
           let some = long-refused (drop end kept) (size - end) (nField kept) (mField kept) (small .2) (small .3) (omega (arith, small .1)) in
+          let same : (i : ℕ) → i < problem-header → getD (take end kept) i 0 ≡ getD kept i 0 = λ i b. getD-take end kept i 0 (omega (arith, small .0)) in
+          let read : HeaderRead (take end kept) (nField kept) (mField kept) =
+          record { none = w; n-is = sym (n-agrees (take end kept) kept same); m-is = sym (m-agrees (take end kept) kept same) } in
           record {
             verdict = Verdicts.refused (answerHeaderRefusal (drop end kept) (size - end) (nField kept) (mField kept));
             judged = λ b l input k.
                 let longer = kept-longer k h in
                 judged-parts input (long-cut longer h cut)
-                (long-answered longer cut {header = headerBy 0 (nField kept) (mField kept)} (header-numbered 0 e) refl
-                (subst WithinLayout (problem-kept longer cut l (omega (arith, small .1))) w) refl some);
+                (long-answered longer cut (subst (λ (s : List ℕ). HeaderRead s (nField kept) (mField kept)) (problem-kept longer cut l (omega (arith, small .1))) read) refl some);
           }
 
-      by-problem : headerRefusal kept end ≡ 0 → (j : ℕ) → problemRefusal (take end kept) ≡ j → KeptVerdict kept size
+      by-problem : headerRefusal false kept end ≡ 0 → (j : ℕ) → problemRefusal (take end kept) ≡ j → KeptVerdict kept size
       by-problem e zero w = by-answer e w
       by-problem e (suc j) w =
-          let small = header-small kept end {header = headerBy 0 (nField kept) (mField kept)} (header-numbered 0 e) refl in
+          let small = header-small kept end {header = headerBy 0 kept} (header-numbered 0 e) refl in
           record {
             verdict = Verdicts.refused (suc j);
             judged = λ b l input k.
@@ -329,13 +334,13 @@ module _ (kept : List ℕ) (size : ℕ) (h : kept-bytes < size) (cut : lengthFie
                 judged-parts input (long-cut longer h cut) (turned (take end input) (drop end input) (suc j) (or-else-suc (problemRefusal (take end input)) _ (omega arith) ∙ is) (omega arith));
           }
 
-      by-header : (k : ℕ) → headerRefusal kept end ≡ k → KeptVerdict kept size
+      by-header : (k : ℕ) → headerRefusal false kept end ≡ k → KeptVerdict kept size
       by-header zero e = by-problem e (problemRefusal (take end kept)) refl
       by-header (suc k) e = record {
         verdict = Verdicts.refused (suc k);
         judged = λ b l input f.
             let longer = kept-longer f h in
-            judged-parts input (long-cut longer h cut) (long-header longer cut {header = headerBy (suc k) (nField kept) (mField kept)} (header-numbered (suc k) e) refl refl);
+            judged-parts input (long-cut longer h cut) (header-turned longer cut {header = headerBy (suc k) kept} (header-numbered (suc k) e) refl refl);
       }
 
 verdict-kept : (kept : List ℕ) (size : ℕ) → KeptVerdict kept size

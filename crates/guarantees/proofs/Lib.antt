@@ -5,6 +5,9 @@ pub mod OwnAnswers
 pub mod Pipe
 pub mod Contracts
 pub mod Demands
+pub mod Holding
+pub mod Potentials
+pub mod Starred
 pub mod WrongPrograms
 pub mod Reached
 pub mod Solvable

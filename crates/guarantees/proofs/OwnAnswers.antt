@@ -1,6 +1,7 @@
 -- The engine's own record, judged by the checker and read by the reader.
 use Prim.Native.Nat.{ℕ, zero, suc, _+_, _≤_}
-use mathlib.Core.Path.{_≡_, refl, ap, ap₂, sym, subst, subst₂, subst₃, _∙_}
+use mathlib.Core.Path.{_≡_, ap, ap₂, sym, subst, subst₂, _∙_}
+use mathlib.Core.Bool.{false}
 use mathlib.Core.List.{List}
 use native.Mathlib.Omega.{arith}
 use native.Mathlib.Nat.{zero-add}
@@ -9,74 +10,31 @@ use Rattle.definitions.specs.Limits.{answer-most}
 use Rattle.definitions.specs.Tropical.{Trop, bot}
 use Rattle.definitions.specs.Offset.{tropOf}
 use Rattle.definitions.specs.Bytes.{Bytes, numAt, Outcome, gives, outcome}
-use Rattle.definitions.specs.ProblemRecord.{WithinLayout, headerOutcome, problemRefusal, problemOf, nField, mField}
-use Rattle.definitions.specs.AnswerRecord.{Answer, answerRefusal, answerOutcome, answerOf, answerSize, answerBytes, written, classField, spanField}
+use Rattle.definitions.specs.ProblemRecord.{WithinLayout, headerOutcome, nField, mField}
+use Rattle.definitions.specs.AnswerRecord.{Answer, answerRefusal, answerOutcome, answerOf, answerBytes, classField, spanField}
 use Rattle.definitions.specs.Verdict as Verdicts
 use Rattle.definitions.specs.Verdict.{Verdict, accepted, Judged, pointOf, strategyOf}
 use Rattle.definitions.specs.Solved as Results
-use Rattle.definitions.specs.Solved.{Solved, answered, Answers, Solves, solved, engineRefusal}
-use Rattle.definitions.proofs.Inputs.{header-passes}
-use Rattle.definitions.proofs.Refusals.{or-else-none, enough-clause, problem-fits}
-use Rattle.definitions.proofs.RoundTrip.{answer-length, answer-back, answer-accepted, size-most, answer-bytes}
-use Rattle.definitions.proofs.Put.{take-put, length-put}
+use Rattle.definitions.specs.Solved.{Solved, answered, Solves, solved}
+use Rattle.definitions.proofs.Inputs.{header-none}
+use Rattle.definitions.proofs.RoundTrip.{answer-back, answer-accepted, answer-bytes}
+use Rattle.definitions.proofs.Solved.{answer-takes}
 use Rattle.definitions.proofs.Outcomes.{outcome-none}
 use Rattle.records.specs.declared.problem.Header.{Header}
+use Rattle.records.specs.declared.problem.Layout.{Layout}
 use Rattle.records.specs.declared.problem.Header.the-variants as Headers
 use Rattle.records.specs.ProblemHeader.{headerOf}
 use Rattle.records.proofs.ProblemHeader.{header-fits, header-refuses}
-use Rattle.answers.specs.declared.answer.AnswerHead.{AnswerHead}
-use Rattle.answers.specs.declared.answer.AnswerHead.the-variants as Heads
-use Rattle.answers.specs.AnswerReading.{headOf, AnswerRead}
-use Rattle.answers.proofs.Meaning.{stamps-point, picks-strategy}
+use Rattle.answer_reader.specs.declared.answer.AnswerHead.{AnswerHead}
+use Rattle.answer_reader.specs.declared.answer.AnswerHead.the-variants as Heads
+use Rattle.answer_reader.specs.AnswerReading.{headOf, AnswerRead}
+use Rattle.answer_reader.proofs.Meaning.{stamps-point, picks-strategy}
 use Rattle.engine.specs.declared.solve.Solved as Declared
 use Rattle.engine.specs.declared.solve.Solved.the-variants.{Refused, Answered}
 use Rattle.engine.specs.Outcome.{solvedOf}
+use Rattle.engine.proofs.Outcomes.{own-wrote}
 use Rattle.guarantees.specs.OwnAnswers.{OwnVerdict, HeldIn, OwnReading}
-use Rattle.guarantees.proofs.Engine.{answer-takes, result-parts, record-stands, verdict-on}
-
--- The engine answered: the record of an answer stands at the buffer's start.
-pub record Wrote (p before : List ℕ) (class : ℕ) (span : Trop) (trials size : ℕ) (after : List ℕ) : Type 0 where
-  pub none : engineRefusal p (length before) ≡ 0
-  pub within : WithinLayout p
-  pub answer : Answer
-  pub answers : Answers (problemOf p) class span trials answer
-  pub inside : size ≤ length after
-  pub buffer-is : after ≡ written before (answerBytes (nField p) answer)
-  pub bytes : take size after ≡ answerBytes (nField p) answer
-
-none-refused : (p : List ℕ) (room : ℕ) → engineRefusal p room ≡ 0 → WithinLayout p × (answer-most ≤ room)
-unfolding engineRefusal
-none-refused p room e =
-    let h = or-else-none (problemRefusal p) _ .0 e in
-    (h .0, enough-clause room answer-most 6 0 .0 (h .1) .0)
-
-wrote-record : (p before : List ℕ) {class : ℕ} {span : Trop} {trials : ℕ} (a : Answer) → engineRefusal p (length before) ≡ 0 → Answers (problemOf p) class span trials a
-    → Wrote p before class span trials (answerSize class (nField p) (mField p)) (written before (answerBytes (nField p) a))
-unfolding written
-wrote-record p before {class} a e ans =
-    let h = none-refused p (length before) e in
-    let f = problem-fits p .0 (h .0) in
-    let size : length (answerBytes (nField p) a) ≡ answerSize class (nField p) (mField p) =
-    answer-length a (nField p) (mField p) answer-most (answer-takes p (h .0) a ans) ∙ ap (λ (k : ℕ). answerSize k (nField p) (mField p)) (ans .class-is) in
-    let most = size-most class (nField p) (mField p) (f .n-most) (f .m-most) in
-    record {
-      none = e;
-      within = h .0;
-      answer = a;
-      answers = ans;
-      inside = rw (length-put before 0 (answerBytes (nField p) a) (omega arith) (omega (arith, size, most, h .1))) (omega (arith, most, h .1));
-      buffer-is = refl;
-      bytes = record-stands p before (h .0) a ans;
-    }
-
--- What an answered result means.
-pub wrote : {p before after : List ℕ} {r : Solved} {class : ℕ} {span : Trop} {trials size : ℕ} → Solves p before r after → r ≡ answered class span trials size
-    → Wrote p before class span trials size after
-wrote (Results.turned-away e) f = absurd (let z : _≡_ {A = ℕ} 0 1 = cc in omega arith)
-wrote {p} {before} {after} {class = class} {span = span} {trials = trials} {size = size} (solved {class = c} a e ans) f =
-    let same = result-parts f in
-    let w = subst₃ (λ x y z. Wrote p before x y z (answerSize c (nField p) (mField p)) after) (same .0) (same .1) (same .2) (wrote-record p before a e ans) in
-    subst (λ (z : ℕ). Wrote p before class span trials z after) (same .3) w
+use Rattle.guarantees.proofs.Engine.{verdict-on}
 
 -- The code's result, refused.
 pub own-refused : {p before after : List ℕ} {r : Declared.Solved} {k : ℕ} → Solves p before (solvedOf r) after → r ≡ Refused k
@@ -92,12 +50,6 @@ own-refused {p} {before} {after} {r} {k} h e = go h (ap solvedOf e)
           λ stamps picks. subst (λ (x : ℕ). OwnReading p before stamps picks (Outcome.refusal x) before stamps picks) same (OwnReading.turned-away z),
         )
     go (solved a z ans) f = absurd (let z : _≡_ {A = ℕ} 0 1 = cc in omega arith)
-
--- The code's result, answered.
-pub own-wrote : {p before after : List ℕ} {r : Declared.Solved} {class span trials size : ℕ} → Solves p before (solvedOf r) after → r ≡ Answered class span trials size
-    → Wrote p before class (tropOf span) trials size after
-unfolding solvedOf
-own-wrote h e = wrote h (ap solvedOf e)
 
 pub own-inside : {p before after : List ℕ} {r : Declared.Solved} {class span trials size : ℕ} → Solves p before (solvedOf r) after → r ≡ Answered class span trials size → size ≤ length after
 own-inside h e = own-wrote h e .inside
@@ -139,11 +91,11 @@ own-reading {p} {before} {after} {class = class} {span} {trials} {size} h e head
 
 -- ---- the problem's n and m
 
-pub never-refused : (p : List ℕ) {header : Header} {k : ℕ} {A : Type 0} → headerOf header ≡ headerOutcome p (length p) → header ≡ Headers.Refused k → WithinLayout p → A
-never-refused p e f w = absurd (let g = header-refuses p (length p) e f in omega (arith, header-passes p w, g .0, g .1))
+pub never-refused : (p : List ℕ) {header : Header} {k : ℕ} {A : Type 0} → headerOf header ≡ headerOutcome false p (length p) → header ≡ Headers.Refused k → WithinLayout p → A
+never-refused p e f w = absurd (let g = header-refuses false p (length p) e f in omega (arith, header-none false p w, g .0, g .1))
 
-pub reads-there : (p s : List ℕ) {header : Header} {n m : ℕ} {head : AnswerHead} {stamps₀ stamps picks₀ picks : List ℕ} → headerOf header ≡ headerOutcome p (length p)
-    → header ≡ Headers.Fields n m → AnswerRead s n m head stamps₀ stamps picks₀ picks → WithinLayout p → AnswerRead s (nField p) (mField p) head stamps₀ stamps picks₀ picks
+pub reads-there : (p s : List ℕ) {header : Header} {l : Layout} {head : AnswerHead} {stamps₀ stamps picks₀ picks : List ℕ} → headerOf header ≡ headerOutcome false p (length p)
+    → header ≡ Headers.Told l → AnswerRead s (l .n) (l .m) head stamps₀ stamps picks₀ picks → WithinLayout p → AnswerRead s (nField p) (mField p) head stamps₀ stamps picks₀ picks
 reads-there p s {head = head} {stamps₀} {stamps} {picks₀} {picks} e f g w =
-    let h = header-fits p (length p) e f in
+    let h = header-fits false p (length p) e f in
     subst₂ (λ (n m : ℕ). AnswerRead s n m head stamps₀ stamps picks₀ picks) (h .n-is) (h .m-is) g

@@ -6,6 +6,7 @@ use mathlib.Core.Logic.{_⊎_, inl, inr, ⊎-elim}
 use native.Mathlib.Omega.{arith}
 use native.Mathlib.Nat.{eq-zero-or-pos}
 use lib.ListN.{length, getD, replicate, List·getD-eq-default}
+use Rattle.base.proofs.Numbers.{nat-le-or-lt}
 use Rattle.definitions.specs.Limits.{highest-n}
 use Rattle.definitions.specs.Tropical.{Trop, bot, fin, Finite}
 use Rattle.definitions.specs.Problem.{Problem}
@@ -13,7 +14,6 @@ use Rattle.definitions.specs.Certificate.{Strategy, Reachable, start, onward, A
 use Rattle.definitions.specs.ProblemRecord.{listOf}
 use Rattle.definitions.specs.Verdict.{strategyOf}
 use Rattle.definitions.specs.Solved.{IdleVariables, IdleRows}
-use Rattle.definitions.proofs.Whole.{nat-le-or-lt}
 use Rattle.definitions.proofs.Tropical.{bot-not-fin}
 use Rattle.definitions.proofs.ProblemBack.{listed-length, listed-at}
 use Rattle.duality.specs.Picks.{NoneAbove, AgreeReached, AgreeInUse}

@@ -10,6 +10,7 @@ use lib.ListN.{length, getD, List·getD-eq-default}
 use lib.IntN.{ℤ, pos, negℤ, natAbs, _+ℤ_, _-ℤ_}
 use lib.Signed.{_≤ℤ_}
 use borrow.Author.Tests.{eq-eqb, le-leb}
+use Rattle.base.proofs.Numbers.{nat-le-or-lt}
 use Rattle.definitions.specs.Limits.{highest-n, highest-m, lead-limit, span-limit, stamp-limit, class-optimal, class-unbounded, class-infeasible}
 use Rattle.definitions.specs.Tropical.{Trop, bot, fin, plus, Finite}
 use Rattle.definitions.specs.Problem.{Problem, Point, Feasible, value, Attainable, Optimal, Unbounded, Infeasible}
@@ -22,7 +23,7 @@ use Rattle.definitions.specs.Verdict as Verdicts
 use Rattle.definitions.specs.Verdict.{strategyOf}
 use Rattle.definitions.specs.Solved as Results
 use Rattle.definitions.specs.Solved.{Found, Answers, IdleVariables, IdleRows}
-use Rattle.definitions.proofs.Whole.{up, down, whole, plus-read, neg-read, abs-show, nat-le-or-lt}
+use Rattle.definitions.proofs.Whole.{up, down, whole, plus-read, neg-read, abs-show}
 use Rattle.definitions.proofs.Tropical.{blank-or-finite}
 use Rattle.definitions.proofs.Refusals.{form-fits}
 use Rattle.definitions.proofs.ProblemBack.{listed-length, listed-at}

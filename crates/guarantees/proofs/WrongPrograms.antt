@@ -2,7 +2,7 @@
 -- and some that break what these leave. Each theorem says what the program does and which statement it breaks.
 use Prim.Native.Nat.{ℕ, zero, suc, _+_, _≤_, _<_}
 use mathlib.Core.Path.{_≡_, refl, ap, sym, _∙_}
-use mathlib.Core.Bool.{Bool, true, false, cond, true≢false}
+use mathlib.Core.Bool.{Bool, true, false, cond, _||_, true≢false, false≢true}
 use mathlib.Core.Logic.{⊎-elim}
 use mathlib.Core.List.{List, [], _∷_}
 use native.Mathlib.Omega.{arith}
@@ -17,8 +17,8 @@ use Rattle.definitions.specs.Tropical.{Trop, bot, fin, plus, larger, largest, F
 use Rattle.definitions.specs.Problem.{Problem, Point, Feasible, Value, side, value, minus, minus-infinity, plus-infinity, Optimal, _≼_, lowest, between, highest}
 use Rattle.definitions.specs.Problem as Problems
 use Rattle.definitions.specs.Bytes.{Outcome, gives, put, numAt, numsAt, signed, tropField, tropAt, all, blank-or-within, whole-within}
-use Rattle.definitions.specs.ProblemRecord.{WithinLayout, problemOf, nField, mField, problemRefusal, headerRefusal, leadsOf}
-use Rattle.definitions.specs.AnswerRecord.{Answer, answerBytes, answerSize, pickCount, highestPick, written, writerRefusal, answerRefusal, answerHeaderRefusal, answerOf, formRefusal, spanFits, stampsFit, picksFit, is-zero, is-blank}
+use Rattle.definitions.specs.ProblemRecord.{WithinLayout, problemOf, nField, mField, problemRefusal, headerRefusal, headerJudged, leadsOf, refusalFor}
+use Rattle.definitions.specs.AnswerRecord.{Answer, known-class, answerBytes, answerSize, pickCount, highestPick, written, writerRefusal, writerJudged, answerRefusal, answerHeaderRefusal, answerHeaderJudged, answerOf, formRefusal, spanFits, stampsFit, picksFit, is-zero, is-blank}
 use Rattle.definitions.specs.Certificate.{Strategy, Reachable, start, onward, Anchor, Leads, RowLeads}
 use Rattle.definitions.specs.Verdict.{accepts, accepted, Accepted, answerFor, pointOf, strategyOf}
 use Rattle.definitions.specs.Solved.{Solved, engineRefusal, answered, Found, optimal, unbounded, infeasible, Answers}
@@ -34,7 +34,8 @@ use Rattle.definitions.proofs.Refusals.{answer-fits, writer-fits}
 use Rattle.definitions.proofs.RoundTrip.{writer-accepts, answer-length, answer-bytes, size-most}
 use Rattle.checker.proofs.Answers.{picks-at}
 use Rattle.definitions.proofs.Examples.{anchor-only, not-accepted-M}
-use Rattle.guarantees.proofs.Engine.{found-as, engine-answer, answer-takes}
+use Rattle.definitions.proofs.Solved.{answer-takes}
+use Rattle.guarantees.proofs.Engine.{found-as, engine-answer}
 use Rattle.guarantees.proofs.Records.{read-fields}
 
 -- ---- the examples' bytes, and a buffer of 206 zeros
@@ -44,7 +45,7 @@ unfolding example-A all
 slice-A = record { bytes = bytes-tested (example-A .problem) refl; size = omega arith }
 
 within-A : WithinLayout (example-A .problem)
-unfolding example-A problemRefusal headerRefusal leadsOf numAt numsAt all blank-or-within tropField signed
+unfolding example-A refusalFor headerRefusal headerJudged leadsOf numAt numsAt all blank-or-within tropField signed
 within-A = refl
 
 slice-B : Slice (example-B .problem)
@@ -52,7 +53,7 @@ unfolding example-B all
 slice-B = record { bytes = bytes-tested (example-B .problem) refl; size = omega arith }
 
 within-B : WithinLayout (example-B .problem)
-unfolding example-B problemRefusal headerRefusal leadsOf numAt numsAt all blank-or-within tropField signed
+unfolding example-B refusalFor headerRefusal headerJudged leadsOf numAt numsAt all blank-or-within tropField signed
 within-B = refl
 
 slices-M : Slice (example-M .problem) × Slice (example-M .answer)
@@ -63,7 +64,7 @@ slices-M = (
 )
 
 within-M : WithinLayout (example-M .problem)
-unfolding example-M problemRefusal headerRefusal leadsOf numAt numsAt all blank-or-within tropField signed
+unfolding example-M refusalFor headerRefusal headerJudged leadsOf numAt numsAt all blank-or-within tropField signed
 within-M = refl
 
 zeros : List ℕ
@@ -120,7 +121,7 @@ unfolding numAt zeros
 zero-length k = omega (arith, zeros-at answer-most k 0, zeros-at answer-most k (0 + 1), zeros-at answer-most k (0 + 1 + 1), zeros-at answer-most k (0 + 1 + 1 + 1))
 
 form-M : answerRefusal (example-M .answer) (nField (example-M .problem)) (mField (example-M .problem)) ≡ 0
-unfolding example-M answerRefusal answerHeaderRefusal answerOf formRefusal spanFits stampsFit picksFit is-zero is-blank numAt numsAt all blank-or-within whole-within tropField tropAt signed
+unfolding example-M answerRefusal answerHeaderRefusal answerHeaderJudged answerOf formRefusal spanFits stampsFit picksFit is-zero is-blank numAt numsAt all blank-or-within whole-within tropField tropAt signed
 form-M = refl
 
 -- ---- the wrong programs
@@ -191,12 +192,25 @@ abbrev FillsPicks : Engine → Type 0
 FillsPicks engine =
     (p buffer : List ℕ) (a : Answer) → engine .buffer p buffer ≡ written buffer (answerBytes (nField p) a) → (j : ℕ) → j < length (a .picks) → 0 < getD (a .picks) j 0
 
-picks-some : (class n m : ℕ) → 0 < pickCount class n m
-picks-some class n m = go (eqb class class-unbounded)
+picks-some : (class n m : ℕ) → known-class class ≡ true → 0 < pickCount class n m
+picks-some class n m k = go (eqb class class-optimal) (eqb class class-unbounded) (eqb class class-infeasible) k
   where
-    go : (t : Bool) → 0 < cond t (suc m) (suc n)
-    go true = omega arith
-    go false = omega arith
+    go : (r s t : Bool) → (r || (s || t)) ≡ true → 0 < cond r (suc n) (cond s (suc m) (cond t (suc n) 0))
+    go true s t e = omega arith
+    go false true t e = omega arith
+    go false false true e = omega arith
+    go false false false e = absurd (false≢true e)
+
+-- A class that is not bottomless has a pick a moment, and its picks are rows.
+picks-rows : (class n m : ℕ) → known-class class ≡ true → (class ≡ class-unbounded → ⊥) → (pickCount class n m ≡ suc n) × (highestPick class n m ≡ suc m)
+picks-rows class n m k d = go (eqb class class-optimal) (eqb class class-unbounded) (eqb class class-infeasible) (ne-eqb class class-unbounded d) k
+  where
+    go : (r s t : Bool) → s ≡ false → (r || (s || t)) ≡ true
+        → (cond r (suc n) (cond s (suc m) (cond t (suc n) 0)) ≡ suc n) × (cond r (suc m) (cond s (suc n) (cond t (suc m) 0)) ≡ suc m)
+    go true s t z e = (refl, refl)
+    go false true t z e = absurd (false≢true (sym z))
+    go false false true z e = (refl, refl)
+    go false false false z e = absurd (false≢true e)
 
 -- B is bottomless, and its row is in use nowhere.
 not-below : {u v : Value} → u ≼ v → u ≡ plus-infinity → v ≡ minus-infinity → ⊥
@@ -229,7 +243,8 @@ pub idle-row-filled : (engine : Engine) → FillsPicks engine → EngineSolves e
 unfolding strategyOf
 idle-row-filled engine fills solves =
     let e = engine-answer engine solves (example-B .problem) zeros slice-B slice-zeros within-B long-zeros in
-    let some = fills (example-B .problem) zeros (e .answer) (e .buffer-is) 0 (rw (answer-takes (example-B .problem) within-B (e .answer) (e .answers) .picks-count) (picks-some (e .answer .class) _ _)) in
+    let w = answer-takes (example-B .problem) within-B (e .answer) (e .answers) in
+    let some = fills (example-B .problem) zeros (e .answer) (e .buffer-is) 0 (rw (w .picks-count) (picks-some (e .answer .class) _ _ (w .class-known))) in
     omega (arith, some, e .answers .idle-rows (class-B (e .answers .found)) 0 (unused-B (strategyOf (e .answer .picks))))
 
 -- A with moment 1 in no list: 5 and blank, 2 and blank.
@@ -241,7 +256,7 @@ unfolding problem-idle all
 slice-idle = record { bytes = bytes-tested problem-idle refl; size = omega arith }
 
 within-idle : WithinLayout problem-idle
-unfolding problem-idle problemRefusal headerRefusal leadsOf numAt numsAt all blank-or-within tropField signed
+unfolding problem-idle refusalFor headerRefusal headerJudged leadsOf numAt numsAt all blank-or-within tropField signed
 within-idle = refl
 
 counts-idle : (nField problem-idle ≡ 1) × (mField problem-idle ≡ 0)
@@ -277,9 +292,9 @@ unfolding strategyOf problemOf
 idle-variable-filled engine fills solves =
     let e = engine-answer engine solves problem-idle zeros slice-idle slice-zeros within-idle long-zeros in
     let w = answer-takes problem-idle within-idle (e .answer) (e .answers) in
-    let other : eqb (e .answer .class) class-unbounded ≡ false = ne-eqb _ _ (λ z. class-idle (e .answers .found) (sym (e .answers .class-is) ∙ z)) in
-    let count : length (e .answer .picks) ≡ 2 = w .picks-count ∙ rw (other, counts-idle .0) refl in
-    let highest : highestPick (e .answer .class) (nField problem-idle) (mField problem-idle) ≡ 1 = rw (other, counts-idle .1) refl in
+    let other = picks-rows (e .answer .class) (nField problem-idle) (mField problem-idle) (w .class-known) (λ z. class-idle (e .answers .found) (sym (e .answers .class-is) ∙ z)) in
+    let count : length (e .answer .picks) ≡ 2 = w .picks-count ∙ other .0 ∙ rw (counts-idle .0) refl in
+    let highest : highestPick (e .answer .class) (nField problem-idle) (mField problem-idle) ≡ 1 = other .1 ∙ rw (counts-idle .1) refl in
     let most : getD (e .answer .picks) 0 0 ≤ 1 = rw highest at (picks-at _ (e .answer .picks) (w .form .picks-fit) 0) in
     let some = fills problem-idle zeros (e .answer) (e .buffer-is) 1 (omega arith) in
     let none = e .answers .idle-variables (class-idle (e .answers .found)) 1
@@ -338,7 +353,7 @@ unfolding written put
 mark-seen e = let z : _≡_ {A = ℕ} 1 (getD zeros 0 0) = ap (λ (l : List ℕ). getD l 0 0) e in omega (arith, z, zero-at 0)
 
 none-refused : (room : ℕ) → engineRefusal [] room ≡ 1
-unfolding engineRefusal problemRefusal headerRefusal numAt
+unfolding engineRefusal refusalFor headerRefusal headerJudged numAt
 none-refused room = refl
 
 pub refusal-marked : (engine : Engine) → ((p buffer : List ℕ) → engine .buffer p buffer ≡ written buffer (1 ∷ [])) → EngineRefuses engine → ⊥
@@ -361,7 +376,7 @@ handed-unknown = record {
 }
 
 unknown-refused : (room : ℕ) → answer-most ≤ room → writerRefusal answer-unknown 0 0 room ≡ 10
-unfolding writerRefusal answer-unknown
+unfolding writerRefusal writerJudged answer-unknown
 unknown-refused room h = rw (le-ltb room answer-most h) refl
 
 pub refusal-written : (write : Writer) → ((a : Answer) (n m : ℕ) (buffer : List ℕ) → write .buffer a n m buffer ≡ written buffer (1 ∷ [])) → WriterRefuses write → ⊥

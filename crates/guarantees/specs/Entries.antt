@@ -2,6 +2,7 @@
 -- proofs/Demands.antt ask for. That each can be met is shown in proofs/Inhabited.antt.
 use Prim.Native.Nat.{ℕ}
 use mathlib.Core.Path.{_≡_}
+use mathlib.Core.Bool.{false}
 use mathlib.Core.List.{List}
 use lib.ListN.{length, take}
 use Rattle.definitions.specs.Limits.{kept-bytes}
@@ -11,12 +12,12 @@ use Rattle.definitions.specs.Solved.{Solves}
 use Rattle.definitions.specs.Programs.{ReadFrom}
 use Rattle.definitions.specs.Demands.{Word, Words, Slice}
 use Rattle.records.specs.declared.problem.Header.{Header}
-use Rattle.leads.specs.Tables.{ProblemRead}
-use Rattle.answers.specs.declared.answer.AnswerHead.{AnswerHead}
-use Rattle.answers.specs.Fields.{fieldsOf}
-use Rattle.answers.specs.AnswerReading.{AnswerRead}
-use Rattle.writing.specs.declared.writer.Written.{Written}
-use Rattle.writing.specs.AnswerWriting.{AnswerWritten}
+use Rattle.problem_records.specs.Tables.{ProblemRead}
+use Rattle.answer_reader.specs.declared.answer.AnswerHead.{AnswerHead}
+use Rattle.answer_reader.specs.Fields.{fieldsOf}
+use Rattle.answer_reader.specs.AnswerReading.{AnswerRead}
+use Rattle.answer_writer.specs.declared.writer.Written.{Written}
+use Rattle.answer_writer.specs.AnswerWriting.{AnswerWritten}
 use Rattle.checker.specs.declared.check.Verdict.{Verdict}
 use Rattle.checker.specs.Outcome.{verdictOf}
 use Rattle.engine.specs.declared.solve.Solved.{Solved}
@@ -33,21 +34,21 @@ pub record Check : Type 0 where
   pub verdict : List ℕ → List ℕ → Verdict
   pub contract : (p a : List ℕ) → Slice p → Slice a → Judged p a (verdictOf (verdict p a))
 
--- `leads::reader::read_problem`, lent two tables: the header, and the tables afterwards.
+-- `problem_records::reader::read_problem`, lent two tables: the header, and the tables afterwards.
 pub record ReadProblem (left₀ right₀ : List ℕ) : Type 0 where
   pub header : List ℕ → Header
   pub left : List ℕ → List ℕ
   pub right : List ℕ → List ℕ
-  pub contract : (p : List ℕ) → Slice p → ProblemRead p left₀ right₀ (header p) (left p) (right p)
+  pub contract : (p : List ℕ) → Slice p → ProblemRead false p left₀ right₀ (header p) (left p) (right p)
 
--- `answers::answer::read_answer`, lent two arrays: the head, and the arrays afterwards.
+-- `answer_reader::answer::read_answer`, lent two arrays: the head, and the arrays afterwards.
 pub record ReadAnswer (stamps₀ picks₀ : List ℕ) : Type 0 where
   pub head : List ℕ → ℕ → ℕ → AnswerHead
   pub stamps : List ℕ → ℕ → ℕ → List ℕ
   pub picks : List ℕ → ℕ → ℕ → List ℕ
   pub contract : (s : List ℕ) (n m : ℕ) → Slice s → Word n → Word m → AnswerRead s n m (head s n m) stamps₀ (stamps s n m) picks₀ (picks s n m)
 
--- What is handed to `writing::writer::write_answer` besides the buffer.
+-- What is handed to `answer_writer::writer::write_answer` besides the buffer.
 pub record WriterFields : Type 0 where
   pub class : ℕ
   pub span : ℕ
@@ -65,7 +66,7 @@ pub record WriterFieldsFit (f : WriterFields) : Type 0 where
   pub n : Word (f .n)
   pub m : Word (f .m)
 
--- `writing::writer::write_answer`: the result, and the buffer afterwards.
+-- `answer_writer::writer::write_answer`: the result, and the buffer afterwards.
 pub record WriteAnswer : Type 0 where
   pub result : WriterFields → List ℕ → Written
   pub buffer : WriterFields → List ℕ → List ℕ

@@ -1,3 +1,4 @@
 pub mod Entries
 pub mod OwnAnswers
 pub mod Pipe
+pub mod ClassHolds

@@ -1,15 +1,17 @@
 // The engine's own answers: what the checker says of them, and what the reader gives. The bytes that are judged and read
 // are those that the engine wrote.
 ghost use Rattle.definitions.specs.ProblemRecord.{WithinLayout, nField, mField};
-ghost use Rattle.answers.specs.AnswerReading.{headOf, AnswerRead};
+ghost use Rattle.answer_reader.specs.AnswerReading.{headOf, AnswerRead};
 ghost use Rattle.guarantees.specs.OwnAnswers.{OwnVerdict, OwnReading};
 ghost use Rattle.checker.specs.Outcome.{verdictOf};
-use answers::answer::AnswerHead;
-use answers::answer::read_answer;
+use answer_reader::answer::AnswerHead;
+use answer_reader::answer::read_answer;
 use checker::check::Verdict;
 use checker::check::check;
 use engine::solve::Solved;
 use engine::solve::solve;
+use records::limits::ROWS;
+use records::limits::STRIDE;
 use records::problem::Header;
 use records::problem::read_header;
 
@@ -28,15 +30,15 @@ pub fn solve_then_check(problem: &[u8], answer: &mut [u8]) -> Verdict
 fn read_own(
     problem: &[u8],
     written: &[u8],
-    stamps: &mut [u64; 32],
-    picks: &mut [u64; 64],
+    stamps: &mut [u64; STRIDE],
+    picks: &mut [u64; ROWS],
 ) -> AnswerHead
     ensures { λ r. ⌜ (WithinLayout (now (problem .entry)) → AnswerRead (now (written .entry)) (nField (now (problem .entry))) (mField (now (problem .entry))) r (now (stamps .entry)) (now (stamps .exit)) (now (picks .entry)) (now (picks .exit))) ⌝ }
 {
-    let header = read_header(problem, problem.len());
+    let header = read_header(problem, problem.len(), false);
     match header {
         Header::Refused(k) => AnswerHead::Refused(k),
-        Header::Fields(n, m) => read_answer(written, n, m, stamps, picks),
+        Header::Told(layout) => read_answer(written, layout.n, layout.m, stamps, picks),
     }
 }
 
@@ -44,8 +46,8 @@ fn read_own(
 pub fn solve_then_read(
     problem: &[u8],
     answer: &mut [u8],
-    stamps: &mut [u64; 32],
-    picks: &mut [u64; 64],
+    stamps: &mut [u64; STRIDE],
+    picks: &mut [u64; ROWS],
 ) -> AnswerHead
     ensures { λ r. ⌜ OwnReading (now (problem .entry)) (now (answer .entry)) (now (stamps .entry)) (now (picks .entry)) (headOf r) (now (answer .exit)) (now (stamps .exit)) (now (picks .exit)) ⌝ }
 {

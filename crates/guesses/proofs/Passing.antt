@@ -6,9 +6,9 @@ use mathlib.Core.Logic.{⊎-elim}
 use mathlib.Core.List.{List}
 use native.Mathlib.Omega.{arith}
 use native.Mathlib.Nat.{eq-zero-or-pos}
+use Rattle.base.proofs.Numbers.{nat-le-or-lt}
 use Rattle.definitions.specs.Tropical.{_⊑_}
 use Rattle.definitions.specs.Problem.{Point}
-use Rattle.definitions.proofs.Whole.{nat-le-or-lt}
 use Rattle.definitions.proofs.Tropical.{⊑-trans, ⊑-of-eq}
 use Rattle.definitions.proofs.Offset.{trop-order}
 use Rattle.duality.specs.System.{System, Solves, sideOf}

@@ -6,12 +6,12 @@ use mathlib.Core.List.{List, map}
 use native.Mathlib.Omega.{arith}
 use lib.ListN.{length, getD, set, replicate, length-set, length-replicate, length-map}
 use lib.Seq.{getD-set-same, getD-set-other}
-use Rattle.definitions.proofs.Whole.{nat-le-or-lt}
+use Rattle.base.specs.Filled.{Filled}
+use Rattle.base.proofs.Numbers.{nat-le-or-lt}
+use Rattle.base.proofs.Filled.{zeros}
 use Rattle.records.specs.Decoded.{Near}
 use Rattle.records.proofs.Near.{near-zero}
 use Rattle.trials.specs.Tables.{value-limit, low-half, high, highs, Ranged, Lows}
-use Rattle.trials.specs.Filled.{Filled}
-use Rattle.trials.proofs.Filled.{zeros-at}
 use Rattle.trials.proofs.Low.{high-zero, high-whole, highs-at, highs-size}
 
 -- A height that is kept: blank, or within 2²⁵ of the low number of 0.
@@ -65,7 +65,7 @@ pub lows-start : (width l : ℕ) → width ≤ 32 → l < width → Lows width (
 lows-start width l w h = lows-rise width (replicate 32 0) l low-half refl
     (record {
       size = length-replicate {A = ℕ} 32 0;
-      ranged = record { size = length-map (replicate 32 0) high ∙ length-replicate {A = ℕ} 32 0; near = λ k. rw (highs-at (replicate 32 0) k, zeros-at 32 k) near-blank };
-      rest = λ k b. zeros-at 32 k;
+      ranged = record { size = length-map (replicate 32 0) high ∙ length-replicate {A = ℕ} 32 0; near = λ k. rw (highs-at (replicate 32 0) k, zeros 32 k) near-blank };
+      rest = λ k b. zeros 32 k;
     })
     w h (near-height low-half (omega arith) (omega arith))

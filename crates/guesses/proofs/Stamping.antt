@@ -5,13 +5,13 @@ use mathlib.Core.Logic.{⊎-elim}
 use mathlib.Core.List.{List}
 use native.Mathlib.Omega.{arith}
 use lib.ListN.{getD, replicate, length-replicate}
+use Rattle.base.specs.Filled.{Filled}
+use Rattle.base.proofs.Numbers.{nat-le-or-lt, positive}
+use Rattle.base.proofs.Filled.{zeros, filled-map, filled-end}
 use Rattle.definitions.specs.Limits.{stamp-limit}
-use Rattle.definitions.proofs.Whole.{nat-le-or-lt}
 use Rattle.records.specs.Decoded.{Near}
 use Rattle.records.proofs.Near.{near-zero}
 use Rattle.trials.specs.Tables.{value-limit, low-half, high, highs, Lows}
-use Rattle.trials.specs.Filled.{Filled}
-use Rattle.trials.proofs.Filled.{positive, zeros-at, filled-map, filled-end}
 use Rattle.trials.proofs.Low.{high-zero, high-whole, highs-at}
 use Rattle.guesses.specs.Guess.{StampIs, Joined, Stamped}
 use Rattle.guesses.proofs.Rising.{lows-filled}
@@ -49,10 +49,10 @@ pub stamped-none : (width : ℕ) → Stamped width (replicate 32 0)
 stamped-none width = record {
   stamps = record {
     size-is = length-replicate {A = ℕ} 32 0;
-    each = λ k h. rw (zeros-at 32 k, high-zero) (near-zero stamp-limit);
-    rest = λ k h. zeros-at 32 k;
+    each = λ k h. rw (zeros 32 k, high-zero) (near-zero stamp-limit);
+    rest = λ k h. zeros 32 k;
   };
-  anchored = λ h. absurd (omega (arith, zeros-at 32 0));
+  anchored = λ h. absurd (omega (arith, zeros 32 0));
 }
 
 -- Stamps are low values in range.

@@ -4,12 +4,12 @@ use mathlib.Core.Path.{_≡_}
 use mathlib.Core.Bool.{Bool, true, false}
 use mathlib.Core.List.{List}
 use lib.ListN.{length, getD}
-use Rattle.definitions.specs.Limits.{stamp-limit}
+use Rattle.base.specs.Filled.{Filled}
+use Rattle.definitions.specs.Limits.{stamp-limit, stride}
 use Rattle.definitions.specs.Problem.{Point}
 use Rattle.duality.specs.System.{System, Solves}
 use Rattle.records.specs.Decoded.{Near}
 use Rattle.trials.specs.Tables.{value-limit, low-half, high}
-use Rattle.trials.specs.Filled.{Filled}
 use Rattle.guesses.specs.declared.guess.Guess.{Guess}
 
 -- The point solves the system, or does not.
@@ -24,11 +24,11 @@ pub record StampIs (k first r : ℕ) : Type 0 where
 
 -- Low numbers in range, the first `width` of them.
 abbrev pub Joined : ℕ → List ℕ → Type 0
-Joined width x = Filled (λ k v. Near value-limit (high v)) 32 width x
+Joined width x = Filled (λ k v. Near value-limit (high v)) stride width x
 
 -- Stamps of a point, the first `width` of them; that of variable 0 is blank or stands for 0.
 pub record Stamped (width : ℕ) (x : List ℕ) : Type 0 where
-  pub stamps : Filled (λ k v. Near stamp-limit (high v)) 32 width x
+  pub stamps : Filled (λ k v. Near stamp-limit (high v)) stride width x
   pub anchored : 0 < getD x 0 0 → getD x 0 0 ≡ low-half
 
 -- The point of a guess has the form of stamps.

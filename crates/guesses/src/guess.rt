@@ -2,20 +2,22 @@
 // with these targets alone is a question of longest walks (Newton's method on strategies of rows). The heights of the walks,
 // joined with the point in hand moved below them, are a point that often has this span.
 ghost use Prim.Native.Nat.{ℕ, _+_, _<_, _≤_};
-ghost use Rattle.definitions.specs.Limits.{lead-limit};
+ghost use Rattle.definitions.specs.Limits.{lead-limit, stride, table-rows};
 ghost use Rattle.records.specs.Decoded.{Near};
 ghost use Rattle.trials.specs.Tables.{raised-limit, value-limit, side-most, side-least, high, Table, Ranged, Lows};
-ghost use Rattle.frames.specs.Frames.{Ready};
+ghost use Rattle.trial_tables.specs.Frames.{Ready};
 ghost use Rattle.guesses.specs.Guess.{StampIs, Joined, Stamped, Guessed};
 use crate::heights::in_range;
 use crate::heights::lowered;
 use crate::heights::risen;
 use crate::heights::target;
 use crate::heights::targets_of;
-use answers::limits::STAMP_LIMIT;
-use frames::frame::Frame;
 use records::limits::OFFSET;
-use trials::policy::raised;
+use records::limits::STAMP_LIMIT;
+use records::limits::STRIDE;
+use records::limits::TABLE;
+use trial_tables::frame::Frame;
+use trials::policy::high_of;
 use trials::values::LOW;
 use trials::values::full_side;
 use trials::values::plus;
@@ -47,11 +49,17 @@ fn moved(k: u32, first: u32, there: u32) -> u32
 }
 
 // Heights joined with a point that is moved below them: each variable at the larger of both.
-fn joined(heights: &[u32; 32], x: &[u32; 32], first: u32, there: u32, width: usize) -> [u32; 32]
-    requires { ⌜ Lows width (now heights) × Lows width (now x) × (width ≤ 32) × (first ≤ side-most) × (side-least ≤ first) × (there ≤ side-most) ⌝ }
+fn joined(
+    heights: &[u32; STRIDE],
+    x: &[u32; STRIDE],
+    first: u32,
+    there: u32,
+    width: usize,
+) -> [u32; STRIDE]
+    requires { ⌜ Lows width (now heights) × Lows width (now x) × (width ≤ stride) × (first ≤ side-most) × (side-least ≤ first) × (there ≤ side-most) ⌝ }
     ensures { λ r. ⌜ Joined width r ⌝ }
 {
-    let mut out = [0u32; 32];
+    let mut out = [0u32; STRIDE];
     let mut j = 0;
     while j < width {
         out[j] = larger(heights[j], moved(x[j], first, there));
@@ -82,12 +90,12 @@ fn stamp(k: u32, first: u32) -> u32
 }
 
 // A point's values less that of variable 0.
-fn anchored(x: &[u32; 32], width: usize) -> [u32; 32]
-    requires { ⌜ Joined width (now x) × (0 < width) × (width ≤ 32) ⌝ }
+fn anchored(x: &[u32; STRIDE], width: usize) -> [u32; STRIDE]
+    requires { ⌜ Joined width (now x) × (0 < width) × (width ≤ stride) ⌝ }
     ensures { λ r. ⌜ Stamped width r ⌝ }
 {
     let first = x[0];
-    let mut out = [0u32; 32];
+    let mut out = [0u32; STRIDE];
     let mut j = 0;
     while j < width {
         out[j] = stamp(x[j], first);
@@ -99,17 +107,17 @@ fn anchored(x: &[u32; 32], width: usize) -> [u32; 32]
 // A span, and a point in low numbers that may show it. Where there is no guess the span is 0 and the point blank.
 pub struct Guess {
     pub span: u64,
-    pub point: [u32; 32],
+    pub point: [u32; STRIDE],
 }
 
 // The heights with the targets of a point, where the variable `start` is at 0.
 fn heights_at(
-    left: &[u32; 2048],
-    right: &[u32; 2048],
+    left: &[u32; TABLE],
+    right: &[u32; TABLE],
     frame: Frame,
-    x: &[u32; 32],
+    x: &[u32; STRIDE],
     start: usize,
-) -> [u32; 32]
+) -> [u32; STRIDE]
     requires { ⌜ Ready frame (now left) (now right) × Lows (frame .n + 1) (now x) × (start ≤ frame .n) ⌝ }
     ensures { λ r. ⌜ Lows (frame .n + 1) r ⌝ }
 {
@@ -123,19 +131,19 @@ fn heights_at(
 // The guess from heights whose first side is `first`, where that of the point is `there`; this is the objective's right
 // coefficient of the variable at 0.
 fn guess_from(
-    heights: &[u32; 32],
-    x: &[u32; 32],
+    heights: &[u32; STRIDE],
+    x: &[u32; STRIDE],
     first: u32,
     there: u32,
     coefficient: u32,
     width: usize,
 ) -> Guess
-    requires { ⌜ Lows width (now heights) × Lows width (now x) × (0 < width) × (width ≤ 32) × (first ≤ side-most) × (side-least ≤ first) × (there ≤ side-most) × Near lead-limit coefficient ⌝ }
+    requires { ⌜ Lows width (now heights) × Lows width (now x) × (0 < width) × (width ≤ stride) × (first ≤ side-most) × (side-least ≤ first) × (there ≤ side-most) × Near lead-limit coefficient ⌝ }
     ensures { λ r. ⌜ Guessed width r ⌝ }
 {
     let point = joined(heights, x, first, there, width);
     Guess {
-        span: raised(first) + OFFSET - plus(coefficient, 0),
+        span: high_of(first) + OFFSET - plus(coefficient, 0),
         point: anchored(&point, width),
     }
 }
@@ -146,16 +154,16 @@ fn none() -> Guess
 {
     Guess {
         span: 0,
-        point: [0; 32],
+        point: [0; STRIDE],
     }
 }
 
 // The guess with the targets of a point, where the variable `start` is at 0.
 fn guess_with(
-    left: &[u32; 2048],
-    right: &[u32; 2048],
+    left: &[u32; TABLE],
+    right: &[u32; TABLE],
     frame: Frame,
-    x: &[u32; 32],
+    x: &[u32; STRIDE],
     start: usize,
 ) -> Guess
     requires { ⌜ Ready frame (now left) (now right) × Lows (frame .n + 1) (now x) × (start ≤ frame .n) ⌝ }
@@ -175,15 +183,20 @@ fn guess_with(
 }
 
 // The variable of the objective's right list that attains its side at a point; 32 where that is blank.
-fn start_of(right: &[u32; 2048], row: usize, x: &[u32; 32], width: usize) -> usize
-    requires { ⌜ (row < 64) × (width ≤ 32) × Table raised-limit (now right) × Lows width (now x) ⌝ }
+fn start_of(right: &[u32; TABLE], row: usize, x: &[u32; STRIDE], width: usize) -> usize
+    requires { ⌜ (row < table-rows) × (width ≤ stride) × Table raised-limit (now right) × Lows width (now x) ⌝ }
 {
     let best = full_side(right, row, x, width);
     target(right, row, x, best, 0)
 }
 
-// The least span with the targets of a point, and a point for it. Public for `search::advance`.
-pub fn guess_at(left: &[u32; 2048], right: &[u32; 2048], frame: Frame, point: &[u64; 32]) -> Guess
+// The least span with the targets of a point, and a point for it. Public for `least_span::advance`.
+pub fn guess_at(
+    left: &[u32; TABLE],
+    right: &[u32; TABLE],
+    frame: Frame,
+    point: &[u64; STRIDE],
+) -> Guess
     requires { ⌜ Ready frame (now left) (now right) × Ranged (now point) ⌝ }
     ensures { λ r. ⌜ Guessed (frame .n + 1) r ⌝ }
 {

@@ -3,15 +3,18 @@
 ghost use mathlib.Core.Path.{_≡_};
 ghost use Prim.Native.Nat.{_+_, _<_, _≤_};
 ghost use lib.ListN.{length};
+ghost use Rattle.definitions.specs.Limits.{stride, table-rows};
 ghost use Rattle.records.specs.Decoded.{Near};
 ghost use Rattle.trials.specs.Ends.{EndsOf};
 ghost use Rattle.trials.specs.Tables.{raised-limit, value-limit, side-most, side-least, high, highs, Table, Ranged, Lows, Tables};
+use records::limits::ROWS;
+use records::limits::STRIDE;
+use records::limits::STRIDE_32;
+use records::limits::TABLE;
+use trials::values::FARTHEST;
 use trials::values::HALF;
 use trials::values::LOW;
 use trials::values::side;
-
-// Heights from −2²⁵ to 2²⁵ are kept, as low numbers.
-const FARTHEST: u32 = 33554432;
 
 // The low number of a value.
 fn low_of(k: u64) -> u32
@@ -50,11 +53,11 @@ fn asked(side: u32, right: u32) -> u32
 }
 
 // A point's values as low numbers. Public for `guess`.
-pub fn lowered(point: &[u64; 32], width: usize) -> [u32; 32]
-    requires { ⌜ Ranged (now point) × (width ≤ 32) ⌝ }
+pub fn lowered(point: &[u64; STRIDE], width: usize) -> [u32; STRIDE]
+    requires { ⌜ Ranged (now point) × (width ≤ stride) ⌝ }
     ensures { λ r. ⌜ Lows width r ⌝ }
 {
-    let mut out = [0u32; 32];
+    let mut out = [0u32; STRIDE];
     let mut j = 0;
     while j < width {
         out[j] = low_of(point[j]);
@@ -64,47 +67,47 @@ pub fn lowered(point: &[u64; 32], width: usize) -> [u32; 32]
 }
 
 // The first place of a row, from one on, at which coefficient and value have this sum; 32 where there is none.
-fn place(right: &[u32; 2048], row: usize, x: &[u32; 32], sum: u32, from: usize) -> usize
-    requires { ⌜ (row < 64) × Table raised-limit (now right) × Ranged (highs (now x)) × (length (now x) ≡ 32) ⌝ }
+fn place(right: &[u32; TABLE], row: usize, x: &[u32; STRIDE], sum: u32, from: usize) -> usize
+    requires { ⌜ (row < table-rows) × Table raised-limit (now right) × Ranged (highs (now x)) × (length (now x) ≡ stride) ⌝ }
 {
-    let base = row * 32;
+    let base = row * STRIDE;
     let mut l = from;
-    while l < 32 {
+    while l < STRIDE {
         if right[base + l] + x[l] == sum {
             return l;
         }
         l += 1;
     }
-    32
+    STRIDE
 }
 
 // A right variable, from a place on, that attains the right side of a row; 32 where that is blank. Public for `guess`.
-pub fn target(right: &[u32; 2048], row: usize, x: &[u32; 32], best: u32, from: usize) -> usize
-    requires { ⌜ (row < 64) × Table raised-limit (now right) × Ranged (highs (now x)) × (length (now x) ≡ 32) × (best ≤ side-most) ⌝ }
+pub fn target(right: &[u32; TABLE], row: usize, x: &[u32; STRIDE], best: u32, from: usize) -> usize
+    requires { ⌜ (row < table-rows) × Table raised-limit (now right) × Ranged (highs (now x)) × (length (now x) ≡ stride) × (best ≤ side-most) ⌝ }
 {
     if best == 0 {
-        return 32;
+        return STRIDE;
     }
     place(right, row, x, best + HALF, from)
 }
 
 // The targets of the rules. Public for `guess`.
 pub fn targets_of(
-    right: &[u32; 2048],
-    rights: &[u32; 64],
-    x: &[u32; 32],
+    right: &[u32; TABLE],
+    rights: &[u32; ROWS],
+    x: &[u32; STRIDE],
     width: usize,
     rules: usize,
-) -> [usize; 64]
-    requires { ⌜ (width ≤ 32) × (rules ≤ 64) × Table raised-limit (now right) × Lows width (now x) × EndsOf (now right) rules (now rights) ⌝ }
-    ensures { λ r. ⌜ length r ≡ 64 ⌝ }
+) -> [usize; ROWS]
+    requires { ⌜ (width ≤ stride) × (rules ≤ table-rows) × Table raised-limit (now right) × Lows width (now x) × EndsOf (now right) rules (now rights) ⌝ }
+    ensures { λ r. ⌜ length r ≡ table-rows ⌝ }
 {
-    let mut out = [0usize; 64];
+    let mut out = [0usize; ROWS];
     let mut i = 0;
     while i < rules {
         let ends = rights[i];
         let best = side(right, ends, i, x, width);
-        out[i] = target(right, i, x, best, (ends / 32 % 32) as usize);
+        out[i] = target(right, i, x, best, (ends / STRIDE_32 % STRIDE_32) as usize);
         i += 1;
     }
     out
@@ -112,21 +115,21 @@ pub fn targets_of(
 
 // Heights after a round, and whether one rose.
 pub struct Round {
-    pub heights: [u32; 32],
+    pub heights: [u32; STRIDE],
     pub moved: bool,
 }
 
 // One round over the rules: targets rise to what is asked of them.
 fn rise(
-    left: &[u32; 2048],
-    right: &[u32; 2048],
-    lefts: &[u32; 64],
-    targets: &[usize; 64],
-    before: [u32; 32],
+    left: &[u32; TABLE],
+    right: &[u32; TABLE],
+    lefts: &[u32; ROWS],
+    targets: &[usize; ROWS],
+    before: [u32; STRIDE],
     width: usize,
     rules: usize,
 ) -> Round
-    requires { ⌜ Tables (now left) (now right) width (rules + 1) × (length (now targets) ≡ 64) × Lows width before × EndsOf (now left) (rules + 1) (now lefts) ⌝ }
+    requires { ⌜ Tables (now left) (now right) width (rules + 1) × (length (now targets) ≡ table-rows) × Lows width before × EndsOf (now left) (rules + 1) (now lefts) ⌝ }
     ensures { λ r. ⌜ Lows width (r .heights) ⌝ }
 {
     let mut heights = before;
@@ -135,7 +138,10 @@ fn rise(
     while i < rules {
         let l = targets[i];
         if l < width {
-            let height = asked(side(left, lefts[i], i, &heights, width), right[i * 32 + l]);
+            let height = asked(
+                side(left, lefts[i], i, &heights, width),
+                right[i * STRIDE + l],
+            );
             if heights[l] < height {
                 heights[l] = height;
                 moved = true;
@@ -149,21 +155,21 @@ fn rise(
 // The heights that the rules ask for where the variable `start` is at 0: rounds until one changes nothing. Public
 // for `guess`.
 pub fn risen(
-    left: &[u32; 2048],
-    right: &[u32; 2048],
-    lefts: &[u32; 64],
-    targets: &[usize; 64],
+    left: &[u32; TABLE],
+    right: &[u32; TABLE],
+    lefts: &[u32; ROWS],
+    targets: &[usize; ROWS],
     start: usize,
     width: usize,
     rules: usize,
-) -> [u32; 32]
-    requires { ⌜ Tables (now left) (now right) width (rules + 1) × (length (now targets) ≡ 64) × (start < width) × EndsOf (now left) (rules + 1) (now lefts) ⌝ }
+) -> [u32; STRIDE]
+    requires { ⌜ Tables (now left) (now right) width (rules + 1) × (length (now targets) ≡ table-rows) × (start < width) × EndsOf (now left) (rules + 1) (now lefts) ⌝ }
     ensures { λ r. ⌜ Lows width r ⌝ }
 {
-    let mut heights = [0u32; 32];
+    let mut heights = [0u32; STRIDE];
     heights[start] = LOW;
     let mut rounds: usize = 0;
-    while rounds < 32 {
+    while rounds < STRIDE {
         let round = rise(left, right, lefts, targets, heights, width, rules);
         let next = round.heights;
         if !round.moved {

@@ -2,15 +2,18 @@
 ghost use Rattle.trials.specs.Ends.{EndsOf};
 ghost use Rattle.trials.specs.Tables.{systemOf, pointOf, highs, Lows, Tables};
 ghost use Rattle.guesses.specs.Guess.{Stand};
+use records::limits::ROWS;
+use records::limits::STRIDE;
+use records::limits::TABLE;
 use trials::values::side;
 
-// Every row stands at the point: its left side is at most its right side. Public for `search::advance`.
+// Every row stands at the point: its left side is at most its right side. Public for `least_span::advance`.
 pub fn rows_stand(
-    left: &[u32; 2048],
-    right: &[u32; 2048],
-    lefts: &[u32; 64],
-    rights: &[u32; 64],
-    x: &[u32; 32],
+    left: &[u32; TABLE],
+    right: &[u32; TABLE],
+    lefts: &[u32; ROWS],
+    rights: &[u32; ROWS],
+    x: &[u32; STRIDE],
     width: usize,
     rows: usize,
 ) -> bool

@@ -7,9 +7,10 @@ ghost use Rattle.definitions.specs.Bytes.{put};
 ghost use Rattle.input.specs.Came.{Came, AllCame, read-size};
 use libc::STDIN_FILENO;
 use records::limits::KEPT;
+use records::limits::READ_MOST;
 
-// No outcome changes from here on: a length field is below 2³².
-const ENOUGH: u64 = 8589934592;
+// The most bytes that one read gives.
+const READ_SIZE: usize = 4096;
 
 // Copies the first `n` bytes of `buf` into `kept` from place `size` on, as far as they fit.
 fn keep(kept: &mut [u8], size: u64, buf: &[u8], n: usize)
@@ -34,7 +35,7 @@ fn read_some(kept: &mut [u8], size: u64) -> u64
     requires { ⌜ length (now kept) ≡ kept-bytes ⌝ }
     ensures { λ r. ⌜ (r ≤ read-size) × Came (now (kept .entry)) size r (now (kept .exit)) ⌝ }
 {
-    let mut buf = [0u8; 4096];
+    let mut buf = [0u8; READ_SIZE];
     let got = libc::read(STDIN_FILENO, &mut buf);
     let n = io::count(got, &buf);
     keep(kept, size, &buf, n);
@@ -47,7 +48,7 @@ pub fn read_all(kept: &mut [u8; KEPT]) -> u64
     ensures { λ r. ⌜ AllCame (now (kept .entry)) r (now (kept .exit)) ⌝ }
 {
     let mut size = 0;
-    while size < ENOUGH {
+    while size < READ_MOST {
         let n = read_some(kept, size);
         if n == 0 {
             return size;

@@ -9,8 +9,8 @@ ghost use mathlib.Core.Path.{_≡_};
 ghost use Prim.Native.Nat.{_≤_};
 ghost use lib.ListN.{length};
 ghost use Rattle.definitions.specs.Programs.{refusedLine, verdictLine};
-ghost use Rattle.printing.specs.Text.{Appended, Output, line-most, verdictOf};
-ghost use Rattle.output.specs.Written.{written};
+ghost use Rattle.printing.specs.Text.{Appended, Output, line-most, verdictBy};
+ghost use Rattle.output.specs.Written.{writerAfter};
 
 // A lent slice, and the place in it where the next record or line goes.
 pub struct Writer<'a> {
@@ -27,7 +27,7 @@ pub fn made<'a>(buf: &'a mut [u8], at: usize) -> Writer<'a>
 
 // The writer after a record or a line was appended: the same slice, and the next place.
 pub fn added<'a, 'b>(w: Writer<'a>, text: &'b [u8]) -> Writer<'a>
-    ensures { λ r. ⌜ r ≡ written (w .entry) (now (text .entry)) ⌝ }
+    ensures { λ r. ⌜ r ≡ writerAfter (w .entry) (now (text .entry)) ⌝ }
 {
     let at = w.at;
     let next = append(&mut *w.buf, at, text);
@@ -72,7 +72,7 @@ pub fn write_refused(buf: &mut [u8], number: usize) -> usize
 // What the verdict program puts out: the line of refusal `refusal`, or of class and span where it is 0. Public for
 // `verdict`.
 pub fn write_verdict(buf: &mut [u8], refusal: usize, class: u64, span: u64) -> usize
-    ensures { λ r. ⌜ Output (now (buf .entry)) (verdictLine (verdictOf refusal class span)) (now (buf .exit)) r × (length (verdictLine (verdictOf refusal class span)) ≤ line-most) ⌝ }
+    ensures { λ r. ⌜ Output (now (buf .entry)) (verdictLine (verdictBy refusal class span)) (now (buf .exit)) r × (length (verdictLine (verdictBy refusal class span)) ≤ line-most) ⌝ }
 {
     let mut line: [u8; LINE_MOST] = [0; LINE_MOST];
     let size = verdict_line(&mut line, refusal, class, span);

@@ -1,18 +1,18 @@
 -- The lines that the programs print, by the cases of the code that puts them.
-use Prim.Native.Nat.{ℕ, zero, suc, _-_, _≤_, _<_}
-use mathlib.Core.Path.{_≡_, refl}
+use Prim.Native.Nat.{ℕ, suc, _-_, _≤_, _<_}
+use mathlib.Core.Path.{_≡_}
 use mathlib.Core.List.{List, [], _∷_, _++_}
 use native.Mathlib.Omega.{arith}
 use lib.ListN.{length}
 use lib.IntN.{pos, negsuc}
 use borrow.Author.Tests.{eq-eqb, ne-eqb}
-use Rattle.definitions.specs.Limits.{signed-half}
+use Rattle.definitions.specs.Limits.{signed-half, class-optimal, class-unbounded, class-infeasible}
 use Rattle.definitions.specs.Tropical.{Trop}
 use Rattle.definitions.specs.Offset.{tropOf}
-use Rattle.definitions.specs.Verdict.{accepted, refused, not-certified}
+use Rattle.definitions.specs.Verdict.{accepted, not-certified}
 use Rattle.definitions.specs.Programs.{decimal, wholeDecimal, spanDecimal, text-least, text-bottomless, text-none, text-not-certified, newline, classWords, refusedLine, verdictLine}
 use Rattle.definitions.proofs.Offset.{trop-zero, trop-show}
-use Rattle.printing.specs.Text.{Putting, verdictOf}
+use Rattle.printing.specs.Text.{Putting, verdictBy}
 use Rattle.printing.proofs.Copy.{put-nothing, put-then}
 
 -- ---- a span
@@ -40,19 +40,25 @@ span-down {span = span} p q n h inside =
 
 module _ {l : List ℕ} {at : ℕ} (class : ℕ) (span : Trop) {after : List ℕ} {next : ℕ} where
   -- Class 1 is least.
-  pub words-least : Putting l at (text-least ++ spanDecimal span) after next → class ≡ 1 → Putting l at (classWords class span) after next
+  pub words-least : Putting l at (text-least ++ spanDecimal span) after next → class ≡ class-optimal → Putting l at (classWords class span) after next
   unfolding classWords
-  words-least p e = rw (eq-eqb class 1 e) p
+  words-least p e = rw e p
 
   -- Class 2 is bottomless.
-  pub words-bottomless : Putting l at text-bottomless after next → class ≡ 2 → Putting l at (classWords class span) after next
+  pub words-bottomless : Putting l at text-bottomless after next → class ≡ class-unbounded → Putting l at (classWords class span) after next
   unfolding classWords
-  words-bottomless p e = rw (ne-eqb class 1 (omega arith), eq-eqb class 2 e) p
+  words-bottomless p e = rw e p
 
-  -- Any other is none.
-  pub words-none : Putting l at text-none after next → (class ≡ 1 → ⊥) → (class ≡ 2 → ⊥) → Putting l at (classWords class span) after next
+  -- Class 3 is none.
+  pub words-none : Putting l at text-none after next → class ≡ class-infeasible → Putting l at (classWords class span) after next
   unfolding classWords
-  words-none p m n = rw (ne-eqb class 1 m, ne-eqb class 2 n) p
+  words-none p e = rw e p
+
+-- A number that is no class has no words.
+pub words-other : (l : List ℕ) (at class : ℕ) (span : Trop) → (class ≡ class-optimal → ⊥) → (class ≡ class-unbounded → ⊥) → (class ≡ class-infeasible → ⊥)
+    → Putting l at (classWords class span) l at
+unfolding classWords
+words-other l at class span x y z = rw (ne-eqb class class-optimal x, ne-eqb class class-unbounded y, ne-eqb class class-infeasible z) (put-nothing l at)
 
 -- ---- lines
 
@@ -61,30 +67,20 @@ pub line-puts : {l a one : List ℕ} {i : ℕ} {b two : List ℕ} {j : ℕ} {aft
     → i ≤ length one → Putting l 0 (a ++ (b ++ newline)) after next
 line-puts p q r inside = put-then p (put-then q r inside) (omega arith)
 
--- The verdict of refusal 0 accepts, with class and span.
-pub verdict-none : (class span : ℕ) → verdictOf zero class span ≡ accepted class (tropOf span)
-unfolding verdictOf
-verdict-none class span = refl
-
--- The verdict of any other refusal is that refusal.
-pub verdict-some : (k class span : ℕ) → verdictOf (suc k) class span ≡ refused (suc k)
-unfolding verdictOf
-verdict-some k class span = rw (ne-eqb (suc k) 0 (omega arith))
-
 -- Refusal 0 is none: the line of class and span.
 pub verdict-accepted : {l : List ℕ} (refusal class span : ℕ) {after : List ℕ} {next : ℕ} → Putting l 0 (verdictLine (accepted class (tropOf span))) after next → refusal ≡ 0
-    → Putting l 0 (verdictLine (verdictOf refusal class span)) after next
-unfolding verdictOf
+    → Putting l 0 (verdictLine (verdictBy refusal class span)) after next
+unfolding verdictBy
 verdict-accepted refusal class span p e = rw (eq-eqb refusal 0 e) p
 
 -- Refusal 14 is printed in words.
 pub verdict-uncertified : {l : List ℕ} (refusal class span : ℕ) {after : List ℕ} {next : ℕ} → Putting l 0 (text-not-certified ++ newline) after next → refusal ≡ not-certified
-    → Putting l 0 (verdictLine (verdictOf refusal class span)) after next
-unfolding verdictOf verdictLine
+    → Putting l 0 (verdictLine (verdictBy refusal class span)) after next
+unfolding verdictBy verdictLine
 verdict-uncertified refusal class span p e = rw (ne-eqb refusal 0 (omega arith), eq-eqb refusal not-certified e) p
 
 -- Any other by its number.
 pub verdict-refused : {l : List ℕ} (refusal class span : ℕ) {after : List ℕ} {next : ℕ} → Putting l 0 (refusedLine refusal) after next → (refusal ≡ 0 → ⊥) → (refusal ≡ not-certified → ⊥)
-    → Putting l 0 (verdictLine (verdictOf refusal class span)) after next
-unfolding verdictOf verdictLine
+    → Putting l 0 (verdictLine (verdictBy refusal class span)) after next
+unfolding verdictBy verdictLine
 verdict-refused refusal class span p m n = rw (ne-eqb refusal 0 m, ne-eqb refusal not-certified n) p

@@ -40,5 +40,5 @@ abbrev pub line-most : ℕ
 line-most = 64
 
 -- The verdict that a refusal's number gives, 0 for none, with class and span where there is none. The span is an offset number.
-unfoldable pub verdictOf : ℕ → ℕ → ℕ → Verdict
-verdictOf refusal class span = cond (eqb refusal 0) (accepted class (tropOf span)) (refused refusal)
+unfoldable pub verdictBy : ℕ → ℕ → ℕ → Verdict
+verdictBy refusal class span = cond (eqb refusal 0) (accepted class (tropOf span)) (refused refusal)

@@ -1,8 +1,11 @@
 // The lines that the programs print, as bytes. Document 01, "Two programs". Each ends with one newline.
 use crate::text::copy;
 use crate::text::put_decimal;
+use records::limits::INFEASIBLE;
 use records::limits::NOT_CERTIFIED;
 use records::limits::OFFSET;
+use records::limits::OPTIMAL;
+use records::limits::UNBOUNDED;
 ghost use mathlib.Core.Path.{_≡_};
 ghost use Prim.Native.Nat.{_+_, _≤_, _<_};
 ghost use mathlib.Core.List.{_++_};
@@ -10,7 +13,7 @@ ghost use lib.ListN.{length};
 ghost use Rattle.definitions.specs.Offset.{tropOf};
 ghost use Rattle.definitions.specs.Verdict.{accepted};
 ghost use Rattle.definitions.specs.Programs.{text-least, spanDecimal, classWords, refusedLine, verdictLine};
-ghost use Rattle.printing.specs.Text.{Putting, line-most, verdictOf};
+ghost use Rattle.printing.specs.Text.{Putting, line-most, verdictBy};
 
 // Room enough for every line.
 pub const LINE_MOST: usize = 64;
@@ -39,15 +42,16 @@ fn put_least(line: &mut [u8], at: usize, span: u64) -> usize
     put_span(line, next, span)
 }
 
-// Puts the class in words, then the span for least.
+// Puts the class in words, then the span for least. A number that is no class has no words.
 fn put_class(line: &mut [u8], at: usize, class: u64, span: u64) -> usize
     requires { ⌜ at + 27 ≤ length (now line) ⌝ }
     ensures { λ r. ⌜ Putting (now (line .entry)) at (classWords class (tropOf span)) (now (line .exit)) r × (r ≤ at + 27) ⌝ }
 {
     match class {
-        1 => put_least(line, at, span),
-        2 => copy(line, at, b"bottomless"),
-        _ => copy(line, at, b"none"),
+        OPTIMAL => put_least(line, at, span),
+        UNBOUNDED => copy(line, at, b"bottomless"),
+        INFEASIBLE => copy(line, at, b"none"),
+        0 | 4.. => at,
     }
 }
 
@@ -74,7 +78,7 @@ pub fn refused_line(line: &mut [u8], number: usize) -> usize
 // Puts the line of a verdict: that of refusal `refusal`, or of class and span where it is 0. Public for `output::writer`.
 pub fn verdict_line(line: &mut [u8], refusal: usize, class: u64, span: u64) -> usize
     requires { ⌜ line-most ≤ length (now line) ⌝ }
-    ensures { λ r. ⌜ Putting (now (line .entry)) 0 (verdictLine (verdictOf refusal class span)) (now (line .exit)) r × (r ≤ line-most) ⌝ }
+    ensures { λ r. ⌜ Putting (now (line .entry)) 0 (verdictLine (verdictBy refusal class span)) (now (line .exit)) r × (r ≤ line-most) ⌝ }
 {
     if refusal == 0 {
         return accepted_line(line, class, span);

@@ -5,7 +5,7 @@ ghost use lib.ListN.{length};
 ghost use Rattle.definitions.specs.Programs.{decimal};
 ghost use Rattle.printing.specs.Text.{Putting, Appended};
 
-// Puts `text` from place `at` on, and gives the place after it. Public for `lines` and `hours::writer`.
+// Puts `text` from place `at` on, and gives the place after it. Public for `lines` and `hour_texts::writer`.
 pub fn copy(buf: &mut [u8], at: usize, text: &[u8]) -> usize
     requires { ⌜ at + length (now text) ≤ length (now buf) ⌝ }
     ensures { λ r. ⌜ Putting (now (buf .entry)) at (now (text .entry)) (now (buf .exit)) r ⌝ }
@@ -35,7 +35,7 @@ pub fn append(buf: &mut [u8], at: usize, text: &[u8]) -> usize
 }
 
 // Puts a number in decimal, without leading zeros, from place `at` on, and gives the place after it.
-// Public for `lines` and `hours::writer`.
+// Public for `lines` and `hour_texts::writer`.
 pub fn put_decimal(buf: &mut [u8], at: usize, number: u64) -> usize
     requires { ⌜ at + 20 ≤ length (now buf) ⌝ }
     ensures { λ r. ⌜ Putting (now (buf .entry)) at (decimal number) (now (buf .exit)) r × (r ≤ at + 20) ⌝ }
@@ -49,7 +49,7 @@ pub fn put_decimal(buf: &mut [u8], at: usize, number: u64) -> usize
     next + 1
 }
 
-// The digit of a number below 10. Public for `hours::writer`.
+// The digit of a number below 10. Public for `hour_texts::writer`.
 pub fn digit(number: u64) -> u8
     requires { ⌜ number < 10 ⌝ }
     ensures { λ r. ⌜ r ≡ 48 + number ⌝ }

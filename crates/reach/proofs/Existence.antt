@@ -6,9 +6,9 @@ use mathlib.Core.Logic.{_⊎_, inl, inr, ⊎-elim}
 use native.Mathlib.Omega.{arith}
 use native.Mathlib.Numerals.{add-one}
 use lib.ListN.{length, getD, set, replicate}
-use Rattle.definitions.proofs.Whole.{nat-le-or-lt}
+use Rattle.base.proofs.Numbers.{nat-le-or-lt}
 use Rattle.reach.specs.Marks.{Marked, Flags, Reached}
-use Rattle.reach.specs.Spreading.{markOf, RowMarked, Reaching, undone}
+use Rattle.reach.specs.Spreading.{markOf, RowMarked, Reaching, unmarked}
 use Rattle.reach.proofs.Marks.{zero-flags, row-none, row-more, row-flags, done-flags, done-fewer, reaching-start, reaching-row, reaching-done}
 
 record RowOf (arcs : List ℕ) (base k : ℕ) (old : List ℕ) : Type 0 where
@@ -49,7 +49,7 @@ pub record MarksOf (arcs : List ℕ) (width : ℕ) (begin : List ℕ) : Type 0 w
 module _ (arcs : List ℕ) (width : ℕ) (begin : List ℕ) (w : width ≤ 32) where
   -- One variable more, unless all are done.
   reach-step : (marks done : List ℕ) → Flags marks → Flags done → Reaching arcs width begin marks done
-      → ((new spread : List ℕ) → undone width spread < undone width done → Flags new → Flags spread → Reaching arcs width begin new spread → MarksOf arcs width begin)
+      → ((new spread : List ℕ) → unmarked width spread < unmarked width done → Flags new → Flags spread → Reaching arcs width begin new spread → MarksOf arcs width begin)
       → MarksOf arcs width begin
   reach-step marks done f g h further = ⊎-elim
       (λ all. record { marks = marks; reached = reaching-done f h all })
@@ -60,9 +60,9 @@ module _ (arcs : List ℕ) (width : ℕ) (begin : List ℕ) (w : width ≤ 32) w
       (reaching-row w (d .inside) g (omega (arith, d .due)) (r .row) h))
       (none-or-due marks done width)
 
-  reach-on : (fuel : ℕ) (marks done : List ℕ) → undone width done ≤ fuel → Flags marks → Flags done → Reaching arcs width begin marks done → MarksOf arcs width begin
+  reach-on : (fuel : ℕ) (marks done : List ℕ) → unmarked width done ≤ fuel → Flags marks → Flags done → Reaching arcs width begin marks done → MarksOf arcs width begin
   reach-on zero marks done b f g h = reach-step marks done f g h (λ new spread l p q r. absurd (omega arith))
   reach-on (suc fuel) marks done b f g h = reach-step marks done f g h (λ new spread l p q r. reach-on fuel new spread (omega arith) p q r)
 
   pub reach-exists : Flags begin → MarksOf arcs width begin
-  reach-exists f = reach-on (undone width (replicate 32 0)) begin (replicate 32 0) (omega arith) f zero-flags (reaching-start arcs width begin)
+  reach-exists f = reach-on (unmarked width (replicate 32 0)) begin (replicate 32 0) (omega arith) f zero-flags (reaching-start arcs width begin)

@@ -1,8 +1,8 @@
--- Laws of reach: a row marks, a round spreads, fewer variables are left to do, and a round that had none to do has reached
--- all.
+-- Laws of reach: a row marks, a round spreads, a round that reaches a new variable leaves fewer without a mark, and one that reaches
+-- none has reached all.
 use Prim.Native.Nat.{ℕ, zero, suc, _+_, _*_, _-_, _≤_, _<_}
-use mathlib.Core.Path.{_≡_, refl, ap, sym, subst, _∙_}
-use mathlib.Core.Bool.{Bool, true, false, cond, false≢true}
+use mathlib.Core.Path.{_≡_, refl, ap, subst, _∙_}
+use mathlib.Core.Bool.{Bool, true, false, cond}
 use mathlib.Core.List.{List, _∷_}
 use mathlib.Core.Logic.{_⊎_, inl, inr, ⊎-elim}
 use native.Mathlib.Omega.{arith}
@@ -10,20 +10,18 @@ use native.Mathlib.Nat.{eq-zero-or-pos}
 use lib.Dec.{eqb}
 use lib.ListN.{length, getD, set, replicate, length-set, length-replicate}
 use lib.Seq.{getD-set-same, getD-set-other}
-use borrow.Author.Tests.{eqb-true, eqb-false, eq-eqb, ne-eqb}
+use borrow.Author.Tests.{eqb-false, eq-eqb, ne-eqb}
+use Rattle.base.proofs.Numbers.{nat-le-or-lt, same-or-not}
+use Rattle.base.proofs.Filled.{zeros}
 use Rattle.definitions.specs.Certificate.{Reachable, Anchor, start, onward}
-use Rattle.definitions.proofs.Whole.{nat-le-or-lt}
+use Rattle.definitions.specs.Marks.{DifferBelow}
+use Rattle.definitions.proofs.Marks.{differ-here}
 use Rattle.duality.proofs.Height.{total-falls}
 use Rattle.duality.proofs.Reach.{reach-map}
 use Rattle.reach.specs.Marks.{Marked, Led, Begins, Flags, Anchored, Reached}
-use Rattle.reach.specs.Spreading.{markOf, RowMarked, Reaching, undone, Spreading}
+use Rattle.reach.specs.Spreading.{markOf, RowMarked, Reaching, unmarked, Spreading}
 
 -- ---- the start
-
-pub zeros : (n j : ℕ) → _≡_ {A = ℕ} (getD (replicate n 0) j 0) 0
-zeros zero j = refl
-zeros (suc n) zero = refl
-zeros (suc n) (suc j) = zeros n j
 
 pub zero-flags : Flags (replicate 32 0)
 zero-flags = record { length-is = length-replicate {A = ℕ} 32 0; flag = λ k. omega (arith, zeros 32 k) }
@@ -76,13 +74,6 @@ mark-flag mark arc h = go (eqb arc 0)
 
 -- ---- a row
 
-pub same-or-not : (a b : ℕ) → (a ≡ b) ⊎ (a ≡ b → ⊥)
-same-or-not a b = go (eqb a b) refl
-  where
-    go : (t : Bool) → eqb a b ≡ t → (a ≡ b) ⊎ (a ≡ b → ⊥)
-    go true e = inl (eqb-true a b e)
-    go false e = inr (eqb-false a b e)
-
 pub row-none : (arcs : List ℕ) (base : ℕ) (old : List ℕ) → RowMarked arcs base 0 old old
 row-none arcs base old = record { same = refl; cells = λ l h. absurd (omega arith); others = λ l h. refl }
 
@@ -133,13 +124,21 @@ module _ {done : List ℕ} (f : Flags done) (k : ℕ) (small : k < 32) where
       flag : (j : ℕ) → getD (set done k 1) j 0 ≤ 1
       flag j = ⊎-elim (λ (e : j ≡ k). rw e (omega (arith, done-here))) (λ d. rw (done-there j d) (f .flag j)) (same-or-not j k)
 
+  -- k is done,
+  pub done-made : Marked (set done k 1) k
+  done-made = omega (arith, done-here)
+
   -- what is done was, or is k,
   pub done-or : (j : ℕ) → Marked (set done k 1) j → (j ≡ k) ⊎ Marked done j
   done-or j m = ⊎-elim (λ (e : j ≡ k). inl e) (λ d. inr (rw (done-there j d) at m)) (same-or-not j k)
 
+  -- what was done is,
+  pub done-kept : (j : ℕ) → Marked done j → Marked (set done k 1) j
+  done-kept j m = ⊎-elim (λ (e : j ≡ k). rw e (omega (arith, done-here))) (λ d. rw (done-there j d) m) (same-or-not j k)
+
   -- and if k was not, fewer are left.
-  pub done-fewer : (width : ℕ) → k < width → getD done k 0 ≡ 0 → undone width (set done k 1) < undone width done
-  unfolding undone
+  pub done-fewer : (width : ℕ) → k < width → getD done k 0 ≡ 0 → unmarked width (set done k 1) < unmarked width done
+  unfolding unmarked
   done-fewer width h z = total-falls _ _ width k (λ j _. most j) h (rw (done-here, z) (omega arith))
     where
       most : (j : ℕ) → 1 - getD (set done k 1) j 0 ≤ 1 - getD done j 0
@@ -180,51 +179,74 @@ reaching-done {arcs} {width} {begin} {marks} {done} f h all = record { flags = f
 
 -- ---- a round
 
-pub spreading-none : (arcs : List ℕ) (width : ℕ) (marks done : List ℕ) → Flags marks → Flags done → Spreading arcs width marks done 0 marks done false
+pub spreading-none : (arcs : List ℕ) (width : ℕ) (marks done : List ℕ) → Flags marks → Flags done → Spreading arcs width marks done 0 marks done
 spreading-none arcs width marks done f g = record {
   flags = f;
   done-flags = g;
   reaching = λ s h. h;
-  most = omega arith;
-  fewer = λ e. absurd (false≢true e);
-  still = λ e j h. absurd (omega arith);
+  kept = λ j m. m;
+  settled = λ j h. absurd (omega arith);
 }
 
 -- A variable that is not marked, or is done, is passed.
-pub spreading-skip : {arcs : List ℕ} {width : ℕ} {marks done : List ℕ} {k : ℕ} {new spread : List ℕ} {moved : Bool}
-    → Spreading arcs width marks done k new spread moved → getD new k 0 ≤ getD spread k 0 → Spreading arcs width marks done (k + 1) new spread moved
-spreading-skip {k = k} {new = new} {spread = spread} h b = record {
+pub spreading-skip : {arcs : List ℕ} {width : ℕ} {marks done : List ℕ} {k : ℕ} {new spread : List ℕ}
+    → Spreading arcs width marks done k new spread → getD new k 0 ≤ getD spread k 0 → Spreading arcs width marks done (k + 1) new spread
+spreading-skip {marks = marks} {k = k} {spread = spread} h b = record {
   flags = h .flags;
   done-flags = h .done-flags;
   reaching = h .reaching;
-  most = h .most;
-  fewer = h .fewer;
-  still = λ e j l m. ⊎-elim
-      (λ (q : k ≤ j). let p : k ≡ j = omega arith in subst (λ (i : ℕ). Marked new i → Marked spread i) p (λ n. omega arith) m)
-      (λ (q : j < k). h .still e j q m)
+  kept = h .kept;
+  settled = λ j l m. ⊎-elim
+      (λ (q : k ≤ j). let p : k ≡ j = omega arith in subst (λ (i : ℕ). Marked marks i → Marked spread i) p (λ n. omega (arith, h .kept k n)) m)
+      (λ (q : j < k). h .settled j q m)
       (nat-le-or-lt k j);
 }
 
 -- Another spreads its marks.
-pub spreading-row : {arcs : List ℕ} {width : ℕ} {marks done : List ℕ} {k : ℕ} {new spread more : List ℕ} {moved : Bool}
-    → Spreading arcs width marks done k new spread moved → width ≤ 32 → k < width → getD spread k 0 < getD new k 0
-    → RowMarked arcs (k * 32) 32 new more → Spreading arcs width marks done (k + 1) more (set spread k 1) true
-spreading-row {arcs} {width} {marks} {done} {k} {new} {spread} {more} h w b due r =
+pub spreading-row : {arcs : List ℕ} {width : ℕ} {marks done : List ℕ} {k : ℕ} {new spread more : List ℕ}
+    → Spreading arcs width marks done k new spread → width ≤ 32 → k < width → getD spread k 0 < getD new k 0
+    → RowMarked arcs (k * 32) 32 new more → Spreading arcs width marks done (k + 1) more (set spread k 1)
+spreading-row {marks = marks} {k = k} {spread = spread} h w b due r =
     let small : k < 32 = omega arith in
-    let fewer = done-fewer (h .done-flags) k small width b (omega (arith, h .flags .flag k)) in
     record {
       flags = row-flags r (h .flags);
       done-flags = done-flags (h .done-flags) k small;
       reaching = λ s q. reaching-row w b (h .done-flags) (omega arith) r (h .reaching s q);
-      most = omega (arith, fewer, h .most);
-      fewer = λ _. omega (arith, fewer, h .most);
-      still = λ e. absurd (false≢true (sym e));
+      kept = λ j m. row-kept r j (h .kept j m);
+      settled = λ j l m. ⊎-elim
+          (λ (q : k ≤ j). let p : k ≡ j = omega arith in subst (λ (i : ℕ). Marked (set spread k 1) i) p (done-made (h .done-flags) k small))
+          (λ (q : j < k). done-kept (h .done-flags) k small j (h .settled j q m))
+          (nat-le-or-lt k j);
     }
 
--- A round that has spread nothing: all is reached.
-pub spreading-reached : {arcs : List ℕ} {width : ℕ} {begin marks done new spread : List ℕ} {moved : Bool} → Reaching arcs width begin marks done
-    → Spreading arcs width marks done width new spread moved → moved ≡ false → Reached arcs width begin new
-spreading-reached {begin = begin} h s e = reaching-done (s .flags) (s .reaching begin h) (s .still e)
+-- A round that has reached a new variable leaves fewer without a mark,
+pub spreading-fewer : {arcs : List ℕ} {width : ℕ} {marks done new spread : List ℕ} → Flags marks → Spreading arcs width marks done width new spread
+    → DifferBelow width marks new → unmarked width new < unmarked width marks
+unfolding unmarked
+spreading-fewer {width = width} {marks} {new = new} f s d = total-falls _ _ width (d .place) (λ j _. most j) (d .inside) less
+  where
+    most : (j : ℕ) → 1 - getD new j 0 ≤ 1 - getD marks j 0
+    most j = ⊎-elim (λ (e : getD marks j 0 ≡ 0). omega arith) (λ m. omega (arith, s .kept j m)) (eq-zero-or-pos (getD marks j 0))
+
+    less : 1 - getD new (d .place) 0 < 1 - getD marks (d .place) 0
+    less = ⊎-elim
+        (λ (e : getD marks (d .place) 0 ≡ 0). ⊎-elim
+        (λ (z : getD new (d .place) 0 ≡ 0). absurd (d .unequal (omega arith)))
+        (λ (q : 0 < getD new (d .place) 0). omega arith)
+        (eq-zero-or-pos (getD new (d .place) 0)))
+        (λ m. absurd (d .unequal (omega (arith, s .kept (d .place) m, f .flag (d .place), s .flags .flag (d .place)))))
+        (eq-zero-or-pos (getD marks (d .place) 0))
+
+-- and one that has reached none has reached all: each marked variable had its mark before, and is done.
+pub spreading-reached : {arcs : List ℕ} {width : ℕ} {begin marks done new spread : List ℕ} → Reaching arcs width begin marks done
+    → Spreading arcs width marks done width new spread → (DifferBelow width marks new → ⊥) → Reached arcs width begin new
+spreading-reached {width = width} {begin} {marks} {new = new} h s same = reaching-done (s .flags) (s .reaching begin h) (λ j b m. s .settled j b (before j b m))
+  where
+    before : (j : ℕ) → j < width → Marked new j → Marked marks j
+    before j b m = ⊎-elim
+        (λ (e : getD marks j 0 ≡ getD new j 0). omega arith)
+        (λ u. absurd (same (differ-here b u)))
+        (same-or-not (getD marks j 0) (getD new j 0))
 
 -- ---- from the anchor
 

@@ -3,6 +3,7 @@ use Prim.Native.Nat.{ℕ, _+_, _*_, _≤_, _<_}
 use mathlib.Core.Path.{_≡_}
 use mathlib.Core.List.{List}
 use lib.ListN.{length, getD}
+use Rattle.definitions.specs.Limits.{stride}
 use Rattle.definitions.specs.Certificate.{Reachable}
 
 -- Place j is marked.
@@ -13,7 +14,7 @@ Marked marks j = 0 < getD marks j 0
 pub record Led (arcs : List ℕ) (width j l : ℕ) : Type 0 where
   pub from : j < width
   pub to : l < width
-  pub arc : 0 < getD arcs (j * 32 + l) 0
+  pub arc : 0 < getD arcs (j * stride + l) 0
 
 -- The start: the variables that are marked at first.
 pub record Begins (start : List ℕ) (width j : ℕ) : Type 0 where
@@ -22,7 +23,7 @@ pub record Begins (start : List ℕ) (width j : ℕ) : Type 0 where
 
 -- Marks are 32 zeros and ones.
 pub record Flags (marks : List ℕ) : Type 0 where
-  pub length-is : length marks ≡ 32
+  pub length-is : length marks ≡ stride
   pub flag : (k : ℕ) → getD marks k 0 ≤ 1
 
 -- Only variable 0 is marked.

@@ -1,7 +1,7 @@
 -- Reach on the way: variables mark all to which they lead, each once; one that has is done.
 use Prim.Native.Nat.{ℕ, _+_, _-_, _≤_, _<_}
 use mathlib.Core.Path.{_≡_}
-use mathlib.Core.Bool.{Bool, true, false, cond}
+use mathlib.Core.Bool.{cond}
 use mathlib.Core.List.{List}
 use lib.Dec.{eqb}
 use lib.ListN.{length, getD}
@@ -25,16 +25,15 @@ pub record Reaching (arcs : List ℕ) (width : ℕ) (start marks done : List ℕ
   pub only : (j : ℕ) → j < width → Marked marks j → Reachable (Begins start width) (Led arcs width) j
   pub onward : (j l : ℕ) → Marked done j → Led arcs width j l → Marked marks l
 
--- How many of the first `width` variables are not done.
-unfoldable pub undone : ℕ → List ℕ → ℕ
-undone width done = total (λ j. 1 - getD done j 0) width
+-- How many of the first `width` places have no mark.
+unfoldable pub unmarked : ℕ → List ℕ → ℕ
+unmarked width marks = total (λ j. 1 - getD marks j 0) width
 
--- A round, once the first k variables have had their turn: from whatever start the old marks were reached, the new ones
--- are; if a variable was made done, fewer are left to do; if none was, each marked one of the first k is done.
-pub record Spreading (arcs : List ℕ) (width : ℕ) (marks done : List ℕ) (k : ℕ) (new spread : List ℕ) (moved : Bool) : Type 0 where
+-- A round, once the first k variables have had their turn: from whatever start the old marks were reached, the new ones are; the old
+-- marks stay, and each of the first k variables that had one is done. (So where a round has reached no new one, all are done.)
+pub record Spreading (arcs : List ℕ) (width : ℕ) (marks done : List ℕ) (k : ℕ) (new spread : List ℕ) : Type 0 where
   pub flags : Flags new
   pub done-flags : Flags spread
   pub reaching : (start : List ℕ) → Reaching arcs width start marks done → Reaching arcs width start new spread
-  pub most : undone width spread ≤ undone width done
-  pub fewer : moved ≡ true → undone width spread < undone width done
-  pub still : moved ≡ false → (j : ℕ) → j < k → Marked new j → Marked spread j
+  pub kept : (j : ℕ) → Marked marks j → Marked new j
+  pub settled : (j : ℕ) → j < k → Marked marks j → Marked spread j

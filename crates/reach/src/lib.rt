@@ -2,18 +2,21 @@
 ghost use mathlib.Core.Path.{_≡_};
 ghost use Prim.Native.Nat.{_+_, _*_, _≤_, _<_};
 ghost use lib.ListN.{length};
+ghost use Rattle.definitions.specs.Limits.{stride, arcs-size};
 ghost use Rattle.reach.specs.Marks.{Flags, Anchored, Reached};
 ghost use Rattle.reach.specs.Spreading.{markOf, RowMarked, Spreading};
+
+pub mod compare;
+
+use crate::compare::marks_differ;
+use records::limits::ARCS;
 use records::limits::STRIDE;
 
-// The elements of a table of arcs.
-pub const ARCS: usize = 1024;
-
-// The start of document 01: variable 0, the anchor, alone. Public for `certificates`, `picks`.
-pub fn anchor() -> [u8; 32]
+// The start of document 01: variable 0, the anchor, alone. Public for `strategy_tests`, `pick_tables`.
+pub fn anchor() -> [u8; STRIDE]
     ensures { λ r. ⌜ Anchored r ⌝ }
 {
-    let mut start = [0u8; 32];
+    let mut start = [0u8; STRIDE];
     start[0] = 1;
     start
 }
@@ -27,9 +30,9 @@ fn mark_of(mark: u8, arc: u32) -> u8
 
 // The marks, with all to which the arcs from `base` on lead. All places are looked at, whatever the width: a loop of known
 // length is several times as fast, and marks past the width say nothing.
-fn mark_row(arcs: &[u32; ARCS], base: usize, marks: [u8; 32]) -> [u8; 32]
-    requires { ⌜ (base + 32 ≤ 1024) × (length marks ≡ 32) ⌝ }
-    ensures { λ r. ⌜ RowMarked (now (arcs .entry)) base 32 marks r ⌝ }
+fn mark_row(arcs: &[u32; ARCS], base: usize, marks: [u8; STRIDE]) -> [u8; STRIDE]
+    requires { ⌜ (base + stride ≤ arcs-size) × (length marks ≡ stride) ⌝ }
+    ensures { λ r. ⌜ RowMarked (now (arcs .entry)) base stride marks r ⌝ }
 {
     let mut new = marks;
     for l in 0..STRIDE {
@@ -38,48 +41,45 @@ fn mark_row(arcs: &[u32; ARCS], base: usize, marks: [u8; 32]) -> [u8; 32]
     new
 }
 
-// Marks, which variables are done (they have marked all to which they lead), and whether a round has made one done.
+// Marks, and which variables are done: they have marked all to which they lead.
 pub struct Spread {
-    pub marks: [u8; 32],
-    pub done: [u8; 32],
-    pub moved: bool,
+    pub marks: [u8; STRIDE],
+    pub done: [u8; STRIDE],
 }
 
 // A round: each marked variable that is not done marks all to which it leads. Marks of this round count in it already.
-fn spread_round(arcs: &[u32; ARCS], width: usize, marks: [u8; 32], done: [u8; 32]) -> Spread
-    requires { ⌜ (width ≤ 32) × Flags marks × Flags done ⌝ }
-    ensures { λ r. ⌜ Spreading (now (arcs .entry)) width marks done width (r .marks) (r .done) (r .moved) ⌝ }
+fn spread_round(arcs: &[u32; ARCS], width: usize, marks: [u8; STRIDE], done: [u8; STRIDE]) -> Spread
+    requires { ⌜ (width ≤ stride) × Flags marks × Flags done ⌝ }
+    ensures { λ r. ⌜ Spreading (now (arcs .entry)) width marks done width (r .marks) (r .done) ⌝ }
 {
     let mut new = marks;
     let mut spread = done;
-    let mut moved = false;
     for j in 0..width {
         if spread[j] < new[j] {
             let more = mark_row(arcs, j * STRIDE, new);
             new = more;
             spread[j] = 1;
-            moved = true;
         }
     }
     Spread {
         marks: new,
         done: spread,
-        moved,
     }
 }
 
-// Marks of the variables that are reachable from the start, by rounds until one finds every marked variable done. Each
-// round but the last makes one done, so there are at most as many of these as variables. Public for `certificates`, `picks`.
-pub fn reach(arcs: &[u32; ARCS], width: usize, start: [u8; 32]) -> [u8; 32]
-    requires { ⌜ (width ≤ 32) × Flags start ⌝ }
+// Marks of the variables that are reachable from the start, by rounds until one reaches no new variable: the marks before and
+// after it are compared by words (document 02, 2.3). Each round but the last marks one more, so there are at most as many of
+// these as variables. Public for `strategy_tests`, `pick_tables`.
+pub fn reach(arcs: &[u32; ARCS], width: usize, start: [u8; STRIDE]) -> [u8; STRIDE]
+    requires { ⌜ (width ≤ stride) × Flags start ⌝ }
     ensures { λ r. ⌜ Reached (now (arcs .entry)) width start r ⌝ }
 {
     let mut marks = start;
-    let mut done = [0u8; 32];
+    let mut done = [0u8; STRIDE];
     loop {
         let next = spread_round(arcs, width, marks, done);
         let more = next.marks;
-        if !next.moved {
+        if !marks_differ(&marks, &more, width) {
             return more;
         }
         let spread = next.done;

@@ -1,11 +1,10 @@
--- Offset numbers near 0, and lists of zeros.
-use Prim.Native.Nat.{ℕ, zero, suc, _+_, _≤_, _<_}
-use mathlib.Core.Path.{_≡_, refl}
+-- Offset numbers near 0.
+use Prim.Native.Nat.{ℕ, _+_, _≤_, _<_}
+use mathlib.Core.Path.{_≡_}
 use mathlib.Core.Bool.{true}
 use mathlib.Core.List.{List}
 use mathlib.Core.Logic.{_⊎_, ⊎-elim}
 use native.Mathlib.Omega.{arith}
-use lib.ListN.{getD, replicate}
 use Rattle.definitions.specs.Limits.{signed-half}
 use Rattle.definitions.specs.Bytes.{blank-or-within}
 use Rattle.definitions.specs.Offset.{tropOf}
@@ -22,9 +21,3 @@ near-within d k h e = ⊎-elim
     (λ (z : k ≡ 0). rw z (near-zero d))
     (λ (b : (signed-half ≤ k + d) × (k ≤ signed-half + d)). record { hi = b .1; lo = λ _. b .0 })
     (within-iff d k h .0 e)
-
--- Zeros alone, read anywhere.
-pub zeros : (width k : ℕ) → getD {A = ℕ} (replicate width 0) k 0 ≡ 0
-zeros zero k = refl
-zeros (suc width) zero = refl
-zeros (suc width) (suc k) = zeros width k

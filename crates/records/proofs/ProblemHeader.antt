@@ -4,70 +4,152 @@ use mathlib.Core.Path.{_≡_, refl, ap, sym, _∙_}
 use mathlib.Core.List.{List}
 use native.Mathlib.Omega.{arith}
 use native.Mathlib.Nat.{mul-le-mul-left, mul-le-mul-right}
-use Rattle.definitions.specs.Limits.{highest-n, highest-m, length-bytes, problem-kind, problem-header}
+use mathlib.Core.Bool.{Bool, true, false}
+use borrow.Author.Tests.{ne-eqb, eq-eqb}
+use mathlib.Core.Logic.{_⊎_, inl, inr, ⊎-elim}
+use Rattle.definitions.specs.Limits.{highest-n, highest-m, stride, table-rows, table-size, signed-bytes, problem-kind, questions-kind, most-questions, problem-header, questions-header}
 use Rattle.definitions.specs.Bytes.{Outcome, outcome}
-use Rattle.definitions.specs.ProblemRecord.{lengthField, kindField, nField, mField, headerRefusal, headerOutcome, problemSize}
+use Rattle.definitions.specs.ProblemRecord.{lengthField, kindField, nField, mField, countField, leadsPlace, questionsAsked, known-kind, wrong-count, layoutOf, headerRefusal, headerJudged, headerOutcome, problemSize}
+use Rattle.definitions.specs.ProblemRecord as Problems
 use Rattle.definitions.proofs.Outcomes.{outcome-none, outcome-some, outcome-gives, outcome-refusal}
-use Rattle.definitions.proofs.Refusals.{enough-clause, equal-clause, limits-clause}
+use Rattle.definitions.proofs.Refusals.{header-passes, few-questions, kind-known, kind-one, size-one}
+use Rattle.records.specs.declared.problem.Layout.{Layout}
+use Rattle.records.specs.declared.problem.Fields.{Fields}
 use Rattle.records.specs.declared.problem.Header.{Header}
-use Rattle.records.specs.declared.problem.Header.the-variants.{Fields, Refused}
-use Rattle.records.specs.ProblemHeader.{headerOf, judged}
+use Rattle.records.specs.declared.problem.Header.the-variants.{Told, Refused}
+use Rattle.records.specs.ProblemHeader.{layoutIn, layoutBy, headerOf, FieldsAt}
 
--- No refusal: the fields.
-pub header-fields : (refusal n m : ℕ) → refusal ≡ 0 → headerOf (Fields n m) ≡ outcome refusal (n, m)
+-- No refusal: the layout.
+pub header-told : (refusal : ℕ) (l : Layout) → refusal ≡ 0 → headerOf (Told l) ≡ outcome refusal (layoutIn l)
 unfolding headerOf
-header-fields refusal n m e = sym (outcome-none refusal (n, m) e)
+header-told refusal l e = sym (outcome-none refusal (layoutIn l) e)
 
 -- A refusal: its number.
-pub header-refused : (refusal n m : ℕ) → (refusal ≡ 0 → ⊥) → headerOf (Refused refusal) ≡ outcome refusal (n, m)
+pub header-refused : (refusal : ℕ) (l : Layout) → (refusal ≡ 0 → ⊥) → headerOf (Refused refusal) ≡ outcome refusal (layoutIn l)
 unfolding headerOf
-header-refused refusal n m h = sym (outcome-some refusal (n, m) h)
+header-refused refusal l h = sym (outcome-some refusal (layoutIn l) h)
 
 -- The numbers that the header holds decide: judging them is judging the bytes.
-pub header-judged : (s : List ℕ) (size : ℕ) (r : Header) {len kind n m refusal : ℕ}
-    → len ≡ lengthField s → kind ≡ kindField s → n ≡ nField s → m ≡ mField s
-    → refusal ≡ judged size len kind n m → headerOf r ≡ outcome refusal (n, m) → headerOf r ≡ headerOutcome s size
-unfolding headerOutcome headerRefusal judged
-header-judged s size r a b c d e f = rw (f, e, a, b, c, d)
+pub header-judged : (several : Bool) (s : List ℕ) (size : ℕ) (r : Header) {f : Fields} {refusal : ℕ} {l : Problems.Layout} → FieldsAt s f
+    → refusal ≡ headerJudged several size (f .length) (f .kind) (f .n) (f .m) (f .count) → l ≡ layoutBy (f .kind) (f .n) (f .m) (f .count)
+    → headerOf r ≡ outcome refusal l → headerOf r ≡ headerOutcome several s size
+unfolding headerOutcome headerRefusal
+header-judged several s size r a e g f = rw (f, g, e, a .length-is, a .kind-is, a .n-is, a .m-is, a .count-is)
 
--- The leads of a table within the limits are at most 2,048.
-pub product-most : (n m : ℕ) → n ≤ 31 → m ≤ 63 → (n + 1) * (m + 1) ≤ 2048
-product-most n m h k = omega (arith, mul-le-mul-right {m = n + 1} {n = 32} (m + 1) (omega arith), mul-le-mul-left {m = m + 1} {n = 64} 32 (omega arith))
+-- The elements of a table within the limits are at most 2,048.
+pub product-most : (n m : ℕ) → n ≤ highest-n → m ≤ highest-m → (n + 1) * (m + 1) ≤ table-size
+product-most n m h k = omega (arith, mul-le-mul-right {m = n + 1} {n = stride} (m + 1) (omega arith), mul-le-mul-left {m = m + 1} {n = table-rows} stride (omega arith))
 
--- The facts of a header that nothing refuses, with n and m as it holds them.
-pub record HeaderFits (s : List ℕ) (size n m : ℕ) : Type 0 where
-  pub none : headerRefusal s size ≡ 0
-  pub n-is : n ≡ nField s
-  pub m-is : m ≡ mField s
-  pub n-most : n ≤ highest-n
-  pub m-most : m ≤ highest-m
-  pub size-is : size ≡ problemSize n m
+-- The facts of a header that nothing refuses, with its layout.
+pub record HeaderFits (several : Bool) (s : List ℕ) (size : ℕ) (l : Layout) : Type 0 where
+  pub none : headerRefusal several s size ≡ 0
+  pub layout-is : layoutIn l ≡ layoutOf s
+  pub n-is : l .n ≡ nField s
+  pub m-is : l .m ≡ mField s
+  pub kind-is : l .kind ≡ kindField s
+  pub leads-is : l .leads ≡ leadsPlace (kindField s)
+  pub questions-is : l .questions ≡ questionsAsked (kindField s) (countField s)
+  pub n-most : l .n ≤ highest-n
+  pub m-most : l .m ≤ highest-m
+  pub questions-least : 0 < l .questions
+  pub questions-most : l .questions ≤ most-questions
+  pub leads-least : problem-header ≤ l .leads
+  pub size-is : size ≡ l .leads + 2 * signed-bytes * (suc (l .n) * (l .m + l .questions))
 
--- Fields are the answer where nothing is refused.
-pub answer-fields : (refusal a b : ℕ) {r : Header} {n m : ℕ} → headerOf r ≡ outcome refusal (a, b) → r ≡ Fields n m → (refusal ≡ 0) × (n ≡ a) × (m ≡ b)
+-- A layout is the answer where nothing is refused.
+pub answer-told : (refusal : ℕ) (a : Problems.Layout) {r : Header} {l : Layout} → headerOf r ≡ outcome refusal a → r ≡ Told l → (refusal ≡ 0) × (layoutIn l ≡ a)
 unfolding headerOf
-answer-fields refusal a b {n = n} {m} e f =
-    let g = outcome-gives refusal (a, b) (n, m) (sym e ∙ ap headerOf f) in
-    (g .0, ap (λ (c : ℕ × ℕ). c .0) (sym (g .1)), ap (λ (c : ℕ × ℕ). c .1) (sym (g .1)))
+answer-told refusal a {l = l} e f =
+    let g = outcome-gives refusal a (layoutIn l) (sym e ∙ ap headerOf f) in
+    (g .0, sym (g .1))
 
 -- A number is the answer where it is the refusal.
-pub answer-refused : (refusal a b : ℕ) {r : Header} {k : ℕ} → headerOf r ≡ outcome refusal (a, b) → r ≡ Refused k → (refusal ≡ k) × (0 < k)
+pub answer-refused : (refusal : ℕ) (a : Problems.Layout) {r : Header} {k : ℕ} → headerOf r ≡ outcome refusal a → r ≡ Refused k → (refusal ≡ k) × (0 < k)
 unfolding headerOf
-answer-refused refusal a b {k = k} e f = outcome-refusal refusal (a, b) k (sym e ∙ ap headerOf f)
+answer-refused refusal a {k = k} e f = outcome-refusal refusal a k (sym e ∙ ap headerOf f)
 
--- A header that gives fields fits.
-pub header-fits : (s : List ℕ) (size : ℕ) {r : Header} {n m : ℕ} → headerOf r ≡ headerOutcome s size → r ≡ Fields n m → HeaderFits s size n m
-unfolding headerOutcome headerRefusal
-header-fits s size {n = n} {m} e f =
-    let g = answer-fields (headerRefusal s size) (nField s) (mField s) e f in
-    let a = enough-clause size problem-header _ _ .0 (g .0) in
-    let b = equal-clause (lengthField s + length-bytes) size _ _ .0 (a .1) in
-    let c = equal-clause (kindField s) problem-kind _ _ .0 (b .1) in
-    let d = limits-clause (nField s) (mField s) _ _ .0 (c .1) in
-    let h = equal-clause size (problemSize (nField s) (mField s)) _ _ .0 (d .1) in
-    record { none = g .0; n-is = g .1; m-is = g .2; n-most = rw (g .1) (d .0 .0); m-most = rw (g .2) (d .0 .1); size-is = rw (g .1, g .2) (h .0) }
+-- A header that nothing refuses, with its layout, fits.
+pub fits-of : (several : Bool) (s : List ℕ) (size : ℕ) {l : Layout} → headerRefusal several s size ≡ 0 → layoutIn l ≡ layoutOf s → HeaderFits several s size l
+fits-of several s size {l = l} none layout-is =
+    let h = header-passes several s size .0 none in
+    let n-is : l .n ≡ nField s = ap (λ (x : Problems.Layout). x .n) layout-is in
+    let m-is : l .m ≡ mField s = ap (λ (x : Problems.Layout). x .m) layout-is in
+    let leads-is : l .leads ≡ leadsPlace (kindField s) = ap (λ (x : Problems.Layout). x .leads) layout-is in
+    let questions-is : l .questions ≡ questionsAsked (kindField s) (countField s) = ap (λ (x : Problems.Layout). x .questions) layout-is in
+    record {
+      none = none;
+      layout-is = layout-is;
+      n-is = n-is;
+      m-is = m-is;
+      kind-is = ap (λ (x : Problems.Layout). x .kind) layout-is;
+      leads-is = leads-is;
+      questions-is = questions-is;
+      n-most = rw n-is (h .n-most);
+      m-most = rw m-is (h .m-most);
+      questions-least = ⊎-elim
+          (λ (k : kindField s ≡ problem-kind). rw (questions-is, k) (omega arith))
+          (λ (k : kindField s ≡ questions-kind). let c = few-questions s size k h in rw (questions-is, k) (c .some))
+          (kind-known several (kindField s) (h .kind-known));
+      questions-most = ⊎-elim
+          (λ (k : kindField s ≡ problem-kind). rw (questions-is, k) (omega arith))
+          (λ (k : kindField s ≡ questions-kind). let c = few-questions s size k h in rw (questions-is, k) (c .few))
+          (kind-known several (kindField s) (h .kind-known));
+      leads-least = ⊎-elim
+          (λ (k : kindField s ≡ problem-kind). rw (leads-is, k) (omega arith))
+          (λ (k : kindField s ≡ questions-kind). rw (leads-is, k) (omega arith))
+          (kind-known several (kindField s) (h .kind-known));
+      size-is = rw (n-is, m-is, leads-is, questions-is) (h .size-is);
+    }
+
+-- The size where one question is asked for.
+pub fits-one : {s : List ℕ} {size : ℕ} {l : Layout} → HeaderFits false s size l → size ≡ problemSize (l .n) (l .m)
+fits-one {s} {size} h =
+    let p = header-passes false s size .0 (h .none) in
+    rw (h .n-is, h .m-is) (p .size-is ∙ size-one (kindField s) (nField s) (mField s) (countField s) (kind-one (kindField s) .0 (p .kind-known)))
+
+-- A header that gives a layout fits.
+pub header-fits : (several : Bool) (s : List ℕ) (size : ℕ) {r : Header} {l : Layout} → headerOf r ≡ headerOutcome several s size → r ≡ Told l → HeaderFits several s size l
+unfolding headerOutcome
+header-fits several s size e f = let g = answer-told (headerRefusal several s size) (layoutOf s) e f in fits-of several s size (g .0) (g .1)
 
 -- A header that gives a number is refused by it.
-pub header-refuses : (s : List ℕ) (size : ℕ) {r : Header} {k : ℕ} → headerOf r ≡ headerOutcome s size → r ≡ Refused k → (headerRefusal s size ≡ k) × (0 < k)
+pub header-refuses : (several : Bool) (s : List ℕ) (size : ℕ) {r : Header} {k : ℕ} → headerOf r ≡ headerOutcome several s size → r ≡ Refused k → (headerRefusal several s size ≡ k) × (0 < k)
 unfolding headerOutcome
-header-refuses s size e f = answer-refused (headerRefusal s size) (nField s) (mField s) e f
+header-refuses several s size e f = answer-refused (headerRefusal several s size) (layoutOf s) e f
+
+-- ---- by kind
+
+module _ (kind : ℕ) where
+  pub leads-three : kind ≡ questions-kind → questions-header ≡ leadsPlace kind
+  leads-three e = rw e
+
+  pub leads-others : (kind ≡ questions-kind → ⊥) → problem-header ≡ leadsPlace kind
+  leads-others d = rw (ne-eqb kind questions-kind d)
+
+  pub asked-three : (count : ℕ) → kind ≡ questions-kind → count ≡ questionsAsked kind count
+  asked-three count e = rw e
+
+  pub asked-others : (count : ℕ) → (kind ≡ questions-kind → ⊥) → 1 ≡ questionsAsked kind count
+  asked-others count d = rw (ne-eqb kind questions-kind d)
+
+-- Which kinds are known, and whether a count is wrong.
+pub knows-one : (several : Bool) (kind : ℕ) → kind ≡ problem-kind → true ≡ known-kind several kind
+knows-one several kind e = rw (eq-eqb kind problem-kind e)
+
+pub knows-three : (several : Bool) (kind : ℕ) → kind ≡ questions-kind → several ≡ known-kind several kind
+knows-three true kind e = rw e
+knows-three false kind e = rw e
+
+pub knows-no-other : (several : Bool) (kind : ℕ) → (kind ≡ problem-kind → ⊥) → (kind ≡ questions-kind → ⊥) → false ≡ known-kind several kind
+knows-no-other true kind d g = rw (ne-eqb kind problem-kind d, ne-eqb kind questions-kind g)
+knows-no-other false kind d g = rw (ne-eqb kind problem-kind d)
+
+pub knows-low : (several : Bool) (kind : ℕ) → (kind ≡ 0) ⊎ (kind ≡ 2) → false ≡ known-kind several kind
+knows-low several kind (inl e) = knows-no-other several kind (λ g. omega arith) (λ g. omega arith)
+knows-low several kind (inr e) = knows-no-other several kind (λ g. omega arith) (λ g. omega arith)
+
+pub count-of-three : {r : Bool} (size kind count : ℕ) → kind ≡ questions-kind → r ≡ wrong-count size questions-kind count → r ≡ wrong-count size kind count
+count-of-three size kind count e f = rw e f
+
+pub count-of-others : (size kind count : ℕ) → (kind ≡ questions-kind → ⊥) → false ≡ wrong-count size kind count
+count-of-others size kind count d = rw (ne-eqb kind questions-kind d)

@@ -3,7 +3,7 @@ use Prim.Native.Nat.{ℕ, _+_, _*_, _≤_, _<_}
 use mathlib.Core.Path.{_≡_}
 use mathlib.Core.List.{List}
 use lib.ListN.{length, getD}
-use Rattle.definitions.specs.Limits.{highest-n, highest-m, lead-limit, signed-half}
+use Rattle.definitions.specs.Limits.{highest-n, highest-m, lead-limit, signed-half, table-size, stride}
 use Rattle.definitions.specs.Problem.{Problem}
 use Rattle.definitions.specs.Offset.{tropOf}
 
@@ -16,9 +16,9 @@ pub record Near (d k : ℕ) : Type 0 where
 pub record Decoded (p : Problem) (left right : List ℕ) : Type 0 where
   pub n-most : p .n ≤ highest-n
   pub m-most : p .m ≤ highest-m
-  pub left-length : length left ≡ 2048
-  pub right-length : length right ≡ 2048
-  pub left-is : (i j : ℕ) → i ≤ p .m → j ≤ p .n → tropOf (getD left (i * 32 + j) 0) ≡ p .left i j
-  pub right-is : (i j : ℕ) → i ≤ p .m → j ≤ p .n → tropOf (getD right (i * 32 + j) 0) ≡ p .right i j
+  pub left-length : length left ≡ table-size
+  pub right-length : length right ≡ table-size
+  pub left-is : (i j : ℕ) → i ≤ p .m → j ≤ p .n → tropOf (getD left (i * stride + j) 0) ≡ p .left i j
+  pub right-is : (i j : ℕ) → i ≤ p .m → j ≤ p .n → tropOf (getD right (i * stride + j) 0) ≡ p .right i j
   pub left-near : (k : ℕ) → Near lead-limit (getD left k 0)
   pub right-near : (k : ℕ) → Near lead-limit (getD right k 0)

@@ -1,39 +1,40 @@
--- What reading a problem's header answers: n and m, or the number of the refusal. Document 01, "What is turned away", 1 to 5.
-use Prim.Native.Nat.{ℕ, zero, suc, _+_}
-use mathlib.Core.Bool.{not}
-use mathlib.Core.List.{List, [], _∷_}
-use lib.Dec.{eqb, ltb}
-use Rattle.definitions.specs.Limits.{length-bytes, problem-kind, problem-header}
-use Rattle.definitions.specs.Bytes.{Clause, first, Outcome, refusal, gives}
-use Rattle.definitions.specs.ProblemRecord.{problemSize, above-limits}
+-- What reading a problem's header answers: the layout, or the number of the refusal. Document 01, "What is turned away", 1 to 5, document 02, 2.1.
+use Prim.Native.Nat.{ℕ, _<_}
+use mathlib.Core.Path.{_≡_}
+use mathlib.Core.List.{List}
+use Rattle.definitions.specs.Limits.{signed-full, short-full}
+use Rattle.definitions.specs.Bytes.{Outcome, refusal, gives}
+use Rattle.definitions.specs.ProblemRecord as Problems
+use Rattle.definitions.specs.ProblemRecord.{lengthField, kindField, nField, mField, countField, leadsPlace, questionsAsked}
+use Rattle.records.specs.declared.problem.Fields.{Fields}
+use Rattle.records.specs.declared.problem.Layout.{Layout}
 use Rattle.records.specs.declared.problem.Header.{Header}
-use Rattle.records.specs.declared.problem.Header.the-variants.{Fields, Refused}
+use Rattle.records.specs.declared.problem.Header.the-variants.{Told, Refused}
 
--- Document 01's result for each case: n and m, or the number of the refusal.
-unfoldable pub headerOf : Header → Outcome (ℕ × ℕ)
-headerOf (Fields n m) = gives (n, m)
+-- The definitions' layout in the code's struct.
+abbrev pub layoutIn : Layout → Problems.Layout
+layoutIn l = record { kind = l .kind; n = l .n; m = l .m; leads = l .leads; questions = l .questions }
+
+-- The layout of a header with these numbers.
+abbrev pub layoutBy : ℕ → ℕ → ℕ → ℕ → Problems.Layout
+layoutBy kind n m count = record { kind = kind; n = n; m = m; leads = leadsPlace kind; questions = questionsAsked kind count }
+
+-- The numbers are those of the first bytes, and fit their fields.
+pub record FieldsAt (s : List ℕ) (f : Fields) : Type 0 where
+  pub length-is : f .length ≡ lengthField s
+  pub kind-is : f .kind ≡ kindField s
+  pub n-is : f .n ≡ nField s
+  pub m-is : f .m ≡ mField s
+  pub count-is : f .count ≡ countField s
+  pub length-small : f .length < signed-full
+  pub count-small : f .count < short-full
+
+-- Document 01's result for each case: the layout, or the number of the refusal.
+unfoldable pub headerOf : Header → Outcome Problems.Layout
+headerOf (Told l) = gives (layoutIn l)
 headerOf (Refused k) = refusal k
 
 -- The number with which a problem was refused, 0 where it was not.
 unfoldable pub problemRefused : Header → ℕ
-problemRefused (Fields n m) = 0
+problemRefused (Told l) = 0
 problemRefused (Refused k) = k
-
--- Refusals 4 and 5 on the numbers that the header holds.
-unfoldable pub countsJudged : ℕ → ℕ → ℕ → ℕ
-countsJudged size n m =
-    first
-    (record { applies = above-limits n m; number = 4 }
-    ∷ record { applies = not (eqb size (problemSize n m)); number = 5 }
-    ∷ [])
-
--- Refusals 1 to 5 on the numbers that the header holds.
-unfoldable pub judged : ℕ → ℕ → ℕ → ℕ → ℕ → ℕ
-judged size len kind n m =
-    first
-    (record { applies = ltb size problem-header; number = 1 }
-    ∷ record { applies = not (eqb (len + length-bytes) size); number = 2 }
-    ∷ record { applies = not (eqb kind problem-kind); number = 3 }
-    ∷ record { applies = above-limits n m; number = 4 }
-    ∷ record { applies = not (eqb size (problemSize n m)); number = 5 }
-    ∷ [])

@@ -1,93 +1,211 @@
 // The problem record: its header judged.
 ghost use mathlib.Core.Path.{_≡_};
 ghost use Prim.Native.Nat.{_+_, _*_, _<_, _≤_};
-ghost use Rattle.definitions.specs.Bytes.{outcome};
-ghost use Rattle.definitions.specs.ProblemRecord.{problemSize, headerOutcome};
-ghost use Rattle.records.specs.ProblemHeader.{headerOf, problemRefused, judged, countsJudged};
+ghost use Rattle.definitions.specs.Limits.{highest-n, highest-m, signed-full, short-full, stride, questions-kind, questions-header};
+ghost use Rattle.definitions.specs.Bytes.{first, outcome};
+ghost use Rattle.definitions.specs.ProblemRecord.{leadsPlace, questionsAsked, recordSize, known-kind, wrong-count, countsRefused, headerJudged, headerOutcome};
+ghost use Rattle.records.specs.ProblemHeader.{layoutIn, layoutBy, headerOf, problemRefused, FieldsAt};
 use crate::bytes::short_at;
 use crate::bytes::word_at;
+use crate::limits::COUNT_PLACE;
+use crate::limits::HIGHEST_M;
+use crate::limits::HIGHEST_N;
+use crate::limits::KIND_PLACE;
 use crate::limits::LEAD_BYTES;
 use crate::limits::LENGTH_BYTES;
-use crate::limits::MOST_INEQUALITIES;
-use crate::limits::MOST_VARIABLES;
+use crate::limits::LENGTH_PLACE;
+use crate::limits::M_PLACE;
+use crate::limits::MOST_QUESTIONS;
+use crate::limits::N_PLACE;
 use crate::limits::PROBLEM_HEADER;
+use crate::limits::PROBLEM_KIND;
+use crate::limits::QUESTIONS_HEADER;
+use crate::limits::QUESTIONS_KIND;
+use crate::limits::REFUSED_COUNT;
+use crate::limits::REFUSED_KIND;
+use crate::limits::REFUSED_LENGTH;
+use crate::limits::REFUSED_LIMITS;
+use crate::limits::REFUSED_SHORT;
+use crate::limits::REFUSED_SIZE;
 
-// What a header answers: n and m, or the number of the refusal.
+// Where things stand in a problem record: its kind, n and m, where its leads start, and how many questions follow its rules.
+pub struct Layout {
+    pub kind: usize,
+    pub n: usize,
+    pub m: usize,
+    pub leads: usize,
+    pub questions: usize,
+}
+
+// What a header answers: the layout, or the number of the refusal.
 pub enum Header {
-    Fields(usize, usize),
+    Told(Layout),
     Refused(usize),
 }
 
-// How many leads a problem has, from n and m within their limits. Public for `leads::reader`.
-pub fn lead_count(n: usize, m: usize) -> usize
-    requires { ⌜ (n ≤ 31) × (m ≤ 63) ⌝ }
-    ensures { λ r. ⌜ (r ≡ 2 * ((n + 1) * (m + 1))) × (r ≤ 4096) ⌝ }
+// The numbers of a header. The count is that of a record of several questions; in others it plays no part.
+struct Fields {
+    length: usize,
+    kind: u16,
+    n: usize,
+    m: usize,
+    count: usize,
+}
+
+// How many leads `rows` rows have. Public for `problem_records::reader`.
+pub fn lead_count(n: usize, rows: usize) -> usize
+    requires { ⌜ (n ≤ highest-n) × (rows < 2 * short-full) ⌝ }
+    ensures { λ r. ⌜ (r ≡ 2 * ((n + 1) * rows)) × (r ≤ 2 * (stride * rows)) ⌝ }
 {
-    2 * ((n + 1) * (m + 1))
+    2 * ((n + 1) * rows)
+}
+
+// Where the leads of a record of this kind start.
+fn leads_place(kind: u16) -> usize
+    ensures { λ r. ⌜ (r ≡ leadsPlace kind) × (r ≤ questions-header) ⌝ }
+{
+    match kind {
+        QUESTIONS_KIND => QUESTIONS_HEADER,
+        0..=2 | 4.. => PROBLEM_HEADER,
+    }
+}
+
+// How many questions it asks.
+fn questions_asked(kind: u16, count: usize) -> usize
+    requires { ⌜ count < short-full ⌝ }
+    ensures { λ r. ⌜ (r ≡ questionsAsked kind count) × (r < short-full) ⌝ }
+{
+    match kind {
+        QUESTIONS_KIND => count,
+        0..=2 | 4.. => 1,
+    }
 }
 
 // The size of a problem record, from n and m within their limits.
-fn problem_size(n: usize, m: usize) -> usize
-    requires { ⌜ (n ≤ 31) × (m ≤ 63) ⌝ }
-    ensures { λ r. ⌜ (r ≡ problemSize n m) × (r ≤ 16394) ⌝ }
+fn record_size(kind: u16, n: usize, m: usize, count: usize) -> usize
+    requires { ⌜ (n ≤ highest-n) × (m ≤ highest-m) × (count < short-full) ⌝ }
+    ensures { λ r. ⌜ r ≡ recordSize kind n m count ⌝ }
 {
-    PROBLEM_HEADER + LEAD_BYTES * lead_count(n, m)
+    let rows = m + questions_asked(kind, count);
+    leads_place(kind) + LEAD_BYTES * lead_count(n, rows)
 }
 
-// Refusals 4 and 5: n and m against their limits, then the size.
-fn judge_counts(size: usize, n: usize, m: usize) -> usize
-    ensures { λ r. ⌜ r ≡ countsJudged size n m ⌝ }
+// A record that reaches to the end of its count asks no question, or too many.
+fn count_outside(size: usize, count: usize) -> bool
+    ensures { λ r. ⌜ r ≡ wrong-count size questions-kind count ⌝ }
 {
-    if MOST_VARIABLES < n {
-        return 4;
+    if size < QUESTIONS_HEADER {
+        return false;
     }
-    if MOST_INEQUALITIES < m {
-        return 4;
+    if count == 0 {
+        return true;
     }
-    if size != problem_size(n, m) {
-        return 5;
+    MOST_QUESTIONS < count
+}
+
+// Refusal 15 applies.
+fn wrong_count(size: usize, kind: u16, count: usize) -> bool
+    ensures { λ r. ⌜ r ≡ wrong-count size kind count ⌝ }
+{
+    match kind {
+        QUESTIONS_KIND => count_outside(size, count),
+        0..=2 | 4.. => false,
+    }
+}
+
+// Refusals 4, 15 and 5: n and m against their limits, the count, then the size.
+fn judge_counts(size: usize, kind: u16, n: usize, m: usize, count: usize) -> usize
+    requires { ⌜ count < short-full ⌝ }
+    ensures { λ r. ⌜ r ≡ first (countsRefused size kind n m count) ⌝ }
+{
+    if HIGHEST_N < n {
+        return REFUSED_LIMITS;
+    }
+    if HIGHEST_M < m {
+        return REFUSED_LIMITS;
+    }
+    if wrong_count(size, kind, count) {
+        return REFUSED_COUNT;
+    }
+    if size != record_size(kind, n, m, count) {
+        return REFUSED_SIZE;
     }
     0
 }
 
-// Refusals 1 to 5 on the header's numbers: the first that applies, 0 where none does.
-fn judge(size: usize, length: usize, kind: u16, n: usize, m: usize) -> usize
-    requires { ⌜ length < 4294967296 ⌝ }
-    ensures { λ r. ⌜ r ≡ judged size length kind n m ⌝ }
+// The entry knows the kind: kind 1, and kind 3 where several questions may be asked.
+fn knows(several: bool, kind: u16) -> bool
+    ensures { λ r. ⌜ r ≡ known-kind several kind ⌝ }
 {
-    let whole = length + LENGTH_BYTES;
-    if size < PROBLEM_HEADER {
-        return 1;
-    }
-    if whole != size {
-        return 2;
-    }
     match kind {
-        1 => judge_counts(size, n, m),
-        0 | 2..=65535 => 3,
+        PROBLEM_KIND => true,
+        QUESTIONS_KIND => several,
+        0 | 2 | 4.. => false,
     }
 }
 
-// A refusal's number, 0 for none, with n and m as the answer of a header.
-fn answered(refusal: usize, n: usize, m: usize) -> Header
-    ensures { λ r. ⌜ headerOf r ≡ outcome refusal (n, m) ⌝ }
+// Refusals 1 to 5 and 15 on the header's numbers: the first that applies, 0 where none does.
+fn judge(several: bool, size: usize, fields: Fields) -> usize
+    requires { ⌜ (fields .length < signed-full) × (fields .count < short-full) ⌝ }
+    ensures { λ r. ⌜ r ≡ headerJudged several size (fields .length) (fields .kind) (fields .n) (fields .m) (fields .count) ⌝ }
+{
+    let whole = fields.length + LENGTH_BYTES;
+    if size < PROBLEM_HEADER {
+        return REFUSED_SHORT;
+    }
+    if whole != size {
+        return REFUSED_LENGTH;
+    }
+    if !knows(several, fields.kind) {
+        return REFUSED_KIND;
+    }
+    judge_counts(size, fields.kind, fields.n, fields.m, fields.count)
+}
+
+// The layout that a header's numbers tell.
+fn layout_of(fields: Fields) -> Layout
+    requires { ⌜ fields .count < short-full ⌝ }
+    ensures { λ r. ⌜ layoutIn r ≡ layoutBy (fields .kind) (fields .n) (fields .m) (fields .count) ⌝ }
+{
+    Layout {
+        kind: fields.kind as usize,
+        n: fields.n,
+        m: fields.m,
+        leads: leads_place(fields.kind),
+        questions: questions_asked(fields.kind, fields.count),
+    }
+}
+
+// A refusal's number, 0 for none, with the layout as the answer of a header.
+fn answered(refusal: usize, layout: Layout) -> Header
+    ensures { λ r. ⌜ headerOf r ≡ outcome refusal (layoutIn layout) ⌝ }
 {
     if refusal == 0 {
-        return Header::Fields(n, m);
+        return Header::Told(layout);
     }
     Header::Refused(refusal)
 }
 
-// The header of a problem from its first bytes and its size: n and m, or the first of refusals 1 to 5 that applies.
-// A program may hold only the first bytes of a longer input; a byte past the end counts as 0.
-pub fn read_header(bytes: &[u8], size: usize) -> Header
-    ensures { λ r. ⌜ headerOf r ≡ headerOutcome (now (bytes .entry)) size ⌝ }
+// The numbers of a header. A program may hold only the first bytes of a longer input; a byte past the end counts as 0.
+fn fields_at(bytes: &[u8]) -> Fields
+    ensures { λ r. ⌜ FieldsAt (now (bytes .entry)) r ⌝ }
 {
-    let length = word_at(bytes, 0) as usize;
-    let kind = short_at(bytes, 4) as u16;
-    let n = short_at(bytes, 6) as usize;
-    let m = short_at(bytes, 8) as usize;
-    answered(judge(size, length, kind, n, m), n, m)
+    Fields {
+        length: word_at(bytes, LENGTH_PLACE) as usize,
+        kind: short_at(bytes, KIND_PLACE) as u16,
+        n: short_at(bytes, N_PLACE) as usize,
+        m: short_at(bytes, M_PLACE) as usize,
+        count: short_at(bytes, COUNT_PLACE) as usize,
+    }
+}
+
+// The header of a problem from its first bytes and its size: the layout, or the first of refusals 1 to 5 and 15 that applies, in an
+// entry that takes several questions or one.
+pub fn read_header(bytes: &[u8], size: usize, several: bool) -> Header
+    ensures { λ r. ⌜ headerOf r ≡ headerOutcome several (now (bytes .entry)) size ⌝ }
+{
+    let fields = fields_at(bytes);
+    answered(judge(several, size, fields), layout_of(fields))
 }
 
 // The number with which a problem was refused. Public for `checker`, `engine`.
@@ -95,7 +213,7 @@ pub fn problem_refusal(header: Header) -> usize
     ensures { λ r. ⌜ r ≡ problemRefused header ⌝ }
 {
     match header {
-        Header::Fields(_, _) => 0,
+        Header::Told(_) => 0,
         Header::Refused(k) => k,
     }
 }

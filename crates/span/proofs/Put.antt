@@ -14,11 +14,11 @@ use Rattle.definitions.specs.Solved as Results
 use Rattle.definitions.specs.Solved.{Solves, turned-away, solved, engineRefusal}
 use Rattle.definitions.proofs.Refusals.{or-else-none}
 use Rattle.definitions.proofs.RoundTrip.{answer-length, answer-length-most}
+use Rattle.definitions.proofs.Solved.{record-stands, answer-takes}
 use Rattle.definitions.proofs.Put.{length-put}
 use Rattle.engine.specs.Outcome.{solvedOf}
 use Rattle.engine.specs.declared.solve.Solved.{Solved}
 use Rattle.engine.specs.declared.solve.Solved.the-variants.{Refused, Answered}
-use Rattle.guarantees.proofs.Engine.{record-stands, answer-takes}
 use Rattle.printing.specs.Text.{Output}
 use Rattle.span.specs.Shown.{out-most, Shown, shownRecord}
 

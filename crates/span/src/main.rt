@@ -12,8 +12,8 @@ use input::read_all;
 use libc::STDOUT_FILENO;
 use output::writer::write_record;
 use output::writer::write_refused;
+use records::limits::ANSWER_MOST;
 use records::limits::KEPT;
-use writing::limits::ANSWER_MOST;
 
 // Room for what is put out: a record, or a line.
 const OUT_MOST: usize = 256;

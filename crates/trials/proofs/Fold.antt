@@ -3,24 +3,24 @@
 use Prim.Native.Nat.{ℕ, zero, suc, _+_, _*_, _-_, _/_, _%_, _≤_, _<_}
 use mathlib.Core.Path.{_≡_, refl, sym, ap, subst, _∙_}
 use mathlib.Core.Bool.{Bool, true, false, cond}
-use mathlib.Core.Logic.{_⊎_, inl, inr, ⊎-elim}
+use mathlib.Core.Logic.{_⊎_, ⊎-elim}
 use mathlib.Core.List.{List}
 use native.Mathlib.Omega.{arith}
 use native.Mathlib.Nat.{eq-zero-or-pos}
-use native.Mathlib.Numerals.{add-one}
 use lib.Dec.{leb}
 use lib.ListN.{getD}
-use borrow.Author.Tests.{leb-true, leb-false, lt-ltb, le-ltb, le-leb, lt-leb}
+use borrow.Author.Tests.{leb-true, leb-false, lt-ltb, le-ltb}
+use Rattle.base.specs.Numbers.{most, uppermost}
+use Rattle.base.proofs.Numbers.{nat-le-or-lt, same-or-not, most-under, uppermost-more, uppermost-most}
 use Rattle.definitions.specs.Limits.{signed-half, signed-full}
 use Rattle.definitions.specs.Tropical.{Trop, bot, plus, larger, largest, _⊑_, blank-least}
 use Rattle.definitions.specs.Offset.{tropOf, off}
-use Rattle.definitions.proofs.Whole.{nat-le-or-lt}
 use Rattle.definitions.proofs.Tropical.{⊑-refl, ⊑-antisym, larger-left, larger-right, larger-least, largest-above, largest-least, largest-ext}
 use Rattle.definitions.proofs.Offset.{off-off, trop-zero, trop-order, plus-trop, plus-trop-zero}
 use Rattle.records.specs.Decoded.{Near}
-use Rattle.trials.specs.Tables.{raised-limit, value-limit, fold-limit, low-fold, side-most, side-least, high, highs, Table, Ranged, Lows}
+use Rattle.trials.specs.Tables.{raised-limit, value-limit, low-half, fold-limit, low-fold, side-most, side-least, high, highs, Table, Ranged, Lows}
 use Rattle.trials.specs.Ends.{RowEnds}
-use Rattle.trials.specs.Rounds.{upper, uppermost, foldedAt, folded, sums, SideIs}
+use Rattle.trials.specs.Rounds.{foldedAt, folded, sums, SideIs}
 use Rattle.trials.proofs.Low.{high-zero, high-whole, high-mono, highs-at}
 
 -- ---- one sum
@@ -64,7 +64,7 @@ fold-low a b na nb = ⊎-elim blank whole (eq-zero-or-pos b)
 
     whole : 0 < b → high (folded (a + b)) ≡ foldedAt fold-limit (a + high b)
     whole q =
-        let e : high b ≡ b + 1073741824 = high-whole b q in
+        let e : high b ≡ b + low-half = high-whole b q in
         let r : signed-half ≤ high b + value-limit = nb .lo (omega arith) in
         ⊎-elim
         (λ (z : a ≡ 0). rw (folded-low {limit = low-fold} (a + b) (omega (arith, nb .hi)), folded-low {limit = fold-limit} (a + high b) (omega (arith, nb .hi))) high-zero)
@@ -87,8 +87,9 @@ larger-of {x} {y} h = ⊑-antisym (larger-least h (⊑-refl y)) (larger-right x 
 larger-over : {x y : Trop} → y ⊑ x → larger x y ≡ x
 larger-over {x} {y} h = ⊑-antisym (larger-least (⊑-refl x) h) (larger-left x y)
 
-folded-upper : (a b : ℕ) → tropOf (high (folded (upper a b))) ≡ larger (tropOf (high (folded a))) (tropOf (high (folded b)))
-folded-upper a b = go (leb a b) refl
+folded-most : (a b : ℕ) → tropOf (high (folded (most a b))) ≡ larger (tropOf (high (folded a))) (tropOf (high (folded b)))
+unfolding most
+folded-most a b = go (leb a b) refl
   where
     up : (a b : ℕ) → a ≤ b → tropOf (high (folded a)) ⊑ tropOf (high (folded b))
     up a b h = trop-order (high (folded a)) (high (folded b)) .1 (high-mono (folded a) (folded b) (folded-mono low-fold a b h))
@@ -102,35 +103,12 @@ folded-upper a b = go (leb a b) refl
 folded-uppermost : (f : ℕ → ℕ) (k : ℕ) → tropOf (high (folded (uppermost f k))) ≡ largest (λ l. tropOf (high (folded (f l)))) k
 unfolding uppermost largest
 folded-uppermost f zero = rw (folded-low {limit = low-fold} 0 (omega arith), high-zero) trop-zero
-folded-uppermost f (suc k) = folded-upper (uppermost f k) (f k) ∙ ap (λ (z : Trop). larger z (tropOf (high (folded (f k))))) (folded-uppermost f k)
-
-either : {a b B : ℕ} (t : Bool) → a ≤ B → b ≤ B → cond t a b ≤ B
-either true h k = h
-either false h k = k
-
-pub uppermost-most : (f : ℕ → ℕ) (k B : ℕ) → ((l : ℕ) → l < k → f l ≤ B) → uppermost f k ≤ B
-unfolding uppermost
-uppermost-most f zero B h = omega arith
-uppermost-most f (suc k) B h = either (leb (uppermost f k) (f k)) (h k (omega arith)) (uppermost-most f k B (λ l b. h l (omega arith)))
+folded-uppermost f (suc k) = folded-most (uppermost f k) (f k) ∙ ap (λ (z : Trop). larger z (tropOf (high (folded (f k))))) (folded-uppermost f k)
 
 -- ---- the loop
 
-pub upper-second : (a b : ℕ) → a ≤ b → b ≡ upper a b
-upper-second a b h = rw (le-leb a b h)
-
-pub upper-first : (a b : ℕ) → b < a → a ≡ upper a b
-upper-first a b h = rw (lt-leb a b h)
-
-pub uppermost-none : (f : ℕ → ℕ) → 0 ≡ uppermost f 0
-unfolding uppermost
-uppermost-none f = refl
-
-pub uppermost-more : (f : ℕ → ℕ) (k best r : ℕ) → best ≡ uppermost f k → r ≡ upper best (f k) → r ≡ uppermost f (k + 1)
-unfolding uppermost
-uppermost-more f k best r e d = d ∙ rw (e, add-one, uppermost)
-
--- The same where the numbers are given as fields.
-pub uppermost-field : (f : ℕ → ℕ) (k best w r : ℕ) → off best ≡ uppermost f k → off w ≡ f k → off r ≡ upper (off best) (off w) → off r ≡ uppermost f (k + 1)
+-- One sum more, where the numbers are given as fields.
+pub uppermost-field : (f : ℕ → ℕ) (k best w r : ℕ) → off best ≡ uppermost f k → off w ≡ f k → off r ≡ most (off best) (off w) → off r ≡ uppermost f (k + 1)
 uppermost-field f k best w r e d g = uppermost-more f k (off best) (off r) e (g ∙ rw d)
 
 -- A field stands for the number that it was made of.
@@ -145,25 +123,18 @@ low-fits x g l = ⊎-elim
     (eq-zero-or-pos (getD x l 0))
 
 -- The sum of a coefficient and a low value has 32 bits.
-pub sum-most : (table x : List ℕ) → Table raised-limit table → Ranged (highs x) → (row l : ℕ) → sums table row x l ≤ 3255435105
+pub sum-most : (table x : List ℕ) → Table raised-limit table → Ranged (highs x) → (row l : ℕ) → sums table row x l ≤ (signed-half + side-most)
 sum-most table x t g row l = ⊎-elim
     (λ (z : getD x l 0 ≡ 0). omega (arith, t .near (row * 32 + l) .hi))
     (λ (q : 0 < getD x l 0). omega (arith, t .near (row * 32 + l) .hi, high-whole (getD x l 0) q, highs-at x l, g .near l .hi))
     (eq-zero-or-pos (getD x l 0))
 
 -- A fold within these bounds.
-folded-within : (k : ℕ) → k ≤ 3255435105 → (folded k ≤ side-most) × (0 < folded k → side-least ≤ folded k)
+folded-within : (k : ℕ) → k ≤ (signed-half + side-most) → (folded k ≤ side-most) × (0 < folded k → side-least ≤ folded k)
 folded-within k few = (
   ⊎-elim (λ h. omega (arith, folded-high _ h)) (λ h. omega (arith, folded-low _ h)) (nat-le-or-lt low-fold k),
   λ p. ⊎-elim (λ h. omega (arith, folded-high _ h)) (λ h. absurd (omega (arith, folded-low _ h))) (nat-le-or-lt low-fold k),
 )
-
--- Two numbers are the same, or not.
-pub same-or-not : (a b : ℕ) → (a ≡ b) ⊎ (a ≡ b → ⊥)
-same-or-not a b = ⊎-elim
-    (λ (h : a ≤ b). ⊎-elim (λ (k : b ≤ a). inl (omega arith)) (λ (k : a < b). inr (λ e. omega arith)) (nat-le-or-lt b a))
-    (λ (h : b < a). inr (λ e. omega arith))
-    (nat-le-or-lt a b)
 
 -- The largest over all 32 places is that over the first ones, where the others are blank.
 largest-rest : (f : ℕ → Trop) (k : ℕ) → k ≤ 32 → ((l : ℕ) → k ≤ l → f l ≡ bot) → largest f 32 ≡ largest f k
@@ -187,13 +158,13 @@ module _ (table : List ℕ) (row : ℕ) (x : List ℕ) (width : ℕ) (t : Table 
   adds-blank l e = rw e (plus-trop-zero (tropOf (getD (highs x) l 0)) .0)
 
   -- A number that stands for the largest is the side, once folded.
-  side-is : (best : ℕ) → best ≤ 3255435105 → tropOf (high (folded best)) ≡ largest adds width → SideIs table row (highs x) width (folded best)
+  side-is : (best : ℕ) → best ≤ (signed-half + side-most) → tropOf (high (folded best)) ≡ largest adds width → SideIs table row (highs x) width (folded best)
   side-is best few e = record { is = e; most = folded-within best few .0; least = folded-within best few .1 }
 
   -- What the loop ends with.
   pub side-end : (l best : ℕ) → l ≤ 32 → 32 ≤ l → best ≡ uppermost (sums table row x) l → SideIs table row (highs x) width (folded best)
   side-end l best h k e = side-is best
-      (rw eq (uppermost-most (sums table row x) 32 3255435105 (λ l b. sum-most table x t (g .ranged) row l)))
+      (rw eq (uppermost-most (sums table row x) 32 (signed-half + side-most) (λ l b. sum-most table x t (g .ranged) row l)))
       (rw eq (folded-uppermost (sums table row x) 32 ∙ largest-ext _ _ 32 (λ l b. adds-folded l) ∙ largest-rest adds width w adds-past))
     where
       eq : best ≡ uppermost (sums table row x) 32
@@ -204,11 +175,11 @@ module _ (table : List ℕ) (row : ℕ) (x : List ℕ) (width : ℕ) (t : Table 
   adds-under l = ⊎-elim (λ (b : width ≤ l). subst (λ (z : Trop). z ⊑ largest adds width) (sym (adds-past l b)) blank-least) (largest-above adds width l) (nat-le-or-lt width l)
 
   -- The larger of the sums at the ends is the side.
-  pub side-ends : (ends best : ℕ) → RowEnds table row ends → ends < 1024 → best ≡ upper (sums table row x (ends / 32)) (sums table row x (ends % 32))
+  pub side-ends : (ends best : ℕ) → RowEnds table row ends → ends < 1024 → best ≡ most (sums table row x (ends / 32)) (sums table row x (ends % 32))
       → SideIs table row (highs x) width (folded best)
   side-ends ends best n h e = side-is best
-      (rw e (either (leb (sums table row x (ends / 32)) (sums table row x (ends % 32))) (sum-most table x t (g .ranged) row (ends % 32)) (sum-most table x t (g .ranged) row (ends / 32))))
-      (rw e (folded-upper _ _ ∙ ap (λ (z : Trop). larger z (tropOf (high (folded (sums table row x (ends % 32)))))) (adds-folded (ends / 32)) ∙ ap (larger (adds (ends / 32))) (adds-folded (ends % 32)) ∙ both))
+      (rw e (most-under _ _ _ (sum-most table x t (g .ranged) row (ends / 32)) (sum-most table x t (g .ranged) row (ends % 32))))
+      (rw e (folded-most _ _ ∙ ap (λ (z : Trop). larger z (tropOf (high (folded (sums table row x (ends % 32)))))) (adds-folded (ends / 32)) ∙ ap (larger (adds (ends / 32))) (adds-folded (ends % 32)) ∙ both))
     where
       under : (l : ℕ) → l < width → adds l ⊑ larger (adds (ends / 32)) (adds (ends % 32))
       under l b = ⊎-elim

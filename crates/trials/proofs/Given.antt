@@ -9,8 +9,8 @@ use Rattle.definitions.specs.Tropical.{blank-least}
 use Rattle.definitions.specs.Offset.{tropOf}
 use Rattle.definitions.proofs.Offset.{trop-order, plus-trop, plus-trop-zero}
 use Rattle.records.specs.Decoded.{Near}
-use Rattle.trials.specs.Tables.{value-limit, fold-least, side-least, high}
-use Rattle.trials.specs.Steps.{Stands, Costs, Gives}
+use Rattle.trials.specs.Tables.{value-limit, low-half, fold-least, side-least, high}
+use Rattle.trials.specs.Steps.{Stands, Costs, Gives, blank-top}
 use Rattle.trials.proofs.Low.{high-zero, high-whole}
 
 -- ---- what a row gives a variable
@@ -76,10 +76,10 @@ not-zero : {k : ℕ} → 0 < k → k ≡ 0 → ⊥
 not-zero h e = omega arith
 
 -- A blank right side.
-pub gives-blank : Gives 0 2147503648
+pub gives-blank : Gives 0 blank-top
 gives-blank = record {
   fails = λ left v n m h s. ⊎-elim
-      (λ (z : left ≡ 0). never-fails 0 2147503648 v (omega arith) m (omega arith))
+      (λ (z : left ≡ 0). never-fails 0 blank-top v (omega arith) m (omega arith))
       (λ (p : 0 < left). cost-blank left n (not-zero p) .fails (high v) m (omega (arith, high-whole v (omega arith))) (rw high-zero at s))
       (eq-zero-or-pos left);
   stands = λ left v n m h. ⊎-elim
@@ -88,10 +88,10 @@ gives-blank = record {
       (eq-zero-or-pos left);
 }
   where
-    none : (left v : ℕ) → Near lead-limit left → Near value-limit (high v) → v ≤ 2147503648 - left → 0 < left → high v ≤ 0
+    none : (left v : ℕ) → Near lead-limit left → Near value-limit (high v) → v ≤ blank-top - left → 0 < left → high v ≤ 0
     none left v n m h p = ⊎-elim
         (λ (z : v ≡ 0). let e : high v ≡ 0 = rw z high-zero in omega arith)
-        (λ (q : 0 < v). let e : high v ≡ v + 1073741824 = high-whole v q in absurd (omega (arith, m .lo (omega arith), n .lo p)))
+        (λ (q : 0 < v). let e : high v ≡ v + low-half = high-whole v q in absurd (omega (arith, m .lo (omega arith), n .lo p)))
         (eq-zero-or-pos v)
 
 -- A whole right side.
@@ -107,7 +107,7 @@ gives-whole side k = record {
       (eq-zero-or-pos left);
 }
   where
-    up : high side ≡ side + 1073741824
+    up : high side ≡ side + low-half
     up = high-whole side (omega arith)
 
     costs : (left : ℕ) → Near lead-limit left → 0 < left → Costs (high side) left (high side + signed-half - left)

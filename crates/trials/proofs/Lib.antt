@@ -1,4 +1,3 @@
-pub mod Filled
 pub mod Fold
 pub mod Low
 pub mod Small

@@ -8,8 +8,8 @@ use native.Mathlib.Nat.{eq-zero-or-pos}
 use lib.ListN.{length, getD, length-map}
 use lib.Seq.{ext-getD}
 use borrow.Author.Tests.{ne-eqb}
+use Rattle.base.specs.Filled.{Filled}
 use Rattle.trials.specs.Tables.{low-half, high, highs}
-use Rattle.trials.specs.Filled.{Filled}
 
 -- ---- one number
 
@@ -26,10 +26,6 @@ high-mono a b h = ⊎-elim
     (λ (e : a ≡ 0). let z : high a ≡ 0 = rw e high-zero in omega arith)
     (λ (p : 0 < a). omega (arith, high-whole a p, high-whole b (omega arith)))
     (eq-zero-or-pos a)
-
--- A low number that is not blank has an offset number that is not.
-pub high-some : (k : ℕ) → 0 < high k → 0 < k
-high-some k h = ⊎-elim (λ (e : k ≡ 0). let z : high k ≡ 0 = rw e high-zero in absurd (omega arith)) (λ p. p) (eq-zero-or-pos k)
 
 pub high-blank : (k : ℕ) → high k ≡ 0 → k ≡ 0
 high-blank k e = ⊎-elim (λ z. z) (λ (p : 0 < k). absurd (omega (arith, high-whole k p))) (eq-zero-or-pos k)

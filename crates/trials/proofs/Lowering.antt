@@ -7,10 +7,9 @@ use native.Mathlib.Omega.{arith}
 use lib.ListN.{length, getD, set, length-set}
 use borrow.Author.Tests.{lt-ltb, le-ltb}
 use lib.Seq.{getD-set-same, getD-set-other}
-use Rattle.definitions.proofs.Whole.{nat-le-or-lt}
+use Rattle.base.proofs.Numbers.{nat-le-or-lt, same-or-not}
 use Rattle.trials.specs.Ends.{RowEnds}
 use Rattle.trials.specs.Steps.{lesser, chosenBy, givenBy, LoweredPlace, LoweredOne, LoweredAll, Lowered}
-use Rattle.trials.proofs.Fold.{same-or-not}
 
 pub lesser-first : (a b : ℕ) → a < b → a ≡ lesser a b
 lesser-first a b h = rw (lt-ltb a b h)

@@ -10,9 +10,9 @@ use native.Mathlib.Numerals.{add-one}
 use lib.Dec.{eqb}
 use lib.ListN.{getD}
 use borrow.Author.Tests.{eq-eqb, ne-eqb}
+use Rattle.base.specs.Filled.{Filled}
 use Rattle.duality.specs.Height.{total}
 use Rattle.duality.proofs.Height.{total-falls, total-above}
-use Rattle.trials.specs.Filled.{Filled}
 use Rattle.trials.specs.Ends.{entry, entriesIn, wide, RowEnds, EndsOf}
 
 pub entry-some : (k : ℕ) → (k ≡ 0 → ⊥) → entry k ≡ 1

@@ -10,10 +10,12 @@ use native.Mathlib.Numerals.{add-one}
 use lib.ListN.{getD}
 use lib.IntN.{pos}
 use borrow.Author.Tests.{lt-ltb, le-ltb}
+use Rattle.base.specs.Filled.{Filled}
+use Rattle.base.proofs.Numbers.{nat-le-or-lt}
+use Rattle.base.proofs.Filled.{filled-map}
 use Rattle.definitions.specs.Limits.{signed-half, lead-limit}
 use Rattle.definitions.specs.Tropical.{Trop, fin, plus}
 use Rattle.definitions.specs.Offset.{tropOf}
-use Rattle.definitions.proofs.Whole.{nat-le-or-lt}
 use Rattle.definitions.proofs.Tropical.{largest-ext}
 use Rattle.definitions.proofs.Offset.{trop-zero, trop-fin, trop-minus, trop-show, tropOf-injective}
 use Rattle.duality.specs.System.{System}
@@ -22,8 +24,6 @@ use Rattle.duality.proofs.Weights.{difference-bot, exit-picked, exit-terminal, 
 use Rattle.records.specs.Decoded.{Near}
 use Rattle.trials.specs.Tables.{entryOf, systemOf, pointOf, pickOf, raised-limit, value-limit, low-half, low-fold, side-most, side-least, high, highs, Ranged, Lows, Tables}
 use Rattle.trials.specs.Rounds.{folded, PickedSum, PickedLeft, PickedSums, PickedLefts, steppedBy, Stepped, Exits, Level, ValuesIs, SameUpTo}
-use Rattle.trials.specs.Filled.{Filled}
-use Rattle.trials.proofs.Filled.{filled-map}
 use Rattle.trials.proofs.Low.{high-zero, high-whole, high-blank, highs-at, highs-size, filled-highs}
 use Rattle.trials.proofs.Fold.{folded-low, folded-high}
 use Rattle.trials.proofs.Small.{near-small, small-near, small-more, rounds-small}
@@ -51,7 +51,7 @@ given-blank-left s = rw high-zero (gap-blank-left (high s))
 pub given-whole : (s a : ℕ) → side-least ≤ s → 0 < a → a ≤ signed-half + lead-limit
     → tropOf (high (s + signed-half - a)) ≡ difference (tropOf (high s)) (tropOf a)
 given-whole s a h k l =
-    let e : high s ≡ s + 1073741824 = high-whole s (omega arith) in
+    let e : high s ≡ s + low-half = high-whole s (omega arith) in
     let f : high (s + signed-half - a) ≡ high s + signed-half - a = omega (arith, high-whole (s + signed-half - a) (omega arith)) in
     rw f (gap-whole (high s) a (omega arith) k (omega arith))
 

@@ -5,10 +5,11 @@ use mathlib.Core.Logic.{_⊎_, ⊎-elim}
 use native.Mathlib.Omega.{arith}
 use native.Mathlib.Nat.{eq-zero-or-pos}
 use lib.IntN.{ℤ, pos, subℕ, natAbs, _+ℤ_, _-ℤ_}
+use Rattle.base.proofs.Numbers.{nat-le-or-lt}
 use Rattle.definitions.specs.Limits.{signed-half}
 use Rattle.definitions.specs.Tropical.{Trop, bot, fin, plus, larger, largest}
 use Rattle.definitions.specs.Offset.{tropOf}
-use Rattle.definitions.proofs.Whole.{plus-read, minus-read, abs-read, abs-show, nat-le-or-lt, subℕ-read}
+use Rattle.definitions.proofs.Whole.{plus-read, minus-read, abs-read, abs-show, subℕ-read}
 use Rattle.definitions.proofs.Tropical.{bot-not-fin, fin-injective, larger-one}
 use Rattle.definitions.proofs.Offset.{trop-read, trop-fin}
 use Rattle.duality.specs.System.{System}

@@ -5,6 +5,7 @@ use mathlib.Core.Bool.{cond}
 use mathlib.Core.List.{List}
 use lib.Dec.{eqb}
 use lib.ListN.{length, getD}
+use Rattle.definitions.specs.Limits.{stride, arcs-size, table-rows}
 use Rattle.duality.specs.Height.{total}
 
 -- 1 for an entry, 0 for a blank.
@@ -13,17 +14,17 @@ entry k = cond (eqb k 0) 0 1
 
 -- How many of the first n places of a row are not blank.
 abbrev pub entriesIn : List ℕ → ℕ → ℕ → ℕ
-entriesIn table row n = total (λ l. entry (getD table (row * 32 + l) 0)) n
+entriesIn table row n = total (λ l. entry (getD table (row * stride + l) 0)) n
 
 -- Two places as one number, first * 32 + last; this one stands for none.
 abbrev pub wide : ℕ
-wide = 1024
+wide = arcs-size
 
 -- Every place of the row but these two is blank.
 pub record RowEnds (table : List ℕ) (row ends : ℕ) : Type 0 where
-  pub others : ends < wide → (l : ℕ) → l < 32 → (l ≡ ends / 32 → ⊥) → (l ≡ ends % 32 → ⊥) → getD table (row * 32 + l) 0 ≡ 0
+  pub others : ends < wide → (l : ℕ) → l < stride → (l ≡ ends / stride → ⊥) → (l ≡ ends % stride → ⊥) → getD table (row * stride + l) 0 ≡ 0
 
 -- The ends of the first rows of a table.
 pub record EndsOf (table : List ℕ) (rows : ℕ) (ends : List ℕ) : Type 0 where
-  pub size : length ends ≡ 64
+  pub size : length ends ≡ table-rows
   pub each : (i : ℕ) → i < rows → RowEnds table i (getD ends i 0)

@@ -1,5 +1,4 @@
 pub mod Tables
-pub mod Filled
 pub mod Ends
 pub mod Rounds
 pub mod Steps

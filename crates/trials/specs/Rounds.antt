@@ -1,12 +1,13 @@
 -- What the rounds that find the values of a strategy make.
-use Prim.Native.Nat.{ℕ, zero, suc, _+_, _*_, _-_, _≤_, _<_}
+use Prim.Native.Nat.{ℕ, _+_, _*_, _-_, _≤_, _<_}
 use mathlib.Core.Path.{_≡_}
 use mathlib.Core.Bool.{cond}
 use mathlib.Core.List.{List}
-use lib.Dec.{ltb, leb}
+use lib.Dec.{ltb}
 use lib.ListN.{getD}
 use lib.IntN.{pos}
-use Rattle.definitions.specs.Limits.{signed-half}
+use Rattle.base.specs.Filled.{Filled}
+use Rattle.definitions.specs.Limits.{signed-half, stride}
 use Rattle.definitions.specs.Tropical.{Trop, fin, plus, largest}
 use Rattle.definitions.specs.Problem.{Point}
 use Rattle.definitions.specs.Certificate.{Strategy}
@@ -14,15 +15,6 @@ use Rattle.definitions.specs.Offset.{tropOf}
 use Rattle.duality.specs.System.{System, sideOf}
 use Rattle.duality.specs.Values.{difference, exits, valuesAfter, values}
 use Rattle.trials.specs.Tables.{entryOf, pointOf, low-half, high, highs, low-fold, side-most, side-least}
-use Rattle.trials.specs.Filled.{Filled}
-
--- The larger of two numbers, and the largest of f 0, …, f (k − 1).
-abbrev pub upper : ℕ → ℕ → ℕ
-upper a b = cond (leb a b) b a
-
-unfoldable pub uppermost : (ℕ → ℕ) → ℕ → ℕ
-uppermost f zero = 0
-uppermost f (suc k) = upper (uppermost f k) (f k)
 
 -- A sum of a coefficient and a value as a value: blank where one of them was, which is where the sum is below the limit.
 unfoldable pub foldedAt : ℕ → ℕ → ℕ
@@ -34,7 +26,7 @@ folded k = foldedAt low-fold k
 
 -- The sums of a row of a table with an array.
 abbrev pub sums : List ℕ → ℕ → List ℕ → ℕ → ℕ
-sums table row x l = getD table (row * 32 + l) 0 + getD x l 0
+sums table row x l = getD table (row * stride + l) 0 + getD x l 0
 
 -- One side of a row at a point, as a low number.
 pub record SideIs (table : List ℕ) (row : ℕ) (x : List ℕ) (width r : ℕ) : Type 0 where
@@ -48,15 +40,15 @@ pub record PickedSum (right x : List ℕ) (width rows pick r : ℕ) : Type 0 whe
   pub none : rows ≤ pick → r ≡ signed-half + low-half
 
 pub record PickedLeft (left : List ℕ) (rows pick j r : ℕ) : Type 0 where
-  pub row : pick < rows → r ≡ getD left (pick * 32 + j) 0
+  pub row : pick < rows → r ≡ getD left (pick * stride + j) 0
   pub none : rows ≤ pick → r ≡ signed-half
 
 -- The same for the first n variables.
 abbrev pub PickedSums : List ℕ → List ℕ → List ℕ → ℕ → ℕ → ℕ → List ℕ → Type 0
-PickedSums right picks x width rows n sums = Filled (λ j v. PickedSum right x width rows (getD picks j 0) v) 32 n sums
+PickedSums right picks x width rows n sums = Filled (λ j v. PickedSum right x width rows (getD picks j 0) v) stride n sums
 
 abbrev pub PickedLefts : List ℕ → List ℕ → ℕ → ℕ → List ℕ → Type 0
-PickedLefts left picks rows n lefts = Filled (λ j v. PickedLeft left rows (getD picks j 0) j v) 32 n lefts
+PickedLefts left picks rows n lefts = Filled (λ j v. PickedLeft left rows (getD picks j 0) j v) stride n lefts
 
 -- What a round makes of variable j with pick i at the point x: the right side of row i less its left coefficient, or 0
 -- where i is no row.
@@ -65,19 +57,19 @@ steppedBy s i j x = cond (ltb i (s .rows)) (difference (sideOf s (s .right i) x)
 
 -- An array after a round from the array x.
 abbrev pub Stepped : System → Strategy → Point → List ℕ → Type 0
-Stepped s τ x out = Filled (λ j v. tropOf v ≡ steppedBy s (τ j) j x) 32 (s .variables) out
+Stepped s τ x out = Filled (λ j v. tropOf v ≡ steppedBy s (τ j) j x) stride (s .variables) out
 
 -- The exits of a strategy.
 abbrev pub Exits : System → Strategy → ℕ → List ℕ → Type 0
-Exits s τ n out = Filled (λ j v. tropOf v ≡ exits s τ j) 32 n out
+Exits s τ n out = Filled (λ j v. tropOf v ≡ exits s τ j) stride n out
 
 -- The values of a strategy after i rounds.
 abbrev pub Level : System → Strategy → ℕ → List ℕ → Type 0
-Level s τ i x = Filled (λ j v. tropOf v ≡ valuesAfter s τ i j) 32 (s .variables) x
+Level s τ i x = Filled (λ j v. tropOf v ≡ valuesAfter s τ i j) stride (s .variables) x
 
 -- The values of a strategy.
 abbrev pub ValuesIs : System → Strategy → List ℕ → Type 0
-ValuesIs s τ x = Filled (λ j v. tropOf v ≡ values s τ j) 32 (s .variables) x
+ValuesIs s τ x = Filled (λ j v. tropOf v ≡ values s τ j) stride (s .variables) x
 
 -- The two arrays are the same at the first n places.
 abbrev pub SameUpTo : ℕ → List ℕ → List ℕ → Type 0

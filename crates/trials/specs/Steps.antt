@@ -6,7 +6,7 @@ use lib.Dec.{ltb}
 use mathlib.Core.Logic.{_⊎_}
 use mathlib.Core.List.{List}
 use lib.ListN.{length, getD}
-use Rattle.definitions.specs.Limits.{lead-limit}
+use Rattle.definitions.specs.Limits.{lead-limit, signed-half, stride, table-size, table-rows}
 use Rattle.definitions.specs.Tropical.{plus, _⊑_}
 use Rattle.definitions.specs.Problem.{Point}
 use Rattle.definitions.specs.Certificate.{Strategy}
@@ -41,12 +41,12 @@ chosenBy a b i k = cond (ltb a b) i k
 
 -- What row i gives a variable, by its top.
 abbrev pub givenBy : List ℕ → ℕ → ℕ → ℕ → ℕ
-givenBy left i top j = top - getD left (i * 32 + j) 0
+givenBy left i top j = top - getD left (i * stride + j) 0
 
 -- Row i has lowered the least values of the variables below n, and is chosen where it did.
 pub record Lowered (left : List ℕ) (i top : ℕ) (least chosen : List ℕ) (n : ℕ) (least′ chosen′ : List ℕ) : Type 0 where
-  pub least-size : length least′ ≡ 32
-  pub chosen-size : length chosen′ ≡ 32
+  pub least-size : length least′ ≡ stride
+  pub chosen-size : length chosen′ ≡ stride
   pub leasts : (j : ℕ) → j < n → getD least′ j 0 ≡ lesser (givenBy left i top j) (getD least j 0)
   pub choices : (j : ℕ) → j < n → getD chosen′ j 0 ≡ chosenBy (givenBy left i top j) (getD least j 0) i (getD chosen j 0)
   pub later-leasts : (j : ℕ) → n ≤ j → getD least′ j 0 ≡ getD least j 0
@@ -59,23 +59,23 @@ pub record LoweredPlace (left : List ℕ) (i top j : ℕ) (least chosen least′
 
 -- Row i does not hold variable j, and has left it as it was.
 pub record PassedPlace (left : List ℕ) (i j : ℕ) (least chosen least′ chosen′ : List ℕ) : Type 0 where
-  pub blank : getD left (i * 32 + j) 0 ≡ 0
+  pub blank : getD left (i * stride + j) 0 ≡ 0
   pub value : getD least′ j 0 ≡ getD least j 0
   pub choice : getD chosen′ j 0 ≡ getD chosen j 0
 
 -- Variable j has had its turn, and the others are as they were.
 pub record LoweredOne (left : List ℕ) (i top j : ℕ) (least chosen least′ chosen′ : List ℕ) : Type 0 where
-  pub least-size : length least′ ≡ 32
-  pub chosen-size : length chosen′ ≡ 32
+  pub least-size : length least′ ≡ stride
+  pub chosen-size : length chosen′ ≡ stride
   pub here : LoweredPlace left i top j least chosen least′ chosen′
   pub other-leasts : (k : ℕ) → (k ≡ j → ⊥) → getD least′ k 0 ≡ getD least k 0
   pub other-choices : (k : ℕ) → (k ≡ j → ⊥) → getD chosen′ k 0 ≡ getD chosen k 0
 
 -- Every variable of row i has had its turn, or is not held by it.
 pub record LoweredAll (left : List ℕ) (i top : ℕ) (least chosen least′ chosen′ : List ℕ) : Type 0 where
-  pub least-size : length least′ ≡ 32
-  pub chosen-size : length chosen′ ≡ 32
-  pub each : (j : ℕ) → j < 32 → LoweredPlace left i top j least chosen least′ chosen′ ⊎ PassedPlace left i j least chosen least′ chosen′
+  pub least-size : length least′ ≡ stride
+  pub chosen-size : length chosen′ ≡ stride
+  pub each : (j : ℕ) → j < stride → LoweredPlace left i top j least chosen least′ chosen′ ⊎ PassedPlace left i j least chosen least′ chosen′
 
 -- The same by a row of this right side.
 pub record LoweredAt (left : List ℕ) (i side : ℕ) (least chosen least′ chosen′ : List ℕ) : Type 0 where
@@ -88,22 +88,33 @@ pub record LoweredBy (left : List ℕ) (i here there : ℕ) (least chosen least�
   pub stands : there ≤ here → (least′ ≡ least) × (chosen′ ≡ chosen)
   pub lowers : here < there → LoweredAt left i here least chosen least′ chosen′
 
+-- What gives the variables of a row their values once a left coefficient is taken off: no less than any of these, and no more
+-- than this; and what stands for a blank right side.
+abbrev pub lowest-top : ℕ
+lowest-top = signed-half + lead-limit
+
+abbrev pub highest-top : ℕ
+highest-top = signed-half + side-most
+
+abbrev pub blank-top : ℕ
+blank-top = signed-half + 2 * lead-limit
+
 -- What a row is lowered by: the sizes, and numbers that fit.
 pub record Lowering (left least chosen : List ℕ) (i top : ℕ) : Type 0 where
-  pub left-size : length left ≡ 2048
-  pub least-size : length least ≡ 32
-  pub chosen-size : length chosen ≡ 32
-  pub row-most : i < 64
-  pub top-least : 2147493728 ≤ top
-  pub top-most : top ≤ 3287483648
+  pub left-size : length left ≡ table-size
+  pub least-size : length least ≡ stride
+  pub chosen-size : length chosen ≡ stride
+  pub row-most : i < table-rows
+  pub top-least : lowest-top ≤ top
+  pub top-most : top ≤ highest-top
   pub left-near : (k : ℕ) → Near lead-limit (getD left k 0)
 
 -- The same where the row has this right side.
 pub record LoweringBy (left least chosen : List ℕ) (i side : ℕ) : Type 0 where
   pub lefts : Table lead-limit left
-  pub least-size : length least ≡ 32
-  pub chosen-size : length chosen ≡ 32
-  pub row-most : i < 64
+  pub least-size : length least ≡ stride
+  pub chosen-size : length chosen ≡ stride
+  pub row-most : i < table-rows
   pub side-high : side ≤ side-most
   pub side-low : 0 < side → side-least ≤ side
 
@@ -117,8 +128,8 @@ pub record SoughtAt (s : System) (x : Point) (v j n least pick : ℕ) : Type 0 w
 
 -- The same for every variable; the array holds low values.
 pub record Sought (s : System) (x : List ℕ) (n : ℕ) (least chosen : List ℕ) : Type 0 where
-  pub least-size : length least ≡ 32
-  pub chosen-size : length chosen ≡ 32
+  pub least-size : length least ≡ stride
+  pub chosen-size : length chosen ≡ stride
   pub each : (j : ℕ) → j < s .variables → SoughtAt s (pointOf (highs x)) (getD x j 0) j n (getD least j 0) (getD chosen j 0)
 
 -- Variable j picks a row that fails there.
@@ -146,7 +157,7 @@ pub record Improved (s : System) (x : Point) (τ τ′ : Strategy) (moved : Bool
 
 -- The end of a trial: a kept strategy, its values, and they solve the system, where that of variable 0 is not blank.
 pub record Tried (s : System) (x picks : List ℕ) : Type 0 where
-  pub size : length picks ≡ 32
+  pub size : length picks ≡ stride
   pub policy : Policy s (pickOf picks)
   pub values-are : ValuesIs s (pickOf picks) x
   pub solves : 0 < getD x 0 0 → Solves s (pointOf x)

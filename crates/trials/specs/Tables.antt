@@ -5,7 +5,7 @@ use mathlib.Core.Bool.{cond}
 use mathlib.Core.List.{List, map}
 use lib.Dec.{eqb}
 use lib.ListN.{length, getD}
-use Rattle.definitions.specs.Limits.{lead-limit, span-limit}
+use Rattle.definitions.specs.Limits.{lead-limit, span-limit, signed-half, stride, table-size, table-rows}
 use Rattle.definitions.specs.Tropical.{Trop}
 use Rattle.definitions.specs.Problem.{Point}
 use Rattle.definitions.specs.Certificate.{Strategy}
@@ -15,7 +15,7 @@ use Rattle.records.specs.Decoded.{Near}
 
 -- The coefficient of row i and variable j in a table.
 abbrev pub entryOf : List ℕ → ℕ → ℕ → Trop
-entryOf table i j = tropOf (getD table (i * 32 + j) 0)
+entryOf table i j = tropOf (getD table (i * stride + j) 0)
 
 -- The system that two tables hold in their first `rows` rows and `width` columns.
 abbrev pub systemOf : List ℕ → List ℕ → ℕ → ℕ → System
@@ -36,14 +36,6 @@ raised-limit = lead-limit + span-limit + 1
 abbrev pub value-limit : ℕ
 value-limit = 33554432
 
--- The sum of two offset numbers of at most these sizes is above this if both are whole, and below it if one is blank.
-abbrev pub fold-limit : ℕ
-fold-limit = 3221225472
-
--- A side of a row that is not blank is at least this.
-abbrev pub fold-least : ℕ
-fold-least = 1073741824
-
 -- Inside a trial a value is kept low, as its offset number less 2 to the 30th, and 0 for blank: a coefficient and a value
 -- then have a sum of 32 bits. This is the offset number of a low one, and an array of them.
 abbrev pub low-half : ℕ
@@ -55,36 +47,44 @@ high k = cond (eqb k 0) 0 (k + low-half)
 abbrev pub highs : List ℕ → List ℕ
 highs x = map high x
 
--- The sum of a coefficient and a low value is at least this if both are whole, and below it if one is blank.
-abbrev pub low-fold : ℕ
-low-fold = 2684354560
+-- The sum of two offset numbers of at most these sizes is above this if both are whole, and below it if one is blank.
+abbrev pub fold-limit : ℕ
+fold-limit = signed-half + low-half
 
--- A side of a row, as a low number, is at most this, and at least that where it is not blank.
+-- A side of a row that is not blank is at least this.
+abbrev pub fold-least : ℕ
+fold-least = low-half
+
+-- A side of a row, as a low number, is at most this, and at least that, 2 to the 29th, where it is not blank.
 abbrev pub side-most : ℕ
-side-most = 1140000000
+side-most = low-half + raised-limit + value-limit
 
 abbrev pub side-least : ℕ
 side-least = 536870912
 
+-- The sum of a coefficient and a low value is at least this if both are whole, and below it if one is blank.
+abbrev pub low-fold : ℕ
+low-fold = signed-half + side-least
+
 -- A table of 64 rows of 32 entries within d of 0.
 pub record Table (d : ℕ) (table : List ℕ) : Type 0 where
-  pub size : length table ≡ 2048
+  pub size : length table ≡ table-size
   pub near : (k : ℕ) → Near d (getD table k 0)
 
 -- An array of 32 values.
 pub record Ranged (x : List ℕ) : Type 0 where
-  pub size : length x ≡ 32
+  pub size : length x ≡ stride
   pub near : (k : ℕ) → Near value-limit (getD x k 0)
 
 -- An array of low values of `width` variables; past them it is blank.
 pub record Lows (width : ℕ) (x : List ℕ) : Type 0 where
-  pub size : length x ≡ 32
+  pub size : length x ≡ stride
   pub ranged : Ranged (highs x)
   pub rest : (k : ℕ) → width ≤ k → getD x k 0 ≡ 0
 
 -- The two tables of a system of at most 32 variables and 64 rows.
 pub record Tables (left right : List ℕ) (width rows : ℕ) : Type 0 where
-  pub width-most : width ≤ 32
-  pub rows-most : rows ≤ 64
+  pub width-most : width ≤ stride
+  pub rows-most : rows ≤ table-rows
   pub lefts : Table lead-limit left
   pub rights : Table raised-limit right

@@ -3,10 +3,15 @@
 ghost use mathlib.Core.Path.{_≡_};
 ghost use Prim.Native.Nat.{_*_, _+_, _<_, _≤_};
 ghost use lib.ListN.{length};
+ghost use Rattle.definitions.specs.Limits.{stride, table-size, table-rows};
 ghost use Rattle.trials.specs.Ends.{entry, entriesIn, RowEnds, EndsOf};
+use records::limits::ARCS;
+use records::limits::ROWS;
+use records::limits::STRIDE;
+use records::limits::TABLE;
 
 // Stands for the ends of a row with more entries than two, and of one that was not looked at.
-pub const WIDE: u32 = 1024;
+pub const WIDE: u32 = ARCS as u32;
 
 // After so many wide rows the others are not looked at.
 const MANY_WIDE: u32 = 8;
@@ -20,7 +25,7 @@ fn one(k: u32) -> u32
 
 // The bit of place l for an entry. Nothing is promised of bits: they guess the ends, which are then tested.
 fn bit(k: u32, l: usize) -> u32
-    requires { ⌜ l < 32 ⌝ }
+    requires { ⌜ l < stride ⌝ }
 {
     if k == 0 { 0 } else { 1u32 << l as u32 }
 }
@@ -32,15 +37,15 @@ pub struct Entries {
 }
 
 // The entries of a row.
-fn entries_of(table: &[u32; 2048], row: usize) -> Entries
-    requires { ⌜ (length (now table) ≡ 2048) × (row < 64) ⌝ }
-    ensures { λ r. ⌜ r .count ≡ entriesIn (now (table .entry)) row 32 ⌝ }
+fn entries_of(table: &[u32; TABLE], row: usize) -> Entries
+    requires { ⌜ (length (now table) ≡ table-size) × (row < table-rows) ⌝ }
+    ensures { λ r. ⌜ r .count ≡ entriesIn (now (table .entry)) row stride ⌝ }
 {
-    let base = row * 32;
+    let base = row * STRIDE;
     let mut bits = 0u32;
     let mut count = 0;
     let mut l = 0;
-    while l < 32 {
+    while l < STRIDE {
         let k = table[base + l];
         bits = bits | bit(k, l);
         count += one(k);
@@ -50,28 +55,28 @@ fn entries_of(table: &[u32; 2048], row: usize) -> Entries
 }
 
 // These two places are the ends of a row with at most two entries, if both are entries, and two where there are two.
-fn tested(table: &[u32; 2048], row: usize, count: u32, first: usize, last: usize) -> u32
-    requires { ⌜ (length (now table) ≡ 2048) × (row < 64) × (count ≡ entriesIn (now table) row 32) × (count ≤ 2) × (first < 32) × (last < 32) ⌝ }
+fn tested(table: &[u32; TABLE], row: usize, count: u32, first: usize, last: usize) -> u32
+    requires { ⌜ (length (now table) ≡ table-size) × (row < table-rows) × (count ≡ entriesIn (now table) row stride) × (count ≤ 2) × (first < stride) × (last < stride) ⌝ }
     ensures { λ r. ⌜ RowEnds (now (table .entry)) row r ⌝ }
 {
-    if table[row * 32 + first] == 0 {
+    if table[row * STRIDE + first] == 0 {
         return WIDE;
     }
-    if table[row * 32 + last] == 0 {
+    if table[row * STRIDE + last] == 0 {
         return WIDE;
     }
     if count == 1 {
-        return (first * 32 + last) as u32;
+        return (first * STRIDE + last) as u32;
     }
     if first == last {
         return WIDE;
     }
-    (first * 32 + last) as u32
+    (first * STRIDE + last) as u32
 }
 
 // The ends of a row.
-fn row_ends(table: &[u32; 2048], row: usize) -> u32
-    requires { ⌜ (length (now table) ≡ 2048) × (row < 64) ⌝ }
+fn row_ends(table: &[u32; TABLE], row: usize) -> u32
+    requires { ⌜ (length (now table) ≡ table-size) × (row < table-rows) ⌝ }
     ensures { λ r. ⌜ RowEnds (now (table .entry)) row r ⌝ }
 {
     let found = entries_of(table, row);
@@ -99,8 +104,8 @@ fn row_ends(table: &[u32; 2048], row: usize) -> u32
 }
 
 // The ends of the next row, or none after many wide rows.
-fn next_ends(table: &[u32; 2048], row: usize, wide: u32) -> u32
-    requires { ⌜ (length (now table) ≡ 2048) × (row < 64) ⌝ }
+fn next_ends(table: &[u32; TABLE], row: usize, wide: u32) -> u32
+    requires { ⌜ (length (now table) ≡ table-size) × (row < table-rows) ⌝ }
     ensures { λ r. ⌜ RowEnds (now (table .entry)) row r ⌝ }
 {
     if MANY_WIDE < wide {
@@ -111,18 +116,18 @@ fn next_ends(table: &[u32; 2048], row: usize, wide: u32) -> u32
 
 // One more where a row is wide.
 fn more_wide(wide: u32, ends: u32) -> u32
-    requires { ⌜ wide ≤ 64 ⌝ }
+    requires { ⌜ wide ≤ table-rows ⌝ }
     ensures { λ r. ⌜ r ≤ wide + 1 ⌝ }
 {
     if ends < WIDE { wide } else { wide + 1 }
 }
 
-// The ends of the rows of a table. Public for `classes::answer`.
-pub fn ends_of(table: &[u32; 2048], rows: usize) -> [u32; 64]
-    requires { ⌜ (length (now table) ≡ 2048) × (rows ≤ 64) ⌝ }
+// The ends of the rows of a table. Public for `class_answers::answer`.
+pub fn ends_of(table: &[u32; TABLE], rows: usize) -> [u32; ROWS]
+    requires { ⌜ (length (now table) ≡ table-size) × (rows ≤ table-rows) ⌝ }
     ensures { λ r. ⌜ EndsOf (now (table .entry)) rows r ⌝ }
 {
-    let mut out = [0u32; 64];
+    let mut out = [0u32; ROWS];
     let mut wide = 0;
     let mut i = 0;
     while i < rows {

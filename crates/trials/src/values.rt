@@ -5,34 +5,36 @@ ghost use mathlib.Core.Bool.{true};
 ghost use mathlib.Core.List.{[]};
 ghost use Prim.Native.Nat.{_+_, _*_, _<_, _≤_};
 ghost use lib.ListN.{length};
-ghost use Rattle.definitions.specs.Limits.{lead-limit, signed-half};
+ghost use Rattle.definitions.specs.Limits.{lead-limit, signed-half, table-rows, stride};
 ghost use Rattle.definitions.specs.Offset.{tropOf};
 ghost use Rattle.duality.specs.Values.{difference, exitBy};
 ghost use Rattle.trials.specs.Tables.{systemOf, pointOf, pickOf, raised-limit, fold-limit, fold-least, side-most, side-least, high, highs, Table, Lows, Tables};
-ghost use Rattle.trials.specs.Ends.{RowEnds, EndsOf};
-ghost use Rattle.trials.specs.Rounds.{upper, folded, SideIs, PickedSum, PickedLeft, PickedSums, PickedLefts, Stepped, Exits, ValuesIs, SameUpTo};
+ghost use Rattle.trials.specs.Rounds.{folded, SideIs, PickedSum, PickedLeft, PickedSums, PickedLefts, Stepped, Exits, ValuesIs, SameUpTo};
+ghost use Rattle.trials.specs.Ends.{wide, RowEnds, EndsOf};
 use crate::ends::WIDE;
+use base::larger;
 use records::limits::OFFSET;
+use records::limits::OFFSET_32;
+use records::limits::ROWS;
+use records::limits::STRIDE;
+use records::limits::STRIDE_32;
+use records::limits::TABLE;
 use records::offset::later;
 use records::offset::offset_32;
-use records::offset::raised;
+use records::offset::offset_added;
 
 // The low number of 0, and the offset of coefficients.
-pub const LOW: u32 = 1073741824;
+pub const LOW: u32 = HALF / 2;
 
-pub const HALF: u32 = 2147483648;
+pub const HALF: u32 = OFFSET_32;
+
+// Values of a strategy lie within this of 0, 2²⁵. Public for `guesses::heights`.
+pub const FARTHEST: u32 = 33554432;
 
 // A coefficient plus a low value is at least this if both are whole, and below it if one is blank.
-const FOLD: u32 = 2684354560;
+const FOLD: u32 = HALF + LOW / 2;
 
-// The larger of two.
-fn larger(a: u32, b: u32) -> u32
-    ensures { λ r. ⌜ r ≡ upper a b ⌝ }
-{
-    if a <= b { b } else { a }
-}
-
-// A coefficient plus a value. Public for `guesses::guess`, `picks::tables`.
+// A coefficient plus a value. Public for `guesses::guess`, `pick_tables::tables`.
 pub fn plus(a: u32, b: u64) -> u64
     requires { ⌜ a + b ≤ 18446744073709551615 ⌝ }
     ensures { λ r. ⌜ r ≡ a + b ⌝ }
@@ -49,34 +51,34 @@ fn fold(k: u32) -> u32
 
 // The largest of coefficient + variable in a row, at low values. All 32 places are looked at, whatever the width: past it
 // there are blanks. The sums are compared as fields, with their signs: for these the processor has vectors.
-fn full_sum(table: &[u32; 2048], row: usize, x: &[u32; 32], width: usize) -> u32
-    requires { ⌜ (row < 64) × (width ≤ 32) × Table raised-limit (now table) × Lows width (now x) ⌝ }
+fn full_sum(table: &[u32; TABLE], row: usize, x: &[u32; STRIDE], width: usize) -> u32
+    requires { ⌜ (row < table-rows) × (width ≤ stride) × Table raised-limit (now table) × Lows width (now x) ⌝ }
     ensures { λ r. ⌜ SideIs (now (table .entry)) row (highs (now (x .entry))) width (folded r) ⌝ }
 {
-    let base = row * 32;
+    let base = row * STRIDE;
     let mut best = offset_32(0);
     let mut l = 0;
-    while l < 32 {
-        best = later(best, raised(offset_32(x[l]), table[base + l]));
+    while l < STRIDE {
+        best = later(best, offset_added(offset_32(x[l]), table[base + l]));
         l += 1;
     }
     offset_32(best)
 }
 
 // The same by the row's ends: the larger of two sums.
-fn end_sum(table: &[u32; 2048], ends: u32, row: usize, x: &[u32; 32], width: usize) -> u32
-    requires { ⌜ (row < 64) × (width ≤ 32) × Table raised-limit (now table) × Lows width (now x) × RowEnds (now table) row ends × (ends < 1024) ⌝ }
+fn end_sum(table: &[u32; TABLE], ends: u32, row: usize, x: &[u32; STRIDE], width: usize) -> u32
+    requires { ⌜ (row < table-rows) × (width ≤ stride) × Table raised-limit (now table) × Lows width (now x) × RowEnds (now table) row ends × (ends < wide) ⌝ }
     ensures { λ r. ⌜ SideIs (now (table .entry)) row (highs (now (x .entry))) width (folded r) ⌝ }
 {
-    let base = row * 32;
-    let first = (ends / 32) as usize;
-    let last = (ends % 32) as usize;
+    let base = row * STRIDE;
+    let first = (ends / STRIDE_32) as usize;
+    let last = (ends % STRIDE_32) as usize;
     larger(table[base + first] + x[first], table[base + last] + x[last])
 }
 
 // The same by its ends or whole.
-fn row_sum(table: &[u32; 2048], ends: u32, row: usize, x: &[u32; 32], width: usize) -> u32
-    requires { ⌜ (row < 64) × (width ≤ 32) × Table raised-limit (now table) × Lows width (now x) × RowEnds (now table) row ends ⌝ }
+fn row_sum(table: &[u32; TABLE], ends: u32, row: usize, x: &[u32; STRIDE], width: usize) -> u32
+    requires { ⌜ (row < table-rows) × (width ≤ stride) × Table raised-limit (now table) × Lows width (now x) × RowEnds (now table) row ends ⌝ }
     ensures { λ r. ⌜ SideIs (now (table .entry)) row (highs (now (x .entry))) width (folded r) ⌝ }
 {
     if ends < WIDE {
@@ -86,16 +88,16 @@ fn row_sum(table: &[u32; 2048], ends: u32, row: usize, x: &[u32; 32], width: usi
 }
 
 // One side of a row at low values. Public for `guesses`.
-pub fn full_side(table: &[u32; 2048], row: usize, x: &[u32; 32], width: usize) -> u32
-    requires { ⌜ (row < 64) × (width ≤ 32) × Table raised-limit (now table) × Lows width (now x) ⌝ }
+pub fn full_side(table: &[u32; TABLE], row: usize, x: &[u32; STRIDE], width: usize) -> u32
+    requires { ⌜ (row < table-rows) × (width ≤ stride) × Table raised-limit (now table) × Lows width (now x) ⌝ }
     ensures { λ r. ⌜ SideIs (now (table .entry)) row (highs (now (x .entry))) width r ⌝ }
 {
     fold(full_sum(table, row, x, width))
 }
 
 // One side of a row at low values, by its ends or whole. Public for `policy` and for `guesses`.
-pub fn side(table: &[u32; 2048], ends: u32, row: usize, x: &[u32; 32], width: usize) -> u32
-    requires { ⌜ (row < 64) × (width ≤ 32) × Table raised-limit (now table) × Lows width (now x) × RowEnds (now table) row ends ⌝ }
+pub fn side(table: &[u32; TABLE], ends: u32, row: usize, x: &[u32; STRIDE], width: usize) -> u32
+    requires { ⌜ (row < table-rows) × (width ≤ stride) × Table raised-limit (now table) × Lows width (now x) × RowEnds (now table) row ends ⌝ }
     ensures { λ r. ⌜ SideIs (now (table .entry)) row (highs (now (x .entry))) width r ⌝ }
 {
     if ends < WIDE {
@@ -104,7 +106,7 @@ pub fn side(table: &[u32; 2048], ends: u32, row: usize, x: &[u32; 32], width: us
     full_side(table, row, x, width)
 }
 
-// An offset number less another. Public for `classes::answer`.
+// An offset number less another. Public for `class_answers::answer`.
 pub fn gap(side: u64, left: u64) -> u64
     requires { ⌜ (side ≤ fold-limit) × (0 < side → fold-least ≤ side) × (left ≤ signed-half + lead-limit) ⌝ }
     ensures { λ r. ⌜ (tropOf r ≡ difference (tropOf side) (tropOf left)) ⌝ }
@@ -134,14 +136,14 @@ fn given(side: u32, left: u32) -> u32
 
 // The largest sum in the row that a variable picks, or one that stands for 0 where it picks none.
 fn picked_sum(
-    right: &[u32; 2048],
-    rights: &[u32; 64],
+    right: &[u32; TABLE],
+    rights: &[u32; ROWS],
     pick: usize,
-    x: &[u32; 32],
+    x: &[u32; STRIDE],
     width: usize,
     rows: usize,
 ) -> u32
-    requires { ⌜ (rows ≤ 64) × (width ≤ 32) × Table raised-limit (now right) × Lows width (now x) × EndsOf (now right) rows (now rights) ⌝ }
+    requires { ⌜ (rows ≤ table-rows) × (width ≤ stride) × Table raised-limit (now right) × Lows width (now x) × EndsOf (now right) rows (now rights) ⌝ }
     ensures { λ r. ⌜ PickedSum (now (right .entry)) (now (x .entry)) width rows pick r ⌝ }
 {
     if pick < rows {
@@ -152,12 +154,12 @@ fn picked_sum(
 }
 
 // The left coefficient of variable j there, or 0.
-fn picked_left(left: &[u32; 2048], pick: usize, j: usize, rows: usize) -> u32
-    requires { ⌜ (rows ≤ 64) × Table lead-limit (now left) × (j < 32) ⌝ }
+fn picked_left(left: &[u32; TABLE], pick: usize, j: usize, rows: usize) -> u32
+    requires { ⌜ (rows ≤ table-rows) × Table lead-limit (now left) × (j < stride) ⌝ }
     ensures { λ r. ⌜ PickedLeft (now (left .entry)) rows pick j r ⌝ }
 {
     if pick < rows {
-        left[pick * 32 + j]
+        left[pick * STRIDE + j]
     } else {
         HALF
     }
@@ -165,24 +167,24 @@ fn picked_left(left: &[u32; 2048], pick: usize, j: usize, rows: usize) -> u32
 
 // What a round is made of, for every variable: a sum, not folded yet, and a left coefficient.
 pub struct Picked {
-    pub sums: [u32; 32],
-    pub lefts: [u32; 32],
+    pub sums: [u32; STRIDE],
+    pub lefts: [u32; STRIDE],
 }
 
 fn picked_rows(
-    left: &[u32; 2048],
-    right: &[u32; 2048],
-    rights: &[u32; 64],
-    picks: &[usize; 32],
-    x: &[u32; 32],
+    left: &[u32; TABLE],
+    right: &[u32; TABLE],
+    rights: &[u32; ROWS],
+    picks: &[usize; STRIDE],
+    x: &[u32; STRIDE],
     width: usize,
     rows: usize,
 ) -> Picked
-    requires { ⌜ Tables (now left) (now right) width rows × (length (now picks) ≡ 32) × Lows width (now x) × EndsOf (now right) rows (now rights) ⌝ }
+    requires { ⌜ Tables (now left) (now right) width rows × (length (now picks) ≡ stride) × Lows width (now x) × EndsOf (now right) rows (now rights) ⌝ }
     ensures { λ r. ⌜ PickedSums (now (right .entry)) (now (picks .entry)) (now (x .entry)) width rows width (r .sums) × PickedLefts (now (left .entry)) (now (picks .entry)) rows width (r .lefts) ⌝ }
 {
-    let mut sums = [0u32; 32];
-    let mut lefts = [0u32; 32];
+    let mut sums = [0u32; STRIDE];
+    let mut lefts = [0u32; STRIDE];
     let mut j = 0;
     while j < width {
         let pick = picks[j];
@@ -195,23 +197,23 @@ fn picked_rows(
 
 // One round: every variable by its pick. The sums are folded all at once, as vectors: one by one they would be branches.
 fn round_from(
-    left: &[u32; 2048],
-    right: &[u32; 2048],
-    rights: &[u32; 64],
-    picks: &[usize; 32],
-    x: &[u32; 32],
+    left: &[u32; TABLE],
+    right: &[u32; TABLE],
+    rights: &[u32; ROWS],
+    picks: &[usize; STRIDE],
+    x: &[u32; STRIDE],
     width: usize,
     rows: usize,
-) -> [u32; 32]
-    requires { ⌜ Tables (now left) (now right) width rows × (length (now picks) ≡ 32) × Lows width (now x) × EndsOf (now right) rows (now rights) ⌝ }
+) -> [u32; STRIDE]
+    requires { ⌜ Tables (now left) (now right) width rows × (length (now picks) ≡ stride) × Lows width (now x) × EndsOf (now right) rows (now rights) ⌝ }
     ensures { λ r. ⌜ Stepped (systemOf (now (left .entry)) (now (right .entry)) width rows) (pickOf (now (picks .entry))) (pointOf (highs (now (x .entry)))) (highs r) ⌝ }
 {
     let picked = picked_rows(left, right, rights, picks, x, width, rows);
     let sums = picked.sums;
     let lefts = picked.lefts;
-    let mut out = [0u32; 32];
+    let mut out = [0u32; STRIDE];
     let mut j = 0;
-    while j < 32 {
+    while j < STRIDE {
         out[j] = given(fold(sums[j]), lefts[j]);
         j += 1;
     }
@@ -226,11 +228,11 @@ fn exit(pick: usize, rows: usize) -> u32
 }
 
 // The values before the first round: the exits.
-fn exits(picks: &[usize; 32], width: usize, rows: usize) -> [u32; 32]
-    requires { ⌜ (length (now picks) ≡ 32) × (width ≤ 32) ⌝ }
+fn exits(picks: &[usize; STRIDE], width: usize, rows: usize) -> [u32; STRIDE]
+    requires { ⌜ (length (now picks) ≡ stride) × (width ≤ stride) ⌝ }
     ensures { λ r. ⌜ Exits (systemOf [] [] width rows) (pickOf (now (picks .entry))) width (highs r) ⌝ }
 {
-    let mut out = [0u32; 32];
+    let mut out = [0u32; STRIDE];
     let mut j = 0;
     while j < width {
         out[j] = exit(picks[j], rows);
@@ -247,13 +249,13 @@ fn differs(a: u32, b: u32) -> u32
 }
 
 // The two arrays agree. All places are compared, so that the loop has no branch.
-fn same(x: &[u32; 32], y: &[u32; 32]) -> bool
-    requires { ⌜ (length (now x) ≡ 32) × (length (now y) ≡ 32) ⌝ }
-    ensures { λ r. ⌜ (r ≡ true → SameUpTo 32 (now (x .entry)) (now (y .entry))) ⌝ }
+fn same(x: &[u32; STRIDE], y: &[u32; STRIDE]) -> bool
+    requires { ⌜ (length (now x) ≡ stride) × (length (now y) ≡ stride) ⌝ }
+    ensures { λ r. ⌜ (r ≡ true → SameUpTo stride (now (x .entry)) (now (y .entry))) ⌝ }
 {
     let mut count = 0;
     let mut j = 0;
-    while j < 32 {
+    while j < STRIDE {
         count += differs(x[j], y[j]);
         j += 1;
     }
@@ -263,14 +265,14 @@ fn same(x: &[u32; 32], y: &[u32; 32]) -> bool
 // The values of a strategy: rounds until one changes nothing, at most as many as there are variables.
 // Public for `policy`.
 pub fn evaluate(
-    left: &[u32; 2048],
-    right: &[u32; 2048],
-    rights: &[u32; 64],
-    picks: &[usize; 32],
+    left: &[u32; TABLE],
+    right: &[u32; TABLE],
+    rights: &[u32; ROWS],
+    picks: &[usize; STRIDE],
     width: usize,
     rows: usize,
-) -> [u32; 32]
-    requires { ⌜ Tables (now left) (now right) width rows × (length (now picks) ≡ 32) × EndsOf (now right) rows (now rights) ⌝ }
+) -> [u32; STRIDE]
+    requires { ⌜ Tables (now left) (now right) width rows × (length (now picks) ≡ stride) × EndsOf (now right) rows (now rights) ⌝ }
     ensures { λ r. ⌜ ValuesIs (systemOf (now (left .entry)) (now (right .entry)) width rows) (pickOf (now (picks .entry))) (highs r) ⌝ }
 {
     let mut x = exits(picks, width, rows);

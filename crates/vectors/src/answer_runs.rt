@@ -1,17 +1,22 @@
 // The answer reader run on a record, for the n and m of a problem that are handed over.
 use crate::noise;
 use crate::print;
-use answers::answer::AnswerHead;
-use answers::answer::read_answer;
+use answer_reader::answer::AnswerHead;
+use answer_reader::answer::read_answer;
+use records::limits::INFEASIBLE;
+use records::limits::OPTIMAL;
+use records::limits::ROWS;
+use records::limits::STRIDE;
+use records::limits::UNBOUNDED;
 
-fn show_refused(number: usize, stamps: &[u64; 32], picks: &[u64; 64]) {
+fn show_refused(number: usize, stamps: &[u64; STRIDE], picks: &[u64; ROWS]) {
     print::counted(b"refused ", number as u64);
     noise::show_numbers(stamps, b", stamps touched");
     noise::show_numbers(picks, b", picks touched");
 }
 
 // The first and the last stamp of an answer that was read.
-fn show_stamps(stamps: &[u64; 32], last: usize) {
+fn show_stamps(stamps: &[u64; STRIDE], last: usize) {
     print::text(b", stamps ");
     print::minutes(stamps[0]);
     print::text(b" to ");
@@ -21,7 +26,7 @@ fn show_stamps(stamps: &[u64; 32], last: usize) {
 }
 
 // The first and the last pick.
-fn show_picks(picks: &[u64; 64], last: usize) {
+fn show_picks(picks: &[u64; ROWS], last: usize) {
     print::counted(b", picks ", picks[0]);
     print::text(b" to ");
     if last < picks.len() {
@@ -36,14 +41,15 @@ fn show_read(class: u64, span: u64) {
 }
 
 // What the class has of stamps and picks.
-fn show_lists(class: u64, n: usize, m: usize, stamps: &[u64; 32], picks: &[u64; 64]) {
+fn show_lists(class: u64, n: usize, m: usize, stamps: &[u64; STRIDE], picks: &[u64; ROWS]) {
     match class {
-        1 => {
+        OPTIMAL => {
             show_stamps(stamps, n);
             show_picks(picks, n);
         }
-        2 => show_picks(picks, m),
-        _ => show_picks(picks, n),
+        UNBOUNDED => show_picks(picks, m),
+        INFEASIBLE => show_picks(picks, n),
+        0 | 4.. => (),
     }
 }
 

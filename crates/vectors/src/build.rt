@@ -3,17 +3,18 @@ use crate::script::byte_at;
 use crate::script::minus;
 use crate::script::number_after;
 use crate::script::place_of;
+use records::limits::OFFSET;
+use records::limits::PROBLEM_HEADER;
+use records::limits::TABLE;
 
 // The room of a record: the largest problem that is tried has n 32 and m 63, 10 + 8 × 33 × 64 bytes.
 pub const ROOM: usize = 16906;
 
-// Where the leads of a problem start, and how many the largest has.
-const LEADS: usize = 10;
-
-const LEADS_MOST: usize = 4096;
+// How many leads the largest problem has.
+const LEADS_MOST: usize = 2 * TABLE;
 
 // The field of a blank.
-const BLANK: u64 = 2147483648;
+const BLANK: u64 = OFFSET;
 
 // Bytes, how many of them the record has, where the next field goes, and what is handed over beside the record.
 pub struct Record {
@@ -67,7 +68,7 @@ fn put_field(bytes: &mut [u8; ROOM], at: usize, width: usize, x: u64) -> usize {
 // Blanks from the first lead on, as many as any problem has; those after the record's size are no part of it.
 fn put_blanks(bytes: &mut [u8; ROOM]) {
     for i in 0..LEADS_MOST {
-        put_word(bytes, LEADS + 4 * i, BLANK);
+        put_word(bytes, PROBLEM_HEADER + 4 * i, BLANK);
     }
 }
 
@@ -75,7 +76,7 @@ fn put_blanks(bytes: &mut [u8; ROOM]) {
 // to the anchor.
 fn put_ring(bytes: &mut [u8; ROOM], left: u64, right: u64) {
     for i in 0..32 {
-        let row = LEADS + 256 * i;
+        let row = PROBLEM_HEADER + 256 * i;
         put_word(bytes, row + 4 * i, left);
         put_word(bytes, row + 128 + 4 * ((i + 1) % 32), right);
     }

@@ -2,6 +2,9 @@
 ghost use mathlib.Core.Path.{_≡_};
 ghost use lib.ListN.{length};
 use crate::print;
+use records::limits::ROWS;
+use records::limits::STRIDE;
+use records::limits::TABLE;
 
 const BYTE: u8 = 165;
 
@@ -12,22 +15,22 @@ const LEAD: u32 = 2779096485;
 // The room of the buffers that are lent to the writer.
 pub const BUFFER: usize = 300;
 
-pub fn table() -> [u32; 2048]
+pub fn table() -> [u32; TABLE]
     ensures { λ r. ⌜ length r ≡ 2048 ⌝ }
 {
-    [LEAD; 2048]
+    [LEAD; TABLE]
 }
 
-pub fn stamps() -> [u64; 32]
+pub fn stamps() -> [u64; STRIDE]
     ensures { λ r. ⌜ length r ≡ 32 ⌝ }
 {
-    [NUMBER; 32]
+    [NUMBER; STRIDE]
 }
 
-pub fn picks() -> [u64; 64]
+pub fn picks() -> [u64; ROWS]
     ensures { λ r. ⌜ length r ≡ 64 ⌝ }
 {
-    [NUMBER; 64]
+    [NUMBER; ROWS]
 }
 
 pub fn buffer() -> [u8; BUFFER]

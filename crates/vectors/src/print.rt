@@ -1,9 +1,7 @@
 // What the lines are made of.
 use crate::script::words_of;
 use libc::STDOUT_FILENO;
-
-// The offset number of 0.
-const OFFSET: u64 = 2147483648;
+use records::limits::OFFSET;
 
 pub fn text(words: &[u8]) {
     io::write_all(STDOUT_FILENO, words);

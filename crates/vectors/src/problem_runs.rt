@@ -2,7 +2,8 @@
 ghost use Prim.Native.Nat.{_≤_};
 use crate::noise;
 use crate::print;
-use leads::reader::read_problem;
+use problem_records::reader::read_problem;
+use records::limits::TABLE;
 use records::problem::Header;
 
 fn wide(x: u32) -> u64 {
@@ -10,12 +11,12 @@ fn wide(x: u32) -> u64 {
 }
 
 // An element of a table, blank where there is none.
-fn lead_at(table: &[u32; 2048], at: usize) -> u64 {
+fn lead_at(table: &[u32; TABLE], at: usize) -> u64 {
     if at < table.len() { wide(table[at]) } else { 0 }
 }
 
 // The right lead of the last variable in the question.
-fn last_lead(right: &[u32; 2048], n: usize, m: usize) -> u64 {
+fn last_lead(right: &[u32; TABLE], n: usize, m: usize) -> u64 {
     if n >= 32 {
         return 0;
     }
@@ -26,7 +27,7 @@ fn last_lead(right: &[u32; 2048], n: usize, m: usize) -> u64 {
 }
 
 // The first left lead and the last right one of a problem that was read.
-fn show_read(n: usize, m: usize, left: &[u32; 2048], right: &[u32; 2048]) {
+fn show_read(n: usize, m: usize, left: &[u32; TABLE], right: &[u32; TABLE]) {
     print::counted(b"read, n ", n as u64);
     print::counted(b" m ", m as u64);
     print::text(b", leads ");
@@ -35,7 +36,7 @@ fn show_read(n: usize, m: usize, left: &[u32; 2048], right: &[u32; 2048]) {
     print::minutes(last_lead(right, n, m));
 }
 
-fn show_refused(number: usize, left: &[u32; 2048], right: &[u32; 2048]) {
+fn show_refused(number: usize, left: &[u32; TABLE], right: &[u32; TABLE]) {
     print::counted(b"refused ", number as u64);
     noise::show_leads(left, b", left table touched");
     noise::show_leads(right, b", right table touched");
@@ -46,16 +47,16 @@ pub fn run(line: &[u8], bytes: &[u8]) {
     let mut left = noise::table();
     let mut right = noise::table();
     print::edge(b"problem", line);
-    let header = read_problem(bytes, &mut left, &mut right);
+    let header = read_problem(bytes, false, &mut left, &mut right);
     match header {
-        Header::Fields(n, m) => show_read(n, m, &left, &right),
+        Header::Told(layout) => show_read(layout.n, layout.m, &left, &right),
         Header::Refused(k) => show_refused(k, &left, &right),
     }
     print::end();
 }
 
 // Which lead stands where: leads 1 to 8 in the order of the record.
-fn show_places(left: &[u32; 2048], right: &[u32; 2048]) {
+fn show_places(left: &[u32; TABLE], right: &[u32; TABLE]) {
     print::text(b"left");
     show_row(left, 0);
     show_row(left, 32);
@@ -65,7 +66,7 @@ fn show_places(left: &[u32; 2048], right: &[u32; 2048]) {
 }
 
 // Three places of a row: two leads, and what follows them.
-fn show_row(table: &[u32; 2048], at: usize)
+fn show_row(table: &[u32; TABLE], at: usize)
     requires { ⌜ at ≤ 2000 ⌝ }
 {
     print::text(b" ");
@@ -81,7 +82,7 @@ pub fn run_places(line: &[u8], bytes: &[u8]) {
     let mut left = noise::table();
     let mut right = noise::table();
     print::edge(b"problem", line);
-    read_problem(bytes, &mut left, &mut right);
+    read_problem(bytes, false, &mut left, &mut right);
     show_places(&left, &right);
     print::end();
 }

@@ -5,10 +5,12 @@ use crate::noise::BUFFER;
 use crate::print;
 use crate::writer_runs::Fields;
 use crate::writer_runs::write;
-use answers::answer::AnswerHead;
-use writing::roundtrip::read_then_write;
-use writing::roundtrip::write_then_read;
-use writing::writer::Written;
+use answer_reader::answer::AnswerHead;
+use answer_writer::roundtrip::read_then_write;
+use answer_writer::roundtrip::write_then_read;
+use answer_writer::writer::Written;
+use records::limits::ROWS;
+use records::limits::STRIDE;
 
 fn verdict(same: bool) {
     if same {
@@ -48,8 +50,8 @@ fn same_fields(f: Fields, class: u64, span: u64) -> bool {
 fn same_lists(
     stamps: &[u64],
     picks: &[u64],
-    stamps_back: &[u64; 32],
-    picks_back: &[u64; 64],
+    stamps_back: &[u64; STRIDE],
+    picks_back: &[u64; ROWS],
 ) -> bool {
     if !same_list(stamps, stamps_back) {
         return false;

@@ -2,12 +2,11 @@
 // it does is told where it is read. Before it may stand a number, which is 0 without.
 ghost use Prim.Native.Nat.{_≤_};
 ghost use lib.ListN.{length};
+use records::limits::FULL;
+use records::limits::OFFSET;
 
 // The field of a blank, the offset number of 0 as well.
-const BLANK: u64 = 2147483648;
-
-// The first number that 4 bytes do not hold.
-const FULL: u64 = 4294967296;
+const BLANK: u64 = OFFSET;
 
 const MOST: u64 = 18446744073709551615;
 

@@ -3,10 +3,10 @@ use crate::cut::bytes_within;
 use crate::noise;
 use crate::noise::BUFFER;
 use crate::print;
-use hours::reader::Read;
-use hours::reader::read_hours;
-use hours::writer::Written;
-use hours::writer::write_hours;
+use hour_texts::reader::Read;
+use hour_texts::reader::read_hours;
+use hour_texts::writer::Written;
+use hour_texts::writer::write_hours;
 
 // Reads a text and prints what came of it.
 fn read_text(text: &[u8]) {

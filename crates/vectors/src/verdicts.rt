@@ -3,16 +3,21 @@ use crate::cut::bytes_within;
 use crate::print;
 use checker::check::Verdict;
 use checker::check::check;
+use records::limits::INFEASIBLE;
+use records::limits::NOT_CERTIFIED;
+use records::limits::OPTIMAL;
+use records::limits::UNBOUNDED;
 
 // A class in words, and the span of least.
 pub fn found(class: u64, span: u64) {
     match class {
-        1 => {
+        OPTIMAL => {
             print::text(b"least ");
             print::minutes(span);
         }
-        2 => print::text(b"bottomless"),
-        _ => print::text(b"none"),
+        UNBOUNDED => print::text(b"bottomless"),
+        INFEASIBLE => print::text(b"none"),
+        0 | 4.. => (),
     }
 }
 
@@ -22,7 +27,7 @@ fn accepted(class: u64, span: u64) {
 }
 
 fn refused(number: usize) {
-    if number == 14 {
+    if number == NOT_CERTIFIED {
         print::text(b"not certified");
         return;
     }

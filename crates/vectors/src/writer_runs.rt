@@ -7,11 +7,10 @@ use crate::print;
 use crate::script::byte_at;
 use crate::script::number_after;
 use crate::script::place_of;
-use writing::writer::Written;
-use writing::writer::write_answer;
-
-// The offset number of 0.
-const ZERO: u64 = 2147483648;
+use answer_writer::writer::Written;
+use answer_writer::writer::write_answer;
+use records::limits::ANSWER_MOST;
+use records::limits::OFFSET;
 
 // The most stamps and picks that a list here has.
 pub const LONGEST: usize = 70;
@@ -31,7 +30,7 @@ pub struct Fields {
 }
 
 fn stamps_of_zero() -> [u64; LONGEST] {
-    [ZERO; LONGEST]
+    [OFFSET; LONGEST]
 }
 
 fn no_picks() -> [u64; LONGEST] {
@@ -103,7 +102,7 @@ fn unset() -> Fields {
         pick_count: 0,
         n: 0,
         m: 0,
-        room: 206,
+        room: ANSWER_MOST,
         at: 0,
     }
 }

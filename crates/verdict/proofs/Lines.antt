@@ -19,12 +19,12 @@ some-refusal (certified e c) q = let z : _≡_ {A = ℕ} 0 1 = cc in omega arith
 some-refusal (uncertified e c) q = let z : _≡_ {A = ℕ} 14 0 = cc in omega arith
 
 -- The three numbers that the writer is handed mean the verdict.
-pub accepted-numbers : (class span : ℕ) → Text.verdictOf 0 class span ≡ verdictOf (Accepted class span)
-unfolding Text.verdictOf verdictOf
+pub accepted-numbers : (class span : ℕ) → Text.verdictBy 0 class span ≡ verdictOf (Accepted class span)
+unfolding Text.verdictBy verdictOf
 accepted-numbers class span = refl
 
-pub refused-numbers : (k : ℕ) → (verdictOf (Refused k) ≡ refused 0 → ⊥) → Text.verdictOf k 0 0 ≡ verdictOf (Refused k)
-unfolding Text.verdictOf verdictOf
+pub refused-numbers : (k : ℕ) → (verdictOf (Refused k) ≡ refused 0 → ⊥) → Text.verdictBy k 0 0 ≡ verdictOf (Refused k)
+unfolding Text.verdictBy verdictOf
 refused-numbers k h = rw (ne-eqb k 0 (λ e. h (ap refused e)))
 
 -- What the writer puts out is the line.

@@ -6,6 +6,8 @@
 mod calls;
 #[path = "../../../capi/rust/src/hours.rs"]
 mod hours;
+#[path = "../../../capi/rust/src/marks.rs"]
+mod marks;
 #[path = "../../../capi/rust/src/opening.rs"]
 mod opening;
 pub mod raw;
@@ -14,5 +16,6 @@ mod words;
 
 pub use calls::{check, read, solve, write, ANSWER_SIZE, PROBLEM_SIZE};
 pub use hours::{read_hours, write_hours, TEXT_SIZE};
+pub use marks::marks_differ;
 pub use opening::{first_open, Window};
 pub use words::{Answer, Certified, Class, Outcome, Refusal, Solved};

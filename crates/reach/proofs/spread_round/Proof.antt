@@ -9,10 +9,10 @@ use Rattle.reach.proofs.spread_round.Statement.{statement}
 use Rattle.reach.proofs.spread_round.Tie as tie
 
 abbrev Inv-loop : tie.InvT-loop
-Inv-loop arcs width new₀ spread₀ moved₀ j₀ new spread moved j = (j ≤ width) × (width ≤ 32) × Spreading arcs width new₀ spread₀ j new spread moved
+Inv-loop arcs width new₀ spread₀ j₀ new spread j = (j ≤ width) × (width ≤ 32) × Spreading arcs width new₀ spread₀ j new spread
 
 abbrev μ-loop : tie.MeasureT-loop
-μ-loop arcs width new₀ spread₀ moved₀ j₀ new spread moved j = width - j
+μ-loop arcs width new₀ spread₀ j₀ new spread j = width - j
 
 pub spread-round-spec : {M : Type 1} → statement M
 spread-round-spec =
@@ -32,8 +32,8 @@ spread-round-spec =
       omega arith,
       omega arith,
       ⊎-elim
-          (λ w. rw (w .2, w .3, w .4) (spreading-row (c .before .before .loop .inv .2) (omega arith) (omega arith) (w .0 .taken) (w .1 .ensures)))
-          (λ w. rw (w .1, w .2, w .3) (spreading-skip (c .before .before .loop .inv .2) (w .0 .left)))
+          (λ w. rw (w .2, w .3) (spreading-row (c .before .before .loop .inv .2) (omega arith) (omega arith) (w .0 .taken) (w .1 .ensures)))
+          (λ w. rw (w .1, w .2) (spreading-skip (c .before .before .loop .inv .2) (w .0 .left)))
           (c .if1 .came),
     ))
     (λ c. let e : c .before .loop .j ≡ c .before .before .args .width = omega arith in rw e at (c .before .loop .inv .2)))

@@ -1,5 +1,5 @@
 use borrow.Author.Needs.{needs}
-use Rattle.leads.proofs.ReadProblem.{laid}
+use Rattle.problem_records.proofs.ReadProblem.{laid}
 use Rattle.checker.proofs.Verdicts.{judged-problem, header-read, judged-answer}
 use Rattle.checker.specs.Outcome.{verdictOf}
 use Rattle.definitions.specs.Bytes.{Bytes}

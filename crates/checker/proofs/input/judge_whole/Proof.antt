@@ -1,5 +1,5 @@
+use Rattle.base.proofs.Lists.{rest-whole}
 use borrow.Author.Needs.{needs}
-use Rattle.checker.proofs.LongInputs.{rest-whole}
 use Rattle.checker.proofs.LongInputs.{judged-parts}
 use lib.Seq.{length-take-le}
 use mathlib.Core.Path.{sym}

@@ -1,7 +1,7 @@
+use Rattle.base.specs.Filled.{Filled}
+use Rattle.base.proofs.Filled.{filled-none, filled-more}
 use Rattle.guesses.proofs.Stamping.{joined-near, stamped}
 use Rattle.guesses.specs.Guess.{StampIs}
-use Rattle.trials.proofs.Filled.{filled-none, filled-more}
-use Rattle.trials.specs.Filled.{Filled}
 use lib.ListN.{getD}
 use native.Mathlib.Omega.{arith}
 use Prim.Native.Nat.{_≤_, _-_}

@@ -10,8 +10,8 @@ guess-from-spec =
     (tie.spec
     (λ c κs. search needs)
     (λ c κs. search needs)
-    (λ c. let start = c .before .before in omega (arith, c .raised .ensures, high-whole (start .args .first) (omega (arith, start .pre .5)), start .pre .4))
+    (λ c. let start = c .before .before in omega (arith, c .high-of .ensures, high-whole (start .args .first) (omega (arith, start .pre .5)), start .pre .4))
     (λ c κs. search needs)
-    (λ c. let start = c .before .before .before in omega (arith, c .plus .ensures, c .before .raised .ensures, high-whole (start .args .first) (omega (arith, start .pre .5)), start .pre .5, start .pre .7 .hi))
+    (λ c. let start = c .before .before .before in omega (arith, c .plus .ensures, c .before .high-of .ensures, high-whole (start .args .first) (omega (arith, start .pre .5)), start .pre .5, start .pre .7 .hi))
     (λ c κs. search needs)
     (λ c. search needs))

@@ -1,6 +1,6 @@
+use Rattle.base.proofs.Filled.{filled-none, filled-more, filled-end}
 use Rattle.guesses.proofs.Stamping.{lows-near}
 use Rattle.guesses.specs.Guess.{Joined}
-use Rattle.trials.proofs.Filled.{filled-none, filled-more, filled-end}
 use native.Mathlib.Omega.{arith}
 use Prim.Native.Nat.{_≤_, _-_}
 use borrow.Author.Needs.{needs}

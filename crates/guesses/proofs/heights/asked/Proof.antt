@@ -1,5 +1,5 @@
 use native.Mathlib.Omega.{arith}
-use Rattle.trials.proofs.Filled.{positive}
+use Rattle.base.proofs.Numbers.{positive}
 use Rattle.guesses.proofs.Rising.{near-blank}
 use borrow.Author.Needs.{needs}
 use Rattle.guesses.proofs.heights.asked.Statement.{statement}

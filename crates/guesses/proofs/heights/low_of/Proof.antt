@@ -1,5 +1,5 @@
 use native.Mathlib.Omega.{arith}
-use Rattle.trials.proofs.Filled.{positive}
+use Rattle.base.proofs.Numbers.{positive}
 use Rattle.guesses.proofs.Rising.{near-blank, near-lowered}
 use borrow.Author.Needs.{needs}
 use Rattle.guesses.proofs.heights.low_of.Statement.{statement}

@@ -41,7 +41,7 @@ use denote.Exit.{yes}
 use denote.Signature.{plain}
 use Rattle.output.specs.declared.writer.Writer.{Writer}
 use Rattle.printing.specs.Text.{Appended, appended, placeAfter}
-use Rattle.output.specs.Written.{written}
+use Rattle.output.specs.Written.{writerAfter}
 use Rattle.printing.proofs.Appending.{length-appended}
 use Rattle.output.proofs.writer.Writer as T
 use Rattle.output.proofs.writer.Writer.Laws as T′
@@ -80,8 +80,8 @@ module _ {M : Type 1} (𝓤 : URA M) (H : Heap 𝓤) (A : Atoms 𝓤) (mem : Mem
   made-of : (κ : Lft) (x : RefT (List ℕ)) (n : ℕ) (r : Writer) → ent 𝓤 (ensured 𝓤 H A fresh.ended (fresh.clauses 𝓤 H A mem run) (κ, tt) (x, (n, tt)) tt r) (fact 𝓤 ((r .buf ≡ x) × (r .at ≡ n)))
   made-of κ x n r = exE 𝓤 _ (λ ws. snd∗ 𝓤 (sem 𝓤 H A (lasts fresh.ended (κ, tt) (x, (n, tt)) ws)) (fact 𝓤 ((r .buf ≡ x) × (r .at ≡ n))))
 
-  added-of : (κ κ′ : Lft) (h : Writer) (t : RefT (List ℕ)) (r : Writer) → ent 𝓤 (ensured 𝓤 H A added.ended (added.clauses 𝓤 H A mem run) (κ, (κ′, tt)) (h, (t, tt)) tt r) (fact 𝓤 (r ≡ written h (t .now)))
-  added-of κ κ′ h t r = exE 𝓤 _ (λ ws. snd∗ 𝓤 (sem 𝓤 H A (lasts added.ended (κ, (κ′, tt)) (h, (t, tt)) ws)) (fact 𝓤 (r ≡ written h (t .now))))
+  added-of : (κ κ′ : Lft) (h : Writer) (t : RefT (List ℕ)) (r : Writer) → ent 𝓤 (ensured 𝓤 H A added.ended (added.clauses 𝓤 H A mem run) (κ, (κ′, tt)) (h, (t, tt)) tt r) (fact 𝓤 (r ≡ writerAfter h (t .now)))
+  added-of κ κ′ h t r = exE 𝓤 _ (λ ws. snd∗ 𝓤 (sem 𝓤 H A (lasts added.ended (κ, (κ′, tt)) (h, (t, tt)) ws)) (fact 𝓤 (r ≡ writerAfter h (t .now))))
 
 module _ {M : Type 1} (𝓤 : URA M) (H : Heap 𝓤) (A : Atoms 𝓤) (W : Given 𝓤 H A) (mem : Memory → SProp 𝓤) (run : Routine → Fun 𝓤) (κ κ′ : Lft) (q q′ : Share) (b o : ℕ) (γ : GName) (ys : List ℕ) (n : ℕ) (t : RefT (List ℕ)) (n-fits : n < 2 ^ 64) where
   abbrev α : NamedLft
@@ -105,7 +105,7 @@ module _ {M : Type 1} (𝓤 : URA M) (H : Heap 𝓤) (A : Atoms 𝓤) (W : Given
   h₀ = record { buf = x; at = n }
 
   abbrev h₁ : Writer
-  h₁ = written h₀ (t .now)
+  h₁ = writerAfter h₀ (t .now)
 
   -- the machine value of a writer has the struct's MIR type, whose lifetimes a local's erases
   typed : (h : Writer) (w : Val) → Is (T.the-row α) h (w ∷ []) → Holds (hasTy (T′.mir erased) w) × WT w

@@ -1,6 +1,6 @@
 use borrow.Author.Needs.{needs}
 use native.Mathlib.Omega.{arith}
-use Rattle.printing.proofs.Printing.{words-least, words-bottomless, words-none}
+use Rattle.printing.proofs.Printing.{words-least, words-bottomless, words-none, words-other}
 use Rattle.definitions.specs.Programs.{text-bottomless, text-none}
 use Rattle.printing.proofs.lines.put_class.Statement.{statement}
 use Rattle.printing.proofs.lines.put_class.Tie as tie
@@ -11,7 +11,7 @@ returns-2 c = (words-bottomless _ _ (c .before .before .copy .ensures) (c .befor
 
 returns-3 : tie.Need-returns-3
 unfolding text-none
-returns-3 c = (words-none _ _ (c .before .before .copy2 .ensures) (c .before .before .before .before .before .match .rest .0 .1) (c .before .before .before .before .before .match .rest .1), omega arith)
+returns-3 c = (words-none _ _ (c .before .before .copy2 .ensures) (c .before .before .before .before .before .match .keys3), omega arith)
 
 pub put-class-spec : {M : Type 1} → statement M
 put-class-spec =
@@ -27,4 +27,6 @@ put-class-spec =
     (λ c. search needs)
     returns-2
     (λ c. search needs)
-    returns-3)
+    returns-3
+    (λ c. (words-other _ _ _ _ (omega arith) (omega arith) (omega arith), omega arith))
+    (λ c. (words-other _ _ _ _ (c .match .rest .0 .0 .0 .1) (c .match .rest .0 .0 .1) (c .match .rest .0 .1), omega arith)))

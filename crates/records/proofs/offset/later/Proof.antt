@@ -1,6 +1,6 @@
 use native.Mathlib.Omega.{arith}
 use borrow.Author.Needs.{needs}
-use borrow.Author.Tests.{le-leb, lt-leb}
+use Rattle.base.proofs.Numbers.{most-first, most-second}
 use Rattle.definitions.specs.Offset.{off}
 use Rattle.records.proofs.offset.later.Statement.{statement}
 use Rattle.records.proofs.offset.later.Tie as tie
@@ -12,6 +12,6 @@ later-spec =
     (λ c κs. search needs)
     (λ c κs. search needs)
     (λ c. let start = c .before .before .before in
-    (simp (le-leb (off (start .args .a)) (off (start .args .b)) (omega (arith, c .if1 .taken))), omega arith))
+    (most-second (off (start .args .a)) (off (start .args .b)) (omega (arith, c .if1 .taken)), omega arith))
     (λ c. let start = c .before .before .before in
-    (simp (lt-leb (off (start .args .a)) (off (start .args .b)) (omega (arith, c .if1 .left))), omega arith)))
+    (most-first (off (start .args .a)) (off (start .args .b)) (omega (arith, c .if1 .left)), omega arith)))

@@ -1,30 +1,25 @@
 use Rattle.records.proofs.Tests.{tests}
-use Rattle.records.specs.ProblemHeader.{countsJudged}
+use mathlib.Core.Path.{_≡_, sym, _∙_}
+use mathlib.Core.Bool.{true, false}
+use Rattle.definitions.specs.ProblemRecord.{wrong-count}
 use borrow.Author.Needs.{needs}
 use Rattle.records.proofs.problem.judge_counts.Statement.{statement}
 use Rattle.records.proofs.problem.judge_counts.Tie as tie
 
-returns : tie.Need-returns
-unfolding countsJudged
-returns c = search tests
-
-returns-2 : tie.Need-returns-2
-unfolding countsJudged
-returns-2 c = search tests
-
-returns-3 : tie.Need-returns-3
-unfolding countsJudged
-returns-3 c = search (tests, ← c .before .problem-size .ensures .0)
-
-returns-4 : tie.Need-returns-4
-unfolding countsJudged
-returns-4 c = search (tests, ← c .before .problem-size .ensures .0)
-
 pub judge-counts-spec : {M : Type 1} → statement M
 judge-counts-spec =
-    tie.close (tie.spec
-    returns
-    returns-2
+    tie.close
+    (tie.spec
+    (λ c. search tests)
+    (λ c. search tests)
     (λ c κs. search needs)
-    returns-3
-    returns-4)
+    (λ c. let a = c .before .before .before .before .args in
+    let wrong : wrong-count (a .size) (a .kind) (a .count) ≡ true = sym (c .before .wrong-count .ensures) ∙ c .if3 .taken in
+    search (tests, wrong))
+    (λ c κs. search needs)
+    (λ c. let a = c .before .before .before .before .before .before .args in
+    let right : wrong-count (a .size) (a .kind) (a .count) ≡ false = sym (c .before .before .before .wrong-count .ensures) ∙ c .before .before .if3 .left in
+    search (tests, ← c .before .record-size .ensures, right))
+    (λ c. let a = c .before .before .before .before .before .before .args in
+    let right : wrong-count (a .size) (a .kind) (a .count) ≡ false = sym (c .before .before .before .wrong-count .ensures) ∙ c .before .before .if3 .left in
+    search (tests, ← c .before .record-size .ensures, right)))

@@ -3,24 +3,12 @@ use borrow.Author.Needs.{needs}
 use Rattle.records.proofs.problem.read_header.Statement.{statement}
 use Rattle.records.proofs.problem.read_header.Tie as tie
 
-returns : tie.Need-returns
-returns c =
-    header-judged _ _ _ (c .before .before .before .before .before .word-at .ensures .0)
-    (c .before .before .before .before .short-at .ensures .0)
-    (c .before .before .before .short-at2 .ensures .0)
-    (c .before .before .short-at3 .ensures .0)
-    (c .before .judge .ensures)
-    (c .answered .ensures)
-
 pub read-header-spec : {M : Type 1} → statement M
 read-header-spec =
     tie.close
     (tie.spec
     (λ c κs. search needs)
+    (λ c κs. let f = c .fields-at .ensures in (f .length-small, f .count-small))
+    (λ c κs. c .before .fields-at .ensures .count-small)
     (λ c κs. search needs)
-    (λ c. search needs)
-    (λ c κs. search needs)
-    (λ c κs. search needs)
-    (λ c κs. search needs)
-    (λ c κs. search needs)
-    returns)
+    (λ c. header-judged _ _ _ _ (c .before .before .before .fields-at .ensures) (c .before .before .judge .ensures) (c .before .layout-of .ensures) (c .answered .ensures)))

@@ -1,8 +1,8 @@
 use Prim.Native.Nat.{_≤_, _-_}
 use native.Mathlib.Omega.{arith}
-use Rattle.trials.specs.Filled.{Filled}
+use Rattle.base.specs.Filled.{Filled}
+use Rattle.base.proofs.Filled.{filled-none, filled-more}
 use Rattle.trials.specs.Ends.{RowEnds}
-use Rattle.trials.proofs.Filled.{filled-none, filled-more}
 use Rattle.trials.proofs.Places.{ends-filled}
 use borrow.Author.Needs.{needs}
 use Rattle.trials.proofs.ends.ends_of.Statement.{statement}

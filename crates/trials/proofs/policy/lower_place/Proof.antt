@@ -26,4 +26,4 @@ lower-place-spec =
     (λ c κs. search needs)
     (λ c. search needs)
     (λ c. search needs)
-    (λ c. let start = c .before .before .before .before .before in let a = start .args in lowered-one (a .left .now) (a .least .now) (a .chosen .now) (a .i) (a .top) (a .j) _ _ _ (start .pre .0 .least-size) (start .pre .0 .chosen-size) (start .pre .1) refl (c .before .choice .ensures) (c .lower .ensures)))
+    (λ c. let start = c .before .before .before .before .before in let a = start .args in lowered-one (a .left .now) (a .least .now) (a .chosen .now) (a .i) (a .top) (a .j) _ _ _ (start .pre .0 .least-size) (start .pre .0 .chosen-size) (start .pre .1) refl (c .before .choice .ensures) (c .smaller .ensures)))

@@ -41,5 +41,5 @@ lower-row-spec =
     (λ c.
     let a = c .before .before .before .before .before .before .before .args in
     let turn = c .before .before .before .before .before .before .loop in
-    (omega arith, lowered-more (a .left .now) (a .least .now) (a .chosen .now) (a .i) (a .top) (turn .j) _ _ _ (turn .least) (turn .chosen) (turn .inv .1) (omega arith) refl (c .before .choice .ensures) (c .lower .ensures)))
+    (omega arith, lowered-more (a .left .now) (a .least .now) (a .chosen .now) (a .i) (a .top) (turn .j) _ _ _ (turn .least) (turn .chosen) (turn .inv .1) (omega arith) refl (c .before .choice .ensures) (c .smaller .ensures)))
     (λ c. let a = c .before .before .args in lowered-end (a .left .now) (a .least .now) (a .chosen .now) (a .i) (a .top) _ 32 _ _ (c .before .loop .inv .1) (c .before .loop .inv .0) (c .loop-test .left)))

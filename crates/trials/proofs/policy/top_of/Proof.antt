@@ -1,5 +1,5 @@
+use Rattle.base.proofs.Numbers.{positive}
 use Rattle.trials.proofs.Given.{gives-blank, gives-whole}
-use Rattle.trials.proofs.Filled.{positive}
 use native.Mathlib.Omega.{arith}
 use borrow.Author.Needs.{needs}
 use Rattle.trials.proofs.policy.top_of.Statement.{statement}

@@ -31,7 +31,7 @@ trial-spec =
     let v = c .before .before .before .evaluate in
     let turn = c .before .before .before .before .before .loop in
     let s = systemOf (a .left .now) (a .right .now) (a .width) (a .rows) in
-    tried-as s (highs (v .result)) _ (turn .kept) (c .before .raised-all .ensures) (stop-tried s (v .result) (turn .kept) (turn .inv .1) (turn .inv .0) (v .ensures) (c .if1 .taken)))
+    tried-as s (highs (v .result)) _ (turn .kept) (c .before .highs-of .ensures) (stop-tried s (v .result) (turn .kept) (turn .inv .1) (turn .inv .0) (v .ensures) (c .if1 .taken)))
     (λ c κs.
     let start = c .before .before .before .before .before .before .before in
     let a = start .args in
@@ -41,7 +41,7 @@ trial-spec =
     let v = c .before .before .before .before .before .before .before .evaluate in
     let turn = c .before .before .before .before .before .before .before .before .before .loop in
     let step = c .before .before .improve in
-    tried-as (systemOf (a .left .now) (a .right .now) (a .width) (a .rows)) (highs (v .result)) _ (turn .kept) (c .before .before .before .before .before .raised-all .ensures)
+    tried-as (systemOf (a .left .now) (a .right .now) (a .width) (a .rows)) (highs (v .result)) _ (turn .kept) (c .before .before .before .before .before .highs-of .ensures)
     (step-tried (a .left .now) (a .right .now) (highs (v .result)) (turn .kept) (step .result .picks) (a .width) (a .rows) _ (turn .inv .1) (turn .inv .0) (v .ensures) (step .ensures .0) (not-true _ (c .if2 .taken))))
     (λ c.
     let start = c .before .before .before .before .before .before .before .before .before .before .before in

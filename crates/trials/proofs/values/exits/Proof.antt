@@ -1,3 +1,5 @@
+use Rattle.base.specs.Filled.{Filled}
+use Rattle.base.proofs.Filled.{filled-none, filled-more, filled-end}
 use Rattle.duality.specs.Values.{exitBy}
 use Prim.Native.Nat.{_≤_, _-_}
 use native.Mathlib.Omega.{arith}
@@ -6,8 +8,6 @@ use Rattle.trials.specs.Tables.{systemOf, pickOf, high}
 use mathlib.Core.Path.{_≡_}
 use Rattle.definitions.specs.Offset.{tropOf}
 use Rattle.duality.specs.Values.{exits as exitsOf}
-use Rattle.trials.specs.Filled.{Filled}
-use Rattle.trials.proofs.Filled.{filled-none, filled-more, filled-end}
 use Rattle.trials.proofs.Low.{filled-highs}
 use borrow.Author.Needs.{needs}
 use Rattle.trials.proofs.values.exits.Statement.{statement}

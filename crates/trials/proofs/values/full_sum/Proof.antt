@@ -1,10 +1,12 @@
 use Prim.Native.Nat.{_≤_, _<_, _-_}
 use mathlib.Core.Path.{_≡_, _∙_}
 use native.Mathlib.Omega.{arith}
+use Rattle.base.specs.Numbers.{uppermost}
+use Rattle.base.proofs.Numbers.{uppermost-none}
 use Rattle.definitions.specs.Limits.{signed-full}
 use Rattle.definitions.specs.Offset.{off}
-use Rattle.trials.specs.Rounds.{uppermost, sums}
-use Rattle.trials.proofs.Fold.{uppermost-none, uppermost-field, field-back, low-fits, sum-most, side-end}
+use Rattle.trials.specs.Rounds.{sums}
+use Rattle.trials.proofs.Fold.{uppermost-field, field-back, low-fits, sum-most, side-end}
 use borrow.Author.Needs.{needs}
 use Rattle.trials.proofs.values.full_sum.Statement.{statement}
 use Rattle.trials.proofs.values.full_sum.Tie as tie
@@ -44,7 +46,7 @@ full-sum-spec =
     let a = start .args in
     let turn = c .before .before .before .before .before .before .loop in
     let e = field-back _ _ (low-fits (a .x .now) (start .pre .3 .ranged) (turn .l)) (c .before .before .before .offset-322 .ensures .0) in
-    (omega arith, uppermost-field (sums (a .table .now) (a .row) (a .x .now)) (turn .l) _ _ _ (turn .inv .1) (omega (arith, e, c .before .raised .ensures .0)) (c .later .ensures .0), c .later .ensures .1))
+    (omega arith, uppermost-field (sums (a .table .now) (a .row) (a .x .now)) (turn .l) _ _ _ (turn .inv .1) (omega (arith, e, c .before .offset-added .ensures .0)) (c .later .ensures .0), c .later .ensures .1))
     (λ c κs. search needs)
     (λ c.
     let start = c .before .before .before .before in

@@ -1,5 +1,5 @@
 use native.Mathlib.Omega.{arith}
-use Rattle.trials.proofs.Filled.{positive}
+use Rattle.base.proofs.Numbers.{positive}
 use Rattle.trials.proofs.Rounds.{gap-blank-side, gap-blank-left, gap-whole}
 use Rattle.trials.proofs.values.gap.Statement.{statement}
 use Rattle.trials.proofs.values.gap.Tie as tie

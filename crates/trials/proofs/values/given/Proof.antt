@@ -1,5 +1,5 @@
 use native.Mathlib.Omega.{arith}
-use Rattle.trials.proofs.Filled.{positive}
+use Rattle.base.proofs.Numbers.{positive}
 use Rattle.trials.proofs.Rounds.{given-blank-side, given-blank-left, given-whole}
 use Rattle.trials.proofs.values.given.Statement.{statement}
 use Rattle.trials.proofs.values.given.Tie as tie

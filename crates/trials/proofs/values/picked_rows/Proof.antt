@@ -1,7 +1,7 @@
 use Prim.Native.Nat.{_≤_, _-_}
 use native.Mathlib.Omega.{arith}
+use Rattle.base.proofs.Filled.{filled-none, filled-more, filled-end}
 use Rattle.trials.specs.Rounds.{PickedSums, PickedLefts}
-use Rattle.trials.proofs.Filled.{filled-none, filled-more, filled-end}
 use borrow.Author.Needs.{needs}
 use Rattle.trials.proofs.values.picked_rows.Statement.{statement}
 use Rattle.trials.proofs.values.picked_rows.Tie as tie

@@ -2,12 +2,12 @@ use Prim.Native.Nat.{_≤_, _-_}
 use mathlib.Core.Path.{_≡_}
 use native.Mathlib.Omega.{arith}
 use lib.ListN.{getD}
+use Rattle.base.specs.Filled.{Filled}
+use Rattle.base.proofs.Filled.{filled-none, filled-more}
 use Rattle.definitions.specs.Offset.{tropOf}
 use Rattle.duality.specs.Values.{difference}
 use Rattle.trials.specs.Tables.{high}
-use Rattle.trials.specs.Filled.{Filled}
 use Rattle.trials.specs.Rounds.{folded}
-use Rattle.trials.proofs.Filled.{filled-none, filled-more}
 use Rattle.trials.proofs.Rounds.{picked-fits, round-end}
 use borrow.Author.Needs.{needs}
 use Rattle.trials.proofs.values.round_from.Statement.{statement}

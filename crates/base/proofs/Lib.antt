@@ -1,0 +1,4 @@
+pub mod Numbers
+pub mod Filled
+pub mod Lists
+pub mod Decides

@@ -1,0 +1,152 @@
+// The engine on tables: the two outer trials, the halving, and the answer of each class. Document 01, "The engine".
+ghost use mathlib.Core.Path.{_≡_};
+ghost use Prim.Native.Nat.{_+_, _<_, _≤_};
+ghost use lib.ListN.{getD};
+ghost use Rattle.definitions.specs.Limits.{most-trials, stride};
+ghost use Rattle.trials.specs.Tables.{Ranged};
+ghost use Rattle.trial_tables.specs.Frames.{zero-offset, top-offset, Coefficients, Ready, Reraised, Rewritten};
+ghost use Rattle.least_span.specs.State.{Searched};
+ghost use Rattle.class_answers.specs.Answered.{Stamps, Settled, AnswerOf, Answered};
+use least_span::advance::floored;
+use least_span::advance::settle;
+use least_span::halving::halve;
+use least_span::state::Search;
+use least_span::state::TOP;
+use least_span::state::opened;
+use least_span::state::try_at;
+use pick_tables::tables::induced;
+use pick_tables::tables::row_picks;
+use pick_tables::tables::variable_picks;
+use records::limits::INFEASIBLE;
+use records::limits::OFFSET;
+use records::limits::OPTIMAL;
+use records::limits::ROWS;
+use records::limits::STRIDE;
+use records::limits::TABLE;
+use records::limits::TRIALS_INFEASIBLE;
+use records::limits::TRIALS_UNBOUNDED;
+use records::limits::UNBOUNDED;
+use trial_tables::floor::floor_of;
+use trial_tables::frame::Frame;
+use trial_tables::frame::frame_of;
+use trial_tables::frame::raise;
+use trials::values::gap;
+
+// Class (1 least, 2 bottomless, 3 none), span and stamps as offset numbers, the trials of the definition, those that were made,
+// and picks. Stamps and picks count as far as the class has them.
+pub struct Answer {
+    pub class: u64,
+    pub span: u64,
+    pub trials: u64,
+    pub made: u64,
+    pub stamps: [u64; STRIDE],
+    pub picks: [u64; ROWS],
+}
+
+// The stamps of a point: each value less that of variable 0.
+fn stamps(point: &[u64; STRIDE], width: usize) -> [u64; STRIDE]
+    requires { ⌜ Ranged (now point) × (getD (now point) 0 0 ≤ zero-offset) × (width ≤ stride) ⌝ }
+    ensures { λ r. ⌜ Stamps (now (point .entry)) width r ⌝ }
+{
+    let first = point[0];
+    let mut out = [0u64; STRIDE];
+    let mut j = 0;
+    while j < width {
+        out[j] = gap(point[j], first);
+        j += 1;
+    }
+    out
+}
+
+// Class 3: the trial at 645,120 is not possible.
+fn infeasible(left: &[u32; TABLE], right: &mut [u32; TABLE], frame: Frame, search: Search) -> Answer
+    requires { ⌜ Ready frame (now left) (now right) × Searched frame (now left) (now right) search × (search .blocked ≡ top-offset) ⌝ }
+    ensures { λ r. ⌜ Settled frame (now (left .entry)) (now (right .entry)) search r × Reraised frame (now (left .entry)) (now (right .entry)) (now (right .exit)) ⌝ }
+{
+    let rows = frame.m + 1;
+    let objective = frame.objective;
+    raise(right, &objective, frame.m, OFFSET);
+    let blocking = search.blocking;
+    let shown = variable_picks(right, &blocking, frame.n + 1, rows);
+    Answer {
+        class: INFEASIBLE,
+        span: 0,
+        trials: TRIALS_INFEASIBLE,
+        made: search.made,
+        stamps: [0; STRIDE],
+        picks: shown,
+    }
+}
+
+// Class 2: the trial at the floor is possible, so that at −645,121 is; each row picks a variable that attains its largest there.
+fn unbounded(left: &[u32; TABLE], right: &mut [u32; TABLE], frame: Frame, search: Search) -> Answer
+    requires { ⌜ Ready frame (now left) (now right) × Searched frame (now left) (now right) search × (search .reached ≤ search .floor) × (search .reached ≤ top-offset) ⌝ }
+    ensures { λ r. ⌜ Settled frame (now (left .entry)) (now (right .entry)) search r × Reraised frame (now (left .entry)) (now (right .entry)) (now (right .exit)) ⌝ }
+{
+    let rows = frame.m + 1;
+    let objective = frame.objective;
+    raise(right, &objective, frame.m, search.reached);
+    let point = search.point;
+    let targets = induced(right, &point, frame.n + 1, rows);
+    let shown = row_picks(left, &targets, frame.n + 1, rows);
+    Answer {
+        class: UNBOUNDED,
+        span: 0,
+        trials: TRIALS_UNBOUNDED,
+        made: search.made,
+        stamps: [0; STRIDE],
+        picks: shown,
+    }
+}
+
+// Class 1: the halving ends at the least span.
+fn optimal(left: &[u32; TABLE], right: &mut [u32; TABLE], frame: Frame, search: Search) -> Answer
+    requires { ⌜ Ready frame (now left) (now right) × Searched frame (now left) (now right) search × (search .reached ≤ top-offset) × (search .floor ≤ search .blocked) ⌝ }
+    ensures { λ r. ⌜ Settled frame (now (left .entry)) (now (right .entry)) search r × Reraised frame (now (left .entry)) (now (right .entry)) (now (right .exit)) ⌝ }
+{
+    let least = halve(left, right, frame, search);
+    let rows = frame.m + 1;
+    let width = frame.n + 1;
+    let objective = frame.objective;
+    raise(right, &objective, frame.m, OFFSET);
+    let point = least.point;
+    let blocking = least.blocking;
+    let shown = variable_picks(right, &blocking, width, rows);
+    let plan = stamps(&point, width);
+    Answer {
+        class: OPTIMAL,
+        span: least.span,
+        trials: least.trials,
+        made: least.made,
+        stamps: plan,
+        picks: shown,
+    }
+}
+
+// The trials of document 01 in its order: the top, the lowest, then the middles. The lowest is settled at the floor, at which
+// the same is possible.
+fn solve_framed(left: &[u32; TABLE], right: &mut [u32; TABLE], frame: Frame) -> Answer
+    requires { ⌜ Ready frame (now left) (now right) ⌝ }
+    ensures { λ r. ⌜ AnswerOf frame (now (left .entry)) (now (right .entry)) r × Reraised frame (now (left .entry)) (now (right .entry)) (now (right .exit)) ⌝ }
+{
+    let top = try_at(left, right, frame, opened(frame.m + 1), TOP);
+    if top.blocked == TOP {
+        return infeasible(left, right, frame, top);
+    }
+    let floor = floor_of(left, right, frame);
+    let search = settle(left, right, frame, floored(top, floor), floor);
+    if search.reached <= floor {
+        return unbounded(left, right, frame, search);
+    }
+    optimal(left, right, frame, search)
+}
+
+// The answer of the problem in two tables. The right table's row of the objective is rewritten on the way, the others stay.
+// Public for the engine's `solve`.
+pub fn solve_tables(left: &[u32; TABLE], right: &mut [u32; TABLE], n: usize, m: usize) -> Answer
+    requires { ⌜ Coefficients n m (now left) (now right) ⌝ }
+    ensures { λ r. ⌜ Answered n m (now (left .entry)) (now (right .entry)) (r .class) (r .span) (r .trials) (r .stamps) (r .picks) × (0 < r .made) × (r .made ≤ most-trials) × Rewritten m (now (right .entry)) (now (right .exit)) ⌝ }
+{
+    let frame = frame_of(left, right, n, m);
+    solve_framed(left, right, frame)
+}

@@ -1,0 +1,4 @@
+pub mod Holding
+pub mod ArcTables
+pub mod Order
+pub mod ClosedWalks

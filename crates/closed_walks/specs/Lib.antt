@@ -1,0 +1,5 @@
+pub mod Tables
+pub mod Gains
+pub mod GainRound
+pub mod Arcs
+pub mod Order

@@ -1,0 +1,34 @@
+-- Problems within the layout: their leads are small, as duality asks, and the trials of an answer are few.
+use Prim.Native.Nat.{ℕ, suc, _*_, _≤_}
+use mathlib.Core.List.{List}
+use native.Mathlib.Omega.{arith}
+use Rattle.definitions.specs.Limits.{lead-limit, span-limit, most-trials}
+use Rattle.definitions.specs.Tropical.{Trop}
+use Rattle.definitions.specs.ProblemRecord.{WithinLayout, problemOf, nField}
+use Rattle.definitions.specs.Solved.{Found, optimal, unbounded, infeasible}
+use Rattle.definitions.proofs.Bisection.{few-trials}
+use Rattle.definitions.proofs.Refusals.{problem-fits, left-size, right-size}
+use Rattle.duality.specs.Within.{Within}
+use Rattle.duality.proofs.Classes.{optimal-range}
+use Rattle.duality.proofs.Numbers.{top-enough}
+
+-- The leads are within their limit.
+pub layout-within : (p : List ℕ) → WithinLayout p → Within (problemOf p) lead-limit
+unfolding problemOf
+layout-within p w = record {
+  left = λ i j a h g e. left-size p w i j h g e;
+  right = λ i j a h g e. right-size p w i j h g e;
+}
+
+-- The limit of spans is enough for them.
+pub layout-enough : (p : List ℕ) → WithinLayout p → 2 * (suc (problemOf p .n) * lead-limit) ≤ span-limit
+unfolding problemOf
+layout-enough p w = top-enough (nField p) lead-limit (omega (arith, problem-fits p .0 w .n-most))
+
+-- A class is found in few trials.
+pub trials-few : (p : List ℕ) → WithinLayout p → {class : ℕ} {span : Trop} {trials : ℕ} → Found (problemOf p) class span trials → trials ≤ most-trials
+unfolding problemOf
+trials-few p w (optimal {s = s} o) =
+    few-trials s (optimal-range (problemOf p) lead-limit span-limit (layout-within p w) (layout-enough p w) s o)
+trials-few p w (unbounded u) = omega arith
+trials-few p w (infeasible n) = omega arith

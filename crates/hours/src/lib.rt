@@ -1,4 +1,0 @@
-// Hours and minutes on the sheet: spans and stamps to text and back. Document 02, 2.7.
-pub mod limits;
-pub mod reader;
-pub mod writer;

@@ -1,4 +1,0 @@
-pub mod Leads
-pub mod Tables
-pub mod ReadProblem
-pub mod LeadTables

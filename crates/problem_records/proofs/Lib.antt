@@ -1,0 +1,5 @@
+pub mod Leads
+pub mod Tables
+pub mod QuestionTables
+pub mod ReadProblem
+pub mod LeadTables

@@ -1,0 +1,202 @@
+-- What judging and reading a problem answer: refused by its header, refused by a lead, within the layout.
+use Prim.Native.Nat.{ℕ, suc, _+_, _*_, _-_, _≤_, _<_}
+use mathlib.Core.Path.{_≡_, refl, ap, sym, _∙_}
+use mathlib.Core.Bool.{Bool, true, false}
+use mathlib.Core.Logic.{_⊎_, ⊎-elim}
+use mathlib.Core.List.{List}
+use native.Mathlib.Omega.{arith}
+use native.Mathlib.Nat.{mul-le-mul-left, mul-le-mul-right}
+use lib.ListN.{length, getD, drop, length-drop, List·getD-eq-default}
+use Rattle.base.proofs.Numbers.{nat-le-or-lt}
+use Rattle.definitions.specs.Limits.{problem-kind, questions-kind, problem-header, questions-header, questions-leads, signed-bytes}
+use Rattle.definitions.specs.Bytes.{Bytes, outcome}
+use Rattle.definitions.specs.ProblemRecord as Problems
+use Rattle.definitions.specs.ProblemRecord.{kindField, nField, mField, countField, leadsPlace, questionsAsked, layoutOf, rowPlace, leftPlace, rightPlace, leadsOf, headerRefusal, headerOutcome, refusalFor, problemRefusal, problemOutcome, WithinLayout, problemSize}
+use Rattle.definitions.specs.Questions.{alone, asking}
+use Rattle.definitions.proofs.Inputs.{header-none}
+use Rattle.definitions.proofs.Refusals.{or-else-suc, problem-fits, header-passes, kind-known}
+use Rattle.definitions.proofs.Questions.{several-passes}
+use Rattle.records.specs.declared.problem.Header.{Header}
+use Rattle.records.specs.declared.problem.Header.the-variants.{Told, Refused}
+use Rattle.records.specs.declared.problem.Layout.{Layout}
+use Rattle.records.specs.ProblemHeader.{layoutIn, headerOf}
+use Rattle.records.proofs.ProblemHeader.{HeaderFits, fits-of, header-refuses, header-told, answer-told, answer-refused}
+use Rattle.problem_records.specs.Tables.{runFits, cell, leftTable, rightTable, Laid, ProblemRead}
+use Rattle.problem_records.specs.Filling.{Framed, Tabled}
+use Rattle.problem_records.proofs.Tables.{is-listOf, cell-row, cell-past}
+use Rattle.problem_records.proofs.QuestionTables.{AskedTable, asked-left, asked-right}
+
+-- ---- judging
+
+-- The header is refused.
+pub refused-header : (several : Bool) (s : List ℕ) {r : Header} {k : ℕ} → headerOf r ≡ headerOutcome several s (length s) → r ≡ Refused k → headerOf r ≡ problemOutcome several s
+unfolding refusalFor headerOutcome problemOutcome
+refused-header several s e f =
+    let g = header-refuses several s (length s) e f in
+    let same : refusalFor several s ≡ headerRefusal several s (length s) = or-else-suc (headerRefusal several s (length s)) _ (omega arith) in
+    rw same e
+
+module _ (several : Bool) (s : List ℕ) {l : Layout} {count : ℕ} (h : HeaderFits several s (length s) l) (c : count ≡ 2 * ((l .n + 1) * (l .m + l .questions))) where
+  -- The run that is judged is all leads.
+  run-leads : runFits s count (l .leads) ≡ runFits s (2 * (suc (nField s) * (mField s + questionsAsked (kindField s) (countField s)))) (leadsPlace (kindField s))
+  run-leads =
+      let all-leads : count ≡ 2 * (suc (l .n) * (l .m + l .questions)) = omega arith in
+      rw (all-leads, h .n-is, h .m-is, h .leads-is, h .questions-is)
+
+  -- A lead does not fit: refusal 6.
+  pub refused-lead : false ≡ runFits s count (l .leads) → headerOf (Refused 6) ≡ problemOutcome several s
+  unfolding problemOutcome refusalFor leadsOf outcome headerOf
+  refused-lead e = rw (h .none, ← run-leads, ← e)
+
+  -- Every lead fits: no refusal.
+  pub judged-told : true ≡ runFits s count (l .leads) → headerOf (Told l) ≡ problemOutcome several s
+  unfolding problemOutcome refusalFor leadsOf
+  judged-told e =
+      let none : refusalFor several s ≡ 0 = rw (h .none, ← run-leads, ← e) in
+      rw (← h .layout-is) (header-told (refusalFor several s) l none)
+
+  -- They are few, and lie inside.
+  pub leads-inside : (l .leads ≤ questions-header) × (count ≤ questions-leads) × (l .leads + 4 * count ≤ length s)
+  leads-inside =
+      let most = mul-le-mul-right {m = l .n + 1} {n = 32} (l .m + l .questions) (omega (arith, h .n-most)) in (
+        ⊎-elim
+            (λ (k : kindField s ≡ problem-kind). rw (h .leads-is, k) (omega arith))
+            (λ (k : kindField s ≡ questions-kind). rw (h .leads-is, k) (omega arith))
+            (kind-known several (kindField s) (header-passes several s (length s) .0 (h .none) .kind-known)),
+        omega (arith, h .m-most, h .questions-most),
+        omega (arith, h .size-is),
+      )
+
+-- A layout is the answer for a problem within the layout.
+pub laid : {s : List ℕ} {r : Header} {l : Layout} → Bytes s → headerOf r ≡ problemOutcome false s → r ≡ Told l → Laid s (l .n) (l .m)
+unfolding problemOutcome
+laid {s} {l = l} b e f =
+    let g = answer-told (problemRefusal s) (layoutOf s) e f in
+    let n-is : nField s ≡ l .n = ap (λ (x : Problems.Layout). x .n) (sym (g .1)) in
+    let m-is : mField s ≡ l .m = ap (λ (x : Problems.Layout). x .m) (sym (g .1)) in
+    let p = problem-fits s .0 (g .0) in
+    record {
+      bytes = b;
+      within = g .0;
+      n-is = n-is;
+      m-is = m-is;
+      n-most = omega (arith, n-is, p .n-most);
+      m-most = omega (arith, m-is, p .m-most);
+      size-is = rw (← n-is, ← m-is) (p .size-is);
+    }
+
+-- ---- a problem within the layout, in tables
+
+-- What reading the tables asks, and what they then hold.
+pub laid-framed : {s : List ℕ} {n m : ℕ} {left right : List ℕ} → Laid s n m → length left ≡ 2048 → length right ≡ 2048 → Framed s n m left right
+laid-framed l e f = record { n-most = l .n-most; m-most = l .m-most; holds = omega (arith, l .size-is); left-room = e; right-room = f }
+
+pub left-tabled : {s : List ℕ} {n m : ℕ} {left right : List ℕ} → Laid s n m → Tabled s n m 2048 left right → left ≡ leftTable s
+unfolding leftTable
+left-tabled {s} {n} {m} {left} l t = rw (l .n-is, l .m-is) (is-listOf (cell (leftPlace n) s n m) 2048 left (t .left-size) (t .lefts))
+
+pub right-tabled : {s : List ℕ} {n m : ℕ} {left right : List ℕ} → Laid s n m → Tabled s n m 2048 left right → right ≡ rightTable s
+unfolding rightTable
+right-tabled {s} {n} {m} {right = right} l t = rw (l .n-is, l .m-is) (is-listOf (cell (rightPlace n) s n m) 2048 right (t .right-size) (t .rights))
+
+-- ---- reading
+
+-- What a record that nothing refuses tells.
+pub record Told-of (several : Bool) (s : List ℕ) (l : Layout) : Type 0 where
+  pub within : refusalFor several s ≡ 0
+  pub fits : HeaderFits several s (length s) l
+
+pub told-of : (several : Bool) {s : List ℕ} {r : Header} {l : Layout} → headerOf r ≡ problemOutcome several s → r ≡ Told l → Told-of several s l
+unfolding problemOutcome
+told-of several {s} e f =
+    let g = answer-told (refusalFor several s) (layoutOf s) e f in
+    record { within = g .0; fits = fits-of several s (length s) (header-none several s (g .0)) (g .1) }
+
+-- The problem is refused.
+pub refused-read : (several : Bool) (s : List ℕ) {r : Header} {k : ℕ} {left right : List ℕ} → headerOf r ≡ problemOutcome several s → r ≡ Refused k → ProblemRead several s left right r left right
+unfolding problemOutcome
+refused-read several s e f =
+    let g = answer-refused (refusalFor several s) (layoutOf s) e f in
+    record { result = e; left-kept = λ h. refl; right-kept = λ h. refl; left-read = λ w. absurd (omega arith); right-read = λ w. absurd (omega arith) }
+
+-- What reading the tables asks, of the bytes from where ten bytes stand before the leads.
+pub told-framed : {several : Bool} {s : List ℕ} {l : Layout} {left right : List ℕ} → Told-of several s l → length left ≡ 2048 → length right ≡ 2048
+    → Framed (drop (l .leads - problem-header) s) (l .n) (l .m) left right
+told-framed {s = s} {l} t e f = record {
+  n-most = t .fits .n-most;
+  m-most = t .fits .m-most;
+  holds =
+      let more = mul-le-mul-left {m = suc (l .m)} {n = l .m + l .questions} (suc (l .n)) (omega (arith, t .fits .questions-least)) in
+      rw (length-drop (l .leads - problem-header) s) (omega (arith, t .fits .size-is, t .fits .leads-least));
+  left-room = e;
+  right-room = f;
+}
+
+-- Tables of the rules and the first question, as they were read behind d bytes.
+module _ {several : Bool} {s : List ℕ} {l : Layout} {left right : List ℕ} (t : Told-of several s l) (b : Tabled (drop (l .leads - problem-header) s) (l .n) (l .m) 2048 left right) where
+  -- One question.
+  one-drop : kindField s ≡ problem-kind → l .leads - problem-header ≡ 0
+  one-drop k = let e : l .leads ≡ problem-header = rw (t .fits .leads-is, k) refl in omega arith
+
+  one-left : kindField s ≡ problem-kind → left ≡ leftTable (asking s 0)
+  unfolding leftTable
+  one-left k =
+      let d = one-drop k in
+      let own : asking s 0 ≡ s = rw k refl in
+      let c = rw d at (b .lefts) in
+      rw (own, ← t .fits .n-is, ← t .fits .m-is) (is-listOf (cell (leftPlace (l .n)) s (l .n) (l .m)) 2048 left (b .left-size) c)
+
+  one-right : kindField s ≡ problem-kind → right ≡ rightTable (asking s 0)
+  unfolding rightTable
+  one-right k =
+      let d = one-drop k in
+      let own : asking s 0 ≡ s = rw k refl in
+      let c = rw d at (b .rights) in
+      rw (own, ← t .fits .n-is, ← t .fits .m-is) (is-listOf (cell (rightPlace (l .n)) s (l .n) (l .m)) 2048 right (b .right-size) c)
+
+  -- Several.
+  several-drop : kindField s ≡ questions-kind → l .leads - problem-header ≡ 2
+  several-drop k = let e : l .leads ≡ questions-header = rw (t .fits .leads-is, k) refl in omega arith
+
+  first-row : (side : ℕ) (place : ℕ → ℕ → ℕ) → ((i j : ℕ) → place i j ≡ rowPlace problem-header (l .n) i + side + 4 * j) → (xs : List ℕ) → length xs ≡ 2048
+      → ((k : ℕ) → k < 2048 → getD xs k 0 ≡ cell place (drop 2 s) (l .n) (l .m) k) → AskedTable (drop 2 s) (l .n) (l .m) 0 side place xs
+  first-row side place is xs size cells = record {
+    size = size;
+    rules = λ k h. cells k (omega (arith, t .fits .m-most));
+    row = λ j h.
+        let first : l .m + 0 ≡ l .m = omega arith in
+        rw first (cells (32 * l .m + j) (omega (arith, t .fits .m-most)) ∙ cell-row place (drop 2 s) (l .n) (l .m) (l .m) j (rowPlace problem-header (l .n) (l .m) + side) (omega arith) h (is (l .m) j));
+    past = λ k h. ⊎-elim
+        (λ (q : 2048 ≤ k). List·getD-eq-default xs 0 (omega arith))
+        (λ (q : k < 2048). cells k q ∙ cell-past place (drop 2 s) (l .n) (l .m) k (omega arith))
+        (nat-le-or-lt 2048 k);
+  }
+
+  several-left : kindField s ≡ questions-kind → left ≡ leftTable (asking s 0)
+  several-left k =
+      let d = several-drop k in
+      let own : asking s 0 ≡ alone s 0 = rw k refl in
+      let v = several-passes several k (t .fits .none) in
+      let c = rw d at (b .lefts) in
+      rw own (asked-left s (v .asks) 0 (v .some) (rw (← t .fits .n-is, ← t .fits .m-is) (first-row 0 (leftPlace (l .n)) (λ i j. omega arith) left (b .left-size) c)))
+
+  several-right : kindField s ≡ questions-kind → right ≡ rightTable (asking s 0)
+  several-right k =
+      let d = several-drop k in
+      let own : asking s 0 ≡ alone s 0 = rw k refl in
+      let v = several-passes several k (t .fits .none) in
+      let c = rw d at (b .rights) in
+      rw own (asked-right s (v .asks) 0 (v .some) (rw (← t .fits .n-is, ← t .fits .m-is) (first-row (4 * (l .n + 1)) (rightPlace (l .n)) (λ i j. omega arith) right (b .right-size) c)))
+
+  either : (kindField s ≡ problem-kind) ⊎ (kindField s ≡ questions-kind)
+  either = kind-known several (kindField s) (header-passes several s (length s) .0 (t .fits .none) .kind-known)
+
+  -- The problem is read.
+  pub problem-read : {r : Header} {left₀ right₀ : List ℕ} → headerOf r ≡ problemOutcome several s → ProblemRead several s left₀ right₀ r left right
+  problem-read e = record {
+    result = e;
+    left-kept = λ q. absurd (omega (arith, t .within));
+    right-kept = λ q. absurd (omega (arith, t .within));
+    left-read = λ w. ⊎-elim one-left several-left either;
+    right-read = λ w. ⊎-elim one-right several-right either;
+  }

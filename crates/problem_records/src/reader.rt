@@ -1,0 +1,226 @@
+// A problem from its bytes: its leads judged, and read into two lent tables.
+ghost use mathlib.Core.Path.{_≡_};
+ghost use Prim.Native.Nat.{_+_, _*_, _-_, _<_, _≤_};
+ghost use mathlib.Core.Bool.{cond};
+ghost use lib.ListN.{length, getD};
+ghost use Rattle.base.specs.Filled.{FilledFrom};
+ghost use Rattle.definitions.specs.Limits.{lead-limit, signed-full, signed-bytes, highest-n, highest-m, most-questions, questions-header, questions-leads, questions-row, stride, table-size};
+ghost use Rattle.definitions.specs.Bytes.{tropField, blank-or-within};
+ghost use Rattle.definitions.specs.ProblemRecord.{leftPlace, problemOutcome};
+ghost use Rattle.records.specs.ProblemHeader.{headerOf};
+ghost use Rattle.problem_records.specs.Tables.{runFits, leadAt, ProblemRead};
+ghost use Rattle.problem_records.specs.Filling.{rowCell, RowOf, Framed, QuestionHeld, Tabled};
+use records::bytes::word_in;
+use records::limits::HIGHEST_N;
+use records::limits::LEAD_BYTES;
+use records::limits::LEAD_LIMIT;
+use records::limits::OFFSET_32;
+use records::limits::PROBLEM_HEADER;
+use records::limits::REFUSED_LEAD;
+use records::limits::STRIDE;
+use records::limits::TABLE;
+use records::offset::offset_32;
+use records::problem::Header;
+use records::problem::lead_count;
+use records::problem::read_header;
+
+// The limit of leads in 32 bits.
+const LEAD_LIMIT_32: u32 = LEAD_LIMIT as u32;
+
+// A 4-byte field holds a lead: blank, or within the limit.
+fn lead_fits(w: u32) -> bool
+    requires { ⌜ w < signed-full ⌝ }
+    ensures { λ r. ⌜ r ≡ blank-or-within lead-limit (tropField w) ⌝ }
+{
+    let k = offset_32(w);
+    if k == 0 {
+        return true;
+    }
+    if k < OFFSET_32 - LEAD_LIMIT_32 {
+        return false;
+    }
+    k <= OFFSET_32 + LEAD_LIMIT_32
+}
+
+// 0 where a 4-byte field holds a lead, else 1.
+fn misfit(w: u32) -> u32
+    requires { ⌜ w < signed-full ⌝ }
+    ensures { λ r. ⌜ (r ≡ cond (blank-or-within lead-limit (tropField w)) 0 1) × (r ≤ 1) ⌝ }
+{
+    if lead_fits(w) { 0 } else { 1 }
+}
+
+// Each of `count` leads of a problem from a place on is blank or within the limit. All are looked at, so that the loop has no
+// branch.
+fn leads_fit(bytes: &[u8], start: usize, count: usize) -> bool
+    requires { ⌜ (start ≤ questions-header) × (count ≤ questions-leads) × (start + signed-bytes * count ≤ length (now bytes)) ⌝ }
+    ensures { λ r. ⌜ r ≡ runFits (now (bytes .entry)) count start ⌝ }
+{
+    let mut at = start;
+    let mut misfits = 0u32;
+    for _ in 0..count {
+        misfits += misfit(word_in(bytes, at));
+        at += LEAD_BYTES;
+    }
+    misfits == 0
+}
+
+// The lead at a place of the bytes, as an offset number. Public for `closed_walks::arcs`, `strategy_tests::certify`.
+pub fn lead_in(bytes: &[u8], at: usize) -> u32
+    requires { ⌜ at + signed-bytes ≤ length (now bytes) ⌝ }
+    ensures { λ r. ⌜ (r ≡ leadAt (now (bytes .entry)) at) × (r < signed-full) ⌝ }
+{
+    offset_32(word_in(bytes, at))
+}
+
+// Where the leads of row i start, behind the ten bytes of a header, in a problem of n + 1 variables. Public for `closed_walks::arcs`, `plan_tests`,
+// `strategy_tests::certify`.
+pub fn row_place(n: usize, i: usize) -> usize
+    requires { ⌜ (n ≤ highest-n) × (i ≤ highest-m + most-questions) ⌝ }
+    ensures { λ r. ⌜ (r ≡ leftPlace n i 0) × (r ≤ questions-row) ⌝ }
+{
+    PROBLEM_HEADER + 2 * LEAD_BYTES * (i * (n + 1))
+}
+
+// `count` leads from a place of the bytes, then blanks.
+fn row_of(bytes: &[u8], at: usize, count: usize) -> [u32; STRIDE]
+    requires { ⌜ (count ≤ stride) × (at + signed-bytes * count ≤ length (now bytes)) ⌝ }
+    ensures { λ r. ⌜ RowOf (λ j. leadAt (now (bytes .entry)) (at + signed-bytes * j)) count r ⌝ }
+{
+    let mut row = [0u32; STRIDE];
+    let mut from = at;
+    for j in 0..count {
+        row[j] = lead_in(bytes, from);
+        from += LEAD_BYTES;
+    }
+    row
+}
+
+// n + 1 leads from a place of the bytes, then blanks. Rows of the full width have a call of their own, which is compiled for
+// that length.
+fn leads_of(bytes: &[u8], at: usize, n: usize) -> [u32; STRIDE]
+    requires { ⌜ (n ≤ highest-n) × (at + signed-bytes * (n + 1) ≤ length (now bytes)) ⌝ }
+    ensures { λ r. ⌜ RowOf (λ j. leadAt (now (bytes .entry)) (at + signed-bytes * j)) (n + 1) r ⌝ }
+{
+    if n == HIGHEST_N {
+        return row_of(bytes, at, STRIDE);
+    }
+    row_of(bytes, at, n + 1)
+}
+
+// A row is copied into a table, from an element on.
+fn put_row(row: &[u32; STRIDE], table: &mut [u32], base: usize)
+    requires { ⌜ (length (now row) ≡ stride) × (base + stride ≤ length (now table)) ⌝ }
+    ensures { λ _. ⌜ FilledFrom (λ j. getD (now (row .entry)) j 0) base stride (now (table .entry)) (now (table .exit)) ⌝ }
+{
+    for j in 0..STRIDE {
+        table[base + j] = row[j];
+    }
+}
+
+// `count` elements of a table from one on are set to 0, blank.
+fn clear(table: &mut [u32], base: usize, count: usize)
+    requires { ⌜ base + count ≤ length (now table) ⌝ }
+    ensures { λ _. ⌜ FilledFrom (λ _. 0) base count (now (table .entry)) (now (table .exit)) ⌝ }
+{
+    for j in 0..count {
+        table[base + j] = 0;
+    }
+}
+
+// A row of a table: n + 1 leads from a place of the bytes, then blanks.
+fn read_row(bytes: &[u8], at: usize, n: usize, table: &mut [u32], base: usize)
+    requires { ⌜ (n ≤ highest-n) × (at + signed-bytes * (n + 1) ≤ length (now bytes)) × (base + stride ≤ length (now table)) ⌝ }
+    ensures { λ _. ⌜ FilledFrom (rowCell (now (bytes .entry)) at n) base stride (now (table .entry)) (now (table .exit)) ⌝ }
+{
+    let row = leads_of(bytes, at, n);
+    put_row(&row, table, base);
+}
+
+// The leads of n + 1 variables in m + 1 rows, into the first m + 1 rows of both tables.
+fn read_rows(bytes: &[u8], n: usize, m: usize, left: &mut [u32], right: &mut [u32])
+    requires { ⌜ Framed (now bytes) n m (now left) (now right) ⌝ }
+    ensures { λ _. ⌜ Tabled (now (bytes .entry)) n m (stride * (m + 1)) (now (left .exit)) (now (right .exit)) ⌝ }
+{
+    let step = LEAD_BYTES * (n + 1);
+    let mut at = PROBLEM_HEADER;
+    for i in 0..m + 1 {
+        read_row(bytes, at, n, left, STRIDE * i);
+        at += step;
+        read_row(bytes, at, n, right, STRIDE * i);
+        at += step;
+    }
+}
+
+// The leads of n + 1 variables in m + 1 rows, into both tables; what lies past them is blank. Public for the checker's
+// `check`.
+pub fn read_tables(bytes: &[u8], n: usize, m: usize, left: &mut [u32], right: &mut [u32])
+    requires { ⌜ Framed (now bytes) n m (now left) (now right) ⌝ }
+    ensures { λ _. ⌜ Tabled (now (bytes .entry)) n m table-size (now (left .exit)) (now (right .exit)) ⌝ }
+{
+    read_rows(bytes, n, m, left, right);
+    let used = STRIDE * (m + 1);
+    clear(left, used, TABLE - used);
+    clear(right, used, TABLE - used);
+}
+
+// Question q, whose row stands behind m rules and q questions, into the row of the question of both tables. Public for what is to answer
+// several questions (document 02, 2.1); `asked-left` and `asked-right` of `QuestionTables` say what the tables then are.
+pub fn read_question(
+    bytes: &[u8],
+    n: usize,
+    m: usize,
+    q: usize,
+    left: &mut [u32; TABLE],
+    right: &mut [u32; TABLE],
+)
+    requires { ⌜ QuestionHeld (now bytes) n m q (now left) (now right) ⌝ }
+    ensures { λ _. ⌜ FilledFrom (rowCell (now (bytes .entry)) (leftPlace n (m + q) 0) n) (32 * m) 32 (now (left .entry)) (now (left .exit)) × FilledFrom (rowCell (now (bytes .entry)) (leftPlace n (m + q) 0 + 4 * (n + 1)) n) (32 * m) 32 (now (right .entry)) (now (right .exit)) ⌝ }
+{
+    let at = row_place(n, m + q);
+    read_row(bytes, at, n, left, STRIDE * m);
+    read_row(bytes, at + LEAD_BYTES * (n + 1), n, right, STRIDE * m);
+}
+
+// The header of a problem within the layout, of several questions or one: where things stand in it, or the first of refusals 1 to 6
+// and 15 that applies. Public for the checker's `check` and `input`.
+pub fn judge_problem(bytes: &[u8], several: bool) -> Header
+    ensures { λ r. ⌜ headerOf r ≡ problemOutcome several (now (bytes .entry)) ⌝ }
+{
+    let header = read_header(bytes, bytes.len(), several);
+    let Header::Told(layout) = header else {
+        return header;
+    };
+    if !leads_fit(
+        bytes,
+        layout.leads,
+        lead_count(layout.n, layout.m + layout.questions),
+    ) {
+        return Header::Refused(REFUSED_LEAD);
+    }
+    header
+}
+
+// A problem from its bytes, into two lent tables: its layout, with the leads of its rules and of its first question as offset numbers
+// in rows of 32, or the first of refusals 1 to 6 and 15 that applies, where several questions may be asked or one. A refused problem leaves both tables as they are.
+pub fn read_problem(
+    bytes: &[u8],
+    several: bool,
+    left: &mut [u32; TABLE],
+    right: &mut [u32; TABLE],
+) -> Header
+    ensures { λ r. ⌜ ProblemRead several (now (bytes .entry)) (now (left .entry)) (now (right .entry)) r (now (left .exit)) (now (right .exit)) ⌝ }
+{
+    let header = judge_problem(bytes, several);
+    let Header::Told(layout) = header else {
+        return header;
+    };
+    read_tables(
+        &bytes[layout.leads - PROBLEM_HEADER..],
+        layout.n,
+        layout.m,
+        left,
+        right,
+    );
+    header
+}

@@ -1,0 +1,7 @@
+pub mod Rows
+pub mod Plans
+pub mod Classes
+pub mod Picks
+pub mod RowPicks
+pub mod Certificates
+pub mod Requests

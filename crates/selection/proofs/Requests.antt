@@ -1,0 +1,50 @@
+-- What document 02's requests ask of a selection, each in a line or two by what stands below.
+use Prim.Native.Nat.{ℕ}
+use lib.IntN.{ℤ}
+use Rattle.definitions.specs.Problem.{Problem, Point, Optimal, Infeasible}
+use Rattle.definitions.specs.Certificate.{Strategy, Anchor, AcceptedOptimal, AcceptedInfeasible}
+use Rattle.definitions.specs.Selection.{selected, Choice, LeftOut, BlankLeft, BlankRow, SameClass, renumbered}
+use Rattle.duality.proofs.Classes.{accepted-optimal, accepted-infeasible}
+use Rattle.selection.specs.Chosen.{PicksChosen}
+use Rattle.selection.specs.Certificates.{SameCertificates}
+use Rattle.selection.proofs.Rows.{renumber-none-above}
+use Rattle.selection.proofs.Plans.{left-blank-kept, blank-kept}
+use Rattle.selection.proofs.Classes.{both-optimal, both-infeasible, infeasible-all, optimal-all, class-selected}
+use Rattle.selection.proofs.Certificates.{optimal-accepted-selected, infeasible-accepted-selected, same-certificates}
+
+module _ {p : Problem} {f : ℕ → ℕ} {m′ : ℕ} (c : Choice p f m′) where
+  -- ---- 2.5: the problem with only the rules picked by reached moments, and the question, has the same class and span
+
+  -- Class 1.
+  pub least-behind :
+      {s : ℤ} {x : Point} {picks : Strategy} → AcceptedOptimal p s x picks → PicksChosen Anchor p f m′ picks
+      → Optimal (selected p f m′) s × SameClass p (selected p f m′)
+  least-behind {s} {x} {picks} a chosen =
+      let o : Optimal (selected p f m′) s = accepted-optimal (selected p f m′) s x (record {
+        picks = renumbered p f m′ picks;
+        none-above = λ j h. renumber-none-above p f m′ (picks j);
+        accepted = optimal-accepted-selected c chosen a;
+      }) in
+      (o, both-optimal (optimal-all c (a .feasible) (a .value-is) o) o)
+
+  -- Class 3.
+  pub none-behind :
+      {picks : Strategy} → AcceptedInfeasible p picks → PicksChosen Anchor p f m′ picks
+      → Infeasible (selected p f m′) × SameClass p (selected p f m′)
+  none-behind {picks} a chosen =
+      let i : Infeasible (selected p f m′) = accepted-infeasible (selected p f m′) (record {
+        picks = renumbered p f m′ picks;
+        none-above = λ j h. renumber-none-above p f m′ (picks j);
+        accepted = infeasible-accepted-selected c chosen a;
+      }) in
+      (i, both-infeasible (infeasible-all c i) i)
+
+  -- ---- 2.6: with rules dropped whose left lists are all blank, class and least span are the same
+
+  pub blank-left-dropped : ((i : ℕ) → LeftOut p f m′ i → BlankLeft p i) → SameClass p (selected p f m′)
+  blank-left-dropped blank = class-selected c (left-blank-kept blank)
+
+  -- ---- 2.10: class and span are those of the problem that holds only the rules in force, and so are the certificates
+
+  pub suspended-out : ((i : ℕ) → LeftOut p f m′ i → BlankRow p i) → SameClass p (selected p f m′) × SameCertificates p f m′
+  suspended-out blank = (class-selected c (blank-kept blank), same-certificates c (λ i o. blank i o .left))

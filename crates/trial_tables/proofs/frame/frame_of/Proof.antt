@@ -1,0 +1,14 @@
+use native.Mathlib.Omega.{arith}
+use Rattle.trial_tables.proofs.Framing.{framed}
+use borrow.Author.Needs.{needs}
+use Rattle.trial_tables.proofs.frame.frame_of.Statement.{statement}
+use Rattle.trial_tables.proofs.frame.frame_of.Tie as tie
+
+pub frame-of-spec : {M : Type 1} → statement M
+frame-of-spec =
+    tie.close (tie.spec
+    (λ c. search needs)
+    (λ c κs. search needs)
+    (λ c κs. let p = c .before .pre in (p .lefts .size, omega (arith, p .m-most)))
+    (λ c κs. let p = c .before .before .pre in (p .rights .size, omega (arith, p .m-most)))
+    (λ c. search framed))

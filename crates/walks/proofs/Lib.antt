@@ -1,6 +1,0 @@
-pub mod Decides
-pub mod Lists
-pub mod Holding
-pub mod ArcTables
-pub mod Order
-pub mod ClosedWalks

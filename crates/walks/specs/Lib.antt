@@ -1,7 +1,0 @@
-pub mod Decides
-pub mod Lists
-pub mod Tables
-pub mod Gains
-pub mod GainRound
-pub mod Arcs
-pub mod Order
