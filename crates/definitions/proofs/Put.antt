@@ -82,3 +82,8 @@ put-part l at vs h =
     let whole : take (length l - at) (drop at l) ≡ drop at l = rw size (take-length (drop at l)) in
     let none : drop (length l - at) (drop at l) ≡ [] = rw size (drop-length (drop at l)) in
     rw (whole, none, append-nil, zero-add, drop-drop) refl
+
+-- Values put at the start stand in front.
+pub put-front : (l vs : List ℕ) → put l 0 vs ≡ vs ++ drop (length vs) l
+unfolding put
+put-front l vs = rw zero-add refl

@@ -2,7 +2,7 @@
 use Prim.Native.Nat.{ℕ, zero, suc, _+_, _*_, _≤_, _<_}
 use mathlib.Core.Path.{_≡_, refl, ap, sym, subst, subst₂, subst₃, _∙_}
 use mathlib.Core.Bool.{true, and-eq-true-iff}
-use mathlib.Core.Logic.{_↔_}
+use mathlib.Core.Logic.{_↔_, ⊎-elim}
 use mathlib.Core.List.{List, [], _++_}
 use native.Mathlib.Omega.{arith}
 use native.Mathlib.Nat.{zero-add}
@@ -10,14 +10,15 @@ use lib.ListN.{length, take, length-append}
 use borrow.Author.Tests.{eqb-true}
 use Rattle.definitions.specs.Limits.{highest-n, highest-m, problem-kind, questions-kind, answer-most}
 use Rattle.definitions.specs.Tropical.{Trop}
+use Rattle.definitions.specs.Bytes.{Bytes}
 use Rattle.definitions.specs.Problem.{Problem}
 use Rattle.definitions.specs.ProblemRecord.{WithinLayout, WithinLayouts, recordRefusal, problemOf, kindField, nField, mField, countField, questionsAsked}
-use Rattle.definitions.specs.Questions.{alone}
+use Rattle.definitions.specs.Questions.{alone, asking}
 use Rattle.definitions.specs.AnswerRecord.{Answer, known-class, rightCounts, stampCount, pickCount, answerSize, answerBytes, written}
 use Rattle.definitions.specs.Solved as Results
 use Rattle.definitions.specs.Solved.{Solved, answered, all-answered, Found, optimal, unbounded, infeasible, Answers, AnswersInTurn, no-question, one-more, Solves, solved, all-solved, engineRefusal}
-use Rattle.definitions.proofs.Refusals.{WriterFits, form-fits, or-else-none, enough-clause, problem-fits, header-passes, record-fits, one-question}
-use Rattle.definitions.proofs.Questions.{several-passes, alone-n, alone-m, alone-within}
+use Rattle.definitions.proofs.Refusals.{WriterFits, form-fits, or-else-none, enough-clause, problem-fits, header-passes, record-fits, kind-known, one-question}
+use Rattle.definitions.proofs.Questions.{several-passes, alone-n, alone-m, alone-within, alone-bytes}
 use Rattle.definitions.proofs.RoundTrip.{answer-length, answer-length-most, size-most}
 use Rattle.definitions.proofs.Put.{take-put, length-put}
 
@@ -135,6 +136,27 @@ pub one-asked : (p : List ℕ) → kindField p ≡ questions-kind → WithinLayo
 one-asked p k w q h =
     let v = several-passes true k (header-passes true p (length p) .1 (record-fits true p .0 w .header)) in
     record { within = alone-within p k w q h; n-is = alone-n p (v .asks) q h; m-is = alone-m p (v .asks) q h }
+
+-- The record of its first question, or the record itself where it asks one.
+pub record FirstAsked (p : List ℕ) : Type 0 where
+  pub within : WithinLayout (asking p 0)
+  pub n-is : nField (asking p 0) ≡ nField p
+  pub m-is : mField (asking p 0) ≡ mField p
+  pub bytes : Bytes p → Bytes (asking p 0)
+
+pub first-asked : (p : List ℕ) → WithinLayouts p → FirstAsked p
+first-asked p w =
+    let passes = record-fits true p .0 w .header in
+    ⊎-elim
+    (λ (k : kindField p ≡ problem-kind).
+    let own : asking p 0 ≡ p = rw k refl in
+    record { within = rw own (sym (one-question p k) ∙ w); n-is = ap nField own; m-is = ap mField own; bytes = λ b. rw own b })
+    (λ (k : kindField p ≡ questions-kind).
+    let own : asking p 0 ≡ alone p 0 = rw k refl in
+    let v = several-passes true k (header-passes true p (length p) .1 passes) in
+    let o = one-asked p k w 0 (v .some) in
+    record { within = rw own (o .within); n-is = rw own (o .n-is); m-is = rw own (o .m-is); bytes = λ b. rw own (alone-bytes p 0 b) })
+    (kind-known true (kindField p) (passes .kind-known))
 
 -- An answer to it is one that the writer takes with the record's n and m.
 pub asked-takes : {p : List ℕ} {q : ℕ} → OneAsked p q → {class : ℕ} {span : Trop} {trials : ℕ} (a : Answer) → Answers (problemOf (alone p q)) class span trials a
