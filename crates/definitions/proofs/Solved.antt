@@ -8,7 +8,7 @@ use native.Mathlib.Omega.{arith}
 use native.Mathlib.Nat.{zero-add}
 use lib.ListN.{length, take, length-append}
 use borrow.Author.Tests.{eqb-true}
-use Rattle.definitions.specs.Limits.{highest-n, highest-m, problem-kind, questions-kind, answer-most}
+use Rattle.definitions.specs.Limits.{highest-n, highest-m, most-questions, problem-kind, questions-kind, answer-most}
 use Rattle.definitions.specs.Tropical.{Trop}
 use Rattle.definitions.specs.Bytes.{Bytes}
 use Rattle.definitions.specs.Problem.{Problem}
@@ -17,7 +17,7 @@ use Rattle.definitions.specs.Questions.{alone, asking}
 use Rattle.definitions.specs.AnswerRecord.{Answer, known-class, rightCounts, stampCount, pickCount, answerSize, answerBytes, written}
 use Rattle.definitions.specs.Solved as Results
 use Rattle.definitions.specs.Solved.{Solved, answered, all-answered, Found, optimal, unbounded, infeasible, Answers, AnswersInTurn, no-question, one-more, Solves, solved, all-solved, engineRefusal}
-use Rattle.definitions.proofs.Refusals.{WriterFits, form-fits, or-else-none, enough-clause, problem-fits, header-passes, record-fits, kind-known, one-question}
+use Rattle.definitions.proofs.Refusals.{WriterFits, form-fits, or-else-none, enough-clause, problem-fits, header-passes, record-fits, kind-known, few-questions, one-question}
 use Rattle.definitions.proofs.Questions.{several-passes, alone-n, alone-m, alone-within, alone-bytes}
 use Rattle.definitions.proofs.RoundTrip.{answer-length, answer-length-most, size-most}
 use Rattle.definitions.proofs.Put.{take-put, length-put}
@@ -74,7 +74,16 @@ none-refused p room =
       λ h. or-else-none (recordRefusal p) _ .1 (h .0, room-clause .1 (h .1, refl)),
     )
 
--- The same for a problem of one question.
+-- At most eight questions are asked.
+pub asked-few : (p : List ℕ) → WithinLayouts p → questionsAsked (kindField p) (countField p) ≤ most-questions
+asked-few p w =
+    let passes = record-fits true p .0 w .header in
+    ⊎-elim
+    (λ (k : kindField p ≡ problem-kind). rw k (omega arith))
+    (λ (k : kindField p ≡ questions-kind). rw k (few-questions p (length p) k passes .few))
+    (kind-known true (kindField p) (passes .kind-known))
+
+-- Of a problem of one question: it is within the layout, and the buffer holds one answer.
 pub one-refused : (p : List ℕ) (room : ℕ) → kindField p ≡ problem-kind → (engineRefusal p room ≡ 0) ↔ (WithinLayout p × (answer-most ≤ room))
 one-refused p room k =
     let asked : questionsAsked (kindField p) (countField p) * answer-most ≡ answer-most = rw k refl in

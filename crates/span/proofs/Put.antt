@@ -1,21 +1,19 @@
 -- What the span program puts out is what document 01 says of its input.
 use Prim.Native.Nat.{ℕ, zero, suc, _+_, _*_, _≤_, _<_}
 use mathlib.Core.Path.{_≡_, refl, ap, sym, subst, _∙_}
-use mathlib.Core.Bool.{true}
-use mathlib.Core.Logic.{⊎-elim}
 use mathlib.Core.List.{List}
 use native.Mathlib.Omega.{arith}
 use native.Mathlib.Nat.{mul-le-mul-right}
 use lib.ListN.{length, take, length-take}
-use Rattle.definitions.specs.Limits.{answer-most, most-questions, problem-kind, questions-kind}
+use Rattle.definitions.specs.Limits.{answer-most, most-questions}
 use Rattle.definitions.specs.Bytes.{or-else}
-use Rattle.definitions.specs.ProblemRecord.{recordRefusal, WithinLayouts, kindField, countField, questionsAsked}
+use Rattle.definitions.specs.ProblemRecord.{recordRefusal, kindField, countField, questionsAsked}
 use Rattle.definitions.specs.AnswerRecord.{written}
 use Rattle.definitions.specs.Programs.{SpanOutput, refusal, answer, answers, refusedLine}
 use Rattle.definitions.specs.Solved as Results
 use Rattle.definitions.specs.Solved.{Solves, turned-away, solved, all-solved, engineRefusal}
-use Rattle.definitions.proofs.Refusals.{or-else-suc, record-fits, kind-known, few-questions, one-question}
-use Rattle.definitions.proofs.Solved.{none-refused}
+use Rattle.definitions.proofs.Refusals.{or-else-suc, one-question}
+use Rattle.definitions.proofs.Solved.{none-refused, asked-few}
 use Rattle.definitions.proofs.Put.{length-put}
 use Rattle.engine.specs.Outcome.{solvedOf}
 use Rattle.engine.proofs.Outcomes.{own-wrote, own-wrote-all}
@@ -23,15 +21,6 @@ use Rattle.engine.specs.declared.solve.Solved.{Solved}
 use Rattle.engine.specs.declared.solve.Solved.the-variants.{Refused, Answered, AllAnswered}
 use Rattle.printing.specs.Text.{Output}
 use Rattle.span.specs.Shown.{out-most, Shown, shownRecords}
-
--- At most eight questions are asked.
-asked-few : (p : List ℕ) → WithinLayouts p → questionsAsked (kindField p) (countField p) ≤ most-questions
-asked-few p w =
-    let passes = record-fits true p .0 w .header in
-    ⊎-elim
-    (λ (k : kindField p ≡ problem-kind). rw k (omega arith))
-    (λ (k : kindField p ≡ questions-kind). rw k (few-questions p (length p) k passes .few))
-    (kind-known true (kindField p) (passes .kind-known))
 
 -- With a buffer that has room for eight answers the engine's refusal is the problem's.
 own-refusal : (p : List ℕ) (room k : ℕ) → out-most ≤ room → engineRefusal p room ≡ k → recordRefusal p ≡ k
