@@ -23,9 +23,9 @@ fn ran(command: &mut Command) -> String {
 
 fn try_example(source: &Path) {
     let built = std::env::temp_dir().join(format!("span-c-{}", std::process::id()));
-    ran(Command::new("cc")
-        .args(["-std=c11", "-Wall", "-Wextra", "-Werror", "-pedantic", "-I", "..", "-o"])
-        .args([&built, source, &archive()]));
+    let mut build = Command::new("cc");
+    build.args(["-std=c11", "-Wall", "-Wextra", "-Werror", "-pedantic", "-I", "..", "-o"]);
+    ran(build.args([&built, source, &archive()]));
     let expected = printed(&fs::read_to_string(source).expect("the example's source"));
     let found = ran(&mut Command::new(&built));
     let _ = fs::remove_file(&built);
