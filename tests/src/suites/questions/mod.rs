@@ -116,7 +116,7 @@ pub fn run(tally: &mut Tally) {
     answered::run(tally, &mut random);
     refused::run(tally, &mut random);
     piped::run(tally, &mut random);
-    for what in ["with answers of several classes", "18,188 bytes through the span program"] {
+    for what in ["with answers of several classes", "of 18,188 bytes through the span program"] {
         seen(tally, what);
     }
     for refusal in [0, 1, 2, 3, 4, 5, 6, 7, 15] {

@@ -25,7 +25,7 @@ pub fn run(tally: &mut Tally, random: &mut Random) {
         let expected = records(&answers.iter().collect::<Vec<_>>());
         tally.same("the span program", programs::span(&bytes), Ok(expected.clone()), &bytes, &expected);
         tally.count(if bytes.len() == 18_188 {
-            "18,188 bytes through the span program"
+            "of 18,188 bytes through the span program"
         } else {
             "through the span program"
         });

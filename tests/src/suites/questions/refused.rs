@@ -49,6 +49,21 @@ fn refused_by(random: &mut Random, applies: impl Fn(u64) -> bool) -> (Vec<u8>, u
     (bytes, length)
 }
 
+/// Any bytes and a buffer of any length: the engine takes kinds 1 and 3, the checker and the package's `solve` kind 1 alone.
+fn tried(tally: &mut Tally, random: &mut Random, problem: &[u8], length: usize) {
+    engine(tally, random, problem, length);
+    checker(tally, problem, &[]);
+    let expected = match paper::read_problem(problem) {
+        Err(refusal) => refusal,
+        Ok(_) if length < 206 => 7,
+        Ok(_) => 0,
+    };
+    let mut buffer = vec![0xA5; length];
+    let found = span::solve(problem, &mut buffer).map_or_else(|refusal| refusal.number as u64, |_| 0);
+    tally.same("solve", found, expected, problem, &[]);
+    tally.same("the buffer of solve", found == 0 || buffer.iter().all(|byte| *byte == 0xA5), true, problem, &buffer);
+}
+
 /// Every set of refusals from 2 on: the first in the order is returned, and nothing is written.
 fn orders(tally: &mut Tally, random: &mut Random) {
     for set in 0..1 << ORDER.len() {
@@ -59,8 +74,7 @@ fn orders(tally: &mut Tally, random: &mut Random) {
             let (bytes, length) = refused_by(random, applies);
             let found = span::raw::solve(&bytes, &mut vec![0; length]) & 255;
             tally.same("the first refusal that applies", found, first, &bytes, &[]);
-            engine(tally, random, &bytes, length);
-            checker(tally, &bytes, &[]);
+            tried(tally, random, &bytes, length);
             tally.count("sets of refusals");
         }
     }
@@ -76,8 +90,7 @@ fn counts(tally: &mut Tally, random: &mut Random) {
             mend_length(&mut bytes);
             let found = span::raw::solve(&bytes, &mut []);
             tally.same("a record that ends before its count", found, if above { 4 } else { 5 }, &bytes, &[]);
-            engine(tally, random, &bytes, 206);
-            checker(tally, &bytes, &[]);
+            tried(tally, random, &bytes, 206);
             tally.count("records of 10 and 11 bytes");
         }
     }
@@ -99,7 +112,7 @@ fn counts(tally: &mut Tally, random: &mut Random) {
         for count in [0, 1, 7, 8, 9] {
             let mut bytes = bytes.clone();
             bytes[10..12].copy_from_slice(&[count, 0]);
-            engine(tally, random, &bytes, 8 * 206);
+            tried(tally, random, &bytes, 8 * 206);
         }
     }
 }
@@ -145,19 +158,17 @@ fn damage(tally: &mut Tally, random: &mut Random) {
     let good = any_questions(random, 3, 3, 3).bytes();
     for cut in 0..good.len() {
         let mut part = good[..cut].to_vec();
-        engine(tally, random, &part, 3 * 206);
-        checker(tally, &part, &[]);
+        tried(tally, random, &part, 3 * 206);
         if cut >= 4 {
             mend_length(&mut part);
-            engine(tally, random, &part, 3 * 206);
+            tried(tally, random, &part, 3 * 206);
         }
     }
     for place in 0..12 {
         for value in 0..=255 {
             let mut other = good.clone();
             other[place] = value;
-            engine(tally, random, &other, 3 * 206);
-            checker(tally, &other, &[]);
+            tried(tally, random, &other, 3 * 206);
         }
     }
     for round in 0..if tally.long { 1_000_000 } else { 30_000 } {
@@ -169,8 +180,7 @@ fn damage(tally: &mut Tally, random: &mut Random) {
             bad[10] = random.below(10) as u8;
         }
         let length = if random.chance(1, 2) { 206 * count } else { random.below(1_700) };
-        engine(tally, random, &bad, length);
-        checker(tally, &bad, &[]);
+        tried(tally, random, &bad, length);
     }
 }
 
