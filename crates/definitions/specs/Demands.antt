@@ -294,14 +294,17 @@ OwnAnswers engine check =
 
 -- ---- several questions
 
--- Document 02, 2.1: demands 2 and 3 for each question with its kind 1 problem. The answer to question q, in `size` bytes of the engine's
--- buffer from `at` on: class and least span of the theory, in at most 23 trials; it reads back as itself; and the checker accepts it.
+-- Document 02, 2.1: demands 2 and 3 for each question with its kind 1 problem, which is within the layout, so that all that they say of such a
+-- problem holds of it. The answer to question q, in `size` bytes of the engine's buffer from `at` on: class and least span of the
+-- theory, in at most 23 trials; it reads back as itself; and the checker accepts it.
 pub record QuestionAnswered (check : Checker) (read : Reader) (p buffer : List ℕ) (q at size trials : ℕ) : Type 0 where
   pub class : ℕ
   pub span : Trop
   pub answer : Answer
+  pub within : WithinLayout (alone p q)
   pub found : Found (problemOf (alone p q)) class span trials
   pub few : trials ≤ most-trials
+  pub size-is : size ≡ answerSize class (nField p) (mField p)
   pub bytes-are : part buffer at size ≡ answerBytes (nField p) answer
   pub reads : read .reading (part buffer at size) (nField p) (mField p) ≡ gives answer
   pub class-is : answer .class ≡ class

@@ -73,7 +73,7 @@ pub record Turns (s : List ℕ) (q at trials : ℕ) (before after left right : L
   pub short : at ≤ q * answer-most
   pub same : length after ≡ length before
 
--- The trials made for the problem in the bytes: none where it is refused, else at least one and few.
+-- The trials made for the problem of one question in the bytes: none where it is refused, else at least one and few.
 pub record TrialsMade (p : List ℕ) (r : ℕ) : Type 0 where
   pub refused : 0 < problemRefusal p → r ≡ 0
   pub some : WithinLayout p → 0 < r

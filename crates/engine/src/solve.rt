@@ -1,9 +1,9 @@
 // The engine on bytes: refusals 1 to 7 and 15 first, in order; then the answer, or those to several questions one after another, written
 // into the lent buffer.
 ghost use mathlib.Core.Path.{_≡_};
-ghost use Prim.Native.Nat.{ℕ, _≤_};
+ghost use Prim.Native.Nat.{ℕ, _*_, _≤_};
 ghost use lib.ListN.{length};
-ghost use Rattle.definitions.specs.Limits.{answer-most};
+ghost use Rattle.definitions.specs.Limits.{answer-most, most-questions};
 ghost use Rattle.definitions.specs.AnswerRecord.{answerSize, answerBytes, written};
 ghost use Rattle.definitions.specs.Problem.{Problem};
 ghost use Rattle.definitions.specs.Solved.{Solves};
@@ -107,6 +107,14 @@ fn solve_questions(
     Solved::AllAnswered(layout.questions, trials, at)
 }
 
+// The room that the answers to so many questions ask for, whichever classes are due.
+fn room_for(questions: usize) -> usize
+    requires { ⌜ questions ≤ most-questions ⌝ }
+    ensures { λ r. ⌜ r ≡ questions * answer-most ⌝ }
+{
+    questions * ANSWER_MOST
+}
+
 // The answer of the problem in the bytes, or the answers to its questions, written into the lent buffer; a refusal leaves the
 // buffer as it was.
 pub fn solve(problem: &[u8], answer: &mut [u8]) -> Solved
@@ -118,7 +126,7 @@ pub fn solve(problem: &[u8], answer: &mut [u8]) -> Solved
     let Header::Told(layout) = header else {
         return Solved::Refused(problem_refusal(header));
     };
-    if answer.len() < layout.questions * ANSWER_MOST {
+    if answer.len() < room_for(layout.questions) {
         return Solved::Refused(REFUSED_ROOM);
     }
     if layout.kind == QUESTIONS_KIND {

@@ -25,8 +25,8 @@ use Rattle.definitions.proofs.Put.{put-front, drop-put}
 use Rattle.definitions.proofs.Inputs.{header-most, header-none}
 use Rattle.definitions.proofs.Questions.{alone-bytes}
 use Rattle.definitions.proofs.Refusals.{or-else-none, problem-fits}
-use Rattle.definitions.proofs.RoundTrip.{answer-back, answer-accepted}
-use Rattle.definitions.proofs.Solved.{answer-takes, record-stands, result-parts, none-refused, one-refused, OneAsked, one-asked}
+use Rattle.definitions.proofs.RoundTrip.{answer-back, answer-accepted, answer-length}
+use Rattle.definitions.proofs.Solved.{answer-takes, record-stands, result-parts, none-refused, one-refused, OneAsked, one-asked, asked-takes}
 use Rattle.checker.proofs.Accepting.{record-slice}
 use Rattle.duality.proofs.SmallLeads.{trials-few}
 
@@ -171,8 +171,10 @@ module _ (check : Checker) (judges : CheckerJudges check) (read : Reader) (reads
         class = _;
         span = _;
         answer = a;
+        within = o .within;
         found = ans .found;
         few = trials-few (alone p q) (o .within) (ans .found);
+        size-is = answer-length a (nField p) (mField p) answer-most (asked-takes o a ans) ∙ ap (λ (i : ℕ). answerSize i (nField p) (mField p)) (ans .class-is);
         bytes-are = own;
         reads = rw own (rw (o .n-is, o .m-is) at (reads-itself read reads (alone p q) (o .within) a ans));
         class-is = ans .class-is;

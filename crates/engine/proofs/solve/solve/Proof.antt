@@ -6,36 +6,36 @@ use Rattle.engine.proofs.Outcomes.{refuses-problem, refuses-room, read-
 use Rattle.engine.proofs.solve.solve.Statement.{statement}
 use Rattle.engine.proofs.solve.solve.Tie as tie
 
-mul-if1 : tie.Need-mul-if1
-mul-if1 c =
-    let bytes : Bytes (c .before .before .before .before .before .before .before .before .before .args .problem .now) = record { byte = λ i. c .before .before .before .before .before .before .before .before .shared-slice-known .given i .fits } in
-    let read = read-problem bytes (c .before .before .before .before .read-problem .ensures) (c .before .before .header .given .1) in
-    omega (arith, read .fits .questions-most)
+room-for-requires : tie.Need-room-for-requires
+room-for-requires c κs =
+    let bytes : Bytes (c .before .before .before .before .before .before .before .before .args .problem .now) = record { byte = λ i. c .before .before .before .before .before .before .before .shared-slice-known .given i .fits } in
+    let read = read-problem bytes (c .before .before .before .read-problem .ensures) (c .before .header .given .1) in
+    read .fits .questions-most
 
 returns-2 : tie.Need-returns-2
 returns-2 c =
     let bytes : Bytes (c .before .before .before .before .before .before .before .before .before .before .args .problem .now) = record { byte = λ i. c .before .before .before .before .before .before .before .before .before .shared-slice-known .given i .fits } in
     let read = read-problem bytes (c .before .before .before .before .before .read-problem .ensures) (c .before .before .before .header .given .1) in
-    refuses-room read _ (c .if1 .taken)
+    refuses-room read _ (rw (c .before .room-for .ensures) at (c .if1 .taken))
 
 solve-questions-requires : tie.Need-solve-questions-requires
 solve-questions-requires c κs =
     let bytes : Bytes (c .before .before .before .before .before .before .before .before .before .before .before .before .before .before .before .args .problem .now) = record { byte = λ i. c .before .before .before .before .before .before .before .before .before .before .before .before .before .before .shared-slice-known .given i .fits } in
     let read = read-problem bytes (c .before .before .before .before .before .before .before .before .before .before .read-problem .ensures) (c .before .before .before .before .before .before .before .before .header .given .1) in
-    several-read read _ (c .before .before .before .if2 .taken) (c .before .before .before .before .before .if1 .left)
+    several-read read _ (c .before .before .before .if2 .taken) (rw (c .before .before .before .before .before .before .room-for .ensures) at (c .before .before .before .before .before .if1 .left))
 
 solve-one-requires : tie.Need-solve-one-requires
 solve-one-requires c κs =
     let bytes : Bytes (c .before .before .before .before .before .before .before .before .before .before .before .before .before .before .before .args .problem .now) = record { byte = λ i. c .before .before .before .before .before .before .before .before .before .before .before .before .before .before .shared-slice-known .given i .fits } in
     let read = read-problem bytes (c .before .before .before .before .before .before .before .before .before .before .read-problem .ensures) (c .before .before .before .before .before .before .before .before .header .given .1) in
-    (one-posed read (c .before .before .before .if2 .left), one-room read (c .before .before .before .if2 .left) (c .before .before .before .before .before .if1 .left))
+    (one-posed read (c .before .before .before .if2 .left), one-room read (c .before .before .before .if2 .left) (rw (c .before .before .before .before .before .before .room-for .ensures) at (c .before .before .before .before .before .if1 .left)))
 
 returns-4 : tie.Need-returns-4
 returns-4 c =
     let bytes : Bytes (c .before .before .before .before .before .before .before .before .before .before .before .before .before .before .before .before .before .before .args .problem .now) = record { byte = λ i. c .before .before .before .before .before .before .before .before .before .before .before .before .before .before .before .before .before .shared-slice-known .given i .fits } in
     let read = read-problem bytes (c .before .before .before .before .before .before .before .before .before .before .before .before .before .read-problem .ensures) (c .before .before .before .before .before .before .before .before .before .before .before .header .given .1) in
     let other = c .before .before .before .before .before .before .if2 .left in
-    solves-one read other (c .before .before .before .before .before .before .before .before .if1 .left) (c .before .before .solve-one .ensures .0 (problemOf (c .before .before .before .before .before .before .before .before .before .before .before .before .before .before .before .before .before .before .args .problem .now)) (one-stands read other))
+    solves-one read other (rw (c .before .before .before .before .before .before .before .before .before .room-for .ensures) at (c .before .before .before .before .before .before .before .before .if1 .left)) (c .before .before .solve-one .ensures .0 (problemOf (c .before .before .before .before .before .before .before .before .before .before .before .before .before .before .before .before .before .before .args .problem .now)) (one-stands read other))
 
 pub solve-spec : {M : Type 1} → statement M
 solve-spec =
@@ -46,7 +46,7 @@ solve-spec =
     (λ c. search needs)
     (λ c κs. search needs)
     (λ c. refuses-problem _ _ (c .before .before .before .read-problem .ensures .result) (c .before .enum-told .given .1) (c .problem-refusal .ensures))
-    mul-if1
+    room-for-requires
     returns-2
     solve-questions-requires
     (λ c. search needs)
