@@ -1,6 +1,11 @@
 /* Answers document 01's example A from C, has the checker judge the answer, and reads it; then shows hours and minutes.
  *
- *     cc -I capi capi/example.c target/staticlib/libcapi.a -o example && ./example
+ *     cc -I capi capi/example.c target/staticlib/libcapi.a -o target/example && target/example
+ *
+ * prints
+ *
+ *     accepted: class 1, span 3, after 22 trials; pick of the anchor 1
+ *     on the sheet: 0:03; 7:05 is 425 minutes
  */
 #include <stdio.h>
 

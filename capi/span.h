@@ -12,14 +12,18 @@
  *
  * An offset number stands for a stamp or a span: 0 is blank, and v + 2147483648 is the minute v.
  *
- * Refusals: 1 the problem has fewer than 10 bytes; 2 its length field is not its size - 4; 3 its kind is not 1; 4 n is
- * above 31 or m above 63; 5 its size does not fit n and m; 6 a lead is neither blank nor within 10,080 of 0; 7 the
- * answer buffer is shorter than 206 bytes; 8 the answer has fewer than 14 bytes; 9 its length field is not its
- * size - 4; 10 its kind is not 2 or its class not 1 to 3; 11 its n is not the problem's, or its size does not fit its
- * class; 12 its span or a stamp is outside the form of its class; 13 a pick is above its highest value; 14 not
- * certified; 18 (hours and minutes) the text is not of this form, a value is beyond 6,000,000 of 0, or the writer's buffer is
- * shorter than 10 bytes; 19 a week list or a minute to be looked up is not of its form (span_first_open). The first that
- * applies is returned, and a refusal writes nothing.
+ * A problem of kind 1 has one question. One of kind 3 has up to eight over the same rules: after m a count of two bytes, then
+ * the rules, then that many question rows. span_solve takes both, span_check kind 1 alone.
+ *
+ * Refusals: 1 the problem has fewer than 10 bytes; 2 its length field is not its size - 4; 3 its kind is not 1, nor, in
+ * span_solve, 3; 4 n is above 31 or m above 63; 5 its size does not fit n and m, and for kind 3 the count; 6 a lead is
+ * neither blank nor within 10,080 of 0; 7 the answer buffer is shorter than 206 bytes a question; 8 the answer has fewer
+ * than 14 bytes; 9 its length field is not its size - 4; 10 its kind is not 2 or its class not 1 to 3; 11 its n is not the
+ * problem's, or its size does not fit its class; 12 its span or a stamp is outside the form of its class; 13 a pick is above
+ * its highest value; 14 not certified; 15 the count of questions is 0 or above 8; 18 (hours and minutes) the text is not of
+ * this form, a value is beyond 6,000,000 of 0, or the writer's buffer is shorter than 10 bytes; 19 a week list or a minute to
+ * be looked up is not of its form (span_first_open). The first that applies is returned, in this order, but 15 is looked at
+ * after 4 and before 5; a record of kind 3 that ends before its count gets 5. A refusal writes nothing.
  */
 #ifndef SPAN_H
 #define SPAN_H
@@ -31,8 +35,10 @@
 extern "C" {
 #endif
 
-#define SPAN_ANSWER_SIZE 206      /* an answer buffer of this many bytes is long enough for every answer */
-#define SPAN_PROBLEM_SIZE 16394   /* the longest problem */
+#define SPAN_ANSWER_SIZE 206      /* an answer buffer of this many bytes, a question, is long enough for every answer */
+#define SPAN_PROBLEM_SIZE 16394   /* the longest problem of one question, kind 1 */
+#define SPAN_QUESTIONS 8          /* the most questions of a problem of kind 3 */
+#define SPAN_QUESTIONS_SIZE 18188 /* the longest problem of several questions, kind 3 */
 #define SPAN_STAMPS 32            /* places to lend to span_read for stamps */
 #define SPAN_PICKS 64             /* places to lend to span_read for picks */
 
@@ -42,6 +48,7 @@ extern "C" {
 #define SPAN_BOTTOMLESS 2
 #define SPAN_NONE 3
 #define SPAN_NOT_CERTIFIED 14
+#define SPAN_WRONG_COUNT 15       /* span_solve only: the count of questions is 0 or above SPAN_QUESTIONS */
 #define SPAN_NO_TEXT 18           /* span_hours_read, span_hours_write only */
 #define SPAN_TOO_FEW_PLACES 255   /* span_read, span_marks_differ only */
 
@@ -50,11 +57,13 @@ extern "C" {
 
 #define SPAN_DIFFER 256           /* span_marks_differ only */
 
-/* Answers a problem: writes the answer record at the start of `answer`; the bytes after it stay.
- * Result: 256 * trials + refusal. Answered: refusal 0, trials 1 to 23. Refused: 1 to 7, trials 0. */
-uint64_t span_solve(const uint8_t *problem, size_t problem_size, uint8_t *answer, size_t answer_size);
+/* Answers a problem of kind 1 or 3: writes the answer record of its question, or of each of its questions one after another,
+ * at the start of `answers`. Each record starts where the one before ended, which span_record_end tells, and is the answer to
+ * the problem of kind 1 with that question alone. The bytes after the last stay. Lend SPAN_ANSWER_SIZE bytes a question.
+ * Result: 256 * trials + refusal. Answered: refusal 0, trials 1 to 23 a question, summed. Refused: 1 to 7 or 15, trials 0. */
+uint64_t span_solve(const uint8_t *problem, size_t problem_size, uint8_t *answers, size_t answers_size);
 
-/* Judges an answer to a problem.
+/* Judges an answer to a problem of kind 1.
  * Result: accepted: 256 * class + 4294967296 * the span's offset number (0 where blank), so the low byte is 0;
  * else the refusal, 1 to 6 or 8 to 14, where 14 is 'not certified'. */
 uint64_t span_check(const uint8_t *problem, size_t problem_size, const uint8_t *answer, size_t answer_size);
@@ -101,6 +110,17 @@ uint64_t span_first_open(const uint64_t *week, size_t week_count, uint64_t minut
  * Result: SPAN_DIFFER, or 0 where they are the same; SPAN_TOO_FEW_PLACES where a list has fewer than `count` bytes. */
 uint64_t span_marks_differ(const uint8_t *before, size_t before_size, const uint8_t *after, size_t after_size,
                            uint64_t count);
+
+/* The size of a problem record of kind 1 or 3, with that many rules and questions (kind 1 has one); 0 for another kind. */
+static inline size_t span_record_size(unsigned kind, size_t n, size_t m, size_t count) {
+    return kind == 1 ? 10 + 8 * (n + 1) * (m + 1) : kind == 3 ? 12 + 8 * (n + 1) * (m + count) : 0;
+}
+
+/* Where a record that starts at `at` ends, by its length field: of the answers of span_solve, where the next one starts. */
+static inline size_t span_record_end(const uint8_t *records, size_t at) {
+    const uint8_t *field = records + at;
+    return at + 4 + (field[0] | (size_t)field[1] << 8 | (size_t)field[2] << 16 | (size_t)field[3] << 24);
+}
 
 /* What a result holds. */
 static inline unsigned span_refusal(uint64_t result) { return (unsigned)(result & 255); }

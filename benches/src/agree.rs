@@ -24,7 +24,7 @@ fn accepted(name: &str, problem: &[u8], answer: &[u8]) {
     }
 }
 
-fn end(message: &str, problem: &[u8]) -> ! {
+pub fn end(message: &str, problem: &[u8]) -> ! {
     eprintln!("disagreement: {message}");
     eprintln!("problem {}", hex(problem));
     std::process::exit(1);

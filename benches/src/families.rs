@@ -4,11 +4,27 @@ use random::Random;
 
 pub const BLANK: i32 = i32::MIN;
 
-/// A problem as rows of n + 1 left and n + 1 right coefficients, the objective last.
+/// n + 1 left and n + 1 right coefficients.
+pub type Row = (Vec<i32>, Vec<i32>);
+
+/// A problem as rows, the objective last.
 #[derive(Clone)]
 pub struct Draft {
     pub variables: usize,
-    pub rows: Vec<(Vec<i32>, Vec<i32>)>,
+    pub rows: Vec<Row>,
+}
+
+/// A record of a kind: numbers of two bytes, then rows.
+fn record(kind: u16, numbers: &[usize], rows: &[&Row]) -> Vec<u8> {
+    let mut bytes = vec![0; 4];
+    bytes.extend(kind.to_le_bytes());
+    bytes.extend(numbers.iter().flat_map(|&number| (number as u16).to_le_bytes()));
+    for coefficient in rows.iter().flat_map(|(left, right)| left.iter().chain(right)) {
+        bytes.extend(coefficient.to_le_bytes());
+    }
+    let length = bytes.len() as u32 - 4;
+    bytes[..4].copy_from_slice(&length.to_le_bytes());
+    bytes
 }
 
 impl Draft {
@@ -16,19 +32,23 @@ impl Draft {
         Draft { variables: n + 1, rows: vec![(vec![BLANK; n + 1], vec![BLANK; n + 1]); m + 1] }
     }
 
+    /// The record of kind 1.
     pub fn bytes(&self) -> Vec<u8> {
-        let size = 10 + 8 * self.variables * self.rows.len();
-        let mut bytes = Vec::with_capacity(size);
-        bytes.extend((size as u32 - 4).to_le_bytes());
-        bytes.extend(1u16.to_le_bytes());
-        bytes.extend((self.variables as u16 - 1).to_le_bytes());
-        bytes.extend((self.rows.len() as u16 - 1).to_le_bytes());
-        for (left, right) in &self.rows {
-            for coefficient in left.iter().chain(right) {
-                bytes.extend(coefficient.to_le_bytes());
-            }
-        }
-        bytes
+        record(1, &[self.variables - 1, self.rows.len() - 1], &self.rows.iter().collect::<Vec<_>>())
+    }
+
+    /// The same rules with another objective.
+    pub fn asking(&self, question: &Row) -> Draft {
+        let mut draft = self.clone();
+        *draft.rows.last_mut().expect("the objective") = question.clone();
+        draft
+    }
+
+    /// The record of kind 3: the same rules with several objectives.
+    pub fn bytes_asking(&self, questions: &[Row]) -> Vec<u8> {
+        let m = self.rows.len() - 1;
+        let rows: Vec<&Row> = self.rows[..m].iter().chain(questions).collect();
+        record(3, &[self.variables - 1, m, questions.len()], &rows)
     }
 }
 
@@ -68,6 +88,17 @@ impl Family {
             Family::DenseFull => dense_full(random, n, m),
         }
     }
+
+    /// Another question of the kind that the family's problems have.
+    pub fn question(self, random: &mut Random, n: usize) -> Row {
+        let mut question = (vec![BLANK; n + 1], vec![BLANK; n + 1]);
+        match self {
+            Family::Ward | Family::Contradiction => groups(random, &mut question),
+            Family::DenseSmall => fill(random, &mut question, 60),
+            Family::DenseFull => fill(random, &mut question, 10_080),
+        }
+        question
+    }
 }
 
 /// A hidden plan of one day: the anchor at 0, the others within 24 hours.
@@ -104,12 +135,24 @@ fn ward(random: &mut Random, n: usize, m: usize) -> Draft {
             right[place] = (side - plan[place] + random.lead(0, 60)).clamp(-10_080, 10_080);
         }
     }
-    let (first, second) = &mut draft.rows[m];
-    for _ in 0..3 {
-        first[random.below(n + 1)] = random.lead(-30, 30);
-        second[random.below(n + 1)] = random.lead(-30, 30);
-    }
+    groups(random, &mut draft.rows[m]);
     draft
+}
+
+/// Two groups of up to three moments.
+fn groups(random: &mut Random, (first, second): &mut Row) {
+    let variables = first.len();
+    for _ in 0..3 {
+        first[random.below(variables)] = random.lead(-30, 30);
+        second[random.below(variables)] = random.lead(-30, 30);
+    }
+}
+
+/// Every coefficient of a row anywhere within a width.
+fn fill(random: &mut Random, (left, right): &mut Row, width: i32) {
+    for coefficient in left.iter_mut().chain(right) {
+        *coefficient = random.lead(-width, width);
+    }
 }
 
 /// A ward's day in which a chain of moments and the way back from its last contradict each other by one minute.
@@ -139,10 +182,8 @@ fn dense_small(random: &mut Random, n: usize, m: usize) -> Draft {
     let mut draft = Draft::new(n, m);
     let mut plan: Vec<i32> = (0..=n).map(|_| random.lead(-30, 30)).collect();
     plan[0] = 0;
-    for (left, right) in &mut draft.rows {
-        for coefficient in left.iter_mut().chain(right.iter_mut()) {
-            *coefficient = random.lead(-60, 60);
-        }
+    for row in &mut draft.rows {
+        fill(random, row, 60);
     }
     for (left, right) in &mut draft.rows[..m] {
         let place = random.below(n + 1);
@@ -157,10 +198,8 @@ fn dense_small(random: &mut Random, n: usize, m: usize) -> Draft {
 /// Every coefficient anywhere within the limits.
 fn dense_full(random: &mut Random, n: usize, m: usize) -> Draft {
     let mut draft = Draft::new(n, m);
-    for (left, right) in &mut draft.rows {
-        for coefficient in left.iter_mut().chain(right.iter_mut()) {
-            *coefficient = random.lead(-10_080, 10_080);
-        }
+    for row in &mut draft.rows {
+        fill(random, row, 10_080);
     }
     draft
 }

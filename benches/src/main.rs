@@ -7,6 +7,7 @@
 mod agree;
 mod engines;
 mod families;
+mod questions;
 mod table;
 mod timing;
 mod worst;

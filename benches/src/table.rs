@@ -5,10 +5,11 @@ use std::hint::black_box;
 use crate::agree;
 use crate::engines::{library, library_accepts, unproved_accepts, Solve, UNPROVED};
 use crate::families::{Family, FAMILIES};
+use crate::questions;
 use crate::timing::{microseconds, Call, Effort};
 use random::Random;
 
-const SEED: u64 = 4_202;
+pub const SEED: u64 = 4_202;
 
 /// Problems of a family and a size, all of the family's class, with the library's answers.
 struct Set {
@@ -66,6 +67,7 @@ pub fn print(effort: Effort) {
     let sets: Vec<(Family, Set)> = FAMILIES.into_iter().map(|family| (family, set(effort, family, 31, 63))).collect();
     let solve_times = solving(effort, &sets);
     checking(effort, &sets, &solve_times);
+    questions::print(effort);
     growth(effort);
 }
 

@@ -1,6 +1,6 @@
 //! Random problems and tables.
 
-use crate::paper::{counts, highest_pick, largest, Answer, Minute, Problem, Row};
+use crate::paper::{counts, highest_pick, largest, Answer, Minute, Problem, Questions, Row};
 use random::Random;
 
 /// What a random problem is made of.
@@ -77,6 +77,29 @@ pub fn any(random: &mut Random, largest_n: usize, largest_m: usize) -> Problem {
         1 => kept(random, shape),
         _ => sparse(random, shape),
     }
+}
+
+/// So many questions over the rules of a problem: its own, and others with few leads or many, some with a blank list.
+pub fn questions(random: &mut Random, problem: Problem, count: usize) -> Questions {
+    let n = problem.n();
+    let mut questions = vec![problem.question];
+    while questions.len() < count {
+        let (w, filled) = ([0, 1, 60, 10_080][random.below(4)], [1, 3, 10][random.below(3)]);
+        let mut question = row(random, Shape { n, m: 0, w, filled });
+        match random.below(6) {
+            0 => question.left.fill(None),
+            1 => question.right.fill(None),
+            _ => {}
+        }
+        questions.insert(random.below(questions.len() + 1), question);
+    }
+    Questions { rules: problem.rules, questions }
+}
+
+/// So many questions over the rules of a problem of any size and kind.
+pub fn any_questions(random: &mut Random, largest_n: usize, largest_m: usize, count: usize) -> Questions {
+    let problem = any(random, largest_n, largest_m);
+    questions(random, problem, count)
 }
 
 /// A table of a class with picks drawn one by one; for class 1 with a random plan and its own span, if whole.

@@ -3,7 +3,8 @@
 //! The definitions that the proofs rest on could be wrong, and no proof shows that. Everything here that says what is
 //! right (`paper`, `exhaustive`, `second`) was written from documents 01 and 02 alone, in their words, plainly and slowly.
 //!
-//! `cargo run --release --offline --manifest-path tests/Cargo.toml` runs all of it; a word after `--` runs one suite.
+//! `cargo run --release --offline --manifest-path tests/Cargo.toml` runs all of it; a word after `--` runs one suite, and
+//! `--long` has a suite that knows it try more than there is time for in the gate.
 //! A disagreement prints the bytes it was found on, and the status is then not 0.
 
 mod exhaustive;
@@ -28,12 +29,14 @@ const TRIED: &str = if cfg!(feature = "stand-in") { "the unproved stand-in" } el
 type Suite = (&'static str, fn(&mut Tally));
 
 fn main() {
-    let words: Vec<String> = std::env::args().skip(1).collect();
+    let mut words: Vec<String> = std::env::args().skip(1).collect();
     if programs::acted_as_a_program(&words) {
         return;
     }
+    let long = words.iter().any(|word| word == "--long");
+    words.retain(|word| word != "--long");
     println!("tests from outside, on {TRIED}");
-    let all: [Suite; 13] = [
+    let all: [Suite; 14] = [
         ("examples", suites::examples::run),
         ("all-small", suites::small::every_small_problem),
         ("random-small", suites::small::random_problems),
@@ -47,12 +50,13 @@ fn main() {
         ("opening", suites::opening::run),
         ("parts", suites::parts::run),
         ("marks", suites::marks::run),
+        ("questions", suites::questions::run),
     ];
     let mut failures = 0;
     let mut run = 0;
     for (name, suite) in all {
         if words.is_empty() || words.iter().any(|word| word == name) {
-            let mut tally = Tally::new(name);
+            let mut tally = Tally::new(name, long);
             suite(&mut tally);
             failures += tally.close();
             run += 1;

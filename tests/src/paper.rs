@@ -1,4 +1,4 @@
-//! Document 01 in Rust, as plainly as it can be said: problems, plans, spans, records, refusals, trials.
+//! Document 01, and 2.1 of document 02, in Rust, as plainly as it can be said: problems, plans, spans, records, refusals, trials.
 
 /// A lead, stamp or whole minute; `None` is blank.
 pub type Minute = Option<i64>;
@@ -14,6 +14,13 @@ pub struct Row {
 pub struct Problem {
     pub rules: Vec<Row>,
     pub question: Row,
+}
+
+/// Rules 1 to m, then several questions (document 02, 2.1).
+#[derive(Clone, Debug, PartialEq, Eq)]
+pub struct Questions {
+    pub rules: Vec<Row>,
+    pub questions: Vec<Row>,
 }
 
 /// The span of a plan; the order is document 01's.
@@ -79,14 +86,31 @@ impl Problem {
     /// The record.
     pub fn bytes(&self) -> Vec<u8> {
         let mut bytes = vec![0, 0, 0, 0, 1, 0, self.n() as u8, 0, self.m() as u8, 0];
-        for number in 0..=self.m() {
-            let row = self.row(number);
-            for lead in row.left.iter().chain(&row.right) {
-                bytes.extend((lead.unwrap_or(BLANK) as i32).to_le_bytes());
-            }
-        }
+        put_rows(&mut bytes, self.rules.iter().chain([&self.question]));
         mend_length(&mut bytes);
         bytes
+    }
+}
+
+impl Questions {
+    /// The kind 1 problem with one question alone.
+    pub fn alone(&self, question: usize) -> Problem {
+        Problem { rules: self.rules.clone(), question: self.questions[question].clone() }
+    }
+
+    /// The record of kind 3, which has one question or more.
+    pub fn bytes(&self) -> Vec<u8> {
+        let (n, m) = (self.questions[0].left.len() - 1, self.rules.len());
+        let mut bytes = vec![0, 0, 0, 0, 3, 0, n as u8, 0, m as u8, 0, self.questions.len() as u8, 0];
+        put_rows(&mut bytes, self.rules.iter().chain(&self.questions));
+        mend_length(&mut bytes);
+        bytes
+    }
+}
+
+fn put_rows<'a>(bytes: &mut Vec<u8>, rows: impl Iterator<Item = &'a Row>) {
+    for lead in rows.flat_map(|row| row.left.iter().chain(&row.right)) {
+        bytes.extend((lead.unwrap_or(BLANK) as i32).to_le_bytes());
     }
 }
 
@@ -134,33 +158,51 @@ fn within(minute: Minute, limit: i64) -> bool {
     minute.is_none_or(|value| -limit <= value && value <= limit)
 }
 
-/// Refusals 1 to 6; else the problem.
+/// Refusals 1 to 6 of the checker, which takes kind 1 alone; else the problem.
 pub fn read_problem(bytes: &[u8]) -> Result<Problem, u64> {
+    read_rows(bytes, &[1]).map(|all| all.alone(0))
+}
+
+/// Refusals 1 to 6 and 15 of the engine, which takes kinds 1 and 3; else the rules and the questions.
+pub fn read_questions(bytes: &[u8]) -> Result<Questions, u64> {
+    read_rows(bytes, &[1, 3])
+}
+
+fn read_rows(bytes: &[u8], kinds: &[u64]) -> Result<Questions, u64> {
     if bytes.len() < 10 {
         return Err(1);
     }
     if number(&bytes[0..4]) != bytes.len() as u64 - 4 {
         return Err(2);
     }
-    if number(&bytes[4..6]) != 1 {
+    let kind = number(&bytes[4..6]);
+    if !kinds.contains(&kind) {
         return Err(3);
     }
     let (n, m) = (number(&bytes[6..8]), number(&bytes[8..10]));
     if n > 31 || m > 63 {
         return Err(4);
     }
-    if bytes.len() as u64 != 10 + 8 * (n + 1) * (m + 1) {
+    if kind == 3 && bytes.len() < 12 {
         return Err(5);
     }
-    let leads: Vec<Minute> = bytes[10..].chunks(4).map(minute).collect();
+    // After m stands a count of questions, or nothing.
+    let (count, header) = if kind == 3 { (number(&bytes[10..12]), 12) } else { (1, 10) };
+    if count == 0 || count > 8 {
+        return Err(15);
+    }
+    if bytes.len() as u64 != header + 8 * (n + 1) * (m + count) {
+        return Err(5);
+    }
+    let leads: Vec<Minute> = bytes[header as usize..].chunks(4).map(minute).collect();
     if !leads.iter().all(|lead| within(*lead, LONGEST_LEAD)) {
         return Err(6);
     }
     let width = n as usize + 1;
-    let mut rows: Vec<Row> =
+    let mut rules: Vec<Row> =
         leads.chunks(2 * width).map(|row| Row { left: row[..width].to_vec(), right: row[width..].to_vec() }).collect();
-    let question = rows.pop().expect("the question's row");
-    Ok(Problem { rules: rows, question })
+    let questions = rules.split_off(m as usize);
+    Ok(Questions { rules, questions })
 }
 
 /// The number of stamps and of picks that a class has.

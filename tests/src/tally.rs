@@ -8,6 +8,8 @@ const ENOUGH: u64 = 5;
 
 pub struct Tally {
     name: String,
+    /// Whether the suite is to try as much as it can.
+    pub long: bool,
     counts: BTreeMap<String, u64>,
     failures: u64,
     start: Instant,
@@ -19,8 +21,8 @@ pub fn hex(bytes: &[u8]) -> String {
 }
 
 impl Tally {
-    pub fn new(name: &str) -> Tally {
-        Tally { name: name.into(), counts: BTreeMap::new(), failures: 0, start: Instant::now() }
+    pub fn new(name: &str, long: bool) -> Tally {
+        Tally { name: name.into(), long, counts: BTreeMap::new(), failures: 0, start: Instant::now() }
     }
 
     /// Names the seed of what follows.

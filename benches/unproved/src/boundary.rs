@@ -2,7 +2,7 @@
 //! tests/ is over them.
 
 use crate::checker;
-use crate::engine::{solve_with, Search};
+use crate::engine::solve_all;
 use crate::hours;
 use crate::record::{self, Answer, BLANK, BUFFER};
 use crate::{ROWS, VARIABLES};
@@ -14,10 +14,10 @@ fn class_and_span(class: u16, span: i32) -> u64 {
     256 * class as u64 + ((span as i64 + OFFSET) as u64) * (1 << 32)
 }
 
-/// 256 × trials + refusal.
-pub fn solve(problem: &[u8], answer: &mut [u8]) -> u64 {
-    match solve_with(Search::Newton, problem, answer) {
-        Ok(answered) => 256 * answered.trials as u64,
+/// 256 × the trials of all questions + refusal.
+pub fn solve(problem: &[u8], answers: &mut [u8]) -> u64 {
+    match solve_all(problem, answers) {
+        Ok(all) => all.iter().map(|answered| 256 * answered.trials as u64).sum(),
         Err(number) => number as u64,
     }
 }

@@ -35,7 +35,7 @@ enum Found {
     None { picks: Picks },
 }
 
-/// Answers a problem with rows kept in one way and one search; refusals 1 to 7.
+/// Answers a problem of one question with rows kept in one way and one search; refusals 1 to 7.
 pub fn solve_by<K: Kind>(search: Search, problem: &[u8], buffer: &mut [u8]) -> Result<Answered, u8> {
     let mut table = Problem::new();
     record::read(problem, &mut table)?;
@@ -43,6 +43,29 @@ pub fn solve_by<K: Kind>(search: Search, problem: &[u8], buffer: &mut [u8]) -> R
         return Err(7);
     }
     Ok(K::solve(search, &table, buffer))
+}
+
+/// Answers every question of a problem of kind 1 or 3, each answer starting where the one before ended; refusals 1 to 7 and 15.
+pub fn solve_all_by<K: Kind>(search: Search, problem: &[u8], buffer: &mut [u8]) -> Result<Vec<Answered>, u8> {
+    let mut table = Problem::new();
+    let layout = record::read_rules(problem, &mut table)?;
+    if buffer.len() < BUFFER * layout.questions {
+        return Err(7);
+    }
+    let mut all = Vec::with_capacity(layout.questions);
+    let mut at = 0;
+    for question in 0..layout.questions {
+        layout.ask(problem, question, &mut table);
+        let answered = K::solve(search, &table, &mut buffer[at..]);
+        at += answered.size;
+        all.push(answered);
+    }
+    Ok(all)
+}
+
+/// The same by Newton's method, with rows kept as each question with its rules has them.
+pub fn solve_all(problem: &[u8], buffer: &mut [u8]) -> Result<Vec<Answered>, u8> {
+    solve_all_by::<AsFilled>(Search::Newton, problem, buffer)
 }
 
 /// A way to keep rows, by name.
@@ -54,6 +77,8 @@ pub trait Kind {
 pub struct InLists;
 /// Dense rows.
 pub struct InFull;
+/// Lists where few coefficients are finite, dense rows else.
+struct AsFilled;
 
 impl Kind for InLists {
     fn solve(search: Search, problem: &Problem, buffer: &mut [u8]) -> Answered {
@@ -67,19 +92,14 @@ impl Kind for InFull {
     }
 }
 
-/// Answers a problem: lists where few coefficients are finite, dense rows else.
-pub fn solve_with(search: Search, problem: &[u8], buffer: &mut [u8]) -> Result<Answered, u8> {
-    let mut table = Problem::new();
-    record::read(problem, &mut table)?;
-    if buffer.len() < BUFFER {
-        return Err(7);
-    }
-    let finite = |table: &[i32]| table.iter().filter(|&&coefficient| coefficient != BLANK).count();
-    let all = finite(&table.left) + finite(&table.right);
-    if 4 * all < table.rows * table.variables {
-        Ok(InLists::solve(search, &table, buffer))
-    } else {
-        Ok(InFull::solve(search, &table, buffer))
+impl Kind for AsFilled {
+    fn solve(search: Search, problem: &Problem, buffer: &mut [u8]) -> Answered {
+        let finite = |table: &[i32]| table.iter().filter(|&&coefficient| coefficient != BLANK).count();
+        if 4 * (finite(&problem.left) + finite(&problem.right)) < problem.rows * problem.variables {
+            InLists::solve(search, problem, buffer)
+        } else {
+            InFull::solve(search, problem, buffer)
+        }
     }
 }
 

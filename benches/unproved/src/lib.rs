@@ -1,4 +1,4 @@
-//! An engine and a checker without proofs, written for speed, from document 01 and nothing else.
+//! An engine and a checker without proofs, written for speed, from documents 01 and 02 and nothing else.
 //!
 //! The benchmark measures the proved ones against these, and the outside tests try both. The package `stand-in` of tests/
 //! puts these behind the product's interface, for work on the tests where the archive is not there. Nothing leads here
@@ -23,12 +23,14 @@ pub mod record;
 mod saver;
 pub mod week;
 
-pub use engine::{solve_by, solve_with, Answered, InFull, InLists, Kind, Search};
+pub use engine::{solve_all, solve_all_by, solve_by, Answered, InFull, InLists, Kind, Search};
 
 /// The largest number of variables, the anchor among them.
 pub const VARIABLES: usize = 32;
 /// The largest number of rows, the objective among them.
 pub const ROWS: usize = 64;
+/// The largest number of questions over the same rules.
+pub const QUESTIONS: usize = 8;
 /// The largest size of a coefficient.
 pub const LARGEST: i32 = 10_080;
 /// The top trial.

@@ -1,14 +1,15 @@
 //! What the span and the verdict program write for an input, without proofs.
 
 use crate::checker;
-use crate::engine::{solve_with, Search};
+use crate::engine::solve_all;
 use crate::record::BUFFER;
+use crate::QUESTIONS;
 
-/// The answer record, or a line with the refusal.
+/// The answer record of each question, or a line with the refusal.
 pub fn span(input: &[u8]) -> Vec<u8> {
-    let mut buffer = [0; BUFFER];
-    match solve_with(Search::Newton, input, &mut buffer) {
-        Ok(answered) => buffer[..answered.size].to_vec(),
+    let mut buffer = [0; BUFFER * QUESTIONS];
+    match solve_all(input, &mut buffer) {
+        Ok(all) => buffer[..all.iter().map(|answered| answered.size).sum()].to_vec(),
         Err(number) => format!("refused {number}\n").into_bytes(),
     }
 }

@@ -1,10 +1,10 @@
 //! Records as bytes: reading a problem, reading and writing an answer, and the refusals of each.
 
-use crate::{LARGEST, ROWS, TOP, VARIABLES};
+use crate::{LARGEST, QUESTIONS, ROWS, TOP, VARIABLES};
 
 /// Blank as it stands in a record.
 pub const BLANK: i32 = i32::MIN;
-/// The size that every answer buffer must have.
+/// The size that an answer buffer must have, for each question.
 pub const BUFFER: usize = 206;
 /// The largest size of a stamp.
 const STAMP: i32 = 2_000_000;
@@ -26,25 +26,43 @@ fn four(bytes: &[u8], at: usize) -> i32 {
     i32::from_le_bytes([bytes[at], bytes[at + 1], bytes[at + 2], bytes[at + 3]])
 }
 
-/// Refusals 1 to 5, which the header decides; else n + 1 and m + 1.
-fn header(bytes: &[u8]) -> Result<(usize, usize), u8> {
+/// Where the parts of a problem stand: rules, then questions, from a place on.
+#[derive(Clone, Copy)]
+pub struct Layout {
+    variables: usize,
+    rules: usize,
+    pub questions: usize,
+    coefficients: usize,
+}
+
+/// Refusals 1 to 5 and 15, which the header decides; else the layout. Kind 3 is known where several questions are taken.
+fn header(bytes: &[u8], several: bool) -> Result<Layout, u8> {
     if bytes.len() < 10 {
         return Err(1);
     }
     if four(bytes, 0) as u32 as usize != bytes.len() - 4 {
         return Err(2);
     }
-    if two(bytes, 4) != 1 {
+    let kind = two(bytes, 4);
+    if kind != 1 && !(several && kind == 3) {
         return Err(3);
     }
     let (n, m) = (two(bytes, 6), two(bytes, 8));
     if n >= VARIABLES || m >= ROWS {
         return Err(4);
     }
-    if bytes.len() != 10 + 8 * (n + 1) * (m + 1) {
+    let (questions, coefficients) = match kind {
+        1 => (1, 10),
+        _ if bytes.len() < 12 => return Err(5),
+        _ => (two(bytes, 10), 12),
+    };
+    if questions == 0 || questions > QUESTIONS {
+        return Err(15);
+    }
+    if bytes.len() != coefficients + 8 * (n + 1) * (m + questions) {
         return Err(5);
     }
-    Ok((n + 1, m + 1))
+    Ok(Layout { variables: n + 1, rules: m, questions, coefficients })
 }
 
 /// Copies coefficients from bytes; true where all are within the limits.
@@ -72,20 +90,42 @@ impl Default for Problem {
     }
 }
 
-/// Reads a problem into room that is blank; refusals 1 to 6.
+impl Layout {
+    /// Copies a row's bytes to a row of a problem; true where all coefficients are within the limits.
+    fn copy(self, part: &[u8], row: usize, problem: &mut Problem) -> bool {
+        let (size, at) = (4 * self.variables, row * VARIABLES);
+        let left = copy(&part[..size], &mut problem.left[at..at + self.variables]);
+        copy(&part[size..], &mut problem.right[at..at + self.variables]) & left
+    }
+
+    /// Puts a question of the record in the objective's place.
+    pub fn ask(self, bytes: &[u8], question: usize, problem: &mut Problem) {
+        let size = 8 * self.variables;
+        let at = self.coefficients + size * (self.rules + question);
+        self.copy(&bytes[at..at + size], self.rules, problem);
+    }
+}
+
+/// Reads a problem of kind 1 into room that is blank; refusals 1 to 6.
 pub fn read(bytes: &[u8], problem: &mut Problem) -> Result<(), u8> {
-    let (variables, rows) = header(bytes)?;
-    problem.variables = variables;
-    problem.rows = rows;
-    let size = 4 * variables;
+    fill(bytes, header(bytes, false)?, problem).map(|_| ())
+}
+
+/// Reads the rules of a problem of kind 1 or 3 into room that is blank, and judges the questions; refusals 1 to 6 and 15.
+pub fn read_rules(bytes: &[u8], problem: &mut Problem) -> Result<Layout, u8> {
+    fill(bytes, header(bytes, true)?, problem)
+}
+
+/// The rules go to their rows, and each question in turn to the objective's; refusal 6.
+fn fill(bytes: &[u8], layout: Layout, problem: &mut Problem) -> Result<Layout, u8> {
+    problem.variables = layout.variables;
+    problem.rows = layout.rules + 1;
     let mut good = true;
-    for (row, part) in bytes[10..].chunks_exact(2 * size).enumerate() {
-        let at = row * VARIABLES;
-        good &= copy(&part[..size], &mut problem.left[at..at + variables]);
-        good &= copy(&part[size..], &mut problem.right[at..at + variables]);
+    for (row, part) in bytes[layout.coefficients..].chunks_exact(8 * layout.variables).enumerate() {
+        good &= layout.copy(part, row.min(layout.rules), problem);
     }
     if good {
-        Ok(())
+        Ok(layout)
     } else {
         Err(6)
     }

@@ -1,27 +1,84 @@
-//! The four calls over bytes and fields, by the functions of `raw`.
+//! The calls over bytes and fields, by the functions of `raw`.
 
 use crate::raw;
-use crate::words::{Answer, Certified, Class, Outcome, Refusal, Solved};
+use crate::words::{Answer, AnswerAt, Certified, Class, Outcome, Refusal, Solved, SolvedAll};
 
-/// An answer buffer of this many bytes is long enough for every answer.
+/// An answer buffer of this many bytes is long enough for every answer; for several questions, of this many for each.
 pub const ANSWER_SIZE: usize = 206;
-/// The size of the longest problem.
+/// The size of the longest problem of one question.
 pub const PROBLEM_SIZE: usize = 16_394;
+/// The most questions that a problem of kind 3 puts to its rules.
+pub const QUESTIONS: usize = 8;
+/// The size of the longest problem of several questions.
+pub const QUESTIONS_SIZE: usize = 18_188;
 
 /// The offset of the numbers that cross the boundary: 0 is blank, `v + OFFSET` is the minute v.
 const OFFSET: i64 = 1 << 31;
 
-/// Answers a problem, and writes the answer record at the start of `answer`. Bytes after the record stay.
+/// Answers a problem of one question, and writes the answer record at the start of `answer`. Bytes after the record stay.
 ///
-/// Refusals: 1 to 7. A refusal leaves `answer` untouched.
+/// Refusals: 1 to 7. A problem of kind 3 gets 3 here: its answers are several, and [`solve_all`] gives them. A refusal leaves
+/// `answer` untouched.
 pub fn solve(problem: &[u8], answer: &mut [u8]) -> Result<Solved, Refusal> {
+    if asks_several(problem) {
+        return Err(Refusal { number: 3 });
+    }
     let result = raw::solve(problem, answer);
     refusal(result)?;
-    // The record was just written, so its header is there: length, kind, n, class, span.
-    let size = u32::from_le_bytes([answer[0], answer[1], answer[2], answer[3]]) as usize + 4;
-    let span = i32::from_le_bytes([answer[10], answer[11], answer[12], answer[13]]);
-    let outcome = outcome(answer[8] as u64, span);
-    Ok(Solved { outcome, trials: (result >> 8) as u32, size })
+    let (outcome, size) = written(answer);
+    Ok(Solved { outcome, trials: trials(result), size })
+}
+
+/// Answers every question of a problem (document 02, 2.1): of kind 3, with up to [`QUESTIONS`] questions over the same rules,
+/// or of kind 1, with one. The answer records are written one after another, each starting where the one before ended, from
+/// the start of `answers`. Bytes after the last stay. Each is the answer to the problem of kind 1 that has this question alone,
+/// and [`check`] takes it with that problem.
+///
+/// Refusals: 1 to 7, and 15. For 7 count [`ANSWER_SIZE`] bytes a question. A refusal leaves `answers` untouched.
+///
+/// ```
+/// # fn leads(leads: [i32; 4]) -> impl Iterator<Item = u8> { leads.into_iter().flat_map(i32::to_le_bytes) }
+/// // One moment, and the rule that it is 30 minutes after the anchor at the earliest: anchor + 30 <= moment.
+/// const BLANK: i32 = i32::MIN;
+/// let rule = [30, BLANK, BLANK, 0];
+/// // From the anchor to the moment; from the moment to the anchor; from nothing to the anchor.
+/// let questions = [[BLANK, 0, 0, BLANK], [0, BLANK, BLANK, 0], [0, BLANK, BLANK, BLANK]];
+///
+/// // Length, kind, n, m, count; the rule; the questions.
+/// let mut problem = vec![72, 0, 0, 0, 3, 0, 1, 0, 1, 0, 3, 0];
+/// problem.extend(leads(rule));
+/// for question in questions {
+///     problem.extend(leads(question));
+/// }
+///
+/// let mut answers = [0; 3 * span::ANSWER_SIZE];
+/// let solved = span::solve_all(&problem, &mut answers).unwrap();
+/// let outcomes = solved.answers.iter().map(|answer| answer.outcome);
+/// assert!(outcomes.eq([span::Outcome::Least(30), span::Outcome::Bottomless, span::Outcome::None]));
+/// assert_eq!(solved.to_string(), "least 30, bottomless, none");
+///
+/// // The checker takes one question: the first one alone, as a problem of kind 1, with the first answer's bytes.
+/// let mut first = vec![38, 0, 0, 0, 1, 0, 1, 0, 1, 0];
+/// first.extend(leads(rule));
+/// first.extend(leads(questions[0]));
+/// let judged = span::check(&first, &answers[solved.answers[0].bytes.clone()]).unwrap();
+/// assert_eq!(judged.to_string(), "accepted least 30");
+///
+/// assert_eq!(span::solve_all(&problem, &mut answers[..3 * span::ANSWER_SIZE - 1]).unwrap_err().number, 7);
+/// assert_eq!(span::solve(&problem, &mut answers).unwrap_err().number, 3);
+/// ```
+pub fn solve_all(problem: &[u8], answers: &mut [u8]) -> Result<SolvedAll, Refusal> {
+    let result = raw::solve(problem, answers);
+    refusal(result)?;
+    // The problem is within the layout, so a count is there where its kind is 3, and so many records were just written.
+    let count = if asks_several(problem) { u16::from_le_bytes([problem[10], problem[11]]) } else { 1 };
+    let mut at = 0;
+    let answers = (0..count).map(|_| {
+        let (outcome, size) = written(&answers[at..]);
+        at += size;
+        AnswerAt { outcome, bytes: at - size..at }
+    });
+    Ok(SolvedAll { answers: answers.collect(), trials: trials(result) })
 }
 
 /// Judges an answer to a problem. It is accepted exactly when it is of the right form and all that document 01 lists
@@ -70,6 +127,26 @@ pub fn write(answer: &Answer, n: usize, m: usize, buffer: &mut [u8]) -> Result<u
     let result = raw::write(answer.class().number(), span, &stamps, &picks, n as u64, m as u64, buffer);
     refusal(result)?;
     Ok((result >> 8) as usize)
+}
+
+/// Whether a problem is one of several questions: neither 1 nor 2 refuses it, and its kind is 3.
+fn asks_several(problem: &[u8]) -> bool {
+    let header = problem.first_chunk::<10>();
+    header.is_some_and(|&[a, b, c, d, kind, high, ..]| {
+        u32::from_le_bytes([a, b, c, d]) as usize == problem.len() - 4 && (kind, high) == (3, 0)
+    })
+}
+
+/// The outcome and the size of a record that was just written here, so that its header is there: length, kind, n, class, span.
+fn written(record: &[u8]) -> (Outcome, usize) {
+    let size = u32::from_le_bytes([record[0], record[1], record[2], record[3]]) as usize + 4;
+    let span = i32::from_le_bytes([record[10], record[11], record[12], record[13]]);
+    (outcome(record[8] as u64, span), size)
+}
+
+/// The trials that a result of the engine holds.
+fn trials(result: u64) -> u32 {
+    (result >> 8) as u32
 }
 
 /// The refusal that a result's low byte holds, if any.

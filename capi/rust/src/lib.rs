@@ -1,9 +1,9 @@
 //! The span engine and its checker, release 4.2, for Rust programs.
 //!
-//! A clinic sends a problem as bytes (document 01, "Records"). [`solve`] answers it; [`check`] judges an answer from
-//! any engine and trusts none. [`read`] and [`write`] turn an answer record into its fields and back; [`read_hours`] and
-//! [`write_hours`] turn spans and stamps into hours and minutes and back. [`first_open`] looks up a ward's opening hours.
-//! [`marks_differ`] is the test of mark bytes by which reach ends.
+//! A clinic sends a problem as bytes (document 01, "Records"). [`solve`] answers it, and [`solve_all`] answers up to eight
+//! questions over the same rules; [`check`] judges an answer from any engine and trusts none. [`read`] and [`write`] turn an
+//! answer record into its fields and back; [`read_hours`] and [`write_hours`] turn spans and stamps into hours and minutes and
+//! back. [`first_open`] looks up a ward's opening hours. [`marks_differ`] is the test of mark bytes by which reach ends.
 //!
 //! What these functions return is proved of the code behind them, which the archive `libcapi.a` holds; this thin layer
 //! and the compiler that builds it are not part of the proofs.
@@ -31,8 +31,8 @@ mod opening;
 pub mod raw;
 mod words;
 
-pub use calls::{check, read, solve, write, ANSWER_SIZE, PROBLEM_SIZE};
+pub use calls::{check, read, solve, solve_all, write, ANSWER_SIZE, PROBLEM_SIZE, QUESTIONS, QUESTIONS_SIZE};
 pub use hours::{read_hours, write_hours, TEXT_SIZE};
 pub use marks::marks_differ;
 pub use opening::{first_open, Window};
-pub use words::{Answer, Certified, Class, Outcome, Refusal, Solved};
+pub use words::{Answer, AnswerAt, Certified, Class, Outcome, Refusal, Solved, SolvedAll};

@@ -10,7 +10,7 @@ pub const PICKS: usize = 64;
 
 mod archive {
     extern "C" {
-        pub fn span_solve(problem: *const u8, problem_size: usize, answer: *mut u8, answer_size: usize) -> u64;
+        pub fn span_solve(problem: *const u8, problem_size: usize, answers: *mut u8, answers_size: usize) -> u64;
         pub fn span_check(problem: *const u8, problem_size: usize, answer: *const u8, answer_size: usize) -> u64;
         pub fn span_read(
             record: *const u8,
@@ -47,10 +47,10 @@ mod archive {
     }
 }
 
-/// Answers a problem: 256 × trials + refusal.
-pub fn solve(problem: &[u8], answer: &mut [u8]) -> u64 {
+/// Answers a problem of kind 1 or 3, every question of it: 256 × the trials of all + refusal.
+pub fn solve(problem: &[u8], answers: &mut [u8]) -> u64 {
     // SAFETY: both parts are valid for their lengths, and a `&mut` overlaps nothing.
-    unsafe { archive::span_solve(problem.as_ptr(), problem.len(), answer.as_mut_ptr(), answer.len()) }
+    unsafe { archive::span_solve(problem.as_ptr(), problem.len(), answers.as_mut_ptr(), answers.len()) }
 }
 
 /// Judges an answer: the refusal, or 256 × class + 2³² × the span's offset number.

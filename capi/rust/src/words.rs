@@ -1,6 +1,7 @@
 //! The words of document 01 as types.
 
 use std::fmt;
+use std::ops::Range;
 
 /// The class of an answer.
 #[derive(Clone, Copy, Debug, PartialEq, Eq)]
@@ -83,6 +84,40 @@ impl fmt::Display for Solved {
     }
 }
 
+/// What the engine found for one question of several.
+#[derive(Clone, Debug, PartialEq, Eq)]
+pub struct AnswerAt {
+    /// The class, and the span for least.
+    pub outcome: Outcome,
+    /// Where the answer's record stands in the buffer: it starts where the one before ended.
+    pub bytes: Range<usize>,
+}
+
+impl fmt::Display for AnswerAt {
+    fn fmt(&self, out: &mut fmt::Formatter) -> fmt::Result {
+        self.outcome.fmt(out)
+    }
+}
+
+/// What the engine found for every question of a problem.
+#[derive(Clone, Debug, PartialEq, Eq)]
+pub struct SolvedAll {
+    /// One a question, in the problem's order.
+    pub answers: Vec<AnswerAt>,
+    /// The trials of all questions together, each question's as [`Solved`] counts them.
+    pub trials: u32,
+}
+
+impl fmt::Display for SolvedAll {
+    fn fmt(&self, out: &mut fmt::Formatter) -> fmt::Result {
+        for (number, answer) in self.answers.iter().enumerate() {
+            let comma = if number == 0 { "" } else { ", " };
+            write!(out, "{comma}{answer}")?;
+        }
+        Ok(())
+    }
+}
+
 /// An answer that the checker accepted.
 #[derive(Clone, Copy, Debug, PartialEq, Eq)]
 pub struct Certified {
@@ -99,7 +134,7 @@ impl fmt::Display for Certified {
 /// A refusal of document 01, "What is turned away", or of document 02.
 #[derive(Clone, Copy, Debug, PartialEq, Eq)]
 pub struct Refusal {
-    /// Its number, 1 to 14, 18 or 19.
+    /// Its number, 1 to 15, 18 or 19.
     pub number: u8,
 }
 
@@ -109,11 +144,11 @@ impl Refusal {
         match self.number {
             1 => "The problem has fewer than 10 bytes.",
             2 => "Its length field is not its size − 4.",
-            3 => "Its kind is not 1.",
+            3 => "Its kind is not 1, nor, for the engine, 3.",
             4 => "n is above 31 or m above 63.",
-            5 => "Its size does not fit n and m.",
+            5 => "Its size does not fit n and m, and for kind 3 the count of questions.",
             6 => "A lead is neither blank nor within ±10,080.",
-            7 => "The answer buffer is shorter than 206 bytes, whichever class is due.",
+            7 => "The answer buffer is shorter than 206 bytes a question, whichever class is due.",
             8 => "The answer has fewer than 14 bytes.",
             9 => "Its length field is not its size − 4.",
             10 => "Its kind is not 2 or its class not 1 to 3.",
@@ -121,6 +156,7 @@ impl Refusal {
             12 => "Its span or a stamp is outside the form of its class.",
             13 => "A pick is above its highest value.",
             14 => "The form is right and the answer is not accepted: not certified.",
+            15 => "The count of questions is 0 or above 8.",
             18 => {
                 "The text is not of this form, a value read or to be written is beyond ±6,000,000, or the writer's \
                  buffer is shorter than 10 bytes."

@@ -5,20 +5,22 @@ use mathlib.Core.Bool.{true}
 use mathlib.Core.List.{List}
 use mathlib.Core.Logic.{⊎-elim}
 use native.Mathlib.Omega.{arith}
+use native.Mathlib.Nat.{mul-le-mul-right}
 use lib.ListN.{length}
-use Rattle.definitions.specs.Limits.{span-limit, signed-half, answer-most, most-trials}
+use Rattle.definitions.specs.Limits.{span-limit, signed-half, answer-most, most-trials, most-questions}
 use Rattle.definitions.specs.Tropical.{Trop}
 use Rattle.definitions.specs.Offset.{tropOf}
 use Rattle.definitions.specs.Bytes.{blank-or-within}
-use Rattle.definitions.specs.ProblemRecord.{problemRefusal, nField, mField}
+use Rattle.definitions.specs.ProblemRecord.{problemRefusal, kindField, nField, mField, countField, questionsAsked}
 use Rattle.definitions.specs.AnswerRecord.{Answer, answerRefusal, answerOf, answerSize, writerRefusal, writerOutcome, classField}
 use Rattle.definitions.specs.Verdict as Verdicts
 use Rattle.definitions.specs.Verdict.{checkRefusal, answerFor, Judged}
 use Rattle.definitions.specs.Solved.{Solves}
 use Rattle.definitions.proofs.Offset.{within-iff}
 use Rattle.definitions.proofs.Refusals.{or-else-none, answer-fits, writer-fits}
+use Rattle.definitions.proofs.Solved.{asked-few}
 use Rattle.definitions.proofs.RoundTrip.{class-most, span-within, size-most}
-use Rattle.duality.proofs.SmallLeads.{trials-few}
+use Rattle.duality.proofs.SmallLeads.{trials-few, turn-few}
 use Rattle.answer_writer.specs.declared.writer.Written.{Written}
 use Rattle.answer_writer.specs.declared.writer.Written.the-variants as Results
 use Rattle.answer_writer.specs.AnswerWriting.{AnswerWritten, writtenOf}
@@ -29,11 +31,18 @@ use Rattle.engine.specs.Outcome.{solvedOf}
 use Rattle.checker.specs.declared.check.Verdict.{Verdict}
 use Rattle.checker.specs.declared.check.Verdict.the-variants as Turned
 use Rattle.checker.specs.Outcome.{verdictOf}
-use Rattle.engine.proofs.Outcomes.{own-wrote}
+use Rattle.engine.proofs.Outcomes.{own-wrote, own-wrote-all}
 use Rattle.capi.specs.Numbers.{FewTrials, SmallFields, SmallRecord, Numbered, WritesAs, solvedNumber, fieldsNumber, writtenNumber, low-byte, low-half}
 
 pub few-trials : {p before after : List ℕ} {r : Solved} → Solves p before (solvedOf r) after → FewTrials r
-few-trials {p} h = record { few = λ e. let w = own-wrote h e in trials-few p (w .within) (w .answers .found) }
+few-trials {p} h = record {
+  few = λ e. let w = own-wrote h e in trials-few p (w .within) (w .answers .found);
+  all-few = λ e.
+      let w = own-wrote-all h e in
+      let asked : questionsAsked (kindField p) (countField p) ≡ countField p = rw (w .kind-is) refl in
+      let count = mul-le-mul-right {m = countField p} {n = most-questions} most-trials (rw asked at (asked-few p (w .within))) in
+      omega (arith, turn-few (w .kind-is) (w .within) (w .in-turn) (omega arith), count);
+}
 
 -- An accepted answer has the form of its class.
 small-answer : (p a : List ℕ) → checkRefusal p a ≡ 0 → (class span : ℕ) → answerFor p a .class ≡ class → answerFor p a .span ≡ tropOf span → (class < low-byte) × (span < low-half)
@@ -78,6 +87,10 @@ refused-number e = sym (ap (λ (x : Solved). solvedNumber (solvedOf x)) e)
 pub answered-number : {r : Solved} {class span trials size : ℕ} → r ≡ Solutions.Answered class span trials size → low-byte * trials ≡ solvedNumber (solvedOf r)
 unfolding solvedNumber solvedOf
 answered-number e = sym (ap (λ (x : Solved). solvedNumber (solvedOf x)) e)
+
+pub all-answered-number : {r : Solved} {count trials size : ℕ} → r ≡ Solutions.AllAnswered count trials size → low-byte * trials ≡ solvedNumber (solvedOf r)
+unfolding solvedNumber solvedOf
+all-answered-number e = sym (ap (λ (x : Solved). solvedNumber (solvedOf x)) e)
 
 pub accepted-numbered : {v : Verdict} {class span : ℕ} → v ≡ Turned.Accepted class span → Numbered (verdictOf v) (fieldsNumber class span)
 unfolding verdictOf

@@ -4,7 +4,7 @@ use mathlib.Core.Path.{_≡_}
 use mathlib.Core.List.{List}
 use mathlib.Core.Logic.{_⊎_}
 use lib.ListN.{length}
-use Rattle.definitions.specs.Limits.{highest-n, highest-m, byte-values, signed-full, most-trials, answer-most}
+use Rattle.definitions.specs.Limits.{highest-n, highest-m, byte-values, signed-full, most-trials, most-questions, answer-most}
 use Rattle.definitions.specs.Bytes.{put, Outcome, refusal, gives}
 use Rattle.definitions.specs.Offset.{tropOf}
 use Rattle.definitions.specs.AnswerRecord.{Answer, answerRefusal, answerBytes, classField, writerRefusal, writerOutcome, written}
@@ -18,7 +18,7 @@ use Rattle.answer_writer.specs.AnswerWriting.{unlessRefused}
 use Rattle.answer_writer.specs.declared.writer.Written.{Written}
 use Rattle.answer_writer.specs.declared.writer.Written.the-variants.{Record}
 use Rattle.engine.specs.declared.solve.Solved.{Solved}
-use Rattle.engine.specs.declared.solve.Solved.the-variants.{Answered}
+use Rattle.engine.specs.declared.solve.Solved.the-variants.{Answered, AllAnswered}
 use Rattle.checker.specs.declared.check.Verdict.{Verdict}
 use Rattle.checker.specs.declared.check.Verdict.the-variants as Turned
 
@@ -31,10 +31,11 @@ low-half = signed-full
 
 -- ---- span_solve
 
--- The engine's result: 256 × trials where answered, else the refusal.
+-- The engine's result: 256 × trials where answered, of several questions their sum, else the refusal.
 unfoldable pub solvedNumber : Results.Solved → ℕ
 solvedNumber (Results.refused k) = k
 solvedNumber (Results.answered class span trials size) = low-byte * trials
+solvedNumber (Results.all-answered count trials size) = low-byte * trials
 
 -- The engine's result and its buffer, the result as a number.
 pub record SolvesAs (p before : List ℕ) (number : ℕ) (after : List ℕ) : Type 0 where
@@ -64,6 +65,7 @@ pub record JudgedAs (p a : List ℕ) (number : ℕ) : Type 0 where
 -- The trials of an answered result are few.
 pub record FewTrials (r : Solved) : Type 0 where
   pub few : {class span trials size : ℕ} → r ≡ Answered class span trials size → trials ≤ most-trials
+  pub all-few : {count trials size : ℕ} → r ≡ AllAnswered count trials size → trials ≤ most-questions * most-trials
 
 -- Class and span of an accepted answer are small.
 pub record SmallFields (v : Verdict) : Type 0 where

@@ -19,10 +19,11 @@ fn solved_number(solved: Solved) -> u64
     match solved {
         Solved::Refused(k) => k as u64,
         Solved::Answered(_, _, trials, _) => BYTE * trials,
+        Solved::AllAnswered(_, trials, _) => BYTE * trials,
     }
 }
 
-// Answers a problem: the answer's record stands at the start of the lent buffer.
+// Answers a problem: the answer's record, or those of several questions one after another, stand at the start of the lent buffer.
 #[no_mangle]
 pub extern "C" fn span_solve(problem: &[u8], answer: &mut [u8]) -> u64
     ensures { λ r. ⌜ SolvesAs (now (problem .entry)) (now (answer .entry)) r (now (answer .exit)) ⌝ }

@@ -7,8 +7,9 @@ use mathlib.Core.List.{List, [], _∷_, map}
 use lib.IntN.{ℤ, pos, negsuc}
 use Rattle.definitions.specs.Limits.{kept-bytes, top-trial, lowest-trial, problem-most, answer-most}
 use Rattle.definitions.specs.Tropical.{Trop, bot, fin}
-use Rattle.definitions.specs.Bytes.{numAt, numsAt, signed, tropField, tropAt, all, blank-or-within, whole-within}
-use Rattle.definitions.specs.ProblemRecord.{headerRefusal, headerJudged, problemRefusal, leadsOf, refusalFor}
+use Rattle.definitions.specs.Bytes.{numAt, numsAt, le, signed, tropField, tropAt, all, blank-or-within, whole-within}
+use Rattle.definitions.specs.ProblemRecord.{headerRefusal, headerJudged, problemRefusal, leadsOf, refusalFor, headerBytes}
+use Rattle.definitions.specs.Questions.{alone}
 use Rattle.definitions.specs.Bisection.{trials-infeasible, trials-unbounded}
 use Rattle.definitions.specs.Verdict.{Verdict, accepted, refused, checkRefusal}
 use Rattle.definitions.specs.Solved.{engineRefusal}
@@ -195,6 +196,22 @@ check-order = refl
 engine-room : map (engineRefusal (example-A .problem)) (205 ∷ 206 ∷ []) ≡ 7 ∷ 0 ∷ []
 unfolding engineRefusal refusalFor headerRefusal headerJudged leadsOf numAt numsAt all blank-or-within tropField signed example-A
 engine-room = refl
+
+-- Two questions over no rules, 5 − 2 and 7 − 4, with buffers of 206, 411 and 412 bytes.
+two-questions : List ℕ
+two-questions =
+    24 ∷ 0 ∷ 0 ∷ 0 ∷ 3 ∷ 0 ∷ 0 ∷ 0 ∷ 0 ∷ 0 ∷ 2 ∷ 0 ∷ 5 ∷ 0 ∷ 0 ∷ 0 ∷ 2 ∷ 0 ∷ 0 ∷ 0 ∷ 7 ∷ 0 ∷ 0 ∷ 0 ∷ 4 ∷ 0 ∷ 0 ∷ 0 ∷ []
+
+questions-room : map (engineRefusal two-questions) (206 ∷ 411 ∷ 412 ∷ []) ≡ 7 ∷ 7 ∷ 0 ∷ []
+unfolding engineRefusal refusalFor headerRefusal headerJudged leadsOf numAt numsAt all blank-or-within tropField signed two-questions
+questions-room = refl
+
+-- Each of them alone, as a problem of kind 1.
+questions-alone : map (alone two-questions) (0 ∷ 1 ∷ [])
+    ≡ (14 ∷ 0 ∷ 0 ∷ 0 ∷ 1 ∷ 0 ∷ 0 ∷ 0 ∷ 0 ∷ 0 ∷ 5 ∷ 0 ∷ 0 ∷ 0 ∷ 2 ∷ 0 ∷ 0 ∷ 0 ∷ [])
+    ∷ (14 ∷ 0 ∷ 0 ∷ 0 ∷ 1 ∷ 0 ∷ 0 ∷ 0 ∷ 0 ∷ 0 ∷ 7 ∷ 0 ∷ 0 ∷ 0 ∷ 4 ∷ 0 ∷ 0 ∷ 0 ∷ []) ∷ []
+unfolding alone headerBytes numAt le two-questions
+questions-alone = refl
 
 -- ---- lines
 

@@ -181,8 +181,9 @@ far-answer {a} b h n m f g =
 -- What the span program puts out is the same for all inputs that are so long.
 pub span-far : (input other : List ℕ) → Bytes input → Bytes other → read-most ≤ length input → read-most ≤ length other → {output : List ℕ}
     → SpanOutput other output → SpanOutput input output
-span-far input other b c h g (Programs.refusal {k = k} e) = Programs.refusal (far-problem false b h ∙ sym (far-problem false c g) ∙ e)
-span-far input other b c h g (Programs.answer a e ans) = absurd (let z = far-problem false c g in omega arith)
+span-far input other b c h g (Programs.refusal {k = k} e) = Programs.refusal (far-problem true b h ∙ sym (far-problem true c g) ∙ e)
+span-far input other b c h g (Programs.answer a k e ans) = absurd (let z = far-problem true c g in omega arith)
+span-far input other b c h g (Programs.answers k e all) = absurd (let z = far-problem true c g in omega arith)
 
 -- ---- the verdict program on them
 

@@ -1,12 +1,12 @@
 -- Laws of `put`, the list with values put from a place on. Everything that is said of a written buffer goes through these.
 use Prim.Native.Nat.{ℕ, suc, _+_, _-_, _≤_, _<_}
-use mathlib.Core.Path.{_≡_, subst, _∙_}
-use mathlib.Core.List.{List, [], _∷_, _++_, append-assoc}
+use mathlib.Core.Path.{_≡_, refl, sym, subst, _∙_}
+use mathlib.Core.List.{List, [], _∷_, _++_, append-assoc, append-nil}
 use native.Mathlib.Omega.{arith}
-use native.Mathlib.Nat.{add-zero}
+use native.Mathlib.Nat.{add-zero, zero-add}
 use native.Mathlib.Numerals.{add-one}
 use lib.ListN.{length, getD, set, take, drop, length-append, length-drop, take-append-drop}
-use lib.Seq.{length-take-le, take-suc, take-at, drop-append-add, drop-drop, set-split, getD-drop}
+use lib.Seq.{length-take-le, take-suc, take-at, drop-append-add, drop-drop, set-split, getD-drop, take-length, drop-length}
 use Rattle.definitions.specs.Bytes.{put}
 
 -- Nothing put changes nothing.
@@ -72,3 +72,18 @@ put-more l at vs i h g =
     let next : i + 1 ≡ suc i = omega arith in
     put-one (put l at (take i vs)) (at + i) (getD vs i 0) (omega arith) ∙ put-put l at (take i vs) (at + i) (getD vs i 0 ∷ []) (omega arith) (omega arith)
     ∙ rw (next, take-suc vs i 0 h)
+
+-- Values put at the start of the part from a place on, and the part put back there: the values are put at that place.
+pub put-part : (l : List ℕ) (at : ℕ) (vs : List ℕ) → at ≤ length l
+    → take at l ++ (put (take (length l - at) (drop at l)) 0 vs ++ drop (length l - at) (drop at l)) ≡ put l at vs
+unfolding put
+put-part l at vs h =
+    let size : length l - at ≡ length (drop at l) = sym (length-drop at l) in
+    let whole : take (length l - at) (drop at l) ≡ drop at l = rw size (take-length (drop at l)) in
+    let none : drop (length l - at) (drop at l) ≡ [] = rw size (drop-length (drop at l)) in
+    rw (whole, none, append-nil, zero-add, drop-drop) refl
+
+-- Values put at the start stand in front.
+pub put-front : (l vs : List ℕ) → put l 0 vs ≡ vs ++ drop (length vs) l
+unfolding put
+put-front l vs = rw zero-add refl

@@ -9,12 +9,12 @@ use native.Mathlib.Nat.{mul-le-mul-left, mul-le-mul-right}
 use borrow.Author.Tests.{eq-eqb, ne-eqb}
 use lib.ListN.{length, getD, take, drop, length-append, length-drop, List·getD-append}
 use lib.Seq.{getD-append-add, getD-take, getD-drop, length-take-le}
-use Rattle.definitions.specs.Limits.{highest-n, highest-m, lead-limit, signed-bytes, signed-full, problem-kind, questions-kind, most-questions, problem-header, questions-header}
-use Rattle.definitions.specs.Bytes.{numAt, tropField, tropAt, all, blank-or-within}
+use Rattle.definitions.specs.Limits.{highest-n, highest-m, lead-limit, length-bytes, short-bytes, signed-bytes, signed-full, problem-kind, questions-kind, most-questions, problem-header, questions-header}
+use Rattle.definitions.specs.Bytes.{Bytes, numAt, tropField, tropAt, all, blank-or-within}
 use Rattle.definitions.specs.ProblemRecord.{nField, mField, lengthField, kindField, countField, problemSize, leadsOf, leadsPlace, questionsAsked, headerRefusal, WithinLayout, WithinLayouts, rowPlace, headerBytes}
 use Rattle.definitions.specs.Questions.{part, rowsSize, alone, asking, askedRow}
 use Rattle.base.proofs.Numbers.{nat-le-or-lt}
-use Rattle.definitions.proofs.Bytes.{numAt-same, all-numsAt}
+use Rattle.definitions.proofs.Bytes.{numAt-same, all-numsAt, bytes-append, bytes-le, bytes-take, bytes-drop}
 use Rattle.definitions.proofs.Refusals.{header-passes, few-questions, record-fits, problem-fits, leads-one}
 use Rattle.definitions.proofs.ProblemBack.{length-header, read-length, read-kind, read-n, read-m}
 
@@ -253,3 +253,17 @@ alone-within s k w q h =
 -- A problem of one question is its own record.
 pub asking-itself : (p : List ℕ) (q : ℕ) → WithinLayout p → asking p q ≡ p
 asking-itself p q w = rw (problem-fits p .0 w .kind-is) refl
+
+-- Its bytes are bytes.
+header-all-bytes : (n m : ℕ) → Bytes (headerBytes n m)
+unfolding headerBytes
+header-all-bytes n m =
+    bytes-append (bytes-append (bytes-le length-bytes (problemSize n m - length-bytes)) (bytes-le short-bytes problem-kind))
+    (bytes-append (bytes-le short-bytes n) (bytes-le short-bytes m))
+
+pub alone-bytes : (s : List ℕ) (q : ℕ) → Bytes s → Bytes (alone s q)
+unfolding alone
+alone-bytes s q b =
+    bytes-append (header-all-bytes (nField s) (mField s))
+    (bytes-append (bytes-take (rowsSize (nField s) (mField s)) (bytes-drop questions-header b))
+    (bytes-take (rowsSize (nField s) 1) (bytes-drop (rowPlace questions-header (nField s) (mField s + q)) b)))

@@ -13,7 +13,7 @@ use borrow.Author.Tests.{ltb-false, eqb-true, not-false, le-ltb, le-leb, eq-eqb}
 use Rattle.definitions.specs.Limits.{highest-n, highest-m, lead-limit, length-bytes, signed-bytes, problem-kind, questions-kind, most-questions, answer-kind, problem-header, questions-header, answer-header, answer-most}
 use Rattle.definitions.specs.Tropical.{fin}
 use Rattle.definitions.specs.Bytes.{numsAt, tropField, tropAt, all, blank-or-within, or-else}
-use Rattle.definitions.specs.ProblemRecord.{problemSize, recordSize, lengthField, kindField, nField, mField, countField, leadsPlace, questionsAsked, leadsOf, known-kind, above-limits, wrong-count, headerRefusal, headerJudged, refusalFor, WithinLayout, problemOf, leftPlace, rightPlace}
+use Rattle.definitions.specs.ProblemRecord.{problemSize, recordSize, lengthField, kindField, nField, mField, countField, leadsPlace, questionsAsked, leadsOf, known-kind, above-limits, wrong-count, headerRefusal, headerJudged, refusalFor, WithinLayout, problemOf, leftPlace, rightPlace, problemRefusal, recordRefusal}
 use Rattle.definitions.specs.AnswerRecord.{Answer, known-class, stampCount, pickCount, highestPick, answerSize, spanFits, stampsFit, picksFit, formRefusal, rightCounts, classField, answerOf, answerHeaderRefusal, answerHeaderJudged, answerRefusal, writerRefusal, writerJudged}
 use Rattle.definitions.proofs.Bytes.{all-numsAt}
 use Rattle.definitions.proofs.Offset.{within-size}
@@ -189,6 +189,11 @@ pub size-one : (kind n m count : ℕ) → kind ≡ problem-kind → recordSize k
 size-one kind n m count e = rw e (omega arith)
 
 -- ---- problems of one question
+
+-- A record of kind 1 has the same refusal, whether the entry takes several questions too or not.
+pub one-question : (s : List ℕ) → kindField s ≡ problem-kind → recordRefusal s ≡ problemRefusal s
+unfolding refusalFor headerRefusal headerJudged
+one-question s k = rw k refl
 
 -- The facts of a problem record that nothing refuses.
 pub record ProblemFits (s : List ℕ) : Type 0 where

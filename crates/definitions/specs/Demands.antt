@@ -1,22 +1,23 @@
 -- The three demands of the service description, sentence by sentence, as statements about any functions on bytes:
 -- an engine, a checker, readers, a writer and the two programs. That a function ends on every string of bytes is part
 -- of its being a function. Document 01 says under "The checker" what the words of demand 3 mean.
-use Prim.Native.Nat.{ℕ, zero, suc, _≤_, _<_}
+use Prim.Native.Nat.{ℕ, zero, suc, _+_, _*_, _≤_, _<_}
 use mathlib.Core.Path.{_≡_}
 use mathlib.Core.Bool.{Bool, true}
 use mathlib.Core.Logic.{_↔_}
 use mathlib.Core.List.{List, []}
-use lib.ListN.{length, getD, take}
+use lib.ListN.{length, getD, take, drop}
 use lib.IntN.{ℤ}
-use Rattle.definitions.specs.Limits.{most-trials, class-optimal, class-unbounded, class-infeasible, answer-most, kept-bytes, word-values}
+use Rattle.definitions.specs.Limits.{questions-kind, most-trials, class-optimal, class-unbounded, class-infeasible, answer-most, kept-bytes, word-values}
 use Rattle.definitions.specs.Tropical.{Trop, bot, fin}
 use Rattle.definitions.specs.Problem.{Problem, Point, Feasible, value, whole, plus-infinity, _≼_, Attainable}
 use Rattle.definitions.specs.Bytes.{Bytes, Outcome, refusal, gives}
 use Rattle.definitions.specs.Offset.{tropOf}
-use Rattle.definitions.specs.ProblemRecord.{problemRefusal, WithinLayout, problemOf, nField, mField, listOf}
+use Rattle.definitions.specs.ProblemRecord.{recordRefusal, WithinLayout, WithinLayouts, problemOf, kindField, nField, mField, countField, listOf}
+use Rattle.definitions.specs.Questions.{part, alone, asking}
 use Rattle.definitions.specs.AnswerRecord.{Answer, answerRefusal, writerRefusal, answerOf, answerBytes, answerSize, pickCount, highestPick, picksFit, spanFits, stampsFit, written}
 use Rattle.definitions.specs.Verdict.{Verdict, accepted, refused, accepts, checkRefusal, Accepted, answerFor, pointOf, Judged}
-use Rattle.definitions.specs.Solved.{Solved, answered, Found, engineRefusal, Solves}
+use Rattle.definitions.specs.Solved.{Solved, answered, all-answered, Found, engineRefusal, Solves}
 use Rattle.definitions.specs.Programs.{VerdictOutput, SpanOutput, ReadFrom}
 
 -- ---- what can be handed over
@@ -106,9 +107,9 @@ CheckerRefuses check =
     (p a : List ℕ) → Slice p → Slice a → (k : ℕ) → checkRefusal p a ≡ suc k → check p a ≡ refused (suc k)
 
 pub record ProblemReaderRefuses (read : ProblemReader) : Type 0 where
-  pub number-is : (p : List ℕ) → Slice p → read .number p ≡ problemRefusal p
+  pub number-is : (p : List ℕ) → Slice p → read .number p ≡ recordRefusal p
   pub untouched :
-      (p : List ℕ) → Slice p → (k : ℕ) → problemRefusal p ≡ suc k
+      (p : List ℕ) → Slice p → (k : ℕ) → recordRefusal p ≡ suc k
       → (read .left p ≡ read .lent-left) × (read .right p ≡ read .lent-right)
 
 pub record ReaderRefuses (read : Reader) : Type 0 where
@@ -158,15 +159,16 @@ abbrev pub EngineSolves : Engine → Type 0
 EngineSolves engine =
     (p buffer : List ℕ) → Slice p → Slice buffer → Solves p buffer (engine .result p buffer) (engine .buffer p buffer)
 
--- What is read: the fields of the bytes. What is written: the record of the fields, and every byte after it stays.
+-- What is read: the fields of the bytes, of several questions the first. What is written: the record of the fields, and every byte after
+-- it stays.
 pub record ReadsProblem (read : ProblemReader) (p : List ℕ) : Type 0 where
-  pub n-is : read .problem p .n ≡ problemOf p .n
-  pub m-is : read .problem p .m ≡ problemOf p .m
-  pub left-is : (i j : ℕ) → i ≤ mField p → j ≤ nField p → read .problem p .left i j ≡ problemOf p .left i j
-  pub right-is : (i j : ℕ) → i ≤ mField p → j ≤ nField p → read .problem p .right i j ≡ problemOf p .right i j
+  pub n-is : read .problem p .n ≡ problemOf (asking p 0) .n
+  pub m-is : read .problem p .m ≡ problemOf (asking p 0) .m
+  pub left-is : (i j : ℕ) → i ≤ mField p → j ≤ nField p → read .problem p .left i j ≡ problemOf (asking p 0) .left i j
+  pub right-is : (i j : ℕ) → i ≤ mField p → j ≤ nField p → read .problem p .right i j ≡ problemOf (asking p 0) .right i j
 
 abbrev pub ReadsProblems : ProblemReader → Type 0
-ReadsProblems read = (p : List ℕ) → Slice p → WithinLayout p → ReadsProblem read p
+ReadsProblems read = (p : List ℕ) → Slice p → WithinLayouts p → ReadsProblem read p
 
 abbrev pub ReadsFields : Reader → Type 0
 ReadsFields read =
@@ -290,6 +292,45 @@ OwnAnswers engine check =
     (p buffer : List ℕ) → Slice p → Slice buffer → WithinLayout p → answer-most ≤ length buffer
     → OwnAnswer engine check p buffer
 
+-- ---- several questions
+
+-- Document 02, 2.1: demands 2 and 3 for each question with its kind 1 problem, which is within the layout, so that all that they say of such a
+-- problem holds of it. The answer to question q, in `size` bytes of the engine's buffer from `at` on: class and least span of the
+-- theory, in at most 23 trials; it reads back as itself; and the checker accepts it.
+pub record QuestionAnswered (check : Checker) (read : Reader) (p buffer : List ℕ) (q at size trials : ℕ) : Type 0 where
+  pub class : ℕ
+  pub span : Trop
+  pub answer : Answer
+  pub within : WithinLayout (alone p q)
+  pub found : Found (problemOf (alone p q)) class span trials
+  pub few : trials ≤ most-trials
+  pub size-is : size ≡ answerSize class (nField p) (mField p)
+  pub bytes-are : part buffer at size ≡ answerBytes (nField p) answer
+  pub reads : read .reading (part buffer at size) (nField p) (mField p) ≡ gives answer
+  pub class-is : answer .class ≡ class
+  pub span-is : answer .span ≡ span
+  pub accepted-is : check (alone p q) (part buffer at size) ≡ accepted class span
+
+-- The answers to the first questions: each starts where the one before ended; the bytes and the trials of all of them.
+pub data QuestionsAnswered (check : Checker) (read : Reader) (p buffer : List ℕ) : ℕ → ℕ → ℕ → Type 0 where
+  no-question : QuestionsAnswered check read p buffer 0 0 0
+  one-more :
+      {q at size trials own : ℕ} → QuestionsAnswered check read p buffer q at trials → QuestionAnswered check read p buffer q at size own
+      → QuestionsAnswered check read p buffer (suc q) (at + size) (trials + own)
+
+-- Where several questions are asked, and the buffer has 206 bytes for each, all of them are answered; bytes after the last answer stay.
+pub record AllAnswered (engine : Engine) (check : Checker) (read : Reader) (p buffer : List ℕ) : Type 0 where
+  pub trials : ℕ
+  pub size : ℕ
+  pub result-is : engine .result p buffer ≡ all-answered (countField p) trials size
+  pub each : QuestionsAnswered check read p (engine .buffer p buffer) (countField p) size trials
+  pub stay : drop size (engine .buffer p buffer) ≡ drop size buffer
+
+abbrev pub EachQuestion : Engine → Checker → Reader → Type 0
+EachQuestion engine check read =
+    (p buffer : List ℕ) → Slice p → Slice buffer → WithinLayouts p → kindField p ≡ questions-kind → countField p * answer-most ≤ length buffer
+    → AllAnswered engine check read p buffer
+
 -- ---- the demands, whole
 
 pub record Demand1 (engine : Engine) (check : Checker) (readProblem : ProblemReader) (read : Reader) (write : Writer) (span verdict : Program) : Type 0 where
@@ -319,8 +360,9 @@ pub record Demand3 (engine : Engine) (check : Checker) : Type 0 where
   pub bottomless-exactly : BottomlessExactly check
   pub own-answers : OwnAnswers engine check
 
--- All three of the same functions.
+-- All three of the same functions, and the second and third for each of several questions.
 pub record Demands (engine : Engine) (check : Checker) (readProblem : ProblemReader) (read : Reader) (write : Writer) (span verdict : Program) : Type 0 where
   pub first : Demand1 engine check readProblem read write span verdict
   pub second : Demand2 engine readProblem read write
   pub third : Demand3 engine check
+  pub each-question : EachQuestion engine check read

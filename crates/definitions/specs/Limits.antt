@@ -97,7 +97,7 @@ class-unbounded = 2
 abbrev pub class-infeasible : ℕ
 class-infeasible = 3
 
--- The bytes of a problem before its leads, 10, and of an answer before its stamps and picks, 14.
+-- The bytes of a problem of kind 1 before its leads, 10, and of an answer before its stamps and picks, 14.
 abbrev pub problem-header : ℕ
 problem-header = m-place + short-bytes
 
@@ -111,7 +111,7 @@ count-place = m-place + short-bytes
 abbrev pub questions-header : ℕ
 questions-header = count-place + short-bytes
 
--- The largest answer record, 206 bytes: n = 31, class 1. A shorter answer buffer is refused, whichever class is due.
+-- The largest answer record, 206 bytes: n = 31, class 1. An answer buffer shorter than that for each question is refused, whichever class is due.
 abbrev pub answer-most : ℕ
 answer-most = answer-header + (signed-bytes + short-bytes) * suc highest-n
 
@@ -129,7 +129,7 @@ table-size = table-rows * stride
 abbrev pub arcs-size : ℕ
 arcs-size = stride * stride
 
--- The most leads of a problem, 4,096, the place of its last row, 16,138, and the largest problem record, 16,394 bytes.
+-- Of a problem of kind 1: the most leads, 4,096, the place of its last row, 16,138, and the largest record, 16,394 bytes.
 abbrev pub leads-most : ℕ
 leads-most = 2 * table-size
 
@@ -196,7 +196,7 @@ refused-kind = 3
 abbrev pub refused-limits : ℕ
 refused-limits = 4
 
--- Its size does not fit its kind, n and m.
+-- Its size does not fit its kind, n and m, and of kind 3 its count.
 abbrev pub refused-size : ℕ
 refused-size = 5
 
@@ -208,7 +208,7 @@ refused-lead = 6
 abbrev pub refused-count : ℕ
 refused-count = 15
 
--- The answer buffer is shorter than 206 bytes, whichever class is due.
+-- The answer buffer is shorter than 206 bytes, in the engine than 206 for each question, whichever class is due.
 abbrev pub refused-room : ℕ
 refused-room = 7
 

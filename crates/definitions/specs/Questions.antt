@@ -7,7 +7,7 @@ use lib.ListN.{take, drop}
 use Rattle.definitions.specs.Limits.{signed-bytes, questions-header}
 use Rattle.definitions.specs.ProblemRecord.{kindField, nField, mField, by-kind, rowPlace, headerBytes}
 
--- `count` bytes of a string from a place on.
+-- `count` bytes of a string from a place on; fewer where it ends before.
 abbrev pub part : List ℕ → ℕ → ℕ → List ℕ
 part s from count = take count (drop from s)
 
@@ -23,7 +23,7 @@ alone s q =
     ++ (part s questions-header (rowsSize (nField s) (mField s))
     ++ part s (rowPlace questions-header (nField s) (mField s + q)) (rowsSize (nField s) 1))
 
--- The kind 1 record of question q: of a record that asks one question, itself.
+-- The kind 1 record of question q: of a record of kind 1, itself.
 abbrev pub asking : List ℕ → ℕ → List ℕ
 asking s q = by-kind (kindField s) (alone s q) s
 

@@ -1,23 +1,30 @@
--- What the engine says of a problem's bytes, and what it writes. Document 01, "The engine".
-use Prim.Native.Nat.{ℕ, zero, suc}
+-- What the engine says of a problem's bytes, and what it writes. Document 01, "The engine"; document 02, 2.1.
+use Prim.Native.Nat.{ℕ, zero, suc, _+_, _*_}
 use mathlib.Core.Path.{_≡_}
 use mathlib.Core.Bool.{true}
-use mathlib.Core.List.{List, [], _∷_}
+use mathlib.Core.List.{List, [], _∷_, _++_}
+use lib.Dec.{ltb}
 use lib.ListN.{length, getD}
 use lib.IntN.{ℤ}
-use Rattle.definitions.specs.Limits.{class-optimal, class-unbounded, class-infeasible}
+use Rattle.definitions.specs.Limits.{problem-kind, questions-kind, answer-most, refused-room, class-optimal, class-unbounded, class-infeasible}
 use Rattle.definitions.specs.Tropical.{Trop, bot, fin, Finite}
 use Rattle.definitions.specs.Problem.{Problem, Optimal, Unbounded, Infeasible}
 use Rattle.definitions.specs.Certificate.{Strategy, Reachable, Anchor, Leads, RowLeads}
-use Rattle.definitions.specs.Bytes.{first, or-else}
-use Rattle.definitions.specs.ProblemRecord.{problemRefusal, problemOf, nField, mField}
-use Rattle.definitions.specs.AnswerRecord.{Answer, roomRefused, rightCounts, formRefusal, answerSize, answerBytes, written}
+use Rattle.definitions.specs.Bytes.{Clause, first, or-else}
+use Rattle.definitions.specs.ProblemRecord.{recordRefusal, problemOf, kindField, nField, mField, countField, questionsAsked}
+use Rattle.definitions.specs.Questions.{alone}
+use Rattle.definitions.specs.AnswerRecord.{Answer, rightCounts, formRefusal, answerSize, answerBytes, written}
 use Rattle.definitions.specs.Bisection.{trials-optimal, trials-unbounded, trials-infeasible}
 use Rattle.definitions.specs.Verdict.{Accepted, strategyOf}
 
--- The first of refusals 1 to 6 for the problem, then 7 for a buffer of `room` bytes; 0 where none applies.
+-- Refusal 7 in the engine: a buffer of `room` bytes is shorter than 206 bytes a question.
+abbrev pub answersRefused : ℕ → ℕ → Clause
+answersRefused questions room = record { applies = ltb room (questions * answer-most); number = refused-room }
+
+-- The first of refusals 1 to 6 and 15 for a problem of one question or several, then 7 for a buffer of `room` bytes; 0 where none
+-- applies.
 unfoldable pub engineRefusal : List ℕ → ℕ → ℕ
-engineRefusal p room = or-else (problemRefusal p) (first (roomRefused room ∷ []))
+engineRefusal p room = or-else (recordRefusal p) (first (answersRefused (questionsAsked (kindField p) (countField p)) room ∷ []))
 
 -- The class, span and trials of a problem: least s, bottomless or none, by its plans alone. The count is document 01's for
 -- that class and span; how many trials a run makes is not said here.
@@ -47,16 +54,30 @@ pub record Answers (p : Problem) (class : ℕ) (span : Trop) (trials : ℕ) (a :
   pub idle-rows : class ≡ class-unbounded → IdleRows p (strategyOf (a .picks))
   pub accepted : Accepted p a
 
--- What the engine answers: refused with the number, or answered with class, span, trials and the record's size.
+-- The answers to the first questions of a record of several, one after another: their bytes, and the sum of their trials. Each is one
+-- that the engine may give to the kind 1 problem with its question alone.
+pub data AnswersInTurn (p : List ℕ) : ℕ → List ℕ → ℕ → Type 0 where
+  no-question : AnswersInTurn p 0 [] 0
+  one-more :
+      {q trials own class : ℕ} {bytes : List ℕ} {span : Trop} (a : Answer) → AnswersInTurn p q bytes trials
+      → Answers (problemOf (alone p q)) class span own a → AnswersInTurn p (suc q) (bytes ++ answerBytes (nField p) a) (trials + own)
+
+-- What the engine answers: refused with the number; to one question, answered with class, span, trials and the record's size; to
+-- several, all answered with their count, the sum of the trials and the size of all records.
 pub data Solved : Type 0 where
   refused : ℕ → Solved
   answered : ℕ → Trop → ℕ → ℕ → Solved
+  all-answered : ℕ → ℕ → ℕ → Solved
 
 -- The engine's result and its buffer for the bytes p and a lent buffer: a refusal leaves the buffer as it was; an
--- answer's record stands at its start, and every byte after the record is as it was.
+-- answer's record, or those of all answers one after another, stand at its start, and every byte after them is as it was.
 pub data Solves (p before : List ℕ) : Solved → List ℕ → Type 0 where
   turned-away : {k : ℕ} → engineRefusal p (length before) ≡ suc k → Solves p before (refused (suc k)) before
   solved :
-      {class : ℕ} {span : Trop} {trials : ℕ} (a : Answer) → engineRefusal p (length before) ≡ 0
+      {class : ℕ} {span : Trop} {trials : ℕ} (a : Answer) → kindField p ≡ problem-kind → engineRefusal p (length before) ≡ 0
       → Answers (problemOf p) class span trials a
       → Solves p before (answered class span trials (answerSize class (nField p) (mField p))) (written before (answerBytes (nField p) a))
+  all-solved :
+      {bytes : List ℕ} {trials : ℕ} → kindField p ≡ questions-kind → engineRefusal p (length before) ≡ 0
+      → AnswersInTurn p (countField p) bytes trials
+      → Solves p before (all-answered (countField p) trials (length bytes)) (written before bytes)

@@ -1,13 +1,16 @@
 -- Problems within the layout: their leads are small, as duality asks, and the trials of an answer are few.
-use Prim.Native.Nat.{ℕ, suc, _*_, _≤_}
+use Prim.Native.Nat.{ℕ, zero, suc, _+_, _*_, _≤_}
+use mathlib.Core.Path.{_≡_}
 use mathlib.Core.List.{List}
 use native.Mathlib.Omega.{arith}
-use Rattle.definitions.specs.Limits.{lead-limit, span-limit, most-trials}
+use Rattle.definitions.specs.Limits.{lead-limit, span-limit, most-trials, questions-kind}
 use Rattle.definitions.specs.Tropical.{Trop}
-use Rattle.definitions.specs.ProblemRecord.{WithinLayout, problemOf, nField}
-use Rattle.definitions.specs.Solved.{Found, optimal, unbounded, infeasible}
+use Rattle.definitions.specs.ProblemRecord.{WithinLayout, WithinLayouts, problemOf, kindField, nField, countField}
+use Rattle.definitions.specs.Questions.{alone}
+use Rattle.definitions.specs.Solved.{Found, optimal, unbounded, infeasible, AnswersInTurn, no-question, one-more}
 use Rattle.definitions.proofs.Bisection.{few-trials}
 use Rattle.definitions.proofs.Refusals.{problem-fits, left-size, right-size}
+use Rattle.definitions.proofs.Solved.{one-asked}
 use Rattle.duality.specs.Within.{Within}
 use Rattle.duality.proofs.Classes.{optimal-range}
 use Rattle.duality.proofs.Numbers.{top-enough}
@@ -32,3 +35,9 @@ trials-few p w (optimal {s = s} o) =
     few-trials s (optimal-range (problemOf p) lead-limit span-limit (layout-within p w) (layout-enough p w) s o)
 trials-few p w (unbounded u) = omega arith
 trials-few p w (infeasible n) = omega arith
+
+-- So are those of several questions together.
+pub turn-few : {p : List ℕ} → kindField p ≡ questions-kind → WithinLayouts p → {q trials : ℕ} {bytes : List ℕ} → AnswersInTurn p q bytes trials → q ≤ countField p → trials ≤ q * most-trials
+turn-few k w no-question h = omega arith
+turn-few {p} k w (one-more {q = q} a turn ans) h =
+    omega (arith, turn-few k w turn (omega arith), trials-few (alone p q) (one-asked p k w q (omega arith) .within) (ans .found))

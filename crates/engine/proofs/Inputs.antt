@@ -1,7 +1,7 @@
 -- Inputs of which the first bytes were kept: what is decided from them and the size holds of every such input.
 use Prim.Native.Nat.{ℕ, zero, suc, _+_, _≤_, _<_}
 use mathlib.Core.Path.{_≡_, refl, ap, sym, subst, _∙_}
-use mathlib.Core.Bool.{false}
+use mathlib.Core.Bool.{true}
 use mathlib.Core.List.{List}
 use native.Mathlib.Omega.{arith}
 use lib.ListN.{length, getD, take, length-take}
@@ -12,12 +12,12 @@ use Rattle.definitions.specs.ProblemRecord.{headerRefusal, headerOutcome, probl
 use Rattle.definitions.specs.Programs.{KeptOf}
 use Rattle.definitions.specs.Solved as Results
 use Rattle.definitions.specs.Solved.{Solves}
-use Rattle.definitions.proofs.Inputs.{kept-whole, kept-at, one-agrees}
+use Rattle.definitions.proofs.Inputs.{kept-whole, kept-at, header-agrees, header-most}
 use Rattle.definitions.proofs.Refusals.{or-else-suc}
 use Rattle.records.specs.declared.problem.Header.{Header}
 use Rattle.records.specs.declared.problem.Header.the-variants as Headers
 use Rattle.records.specs.ProblemHeader.{problemRefused, headerOf}
-use Rattle.records.proofs.ProblemHeader.{fits-one, header-fits, header-refuses, product-most}
+use Rattle.records.proofs.ProblemHeader.{header-fits, header-refuses}
 use Rattle.engine.specs.declared.solve.Solved.the-variants as Results′
 use Rattle.engine.specs.Outcome.{solvedOf}
 use Rattle.engine.proofs.Outcomes.{refuses-with}
@@ -28,17 +28,17 @@ kept-solves kept {before = before} {r} {after} s input k h = subst (λ (x : List
 
 -- A longer one is refused by its header: no problem is that long.
 pub long-refused : {kept input : List ℕ} {size : ℕ} {before : List ℕ} (header : Header) {r : ℕ} → KeptOf kept size input → kept-bytes < size
-    → headerOf header ≡ headerOutcome false kept size → r ≡ problemRefused header → Solves input before (solvedOf (Results′.Refused r)) before
+    → headerOf header ≡ headerOutcome true kept size → r ≡ problemRefused header → Solves input before (solvedOf (Results′.Refused r)) before
 unfolding solvedOf problemRefused refusalFor
 long-refused {kept} {input} {size} {before} header {r} k h e g = go header refl
   where
     go : (x : Header) → header ≡ x → Solves input before (Results.refused r) before
     go (Headers.Told l) f =
-        let q = header-fits false kept size e f in
-        absurd (omega (arith, fits-one q, product-most (l .n) (l .m) (q .n-most) (q .m-most)))
+        let q = header-fits true kept size e f in
+        absurd (omega (arith, header-most true kept size (q .none)))
     go (Headers.Refused j) f =
-        let q = header-refuses false kept size e f in
-        let same : headerRefusal false input (length input) ≡ j = ap (headerRefusal false input) (k .size-is) ∙ one-agrees input kept (λ i b. kept-at k h i (omega arith)) size ∙ q .0 in
-        let some : 0 < headerRefusal false input (length input) = omega (arith, q .1) in
+        let q = header-refuses true kept size e f in
+        let same : headerRefusal true input (length input) ≡ j = ap (headerRefusal true input) (k .size-is) ∙ header-agrees true input kept (λ i b. kept-at k h i (omega arith)) size ∙ q .0 in
+        let some : 0 < headerRefusal true input (length input) = omega (arith, q .1) in
         let number : r ≡ j = g ∙ ap problemRefused f in
-        refuses-with input before r (or-else-suc (headerRefusal false input (length input)) _ some ∙ same ∙ sym number) (omega (arith, q .1))
+        refuses-with input before r (or-else-suc (headerRefusal true input (length input)) _ some ∙ same ∙ sym number) (omega (arith, q .1))

@@ -1,43 +1,43 @@
 -- From what was found and written to the engine's result on bytes.
-use Prim.Native.Nat.{ℕ, zero, suc, _+_, _≤_, _<_}
-use mathlib.Core.Path.{_≡_, refl, ap, ap₂, sym, subst₂, _∙_}
-use mathlib.Core.Bool.{Bool, cond, false}
+use Prim.Native.Nat.{ℕ, zero, suc, _+_, _*_, _≤_, _<_}
+use mathlib.Core.Path.{_≡_, refl, ap, sym, subst₂, _∙_}
+use mathlib.Core.Bool.{Bool, cond, true, false}
+use mathlib.Core.Logic.{⊎-elim}
 use mathlib.Core.List.{List, map}
-use lib.Dec.{ltb}
 use native.Mathlib.Omega.{arith}
-use lib.ListN.{length, getD, take, length-take, length-map}
-use borrow.Author.Tests.{le-ltb, lt-ltb}
-use Rattle.definitions.specs.Limits.{answer-most, highest-n, highest-m, most-trials}
+use lib.ListN.{length, take, length-take, length-map}
+use borrow.Author.Tests.{lt-ltb}
+use Rattle.definitions.specs.Limits.{answer-most, highest-n, highest-m, most-trials, problem-kind, questions-kind}
 use Rattle.definitions.specs.Bytes.{Bytes, or-else, Outcome, gives}
 use Rattle.definitions.specs.Offset.{tropOf}
 use Rattle.definitions.specs.Problem.{Problem}
-use Rattle.definitions.specs.ProblemRecord.{nField, mField, layoutOf, problemRefusal, problemOutcome, WithinLayout, problemOf}
-use Rattle.definitions.specs.AnswerRecord.{Answer, stampCount, pickCount, answerSize, answerBytes, writerRefusal, writerOutcome, written}
-use Rattle.definitions.proofs.Questions.{asking-itself}
+use Rattle.definitions.specs.ProblemRecord.{kindField, nField, mField, countField, questionsAsked, layoutOf, problemRefusal, recordRefusal, problemOutcome, WithinLayout, WithinLayouts, problemOf}
+use Rattle.definitions.specs.Questions.{asking}
+use Rattle.definitions.specs.AnswerRecord.{stampCount, pickCount, answerSize, answerBytes, writerOutcome, written}
 use Rattle.definitions.specs.Solved as Results
 use Rattle.definitions.specs.Solved.{Answers, Solves, turned-away, solved, engineRefusal}
-use Rattle.definitions.proofs.Refusals.{or-else-suc, or-else-none, WriterFits, writer-fits}
+use Rattle.definitions.proofs.Questions.{asking-itself}
+use Rattle.definitions.proofs.Refusals.{or-else-suc, WriterFits, writer-fits, header-passes, kind-known, one-question}
 use Rattle.definitions.proofs.Outcomes.{outcome-none}
-use Rattle.definitions.proofs.Solved.{answers-taken, Wrote, wrote}
+use Rattle.definitions.proofs.Solved.{answers-taken, none-refused, Wrote, wrote, WroteAll, wrote-all}
 use Rattle.records.specs.declared.problem.Header.{Header}
 use Rattle.records.specs.declared.problem.Layout.{Layout}
-use Rattle.definitions.specs.ProblemRecord as Problems
 use Rattle.records.specs.declared.problem.Header.the-variants as Headers
 use Rattle.answer_writer.specs.declared.writer.Written.{Written}
 use Rattle.answer_writer.specs.declared.writer.Written.the-variants as Writes
-use Rattle.records.specs.Decoded.{Decoded}
 use Rattle.problem_records.specs.Tables.{leftTable, rightTable, ProblemRead}
 use Rattle.records.specs.ProblemHeader.{headerOf, problemRefused}
 use Rattle.answer_reader.specs.Fields.{fieldsOf}
 use Rattle.answer_writer.specs.AnswerWriting.{AnswerWritten, writtenOf, unlessRefused}
 use Rattle.problem_records.proofs.LeadTables.{problem-decoded}
-use Rattle.records.proofs.ProblemHeader.{answer-told, answer-refused}
+use Rattle.problem_records.proofs.ReadProblem.{told-of}
+use Rattle.records.proofs.ProblemHeader.{HeaderFits, answer-refused}
 use Rattle.engine.specs.declared.solve.Solved.{Solved}
 use Rattle.engine.specs.declared.solve.Solved.the-variants as Results′
 use Rattle.class_answers.specs.Answered.{answerIn}
-use Rattle.trial_tables.specs.Frames.{Coefficients}
 use Rattle.class_answers.specs.Answered as Tables
-use Rattle.engine.specs.Outcome.{solvedOf, FoundFor, WroteFor, TrialsMade}
+use Rattle.trial_tables.specs.Frames.{Coefficients}
+use Rattle.engine.specs.Outcome.{solvedOf, FoundFor, InTables, Posed, OneWrote, SeveralRead, TrialsMade}
 
 -- ---- writing what was found
 
@@ -50,7 +50,7 @@ handed n m class span s p stamps picks r before after w e f =
     subst₂ (λ (i k : ℕ). AnswerWritten (fieldsOf class span (take i stamps) (take k picks)) n m r before after) e f w
 
 module _
-    (n m class span trials s p : ℕ) (stamps picks : List ℕ) (r : Written) (before after : List ℕ)
+    (n m class span s p : ℕ) (stamps picks : List ℕ) (r : Written) (before after : List ℕ)
     (wrote : AnswerWritten (fieldsOf class span (take s stamps) (take p picks)) n m r before after)
     (s-is : s ≡ stampCount class n) (p-is : p ≡ pickCount class n m) (found : FoundFor n m (length before) class span stamps picks)
   where
@@ -66,17 +66,14 @@ module _
         let z : _≡_ {A = ℕ} 0 1 = cc in omega arith
 
     -- The record stands in the buffer.
-    pub wrote-for : {size : ℕ} → r ≡ Writes.Record size → WroteFor n m class span trials stamps picks (Results′.Answered class span trials size) before after
-    unfolding unlessRefused writtenOf solvedOf
+    pub wrote-for : {size : ℕ} → r ≡ Writes.Record size → (size ≡ answerSize class n m) × (after ≡ written before (answerBytes n (answerIn n m class span stamps picks)))
+    unfolding unlessRefused writtenOf
     wrote-for {size} f =
-        let g : gives size ≡ gives (answerSize class n m) = sym (ap writtenOf f) ∙ record-answered in
-        let q : size ≡ answerSize class n m = cc in
-        record {
-          result-is = ap (λ (i : ℕ). Results.answered class (tropOf span) trials i) q;
-          buffer-is =
-              handed n m class span s p stamps picks r before after wrote s-is p-is .buffer
-              ∙ ap (λ (i : ℕ). unlessRefused i before (written before (answerBytes n (answerIn n m class span stamps picks)))) (found .taken);
-        }
+        let g : gives size ≡ gives (answerSize class n m) = sym (ap writtenOf f) ∙ record-answered in (
+          cc,
+          handed n m class span s p stamps picks r before after wrote s-is p-is .buffer
+              ∙ ap (λ (i : ℕ). unlessRefused i before (written before (answerBytes n (answerIn n m class span stamps picks)))) (found .taken),
+        )
 
 -- ---- what was found can be written
 
@@ -97,53 +94,127 @@ found-for p n m room class span trials stamps picks e f h g long ans =
       taken = writer-fits (answerIn n m class span stamps picks) n m room .1 w;
     }
 
+-- ---- one answer
+
+-- The tables of a problem are such as the search takes.
+pub posed-tables : {n m : ℕ} {left right : List ℕ} → Posed n m left right → Coefficients n m left right
+posed-tables o =
+    let d = o .stands .decoded in
+    record {
+      n-most = rw (← o .stands .n-is) (d .n-most);
+      m-most = rw (← o .stands .m-is) (d .m-most);
+      lefts = record { size = d .left-length; near = d .left-near };
+      rights = record { size = d .right-length; near = d .right-near };
+    }
+
+module _
+    {n m : ℕ} {left right : List ℕ} {class span trials : ℕ} {stamps picks : List ℕ}
+    (posed : Posed n m left right) (found : Tables.Answered n m left right class span trials stamps picks)
+  where
+    -- What was found is written,
+    pub posed-found : (room : ℕ) → answer-most ≤ room → FoundFor n m room class span stamps picks
+    posed-found room long =
+        let d = posed-tables posed in
+        let s = posed .stands in
+        found-for (posed .problem) n m room class span trials stamps picks (s .n-is) (s .m-is) (d .n-most) (d .m-most) long
+        (found .answers (posed .problem) (s .decoded) (s .n-is) (s .m-is))
+
+-- as an answer of each problem that stands there.
+pub one-wrote : {n m : ℕ} {left right : List ℕ} {class span trials size : ℕ} {stamps picks before after : List ℕ}
+    → Tables.Answered n m left right class span trials stamps picks → size ≡ answerSize class n m → after ≡ written before (answerBytes n (answerIn n m class span stamps picks))
+    → (p : Problem) → InTables p n m left right → OneWrote p n m class span trials size before after
+one-wrote found e f p s = record { answer = _; answers = found .answers p (s .decoded) (s .n-is) (s .m-is); size-is = e; buffer-is = f }
+
 -- ---- the result
 
--- The engine's refusal is the problem's where there is one,
-problem-first : (p : List ℕ) (room : ℕ) → 0 < problemRefusal p → engineRefusal p room ≡ problemRefusal p
+pub refuses-with : (p before : List ℕ) (k : ℕ) → recordRefusal p ≡ k → 0 < k → Solves p before (Results.refused k) before
 unfolding engineRefusal
-problem-first p room h = or-else-suc (problemRefusal p) _ h
-
--- and that of the buffer where there is none.
-room-next : (p : List ℕ) (room : ℕ) → WithinLayout p → engineRefusal p room ≡ cond (ltb room answer-most) 7 0
-unfolding engineRefusal
-room-next p room w = rw w
-
-pub refuses-with : (p before : List ℕ) (k : ℕ) → problemRefusal p ≡ k → 0 < k → Solves p before (Results.refused k) before
 refuses-with p before zero e h = absurd (omega arith)
-refuses-with p before (suc k) e h = turned-away (problem-first p (length before) (rw e h) ∙ e)
+refuses-with p before (suc k) e h = turned-away (or-else-suc (recordRefusal p) _ (rw e h) ∙ e)
 
 -- A problem that is refused.
-pub refuses-problem : (p before : List ℕ) {header : Header} {k r : ℕ} → headerOf header ≡ problemOutcome false p → header ≡ Headers.Refused k → r ≡ problemRefused header
+pub refuses-problem : (p before : List ℕ) {header : Header} {k r : ℕ} → headerOf header ≡ problemOutcome true p → header ≡ Headers.Refused k → r ≡ problemRefused header
     → Solves p before (solvedOf (Results′.Refused r)) before
 unfolding solvedOf problemRefused problemOutcome
 refuses-problem p before {header} {k} {r} e f g =
-    let h = answer-refused (problemRefusal p) (layoutOf p) e f in
+    let h = answer-refused (recordRefusal p) (layoutOf p) e f in
     let q : r ≡ k = g ∙ ap problemRefused f in
     rw q (refuses-with p before k (h .0) (h .1))
 
--- A buffer that is too short.
-pub refuses-room : (p before : List ℕ) → WithinLayout p → length before < answer-most → Solves p before (solvedOf (Results′.Refused 7)) before
-unfolding solvedOf
-refuses-room p before w h = turned-away {k = 6} (room-next p (length before) w ∙ ap (λ (t : Bool). cond t 7 0) (lt-ltb (length before) answer-most h))
-
 -- What was read, where nothing was refused.
-pub record Read (p : List ℕ) (n m : ℕ) (left right : List ℕ) : Type 0 where
-  pub none : WithinLayout p
-  pub n-is : problemOf p .n ≡ n
-  pub m-is : problemOf p .m ≡ m
-  pub decoded : Decoded (problemOf p) left right
+pub record Read (p : List ℕ) (l : Layout) (left right : List ℕ) : Type 0 where
+  pub bytes : Bytes p
+  pub within : WithinLayouts p
+  pub fits : HeaderFits true p (length p) l
+  pub left-is : left ≡ leftTable (asking p 0)
+  pub right-is : right ≡ rightTable (asking p 0)
 
-pub read-problem : {p left₀ right₀ left right : List ℕ} {header : Header} {l : Layout} → Bytes p → ProblemRead false p left₀ right₀ header left right → header ≡ Headers.Told l → Read p (l .n) (l .m) left right
-unfolding problemOf problemOutcome
+pub read-problem : {p left₀ right₀ left right : List ℕ} {header : Header} {l : Layout} → Bytes p → ProblemRead true p left₀ right₀ header left right → header ≡ Headers.Told l → Read p l left right
 read-problem {p} b r f =
-    let h = answer-told (problemRefusal p) (layoutOf p) (r .result) f in
-    record {
-      none = h .0;
-      n-is = ap (λ (x : Problems.Layout). x .n) (sym (h .1));
-      m-is = ap (λ (x : Problems.Layout). x .m) (sym (h .1));
-      decoded = rw (r .left-read (h .0), r .right-read (h .0), asking-itself p 0 (h .0)) (problem-decoded p b (h .0));
+    let t = told-of true (r .result) f in
+    record { bytes = b; within = t .within; fits = t .fits; left-is = r .left-read (t .within); right-is = r .right-read (t .within) }
+
+module _ {p : List ℕ} {l : Layout} {left right : List ℕ} (read : Read p l left right) where
+  -- The room that its answers ask for.
+  asked-room : questionsAsked (kindField p) (countField p) * answer-most ≡ l .questions * answer-most
+  asked-room = rw (read .fits .questions-is) refl
+
+  -- A buffer that is too short.
+  pub refuses-room : (before : List ℕ) → length before < l .questions * answer-most → Solves p before (solvedOf (Results′.Refused 7)) before
+  unfolding solvedOf engineRefusal
+  refuses-room before h =
+      turned-away {k = 6} (rw (read .within) (ap (λ (t : Bool). cond t 7 0) (lt-ltb (length before) (questionsAsked (kindField p) (countField p) * answer-most) (omega (arith, asked-room)))))
+
+  -- One that is long enough.
+  pub nothing-refused : (room : ℕ) → l .questions * answer-most ≤ room → engineRefusal p room ≡ 0
+  nothing-refused room h = none-refused p room .1 (read .within, omega (arith, asked-room))
+
+  -- Several questions.
+  pub several-read : (room : ℕ) → l .kind ≡ questions-kind → l .questions * answer-most ≤ room → SeveralRead p l left right room
+  several-read room k h =
+      let kind : kindField p ≡ questions-kind = sym (read .fits .kind-is) ∙ k in
+      record {
+        kind-is = kind;
+        none = nothing-refused room h;
+        n-is = read .fits .n-is;
+        m-is = read .fits .m-is;
+        count-is = read .fits .questions-is ∙ rw kind refl;
+        left-is = read .left-is ∙ rw kind refl;
+        right-is = read .right-is ∙ rw kind refl;
+      }
+
+  -- One question.
+  module _ (k : l .kind ≡ questions-kind → ⊥) where
+    pub one-kind : kindField p ≡ problem-kind
+    one-kind = ⊎-elim (λ e. e) (λ e. absurd (k (read .fits .kind-is ∙ e))) (kind-known true (kindField p) (header-passes true p (length p) .0 (read .fits .none) .kind-known))
+
+    one-within : WithinLayout p
+    one-within = sym (one-question p one-kind) ∙ read .within
+
+    pub one-room : {room : ℕ} → l .questions * answer-most ≤ room → answer-most ≤ room
+    one-room h = let e : questionsAsked (kindField p) (countField p) ≡ 1 = rw one-kind refl in omega (arith, read .fits .questions-is)
+
+    pub one-stands : InTables (problemOf p) (l .n) (l .m) left right
+    unfolding problemOf
+    one-stands = record {
+      n-is = sym (read .fits .n-is);
+      m-is = sym (read .fits .m-is);
+      decoded = rw (read .left-is, read .right-is, asking-itself p 0 one-within) (problem-decoded p (read .bytes) one-within);
     }
+
+    pub one-posed : Posed (l .n) (l .m) left right
+    one-posed = record { problem = problemOf p; stands = one-stands }
+
+    -- Its answer is the result.
+    pub solves-one : {class span trials size : ℕ} {before after : List ℕ} → l .questions * answer-most ≤ length before → OneWrote (problemOf p) (l .n) (l .m) class span trials size before after
+        → Solves p before (solvedOf (Results′.Answered class span trials size)) after
+    unfolding solvedOf
+    solves-one {class} {span} {trials} {size} {before} {after} long w =
+        let result : Results.answered class (tropOf span) trials (answerSize class (nField p) (mField p)) ≡ Results.answered class (tropOf span) trials size =
+        ap (λ (i : ℕ). Results.answered class (tropOf span) trials i) (rw (← read .fits .n-is, ← read .fits .m-is) (sym (w .size-is))) in
+        let buffer : written before (answerBytes (nField p) (w .answer)) ≡ after = rw (← read .fits .n-is) (sym (w .buffer-is)) in
+        subst₂ (λ (x : Results.Solved) (y : List ℕ). Solves p before x y) result buffer
+        (solved (w .answer) one-kind (nothing-refused (length before) long) (w .answers))
 
 -- The trials made for a problem that is refused, and for one that is not.
 pub none-made : {p : List ℕ} {header : Header} {k : ℕ} → headerOf header ≡ problemOutcome false p → header ≡ Headers.Refused k → TrialsMade p 0
@@ -152,41 +223,25 @@ none-made {p} e f =
     let h = answer-refused (problemRefusal p) (layoutOf p) e f in
     record { refused = λ _. refl; some = λ w. absurd (omega (arith, h .0, h .1, w)); most = omega arith }
 
-pub some-made : {p : List ℕ} {n m r : ℕ} {left right : List ℕ} → Read p n m left right → 0 < r → r ≤ most-trials → TrialsMade p r
-some-made a h k = record { refused = λ z. absurd (omega (arith, a .none)); some = λ _. h; most = k }
+pub some-made : {p : List ℕ} {r : ℕ} → WithinLayout p → 0 < r → r ≤ most-trials → TrialsMade p r
+some-made w h k = record { refused = λ z. absurd (omega arith); some = λ _. h; most = k }
 
-pub read-tables : {p : List ℕ} {n m : ℕ} {left right : List ℕ} → Read p n m left right → Coefficients n m left right
-read-tables r =
-    let d = r .decoded in
-    record {
-      n-most = rw (← r .n-is) (d .n-most);
-      m-most = rw (← r .m-is) (d .m-most);
-      lefts = record { size = d .left-length; near = d .left-near };
-      rights = record { size = d .right-length; near = d .right-near };
-    }
-
-module _
-    (p before : List ℕ) {n m : ℕ} {left right : List ℕ} {class span trials : ℕ} {stamps picks : List ℕ}
-    (read : Read p n m left right) (long : answer-most ≤ length before) (found : Tables.Answered n m left right class span trials stamps picks)
-  where
-    pub read-found : FoundFor n m (length before) class span stamps picks
-    read-found =
-        let d = read-tables read in
-        found-for (problemOf p) n m (length before) class span trials stamps picks (read .n-is) (read .m-is) (d .n-most) (d .m-most) long
-        (found .answers (problemOf p) (read .decoded) (read .n-is) (read .m-is))
-
-    nothing-refused : engineRefusal p (length before) ≡ 0
-    nothing-refused = room-next p (length before) (read .none) ∙ ap (λ (t : Bool). cond t 7 0) (le-ltb (length before) answer-most long)
-
-    pub solves-it : {r : Solved} {after : List ℕ} → WroteFor n m class span trials stamps picks r before after → Solves p before (solvedOf r) after
-    unfolding solvedOf problemOf
-    solves-it {r} {after} w =
-        let a = answerIn n m class span stamps picks in
-        let size : Results.answered class (tropOf span) trials (answerSize class (nField p) (mField p)) ≡ solvedOf r =
-        ap₂ (λ (i k : ℕ). Results.answered class (tropOf span) trials (answerSize class i k)) (read .n-is) (read .m-is) ∙ sym (w .result-is) in
-        let bytes : written before (answerBytes (nField p) a) ≡ after = ap (λ (i : ℕ). written before (answerBytes i a)) (read .n-is) ∙ sym (w .buffer-is) in
-        subst₂ (λ (x : Results.Solved) (y : List ℕ). Solves p before x y) size bytes
-        (solved a nothing-refused (found .answers (problemOf p) (read .decoded) (read .n-is) (read .m-is)))
+-- A problem of one question, read by itself.
+pub read-posed : {p left₀ right₀ left right : List ℕ} {header : Header} {l : Layout} → Bytes p → ProblemRead false p left₀ right₀ header left right → header ≡ Headers.Told l
+    → WithinLayout p × Posed (l .n) (l .m) left right
+unfolding problemOf
+read-posed {p} b r f =
+    let t = told-of false (r .result) f in (
+      t .within,
+      record {
+        problem = problemOf p;
+        stands = record {
+          n-is = sym (t .fits .n-is);
+          m-is = sym (t .fits .m-is);
+          decoded = rw (r .left-read (t .within), r .right-read (t .within), asking-itself p 0 (t .within)) (problem-decoded p b (t .within));
+        };
+      },
+    )
 
 -- ---- what an answered result means
 
@@ -195,3 +250,8 @@ pub own-wrote : {p before after : List ℕ} {r : Solved} {class span trials size
     → Wrote p before class (tropOf span) trials size after
 unfolding solvedOf
 own-wrote h e = wrote h (ap solvedOf e)
+
+pub own-wrote-all : {p before after : List ℕ} {r : Solved} {count trials size : ℕ} → Solves p before (solvedOf r) after → r ≡ Results′.AllAnswered count trials size
+    → WroteAll p before count trials size after
+unfolding solvedOf
+own-wrote-all h e = wrote-all h (ap solvedOf e)

@@ -22,7 +22,7 @@ fn solve_kept(kept: &[u8], size: usize, answer: &mut [u8]) -> Solved
     if size <= KEPT {
         return solve(&kept[..size], answer);
     }
-    let header = read_header(kept, size, false);
+    let header = read_header(kept, size, true);
     Solved::Refused(problem_refusal(header))
 }
 

@@ -1,10 +1,15 @@
-// The engine on bytes: refusals 1 to 7 first, in order; then the answer, written into the lent buffer.
+// The engine on bytes: refusals 1 to 7 and 15 first, in order; then the answer, or those to several questions one after another, written
+// into the lent buffer.
 ghost use mathlib.Core.Path.{_≡_};
-ghost use Prim.Native.Nat.{_≤_};
+ghost use Prim.Native.Nat.{ℕ, _*_, _≤_};
 ghost use lib.ListN.{length};
-ghost use Rattle.definitions.specs.Limits.{answer-most};
+ghost use Rattle.definitions.specs.Limits.{answer-most, most-questions};
+ghost use Rattle.definitions.specs.AnswerRecord.{answerSize, answerBytes, written};
+ghost use Rattle.definitions.specs.Problem.{Problem};
 ghost use Rattle.definitions.specs.Solved.{Solves};
-ghost use Rattle.engine.specs.Outcome.{solvedOf, FoundFor, WroteFor};
+ghost use Rattle.records.specs.Decoded.{Rewritten};
+ghost use Rattle.class_answers.specs.Answered.{answerIn};
+ghost use Rattle.engine.specs.Outcome.{solvedOf, FoundFor, InTables, Posed, OneWrote, SeveralRead};
 use answer_reader::class::pick_count;
 use answer_reader::class::stamp_count;
 use answer_writer::writer::Written;
@@ -12,51 +17,121 @@ use answer_writer::writer::write_answer;
 use class_answers::answer::Answer;
 use class_answers::answer::solve_tables;
 use problem_records::reader::read_problem;
+use problem_records::reader::read_question;
 use records::limits::ANSWER_MOST;
+use records::limits::QUESTIONS_KIND;
 use records::limits::REFUSED_ROOM;
 use records::limits::TABLE;
 use records::problem::Header;
+use records::problem::Layout;
 use records::problem::problem_refusal;
 
-// What the engine answers: refused with the number, or answered with class, the span's offset number, trials and the
-// record's length.
+// What the engine answers: refused with the number; to one question, answered with class, the span's offset number, trials and the
+// record's length; to several, all answered with their count, the sum of the trials and the length of all records.
 pub enum Solved {
     Refused(usize),
     Answered(u64, u64, u64, usize),
+    AllAnswered(usize, u64, usize),
 }
 
-// Writes the answer's record, and says what was found.
-fn write_found(found: Answer, n: usize, m: usize, answer: &mut [u8]) -> Solved
+// One question's answer, written: its class, the span's offset number, its trials and the record's length.
+struct One {
+    class: u64,
+    span: u64,
+    trials: u64,
+    size: usize,
+}
+
+// Writes the answer's record at the start of a buffer, and gives its length.
+fn write_found(found: Answer, n: usize, m: usize, answer: &mut [u8]) -> usize
     requires { ⌜ FoundFor n m (length (now answer)) (found .class) (found .span) (found .stamps) (found .picks) ⌝ }
-    ensures { λ r. ⌜ WroteFor n m (found .class) (found .span) (found .trials) (found .stamps) (found .picks) r (now (answer .entry)) (now (answer .exit)) ⌝ }
+    ensures { λ r. ⌜ (r ≡ answerSize (found .class) n m) × (now (answer .exit) ≡ written (now (answer .entry)) (answerBytes n (answerIn n m (found .class) (found .span) (found .stamps) (found .picks)))) ⌝ }
 {
     let class = found.class;
     let span = found.span;
-    let trials = found.trials;
     let stamps = found.stamps;
     let picks = found.picks;
     let s = stamp_count(class, n);
     let p = pick_count(class, n, m);
     let written = write_answer(class, span, &stamps[..s], &picks[..p], n, m, answer);
     let Written::Record(size) = written else {
-        return Solved::Refused(0);
+        return 0;
     };
-    Solved::Answered(class, span, trials, size)
+    size
 }
 
-// The answer of the problem in the bytes, written into the lent buffer; a refusal leaves the buffer as it was.
+// The answer of the problem in two tables, written at the start of a buffer. The right table's row of the question is rewritten on
+// the way.
+fn solve_one(
+    left: &[u32; TABLE],
+    right: &mut [u32; TABLE],
+    n: usize,
+    m: usize,
+    answer: &mut [u8],
+) -> One
+    requires { ⌜ Posed n m (now left) (now right) × (answer-most ≤ length (now answer)) ⌝ }
+    ensures { λ r. ⌜ ((p : Problem) → InTables p n m (now (left .entry)) (now (right .entry)) → OneWrote p n m (r .class) (r .span) (r .trials) (r .size) (now (answer .entry)) (now (answer .exit))) × Rewritten m (now (right .entry)) (now (right .exit)) ⌝ }
+{
+    let found = solve_tables(left, right, n, m);
+    let class = found.class;
+    let span = found.span;
+    let trials = found.trials;
+    let size = write_found(found, n, m, answer);
+    One {
+        class,
+        span,
+        trials,
+        size,
+    }
+}
+
+// The answers to all questions of a record whose rules stand in the tables, each written where the one before ended.
+fn solve_questions(
+    problem: &[u8],
+    layout: Layout,
+    left: &mut [u32; TABLE],
+    right: &mut [u32; TABLE],
+    answer: &mut [u8],
+) -> Solved
+    requires { ⌜ SeveralRead (now problem) layout (now left) (now right) (length (now answer)) ⌝ }
+    ensures { λ r. ⌜ Solves (now (problem .entry)) (now (answer .entry)) (solvedOf r) (now (answer .exit)) ⌝ }
+{
+    let mut at = 0;
+    let mut trials = 0;
+    for q in 0..layout.questions {
+        read_question(problem, layout.n, layout.m, q, left, right);
+        let one = solve_one(left, right, layout.n, layout.m, &mut answer[at..]);
+        at += one.size;
+        trials += one.trials;
+    }
+    Solved::AllAnswered(layout.questions, trials, at)
+}
+
+// The room that the answers to so many questions ask for, whichever classes are due.
+fn room_for(questions: usize) -> usize
+    requires { ⌜ questions ≤ most-questions ⌝ }
+    ensures { λ r. ⌜ r ≡ questions * answer-most ⌝ }
+{
+    questions * ANSWER_MOST
+}
+
+// The answer of the problem in the bytes, or the answers to its questions, written into the lent buffer; a refusal leaves the
+// buffer as it was.
 pub fn solve(problem: &[u8], answer: &mut [u8]) -> Solved
     ensures { λ r. ⌜ Solves (now (problem .entry)) (now (answer .entry)) (solvedOf r) (now (answer .exit)) ⌝ }
 {
     let mut left = [0u32; TABLE];
     let mut right = [0u32; TABLE];
-    let header = read_problem(problem, false, &mut left, &mut right);
+    let header = read_problem(problem, true, &mut left, &mut right);
     let Header::Told(layout) = header else {
         return Solved::Refused(problem_refusal(header));
     };
-    if answer.len() < ANSWER_MOST {
+    if answer.len() < room_for(layout.questions) {
         return Solved::Refused(REFUSED_ROOM);
     }
-    let found = solve_tables(&left, &mut right, layout.n, layout.m);
-    write_found(found, layout.n, layout.m, answer)
+    if layout.kind == QUESTIONS_KIND {
+        return solve_questions(problem, layout, &mut left, &mut right, answer);
+    }
+    let one = solve_one(&left, &mut right, layout.n, layout.m, answer);
+    Solved::Answered(one.class, one.span, one.trials, one.size)
 }

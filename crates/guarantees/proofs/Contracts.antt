@@ -2,14 +2,15 @@
 -- speak of, and the laws that it then keeps.
 use Prim.Native.Nat.{ℕ, zero, suc, _+_, _*_, _≤_}
 use mathlib.Core.Path.{_≡_, refl, ap, sym, _∙_}
-use mathlib.Core.Bool.{false}
+use mathlib.Core.Bool.{true}
 use mathlib.Core.List.{List}
 use native.Mathlib.Omega.{arith}
 use lib.ListN.{length, getD, take}
 use Rattle.definitions.specs.Offset.{tropOf}
 use Rattle.definitions.specs.Problem.{Problem}
 use Rattle.definitions.specs.Bytes.{Outcome, refusal, gives, outcome, refusalOf}
-use Rattle.definitions.specs.ProblemRecord.{problemOf, problemRefusal, problemOutcome, nField, mField, layoutOf}
+use Rattle.definitions.specs.ProblemRecord.{problemOf, recordRefusal, problemOutcome, nField, mField, layoutOf, WithinLayouts}
+use Rattle.definitions.specs.Questions.{asking}
 use Rattle.definitions.specs.AnswerRecord.{Answer, answerRefusal, answerOutcome, answerOf, stampCount, pickCount, classField, spanField, writerRefusal, writerOutcome, answerBytes, written}
 use Rattle.definitions.specs.Programs.{SpanOutput, VerdictOutput}
 use Rattle.definitions.specs.Demands.{Word, Slice, Handed, Engine, Checker, ProblemReader, Reader, Writer, Program, EngineSolves, CheckerJudges, ProblemReaderRefuses, ReadsProblems, ReaderRefuses, ReadsFields, WriterRefuses, WritesRecord, ProgramsAnswer}
@@ -17,7 +18,7 @@ use Rattle.definitions.proofs.Outcomes.{refusal-outcome}
 use Rattle.records.specs.declared.problem.Header.{Header}
 use Rattle.records.specs.declared.problem.Layout.{Layout}
 use Rattle.definitions.specs.ProblemRecord as Problems
-use Rattle.definitions.proofs.Questions.{asking-itself}
+use Rattle.definitions.proofs.Solved.{first-asked}
 use Rattle.records.specs.declared.problem.Header.the-variants as Headers
 use Rattle.records.specs.ProblemHeader.{headerOf}
 use Rattle.records.proofs.ProblemHeader.{answer-told, answer-refused}
@@ -78,30 +79,31 @@ module _ {left₀ right₀ : List ℕ} (read : ReadProblem left₀ right₀) whe
   pub problem-reader-refuses : ProblemReaderRefuses problemReaderOf
   unfolding problemOutcome
   problem-reader-refuses = record {
-    number-is = λ p b. ap refusalOf (read .contract p b .result) ∙ refusal-outcome (problemRefusal p) _;
+    number-is = λ p b. ap refusalOf (read .contract p b .result) ∙ refusal-outcome (recordRefusal p) _;
     untouched = λ p b k e. (read .contract p b .left-kept (omega arith), read .contract p b .right-kept (omega arith));
   }
 
   -- A header that nothing refuses tells the layout.
-  header-given : (p : List ℕ) → problemRefusal p ≡ 0 → (h : Header) → headerOf h ≡ problemOutcome false p → Given p h
+  header-given : (p : List ℕ) → WithinLayouts p → (h : Header) → headerOf h ≡ problemOutcome true p → Given p h
   unfolding problemOutcome
   header-given p w (Headers.Told l) e =
-      let f = answer-told (problemRefusal p) (layoutOf p) {r = Headers.Told l} e refl in
+      let f = answer-told (recordRefusal p) (layoutOf p) {r = Headers.Told l} e refl in
       record { layout = l; is = refl; n-is = ap (λ (x : Problems.Layout). x .n) (f .1); m-is = ap (λ (x : Problems.Layout). x .m) (f .1) }
   header-given p w (Headers.Refused k) e =
-      absurd (let f = answer-refused (problemRefusal p) (layoutOf p) {r = Headers.Refused k} e refl in omega (arith, f .0, f .1))
+      absurd (let f = answer-refused (recordRefusal p) (layoutOf p) {r = Headers.Refused k} e refl in omega (arith, f .0, f .1))
 
   pub problem-reader-reads : ReadsProblems problemReaderOf
   unfolding problemIn problemOf
   problem-reader-reads p b w =
       let c = read .contract p b in
       let told = header-given p w (read .header p) (c .result) in
-      let d = problem-decoded p (b .bytes) w in
+      let a = first-asked p w in
+      let d = problem-decoded (asking p 0) (a .bytes (b .bytes)) (a .within) in
       record {
-        n-is = rw (told .is) (told .n-is);
-        m-is = rw (told .is) (told .m-is);
-        left-is = λ i j h g. rw (told .is, c .left-read w, asking-itself p 0 w) (d .left-is i j h g);
-        right-is = λ i j h g. rw (told .is, c .right-read w, asking-itself p 0 w) (d .right-is i j h g);
+        n-is = rw (told .is) (told .n-is ∙ sym (a .n-is));
+        m-is = rw (told .is) (told .m-is ∙ sym (a .m-is));
+        left-is = λ i j h g. rw (told .is, c .left-read w) (d .left-is i j (rw (a .m-is) h) (rw (a .n-is) g));
+        right-is = λ i j h g. rw (told .is, c .right-read w) (d .right-is i j (rw (a .m-is) h) (rw (a .n-is) g));
       }
 
 -- ---- `read_answer`

@@ -15,11 +15,11 @@ use Rattle.definitions.specs.Problem.{Optimal}
 use Rattle.definitions.specs.ProblemRecord.{WithinLayout, problemOf}
 use Rattle.definitions.specs.Solved.{answered}
 use Rattle.definitions.specs.Programs.{SpanOutput, VerdictOutput}
-use Rattle.definitions.specs.Demands.{Slice, Engine, EngineSolves, Demand1, Demand2, Demand3, Demands}
+use Rattle.definitions.specs.Demands.{Slice, Engine, EngineSolves, Demand1, Demand2, Demand3, Demands, EachQuestion}
 use Rattle.checker.proofs.Demand3.{checker-demand}
 use Rattle.guarantees.specs.Entries.{Solve, Check, ReadProblem, ReadAnswer, WriteAnswer, Answer}
 use Rattle.guarantees.proofs.Contracts.{engineOf, engine-meets, checkerOf, checker-meets, problemReaderOf, problem-reader-refuses, problem-reader-reads, readerOf, reader-refuses, reader-reads, writerOf, writer-meets, programOf, programs-meet}
-use Rattle.guarantees.proofs.Engine.{engine-refuses, least-spans, quoted-is-smallest, engine-reads-back, own-answers}
+use Rattle.guarantees.proofs.Engine.{engine-refuses, least-spans, quoted-is-smallest, engine-reads-back, own-answers, each-question}
 use Rattle.guarantees.proofs.Records.{reads-back, writes-back}
 
 module _ (solve : Solve) (check : Check) {left₀ right₀ : List ℕ} (readProblem : ReadProblem left₀ right₀) {stamps₀ picks₀ : List ℕ} (readAnswer : ReadAnswer stamps₀ picks₀) (writeAnswer : WriteAnswer) (span : Answer SpanOutput) (verdict : Answer VerdictOutput) where
@@ -65,8 +65,13 @@ module _ (solve : Solve) (check : Check) {left₀ right₀ : List ℕ} (readProb
         own-answers = own-answers (engineOf solve) (engine-meets solve) (checkerOf check) (checker-meets check);
       }
 
+  -- Several questions: the second and third demand hold for each with its kind 1 problem, by the checker's own call on its part of the
+  -- buffer.
+  pub questions : EachQuestion (engineOf solve) (checkerOf check) (readerOf readAnswer)
+  questions = each-question (engineOf solve) (engine-meets solve) (checkerOf check) (checker-meets check) (readerOf readAnswer) (reader-reads readAnswer)
+
   pub demands : Demands (engineOf solve) (checkerOf check) (problemReaderOf readProblem) (readerOf readAnswer) (writerOf writeAnswer) (programOf span) (programOf verdict)
-  demands = record { first = demand-1; second = demand-2; third = demand-3 }
+  demands = record { first = demand-1; second = demand-2; third = demand-3; each-question = questions }
 
 -- The release note: a quoted span is the smallest there is. Where the engine answers least with span s, some plan that keeps
 -- the rules has span s, and every plan that keeps the rules, in blanks or whole minutes without limit, has at least that.

@@ -1,27 +1,32 @@
 -- What follows for any engine whose result and buffer are those that document 01 gives (`EngineSolves`): first refusals
 -- with the buffer untouched; else class and least span of the theory, in few trials, in a record that reads back and
 -- that any true checker accepts.
-use Prim.Native.Nat.{ℕ, zero, suc, _≤_}
+use Prim.Native.Nat.{ℕ, zero, suc, _+_, _*_, _≤_, _<_}
 use mathlib.Core.Path.{_≡_, refl, ap, ap₂, sym, subst, subst₃, _∙_}
-use mathlib.Core.List.{List}
+use mathlib.Core.Bool.{false}
+use mathlib.Core.List.{List, _++_, append-assoc}
 use native.Mathlib.Omega.{arith}
-use lib.ListN.{length}
+use lib.ListN.{length, drop, length-append}
+use lib.Seq.{take-append-seam, drop-append-seam}
 use lib.IntN.{ℤ}
-use borrow.Author.Tests.{le-ltb}
-use Rattle.definitions.specs.Limits.{answer-most, class-optimal, class-unbounded, class-infeasible}
+use Rattle.definitions.specs.Limits.{answer-most, problem-kind, questions-kind, class-optimal, class-unbounded, class-infeasible}
 use Rattle.definitions.specs.Tropical.{Trop, fin}
 use Rattle.definitions.specs.Problem.{Problem, Optimal}
 use Rattle.definitions.specs.Bytes.{or-else, Outcome, gives}
-use Rattle.definitions.specs.ProblemRecord.{WithinLayout, problemRefusal, problemOf, nField, mField}
+use Rattle.definitions.specs.ProblemRecord.{WithinLayout, WithinLayouts, problemRefusal, problemOf, kindField, nField, mField, countField, questionsAsked}
+use Rattle.definitions.specs.Questions.{part, alone}
 use Rattle.definitions.specs.AnswerRecord.{Answer, answerRefusal, answerOf, answerSize, answerBytes, written}
 use Rattle.definitions.specs.Verdict.{Verdict, accepted, checkRefusal, answerFor, Accepted, Judged, turned-away, certified, uncertified}
 use Rattle.definitions.specs.Solved as Results
-use Rattle.definitions.specs.Solved.{Solved, answered, Found, optimal, unbounded, infeasible, Answers, Solves, solved, engineRefusal}
-use Rattle.definitions.specs.Demands.{Slice, Engine, Reader, Checker, EngineSolves, EngineRefuses, LeastSpans, FoundBy, ReadsFields, EngineReadsBack, ReadBy, CheckerJudges, OwnAnswers, OwnAnswer}
+use Rattle.definitions.specs.Solved.{Solved, answered, Found, optimal, unbounded, infeasible, Answers, AnswersInTurn, Solves, solved, all-solved, engineRefusal}
+use Rattle.definitions.specs.Demands.{Slice, Engine, Reader, Checker, EngineSolves, EngineRefuses, LeastSpans, FoundBy, ReadsFields, EngineReadsBack, ReadBy, CheckerJudges, OwnAnswers, OwnAnswer, QuestionAnswered, QuestionsAnswered, AllAnswered, EachQuestion}
 use Rattle.definitions.proofs.Tropical.{fin-injective}
-use Rattle.definitions.proofs.Refusals.{or-else-none, ProblemFits}
-use Rattle.definitions.proofs.RoundTrip.{answer-back, answer-accepted}
-use Rattle.definitions.proofs.Solved.{answer-takes, record-stands, result-parts}
+use Rattle.definitions.proofs.Put.{put-front, drop-put}
+use Rattle.definitions.proofs.Inputs.{header-most, header-none}
+use Rattle.definitions.proofs.Questions.{alone-bytes}
+use Rattle.definitions.proofs.Refusals.{or-else-none, problem-fits}
+use Rattle.definitions.proofs.RoundTrip.{answer-back, answer-accepted, answer-length}
+use Rattle.definitions.proofs.Solved.{answer-takes, record-stands, result-parts, none-refused, one-refused, OneAsked, one-asked, asked-takes}
 use Rattle.checker.proofs.Accepting.{record-slice}
 use Rattle.duality.proofs.SmallLeads.{trials-few}
 
@@ -30,7 +35,8 @@ use Rattle.duality.proofs.SmallLeads.{trials-few}
 refused-by : {p before after : List ℕ} {r : Solved} {k : ℕ} → Solves p before r after → engineRefusal p (length before) ≡ suc k
     → (r ≡ Solved.refused (suc k)) × (after ≡ before)
 refused-by (Results.turned-away e) h = (ap Solved.refused (sym e ∙ h), refl)
-refused-by (solved a e ans) h = absurd (let z : 0 ≡ suc _ = sym e ∙ h in omega arith)
+refused-by (solved a k e ans) h = absurd (let z : 0 ≡ suc _ = sym e ∙ h in omega arith)
+refused-by (all-solved k e turn) h = absurd (let z : 0 ≡ suc _ = sym e ∙ h in omega arith)
 
 pub engine-refuses : (engine : Engine) → EngineSolves engine → EngineRefuses engine
 engine-refuses engine solves = record {
@@ -50,18 +56,17 @@ pub record EngineAnswer (engine : Engine) (p buffer : List ℕ) : Type 0 where
   pub result-is : engine .result p buffer ≡ answered class span trials (answerSize class (nField p) (mField p))
   pub buffer-is : engine .buffer p buffer ≡ written buffer (answerBytes (nField p) answer)
 
-nothing-refused : (p : List ℕ) (room : ℕ) → WithinLayout p → answer-most ≤ room → engineRefusal p room ≡ 0
-unfolding engineRefusal
-nothing-refused p room w h = or-else-none (problemRefusal p) _ .1 (w, rw (le-ltb room answer-most h))
-
-answered-by : (engine : Engine) (p buffer : List ℕ) {r : Solved} {after : List ℕ} → Solves p buffer r after → engineRefusal p (length buffer) ≡ 0
+answered-by : (engine : Engine) (p buffer : List ℕ) {r : Solved} {after : List ℕ} → Solves p buffer r after → kindField p ≡ problem-kind → engineRefusal p (length buffer) ≡ 0
     → engine .result p buffer ≡ r → engine .buffer p buffer ≡ after → EngineAnswer engine p buffer
-answered-by engine p buffer (Results.turned-away e) h r-is b-is = absurd (let z : suc _ ≡ 0 = sym e ∙ h in omega arith)
-answered-by engine p buffer (solved a e ans) h r-is b-is = record { class = _; span = _; trials = _; answer = a; answers = ans; result-is = r-is; buffer-is = b-is }
+answered-by engine p buffer (Results.turned-away e) k h r-is b-is = absurd (let z : suc _ ≡ 0 = sym e ∙ h in omega arith)
+answered-by engine p buffer (all-solved three e turn) k h r-is b-is = absurd (omega arith)
+answered-by engine p buffer (solved a one e ans) k h r-is b-is = record { class = _; span = _; trials = _; answer = a; answers = ans; result-is = r-is; buffer-is = b-is }
 
 module _ (engine : Engine) (solves : EngineSolves engine) (p buffer : List ℕ) (b : Slice p) (c : Slice buffer) (w : WithinLayout p) (long : answer-most ≤ length buffer) where
   pub engine-answer : EngineAnswer engine p buffer
-  engine-answer = answered-by engine p buffer (solves p buffer b c) (nothing-refused p (length buffer) w long) refl refl
+  engine-answer =
+      let k = problem-fits p .0 w .kind-is in
+      answered-by engine p buffer (solves p buffer b c) k (one-refused p (length buffer) k .1 (w, long)) refl refl
 
 pub least-spans : (engine : Engine) → EngineSolves engine → LeastSpans engine
 least-spans engine solves p buffer b c w long =
@@ -147,3 +152,59 @@ own-answers engine solves check judges p buffer b c w long =
       result-is = e .result-is;
       accepted-is = rw (e .buffer-is, record-stands p buffer w (e .answer) ans) (accepts-it check judges p b w (e .answer) ans);
     }
+
+-- ---- several questions
+
+-- The record of one question can be handed over.
+alone-slice : (p : List ℕ) → Slice p → {q : ℕ} → OneAsked p q → Slice (alone p q)
+alone-slice p b {q} o = record { bytes = alone-bytes p q (b .bytes); size = omega (arith, header-most false (alone p q) (length (alone p q)) (header-none false (alone p q) (o .within))) }
+
+module _ (check : Checker) (judges : CheckerJudges check) (read : Reader) (reads : ReadsFields read) (p : List ℕ) (b : Slice p) (k : kindField p ≡ questions-kind) (w : WithinLayouts p) where
+  -- One answer, behind others and before the rest of the buffer.
+  question-answered : (bytes tail : List ℕ) (q : ℕ) → q < countField p → {class : ℕ} {span : Trop} {trials : ℕ} (a : Answer) → Answers (problemOf (alone p q)) class span trials a
+      → QuestionAnswered check read p (bytes ++ (answerBytes (nField p) a ++ tail)) q (length bytes) (length (answerBytes (nField p) a)) trials
+  question-answered bytes tail q h a ans =
+      let o = one-asked p k w q h in
+      let own : part (bytes ++ (answerBytes (nField p) a ++ tail)) (length bytes) (length (answerBytes (nField p) a)) ≡ answerBytes (nField p) a =
+      rw (drop-append-seam bytes (answerBytes (nField p) a ++ tail)) (take-append-seam (answerBytes (nField p) a) tail) in
+      record {
+        class = _;
+        span = _;
+        answer = a;
+        within = o .within;
+        found = ans .found;
+        few = trials-few (alone p q) (o .within) (ans .found);
+        size-is = answer-length a (nField p) (mField p) answer-most (asked-takes o a ans) ∙ ap (λ (i : ℕ). answerSize i (nField p) (mField p)) (ans .class-is);
+        bytes-are = own;
+        reads = rw own (rw (o .n-is, o .m-is) at (reads-itself read reads (alone p q) (o .within) a ans));
+        class-is = ans .class-is;
+        span-is = ans .span-is;
+        accepted-is = rw own (rw (o .n-is) at (accepts-it check judges (alone p q) (alone-slice p b o) (o .within) a ans));
+      }
+
+  -- All of them.
+  questions-answered : {q trials : ℕ} {bytes : List ℕ} → AnswersInTurn p q bytes trials → q ≤ countField p → (tail : List ℕ)
+      → QuestionsAnswered check read p (bytes ++ tail) q (length bytes) trials
+  questions-answered Results.no-question h tail = QuestionsAnswered.no-question
+  questions-answered (Results.one-more {q = q} {bytes = bytes} a turn ans) h tail =
+      rw (append-assoc, length-append)
+      (QuestionsAnswered.one-more (questions-answered turn (omega arith) (answerBytes (nField p) a ++ tail)) (question-answered bytes tail q (omega arith) a ans))
+
+all-answered-by : (engine : Engine) (check : Checker) → CheckerJudges check → (read : Reader) → ReadsFields read → (p buffer : List ℕ) → Slice p → {r : Solved} {after : List ℕ} → Solves p buffer r after
+    → kindField p ≡ questions-kind → WithinLayouts p → engineRefusal p (length buffer) ≡ 0 → engine .result p buffer ≡ r → engine .buffer p buffer ≡ after
+    → AllAnswered engine check read p buffer
+unfolding written
+all-answered-by engine check judges read reads p buffer b (Results.turned-away e) k w h r-is b-is = absurd (let z : suc _ ≡ 0 = sym e ∙ h in omega arith)
+all-answered-by engine check judges read reads p buffer b (solved a one e ans) k w h r-is b-is = absurd (omega arith)
+all-answered-by engine check judges read reads p buffer b (all-solved {bytes = bytes} {trials} three e turn) k w h r-is b-is = record {
+  trials = trials;
+  size = length bytes;
+  result-is = r-is;
+  each = rw (b-is, put-front buffer bytes) (questions-answered check judges read reads p b k w turn (omega arith) (drop (length bytes) buffer));
+  stay = rw b-is (drop-put buffer 0 bytes (omega arith) (length bytes) (omega arith));
+}
+
+pub each-question : (engine : Engine) → EngineSolves engine → (check : Checker) → CheckerJudges check → (read : Reader) → ReadsFields read → EachQuestion engine check read
+each-question engine solves check judges read reads p buffer b c w k long =
+    let asked : questionsAsked (kindField p) (countField p) ≡ countField p = rw k refl in
+    all-answered-by engine check judges read reads p buffer b (solves p buffer b c) k w (none-refused p (length buffer) .1 (w, rw asked long)) refl refl

@@ -1,37 +1,37 @@
 -- The contracts of the code can be met: for each entry a function built from the definitions, and the demands of all of them.
 use Prim.Native.Nat.{ℕ, zero, suc, _+_, _-_, _≤_, _<_}
 use mathlib.Core.Path.{_≡_, refl, ap, sym, subst, _∙_}
-use mathlib.Core.Bool.{false}
-use mathlib.Core.List.{List}
-use mathlib.Core.Logic.{⊎-elim}
+use mathlib.Core.Bool.{true, false}
+use mathlib.Core.List.{List, [], _++_}
+use mathlib.Core.Logic.{_⊎_, ⊎-elim}
 use native.Mathlib.Omega.{arith}
 use native.Mathlib.Nat.{eq-zero-or-pos}
 use lib.ListN.{length, getD, take, drop, length-take, length-drop}
 use lib.Seq.{take-all, getD-take}
 use Rattle.base.proofs.Numbers.{nat-le-or-lt}
-use Rattle.definitions.specs.Limits.{kept-bytes, length-bytes, span-limit, problem-header}
+use Rattle.definitions.specs.Limits.{kept-bytes, length-bytes, span-limit, problem-header, problem-kind, questions-kind}
 use Rattle.definitions.specs.Tropical.{Trop}
 use Rattle.definitions.specs.Problem.{Problem}
 use Rattle.definitions.specs.Bytes.{Bytes, outcome}
 use Rattle.definitions.specs.Offset.{tropOf}
-use Rattle.definitions.specs.ProblemRecord.{lengthField, kindField, nField, mField, countField, leadsPlace, questionsAsked, layoutOf, headerRefusal, headerOutcome, problemRefusal, problemOutcome, WithinLayout, problemOf, refusalFor}
+use Rattle.definitions.specs.ProblemRecord.{lengthField, kindField, nField, mField, countField, leadsPlace, questionsAsked, layoutOf, headerRefusal, headerOutcome, problemRefusal, recordRefusal, problemOutcome, WithinLayout, WithinLayouts, problemOf, refusalFor}
 use Rattle.definitions.specs.AnswerRecord.{Answer, answerRefusal, answerOutcome, answerOf, answerHeaderRefusal, classField, spanField, answerSize, answerBytes, writerRefusal, writerOutcome, written}
 use Rattle.definitions.specs.Verdict as Verdicts
 use Rattle.definitions.specs.Verdict.{Judged, turned-away, certified, uncertified, answerFor, checkRefusal}
 use Rattle.definitions.specs.Solved as Results
-use Rattle.definitions.specs.Solved.{Answers, Solves, engineRefusal}
-use Rattle.definitions.specs.Questions.{asking}
+use Rattle.definitions.specs.Solved.{Answers, AnswersInTurn, Solves, engineRefusal}
+use Rattle.definitions.specs.Questions.{alone, asking}
 use Rattle.definitions.specs.Programs as Programs
 use Rattle.definitions.specs.Programs.{SpanOutput, VerdictOutput, KeptOf, ReadFrom, problemPart, answerPart, cutPlace, refusedLine, verdictLine}
 use Rattle.definitions.specs.Demands.{Slice, Numbered, Demands}
 use Rattle.definitions.proofs.Bytes.{bytes-take, bytes-drop}
-use Rattle.definitions.proofs.Refusals.{or-else-none, or-else-suc, problem-fits, answer-fits, form-fits}
+use Rattle.definitions.proofs.Refusals.{or-else-none, or-else-suc, record-fits, kind-known, one-question, problem-fits, answer-fits, form-fits}
 use Rattle.definitions.proofs.RoundTrip.{span-within}
-use Rattle.definitions.proofs.Inputs.{kept-whole, kept-at, one-agrees, n-agrees, m-agrees, span-read, verdict-read}
+use Rattle.definitions.proofs.Inputs.{kept-whole, kept-at, header-agrees, header-most, n-agrees, m-agrees, span-read, verdict-read}
 use Rattle.records.specs.declared.problem.Header.{Header}
 use Rattle.records.specs.declared.problem.Header.the-variants as Headers
 use Rattle.records.specs.ProblemHeader.{headerOf, problemRefused}
-use Rattle.records.proofs.ProblemHeader.{header-fits, product-most, fits-one}
+use Rattle.definitions.proofs.Solved.{none-refused, one-asked}
 use Rattle.problem_records.specs.Tables.{leftTable, rightTable}
 use Rattle.answer_reader.specs.declared.answer.AnswerHead.{AnswerHead}
 use Rattle.answer_reader.specs.declared.answer.AnswerHead.the-variants as Heads
@@ -112,20 +112,46 @@ span-numbered : {p : Problem} {class : ℕ} {span : Trop} {trials : ℕ} {a : An
 span-numbered {p} {span = span} {a = a} ans =
     within-numbered span-limit span (omega arith) (rw (ans .span-is) at (span-within (a .class) (a .span) (form-fits a _ _ .0 (ans .form) .span-fits)))
 
+-- Answers to the first questions of a record of several.
+record SomeAnswers (p : List ℕ) (q : ℕ) : Type 0 where
+  bytes : List ℕ
+  trials : ℕ
+  turn : AnswersInTurn p q bytes trials
+
+answers-exist : (p : List ℕ) → kindField p ≡ questions-kind → WithinLayouts p → (q : ℕ) → q ≤ countField p → SomeAnswers p q
+unfolding problemOf
+answers-exist p k w zero h = record { bytes = []; trials = 0; turn = Results.no-question }
+answers-exist p k w (suc q) h =
+    let first = answers-exist p k w q (omega arith) in
+    let o = one-asked p k w q (omega arith) in
+    let s = answer-exists (problemOf (alone p q)) (problem-fits (alone p q) .0 (o .within) .n-most) (layout-within (alone p q) (o .within)) in
+    record { bytes = first .bytes ++ answerBytes (nField p) (s .answer); trials = first .trials + s .trials; turn = Results.one-more (s .answer) (first .turn) (s .answers) }
+
+-- The kind of a record that nothing refuses.
+either-kind : (p : List ℕ) → WithinLayouts p → (kindField p ≡ problem-kind) ⊎ (kindField p ≡ questions-kind)
+either-kind p w = kind-known true (kindField p) (record-fits true p .0 w .header .kind-known)
+
 solution-exists : (p before : List ℕ) → SomeSolution p before
-unfolding solvedOf engineRefusal problemOf
+unfolding solvedOf problemOf
 solution-exists p before = go (engineRefusal p (length before)) refl
   where
     go : (k : ℕ) → engineRefusal p (length before) ≡ k → SomeSolution p before
     go (suc k) e = record { result = Solutions.Refused (suc k); buffer = before; solves = Results.turned-away e }
     go zero e =
-        let w : WithinLayout p = or-else-none (problemRefusal p) _ .0 e .0 in
-        let s = answer-exists (problemOf p) (problem-fits p .0 w .n-most) (layout-within p w) in
+        let w = none-refused p (length before) .0 e .0 in
+        ⊎-elim
+        (λ (k : kindField p ≡ problem-kind).
+        let own : WithinLayout p = sym (one-question p k) ∙ w in
+        let s = answer-exists (problemOf p) (problem-fits p .0 own .n-most) (layout-within p own) in
         record {
           result = Solutions.Answered (s .class) (numberFor (s .span)) (s .trials) (answerSize (s .class) (nField p) (mField p));
           buffer = written before (answerBytes (nField p) (s .answer));
-          solves = rw (number-back (s .span) (span-numbered (s .answers))) (Results.solved (s .answer) e (s .answers));
-        }
+          solves = rw (number-back (s .span) (span-numbered (s .answers))) (Results.solved (s .answer) k e (s .answers));
+        })
+        (λ (k : kindField p ≡ questions-kind).
+        let s = answers-exist p k w (countField p) (omega arith) in
+        record { result = Solutions.AllAnswered (countField p) (s .trials) (length (s .bytes)); buffer = written before (s .bytes); solves = Results.all-solved k e (s .turn) })
+        (either-kind p w)
 
 pub the-solve : Solve
 the-solve = record {
@@ -160,15 +186,15 @@ the-check = record {
 pub the-read-problem : (left₀ right₀ : List ℕ) → ReadProblem left₀ right₀
 unfolding problemOutcome
 the-read-problem left₀ right₀ = record {
-  header = λ p. headerBy (problemRefusal p) p;
-  left = λ p. unlessRefused (problemRefusal p) left₀ (leftTable (asking p 0));
-  right = λ p. unlessRefused (problemRefusal p) right₀ (rightTable (asking p 0));
+  header = λ p. headerBy (recordRefusal p) p;
+  left = λ p. unlessRefused (recordRefusal p) left₀ (leftTable (asking p 0));
+  right = λ p. unlessRefused (recordRefusal p) right₀ (rightTable (asking p 0));
   contract = λ p b. record {
-    result = header-by (problemRefusal p) p;
-    left-kept = λ h. unless-refused (problemRefusal p) left₀ (leftTable (asking p 0)) h;
-    right-kept = λ h. unless-refused (problemRefusal p) right₀ (rightTable (asking p 0)) h;
-    left-read = λ w. unless-none (problemRefusal p) left₀ (leftTable (asking p 0)) w;
-    right-read = λ w. unless-none (problemRefusal p) right₀ (rightTable (asking p 0)) w;
+    result = header-by (recordRefusal p) p;
+    left-kept = λ h. unless-refused (recordRefusal p) left₀ (leftTable (asking p 0)) h;
+    right-kept = λ h. unless-refused (recordRefusal p) right₀ (rightTable (asking p 0)) h;
+    left-read = λ w. unless-none (recordRefusal p) left₀ (leftTable (asking p 0)) w;
+    right-read = λ w. unless-none (recordRefusal p) right₀ (rightTable (asking p 0)) w;
   };
 }
 
@@ -224,23 +250,25 @@ record SpanText (input : List ℕ) : Type 0 where
 
 span-text : (input : List ℕ) → SpanText input
 unfolding problemOf
-span-text input = go (problemRefusal input) refl
+span-text input = go (recordRefusal input) refl
   where
-    go : (k : ℕ) → problemRefusal input ≡ k → SpanText input
+    go : (k : ℕ) → recordRefusal input ≡ k → SpanText input
     go (suc k) e = record { text = refusedLine (suc k); holds = Programs.refusal e }
-    go zero e =
-        let s = answer-exists (problemOf input) (problem-fits input .0 e .n-most) (layout-within input e) in
-        record { text = answerBytes (nField input) (s .answer); holds = Programs.answer (s .answer) e (s .answers) }
+    go zero e = ⊎-elim
+        (λ (k : kindField input ≡ problem-kind).
+        let own : WithinLayout input = sym (one-question input k) ∙ e in
+        let s = answer-exists (problemOf input) (problem-fits input .0 own .n-most) (layout-within input own) in
+        record { text = answerBytes (nField input) (s .answer); holds = Programs.answer (s .answer) k e (s .answers) })
+        (λ (k : kindField input ≡ questions-kind).
+        let s = answers-exist input k e (countField input) (omega arith) in record { text = s .bytes; holds = Programs.answers k e (s .turn) })
+        (either-kind input e)
 
 -- A header of a size beyond what is kept is refused.
-long-number : (kept : List ℕ) (size : ℕ) → kept-bytes < size → 0 < headerRefusal false kept size
-unfolding headerOutcome headerBy
+long-number : (kept : List ℕ) (size : ℕ) → kept-bytes < size → 0 < headerRefusal true kept size
 long-number kept size h = ⊎-elim
-    (λ (e : headerRefusal false kept size ≡ 0).
-    let f = header-fits false kept size {r = headerBy 0 kept} (rw e (header-by 0 kept)) refl in
-    absurd (omega (arith, fits-one f, product-most (nField kept) (mField kept) (f .n-most) (f .m-most))))
+    (λ (e : headerRefusal true kept size ≡ 0). absurd (omega (arith, header-most true kept size e)))
     (λ g. g)
-    (eq-zero-or-pos (headerRefusal false kept size))
+    (eq-zero-or-pos (headerRefusal true kept size))
 
 span-kept : (kept : List ℕ) (size : ℕ) → KeptOutput kept size
 unfolding refusalFor
@@ -248,16 +276,16 @@ span-kept kept size = ⊎-elim
     (λ (h : size ≤ kept-bytes).
     let t = span-text (take size kept) in
     record { output = t .text; holds = λ input k. subst (λ (x : List ℕ). SpanOutput x (t .text)) (sym (kept-whole k h)) (t .holds) })
-    (λ (h : kept-bytes < size). long h (headerRefusal false kept size) refl (long-number kept size h))
+    (λ (h : kept-bytes < size). long h (headerRefusal true kept size) refl (long-number kept size h))
     (nat-le-or-lt size kept-bytes)
   where
-    long : kept-bytes < size → (k : ℕ) → headerRefusal false kept size ≡ k → 0 < k → KeptOutput kept size
+    long : kept-bytes < size → (k : ℕ) → headerRefusal true kept size ≡ k → 0 < k → KeptOutput kept size
     long h zero e s = absurd (omega arith)
     long h (suc k) e s = record {
       output = refusedLine (suc k);
       holds = λ input f.
-          let same : headerRefusal false input (length input) ≡ suc k = ap (headerRefusal false input) (f .size-is) ∙ one-agrees input kept (λ i b. kept-at f h i (omega arith)) size ∙ e in
-          Programs.refusal (or-else-suc (headerRefusal false input (length input)) _ (omega arith) ∙ same);
+          let same : headerRefusal true input (length input) ≡ suc k = ap (headerRefusal true input) (f .size-is) ∙ header-agrees true input kept (λ i b. kept-at f h i (omega arith)) size ∙ e in
+          Programs.refusal (or-else-suc (headerRefusal true input (length input)) _ (omega arith) ∙ same);
     }
 
 pub the-span : Entries.Answer SpanOutput

@@ -6,7 +6,7 @@ use mathlib.Core.List.{List}
 use native.Mathlib.Omega.{arith}
 use native.Mathlib.Nat.{zero-add}
 use lib.ListN.{length, getD, take}
-use Rattle.definitions.specs.Limits.{answer-most}
+use Rattle.definitions.specs.Limits.{answer-most, refused-kind}
 use Rattle.definitions.specs.Tropical.{Trop, bot}
 use Rattle.definitions.specs.Offset.{tropOf}
 use Rattle.definitions.specs.Bytes.{Bytes, numAt, Outcome, gives, outcome}
@@ -15,7 +15,7 @@ use Rattle.definitions.specs.AnswerRecord.{Answer, answerRefusal, answerOutcome
 use Rattle.definitions.specs.Verdict as Verdicts
 use Rattle.definitions.specs.Verdict.{Verdict, accepted, Judged, pointOf, strategyOf}
 use Rattle.definitions.specs.Solved as Results
-use Rattle.definitions.specs.Solved.{Solved, answered, Solves, solved}
+use Rattle.definitions.specs.Solved.{Solved, answered, Solves, solved, all-solved}
 use Rattle.definitions.proofs.Inputs.{header-none}
 use Rattle.definitions.proofs.RoundTrip.{answer-back, answer-accepted, answer-bytes}
 use Rattle.definitions.proofs.Solved.{answer-takes}
@@ -30,7 +30,7 @@ use Rattle.answer_reader.specs.declared.answer.AnswerHead.the-variants as Heads
 use Rattle.answer_reader.specs.AnswerReading.{headOf, AnswerRead}
 use Rattle.answer_reader.proofs.Meaning.{stamps-point, picks-strategy}
 use Rattle.engine.specs.declared.solve.Solved as Declared
-use Rattle.engine.specs.declared.solve.Solved.the-variants.{Refused, Answered}
+use Rattle.engine.specs.declared.solve.Solved.the-variants.{Refused, Answered, AllAnswered}
 use Rattle.engine.specs.Outcome.{solvedOf}
 use Rattle.engine.proofs.Outcomes.{own-wrote}
 use Rattle.guarantees.specs.OwnAnswers.{OwnVerdict, HeldIn, OwnReading}
@@ -49,7 +49,14 @@ own-refused {p} {before} {after} {r} {k} h e = go h (ap solvedOf e)
           subst (λ (x : ℕ). OwnVerdict p before (Verdicts.refused x) before) same (OwnVerdict.turned-away z),
           λ stamps picks. subst (λ (x : ℕ). OwnReading p before stamps picks (Outcome.refusal x) before stamps picks) same (OwnReading.turned-away z),
         )
-    go (solved a z ans) f = absurd (let z : _≡_ {A = ℕ} 0 1 = cc in omega arith)
+    go (solved a k z ans) f = absurd (let z : _≡_ {A = ℕ} 0 1 = cc in omega arith)
+    go (all-solved k z turn) f = absurd (let z : _≡_ {A = ℕ} 0 1 = cc in omega arith)
+
+-- The code's result, several questions answered.
+pub own-several : {p before after : List ℕ} {r : Declared.Solved} {count trials size : ℕ} → Solves p before (solvedOf r) after → r ≡ AllAnswered count trials size
+    → (OwnVerdict p before (Verdicts.refused refused-kind) after) × ((stamps picks : List ℕ) → OwnReading p before stamps picks (headOf (Heads.Refused refused-kind)) after stamps picks)
+unfolding solvedOf headOf
+own-several h e = let g = rw e at h in (OwnVerdict.several g, λ stamps picks. OwnReading.several g)
 
 pub own-inside : {p before after : List ℕ} {r : Declared.Solved} {class span trials size : ℕ} → Solves p before (solvedOf r) after → r ≡ Answered class span trials size → size ≤ length after
 own-inside h e = own-wrote h e .inside

@@ -14,7 +14,7 @@ use Rattle.definitions.specs.Programs.{SpanOutput, VerdictOutput, ReadFrom, ver
 use Rattle.definitions.specs.Demands.{Word, Program, ProgramsAnswer}
 use Rattle.definitions.proofs.Bytes.{numAt-front}
 use Rattle.definitions.proofs.Inputs.{cut-inside}
-use Rattle.definitions.proofs.Refusals.{problem-fits}
+use Rattle.definitions.proofs.Refusals.{problem-fits, one-question}
 use Rattle.guarantees.specs.Pipe.{Piped}
 use Rattle.guarantees.proofs.Engine.{verdict-on}
 
@@ -42,8 +42,10 @@ module _ (p rest : List ℕ) (w : WithinLayout p) where
 -- ---- the verdict on what was put out
 
 pub span-then-verdict : (p out line : List ℕ) → WithinLayout p → SpanOutput p out → VerdictOutput (p ++ out) line → Piped p out line
-span-then-verdict p out line w (Programs.refusal e) v = absurd (let z : suc _ ≡ 0 = sym e ∙ w in omega arith)
-span-then-verdict p out line w (Programs.answer a e ans) v =
+span-then-verdict p out line w (Programs.refusal e) v =
+    absurd (let z : suc _ ≡ 0 = sym e ∙ one-question p (problem-fits p .0 w .kind-is) ∙ w in omega arith)
+span-then-verdict p out line w (Programs.answers k e turn) v = absurd (omega (arith, problem-fits p .0 w .kind-is))
+span-then-verdict p out line w (Programs.answer a k e ans) v =
     record {
       within = w;
       class = _;

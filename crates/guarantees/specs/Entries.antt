@@ -2,7 +2,7 @@
 -- proofs/Demands.antt ask for. That each can be met is shown in proofs/Inhabited.antt.
 use Prim.Native.Nat.{ℕ}
 use mathlib.Core.Path.{_≡_}
-use mathlib.Core.Bool.{false}
+use mathlib.Core.Bool.{true}
 use mathlib.Core.List.{List}
 use lib.ListN.{length, take}
 use Rattle.definitions.specs.Limits.{kept-bytes}
@@ -34,12 +34,13 @@ pub record Check : Type 0 where
   pub verdict : List ℕ → List ℕ → Verdict
   pub contract : (p a : List ℕ) → Slice p → Slice a → Judged p a (verdictOf (verdict p a))
 
--- `problem_records::reader::read_problem`, lent two tables: the header, and the tables afterwards.
+-- `problem_records::reader::read_problem` as the engine calls it, for one question or several, lent two tables: the header, and the tables
+-- afterwards.
 pub record ReadProblem (left₀ right₀ : List ℕ) : Type 0 where
   pub header : List ℕ → Header
   pub left : List ℕ → List ℕ
   pub right : List ℕ → List ℕ
-  pub contract : (p : List ℕ) → Slice p → ProblemRead false p left₀ right₀ (header p) (left p) (right p)
+  pub contract : (p : List ℕ) → Slice p → ProblemRead true p left₀ right₀ (header p) (left p) (right p)
 
 -- `answer_reader::answer::read_answer`, lent two arrays: the head, and the arrays afterwards.
 pub record ReadAnswer (stamps₀ picks₀ : List ℕ) : Type 0 where

@@ -10,6 +10,7 @@ use checker::check::Verdict;
 use checker::check::check;
 use engine::solve::Solved;
 use engine::solve::solve;
+use records::limits::REFUSED_KIND;
 use records::limits::ROWS;
 use records::limits::STRIDE;
 use records::problem::Header;
@@ -23,6 +24,7 @@ pub fn solve_then_check(problem: &[u8], answer: &mut [u8]) -> Verdict
     match solved {
         Solved::Refused(k) => Verdict::Refused(k),
         Solved::Answered(_, _, _, size) => check(problem, &answer[..size]),
+        Solved::AllAnswered(_, _, _) => Verdict::Refused(REFUSED_KIND),
     }
 }
 
@@ -55,5 +57,6 @@ pub fn solve_then_read(
     match solved {
         Solved::Refused(k) => AnswerHead::Refused(k),
         Solved::Answered(_, _, _, size) => read_own(problem, &answer[..size], stamps, picks),
+        Solved::AllAnswered(_, _, _) => AnswerHead::Refused(REFUSED_KIND),
     }
 }

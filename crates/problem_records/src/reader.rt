@@ -7,8 +7,9 @@ ghost use Rattle.base.specs.Filled.{FilledFrom};
 ghost use Rattle.definitions.specs.Limits.{lead-limit, signed-full, signed-bytes, highest-n, highest-m, most-questions, questions-header, questions-leads, questions-row, stride, table-size};
 ghost use Rattle.definitions.specs.Bytes.{tropField, blank-or-within};
 ghost use Rattle.definitions.specs.ProblemRecord.{leftPlace, problemOutcome};
+ghost use Rattle.definitions.specs.Questions.{alone};
 ghost use Rattle.records.specs.ProblemHeader.{headerOf};
-ghost use Rattle.problem_records.specs.Tables.{runFits, leadAt, ProblemRead};
+ghost use Rattle.problem_records.specs.Tables.{runFits, leadAt, leftTable, rightTable, ProblemRead};
 ghost use Rattle.problem_records.specs.Filling.{rowCell, RowOf, Framed, QuestionHeld, Tabled};
 use records::bytes::word_in;
 use records::limits::HIGHEST_N;
@@ -16,6 +17,7 @@ use records::limits::LEAD_BYTES;
 use records::limits::LEAD_LIMIT;
 use records::limits::OFFSET_32;
 use records::limits::PROBLEM_HEADER;
+use records::limits::QUESTIONS_HEADER;
 use records::limits::REFUSED_LEAD;
 use records::limits::STRIDE;
 use records::limits::TABLE;
@@ -164,8 +166,8 @@ pub fn read_tables(bytes: &[u8], n: usize, m: usize, left: &mut [u32], right: &m
     clear(right, used, TABLE - used);
 }
 
-// Question q, whose row stands behind m rules and q questions, into the row of the question of both tables. Public for what is to answer
-// several questions (document 02, 2.1); `asked-left` and `asked-right` of `QuestionTables` say what the tables then are.
+// Question q of a record of several questions, into the row of the question of both tables, which hold the record's rules: then they are the
+// tables of the kind 1 problem with that question alone. Public for the engine's `solve`.
 pub fn read_question(
     bytes: &[u8],
     n: usize,
@@ -175,9 +177,9 @@ pub fn read_question(
     right: &mut [u32; TABLE],
 )
     requires { ⌜ QuestionHeld (now bytes) n m q (now left) (now right) ⌝ }
-    ensures { λ _. ⌜ FilledFrom (rowCell (now (bytes .entry)) (leftPlace n (m + q) 0) n) (32 * m) 32 (now (left .entry)) (now (left .exit)) × FilledFrom (rowCell (now (bytes .entry)) (leftPlace n (m + q) 0 + 4 * (n + 1)) n) (32 * m) 32 (now (right .entry)) (now (right .exit)) ⌝ }
+    ensures { λ _. ⌜ (now (left .exit) ≡ leftTable (alone (now (bytes .entry)) q)) × (now (right .exit) ≡ rightTable (alone (now (bytes .entry)) q)) ⌝ }
 {
-    let at = row_place(n, m + q);
+    let at = row_place(n, m + q) + (QUESTIONS_HEADER - PROBLEM_HEADER);
     read_row(bytes, at, n, left, STRIDE * m);
     read_row(bytes, at + LEAD_BYTES * (n + 1), n, right, STRIDE * m);
 }

@@ -22,3 +22,13 @@ pub record Decoded (p : Problem) (left right : List ℕ) : Type 0 where
   pub right-is : (i j : ℕ) → i ≤ p .m → j ≤ p .n → tropOf (getD right (i * stride + j) 0) ≡ p .right i j
   pub left-near : (k : ℕ) → Near lead-limit (getD left k 0)
   pub right-near : (k : ℕ) → Near lead-limit (getD right k 0)
+
+-- Two tables that agree in every row but the objective's.
+pub record Steady (m : ℕ) (before after : List ℕ) : Type 0 where
+  pub above : (k : ℕ) → k < m * stride → getD after k 0 ≡ getD before k 0
+  pub below : (k : ℕ) → m * stride + stride ≤ k → getD after k 0 ≡ getD before k 0
+
+-- A table of which only the objective's row was rewritten.
+pub record Rewritten (m : ℕ) (before after : List ℕ) : Type 0 where
+  pub size : length after ≡ table-size
+  pub steady : Steady m before after

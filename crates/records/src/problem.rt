@@ -30,7 +30,7 @@ use crate::limits::REFUSED_SIZE;
 
 // Where things stand in a problem record: its kind, n and m, where its leads start, and how many questions follow its rules.
 pub struct Layout {
-    pub kind: usize,
+    pub kind: u16,
     pub n: usize,
     pub m: usize,
     pub leads: usize,
@@ -168,7 +168,7 @@ fn layout_of(fields: Fields) -> Layout
     ensures { λ r. ⌜ layoutIn r ≡ layoutBy (fields .kind) (fields .n) (fields .m) (fields .count) ⌝ }
 {
     Layout {
-        kind: fields.kind as usize,
+        kind: fields.kind,
         n: fields.n,
         m: fields.m,
         leads: leads_place(fields.kind),

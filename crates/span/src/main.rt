@@ -1,11 +1,11 @@
-// The span program: a problem on standard input, the answer record or the line of the refusal on standard output. Document
-// 01, "Two programs".
+// The span program: a problem on standard input, the answer record, or those of several questions one after another, or the line of the
+// refusal on standard output. Document 01, "Two programs"; document 02, 2.1.
 ghost use mathlib.Core.Path.{_≡_};
 ghost use Prim.Native.Nat.{ℕ, _≤_};
 ghost use mathlib.Core.List.{List};
 ghost use lib.ListN.{length, take};
 ghost use Rattle.definitions.specs.Programs.{ReadFrom, SpanOutput};
-ghost use Rattle.span.specs.Shown.{out-most, Shown, shownRecord};
+ghost use Rattle.span.specs.Shown.{out-most, Shown, shownRecords};
 use engine::input::solve_input;
 use engine::solve::Solved;
 use input::read_all;
@@ -14,14 +14,15 @@ use output::writer::write_record;
 use output::writer::write_refused;
 use records::limits::ANSWER_MOST;
 use records::limits::KEPT;
+use records::limits::MOST_QUESTIONS;
 
-// Room for what is put out: a record, or a line.
-const OUT_MOST: usize = 256;
+// Room for what is put out: the records of the answers to all questions, or a line.
+const OUT_MOST: usize = MOST_QUESTIONS * ANSWER_MOST;
 
-// Puts the record of this size at the front of the buffer for output, and gives its size.
-fn put_record(out: &mut [u8], buffer: &[u8], size: usize) -> usize
+// Puts the records of this size at the front of the buffer for output, and gives its size.
+fn put_records(out: &mut [u8], buffer: &[u8], size: usize) -> usize
     requires { ⌜ length (now out) ≡ out-most ⌝ }
-    ensures { λ r. ⌜ (r ≤ out-most) × shownRecord size (now (buffer .entry)) (take r (now (out .exit))) ⌝ }
+    ensures { λ r. ⌜ (r ≤ out-most) × shownRecords size (now (buffer .entry)) (take r (now (out .exit))) ⌝ }
 {
     if buffer.len() < size {
         return 0;
@@ -39,7 +40,8 @@ fn put_out(out: &mut [u8], buffer: &[u8], solved: Solved) -> usize
 {
     match solved {
         Solved::Refused(number) => write_refused(out, number),
-        Solved::Answered(_, _, _, size) => put_record(out, buffer, size),
+        Solved::Answered(_, _, _, size) => put_records(out, buffer, size),
+        Solved::AllAnswered(_, _, size) => put_records(out, buffer, size),
     }
 }
 
@@ -48,7 +50,7 @@ fn answer(kept: &[u8; KEPT], size: u64, out: &mut [u8]) -> usize
     requires { ⌜ length (now out) ≡ out-most ⌝ }
     ensures { λ r. ⌜ (r ≤ out-most) × ((input : List ℕ) → ReadFrom (now (kept .entry)) size input → SpanOutput input (take r (now (out .exit)))) ⌝ }
 {
-    let mut buffer = [0u8; ANSWER_MOST];
+    let mut buffer = [0u8; OUT_MOST];
     let solved = solve_input(kept, size, &mut buffer);
     put_out(out, &buffer, solved)
 }

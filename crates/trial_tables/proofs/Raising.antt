@@ -24,13 +24,14 @@ use Rattle.definitions.proofs.Offset.{trop-zero, trop-fin, plus-trop, plus-trop
 use Rattle.definitions.proofs.Raise.{raised, unraised, raise-zero}
 use Rattle.duality.specs.System.{System, systemAt}
 use Rattle.duality.specs.Within.{Within}
-use Rattle.records.specs.Decoded.{Near, Decoded}
+use Rattle.records.specs.Decoded.{Near, Decoded, Steady, Rewritten}
+use Rattle.records.proofs.Rewritten.{steady-refl, steady-trans}
 use Rattle.trials.specs.Tables.{entryOf, systemOf, pointOf, raised-limit, Table}
 use Rattle.trials.specs.Ends.{EndsOf}
 use Rattle.trials.proofs.Small.{near-small}
 use Rattle.trials.proofs.Steps.{table-raised}
 use Rattle.trial_tables.specs.declared.frame.Frame.{Frame}
-use Rattle.trial_tables.specs.Frames.{wholeOf, zero-offset, Trialled, shifted, Raised, Steady, Copied, Coefficients, Holds, Ready, FrameOf, Reraised, Rewritten, At, LeftHeld, Held}
+use Rattle.trial_tables.specs.Frames.{wholeOf, zero-offset, Trialled, shifted, Raised, Copied, Coefficients, Holds, Ready, FrameOf, Reraised, At, LeftHeld, Held}
 use Rattle.trial_tables.proofs.Agree.{Agree}
 use Rattle.trial_tables.proofs.Ending.{ends-of-blanker, first-row, raised-row-ends}
 
@@ -104,12 +105,6 @@ raised-end before objective after row t n h k r =
     let e : n ≡ 32 = omega arith in subst (λ (i : ℕ). Raised before objective row t i after) e r
 
 -- ---- what raising leaves
-
-pub steady-refl : {m : ℕ} {right : List ℕ} → Steady m right right
-steady-refl = record { above = λ k h. refl; below = λ k h. refl }
-
-pub steady-trans : {m : ℕ} {a b c : List ℕ} → Steady m a b → Steady m b c → Steady m a c
-steady-trans s t = record { above = λ k h. t .above k h ∙ s .above k h; below = λ k h. t .below k h ∙ s .below k h }
 
 -- The raised table stays ready, and every row but the objective's is as it was.
 pub raised-ready : (f : Frame) (t : ℕ) (left right right′ : List ℕ) → Ready f left right → Trialled t

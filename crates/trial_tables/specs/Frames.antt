@@ -13,7 +13,7 @@ use Rattle.definitions.specs.Limits.{signed-half, highest-n, highest-m, lead-li
 use Rattle.definitions.specs.Tropical.{plus, fin}
 use Rattle.definitions.specs.Problem.{Problem}
 use Rattle.definitions.specs.Certificate.{raise}
-use Rattle.records.specs.Decoded.{Near}
+use Rattle.records.specs.Decoded.{Near, Steady}
 use Rattle.trials.specs.Tables.{entryOf, pointOf, Table, Tables}
 use Rattle.trials.specs.Ends.{RowEnds, EndsOf}
 use Rattle.trial_tables.specs.declared.frame.Frame.{Frame}
@@ -47,16 +47,6 @@ pub record Raised (before objective : List ℕ) (row t n : ℕ) (after : List �
   pub raised : (l : ℕ) → l < n → getD after (row * stride + l) 0 ≡ shifted (getD objective l 0) t
   pub above : (k : ℕ) → k < row * stride → getD after k 0 ≡ getD before k 0
   pub below : (k : ℕ) → row * stride + n ≤ k → getD after k 0 ≡ getD before k 0
-
--- Two right tables that agree in every row but the objective's.
-pub record Steady (m : ℕ) (before after : List ℕ) : Type 0 where
-  pub above : (k : ℕ) → k < m * stride → getD after k 0 ≡ getD before k 0
-  pub below : (k : ℕ) → m * stride + stride ≤ k → getD after k 0 ≡ getD before k 0
-
--- What an answer leaves of the right table: its size, and every row but the objective's.
-pub record Rewritten (m : ℕ) (before after : List ℕ) : Type 0 where
-  pub size : length after ≡ table-size
-  pub steady : Steady m before after
 
 -- The row of the objective, copied.
 abbrev pub Copied : List ℕ → ℕ → ℕ → List ℕ → Type 0

@@ -146,7 +146,7 @@ fn empty() -> Record {
         size: 0,
         n: 0,
         m: 0,
-        room: 300,
+        room: 500,
         at: 0,
     }
 }

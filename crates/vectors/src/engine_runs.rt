@@ -31,6 +31,13 @@ fn found(class: u64, span: u64, trials: u64) {
     print::text(b", ");
 }
 
+// How many questions were answered, and the trials of all.
+fn several(count: usize, trials: u64) {
+    print::counted(b"questions ", count as u64);
+    print::counted(b", trials ", trials);
+    print::text(b", ");
+}
+
 // Runs the engine with so many bytes of room and prints what came of it.
 pub fn run(line: &[u8], problem: &[u8], room: usize) {
     let mut buffer = noise::buffer();
@@ -41,6 +48,10 @@ pub fn run(line: &[u8], problem: &[u8], room: usize) {
             found(class, span, trials);
             noise::show_written(size, &buffer);
             judged(problem, &buffer, size);
+        }
+        Solved::AllAnswered(count, trials, size) => {
+            several(count, trials);
+            noise::show_written(size, &buffer);
         }
         Solved::Refused(k) => noise::show_refused(k, &buffer),
     }

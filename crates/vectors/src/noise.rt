@@ -13,7 +13,7 @@ const NUMBER: u64 = 11574427654092267680;
 const LEAD: u32 = 2779096485;
 
 // The room of the buffers that are lent to the writer.
-pub const BUFFER: usize = 300;
+pub const BUFFER: usize = 500;
 
 pub fn table() -> [u32; TABLE]
     ensures { λ r. ⌜ length r ≡ 2048 ⌝ }
@@ -34,7 +34,7 @@ pub fn picks() -> [u64; ROWS]
 }
 
 pub fn buffer() -> [u8; BUFFER]
-    ensures { λ r. ⌜ length r ≡ 300 ⌝ }
+    ensures { λ r. ⌜ length r ≡ 500 ⌝ }
 {
     [BYTE; BUFFER]
 }

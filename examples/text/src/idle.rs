@@ -1,6 +1,6 @@
 //! What a text has in vain: moments that nothing speaks of, and rules that say nothing.
 
-use crate::problem::{Problem, Row};
+use crate::problem::{Problem, Row, Sheet};
 use crate::remark::Remark;
 
 /// Whether every plan keeps a rule: each moment on its left stands on its right, with at least the same lead. (Where one
@@ -16,13 +16,15 @@ pub fn free(problem: &Problem, moment: usize) -> bool {
 }
 
 /// What the writer of a text may not have meant, in the order of the lines.
-pub fn warnings(problem: &Problem) -> Vec<Remark> {
+pub fn warnings(sheet: &Sheet) -> Vec<Remark> {
     let mut warnings = Vec::new();
-    for (_, moment) in problem.moments.iter().enumerate().filter(|(number, _)| free(problem, *number)) {
+    let problems: Vec<Problem> = (0..sheet.questions.len()).map(|question| sheet.alone(question)).collect();
+    let free = |number: usize| problems.iter().all(|problem| free(problem, number));
+    for (_, moment) in sheet.moments.iter().enumerate().filter(|(number, _)| free(*number)) {
         let message = format!("warning: '{}' is free: the span and the rules say nothing of it", moment.name);
         warnings.push(Remark::at(moment.line, message));
     }
-    for rule in problem.rules.iter().filter(|rule| says_nothing(rule)) {
+    for rule in sheet.rules.iter().filter(|rule| says_nothing(rule)) {
         warnings.push(Remark::at(
             rule.line,
             format!("warning: this rule says nothing, every plan keeps it: {}", rule.text),
@@ -37,8 +39,12 @@ mod tests {
     use crate::parse;
     use crate::problem::Lead;
 
+    fn sheet(rules: &str) -> Sheet {
+        parse::sheet(&format!("moments: a, b, c\n{rules}\nspan: from a to b\n")).expect("a good text")
+    }
+
     fn problem(rules: &str) -> Problem {
-        parse::problem(&format!("moments: a, b, c\n{rules}\nspan: from a to b\n")).expect("a good text")
+        sheet(rules).alone(0)
     }
 
     #[test]
@@ -83,9 +89,11 @@ mod tests {
 
     #[test]
     fn warnings_have_their_line() {
-        let shown: Vec<String> = warnings(&problem("c <= c")).iter().map(|warning| warning.in_file("text")).collect();
+        let shown: Vec<String> = warnings(&sheet("c <= c")).iter().map(|warning| warning.in_file("text")).collect();
         assert_eq!(shown.len(), 2);
         assert!(shown[0].starts_with("text:1: warning: 'c' is free"), "{shown:?}");
         assert!(shown[1].starts_with("text:2: warning: this rule says nothing"), "{shown:?}");
+        // Another span speaks of c.
+        assert_eq!(warnings(&sheet("a <= b\nspan: from a to c")).len(), 0);
     }
 }

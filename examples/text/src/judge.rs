@@ -1,36 +1,50 @@
 //! Having an answer judged, and telling it. The checker speaks first.
 
-use crate::problem::Problem;
+use crate::problem::{Problem, Sheet};
 use crate::programs::{self, Verdict};
 use crate::record;
 use crate::words;
 
-/// How a judged answer ends.
-#[derive(Clone, Copy, Debug, PartialEq, Eq)]
+/// How judged answers end; of several the last in this order counts.
+#[derive(Clone, Copy, Debug, PartialEq, Eq, PartialOrd, Ord)]
 pub enum Ending {
     /// Accepted, and expected where the text says what it expects.
     Accepted,
-    NotAccepted,
     /// Accepted, and the text expects another answer.
     Unexpected,
+    NotAccepted,
 }
 
-/// Has the engine answer, and tells the answer.
-pub fn run(problem: &Problem) -> Result<Ending, String> {
-    print!("{}", words::question(problem));
+/// Has the engine answer, and tells the answers.
+pub fn run(sheet: &Sheet) -> Result<Ending, String> {
+    print!("{}", words::heading(sheet));
     println!("Engine:   {}", programs::span_program().display());
-    let record = programs::answer(&problem.bytes())?;
-    tell(problem, &record)
+    let records = programs::answer(&sheet.bytes())?;
+    tell_all(sheet, &records)
 }
 
-/// Tells an answer record from whoever wrote it.
-pub fn answer(problem: &Problem, record: &[u8]) -> Result<Ending, String> {
-    print!("{}", words::question(problem));
-    tell(problem, record)
+/// Tells answer records from whoever wrote them, one after another.
+pub fn answer(sheet: &Sheet, records: &[u8]) -> Result<Ending, String> {
+    print!("{}", words::heading(sheet));
+    tell_all(sheet, records)
+}
+
+/// The checker takes one question: each answer is judged with the problem of its question alone.
+fn tell_all(sheet: &Sheet, records: &[u8]) -> Result<Ending, String> {
+    println!("Checker:  {}", programs::verdict_program().display());
+    let count = sheet.questions.len();
+    let mut ending = Ending::Accepted;
+    for (number, record) in record::cut(records, count).into_iter().enumerate() {
+        let problem = sheet.alone(number);
+        if count > 1 {
+            print!("\nSpan {} of {count}:\n{}", number + 1, words::groups(&problem));
+        }
+        ending = ending.max(tell(&problem, record)?);
+    }
+    Ok(ending)
 }
 
 fn tell(problem: &Problem, record: &[u8]) -> Result<Ending, String> {
-    println!("Checker:  {}", programs::verdict_program().display());
     let verdict = programs::verdict(&problem.bytes(), record)?;
     let answer = record::read(record, problem.moments.len(), problem.rules.len() + 1);
     match (verdict, answer) {

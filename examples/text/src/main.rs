@@ -8,13 +8,15 @@
 //!     text answer FILE ANSWER      has the verdict program judge an answer record (a file), and tells it in words
 //!     text run FILE                has the span program answer and the verdict program judge, and tells the answer
 //!
+//! A text with several spans is one problem of kind 3, and its answer records stand one after another.
+//!
 //! `programs` says where the programs are. The status is 0 where all went well; for `answer` and `run` this means that the
-//! checker accepted the answer and that it is the one that the text expects, if it says so. Else it is
+//! checker accepted every answer and that each is the one that the text expects, if it says so. Else it is
 //!
 //!     1    a file cannot be read, a text has a mistake, or a program cannot be run or says nothing that is known
 //!     2    the words are none of these four
-//!     3    the checker does not accept the answer
-//!     4    the checker accepts the answer, and the text expects another
+//!     3    the checker does not accept an answer
+//!     4    the checker accepts the answers, and the text expects another
 
 mod idle;
 mod judge;
@@ -44,13 +46,13 @@ const NOT_ACCEPTED: u8 = 3;
 const UNEXPECTED: u8 = 4;
 
 /// Reads a text, and puts what it has in vain on standard error.
-fn read_text(path: &str) -> Result<problem::Problem, String> {
+fn read_text(path: &str) -> Result<problem::Sheet, String> {
     let text = std::fs::read_to_string(path).map_err(|error| format!("{path}: {error}"))?;
-    let problem = parse::problem(&text).map_err(|mistake| mistake.in_file(path))?;
-    for warning in idle::warnings(&problem) {
+    let sheet = parse::sheet(&text).map_err(|mistake| mistake.in_file(path))?;
+    for warning in idle::warnings(&sheet) {
         eprintln!("{}", warning.in_file(path));
     }
-    Ok(problem)
+    Ok(sheet)
 }
 
 /// Does what the words say; the status.

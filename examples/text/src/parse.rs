@@ -7,11 +7,12 @@
 //!     span: from cleaned to later of ready, ambulance
 //!     expect: least -47
 //!
-//! `sides` says what stands on the two sides of a rule and in the two groups of the span.
+//! There may be several spans over the same rules, each with its `expect:` behind it. `sides` says what stands on the two sides
+//! of a rule and in the two groups of a span.
 
 use crate::limits;
 use crate::outcome::Outcome;
-use crate::problem::{Lead, Moment, Problem, Row};
+use crate::problem::{Lead, Moment, Question, Row, Sheet};
 use crate::remark::Remark;
 use crate::sides;
 use crate::tokens::{without_comment, Tokens};
@@ -20,22 +21,33 @@ use crate::tokens::{without_comment, Tokens};
 struct Draft {
     moments: Vec<Moment>,
     rules: Vec<Row>,
-    question: Option<Row>,
-    expected: Option<(usize, Outcome)>,
+    spans: Vec<Row>,
+    expected: Vec<Expected>,
+}
+
+/// An `expect:` line: which span it speaks of, and what it says.
+struct Expected {
+    span: usize,
+    line: usize,
+    outcome: Outcome,
 }
 
 /// Reads a whole text.
-pub fn problem(text: &str) -> Result<Problem, Remark> {
+pub fn sheet(text: &str) -> Result<Sheet, Remark> {
     let anchor = Moment { name: "anchor".into(), line: 0 };
-    let mut draft = Draft { moments: vec![anchor], rules: Vec::new(), question: None, expected: None };
+    let mut draft = Draft { moments: vec![anchor], rules: Vec::new(), spans: Vec::new(), expected: Vec::new() };
     for (number, line) in (1..).zip(text.lines()) {
         without_comment(line)
             .and_then(|line| draft.line(number, line.trim()))
             .map_err(|message| Remark::at(number, message))?;
     }
-    let Draft { moments, rules, question, expected } = draft;
-    let question = question.ok_or_else(|| Remark::whole("there is no line 'span: from .. to ..'".into()))?;
-    Ok(Problem { moments, rules, question, expected: expected.map(|(_, outcome)| outcome) })
+    let Draft { moments, rules, spans, expected } = draft;
+    if spans.is_empty() {
+        return Err(Remark::whole("there is no line 'span: from .. to ..'".into()));
+    }
+    let expected_of = |span| expected.iter().find(|line| line.span == span).map(|line| line.outcome);
+    let questions = spans.into_iter().enumerate().map(|(span, row)| Question { row, expected: expected_of(span) });
+    Ok(Sheet { moments, rules, questions: questions.collect() })
 }
 
 impl Draft {
@@ -55,7 +67,7 @@ impl Draft {
     }
 
     fn name(&mut self, number: usize, names: &str) -> Result<(), String> {
-        if !self.rules.is_empty() || self.question.is_some() {
+        if !self.rules.is_empty() || !self.spans.is_empty() {
             return Err("moments come before rules and span".into());
         }
         for name in names.split(',').map(str::trim) {
@@ -86,10 +98,10 @@ impl Draft {
         Ok(())
     }
 
-    /// The span's line. The span is its end less its start, so the end is the record's first list.
+    /// A span's line. The span is its end less its start, so the end is the record's first list.
     fn ask(&mut self, number: usize, groups: &str) -> Result<(), String> {
-        if let Some(question) = &self.question {
-            return Err(format!("there is one span only, and line {} has it", question.line));
+        if self.spans.len() == limits::QUESTIONS {
+            return Err(format!("there are more than {} spans", limits::QUESTIONS));
         }
         let mut tokens = Tokens::of(groups);
         if !tokens.takes("from") {
@@ -99,20 +111,22 @@ impl Draft {
         tokens.expect("to")?;
         let end = sides::read(&self.moments, &mut tokens)?;
         tokens.end()?;
-        self.question = Some(Row { line: number, text: groups.into(), left: end, right: start });
+        self.spans.push(Row { line: number, text: groups.into(), left: end, right: start });
         Ok(())
     }
 
-    fn expect(&mut self, number: usize, words: &str) -> Result<(), String> {
-        if let Some((line, _)) = self.expected {
-            return Err(format!("there is one 'expect:' only, and line {line} has it"));
+    /// What is expected of the span above, or of the first where none stands above.
+    fn expect(&mut self, line: usize, words: &str) -> Result<(), String> {
+        let span = self.spans.len().saturating_sub(1);
+        if let Some(other) = self.expected.iter().find(|other| other.span == span) {
+            return Err(format!("a span has one 'expect:' only, and line {} has it", other.line));
         }
         let words = words.split_whitespace().collect::<Vec<_>>().join(" ");
         let outcome = Outcome::read(&words).filter(|outcome| outcome.possible()).ok_or_else(|| {
             let limit = limits::SPAN;
             format!("'{words}' is no answer: 'least N' with N from -{limit} to {limit}, 'bottomless' or 'none'")
         })?;
-        self.expected = Some((number, outcome));
+        self.expected.push(Expected { span, line, outcome });
         Ok(())
     }
 }
@@ -153,13 +167,13 @@ mod tests {
     use crate::problem::hex;
 
     fn mistake(text: &str) -> String {
-        problem(text).expect_err(text).in_file("text")
+        sheet(text).expect_err(text).in_file("text")
     }
 
     #[test]
     fn a_text_is_read() {
         let text = "moments: a, b # two\n\nlater of a, b - 1 <= anchor + 5\nspan: from a to later of b + 2, anchor\nexpect:  least  -4\n";
-        let problem = problem(text).expect("a good text");
+        let problem = sheet(text).expect("a good text").alone(0);
         assert_eq!(problem.moments.iter().map(|moment| moment.name.as_str()).collect::<Vec<_>>(), ["anchor", "a", "b"]);
         assert_eq!(problem.rules[0].left, [None, Some(0), Some(-1)]);
         assert_eq!(problem.rules[0].right, [Some(5), None, None]);
@@ -172,8 +186,20 @@ mod tests {
     /// From anchor + 2 to anchor + 5 is document 01's example A, first 5 and second 2.
     #[test]
     fn a_span_is_its_end_less_its_start() {
-        let problem = problem("span: from anchor + 2 to anchor + 5\n").expect("a good text");
-        assert_eq!(hex(&problem.bytes()), "0E0000000100000000000500000002000000");
+        let sheet = sheet("span: from anchor + 2 to anchor + 5\n").expect("a good text");
+        assert_eq!(hex(&sheet.bytes()), "0E0000000100000000000500000002000000");
+        assert_eq!(sheet.bytes(), sheet.alone(0).bytes());
+    }
+
+    /// Length, kind 3, n, m, the count of two bytes, then the rows; what is expected stands behind each span, or not at all.
+    #[test]
+    fn several_spans_are_one_record() {
+        let text = "span: from anchor + 2 to anchor + 5\nspan: from anchor to nothing\nexpect: bottomless\n";
+        let sheet = sheet(text).expect("a good text");
+        let rows = ["0500000002000000", "0000008000000000"];
+        assert_eq!(hex(&sheet.bytes()), format!("180000000300000000000200{}", rows.concat()));
+        assert_eq!([0, 1].map(|span| sheet.alone(span).expected), [None, Some(Outcome::Bottomless)]);
+        assert_eq!(hex(&sheet.alone(1).bytes()), format!("0E000000010000000000{}", rows[1]));
     }
 
     #[test]
@@ -189,11 +215,15 @@ mod tests {
             ("moments: from\n", "text:1: 'from' cannot be a moment's name"),
             ("moments: a,\n", "text:1: '' cannot be a moment's name"),
             ("moments: a\na <= a\nmoments: b\n", "text:3: moments come before"),
-            ("moments: a\nspan: from a to a\nspan: from a to a\n", "text:3: there is one span only, and line 2 has it"),
+            ("moments: a\nspan: from a to a\nmoments: b\n", "text:3: moments come before"),
             ("moments: a\nspan: from a\n", "text:2: 'to' is expected at the end of the line"),
             ("moments: a\nspan: from a, a to a\n", "text:2: 'to' is expected, not ','"),
             ("moments: a\nspan: later of a\n", "text:2: a span is written 'span: from .. to ..'"),
-            ("expect: least 1\nexpect: least 1\n", "text:2: there is one 'expect:' only, and line 1 has it"),
+            ("expect: least 1\nexpect: least 1\n", "text:2: a span has one 'expect:' only, and line 1 has it"),
+            (
+                "span: from anchor to anchor\nexpect: least 0\nspan: from anchor to nothing\nexpect: none\nexpect: none\n",
+                "text:5: a span has one 'expect:' only, and line 4 has it",
+            ),
             ("expect: leats 13\n", "text:1: 'leats 13' is no answer"),
             ("expect: least 645121\n", "text:1: 'least 645121' is no answer"),
             ("expect:\n", "text:1: '' is no answer"),
@@ -209,7 +239,10 @@ mod tests {
         let text = |moments: usize, rules: usize| {
             format!("moments: {}\n{}span: from m0 to m1\n", names(moments), "m0 <= m1\n".repeat(rules))
         };
-        assert!(problem(&text(31, 63)).is_ok());
+        assert!(sheet(&text(31, 63)).is_ok());
+        let spans = |count: usize| text(2, 1) + &"span: from m1 to m0\n".repeat(count - 1);
+        assert!(sheet(&spans(8)).is_ok_and(|sheet| sheet.questions.len() == 8));
+        assert!(mistake(&spans(9)).contains("text:11: there are more than 8 spans"));
         assert!(mistake(&text(32, 0)).contains("text:1: there are more than 31 moments"));
         assert!(mistake(&text(31, 64)).contains("text:65: there are more than 63 rules"));
     }

@@ -1,4 +1,4 @@
-//! A problem with names, and its record.
+//! What a text says, with names, and the records of it.
 
 use crate::outcome::Outcome;
 
@@ -26,6 +26,41 @@ pub struct Row {
     pub right: Vec<Lead>,
 }
 
+/// A span that is asked for, and the answer that the text expects.
+#[derive(Clone, Debug)]
+pub struct Question {
+    pub row: Row,
+    pub expected: Option<Outcome>,
+}
+
+/// A text: rules, and one question or several over them.
+#[derive(Clone, Debug)]
+pub struct Sheet {
+    /// The anchor first.
+    pub moments: Vec<Moment>,
+    pub rules: Vec<Row>,
+    pub questions: Vec<Question>,
+}
+
+impl Sheet {
+    /// The problem that has one of the questions alone.
+    pub fn alone(&self, question: usize) -> Problem {
+        let Question { row, expected } = self.questions[question].clone();
+        Problem { moments: self.moments.clone(), rules: self.rules.clone(), question: row, expected }
+    }
+
+    /// The record: of kind 1 for one question, of kind 3 for several.
+    pub fn bytes(&self) -> Vec<u8> {
+        let (n, m, count) = (self.moments.len() - 1, self.rules.len(), self.questions.len());
+        let rows = self.rules.iter().chain(self.questions.iter().map(|question| &question.row));
+        match count {
+            1 => record(1, &[n, m], rows),
+            _ => record(3, &[n, m, count], rows),
+        }
+    }
+}
+
+/// A problem of one question.
 #[derive(Clone, Debug)]
 pub struct Problem {
     /// The anchor first.
@@ -44,19 +79,21 @@ impl Problem {
 
     /// The record of kind 1.
     pub fn bytes(&self) -> Vec<u8> {
-        let size = 10 + 8 * self.moments.len() * (self.rules.len() + 1);
-        let mut bytes = Vec::with_capacity(size);
-        bytes.extend((size as u32 - 4).to_le_bytes());
-        bytes.extend(1u16.to_le_bytes());
-        bytes.extend((self.moments.len() as u16 - 1).to_le_bytes());
-        bytes.extend((self.rules.len() as u16).to_le_bytes());
-        for row in self.rows() {
-            for lead in row.left.iter().chain(&row.right) {
-                bytes.extend(lead.unwrap_or(BLANK).to_le_bytes());
-            }
-        }
-        bytes
+        record(1, &[self.moments.len() - 1, self.rules.len()], self.rows())
     }
+}
+
+/// A problem record: its length, its kind, numbers of two bytes, and rows.
+fn record<'a>(kind: u16, numbers: &[usize], rows: impl Iterator<Item = &'a Row>) -> Vec<u8> {
+    let mut bytes = vec![0; 4];
+    bytes.extend(kind.to_le_bytes());
+    bytes.extend(numbers.iter().flat_map(|&number| (number as u16).to_le_bytes()));
+    for lead in rows.flat_map(|row| row.left.iter().chain(&row.right)) {
+        bytes.extend(lead.unwrap_or(BLANK).to_le_bytes());
+    }
+    let length = bytes.len() as u32 - 4;
+    bytes[..4].copy_from_slice(&length.to_le_bytes());
+    bytes
 }
 
 /// Bytes as document 01 shows them.

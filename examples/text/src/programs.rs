@@ -30,7 +30,7 @@ pub fn verdict_program() -> PathBuf {
     program("verdict", "VERDICT_PROGRAM")
 }
 
-/// The engine's answer record for a problem.
+/// The engine's answer records for a problem, one a question.
 pub fn answer(problem: &[u8]) -> Result<Vec<u8>, String> {
     let output = feed(&span_program(), problem)?;
     if output.starts_with(b"refused") {

@@ -61,7 +61,7 @@ mod tests {
     /// Moment b is not reached, so that its pick holds nothing up.
     #[test]
     fn picks_of_moments_that_are_not_reached_play_no_part() {
-        let problem = parse::problem(&format!("{RULES}span: from anchor to a\n")).expect("a good text");
+        let problem = parse::sheet(&format!("{RULES}span: from anchor to a\n")).expect("a good text").alone(0);
         let answer =
             Answer { outcome: Outcome::Least(30), stamps: vec![Some(0), Some(30), Some(10)], picks: vec![1, 3, 2] };
         assert_eq!(picked_rows(&problem, &answer), [0, 2]);
@@ -71,7 +71,7 @@ mod tests {
 
     #[test]
     fn rows_without_a_reached_moment_carry_nothing() {
-        let problem = parse::problem(&format!("{RULES}b <= a\nspan: from a to b\n")).expect("a good text");
+        let problem = parse::sheet(&format!("{RULES}b <= a\nspan: from a to b\n")).expect("a good text").alone(0);
         let answer = Answer { outcome: Outcome::Bottomless, stamps: vec![], picks: vec![2, 0, 2, 1] };
         assert_eq!(carried_rows(&problem, &answer), [(0, 1)]);
         let answer = Answer { picks: vec![2, 3, 2, 9], ..answer };

@@ -20,6 +20,20 @@ fn four(bytes: &[u8], at: usize) -> i32 {
     i32::from_le_bytes([bytes[at], bytes[at + 1], bytes[at + 2], bytes[at + 3]])
 }
 
+/// Cuts so many records, one after another, by their length fields. The last is all that is left, and so is one whose field is
+/// not whole or reaches past the end: the checker sees every byte.
+pub fn cut(mut records: &[u8], count: usize) -> Vec<&[u8]> {
+    let mut parts = Vec::new();
+    for _ in 1..count {
+        let field = records.first_chunk().map_or(usize::MAX, |field| u32::from_le_bytes(*field) as usize);
+        let (part, rest) = records.split_at(field.saturating_add(4).min(records.len()));
+        parts.push(part);
+        records = rest;
+    }
+    parts.push(records);
+    parts
+}
+
 /// Reads a record with the layout of an answer to a problem of so many moments, the anchor among them, and so many rows.
 pub fn read(record: &[u8], moments: usize, rows: usize) -> Option<Answer> {
     let length = record.first_chunk().map(|field| u32::from_le_bytes(*field) as usize)?;
@@ -46,6 +60,17 @@ pub fn read(record: &[u8], moments: usize, rows: usize) -> Option<Answer> {
 #[cfg(test)]
 mod tests {
     use super::*;
+
+    #[test]
+    fn records_are_cut_by_their_length_fields() {
+        let all = [1, 0, 0, 0, 7, 0, 0, 0, 0, 9];
+        assert_eq!(cut(&all, 1), [&all[..]]);
+        assert_eq!(cut(&all, 2), [&all[..5], &all[5..]]);
+        assert_eq!(cut(&all, 3), [&all[..5], &all[5..9], &all[9..]]);
+        // A field that reaches past the end, or is not whole, ends the cutting.
+        assert_eq!(cut(&all, 4), [&all[..5], &all[5..9], &all[9..], &[]]);
+        assert_eq!(cut(&[255; 6], 3), [&[255; 6][..], &[], &[]]);
+    }
 
     /// Every cut of a record, and every byte of its header changed, is read or turned down without a fault.
     #[test]

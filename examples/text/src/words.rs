@@ -5,7 +5,7 @@ use std::fmt::Write;
 
 use crate::idle;
 use crate::outcome::Outcome;
-use crate::problem::{Lead, Problem};
+use crate::problem::{Lead, Problem, Sheet};
 use crate::reached;
 use crate::record::Answer;
 use crate::sides;
@@ -30,17 +30,21 @@ fn when(stamp: Lead) -> String {
     }
 }
 
-/// The size of a problem, and both groups of its span as they were read.
-pub fn question(problem: &Problem) -> String {
-    let (moments, rules) = (problem.moments.len() - 1, problem.rules.len());
+/// The size of a text's problem, and both groups of its span as they were read; of several spans each is shown with its answer.
+pub fn heading(sheet: &Sheet) -> String {
+    let (moments, rules) = (sheet.moments.len() - 1, sheet.rules.len());
+    let size =
+        format!("A problem of {} bytes: moments beside the anchor: {moments}, rules: {rules}", sheet.bytes().len());
+    match sheet.questions.len() {
+        1 => format!("{size}.\nThe span as it was read:\n{}", groups(&sheet.alone(0))),
+        count => format!("{size}, spans: {count}.\n"),
+    }
+}
+
+/// Both groups of a problem's span as they were read.
+pub fn groups(problem: &Problem) -> String {
     let group = |leads: &[Lead]| sides::shown(&problem.moments, leads);
-    format!(
-        "A problem of {} bytes: moments beside the anchor: {moments}, rules: {rules}.\n\
-         The span as it was read:\n  from  {}\n  to    {}\n",
-        problem.bytes().len(),
-        group(&problem.question.right),
-        group(&problem.question.left)
-    )
+    format!("  from  {}\n  to    {}\n", group(&problem.question.right), group(&problem.question.left))
 }
 
 /// The plan of a least answer, a line a moment.
@@ -139,9 +143,8 @@ mod tests {
 
     #[test]
     fn both_groups_are_shown_as_they_were_read() {
-        let problem =
-            parse::problem("moments: a, b\nspan: from later of b + 5, a to anchor - 3\n").expect("a good text");
-        let words = question(&problem);
+        let sheet = parse::sheet("moments: a, b\nspan: from later of b + 5, a to anchor - 3\n").expect("a good text");
+        let words = heading(&sheet);
         assert!(words.contains("\n  from  later of a, (b + 5)\n  to    anchor - 3\n"), "{words}");
     }
 }

@@ -7,22 +7,22 @@ use crate::paper::{self, mend_length};
 use crate::tally::Tally;
 use random::Random;
 
-/// The engine on any bytes and a buffer of any length: the refusal that document 01 says and nothing written, or an
-/// answer and nothing written after it.
+/// The engine on any bytes and a buffer of any length: the refusal that the papers say and nothing written, or an answer a
+/// question and nothing written after the last.
 pub fn engine(tally: &mut Tally, random: &mut Random, problem: &[u8], length: usize) {
     let mut buffer = vec![0; length];
     random.fill(&mut buffer);
     let noise = buffer.clone();
-    let expected = match paper::read_problem(problem) {
-        Err(refusal) => refusal,
-        Ok(_) if length < 206 => 7,
-        Ok(_) => 0,
+    let (expected, count) = match paper::read_questions(problem) {
+        Err(refusal) => (refusal, 0),
+        Ok(all) if length < 206 * all.questions.len() => (7, 0),
+        Ok(all) => (0, all.questions.len()),
     };
     let result = span::raw::solve(problem, &mut buffer);
     tally.same("the engine's refusal", result & 255, expected, problem, &[]);
     if expected == 0 {
-        let size = paper::number(&buffer[..4]) as usize + 4;
-        tally.same("bytes after the record", buffer.get(size..), noise.get(size..), problem, &buffer);
+        let end = (0..count).fold(0, |at, _| next_record(&buffer, at));
+        tally.same("bytes after the last record", buffer.get(end..), noise.get(end..), problem, &buffer);
     } else {
         tally.same("trials where refused", result >> 8, 0, problem, &[]);
         tally.same("the buffer where refused", &buffer, &noise, problem, &buffer);
@@ -30,8 +30,13 @@ pub fn engine(tally: &mut Tally, random: &mut Random, problem: &[u8], length: us
     tally.count(&format!("engine {expected}"));
 }
 
+/// Where the record after the one at a place starts, by its length field.
+pub fn next_record(records: &[u8], at: usize) -> usize {
+    at + 4 + paper::number(records.get(at..at + 4).unwrap_or(&[])) as usize
+}
+
 /// The checker on any bytes.
-fn checker(tally: &mut Tally, problem: &[u8], answer: &[u8]) {
+pub fn checker(tally: &mut Tally, problem: &[u8], answer: &[u8]) {
     let expected = expected_check(problem, answer);
     tally.same("the checker", checked(problem, answer), expected, problem, answer);
     match expected {

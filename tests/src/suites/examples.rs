@@ -2,7 +2,7 @@
 
 use super::{answered, checked, expected_check};
 use crate::exhaustive;
-use crate::paper::{read_problem, Answer, Outcome, Problem, Row};
+use crate::paper::{read_questions, Answer, Outcome, Problem, Row};
 use crate::programs::repository;
 use crate::tally::{hex, Tally};
 use random::Random;
@@ -90,7 +90,7 @@ fn bytes_of_a(tally: &mut Tally) {
     tally.count("examples by bytes");
 }
 
-/// The problems of examples/, stored as bytes, with the outcome that their text expects.
+/// The problems of examples/, stored as bytes, with the outcome that their text expects of each question.
 fn stored(tally: &mut Tally, random: &mut Random) {
     let Ok(files) = std::fs::read_dir(repository().join("examples/problems")) else {
         return tally.fail("the folder examples/problems is not there".into(), &[], &[]);
@@ -102,15 +102,20 @@ fn stored(tally: &mut Tally, random: &mut Random) {
         let bytes: Option<Vec<u8>> =
             pairs.map(|pair| u8::from_str_radix(std::str::from_utf8(pair).ok()?, 16).ok()).collect();
         let text = std::fs::read_to_string(path.with_extension("txt")).unwrap_or_default();
-        let expected = text.lines().find_map(|line| line.strip_prefix("expect: "));
-        let problem = bytes.and_then(|bytes| read_problem(&bytes).ok());
-        let (Some(problem), Some(expected)) = (problem, expected) else {
-            tally.fail(format!("{} cannot be read", path.display()), &[], &[]);
+        let expected: Vec<&str> = text.lines().filter_map(|line| line.strip_prefix("expect: ")).collect();
+        let bytes = bytes.unwrap_or_default();
+        let Some(all) = read_questions(&bytes).ok().filter(|all| all.questions.len() == expected.len()) else {
+            tally.fail(format!("{} cannot be read", path.display()), &bytes, &[]);
             continue;
         };
-        let (_, record) = answered(tally, random, &problem);
-        let found = span::check(&problem.bytes(), &record).map(|certified| certified.to_string());
-        tally.same("a stored example", found, Ok(format!("accepted {expected}")), &problem.bytes(), &record);
+        for (number, expected) in expected.iter().enumerate() {
+            let problem = all.alone(number);
+            let (_, record) = answered(tally, random, &problem);
+            let found = span::check(&problem.bytes(), &record).map(|certified| certified.to_string());
+            tally.same("a stored question", found, Ok(format!("accepted {expected}")), &problem.bytes(), &record);
+        }
+        let found = span::solve_all(&bytes, &mut [0; 8 * 206]).map(|solved| solved.to_string());
+        tally.same("a stored example", found, Ok(expected.join(", ")), &bytes, &[]);
         tally.count("stored examples");
     }
     if tally.counted("stored examples") == 0 {

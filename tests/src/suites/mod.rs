@@ -9,6 +9,7 @@ pub mod marks;
 pub mod opening;
 pub mod parts;
 pub mod pipes;
+pub mod questions;
 pub mod small;
 pub mod tables;
 pub mod unproved;

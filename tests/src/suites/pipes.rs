@@ -31,7 +31,7 @@ fn verdict_line(input: &[u8]) -> String {
 }
 
 /// The verdict program on an input.
-fn verdict(tally: &mut Tally, input: &[u8]) {
+pub fn verdict(tally: &mut Tally, input: &[u8]) {
     let expected = verdict_line(input);
     let found = programs::verdict(input).map(|output| String::from_utf8_lossy(&output).into_owned());
     tally.same("the verdict program", found, Ok(expected.clone()), input, &[]);
@@ -42,33 +42,44 @@ fn verdict(tally: &mut Tally, input: &[u8]) {
     }
 }
 
-/// The span program on an input: a line, or a record that the library's checker and the second one accept.
-fn span_program(tally: &mut Tally, input: &[u8]) {
+/// Records one after another, cut by their length fields.
+fn records(mut all: &[u8]) -> Vec<&[u8]> {
+    let mut records = Vec::new();
+    while !all.is_empty() {
+        let (record, rest) = cut(all);
+        records.push(record);
+        all = rest;
+    }
+    records
+}
+
+/// The span program on an input: a line, or a record a question that the library's checker and the second one accept.
+pub fn span_program(tally: &mut Tally, input: &[u8]) {
     let found = match programs::span(input) {
         Ok(found) => found,
         Err(message) => return tally.fail(message, input, &[]),
     };
-    match paper::read_problem(input) {
+    match paper::read_questions(input) {
         Err(refusal) => {
             let expected = format!("refused {refusal}\n");
             tally.same("the span program", String::from_utf8_lossy(&found).as_ref(), &expected, input, &found);
             tally.count(&format!("span refused {refusal}"));
         }
-        Ok(_) => {
-            let mut buffer = [0; 206];
-            let outcome = span::solve(input, &mut buffer).map(|solved| outcome_of(solved.outcome));
-            let accepted = expected_check(input, &found);
-            tally.same(
-                "the span program's answer",
-                accepted,
-                outcome.map_err(|refusal| refusal.number as u64),
-                input,
-                &found,
-            );
+        Ok(all) => {
+            let mut buffer = [0; 8 * 206];
+            let expected: Vec<_> = match span::solve_all(input, &mut buffer) {
+                Ok(solved) => solved.answers.iter().map(|answer| Ok(outcome_of(answer.outcome))).collect(),
+                Err(refusal) => vec![Err(refusal.number as u64)],
+            };
+            let records = records(&found);
+            let inputs: Vec<Vec<u8>> = (0..all.questions.len()).map(|number| all.alone(number).bytes()).collect();
+            let accepted = inputs.iter().zip(&records).map(|(alone, record)| expected_check(alone, record)).collect();
+            tally.same("the span program's records", records.len(), inputs.len(), input, &found);
+            tally.same("the span program's answers", accepted, expected, input, &found);
             tally.count("span answered");
-            let mut both = input.to_vec();
-            both.extend(&found);
-            verdict(tally, &both);
+            for (alone, record) in inputs.iter().zip(records) {
+                verdict(tally, &[alone, record].concat());
+            }
         }
     }
     if input.len() > 20_000 {

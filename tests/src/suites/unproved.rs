@@ -1,21 +1,31 @@
 //! The unproved engines and the unproved checker of benches/: what the proved ones are measured against must be right too.
 
-use unproved::{solve_by, Answered, InFull, InLists, Search};
+use unproved::{solve_all_by, solve_by, Answered, InFull, InLists, Search};
 
 use super::expected_check;
 use crate::exhaustive;
-use crate::generate::{self, any, changed, Shape};
-use crate::paper::{self, Outcome, Problem};
+use crate::generate::{self, any, any_questions, changed, Shape};
+use crate::paper::{self, Outcome, Problem, Questions};
 use crate::tally::Tally;
 use random::Random;
 
 type Engine = fn(&[u8], &mut [u8]) -> Result<Answered, u8>;
+
+/// The same on every question of a problem.
+type EngineOfAll = fn(&[u8], &mut [u8]) -> Result<Vec<Answered>, u8>;
 
 const ENGINES: [(&str, Engine); 4] = [
     ("dense, halving", |problem, answer| solve_by::<InFull>(Search::Halving, problem, answer)),
     ("lists, halving", |problem, answer| solve_by::<InLists>(Search::Halving, problem, answer)),
     ("dense, Newton", |problem, answer| solve_by::<InFull>(Search::Newton, problem, answer)),
     ("lists, Newton", |problem, answer| solve_by::<InLists>(Search::Newton, problem, answer)),
+];
+
+const ENGINES_OF_ALL: [(&str, EngineOfAll); 4] = [
+    ("dense, halving", |problem, answers| solve_all_by::<InFull>(Search::Halving, problem, answers)),
+    ("lists, halving", |problem, answers| solve_all_by::<InLists>(Search::Halving, problem, answers)),
+    ("dense, Newton", |problem, answers| solve_all_by::<InFull>(Search::Newton, problem, answers)),
+    ("lists, Newton", |problem, answers| solve_all_by::<InLists>(Search::Newton, problem, answers)),
 ];
 
 fn outcome(answered: Answered) -> Outcome {
@@ -46,6 +56,25 @@ fn judge(tally: &mut Tally, random: &mut Random, problem: &Problem, expected: Op
             checker(tally, &bytes, &changed(random, problem, &answer).bytes(problem.n()));
         }
     }
+}
+
+/// Each engine on several questions: its answers to each alone, one after another.
+fn several(tally: &mut Tally, all: &Questions) {
+    let bytes = all.bytes();
+    for ((name, engine), (_, engine_of_all)) in ENGINES.into_iter().zip(ENGINES_OF_ALL) {
+        let mut expected = [0xA5; 8 * 206];
+        let (mut answers, mut at) = (Vec::new(), 0);
+        for number in 0..all.questions.len() {
+            if let Ok(answered) = engine(&all.alone(number).bytes(), &mut expected[at..]) {
+                at += answered.size;
+                answers.push(answered);
+            }
+        }
+        let mut buffer = [0xA5; 8 * 206];
+        tally.same(name, engine_of_all(&bytes, &mut buffer), Ok(answers), &bytes, &expected[..at]);
+        tally.same(name, buffer, expected, &bytes, &expected[..at]);
+    }
+    tally.count("problems of several questions");
 }
 
 fn checker(tally: &mut Tally, problem: &[u8], answer: &[u8]) {
@@ -83,5 +112,9 @@ pub fn run(tally: &mut Tally) {
         let first = solve_by::<InFull>(Search::Halving, &problem.bytes(), &mut buffer);
         judge(tally, &mut random, &problem, first.ok().map(outcome));
         tally.count("problems of all sizes");
+    }
+    for _ in 0..1_000 {
+        let count = 1 + random.below(8);
+        several(tally, &any_questions(&mut random, 31, 63, count));
     }
 }

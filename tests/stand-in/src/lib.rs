@@ -14,8 +14,8 @@ pub mod raw;
 #[path = "../../../capi/rust/src/words.rs"]
 mod words;
 
-pub use calls::{check, read, solve, write, ANSWER_SIZE, PROBLEM_SIZE};
+pub use calls::{check, read, solve, solve_all, write, ANSWER_SIZE, PROBLEM_SIZE, QUESTIONS, QUESTIONS_SIZE};
 pub use hours::{read_hours, write_hours, TEXT_SIZE};
 pub use marks::marks_differ;
 pub use opening::{first_open, Window};
-pub use words::{Answer, Certified, Class, Outcome, Refusal, Solved};
+pub use words::{Answer, AnswerAt, Certified, Class, Outcome, Refusal, Solved, SolvedAll};

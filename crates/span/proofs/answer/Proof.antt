@@ -14,4 +14,4 @@ answer-spec =
     (λ c. search needs)
     (λ c κs. search needs)
     (λ c. search needs)
-    (λ c. (c .before .before .put-out .ensures .0, span-read _ _ _ (λ input k. span-output _ (c .before .before .before .before .before .before .solve-input .ensures input k) refl (c .before .before .put-out .ensures .1)))))
+    (λ c. (c .before .before .put-out .ensures .0, span-read _ _ _ (λ input k. span-output _ (c .before .before .before .before .before .before .solve-input .ensures input k) refl (search needs) (c .before .before .put-out .ensures .1)))))

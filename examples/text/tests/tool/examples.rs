@@ -22,7 +22,7 @@ fn every_example_is_answered_as_it_expects() {
             count += 1;
         }
     }
-    assert!(count >= 6);
+    assert!(count >= 7);
 }
 
 /// The text that examples/README.md shows is one.

@@ -6,6 +6,7 @@ mod comments;
 mod copied;
 mod examples;
 mod scratch;
+mod several;
 mod spans;
 mod vain;
 

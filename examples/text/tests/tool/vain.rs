@@ -57,7 +57,7 @@ fn what_is_expected_is_judged_when_it_is_read() {
 fn a_second_expectation_is_a_mistake() {
     let told = run("problem-hex", &format!("{}expect: none\nexpect: least 30\n", e()));
     assert_eq!((told.status, told.out.as_str()), (Some(1), ""), "{told:?}");
-    assert!(told.err.contains("ward.txt:5: there is one 'expect:' only, and line 4 has it"), "{told:?}");
+    assert!(told.err.contains("ward.txt:5: a span has one 'expect:' only, and line 4 has it"), "{told:?}");
 }
 
 #[test]

@@ -1,7 +1,7 @@
 use borrow.Author.Needs.{needs}
 use mathlib.Core.Path.{sym}
 use lib.Seq.{length-take-le}
-use Rattle.guarantees.proofs.OwnAnswers.{own-refused, own-inside, own-reading}
+use Rattle.guarantees.proofs.OwnAnswers.{own-refused, own-inside, own-reading, own-several}
 use Rattle.guarantees.proofs.own.solve_then_read.Statement.{statement}
 use Rattle.guarantees.proofs.own.solve_then_read.Tie as tie
 
@@ -19,6 +19,9 @@ solve-then-read-spec =
     (λ c. sym (length-take-le _ _ (own-inside (c .before .before .before .before .before .before .solve .ensures) (c .before .before .solved2 .given .1))))
     (λ c κs. search needs)
     (λ c. search needs)
+    (λ c. search needs)
     returns
     (λ c. search needs)
-    (λ c. own-reading (c .before .before .before .before .before .before .before .before .before .solve .ensures) (c .before .before .before .before .before .solved2 .given .1) _ (c .read-own .ensures)))
+    (λ c. own-reading (c .before .before .before .before .before .before .before .before .before .solve .ensures) (c .before .before .before .before .before .solved2 .given .1) _ (c .read-own .ensures))
+    (λ c. search needs)
+    (λ c. own-several (c .before .before .before .before .solve .ensures) (c .enum-told .given .1) .1 _ _))
