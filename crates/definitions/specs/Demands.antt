@@ -139,7 +139,7 @@ pub record ProgramsAnswer (span verdict : Program) : Type 0 where
 -- ---- demand 2
 
 -- For every problem within the layout (and a buffer that is long enough) the class and least span are those of the
--- theory, in at most 23 trials.
+-- theory, in at most 24 trials.
 pub record FoundBy (engine : Engine) (p buffer : List ℕ) : Type 0 where
   pub class : ℕ
   pub span : Trop
