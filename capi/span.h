@@ -13,7 +13,7 @@
  * An offset number stands for a stamp or a span: 0 is blank, and v + 2147483648 is the minute v.
  *
  * Refusals: 1 the problem has fewer than 10 bytes; 2 its length field is not its size - 4; 3 its kind is not 1; 4 n is
- * above 31 or m above 63; 5 its size does not fit n and m; 6 a lead is neither blank nor within 10,080 of 0; 7 the
+ * above 31 or m above 63; 5 its size does not fit n and m; 6 a lead is neither blank nor within 20,160 of 0; 7 the
  * answer buffer is shorter than 206 bytes; 8 the answer has fewer than 14 bytes; 9 its length field is not its
  * size - 4; 10 its kind is not 2 or its class not 1 to 3; 11 its n is not the problem's, or its size does not fit its
  * class; 12 its span or a stamp is outside the form of its class; 13 a pick is above its highest value; 14 not
@@ -51,7 +51,7 @@ extern "C" {
 #define SPAN_DIFFER 256           /* span_marks_differ only */
 
 /* Answers a problem: writes the answer record at the start of `answer`; the bytes after it stay.
- * Result: 256 * trials + refusal. Answered: refusal 0, trials 1 to 23. Refused: 1 to 7, trials 0. */
+ * Result: 256 * trials + refusal. Answered: refusal 0, trials 1 to 24. Refused: 1 to 7, trials 0. */
 uint64_t span_solve(const uint8_t *problem, size_t problem_size, uint8_t *answer, size_t answer_size);
 
 /* Judges an answer to a problem.

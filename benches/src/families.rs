@@ -1,6 +1,7 @@
 //! The families of problems that are measured.
 
 use random::Random;
+use unproved::LARGEST;
 
 pub const BLANK: i32 = i32::MIN;
 
@@ -101,7 +102,7 @@ fn ward(random: &mut Random, n: usize, m: usize) -> Draft {
         }
         let side = largest(left, &plan).unwrap_or(0);
         for place in few(random, n + 1) {
-            right[place] = (side - plan[place] + random.lead(0, 60)).clamp(-10_080, 10_080);
+            right[place] = (side - plan[place] + random.lead(0, 60)).clamp(-LARGEST, LARGEST);
         }
     }
     let (first, second) = &mut draft.rows[m];
@@ -159,7 +160,7 @@ fn dense_full(random: &mut Random, n: usize, m: usize) -> Draft {
     let mut draft = Draft::new(n, m);
     for (left, right) in &mut draft.rows {
         for coefficient in left.iter_mut().chain(right.iter_mut()) {
-            *coefficient = random.lead(-10_080, 10_080);
+            *coefficient = random.lead(-LARGEST, LARGEST);
         }
     }
     draft

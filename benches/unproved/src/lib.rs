@@ -30,8 +30,8 @@ pub const VARIABLES: usize = 32;
 /// The largest number of rows, the objective among them.
 pub const ROWS: usize = 64;
 /// The largest size of a coefficient.
-pub const LARGEST: i32 = 10_080;
+pub const LARGEST: i32 = 20_160;
 /// The top trial.
-pub const TOP: i32 = 645_120;
+pub const TOP: i32 = 2 * VARIABLES as i32 * LARGEST;
 /// In an array of picks: no pick.
 pub const NO_PICK: u8 = u8::MAX;

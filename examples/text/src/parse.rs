@@ -195,7 +195,7 @@ mod tests {
             ("moments: a\nspan: later of a\n", "text:2: a span is written 'span: from .. to ..'"),
             ("expect: least 1\nexpect: least 1\n", "text:2: there is one 'expect:' only, and line 1 has it"),
             ("expect: leats 13\n", "text:1: 'leats 13' is no answer"),
-            ("expect: least 645121\n", "text:1: 'least 645121' is no answer"),
+            ("expect: least 1290241\n", "text:1: 'least 1290241' is no answer"),
             ("expect:\n", "text:1: '' is no answer"),
         ] {
             let message = mistake(text);
