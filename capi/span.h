@@ -17,7 +17,7 @@
  *
  * Refusals: 1 the problem has fewer than 10 bytes; 2 its length field is not its size - 4; 3 its kind is not 1, nor, in
  * span_solve, 3; 4 n is above 31 or m above 63; 5 its size does not fit n and m, and for kind 3 the count; 6 a lead is
- * neither blank nor within 10,080 of 0; 7 the answer buffer is shorter than 206 bytes a question; 8 the answer has fewer
+ * neither blank nor within 20,160 of 0; 7 the answer buffer is shorter than 206 bytes a question; 8 the answer has fewer
  * than 14 bytes; 9 its length field is not its size - 4; 10 its kind is not 2 or its class not 1 to 3; 11 its n is not the
  * problem's, or its size does not fit its class; 12 its span or a stamp is outside the form of its class; 13 a pick is above
  * its highest value; 14 not certified; 15 the count of questions is 0 or above 8; 18 (hours and minutes) the text is not of
@@ -60,7 +60,7 @@ extern "C" {
 /* Answers a problem of kind 1 or 3: writes the answer record of its question, or of each of its questions one after another,
  * at the start of `answers`. Each record starts where the one before ended, which span_record_end tells, and is the answer to
  * the problem of kind 1 with that question alone. The bytes after the last stay. Lend SPAN_ANSWER_SIZE bytes a question.
- * Result: 256 * trials + refusal. Answered: refusal 0, trials 1 to 23 a question, summed. Refused: 1 to 7 or 15, trials 0. */
+ * Result: 256 * trials + refusal. Answered: refusal 0, trials 1 to 24 a question, summed. Refused: 1 to 7 or 15, trials 0. */
 uint64_t span_solve(const uint8_t *problem, size_t problem_size, uint8_t *answers, size_t answers_size);
 
 /* Judges an answer to a problem of kind 1.

@@ -1,6 +1,7 @@
 //! The families of problems that are measured.
 
 use random::Random;
+use unproved::LARGEST;
 
 pub const BLANK: i32 = i32::MIN;
 
@@ -95,7 +96,7 @@ impl Family {
         match self {
             Family::Ward | Family::Contradiction => groups(random, &mut question),
             Family::DenseSmall => fill(random, &mut question, 60),
-            Family::DenseFull => fill(random, &mut question, 10_080),
+            Family::DenseFull => fill(random, &mut question, LARGEST),
         }
         question
     }
@@ -132,7 +133,7 @@ fn ward(random: &mut Random, n: usize, m: usize) -> Draft {
         }
         let side = largest(left, &plan).unwrap_or(0);
         for place in few(random, n + 1) {
-            right[place] = (side - plan[place] + random.lead(0, 60)).clamp(-10_080, 10_080);
+            right[place] = (side - plan[place] + random.lead(0, 60)).clamp(-LARGEST, LARGEST);
         }
     }
     groups(random, &mut draft.rows[m]);
@@ -199,7 +200,7 @@ fn dense_small(random: &mut Random, n: usize, m: usize) -> Draft {
 fn dense_full(random: &mut Random, n: usize, m: usize) -> Draft {
     let mut draft = Draft::new(n, m);
     for row in &mut draft.rows {
-        fill(random, row, 10_080);
+        fill(random, row, LARGEST);
     }
     draft
 }

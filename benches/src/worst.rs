@@ -5,6 +5,7 @@ use std::time::Instant;
 use crate::agree;
 use crate::families::{Draft, BLANK, FAMILIES};
 use random::Random;
+use unproved::LARGEST;
 
 const SEED: u64 = 3_000;
 
@@ -25,8 +26,8 @@ fn coefficient(random: &mut Random) -> i32 {
         0 | 1 => BLANK,
         2 => random.lead(-3, 3),
         3 => random.lead(-60, 60),
-        4 => [-10_080, 10_080][random.below(2)],
-        _ => random.lead(-10_080, 10_080),
+        4 => [-LARGEST, LARGEST][random.below(2)],
+        _ => random.lead(-LARGEST, LARGEST),
     }
 }
 
@@ -49,7 +50,7 @@ fn changed(random: &mut Random, draft: &Draft) -> Draft {
             4 | 5 => {
                 let side = if random.below(2) == 0 { &mut draft.rows[row].0 } else { &mut draft.rows[row].1 };
                 if side[place] != BLANK {
-                    side[place] = (side[place] + random.lead(-2, 2)).clamp(-10_080, 10_080);
+                    side[place] = (side[place] + random.lead(-2, 2)).clamp(-LARGEST, LARGEST);
                 }
             }
             6 | 7 => draft.rows[row].0[place] = coefficient(random),

@@ -1,6 +1,6 @@
 //! Random problems and tables.
 
-use crate::paper::{counts, highest_pick, largest, Answer, Minute, Problem, Questions, Row};
+use crate::paper::{counts, highest_pick, largest, Answer, Minute, Problem, Questions, Row, LONGEST_LEAD};
 use random::Random;
 
 /// What a random problem is made of.
@@ -69,7 +69,7 @@ pub fn any(random: &mut Random, largest_n: usize, largest_m: usize) -> Problem {
     let shape = Shape {
         n: random.below(largest_n + 1),
         m: random.below(largest_m + 1),
-        w: [0, 1, 3, 60, 1440, 10_080][random.below(6)],
+        w: [0, 1, 3, 60, 1440, 10_080, LONGEST_LEAD][random.below(7)],
         filled: [1, 2, 4, 7, 10][random.below(5)],
     };
     match random.below(3) {
@@ -84,7 +84,7 @@ pub fn questions(random: &mut Random, problem: Problem, count: usize) -> Questio
     let n = problem.n();
     let mut questions = vec![problem.question];
     while questions.len() < count {
-        let (w, filled) = ([0, 1, 60, 10_080][random.below(4)], [1, 3, 10][random.below(3)]);
+        let (w, filled) = ([0, 1, 60, LONGEST_LEAD][random.below(4)], [1, 3, 10][random.below(3)]);
         let mut question = row(random, Shape { n, m: 0, w, filled });
         match random.below(6) {
             0 => question.left.fill(None),

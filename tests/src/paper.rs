@@ -47,9 +47,10 @@ pub struct Answer {
 }
 
 pub const BLANK: i64 = -2_147_483_648;
-pub const LONGEST_LEAD: i64 = 10_080;
-pub const LONGEST_SPAN: i64 = 645_120;
-pub const LONGEST_STAMP: i64 = 2_000_000;
+/// The limits of document 02, 2.2.
+pub const LONGEST_LEAD: i64 = 20_160;
+pub const LONGEST_SPAN: i64 = 1_290_240;
+pub const LONGEST_STAMP: i64 = 3_000_000;
 
 /// The largest of (lead + moment); blank is below every minute, and so is `None` in Rust's order.
 pub fn largest(leads: &[Minute], plan: &[Minute]) -> Minute {
@@ -302,13 +303,13 @@ pub fn writer(
 
 /// The trials that the engine makes where exactly these spans are possible.
 pub fn trials(possible: impl Fn(i64) -> bool) -> u64 {
-    if !possible(645_120) {
+    if !possible(1_290_240) {
         return 1;
     }
-    if possible(-645_121) {
+    if possible(-1_290_241) {
         return 2;
     }
-    let (mut high, mut low, mut halvings) = (645_120, -645_121, 0);
+    let (mut high, mut low, mut halvings) = (1_290_240, -1_290_241, 0);
     while high - low != 1 {
         let sum: i64 = high + low;
         let middle = sum.div_euclid(2) + sum.rem_euclid(2);

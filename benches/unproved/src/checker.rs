@@ -1,7 +1,7 @@
 //! The checker, without proofs: the form first, then what document 01 lists for the class, leaving at the first fault.
 
 use crate::record::{self, Answer, Problem, BLANK};
-use crate::{ROWS, TOP, VARIABLES};
+use crate::{LARGEST, ROWS, TOP, VARIABLES};
 
 /// What the checker accepted.
 #[derive(Clone, Copy, Debug, PartialEq, Eq)]
@@ -18,9 +18,9 @@ const HALF: i32 = -500_000_000;
 /// An arc's weight is multiplied by this, and 1 is added where closed walks must be below zero: a closed walk of up to
 /// 32 arcs is then at most zero exactly when it was below zero.
 const SCALE: i32 = 32;
-/// A walk that visits no variable twice has at most 31 arcs of at most 32 × 665,280 + 1: one that weighs more contains a
-/// closed walk above zero.
-const HEAVIEST: i32 = 31 * (SCALE * 665_280 + 1);
+/// A walk that visits no variable twice has at most 31 arcs of at most 32 × (two coefficients and the top trial) + 1: one that
+/// weighs more contains a closed walk above zero.
+const HEAVIEST: i32 = (VARIABLES as i32 - 1) * (SCALE * (2 * LARGEST + TOP) + 1);
 /// The weight of an arc that is not there: below zero also with the longest walk added.
 const NO_ARC: i32 = -2_000_000_000;
 

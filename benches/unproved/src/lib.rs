@@ -32,8 +32,8 @@ pub const ROWS: usize = 64;
 /// The largest number of questions over the same rules.
 pub const QUESTIONS: usize = 8;
 /// The largest size of a coefficient.
-pub const LARGEST: i32 = 10_080;
+pub const LARGEST: i32 = 20_160;
 /// The top trial.
-pub const TOP: i32 = 645_120;
+pub const TOP: i32 = 2 * VARIABLES as i32 * LARGEST;
 /// In an array of picks: no pick.
 pub const NO_PICK: u8 = u8::MAX;

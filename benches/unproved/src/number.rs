@@ -1,8 +1,8 @@
 //! Whole numbers and minus infinity in a machine number: `i32` for lists, `f32` for dense rows.
 //!
 //! An `f32` holds every whole number up to 16,777,216 exactly and has an infinity, and every processor has a vector
-//! instruction for the larger of two. Values stay above −1,300,000: a longest walk has fewer than 32 arcs of at least
-//! −20,160 and needs at most one by the objective.
+//! instruction for the larger of two. Values stay above −2,600,000: a longest walk has fewer than 32 arcs of at least
+//! −40,320 and needs at most one by the objective.
 
 pub trait Number: Copy + PartialOrd {
     /// Minus infinity.

@@ -72,7 +72,7 @@ impl fmt::Display for Outcome {
 pub struct Solved {
     /// The class, and the span for least.
     pub outcome: Outcome,
-    /// The trials as document 01 counts them: 1 for none, 2 for bottomless, else 2 plus the halvings, never above 23.
+    /// The trials as document 01 counts them: 1 for none, 2 for bottomless, else 2 plus the halvings, never above 24.
     pub trials: u32,
     /// The size of the record written, at most 206.
     pub size: usize,
@@ -147,7 +147,7 @@ impl Refusal {
             3 => "Its kind is not 1, nor, for the engine, 3.",
             4 => "n is above 31 or m above 63.",
             5 => "Its size does not fit n and m, and for kind 3 the count of questions.",
-            6 => "A lead is neither blank nor within ±10,080.",
+            6 => "A lead is neither blank nor within ±20,160.",
             7 => "The answer buffer is shorter than 206 bytes a question, whichever class is due.",
             8 => "The answer has fewer than 14 bytes.",
             9 => "Its length field is not its size − 4.",
@@ -183,9 +183,9 @@ impl std::error::Error for Refusal {}
 pub enum Answer {
     /// Class 1: a span, a plan of n + 1 stamps (`None` is blank, the anchor's is 0), and a pick for each moment.
     Least {
-        /// The span field, within ±645,120.
+        /// The span field, within ±1,290,240.
         span: i32,
-        /// One stamp a moment, blank or within ±2,000,000.
+        /// One stamp a moment, blank or within ±3,000,000.
         stamps: Vec<Option<i32>>,
         /// One pick a moment: 0, a rule number, or m + 1 for the question.
         picks: Vec<u16>,

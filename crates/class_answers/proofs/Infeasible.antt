@@ -1,4 +1,4 @@
--- Class 3: what the trial at 645,120 found is an answer that the checker's list accepts.
+-- Class 3: what the trial at 1,290,240 found is an answer that the checker's list accepts.
 use Prim.Native.Nat.{ℕ, suc, _+_, _≤_}
 use mathlib.Core.Path.{_≡_, refl, sym, subst}
 use mathlib.Core.Bool.{true}
@@ -42,7 +42,7 @@ none-form n m stamps out h l f = (
   form-fits (answerIn n m 3 0 stamps out) n m .1 (record { span-fits = rw trop-zero refl; stamps-fit = no-stamps-fit; picks-fit = f }),
 )
 
--- The trial at 645,120 is not possible: none.
+-- The trial at 1,290,240 is not possible: none.
 pub infeasible-settled : (f : Frame) (left right right′ : List ℕ) (s : Search) (out stamps : List ℕ) → Ready f left right
     → Searched f left right s → s .blocked ≡ top-offset
     → Raised right (f .objective) (f .m) zero-offset 32 right′ → VariablePicks right′ (s .blocking) (f .n + 1) (f .m + 1) out

@@ -59,7 +59,7 @@ fn stamps(point: &[u64; STRIDE], width: usize) -> [u64; STRIDE]
     out
 }
 
-// Class 3: the trial at 645,120 is not possible.
+// Class 3: the trial at 1,290,240 is not possible.
 fn infeasible(left: &[u32; TABLE], right: &mut [u32; TABLE], frame: Frame, search: Search) -> Answer
     requires { ⌜ Ready frame (now left) (now right) × Searched frame (now left) (now right) search × (search .blocked ≡ top-offset) ⌝ }
     ensures { λ r. ⌜ Settled frame (now (left .entry)) (now (right .entry)) search r × Reraised frame (now (left .entry)) (now (right .entry)) (now (right .exit)) ⌝ }
@@ -79,7 +79,7 @@ fn infeasible(left: &[u32; TABLE], right: &mut [u32; TABLE], frame: Frame, searc
     }
 }
 
-// Class 2: the trial at the floor is possible, so that at −645,121 is; each row picks a variable that attains its largest there.
+// Class 2: the trial at the floor is possible, so that at −1,290,241 is; each row picks a variable that attains its largest there.
 fn unbounded(left: &[u32; TABLE], right: &mut [u32; TABLE], frame: Frame, search: Search) -> Answer
     requires { ⌜ Ready frame (now left) (now right) × Searched frame (now left) (now right) search × (search .reached ≤ search .floor) × (search .reached ≤ top-offset) ⌝ }
     ensures { λ r. ⌜ Settled frame (now (left .entry)) (now (right .entry)) search r × Reraised frame (now (left .entry)) (now (right .entry)) (now (right .exit)) ⌝ }

@@ -23,11 +23,13 @@ use Rattle.definitions.proofs.Tropical.{fin-below, finite-fin, ⊑-refl, ⊑-tr
 use Rattle.duality.specs.Values.{valueAt}
 use Rattle.duality.specs.Sweeps.{Climbed}
 use Rattle.duality.proofs.Longest.{round-least, potential-closed}
-use Rattle.duality.proofs.Sweeps.{SomeGain, entries-back, gain-back, swept-none, swept-kept, swept-more, all-fixed-or-gains, climbed-start, climbed-more, climbed-under, climbed-beyond}
+use Rattle.duality.proofs.Sweeps.{SomeGain, entries-back, gain-back, swept-none, swept-kept, swept-more, all-fixed-or-gains, climbed-start, climbed-more, climbed-part, climbed-under, climbed-beyond}
 use Rattle.reach.specs.Marks.{Marked}
+use Rattle.closed_walks.specs.declared.gains.Round.{Round}
+use Rattle.closed_walks.specs.declared.gains.Round.the-variants.{Whole, Beyond}
 use Rattle.closed_walks.specs.Gains.{arc-zero, arc-most, weightOf, matrix, anywhere, Table, NoneGains, SomeGains, Tested}
 use Rattle.closed_walks.specs.Order.{past, Ordered}
-use Rattle.closed_walks.specs.GainRound.{walk-limit, Small, endValue, Pushed, backward, level, RoundReady, Pushing, Rounds}
+use Rattle.closed_walks.specs.GainRound.{walk-limit, endValue, Pushed, backward, level, RoundReady, Pushing, Ended, finished, stopped, Rounds}
 use Rattle.closed_walks.proofs.Order.{past-most}
 
 -- ---- weights
@@ -166,7 +168,7 @@ module _ (arcs marks : List ℕ) (width : ℕ) (table : Table arcs width) where
   pushing-none {values} r = record {
     length-is = r .length-is;
     done-length = r .done-length;
-    small = λ l h. omega (arith, r .small l h);
+    small = r .small;
     held = r .held;
     swept = swept-none (backward arcs marks) width (level values);
     passed = λ j h. absurd (omega arith);
@@ -182,7 +184,7 @@ module _ (arcs marks : List ℕ) (width : ℕ) (table : Table arcs width) where
     kept q s = record {
       length-is = p .length-is;
       done-length = p .done-length;
-      small = λ l h. omega (arith, p .small l h);
+      small = p .small;
       held = p .held;
       swept = swept-kept (p .swept) b q;
       passed = one-more k (p .passed) s;
@@ -199,17 +201,16 @@ module _ (arcs marks : List ℕ) (width : ℕ) (table : Table arcs width) where
     pub pushing-held : getD new k 0 < getD pushed k 0 → Pushing arcs marks width values done (k + 1) new pushed moved
     pushing-held c = kept (λ l h. p .held k l (getD new k 0) b h c) (λ m. omega (whole, fin-below (p .swept .grows k b)))
 
-    module _ {more : List ℕ} (n : getD marks k 0 ≡ 0 → ⊥) (r : Pushed arcs (k * 32) (getD new k 0) 32 new more) where
+    module _ {more : List ℕ} (n : getD marks k 0 ≡ 0 → ⊥) (few : getD new k 0 ≤ walk-limit) (r : Pushed arcs (k * 32) (getD new k 0) 32 new more) where
       -- The values after the push,
       cell : (l : ℕ) → l < width → getD more l 0 ≡ endValue (getD new l 0) (getD new k 0) (getD arcs (k * 32 + l) 0)
-      cell l h = r .cells l (omega (arith, table .width-most)) (omega (arith, p .small l h, table .width-most))
-          (omega (arith, p .small k b, table .cells k l b h, table .width-most))
+      cell l h = r .cells l (omega (arith, table .width-most)) (omega (arith, p .small l h)) (omega (arith, table .cells k l b h))
 
       -- as tropical numbers,
       raised-level : (l : ℕ) → l < width → level more l ≡ larger (level new l) (plus (matrix arcs marks k l) (level new k))
       raised-level l h =
           ap (λ v. fin (pos v)) (cell l h)
-          ∙ end-level (getD new l 0) (getD new k 0) (getD arcs (k * 32 + l) 0) (omega (arith, p .small k b, table .width-most))
+          ∙ end-level (getD new l 0) (getD new k 0) (getD arcs (k * 32 + l) 0) (omega arith)
           ∙ ap (λ w. larger (level new l) (plus w (level new k))) (sym (marked k l n))
 
       -- none of them less than before.
@@ -233,7 +234,7 @@ module _ (arcs marks : List ℕ) (width : ℕ) (table : Table arcs width) where
         length-is = r .same ∙ p .length-is;
         done-length = length-set pushed k (getD new k 0 + 1) ∙ p .done-length;
         small = λ l h. let m = most-one (getD new l 0) (getD new k 0 + getD arcs (k * 32 + l) 0 - arc-zero) in
-            ⊎-elim (λ q. omega (arith, cell l h, p .small k b, table .cells k l b h)) (λ q. omega (arith, cell l h, p .small l h)) m;
+            ⊎-elim (λ q. omega (arith, cell l h, table .cells k l b h)) (λ q. omega (arith, cell l h, p .small l h)) m;
         held = row-held;
         swept = swept-more (p .swept) b raised-level;
         passed = one-more k
@@ -288,9 +289,9 @@ module _ (arcs marks : List ℕ) (width : ℕ) (table : Table arcs width) where
 
   -- One in which something did.
   pub rounds-more : {i : ℕ} {values done new pushed : List ℕ} {moved : Bool} → Rounds arcs marks width i values done
-      → Pushing arcs marks width values done width new pushed moved → moved ≡ true → Small width new → Rounds arcs marks width (i + 1) new pushed
-  rounds-more {i} {values} {done} {new} {pushed} r p t s = record {
-    ready = record { length-is = p .length-is; done-length = p .done-length; small = s; held = p .held };
+      → Pushing arcs marks width values done width new pushed moved → moved ≡ true → Rounds arcs marks width (i + 1) new pushed
+  rounds-more {i} {values} {done} {new} {pushed} r p t = record {
+    ready = record { length-is = p .length-is; done-length = p .done-length; small = p .small; held = p .held };
     climbed = rw add-one next;
     passed = λ k e j v b m h.
         let f : k ≡ i = omega arith in
@@ -323,13 +324,19 @@ module _ (arcs marks : List ℕ) (width : ℕ) (table : Table arcs width) where
       more : (pos arc-most +ℤ pos (i * arc-most)) ≤ℤ pos (suc i * arc-most)
       more = omega (whole, plus-read (pos arc-most) (pos (i * arc-most)))
 
-  -- A value above the limit.
-  pub rounds-beyond : {i : ℕ} {values done new pushed : List ℕ} {moved : Bool} → Rounds arcs marks width i values done
-      → Pushing arcs marks width values done width new pushed moved → (Small width new → ⊥) → 0 < width → SomeGains arcs marks width
-  rounds-beyond r p s h = some-gains (climbed-beyond (backward arcs marks) anywhere width
-      (climbed-more (backward arcs marks) anywhere width (r .climbed) (p .swept)) (fin (pos walk-limit))
-      (λ j b. ⊑-trans (value-most (width - 1) j b) (whole-least (omega (whole, table .width-most)))) h
-      (λ q. s (λ j b. omega (whole, fin-below (q j b)))))
+  -- A round that was whole; and one that stopped at a value above the limit.
+  pub ended-whole : {values done new pushed : List ℕ} {r : Round} {moved : Bool} → Ended arcs marks width values done new pushed r → r ≡ Whole moved
+      → Pushing arcs marks width values done width new pushed moved
+  ended-whole {moved = moved} (finished {moved = was} p) e = let f : was ≡ moved = cc in rw f at p
+  ended-whole (stopped p h a) e = absurd (let z : _≡_ {A = ℕ} 0 1 = cc in omega arith)
+
+  pub rounds-beyond : {i : ℕ} {values done new pushed : List ℕ} {r : Round} → Rounds arcs marks width i values done
+      → Ended arcs marks width values done new pushed r → r ≡ Beyond → SomeGains arcs marks width
+  rounds-beyond s (finished p) e = absurd (let z : _≡_ {A = ℕ} 0 1 = cc in omega arith)
+  rounds-beyond s (stopped {l = l} p h a) e = some-gains (climbed-beyond (backward arcs marks) anywhere width
+      (climbed-part (backward arcs marks) anywhere width (s .climbed) (p .swept)) (fin (pos walk-limit))
+      (λ j b. ⊑-trans (value-most (width - 1) j b) (whole-least (omega (whole, table .width-most)))) (omega arith)
+      (λ q. omega (whole, fin-below (q l h))))
 
   -- More rounds than variables, in each of which something moved.
   pub rounds-end : {i : ℕ} {values done : List ℕ} → Rounds arcs marks width i values done → i ≡ width + 1 → 0 < width → SomeGains arcs marks width

@@ -1,7 +1,7 @@
 -- The rounds of the closed-walk test, in place: each marked variable in turn raises the values at the ends of its arcs,
 -- unless it did so with the value that it has.
 -- A value is what the heaviest walk found so far weighs that ends there. Values start at 0 and never fall, so they are plain
--- numbers; none is above a limit where a round starts, so that none wraps in it.
+-- numbers; a variable whose value is above a limit raises no others, so that none wraps.
 use Prim.Native.Nat.{ℕ, suc, _+_, _*_, _-_, _≤_, _<_}
 use mathlib.Core.Path.{_≡_}
 use mathlib.Core.Bool.{Bool, true, false}
@@ -14,15 +14,17 @@ use Rattle.definitions.specs.Tropical.{Trop, fin, plus, _⊑_}
 use Rattle.duality.specs.Values.{valueAt}
 use Rattle.duality.specs.Sweeps.{turned, Swept, Fixed, Climbed}
 use Rattle.reach.specs.Marks.{Marked}
+use Rattle.closed_walks.specs.declared.gains.Round.{Round}
+use Rattle.closed_walks.specs.declared.gains.Round.the-variants.{Whole, Beyond}
 use Rattle.closed_walks.specs.Gains.{arc-zero, arc-most, matrix, anywhere}
 
 -- No walk of at most 32 arcs weighs more.
 abbrev pub walk-limit : ℕ
 walk-limit = stride * arc-most
 
--- The first `width` values are within the limit.
+-- The first `width` values are at most one arc above the limit: none was raised by a value that is above it.
 abbrev pub Small : ℕ → List ℕ → Type 0
-Small width values = (l : ℕ) → l < width → getD values l 0 ≤ walk-limit
+Small width values = (l : ℕ) → l < width → getD values l 0 ≤ walk-limit + arc-most
 
 -- The value at the end of an arc: the larger of what it was and the start's value with the arc's weight, this cut off at 0.
 -- Where there is no arc it stays, as a start's value is below 2³¹.
@@ -45,7 +47,7 @@ backward arcs marks = turned (matrix arcs marks)
 abbrev pub level : List ℕ → ℕ → Trop
 level values l = fin (pos (getD values l 0))
 
--- What a round may start from: values within the limit, and for each variable that it has raised the ends of its arcs
+-- What a round may start from: values that are small, and for each variable that it has raised the ends of its arcs
 -- with every value below `done`: one more than the value with which it last did, 0 for none.
 pub record RoundReady (arcs marks : List ℕ) (width : ℕ) (values done : List ℕ) : Type 0 where
   pub length-is : length values ≡ stride
@@ -55,13 +57,12 @@ pub record RoundReady (arcs marks : List ℕ) (width : ℕ) (values done : List 
       (j l v : ℕ) → j < width → l < width → v < getD done j 0 → plus (matrix arcs marks j l) (fin (pos v)) ⊑ level values l
 
 -- A round, once the first k variables have had their turn. Each marked one of them has raised the ends of its arcs with at
--- least the value that it had when the round started; `pushed` says of the new values what `done` said of the old; no value is
--- more than k arcs above the limit. If nothing moved, the first k have raised with the values that they have now; if something
+-- least the value that it had when the round started; `pushed` says of the new values what `done` said of the old. If nothing moved, the first k have raised with the values that they have now; if something
 -- moved, not every marked variable had, before the round, raised with the value that it has now.
 pub record Pushing (arcs marks : List ℕ) (width : ℕ) (values done : List ℕ) (k : ℕ) (new pushed : List ℕ) (moved : Bool) : Type 0 where
   pub length-is : length new ≡ stride
   pub done-length : length pushed ≡ stride
-  pub small : (l : ℕ) → l < width → getD new l 0 ≤ walk-limit + k * arc-most
+  pub small : Small width new
   pub held :
       (j l v : ℕ) → j < width → l < width → v < getD pushed j 0 → plus (matrix arcs marks j l) (fin (pos v)) ⊑ level new l
   pub swept : Swept (backward arcs marks) width k (level values) (level new)
@@ -69,6 +70,12 @@ pub record Pushing (arcs marks : List ℕ) (width : ℕ) (values done : List ℕ
   pub others : (j : ℕ) → k ≤ j → getD pushed j 0 ≡ getD done j 0
   pub still : moved ≡ false → (j l : ℕ) → j < k → l < width → plus (matrix arcs marks j l) (level new j) ⊑ level new l
   pub moves : moved ≡ true → ((j : ℕ) → j < width → Marked marks j → getD new j 0 < getD done j 0) → ⊥
+
+-- What a round comes to: all variables have had their turn, or only some, and a value is above the limit.
+pub data Ended (arcs marks : List ℕ) (width : ℕ) (values done new pushed : List ℕ) : Round → Type 0 where
+  finished : {moved : Bool} → Pushing arcs marks width values done width new pushed moved → Ended arcs marks width values done new pushed (Whole moved)
+  stopped : {k l : ℕ} {moved : Bool} → Pushing arcs marks width values done k new pushed moved → l < width → walk-limit < getD new l 0
+      → Ended arcs marks width values done new pushed Beyond
 
 -- After i rounds that moved something: a round may start; the values lie between those of i rounds of Bellman–Ford and every
 -- potential that is at least 0; each marked variable has raised with its value of i − 1 rounds of Bellman–Ford; and those of

@@ -1,19 +1,19 @@
 // The test of closed walks, over a table of arcs, by rounds in place: each marked variable in turn raises the values at the
 // ends of its arcs to its own with the arc's weight, unless it has done so with this value. Values start at 0.
 // Yes, once all have done so: the values are then a potential, which bounds every walk, and a closed one weighs at most zero.
-// No, at a value above the limit, or after one round more than there are variables: unless a short closed walk weighs above
-// zero, no value exceeds the heaviest walk of fewer arcs than variables, so many rounds find it, and one more passes it on.
+// No, at the first value above the limit, with which no others are raised, so that none wraps; or after one round more than there
+// are variables: unless a short closed walk weighs above zero, no value exceeds the heaviest walk of fewer arcs than variables, so
+// many rounds find it, and one more passes it on.
 ghost use mathlib.Core.Path.{_≡_};
 ghost use mathlib.Core.Bool.{cond};
 ghost use Prim.Native.Nat.{_+_, _≤_, _<_};
 ghost use lib.Dec.{eqb};
 ghost use lib.ListN.{length};
-ghost use Rattle.base.specs.Decides.{Decides};
 ghost use Rattle.definitions.specs.Limits.{signed-full, stride, arcs-size};
 ghost use Rattle.reach.specs.Marks.{Flags};
 ghost use Rattle.closed_walks.specs.Gains.{arc-zero, Table, Tested};
 ghost use Rattle.closed_walks.specs.Order.{Ordered};
-ghost use Rattle.closed_walks.specs.GainRound.{Small, endValue, Pushed, RoundReady, Pushing};
+ghost use Rattle.closed_walks.specs.GainRound.{endValue, Pushed, RoundReady, Ended};
 use records::limits::ARCS;
 use records::limits::LEAD_LIMIT;
 use records::limits::SPAN_LIMIT;
@@ -26,7 +26,7 @@ use std::num::wrapping_add_u32;
 // No arc weighs more: 32 times two leads and a trial, and one.
 const ARC_MOST: u64 = STRIDE_64 * (2 * LEAD_LIMIT + SPAN_LIMIT + 1) + 1;
 
-// No walk of at most 32 arcs weighs more.
+// No walk of at most 32 arcs weighs more, so that no walk without a closed part does.
 const VALUE_LIMIT: u32 = (STRIDE_64 * ARC_MOST) as u32;
 
 // The value at the end of an arc: the larger of what it was and the start's with the arc's weight. The start's value as an
@@ -78,10 +78,16 @@ pub fn order_of(marks: &[u8; STRIDE], width: usize) -> Order
     Order { places, count }
 }
 
+// What a round comes to: whole, with whether a variable raised others, or stopped at a value above the limit.
+pub enum Round {
+    Whole(bool),
+    Beyond,
+}
+
 // A round: each variable of an order of those that are marked raises the values at the ends of its arcs, unless it has done so
 // with this value; `done` has for each variable one more than the value with which it last did, 0 for none. Values of this
-// round count in it already. The result says whether one raised others. The marks are those that the order is of, and are not
-// looked at again.
+// round count in it already. The round stops at the first variable whose value is above the limit. The marks are those that the
+// order is of, and are not looked at again.
 fn push_round(
     arcs: &[u32; ARCS],
     marks: &[u8; STRIDE],
@@ -90,34 +96,24 @@ fn push_round(
     width: usize,
     values: &mut [u32; STRIDE],
     done: &mut [u32; STRIDE],
-) -> bool
+) -> Round
     requires { ⌜ Table (now arcs) width × Ordered (now marks) width (now places) count × RoundReady (now arcs) (now marks) width (now values) (now done) ⌝ }
-    ensures { λ r. ⌜ Pushing (now (arcs .entry)) (now (marks .entry)) width (now (values .entry)) (now (done .entry)) width (now (values .exit)) (now (done .exit)) r ⌝ }
+    ensures { λ r. ⌜ Ended (now (arcs .entry)) (now (marks .entry)) width (now (values .entry)) (now (done .entry)) (now (values .exit)) (now (done .exit)) r ⌝ }
 {
     let mut moved = false;
     for i in 0..count {
         let j = places[i];
         let by = values[j];
+        if by > VALUE_LIMIT {
+            return Round::Beyond;
+        }
         if done[j] <= by {
             push(arcs, j * STRIDE, by, values);
             done[j] = by + 1;
             moved = true;
         }
     }
-    moved
-}
-
-// No value is above the limit.
-fn values_small(values: &[u32; STRIDE], width: usize) -> bool
-    requires { ⌜ width ≤ stride ⌝ }
-    ensures { λ r. ⌜ Decides (Small width (now (values .entry))) r ⌝ }
-{
-    for j in 0..width {
-        if values[j] > VALUE_LIMIT {
-            return false;
-        }
-    }
-    true
+    Round::Whole(moved)
 }
 
 // No closed walk from a marked variable weighs above zero: rounds until one raises nothing, at most one more than variables. The
@@ -136,11 +132,19 @@ pub fn none_gains(
     let mut values = [0u32; STRIDE];
     let mut done = [0u32; STRIDE];
     for _ in 0..width + 1 {
-        if !push_round(arcs, marks, places, count, width, &mut values, &mut done) {
-            return true;
-        }
-        if !values_small(&values, width) {
+        let Round::Whole(moved) = push_round(
+            arcs,
+            marks,
+            places,
+            count,
+            width,
+            &mut values,
+            &mut done,
+        ) else {
             return false;
+        };
+        if !moved {
+            return true;
         }
     }
     false

@@ -1,4 +1,4 @@
--- The bisection ends at the least span, and makes at most 21 halvings.
+-- The bisection ends at the least span, and makes at most 22 halvings.
 -- The middle lies strictly inside a bracket wider than 1, so each halving keeps the least span inside and the bracket
 -- becomes narrower: at most half as wide, rounded up.
 use Prim.Native.Nat.{ℕ, zero, suc, _+_, _*_, _-_, _^_, _/_, _≤_, _<_}
@@ -182,12 +182,12 @@ pub opening-brackets : (s : ℤ) → natAbs s ≤ span-limit → Brackets openin
 unfolding opening
 opening-brackets s h = omega (whole, abs-read s)
 
--- The bisection from the two outer trials ends at the least span after at most 21 halvings.
-pub bisection-ends : (s : ℤ) → natAbs s ≤ span-limit → Ends opening s 21
+-- The bisection from the two outer trials ends at the least span after at most 22 halvings: all trials but these two.
+pub bisection-ends : (s : ℤ) → natAbs s ≤ span-limit → Ends opening s (most-trials - 2)
 unfolding opening width
-bisection-ends s h = halved-ends 21 opening s (opening-brackets s h) (omega arith)
+bisection-ends s h = halved-ends (most-trials - 2) opening s (opening-brackets s h) (omega arith)
 
--- Never above 23 trials.
+-- Never above 24 trials.
 pub few-trials : (s : ℤ) → natAbs s ≤ span-limit → trials-optimal s ≤ most-trials
 unfolding trials-optimal
 few-trials s h = omega (arith, bisection-ends s h .few)
@@ -199,12 +199,12 @@ pub first-middle : middle opening ≡ pos 0
 unfolding middle opening half-up
 first-middle = refl
 
--- Least −645,120 takes as many trials as any, 23,
-pub lowest-trials : (trials-optimal (negsuc (span-limit - 1)) ≡ 23) × (most-trials ≡ 23)
+-- Least −1,290,240 takes as many trials as any, 24,
+pub lowest-trials : (trials-optimal (negsuc (span-limit - 1)) ≡ 24) × (most-trials ≡ 24)
 unfolding trials-optimal halved halve counted next middle half-up width opening
 lowest-trials = (refl, refl)
 
--- and 22 if middles were rounded down: half of a whole number, rounded down, and the halvings by it.
+-- and 23 if middles were rounded down: half of a whole number, rounded down, and the halvings by it.
 half-down : ℤ → ℤ
 half-down (pos k) = pos (k / 2)
 half-down (negsuc k) = negℤ (pos ((k + 2) / 2))
@@ -218,6 +218,6 @@ halvings-down (suc turns) s low high =
           [ true ↦ halvings-down turns s low (half-down (high +ℤ low)) | false ↦ halvings-down turns s (half-down (high +ℤ low)) high ])
     ]
 
-lowest-trials-down : 2 + halvings-down 30 (negsuc (span-limit - 1)) lowest-trial top-trial ≡ 22
+lowest-trials-down : 2 + halvings-down 30 (negsuc (span-limit - 1)) lowest-trial top-trial ≡ 23
 unfolding halvings-down half-down
 lowest-trials-down = refl

@@ -43,13 +43,13 @@ problems =
     -- size of n = 0 with n = 1
     record { number = 5; bytes = (14 ∷ 0 ∷ 0 ∷ 0 ∷ 1 ∷ 0 ∷ 1 ∷ 0 ∷ 0 ∷ 0 ∷ 5 ∷ 0 ∷ 0 ∷ 0 ∷ 2 ∷ 0 ∷ 0 ∷ 0 ∷ []) } ∷
     -- size and a lead wrong
-    record { number = 5; bytes = (14 ∷ 0 ∷ 0 ∷ 0 ∷ 1 ∷ 0 ∷ 0 ∷ 0 ∷ 1 ∷ 0 ∷ 97 ∷ 39 ∷ 0 ∷ 0 ∷ 2 ∷ 0 ∷ 0 ∷ 0 ∷ []) } ∷
-    -- lead 10,081
-    record { number = 6; bytes = (14 ∷ 0 ∷ 0 ∷ 0 ∷ 1 ∷ 0 ∷ 0 ∷ 0 ∷ 0 ∷ 0 ∷ 97 ∷ 39 ∷ 0 ∷ 0 ∷ 2 ∷ 0 ∷ 0 ∷ 0 ∷ []) } ∷
-    -- lead −10,081, right
-    record { number = 6; bytes = (14 ∷ 0 ∷ 0 ∷ 0 ∷ 1 ∷ 0 ∷ 0 ∷ 0 ∷ 0 ∷ 0 ∷ 5 ∷ 0 ∷ 0 ∷ 0 ∷ 159 ∷ 216 ∷ 255 ∷ 255 ∷ []) } ∷
-    -- leads ±10,080
-    record { number = 0; bytes = (14 ∷ 0 ∷ 0 ∷ 0 ∷ 1 ∷ 0 ∷ 0 ∷ 0 ∷ 0 ∷ 0 ∷ 96 ∷ 39 ∷ 0 ∷ 0 ∷ 160 ∷ 216 ∷ 255 ∷ 255 ∷ []) } ∷
+    record { number = 5; bytes = (14 ∷ 0 ∷ 0 ∷ 0 ∷ 1 ∷ 0 ∷ 0 ∷ 0 ∷ 1 ∷ 0 ∷ 193 ∷ 78 ∷ 0 ∷ 0 ∷ 2 ∷ 0 ∷ 0 ∷ 0 ∷ []) } ∷
+    -- lead 20,161
+    record { number = 6; bytes = (14 ∷ 0 ∷ 0 ∷ 0 ∷ 1 ∷ 0 ∷ 0 ∷ 0 ∷ 0 ∷ 0 ∷ 193 ∷ 78 ∷ 0 ∷ 0 ∷ 2 ∷ 0 ∷ 0 ∷ 0 ∷ []) } ∷
+    -- lead −20,161, right
+    record { number = 6; bytes = (14 ∷ 0 ∷ 0 ∷ 0 ∷ 1 ∷ 0 ∷ 0 ∷ 0 ∷ 0 ∷ 0 ∷ 5 ∷ 0 ∷ 0 ∷ 0 ∷ 63 ∷ 177 ∷ 255 ∷ 255 ∷ []) } ∷
+    -- leads ±20,160
+    record { number = 0; bytes = (14 ∷ 0 ∷ 0 ∷ 0 ∷ 1 ∷ 0 ∷ 0 ∷ 0 ∷ 0 ∷ 0 ∷ 192 ∷ 78 ∷ 0 ∷ 0 ∷ 64 ∷ 177 ∷ 255 ∷ 255 ∷ []) } ∷
     []
 
 problems-refused : map (λ d. problemRefusal (d .bytes)) problems ≡ map (λ d. d .number) problems
@@ -106,21 +106,21 @@ answers =
     -- n 1 for a problem with n 0
     record { number = 11; n = 0; m = 0; bytes = (16 ∷ 0 ∷ 0 ∷ 0 ∷ 2 ∷ 0 ∷ 1 ∷ 0 ∷ 1 ∷ 0 ∷ 3 ∷ 0 ∷ 0 ∷ 0 ∷ 0 ∷ 0 ∷ 0 ∷ 0 ∷ 1 ∷ 0 ∷ []) } ∷
     -- a pick too many, a span too large
-    record { number = 11; n = 0; m = 0; bytes = (18 ∷ 0 ∷ 0 ∷ 0 ∷ 2 ∷ 0 ∷ 0 ∷ 0 ∷ 1 ∷ 0 ∷ 1 ∷ 216 ∷ 9 ∷ 0 ∷ 0 ∷ 0 ∷ 0 ∷ 0 ∷ 1 ∷ 0 ∷ 1 ∷ 0 ∷ []) } ∷
-    -- span 645,121
-    record { number = 12; n = 0; m = 0; bytes = (16 ∷ 0 ∷ 0 ∷ 0 ∷ 2 ∷ 0 ∷ 0 ∷ 0 ∷ 1 ∷ 0 ∷ 1 ∷ 216 ∷ 9 ∷ 0 ∷ 0 ∷ 0 ∷ 0 ∷ 0 ∷ 1 ∷ 0 ∷ []) } ∷
-    -- span −645,121
-    record { number = 12; n = 0; m = 0; bytes = (16 ∷ 0 ∷ 0 ∷ 0 ∷ 2 ∷ 0 ∷ 0 ∷ 0 ∷ 1 ∷ 0 ∷ 255 ∷ 39 ∷ 246 ∷ 255 ∷ 0 ∷ 0 ∷ 0 ∷ 0 ∷ 1 ∷ 0 ∷ []) } ∷
+    record { number = 11; n = 0; m = 0; bytes = (18 ∷ 0 ∷ 0 ∷ 0 ∷ 2 ∷ 0 ∷ 0 ∷ 0 ∷ 1 ∷ 0 ∷ 1 ∷ 176 ∷ 19 ∷ 0 ∷ 0 ∷ 0 ∷ 0 ∷ 0 ∷ 1 ∷ 0 ∷ 1 ∷ 0 ∷ []) } ∷
+    -- span 1,290,241
+    record { number = 12; n = 0; m = 0; bytes = (16 ∷ 0 ∷ 0 ∷ 0 ∷ 2 ∷ 0 ∷ 0 ∷ 0 ∷ 1 ∷ 0 ∷ 1 ∷ 176 ∷ 19 ∷ 0 ∷ 0 ∷ 0 ∷ 0 ∷ 0 ∷ 1 ∷ 0 ∷ []) } ∷
+    -- span −1,290,241
+    record { number = 12; n = 0; m = 0; bytes = (16 ∷ 0 ∷ 0 ∷ 0 ∷ 2 ∷ 0 ∷ 0 ∷ 0 ∷ 1 ∷ 0 ∷ 255 ∷ 79 ∷ 236 ∷ 255 ∷ 0 ∷ 0 ∷ 0 ∷ 0 ∷ 1 ∷ 0 ∷ []) } ∷
     -- blank span for least
     record { number = 12; n = 0; m = 0; bytes = (16 ∷ 0 ∷ 0 ∷ 0 ∷ 2 ∷ 0 ∷ 0 ∷ 0 ∷ 1 ∷ 0 ∷ 0 ∷ 0 ∷ 0 ∷ 128 ∷ 0 ∷ 0 ∷ 0 ∷ 0 ∷ 1 ∷ 0 ∷ []) } ∷
     -- stamp 0 is 1
     record { number = 12; n = 0; m = 0; bytes = (16 ∷ 0 ∷ 0 ∷ 0 ∷ 2 ∷ 0 ∷ 0 ∷ 0 ∷ 1 ∷ 0 ∷ 3 ∷ 0 ∷ 0 ∷ 0 ∷ 1 ∷ 0 ∷ 0 ∷ 0 ∷ 1 ∷ 0 ∷ []) } ∷
     -- stamp 0 blank
     record { number = 12; n = 0; m = 0; bytes = (16 ∷ 0 ∷ 0 ∷ 0 ∷ 2 ∷ 0 ∷ 0 ∷ 0 ∷ 1 ∷ 0 ∷ 3 ∷ 0 ∷ 0 ∷ 0 ∷ 0 ∷ 0 ∷ 0 ∷ 128 ∷ 1 ∷ 0 ∷ []) } ∷
-    -- stamp 2,000,001, and a pick too high
-    record { number = 12; n = 1; m = 0; bytes = (22 ∷ 0 ∷ 0 ∷ 0 ∷ 2 ∷ 0 ∷ 1 ∷ 0 ∷ 1 ∷ 0 ∷ 3 ∷ 0 ∷ 0 ∷ 0 ∷ 0 ∷ 0 ∷ 0 ∷ 0 ∷ 129 ∷ 132 ∷ 30 ∷ 0 ∷ 1 ∷ 0 ∷ 9 ∷ 0 ∷ []) } ∷
-    -- stamp −2,000,001
-    record { number = 12; n = 1; m = 0; bytes = (22 ∷ 0 ∷ 0 ∷ 0 ∷ 2 ∷ 0 ∷ 1 ∷ 0 ∷ 1 ∷ 0 ∷ 3 ∷ 0 ∷ 0 ∷ 0 ∷ 0 ∷ 0 ∷ 0 ∷ 0 ∷ 127 ∷ 123 ∷ 225 ∷ 255 ∷ 1 ∷ 0 ∷ 1 ∷ 0 ∷ []) } ∷
+    -- stamp 3,000,001, and a pick too high
+    record { number = 12; n = 1; m = 0; bytes = (22 ∷ 0 ∷ 0 ∷ 0 ∷ 2 ∷ 0 ∷ 1 ∷ 0 ∷ 1 ∷ 0 ∷ 3 ∷ 0 ∷ 0 ∷ 0 ∷ 0 ∷ 0 ∷ 0 ∷ 0 ∷ 193 ∷ 198 ∷ 45 ∷ 0 ∷ 1 ∷ 0 ∷ 9 ∷ 0 ∷ []) } ∷
+    -- stamp −3,000,001
+    record { number = 12; n = 1; m = 0; bytes = (22 ∷ 0 ∷ 0 ∷ 0 ∷ 2 ∷ 0 ∷ 1 ∷ 0 ∷ 1 ∷ 0 ∷ 3 ∷ 0 ∷ 0 ∷ 0 ∷ 0 ∷ 0 ∷ 0 ∷ 0 ∷ 63 ∷ 57 ∷ 210 ∷ 255 ∷ 1 ∷ 0 ∷ 1 ∷ 0 ∷ []) } ∷
     -- whole span for bottomless
     record { number = 12; n = 0; m = 0; bytes = (12 ∷ 0 ∷ 0 ∷ 0 ∷ 2 ∷ 0 ∷ 0 ∷ 0 ∷ 2 ∷ 0 ∷ 0 ∷ 0 ∷ 0 ∷ 0 ∷ 0 ∷ 0 ∷ []) } ∷
     -- whole span for none
@@ -132,9 +132,9 @@ answers =
     -- pick m + 2 for none
     record { number = 13; n = 1; m = 0; bytes = (14 ∷ 0 ∷ 0 ∷ 0 ∷ 2 ∷ 0 ∷ 1 ∷ 0 ∷ 3 ∷ 0 ∷ 0 ∷ 0 ∷ 0 ∷ 128 ∷ 0 ∷ 0 ∷ 2 ∷ 0 ∷ []) } ∷
     -- span and stamp at their limits
-    record { number = 0; n = 1; m = 0; bytes = (22 ∷ 0 ∷ 0 ∷ 0 ∷ 2 ∷ 0 ∷ 1 ∷ 0 ∷ 1 ∷ 0 ∷ 0 ∷ 216 ∷ 9 ∷ 0 ∷ 0 ∷ 0 ∷ 0 ∷ 0 ∷ 128 ∷ 123 ∷ 225 ∷ 255 ∷ 1 ∷ 0 ∷ 1 ∷ 0 ∷ []) } ∷
-    -- span −645,120, a blank stamp
-    record { number = 0; n = 1; m = 0; bytes = (22 ∷ 0 ∷ 0 ∷ 0 ∷ 2 ∷ 0 ∷ 1 ∷ 0 ∷ 1 ∷ 0 ∷ 0 ∷ 40 ∷ 246 ∷ 255 ∷ 0 ∷ 0 ∷ 0 ∷ 0 ∷ 0 ∷ 0 ∷ 0 ∷ 128 ∷ 0 ∷ 0 ∷ 1 ∷ 0 ∷ []) } ∷
+    record { number = 0; n = 1; m = 0; bytes = (22 ∷ 0 ∷ 0 ∷ 0 ∷ 2 ∷ 0 ∷ 1 ∷ 0 ∷ 1 ∷ 0 ∷ 0 ∷ 176 ∷ 19 ∷ 0 ∷ 0 ∷ 0 ∷ 0 ∷ 0 ∷ 64 ∷ 57 ∷ 210 ∷ 255 ∷ 1 ∷ 0 ∷ 1 ∷ 0 ∷ []) } ∷
+    -- span −1,290,240, a blank stamp
+    record { number = 0; n = 1; m = 0; bytes = (22 ∷ 0 ∷ 0 ∷ 0 ∷ 2 ∷ 0 ∷ 1 ∷ 0 ∷ 1 ∷ 0 ∷ 0 ∷ 80 ∷ 236 ∷ 255 ∷ 0 ∷ 0 ∷ 0 ∷ 0 ∷ 0 ∷ 0 ∷ 0 ∷ 128 ∷ 0 ∷ 0 ∷ 1 ∷ 0 ∷ []) } ∷
     -- pick n + 1 for bottomless
     record { number = 0; n = 0; m = 1; bytes = (14 ∷ 0 ∷ 0 ∷ 0 ∷ 2 ∷ 0 ∷ 0 ∷ 0 ∷ 2 ∷ 0 ∷ 0 ∷ 0 ∷ 0 ∷ 128 ∷ 0 ∷ 0 ∷ 1 ∷ 0 ∷ []) } ∷
     -- pick m + 1 for none
@@ -166,10 +166,10 @@ handed =
     record { number = 11; n = 0; m = 0; room = 206; answer = record { class = 2; span = bot; stamps = fin (pos 0) ∷ []; picks = 0 ∷ [] } } ∷
     record { number = 11; n = 0; m = 1; room = 206; answer = record { class = 2; span = bot; stamps = []; picks = 0 ∷ [] } } ∷
     record { number = 11; n = 1; m = 0; room = 206; answer = record { class = 3; span = fin (pos 0); stamps = []; picks = 0 ∷ [] } } ∷
-    record { number = 12; n = 0; m = 0; room = 206; answer = record { class = 1; span = fin (pos 645121); stamps = fin (pos 0) ∷ []; picks = 9 ∷ [] } } ∷
+    record { number = 12; n = 0; m = 0; room = 206; answer = record { class = 1; span = fin (pos 1290241); stamps = fin (pos 0) ∷ []; picks = 9 ∷ [] } } ∷
     record { number = 12; n = 0; m = 0; room = 206; answer = record { class = 1; span = fin (pos 4294967299); stamps = fin (pos 0) ∷ []; picks = 1 ∷ [] } } ∷
     record { number = 12; n = 0; m = 0; room = 206; answer = record { class = 1; span = fin (pos 3); stamps = fin (pos 1) ∷ []; picks = 1 ∷ [] } } ∷
-    record { number = 12; n = 1; m = 0; room = 206; answer = record { class = 1; span = fin (pos 3); stamps = fin (pos 0) ∷ fin (pos 2000001) ∷ []; picks = 1 ∷ 1 ∷ [] } } ∷
+    record { number = 12; n = 1; m = 0; room = 206; answer = record { class = 1; span = fin (pos 3); stamps = fin (pos 0) ∷ fin (pos 3000001) ∷ []; picks = 1 ∷ 1 ∷ [] } } ∷
     record { number = 12; n = 0; m = 0; room = 206; answer = record { class = 2; span = fin (pos 0); stamps = []; picks = 0 ∷ [] } } ∷
     record { number = 13; n = 0; m = 0; room = 206; answer = record { class = 1; span = fin (pos 3); stamps = fin (pos 0) ∷ []; picks = 2 ∷ [] } } ∷
     record { number = 13; n = 0; m = 0; room = 206; answer = record { class = 3; span = bot; stamps = []; picks = 65537 ∷ [] } } ∷
@@ -232,8 +232,8 @@ lines =
     record { verdict = refused 8; text = 114 ∷ 101 ∷ 102 ∷ 117 ∷ 115 ∷ 101 ∷ 100 ∷ 32 ∷ 56 ∷ 10 ∷ [] } ∷
     -- `refused 13`
     record { verdict = refused 13; text = 114 ∷ 101 ∷ 102 ∷ 117 ∷ 115 ∷ 101 ∷ 100 ∷ 32 ∷ 49 ∷ 51 ∷ 10 ∷ [] } ∷
-    -- `accepted least -645120`
-    record { verdict = accepted 1 (fin (negsuc 645119)); text = 97 ∷ 99 ∷ 99 ∷ 101 ∷ 112 ∷ 116 ∷ 101 ∷ 100 ∷ 32 ∷ 108 ∷ 101 ∷ 97 ∷ 115 ∷ 116 ∷ 32 ∷ 45 ∷ 54 ∷ 52 ∷ 53 ∷ 49 ∷ 50 ∷ 48 ∷ 10 ∷ [] } ∷
+    -- `accepted least -1290240`
+    record { verdict = accepted 1 (fin (negsuc 1290239)); text = 97 ∷ 99 ∷ 99 ∷ 101 ∷ 112 ∷ 116 ∷ 101 ∷ 100 ∷ 32 ∷ 108 ∷ 101 ∷ 97 ∷ 115 ∷ 116 ∷ 32 ∷ 45 ∷ 49 ∷ 50 ∷ 57 ∷ 48 ∷ 50 ∷ 52 ∷ 48 ∷ 10 ∷ [] } ∷
     -- `accepted least 0`
     record { verdict = accepted 1 (fin (pos 0)); text = 97 ∷ 99 ∷ 99 ∷ 101 ∷ 112 ∷ 116 ∷ 101 ∷ 100 ∷ 32 ∷ 108 ∷ 101 ∷ 97 ∷ 115 ∷ 116 ∷ 32 ∷ 48 ∷ 10 ∷ [] } ∷
     []
@@ -248,7 +248,7 @@ lines-printed = refl
 kept-20000 : kept-bytes ≡ 20000
 kept-20000 = refl
 
-outer-trials : (top-trial ≡ pos 645120) × (lowest-trial ≡ negsuc 645120)
+outer-trials : (top-trial ≡ pos 1290240) × (lowest-trial ≡ negsuc 1290240)
 outer-trials = (refl, refl)
 
 outer-counts : (trials-infeasible ≡ 1) × (trials-unbounded ≡ 2)

@@ -240,15 +240,17 @@ problem-fits s = (fits, λ f. record-fits false s .1 (fit-record false s f))
 
 -- ---- leads
 
+-- Each lead of a record is blank or within a limit, if all are.
+pub lead-each : (limit : ℕ) (s : List ℕ) → all (blank-or-within limit) (leadsOf s) ≡ true → (k : ℕ) → k < 2 * (suc (nField s) * (mField s + questionsAsked (kindField s) (countField s)))
+    → blank-or-within limit (tropAt s (leadsPlace (kindField s) + signed-bytes * k)) ≡ true
+unfolding leadsOf tropAt
+lead-each limit s =
+    all-numsAt (blank-or-within limit) tropField signed-bytes (2 * (suc (nField s) * (mField s + questionsAsked (kindField s) (countField s)))) s (leadsPlace (kindField s)) .0
+
 -- Each lead of a record that nothing refuses is blank or within the limit.
 pub record-lead : (several : Bool) (s : List ℕ) → refusalFor several s ≡ 0 → (k : ℕ) → k < 2 * (suc (nField s) * (mField s + questionsAsked (kindField s) (countField s)))
     → blank-or-within lead-limit (tropAt s (leadsPlace (kindField s) + signed-bytes * k)) ≡ true
-unfolding leadsOf tropAt
-record-lead several s w k h =
-    all-numsAt (blank-or-within lead-limit) tropField signed-bytes (2 * (suc (nField s) * (mField s + questionsAsked (kindField s) (countField s)))) s (leadsPlace (kindField s)) .0
-    (record-fits several s .0 w .leads-fit)
-    k
-    h
+record-lead several s w = lead-each lead-limit s (record-fits several s .0 w .leads-fit)
 
 -- The leads of a record of kind 1.
 pub leads-one : (s : List ℕ) → kindField s ≡ problem-kind → leadsOf s ≡ map tropField (numsAt signed-bytes (2 * (suc (nField s) * suc (mField s))) s problem-header)
@@ -258,43 +260,44 @@ leads-one s e =
     let count : 2 * (suc (nField s) * (mField s + questionsAsked (kindField s) (countField s))) ≡ 2 * (suc (nField s) * suc (mField s)) = rw e (omega arith) in
     rw (place, count)
 
--- Each lead of a problem within the layout is.
-pub lead-within : (s : List ℕ) → WithinLayout s → (k : ℕ) → k < 2 * (suc (nField s) * suc (mField s))
-    → blank-or-within lead-limit (tropAt s (problem-header + signed-bytes * k)) ≡ true
-lead-within s w k h =
-    let e = problem-fits s .0 w .kind-is in
+-- Each lead of a problem is blank or within a limit, if all are.
+pub lead-within : (limit : ℕ) (s : List ℕ) → kindField s ≡ problem-kind → all (blank-or-within limit) (leadsOf s) ≡ true → (k : ℕ)
+    → k < 2 * (suc (nField s) * suc (mField s)) → blank-or-within limit (tropAt s (problem-header + signed-bytes * k)) ≡ true
+lead-within limit s e f k h =
     let place : leadsPlace (kindField s) ≡ problem-header = rw e refl in
     let count : questionsAsked (kindField s) (countField s) ≡ 1 = rw e refl in
-    rw place at (record-lead false s w k (rw count (omega arith)))
+    rw place at (lead-each limit s f k (rw count (omega arith)))
 
 -- Lead k of row i, of the left ones and the right ones counted together, stands at this place among all leads.
 pub lead-inside : (n m i k : ℕ) → i ≤ m → k < 2 * suc n → 2 * (i * suc n) + k < 2 * (suc n * suc m)
 lead-inside n m i k row h = omega (arith, mul-le-mul-right {m = suc i} {n = suc m} (suc n) (omega arith))
 
-module _ (s : List ℕ) (w : WithinLayout s) (i j : ℕ) (row : i ≤ mField s) (column : j ≤ nField s) where
-  -- The left coefficients are blank or within the limit.
-  pub left-within : blank-or-within lead-limit (problemOf s .left i j) ≡ true
+module _ (limit : ℕ) (s : List ℕ) (e : kindField s ≡ problem-kind) (f : all (blank-or-within limit) (leadsOf s) ≡ true)
+    (i j : ℕ) (row : i ≤ mField s) (column : j ≤ nField s) where
+  -- So are the left coefficients of what it means,
+  pub left-limited : blank-or-within limit (problemOf s .left i j) ≡ true
   unfolding problemOf
-  left-within =
+  left-limited =
       let k : ℕ = 2 * (i * suc (nField s)) + j in
       let place : problem-header + signed-bytes * (2 * (i * suc (nField s)) + j) ≡ leftPlace (nField s) i j = omega arith in
-      rw place at (lead-within s w k (lead-inside (nField s) (mField s) i j row (omega arith)))
+      rw place at (lead-within limit s e f k (lead-inside (nField s) (mField s) i j row (omega arith)))
 
-  -- The right coefficients are blank or within the limit.
-  pub right-within : blank-or-within lead-limit (problemOf s .right i j) ≡ true
+  -- and the right ones.
+  pub right-limited : blank-or-within limit (problemOf s .right i j) ≡ true
   unfolding problemOf
-  right-within =
+  right-limited =
       let k : ℕ = 2 * (i * suc (nField s)) + (suc (nField s) + j) in
       let place : problem-header + signed-bytes * (2 * (i * suc (nField s)) + (suc (nField s) + j)) ≡ rightPlace (nField s) i j = omega arith in
-      rw place at (lead-within s w k (lead-inside (nField s) (mField s) i (suc (nField s) + j) row (omega arith)))
+      rw place at (lead-within limit s e f k (lead-inside (nField s) (mField s) i (suc (nField s) + j) row (omega arith)))
 
-  -- A whole left coefficient is at most the limit in size.
-  pub left-size : {z : ℤ} → problemOf s .left i j ≡ fin z → natAbs z ≤ lead-limit
-  left-size e = within-size lead-limit left-within e
+module _ (s : List ℕ) (w : WithinLayout s) (i j : ℕ) (row : i ≤ mField s) (column : j ≤ nField s) where
+  -- The left coefficients of a problem within the layout are blank or within the limit.
+  pub left-within : blank-or-within lead-limit (problemOf s .left i j) ≡ true
+  left-within = let f = problem-fits s .0 w in left-limited lead-limit s (f .kind-is) (f .leads-fit) i j row column
 
-  -- A whole right coefficient is at most the limit in size.
-  pub right-size : {z : ℤ} → problemOf s .right i j ≡ fin z → natAbs z ≤ lead-limit
-  right-size e = within-size lead-limit right-within e
+  -- The right coefficients are.
+  pub right-within : blank-or-within lead-limit (problemOf s .right i j) ≡ true
+  right-within = let f = problem-fits s .0 w in right-limited lead-limit s (f .kind-is) (f .leads-fit) i j row column
 
 -- ---- answers
 

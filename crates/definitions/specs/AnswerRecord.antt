@@ -57,11 +57,11 @@ unfoldable pub is-blank : Trop → Bool
 is-blank bot = true
 is-blank (fin z) = false
 
--- The span's form: whole and within ±645,120 for least, blank for bottomless and none.
+-- The span's form: whole and within ±1,290,240 for least, blank for bottomless and none.
 unfoldable pub spanFits : ℕ → Trop → Bool
 spanFits class span = by-class class (whole-within span-limit span) (is-blank span) (is-blank span) false
 
--- The stamps' form: stamp 0 is 0, the others are blank or within ±2,000,000. Classes 2 and 3 have none.
+-- The stamps' form: stamp 0 is 0, the others are blank or within ±3,000,000. Classes 2 and 3 have none.
 unfoldable pub stampsFit : List Trop → Bool
 stampsFit [] = true
 stampsFit (anchor ∷ others) = is-zero anchor && all (blank-or-within stamp-limit) others

@@ -140,7 +140,7 @@ pub record ProgramsAnswer (span verdict : Program) : Type 0 where
 -- ---- demand 2
 
 -- For every problem within the layout (and a buffer that is long enough) the class and least span are those of the
--- theory, in at most 23 trials.
+-- theory, in at most 24 trials.
 pub record FoundBy (engine : Engine) (p buffer : List ℕ) : Type 0 where
   pub class : ℕ
   pub span : Trop
@@ -296,7 +296,7 @@ OwnAnswers engine check =
 
 -- Document 02, 2.1: demands 2 and 3 for each question with its kind 1 problem, which is within the layout, so that all that they say of such a
 -- problem holds of it. The answer to question q, in `size` bytes of the engine's buffer from `at` on: class and least span of the
--- theory, in at most 23 trials; it reads back as itself; and the checker accepts it.
+-- theory, in at most 24 trials; it reads back as itself; and the checker accepts it.
 pub record QuestionAnswered (check : Checker) (read : Reader) (p buffer : List ℕ) (q at size trials : ℕ) : Type 0 where
   pub class : ℕ
   pub span : Trop

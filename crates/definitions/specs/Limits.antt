@@ -12,17 +12,17 @@ highest-m = 63
 
 -- A lead is blank or within this of 0.
 abbrev pub lead-limit : ℕ
-lead-limit = 10080
+lead-limit = 20160
 
--- The limit of spans: two leads for each of 32 variables, 645,120.
+-- The limit of spans: two leads for each of 32 variables, 1,290,240.
 abbrev pub span-limit : ℕ
 span-limit = 2 * suc highest-n * lead-limit
 
 -- A stamp is blank or within this of 0.
 abbrev pub stamp-limit : ℕ
-stamp-limit = 2000000
+stamp-limit = 3000000
 
--- The two outer trials: 645,120 and −645,121.
+-- The two outer trials: 1,290,240 and −1,290,241.
 abbrev pub top-trial : ℤ
 top-trial = pos span-limit
 
@@ -31,7 +31,7 @@ lowest-trial = negsuc span-limit
 
 -- The most trials that an answer takes.
 abbrev pub most-trials : ℕ
-most-trials = 23
+most-trials = 24
 
 -- A byte is below this; fields of 2 and of 4 bytes are below its powers.
 abbrev pub byte-values : ℕ
@@ -200,7 +200,7 @@ refused-limits = 4
 abbrev pub refused-size : ℕ
 refused-size = 5
 
--- A lead is neither blank nor within ±10,080.
+-- A lead is neither blank nor within ±20,160.
 abbrev pub refused-lead : ℕ
 refused-lead = 6
 

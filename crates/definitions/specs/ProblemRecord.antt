@@ -89,7 +89,7 @@ headerJudged several size length kind n m count =
 unfoldable pub headerRefusal : Bool → List ℕ → ℕ → ℕ
 headerRefusal several s size = headerJudged several size (lengthField s) (kindField s) (nField s) (mField s) (countField s)
 
--- Refusal 6: a lead is neither blank nor within ±10,080.
+-- Refusal 6: a lead is neither blank nor within ±20,160.
 abbrev pub leadRefused : List ℕ → Bool
 leadRefused s = not (all (blank-or-within lead-limit) (leadsOf s))
 

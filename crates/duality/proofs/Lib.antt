@@ -21,3 +21,4 @@ pub mod Classes
 pub mod Unused
 pub mod CycleMaps
 pub mod SmallLeads
+pub mod OlderProblems

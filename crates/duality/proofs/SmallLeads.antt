@@ -1,32 +1,45 @@
 -- Problems within the layout: their leads are small, as duality asks, and the trials of an answer are few.
 use Prim.Native.Nat.{ℕ, zero, suc, _+_, _*_, _≤_}
 use mathlib.Core.Path.{_≡_}
+use mathlib.Core.Bool.{true}
 use mathlib.Core.List.{List}
 use native.Mathlib.Omega.{arith}
-use Rattle.definitions.specs.Limits.{lead-limit, span-limit, most-trials, questions-kind}
+use Rattle.definitions.specs.Limits.{lead-limit, span-limit, stride, most-trials, questions-kind}
 use Rattle.definitions.specs.Tropical.{Trop}
-use Rattle.definitions.specs.ProblemRecord.{WithinLayout, WithinLayouts, problemOf, kindField, nField, countField}
+use Rattle.definitions.specs.Bytes.{all, blank-or-within}
+use Rattle.definitions.specs.ProblemRecord.{WithinLayout, WithinLayouts, leadsOf, problemOf, kindField, nField, countField}
 use Rattle.definitions.specs.Questions.{alone}
 use Rattle.definitions.specs.Solved.{Found, optimal, unbounded, infeasible, AnswersInTurn, no-question, one-more}
 use Rattle.definitions.proofs.Bisection.{few-trials}
-use Rattle.definitions.proofs.Refusals.{problem-fits, left-size, right-size}
+use Rattle.definitions.proofs.Offset.{within-size}
+use Rattle.definitions.proofs.Refusals.{problem-fits, left-limited, right-limited}
 use Rattle.definitions.proofs.Solved.{one-asked}
-use Rattle.duality.specs.Within.{Within}
+use Rattle.duality.specs.Within.{Within, Enough}
 use Rattle.duality.proofs.Classes.{optimal-range}
 use Rattle.duality.proofs.Numbers.{top-enough}
 
+-- Leads that are blank or within a limit,
+pub leads-within : (limit : ℕ) (p : List ℕ) → WithinLayout p → all (blank-or-within limit) (leadsOf p) ≡ true → Within (problemOf p) limit
+unfolding problemOf
+leads-within limit p w f =
+    let k = problem-fits p .0 w .kind-is in
+    record {
+      left = λ i j a h g e. within-size limit (left-limited limit p k f i j h g) e;
+      right = λ i j a h g e. within-size limit (right-limited limit p k f i j h g) e;
+    }
+
+-- and 64 times it, which is enough for them.
+pub leads-enough : (limit : ℕ) (p : List ℕ) → WithinLayout p → Enough (problemOf p .n) limit (2 * stride * limit)
+unfolding problemOf
+leads-enough limit p w = top-enough (nField p) limit (omega (arith, problem-fits p .0 w .n-most))
+
 -- The leads are within their limit.
 pub layout-within : (p : List ℕ) → WithinLayout p → Within (problemOf p) lead-limit
-unfolding problemOf
-layout-within p w = record {
-  left = λ i j a h g e. left-size p w i j h g e;
-  right = λ i j a h g e. right-size p w i j h g e;
-}
+layout-within p w = leads-within lead-limit p w (problem-fits p .0 w .leads-fit)
 
 -- The limit of spans is enough for them.
 pub layout-enough : (p : List ℕ) → WithinLayout p → 2 * (suc (problemOf p .n) * lead-limit) ≤ span-limit
-unfolding problemOf
-layout-enough p w = top-enough (nField p) lead-limit (omega (arith, problem-fits p .0 w .n-most))
+layout-enough p w = leads-enough lead-limit p w
 
 -- A class is found in few trials.
 pub trials-few : (p : List ℕ) → WithinLayout p → {class : ℕ} {span : Trop} {trials : ℕ} → Found (problemOf p) class span trials → trials ≤ most-trials

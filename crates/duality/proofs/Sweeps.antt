@@ -116,6 +116,10 @@ module _ (W : ℕ → ℕ → Trop) (exits : ℕ → Trop) (N : ℕ) where
       upper = λ e p u. s .under e p (c .upper e p u);
     }
 
+    -- Part of a round.
+    pub climbed-part : {k : ℕ} {y : ℕ → Trop} → Swept W N k x y → Climbed W exits N i y
+    climbed-part s = record { lower = λ j h. ⊑-trans (c .lower j h) (s .grows j h); upper = λ e p u. s .under e p (c .upper e p u) }
+
     -- Fixed values are not exceeded.
     pub climbed-under : (k : ℕ) → Fixed W exits N k → (j : ℕ) → j < N → x j ⊑ valueAt W exits N k j
     climbed-under k f = c .upper (valueAt W exits N k) (stable-potential W exits N (still-stable W exits N k f)) (λ j h. exit-value W exits N k j)

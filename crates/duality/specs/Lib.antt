@@ -8,3 +8,4 @@ pub mod Induced
 pub mod Classes
 pub mod Gains
 pub mod Sweeps
+pub mod OlderProblems

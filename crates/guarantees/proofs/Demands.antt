@@ -34,7 +34,7 @@ module _ (solve : Solve) (check : Check) {left₀ right₀ : List ℕ} (readProb
     programs-answer = programs-meet span verdict;
   }
 
-  -- Class and least span are those of the theory, in at most 23 trials; what is written reads back as itself, and what is
+  -- Class and least span are those of the theory, in at most 24 trials; what is written reads back as itself, and what is
   -- read is written again to the same bytes.
   pub demand-2 : Demand2 (engineOf solve) (problemReaderOf readProblem) (readerOf readAnswer) (writerOf writeAnswer)
   demand-2 =

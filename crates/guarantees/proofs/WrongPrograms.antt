@@ -150,11 +150,11 @@ all-least-with-one-span engine s trials size always least =
     go (unbounded u) e = omega (arith, e)
     go (infeasible n) e = omega (arith, e)
 
--- The engine that reports 23 trials always (the count's definition).
-pub always-23-trials : (engine : Engine) (c : List ℕ → ℕ) (s : List ℕ → Trop) (size : List ℕ → ℕ)
+-- The engine that reports the most trials always, 24 (the count's definition).
+pub always-the-most-trials : (engine : Engine) (c : List ℕ → ℕ) (s : List ℕ → Trop) (size : List ℕ → ℕ)
     → ((p buffer : List ℕ) → WithinLayout p → answer-most ≤ length buffer → engine .result p buffer ≡ answered (c p) (s p) most-trials (size p))
     → LeastSpans engine → ⊥
-always-23-trials engine c s size always least =
+always-the-most-trials engine c s size always least =
     go (found-as engine _ zeros _ _ most-trials _ (least _ zeros slice-B slice-zeros within-B long-zeros) (always _ zeros within-B long-zeros)) refl
   where
     go : {k : ℕ} {x : Trop} {t : ℕ} → Found (problemOf (example-B .problem)) k x t → t ≡ most-trials → ⊥

@@ -14,7 +14,7 @@ use Rattle.records.proofs.Near.{near-zero}
 use Rattle.trials.specs.Tables.{value-limit, low-half, high, highs, Ranged, Lows}
 use Rattle.trials.proofs.Low.{high-zero, high-whole, highs-at, highs-size}
 
--- A height that is kept: blank, or within 2²⁵ of the low number of 0.
+-- A height that is kept: blank, or within the limit of values of the low number of 0.
 pub near-blank : Near value-limit (high 0)
 near-blank = rw high-zero (near-zero value-limit)
 

@@ -1,4 +1,4 @@
-// The state of a search, and the one trial that moves it. At most 23 trials are made: what lies between `blocked` and `reached` is
+// The state of a search, and the one trial that moves it. At most 24 trials are made: what lies between `blocked` and `reached` is
 // at most 2 to the power of the trials left, and a trial is made only where that holds again whatever its outcome.
 ghost use mathlib.Core.Path.{_≡_};
 ghost use Prim.Native.Nat.{_+_, _<_, _≤_};
@@ -17,12 +17,12 @@ use trial_tables::frame::raise;
 use trials::policy::Outcome;
 use trials::policy::trial;
 
-// The two outer trials as offset numbers: 645,120 and −645,121.
+// The two outer trials as offset numbers: 1,290,240 and −1,290,241.
 pub const TOP: u64 = OFFSET + SPAN_LIMIT;
 
 pub const LOWEST: u64 = OFFSET - SPAN_LIMIT - 1;
 
-// 2 to the power of the most trials, 23.
+// 2 to the power of the most trials, 24.
 const ROOM: u64 = 1 << MOST_TRIALS;
 
 // What is known: `reached` is possible, with this point, or lies one above the top while that is not tried; `blocked` is not

@@ -21,14 +21,14 @@ pub const STRIDE_32: u32 = STRIDE as u32;
 pub const STRIDE_64: u64 = STRIDE as u64;
 
 // The limits of leads, of spans, two leads for each of 32 variables, and of stamps.
-pub const LEAD_LIMIT: u64 = 10080;
+pub const LEAD_LIMIT: u64 = 20160;
 
 pub const SPAN_LIMIT: u64 = 2 * STRIDE_64 * LEAD_LIMIT;
 
-pub const STAMP_LIMIT: u64 = 2000000;
+pub const STAMP_LIMIT: u64 = 3000000;
 
 // The most trials that an answer takes.
-pub const MOST_TRIALS: u64 = 23;
+pub const MOST_TRIALS: u64 = 24;
 
 // The trials counted for none and for bottomless: the outer ones, with which those for least begin.
 pub const TRIALS_INFEASIBLE: u64 = 1;

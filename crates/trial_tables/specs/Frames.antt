@@ -22,7 +22,7 @@ use Rattle.trial_tables.specs.declared.frame.Frame.{Frame}
 abbrev pub wholeOf : ℕ → ℤ
 wholeOf k = subℕ k signed-half
 
--- The offset numbers of 0 and of the two outer trials, 645,120 and −645,121.
+-- The offset numbers of 0 and of the two outer trials, 1,290,240 and −1,290,241.
 abbrev pub zero-offset : ℕ
 zero-offset = signed-half
 
@@ -32,7 +32,7 @@ top-offset = signed-half + span-limit
 abbrev pub lowest-offset : ℕ
 lowest-offset = signed-half - (span-limit + 1)
 
--- The offset numbers of the trials: from −645,121 to 645,120.
+-- The offset numbers of the trials: from −1,290,241 to 1,290,240.
 pub record Trialled (t : ℕ) : Type 0 where
   pub lowest : signed-half ≤ t + (span-limit + 1)
   pub highest : t ≤ signed-half + span-limit

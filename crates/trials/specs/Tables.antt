@@ -32,9 +32,9 @@ pickOf picks j = getD picks j 0
 abbrev pub raised-limit : ℕ
 raised-limit = lead-limit + span-limit + 1
 
--- Values of a strategy lie within this of 0, 2 to the 25th: 32 rounds of two coefficients.
+-- Values of a strategy lie within this of 0: 32 rounds of two coefficients, 42,577,952.
 abbrev pub value-limit : ℕ
-value-limit = 33554432
+value-limit = stride * (lead-limit + raised-limit)
 
 -- Inside a trial a value is kept low, as its offset number less 2 to the 30th, and 0 for blank: a coefficient and a value
 -- then have a sum of 32 bits. This is the offset number of a low one, and an array of them.

@@ -13,11 +13,14 @@ ghost use Rattle.trials.specs.Rounds.{folded, SideIs, PickedSum, PickedL
 ghost use Rattle.trials.specs.Ends.{wide, RowEnds, EndsOf};
 use crate::ends::WIDE;
 use base::larger;
+use records::limits::LEAD_LIMIT;
 use records::limits::OFFSET;
 use records::limits::OFFSET_32;
 use records::limits::ROWS;
+use records::limits::SPAN_LIMIT;
 use records::limits::STRIDE;
 use records::limits::STRIDE_32;
+use records::limits::STRIDE_64;
 use records::limits::TABLE;
 use records::offset::later;
 use records::offset::offset_32;
@@ -28,8 +31,8 @@ pub const LOW: u32 = HALF / 2;
 
 pub const HALF: u32 = OFFSET_32;
 
-// Values of a strategy lie within this of 0, 2²⁵. Public for `guesses::heights`.
-pub const FARTHEST: u32 = 33554432;
+// Values of a strategy lie within this of 0: 32 rounds of a lead and a raised one. Public for `guesses::heights`.
+pub const FARTHEST: u32 = (STRIDE_64 * (2 * LEAD_LIMIT + SPAN_LIMIT + 1)) as u32;
 
 // A coefficient plus a low value is at least this if both are whole, and below it if one is blank.
 const FOLD: u32 = HALF + LOW / 2;

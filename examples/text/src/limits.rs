@@ -1,7 +1,7 @@
 //! The limits of documents 01 and 02.
 
 /// The largest lead, either way.
-pub const LEAD: i32 = 10_080;
+pub const LEAD: i32 = 20_160;
 /// Moments beside the anchor.
 pub const MOMENTS: usize = 31;
 /// Rules.

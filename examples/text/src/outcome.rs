@@ -54,8 +54,8 @@ mod tests {
     }
 
     #[test]
-    fn the_limit_is_document_01s() {
-        assert!(Outcome::Least(-645_120).possible() && Outcome::Least(645_120).possible());
-        assert!(!Outcome::Least(645_121).possible() && !Outcome::Least(i32::MIN).possible());
+    fn the_limit_is_document_02s() {
+        assert!(Outcome::Least(-1_290_240).possible() && Outcome::Least(1_290_240).possible());
+        assert!(!Outcome::Least(1_290_241).possible() && !Outcome::Least(i32::MIN).possible());
     }
 }

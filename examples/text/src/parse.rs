@@ -225,7 +225,7 @@ mod tests {
                 "text:5: a span has one 'expect:' only, and line 4 has it",
             ),
             ("expect: leats 13\n", "text:1: 'leats 13' is no answer"),
-            ("expect: least 645121\n", "text:1: 'least 645121' is no answer"),
+            ("expect: least 1290241\n", "text:1: 'least 1290241' is no answer"),
             ("expect:\n", "text:1: '' is no answer"),
         ] {
             let message = mistake(text);

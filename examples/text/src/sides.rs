@@ -107,8 +107,8 @@ mod tests {
     fn mistakes_in_sides_are_named() {
         for (text, part) in [
             ("d", "no moment is called 'd'"),
-            ("a + 10081", "beyond 10080"),
-            ("a + 99999999999", "beyond 10080"),
+            ("a + 20161", "beyond 20160"),
+            ("a + 99999999999", "beyond 20160"),
             ("", "a moment's name is expected at the end of the line"),
             ("later a", "'of' is expected, not 'a'"),
             ("later of", "a moment's name is expected"),

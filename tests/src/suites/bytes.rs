@@ -66,7 +66,8 @@ pub fn harmed(random: &mut Random, good: &[u8]) -> Vec<u8> {
         3 => {
             // Four bytes set to a number near an edge.
             let place = 10 + 4 * random.below((bytes.len() - 10) / 4);
-            let edges = [0, 10_080, 10_081, 645_120, 645_121, 2_000_000, 2_000_001, i32::MAX, i32::MIN, i32::MIN + 1];
+            let edges =
+                [0, 20_160, 20_161, 1_290_240, 1_290_241, 3_000_000, 3_000_001, i32::MAX, i32::MIN, i32::MIN + 1];
             let sign = if random.chance(1, 2) { 1 } else { -1 };
             let value = edges[random.below(edges.len())].wrapping_mul(sign);
             if place + 4 <= bytes.len() {

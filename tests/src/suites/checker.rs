@@ -2,8 +2,8 @@
 //! changed in one place, on random tables. Problems of every size, and the longest spans there are.
 
 use super::{answered, checked, expected_check};
-use crate::generate::{self, any, changed, table};
-use crate::paper::{self, Minute, Outcome, Problem, Row};
+use crate::generate::{self, any, changed, table, Shape};
+use crate::paper::{self, Answer, Minute, Outcome, Problem, Row};
 use crate::tally::Tally;
 use random::Random;
 
@@ -48,6 +48,8 @@ pub fn run(tally: &mut Tally) {
         judge(tally, "changed problems", &other, &record);
     }
     chains(tally, &mut random);
+    full_leads(tally, &mut random);
+    heaviest(tally);
 }
 
 fn lists(n: usize, left: (usize, i64), right: (usize, i64)) -> Row {
@@ -93,7 +95,7 @@ fn chains(tally: &mut Tally, random: &mut Random) {
     // A chain's plan may also be pulled the other way, and its stamps stay within the record's limits.
     for _ in 0..2_000 {
         let n = 20 + random.below(12);
-        let shape = generate::Shape { n, m: 40 + random.below(24), w: far, filled: 1 };
+        let shape = Shape { n, m: 40 + random.below(24), w: far, filled: 1 };
         let mut problem = generate::sparse(random, shape);
         for rule in &mut problem.rules {
             for lead in rule.left.iter_mut().chain(&mut rule.right).flatten() {
@@ -102,5 +104,59 @@ fn chains(tally: &mut Tally, random: &mut Random) {
         }
         answered(tally, random, &problem);
         tally.count("problems with leads at their limits");
+    }
+}
+
+/// Random problems of every density with leads up to the limit, their answers, changed ones and random tables.
+fn full_leads(tally: &mut Tally, random: &mut Random) {
+    for round in 0..4_000 {
+        let (n, m) = if round % 4 == 0 { (31, 63) } else { (random.below(32), random.below(64)) };
+        let shape = Shape { n, m, w: paper::LONGEST_LEAD, filled: [1, 2, 4, 7, 10][random.below(5)] };
+        let problem = match random.below(3) {
+            0 => generate::free(random, shape),
+            1 => generate::kept(random, shape),
+            _ => generate::sparse(random, shape),
+        };
+        let bytes = problem.bytes();
+        let (_, record) = answered(tally, random, &problem);
+        tally.count("problems with full leads");
+        let Ok(answer) = paper::read_answer(&record, n, m) else { continue };
+        for class in 1..=3 {
+            judge(tally, "changed answers", &bytes, &changed(random, &problem, &answer).bytes(n));
+            judge(tally, "random tables", &bytes, &table(random, &problem, class).bytes(n));
+        }
+    }
+}
+
+/// Arcs as heavy and as light as leads allow, between all moments and from each to the next alone, by the question and by rules:
+/// nowhere do walks grow faster.
+fn heaviest(tally: &mut Tally) {
+    let far = paper::LONGEST_LEAD;
+    for n in [0, 1, 2, 15, 30, 31] {
+        for lead in [far, -far] {
+            let all = Row { left: vec![Some(-lead); n + 1], right: vec![Some(lead); n + 1] };
+            let next: Vec<Row> = (0..=n).map(|j| lists(n, (j, -lead), ((j + 1) % (n + 1), lead))).collect();
+            let mut rules = vec![all.clone()];
+            rules.extend(next);
+            let problem = Problem { rules, question: all };
+            let question = problem.m() as u64 + 1;
+            let bytes = problem.bytes();
+            let chain: Vec<u64> = (0..=n as u64).map(|j| j + 2).collect();
+            let mut once = chain.clone();
+            once[n] = question;
+            for picks in [vec![question; n + 1], vec![1; n + 1], chain, once] {
+                let none = Answer { class: 3, span: None, stamps: vec![], picks: picks.clone() };
+                judge(tally, "heaviest arcs", &bytes, &none.bytes(n));
+                let mut least = Answer { class: 1, span: Some(-2 * lead), stamps: vec![Some(0); n + 1], picks };
+                judge(tally, "heaviest arcs", &bytes, &least.bytes(n));
+                least.span = Some(paper::LONGEST_SPAN);
+                judge(tally, "heaviest arcs", &bytes, &least.bytes(n));
+            }
+            for moment in 0..=n as u64 {
+                let picks = vec![moment + 1; problem.m() + 1];
+                let bottomless = Answer { class: 2, span: None, stamps: vec![], picks };
+                judge(tally, "heaviest arcs", &bytes, &bottomless.bytes(n));
+            }
+        }
     }
 }

@@ -148,12 +148,11 @@ fn m(tally: &mut Tally) {
     tally.same("M's verdict", words.map_err(|refusal| refusal.to_string()), Err("not certified".into()), &problem, &[]);
 }
 
-/// Lead 10,080 accepted, 10,081 refused by 6; n 31 accepted, 32 refused by 4; m 63 and 64 likewise.
+/// Lead 20,160 accepted, 20,161 refused by 6 (document 02, 2.2); n 31 accepted, 32 refused by 4; m 63 and 64 likewise.
 fn limits(tally: &mut Tally, random: &mut Random) {
     let mut buffer = [0; 206];
-    for (lead, refusal) in
-        [(10_080, 0), (10_081, 6), (-10_080, 0), (-10_081, 6), (i32::MIN as i64 + 1, 6), (i32::MAX as i64, 6)]
-    {
+    let far = [(20_160, 0), (20_161, 6), (-20_160, 0), (-20_161, 6), (i32::MIN as i64 + 1, 6), (i32::MAX as i64, 6)];
+    for (lead, refusal) in far.into_iter().chain([(10_081, 0), (-10_081, 0)]) {
         for place in 0..2 {
             let mut question = row(0, &[(A, 1)], &[(A, 1)]);
             if place == 0 {
@@ -177,5 +176,23 @@ fn limits(tally: &mut Tally, random: &mut Random) {
             answered(tally, random, &problem);
         }
         tally.count("sizes at their limits");
+    }
+    stamps_at_their_limits(tally);
+}
+
+/// A plan with a stamp of ±3,000,000 is accepted, one minute further the answer is refused by 12 (document 02, 2.2). Moment 1 is
+/// in no row, so that its stamp is free.
+fn stamps_at_their_limits(tally: &mut Tally) {
+    let problem = Problem { rules: vec![], question: row(1, &[(A, 0)], &[(A, 0)]) }.bytes();
+    for (stamp, expected) in [
+        (3_000_000, Ok(Outcome::Least(0))),
+        (-3_000_000, Ok(Outcome::Least(0))),
+        (3_000_001, Err(12)),
+        (-3_000_001, Err(12)),
+    ] {
+        let answer = Answer { class: 1, span: Some(0), stamps: vec![Some(0), Some(stamp)], picks: vec![1, 0] }.bytes(1);
+        tally.same("a stamp at its limit", checked(&problem, &answer), expected, &problem, &answer);
+        tally.same("by the second checker", expected_check(&problem, &answer), expected, &problem, &answer);
+        tally.count("stamps at their limits");
     }
 }

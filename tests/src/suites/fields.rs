@@ -164,16 +164,18 @@ fn edges() -> Vec<u64> {
         0,
         1,
         -1,
-        645_119,
-        645_120,
         645_121,
-        -645_120,
-        -645_121,
-        1_999_999,
-        2_000_000,
+        1_290_239,
+        1_290_240,
+        1_290_241,
+        -1_290_240,
+        -1_290_241,
         2_000_001,
-        -2_000_000,
-        -2_000_001,
+        2_999_999,
+        3_000_000,
+        3_000_001,
+        -3_000_000,
+        -3_000_001,
         OFFSET - 1,
         1 - OFFSET,
     ];
@@ -251,7 +253,7 @@ fn random_fields(tally: &mut Tally, random: &mut Random) {
             0 => edges[random.below(edges.len())],
             _ if place == 0 => offset(Some(0)),
             1 | 2 => 0,
-            _ => offset(Some(random.within(-2_000_000, 2_000_000))),
+            _ => offset(Some(random.within(-paper::LONGEST_STAMP, paper::LONGEST_STAMP))),
         };
         let stamps: Vec<u64> = (0..stamps).map(&mut stamp).collect();
         let mut pick = || {
@@ -261,7 +263,7 @@ fn random_fields(tally: &mut Tally, random: &mut Random) {
         let picks: Vec<u64> = (0..picks).map(|_| pick()).collect();
         let span = match (class, random.below(8)) {
             (_, 0) => edges[random.below(edges.len())],
-            (1, _) => offset(Some(random.within(-645_120, 645_120))),
+            (1, _) => offset(Some(random.within(-paper::LONGEST_SPAN, paper::LONGEST_SPAN))),
             _ => 0,
         };
         let length = if random.chance(1, 10) { random.below(206) } else { 206 };

@@ -187,7 +187,7 @@ fn longest_inputs(tally: &mut Tally, random: &mut Random) {
 fn after_a_problem(tally: &mut Tally, random: &mut Random, good: &[u8], problem: &Problem, size: usize) {
     let mut outside = good.to_vec();
     let place = 10 + 4 * random.below((good.len() - 10) / 4);
-    outside[place..place + 4].copy_from_slice(&10_081i32.to_le_bytes());
+    outside[place..place + 4].copy_from_slice(&20_161i32.to_le_bytes());
     let mut buffer = [0; 206];
     let written = span::solve(good, &mut buffer).map_or(0, |solved| solved.size);
     for first in [good, &outside] {

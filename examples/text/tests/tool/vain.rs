@@ -46,7 +46,7 @@ fn a_text_that_has_nothing_in_vain_is_not_warned_of() {
 
 #[test]
 fn what_is_expected_is_judged_when_it_is_read() {
-    for words in ["leats 30", "least", "least thirty", "least 30 minutes", "bottomles", "", "least 645121"] {
+    for words in ["leats 30", "least", "least thirty", "least 30 minutes", "bottomles", "", "least 1290241"] {
         let told = run("problem-hex", &format!("{}expect: {words}\n", e()));
         assert_eq!((told.status, told.out.as_str()), (Some(1), ""), "{told:?}");
         assert!(told.err.contains(&format!("ward.txt:4: '{words}' is no answer")), "{told:?}");

@@ -1,6 +1,6 @@
 use borrow.Author.Needs.{needs}
 use borrow.Author.Tests.{not-true, not-false}
-use Rattle.closed_walks.proofs.ClosedWalks.{tested-yes, tested-no, rounds-start, rounds-still, rounds-more, rounds-beyond, rounds-end}
+use Rattle.closed_walks.proofs.ClosedWalks.{tested-yes, tested-no, ended-whole, rounds-start, rounds-still, rounds-more, rounds-beyond, rounds-end}
 use Rattle.closed_walks.specs.GainRound.{Rounds}
 use native.Mathlib.Omega.{arith}
 use Prim.Native.Nat.{_+_, _-_, _≤_}
@@ -22,20 +22,18 @@ none-gains-spec =
     (λ c. search needs)
     (λ c. (omega arith, omega (arith, c .pre .0 .width-most), rounds-start _ _ _ (c .pre .0)))
     (λ c κs. (c .before .before .before .before .pre .0, c .before .before .before .before .pre .1, c .before .before .before .loop .inv .2 .ready))
-    (λ c. tested-yes (rounds-still _ _ _ (c .before .before .before .before .before .before .pre .0) (c .before .push-round .ensures) (not-true _ (c .if1 .taken))))
-    (λ c κs. search needs)
-    (λ c. let start = c .before .before .before .before .before .before .before .before .before in
-    tested-no (rounds-beyond _ _ _ (start .pre .0) (c .before .before .before .before .before .before .before .before .loop .inv .2) (c .before .before .before .before .push-round .ensures)
-    (c .before .values-small .ensures .no (not-true _ (c .if2 .taken)))
-    (start .pre .2)))
+    (λ c. search needs)
+    (λ c. search needs)
+    (λ c. tested-no (rounds-beyond _ _ _ (c .before .before .before .before .before .before .before .pre .0) (c .before .before .before .before .before .before .loop .inv .2) (c .before .before .push-round .ensures) (c .enum-told .given .1)))
+    (λ c. tested-yes (rounds-still _ _ _ (c .before .before .before .before .before .before .before .before .before .pre .0) (ended-whole _ _ _ (c .before .before .before .before .before .before .before .before .before .pre .0) (c .before .before .before .before .push-round .ensures) (c .before .before .moved .given .1)) (not-true _ (c .if1 .taken))))
     (λ c. search needs)
     (λ c. omega arith)
-    (λ c. (
+    (λ c. let start = c .before .before .before .before .before .before .before .before .before in (
       omega arith,
       omega arith,
-      rounds-more _ _ _ (c .before .before .before .before .before .before .before .before .before .pre .0) (c .before .before .before .before .before .before .before .before .loop .inv .2) (c .before .before .before .before .push-round .ensures)
-          (not-false _ (c .before .before .before .if1 .left))
-          (c .before .values-small .ensures .yes (not-false _ (c .if2 .left))),
+      rounds-more _ _ _ (start .pre .0) (c .before .before .before .before .before .before .before .before .loop .inv .2)
+          (ended-whole _ _ _ (start .pre .0) (c .before .before .before .before .push-round .ensures) (c .before .before .moved .given .1))
+          (not-false _ (c .if1 .left)),
     ))
     (λ c. let start = c .before .before in
     tested-no (rounds-end _ _ _ (start .pre .0) (c .before .loop .inv .2) (omega arith) (start .pre .2))))

@@ -1,7 +1,7 @@
 use borrow.Author.Needs.{needs}
 use Rattle.closed_walks.proofs.ClosedWalks.{pushing-none, pushing-held, pushing-row, pushing-turn, pushing-all}
-use Rattle.closed_walks.proofs.Order.{past-none, past-more, past-most}
-use Rattle.closed_walks.specs.GainRound.{Pushing}
+use Rattle.closed_walks.proofs.Order.{past-none, past-more}
+use Rattle.closed_walks.specs.GainRound.{Pushing, finished, stopped}
 use Rattle.closed_walks.specs.Order.{past}
 use mathlib.Core.Logic.{⊎-elim}
 use mathlib.Core.Path.{_≡_}
@@ -27,24 +27,25 @@ push-round-spec =
     (λ c. omega (arith, c .before .before .pre .1 .few))
     (λ c. omega (arith, c .before .before .before .pre .1 .inside (c .before .before .loop .i) (omega arith)))
     (λ c. omega (arith, c .before .before .before .pre .1 .inside (c .before .before .loop .i) (omega arith)))
-    (λ c. omega (arith, c .before .before .before .before .pre .1 .inside (c .before .before .before .loop .i) (omega arith)))
-    (λ c. omega (arith, c .before .before .before .before .pre .1 .inside (c .before .before .before .loop .i) (omega arith)))
-    (λ c. omega (arith, c .before .before .before .before .before .before .pre .1 .inside (c .before .before .before .before .before .loop .i) (omega arith)))
-    (λ c κs. (omega (arith, c .before .before .before .before .before .before .before .pre .1 .inside (c .before .before .before .before .before .before .loop .i) (omega arith)), c .before .before .before .before .before .before .loop .inv .2 .length-is))
-    (λ c. omega (arith, c .before .before .before .before .before .before .before .loop .inv .2 .small _ (c .before .before .before .before .before .before .before .before .pre .1 .inside (c .before .before .before .before .before .before .before .loop .i) (omega arith)), past-most (c .before .before .before .before .before .before .before .before .pre .1) (c .before .before .before .before .before .before .before .loop .i) (omega arith)))
-    (λ c. omega (arith, c .before .before .before .before .before .before .before .before .pre .1 .inside (c .before .before .before .before .before .before .before .loop .i) (omega arith)))
-    (λ c. omega (arith, c .before .before .before .before .before .before .before .before .pre .1 .inside (c .before .before .before .before .before .before .before .loop .i) (omega arith)))
+    (λ c. stopped (c .before .before .before .before .loop .inv .2) (c .before .before .before .before .before .pre .1 .inside (c .before .before .before .before .loop .i) (omega arith)) (omega (arith, c .if1 .taken)))
+    (λ c. omega (arith, c .before .before .before .before .before .pre .1 .inside (c .before .before .before .before .loop .i) (omega arith)))
+    (λ c. omega (arith, c .before .before .before .before .before .pre .1 .inside (c .before .before .before .before .loop .i) (omega arith)))
+    (λ c. omega (arith, c .before .before .before .before .before .before .before .pre .1 .inside (c .before .before .before .before .before .before .loop .i) (omega arith)))
+    (λ c κs. (omega (arith, c .before .before .before .before .before .before .before .before .pre .1 .inside (c .before .before .before .before .before .before .before .loop .i) (omega arith)), c .before .before .before .before .before .before .before .loop .inv .2 .length-is))
+    (λ c. search needs)
+    (λ c. omega (arith, c .before .before .before .before .before .before .before .before .before .pre .1 .inside (c .before .before .before .before .before .before .before .before .loop .i) (omega arith)))
+    (λ c. omega (arith, c .before .before .before .before .before .before .before .before .before .pre .1 .inside (c .before .before .before .before .before .before .before .before .loop .i) (omega arith)))
     (λ c. search needs)
     (λ c. omega arith)
-    (λ c. let start = c .before .before .before .before .before .before in
-    let turn = c .before .before .before .before .before in
+    (λ c. let start = c .before .before .before .before .before .before .before in
+    let turn = c .before .before .before .before .before .before in
     let inside = start .pre .1 .inside (turn .loop .i) (omega arith) in
     let at = pushing-turn _ _ _ (start .pre .0) (start .pre .1) (turn .loop .inv .2) (omega arith) in (
       omega arith,
       omega arith,
       rw (past-more (start .args .places .now) (turn .loop .i)) (⊎-elim
-          (λ w. rw (w .3, w .4, w .5) (pushing-row _ _ _ (start .pre .0) at inside (λ z. omega (arith, start .pre .1 .marked (turn .loop .i) (omega arith))) (w .2 .ensures) (omega (arith, w .0 .taken))))
+          (λ w. rw (w .3, w .4, w .5) (pushing-row _ _ _ (start .pre .0) at inside (λ z. omega (arith, start .pre .1 .marked (turn .loop .i) (omega arith))) (omega arith) (w .2 .ensures) (omega (arith, w .0 .taken))))
           (λ w. rw (w .1, w .2, w .3) (pushing-held _ _ _ (start .pre .0) at inside (w .0 .left)))
-          (c .if1 .came)),
+          (c .if2 .came)),
     ))
-    (λ c. pushing-all _ _ _ (c .before .before .pre .0) (c .before .before .pre .1) (c .before .loop .inv .2) (omega arith)))
+    (λ c. finished (pushing-all _ _ _ (c .before .before .pre .0) (c .before .before .pre .1) (c .before .loop .inv .2) (omega arith))))
