@@ -7,7 +7,7 @@ use native.Mathlib.Omega.{arith}
 use lib.IntN.{ℤ, pos, +ℤ-idr}
 use Rattle.definitions.specs.Tropical.{fin}
 use Rattle.definitions.specs.Problem.{Problem}
-use Rattle.definitions.specs.Certificate.{start, Walk, stop, step, Uses, Distinct, Cycle, raise, AcceptedUnbounded}
+use Rattle.definitions.specs.Certificate.{start, Anchor, Walk, stop, step, Uses, Distinct, Cycle, raise, AcceptedUnbounded}
 
 -- ---- at least one arc
 
@@ -45,7 +45,7 @@ unfoldable pub level : Problem
 level = record { n = 0; m = 0; left = λ i j. fin (pos 0); right = λ i j. fin (pos 0) }
 
 -- Class 2 does not accept the one row's only pick: the cycle weighs 0, and it uses the objective.
-pub not-unbounded-level : AcceptedUnbounded level (λ i. 1) → ⊥
+pub not-unbounded-level : AcceptedUnbounded Anchor level (λ i. 1) → ⊥
 unfolding level raise Uses Distinct
 not-unbounded-level c = c .no-objective (pos 0) (record {
   at = 0;
