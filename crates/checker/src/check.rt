@@ -85,8 +85,8 @@ fn certify_unbounded(
     certify_rows(&left, &right, n, m, picks, OFFSET - SPAN_LIMIT - 1, start)
 }
 
-// What document 01 lists for the answer's class holds: reach begins at the anchor. Class 3 is judged at the top trial: a cycle that uses the
-// objective then weighs zero or more.
+// What document 01 lists for the answer's class holds: reach begins at the anchor. Class 3 is judged at the top trial: a cycle that
+// uses the objective then weighs zero or more.
 fn certify(
     problem: &[u8],
     n: usize,

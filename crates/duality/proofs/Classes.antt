@@ -1,7 +1,8 @@
 -- The three classes, in the words of the definitions. Optimal s is attainable at s and not at s − 1; infeasible is
 -- attainable at no t, which the trial at T decides; unbounded is attainable at every t, which the trial at −T − 1
--- decides. Exactly one of the three holds, and each is shown by some picks that the checker's list accepts.
-use Prim.Native.Nat.{ℕ, zero, suc, _+_, _*_, _≤_, _<_}
+-- decides. Exactly one of the three holds, and each is shown by some picks that the checker's list accepts. What the lists of
+-- classes 2 and 3 show is proved from any start; the classes themselves are about the anchor.
+use Prim.Native.Nat.{ℕ, zero, suc, _+_, _*_, _≤_}
 use mathlib.Core.Path.{_≡_}
 use mathlib.Core.Logic.{_⊎_, inl, inr, ⊎-elim, _↔_, Iff·trans}
 use native.Mathlib.Omega.{arith}

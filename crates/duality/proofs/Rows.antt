@@ -7,7 +7,7 @@ use mathlib.Core.Path.{refl}
 use mathlib.Core.Logic.{_⊎_, inl, inr, ⊎-elim, _↔_}
 use Rattle.definitions.specs.Tropical.{Trop}
 use Rattle.definitions.specs.Certificate.{Strategy}
-use Rattle.duality.specs.Starts.{Only, StartBelow}
+use Rattle.duality.specs.Starts.{Only, Either, StartBelow}
 use Rattle.duality.specs.System.{System, Solution, AllSolved, Blocked, Saves, Saved}
 use Rattle.duality.specs.Values.{values}
 use Rattle.duality.proofs.Starts.{only-below, saves-from}
@@ -44,6 +44,10 @@ blocked-exactly s Start starts =
 -- Whether there is one is decided.
 pub solution-decided : (s : System) (Start : ℕ → Type 0) → StartBelow (s .variables) Start → Solution s Start ⊎ (Solution s Start → ⊥)
 solution-decided s Start starts = ⊎-elim (λ v. inl v) (λ b. inr (blocked-exactly s Start starts .1 b)) (strong s Start starts)
+
+-- Each variable of two starts is finite in some solution exactly when each of the one and each of the other is.
+pub either-solved : (s : System) (A B : ℕ → Type 0) → AllSolved s (Either A B) ↔ (AllSolved s A × AllSolved s B)
+either-solved s A B = (λ all. (λ j h. all j (inl h), λ j h. all j (inr h)), λ both j. ⊎-elim (both .0 j) (both .1 j))
 
 -- For one variable: it is finite in some solution exactly when each variable of its start is.
 pub only-solved : (s : System) (k : ℕ) → Solution s (Only k) ↔ AllSolved s (Only k)

@@ -14,7 +14,7 @@ use Rattle.duality.specs.Values.{values, Policy}
 use Rattle.duality.specs.Induced.{Induced}
 use Rattle.duality.proofs.Weak.{solution-saves, weak}
 use Rattle.duality.proofs.Ends.{started-solution, blank-blocks}
-use Rattle.duality.proofs.Strong.{settled-start}
+use Rattle.duality.proofs.Strong.{met-or-blocks}
 
 -- ---- shifts
 
@@ -96,12 +96,12 @@ module _ (s : System) (τ : Strategy) (policy : Policy s τ) where
     unsolved-blocks {Start} starts none = ⊎-elim
         (λ m. absurd (none (started-solution s Start (values s τ) solves (m .at) (m .inside) (m .started) (m .finite))))
         (λ b. b)
-        (settled-start s τ starts policy solves)
+        (met-or-blocks s τ starts policy)
 
     -- and from two starts: the values are a solution for both, or it blocks from one of them.
     pub settled-both : {A B : ℕ → Type 0} → StartBelow (s .variables) A → StartBelow (s .variables) B
         → Joint s A B ⊎ (Blocks s A τ ⊎ Blocks s B τ)
-    settled-both {A} {B} a b = go (settled-start s τ a policy solves) (settled-start s τ b policy solves)
+    settled-both {A} {B} a b = go (met-or-blocks s τ a policy) (met-or-blocks s τ b policy)
       where
         go : Meets s A (values s τ) ⊎ Blocks s A τ → Meets s B (values s τ) ⊎ Blocks s B τ → Joint s A B ⊎ (Blocks s A τ ⊎ Blocks s B τ)
         go (inl f) (inl g) = inl (record { point = values s τ; solves = solves; first = f; second = g })

@@ -1,15 +1,14 @@
--- Starts: the anchor, one variable, marks; and what holds from a start holds from each part of it: fewer variables are reached.
+-- Starts: the anchor, one variable, two starts as one. What holds from a start holds from each part of it, from which no more is
+-- reached.
 use Prim.Native.Nat.{ℕ, suc, _≤_, _<_}
-use mathlib.Core.Path.{_≡_, refl, sym, _∙_}
-use mathlib.Core.Bool.{Bool, true, false, true≢false}
-use mathlib.Core.Logic.{_⊎_, inl, inr}
+use mathlib.Core.Path.{_≡_}
+use mathlib.Core.Logic.{_⊎_, inl, inr, ⊎-elim}
 use native.Mathlib.Omega.{arith}
 use native.Mathlib.Decide.{ℕ-discrete}
 use lib.IntN.{ℤ}
-use Rattle.base.proofs.Numbers.{nat-le-or-lt}
 use Rattle.definitions.specs.Problem.{Problem, Point}
 use Rattle.definitions.specs.Certificate.{Strategy, Anchor, Cycle, PicksCount, BelowZero, ObjectiveUnused, AcceptedOptimal, AcceptedInfeasible, RowPicksCount, AtLeastZero, ObjectiveUnusedByRows, AcceptedUnbounded}
-use Rattle.duality.specs.Starts.{Only, StartBelow}
+use Rattle.duality.specs.Starts.{Only, Either, StartBelow}
 use Rattle.duality.specs.System.{System, Blocks, Saves}
 use Rattle.duality.proofs.Reach.{reach-map, circuit-map}
 
@@ -23,14 +22,14 @@ only-below k h = record { decided = λ j. is-or-not j (ℕ-discrete j k); inside
     is-or-not j (yes e) = inl e
     is-or-not j (no d) = inr d
 
--- A start given by marks on the variables.
-pub marked-below : (N : ℕ) (marks : ℕ → Bool) → StartBelow N (λ j. (marks j ≡ true) × (j < N))
-marked-below N marks = record { decided = λ j. go j (marks j) refl (nat-le-or-lt N j); inside = λ j b. b .1 }
+-- Two starts as one.
+pub either-below : {N : ℕ} {A B : ℕ → Type 0} → StartBelow N A → StartBelow N B → StartBelow N (Either A B)
+either-below {A = A} {B = B} a b = record { decided = λ j. go j (a .decided j) (b .decided j); inside = λ j. ⊎-elim (a .inside j) (b .inside j) }
   where
-    go : (j : ℕ) (t : Bool) → marks j ≡ t → (N ≤ j) ⊎ (j < N) → ((marks j ≡ true) × (j < N)) ⊎ (((marks j ≡ true) × (j < N)) → ⊥)
-    go j t e (inl h) = inr (λ b. omega arith)
-    go j true e (inr h) = inl (e, h)
-    go j false e (inr h) = inr (λ b. true≢false (sym (b .0) ∙ e))
+    go : (j : ℕ) → A j ⊎ (A j → ⊥) → B j ⊎ (B j → ⊥) → Either A B j ⊎ (Either A B j → ⊥)
+    go j (inl h) d = inl (inl h)
+    go j (inr n) (inl h) = inl (inr h)
+    go j (inr n) (inr m) = inr (⊎-elim n m)
 
 -- The anchor is a variable of every problem.
 pub anchor-below : (p : Problem) → StartBelow (suc (p .n)) Anchor

@@ -155,10 +155,10 @@ blank-or-met s {Start} starts x = ⊎-elim
     go j (inl b) (inr f) = inr (b, f)
     go j (inr n) (inr f) = inl (λ b. absurd (n b))
 
--- A kept strategy whose values solve the system settles it from every start at once: the values are a solution, or it blocks.
-pub settled-start : (s : System) {Start : ℕ → Type 0} (τ : Strategy) → StartBelow (s .variables) Start → Policy s τ → Solves s (values s τ)
+-- From every start at once: a kept strategy has a finite value there, or it blocks.
+pub met-or-blocks : (s : System) {Start : ℕ → Type 0} (τ : Strategy) → StartBelow (s .variables) Start → Policy s τ
     → Meets s Start (values s τ) ⊎ Blocks s Start τ
-settled-start s {Start} τ starts policy solves =
+met-or-blocks s {Start} τ starts policy =
     ⊎-elim (λ b. inr (blank-blocks s τ policy Start (λ j h. (starts .inside j h, b j h)))) inl (blank-or-met s starts (values s τ))
 
 -- From every start there is a solution, or some strategy blocks.
@@ -166,7 +166,7 @@ pub strong : (s : System) (Start : ℕ → Type 0) → StartBelow (s .variables)
 strong s Start starts = ⊎-elim
     (λ m. inl (started-solution s Start (values s τ) solves (m .at) (m .inside) (m .started) (m .finite)))
     (λ b. inr (record { strategy = τ; blocks = b }))
-    (settled-start s τ starts (settled s .policy) solves)
+    (met-or-blocks s τ starts (settled s .policy))
   where
     τ : Strategy
     τ = settled s .strategy

@@ -27,8 +27,8 @@ pub record PointAt (p : Problem) (t : ℕ) (x : List ℕ) : Type 0 where
   pub stamps : (k : ℕ) → blank-or-within stamp-limit (difference (pointOf x k) (pointOf x 0)) ≡ true
   pub rest : (k : ℕ) → p .n < k → getD x k 0 ≡ 0
 
--- `reached` is possible unless it lies above the top, `blocked` is not, by a strategy that blocks from the start, unless it lies below the floor; each trial up to `reached`
--- may start from the strategy that was kept.
+-- `reached` is possible unless it lies above the top; `blocked` is not, by a strategy that blocks from the start, unless it lies below
+-- the floor; each trial up to `reached` may start from the strategy that was kept.
 pub record Known (p : Problem) (s : Search) : Type 0 where
   pub possible : s .reached ≤ top-offset → PointAt p (s .reached) (s .point)
   pub impossible : s .floor ≤ s .blocked → Blocks (systemAt p (wholeOf (s .blocked))) (Begins (s .start) (p .n + 1)) (pickOf (s .blocking))

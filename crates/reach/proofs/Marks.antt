@@ -16,6 +16,7 @@ use Rattle.base.proofs.Filled.{zeros}
 use Rattle.definitions.specs.Certificate.{Reachable, Anchor, start, onward}
 use Rattle.definitions.specs.Marks.{DifferBelow}
 use Rattle.definitions.proofs.Marks.{differ-here}
+use Rattle.duality.specs.Starts.{StartBelow}
 use Rattle.duality.proofs.Height.{total-falls}
 use Rattle.duality.proofs.Reach.{reach-keep, reach-map}
 use Rattle.reach.specs.Marks.{Marked, Led, Begins, Flags, StartMarked, Anchored, Reached}
@@ -261,6 +262,19 @@ anchored-marked a w = record {
   marked = λ j e. record { inside = omega arith; marked = rw e (a .anchor) };
   only = λ j b. a .only j (b .marked);
 }
+
+-- Whether a variable is one of the start is decided by its mark.
+pub marked-start : {Start : ℕ → Type 0} {width : ℕ} {begin : List ℕ} → StartMarked Start width begin → StartBelow width Start
+marked-start {Start} {width} {begin} s = record { decided = decided; inside = λ j h. s .marked j h .inside }
+  where
+    decided : (j : ℕ) → Start j ⊎ (Start j → ⊥)
+    decided j = ⊎-elim
+        (λ (h : width ≤ j). inr (λ b. omega (arith, s .marked j b .inside)))
+        (λ (h : j < width). ⊎-elim
+        (λ (z : getD begin j 0 ≡ 0). inr (λ b. omega (arith, s .marked j b .marked)))
+        (λ m. inl (s .only j (record { inside = h; marked = m })))
+        (eq-zero-or-pos (getD begin j 0)))
+        (nat-le-or-lt width j)
 
 -- What is reached from these marks is reachable from the start, and what is reachable from it is reached.
 module _ {Start : ℕ → Type 0} {arcs : List ℕ} {width : ℕ} {begin marks : List ℕ} (starts : StartMarked Start width begin)

@@ -1,6 +1,6 @@
--- Certificates of a problem and of a selection of its rows, from any start. Classes 1 and 3: the renumbered table is accepted exactly when the table is
--- and reached variables pick rows of the selection alone. Class 2: what is accepted for the problem is accepted for the selection, and
--- conversely where the rows in use are rows of the selection.
+-- Certificates of a problem and of a selection of its rows, from any start. Classes 1 and 3: the renumbered table is accepted exactly
+-- when the table is and reached variables pick rows of the selection alone. Class 2: what is accepted for the problem is accepted for
+-- the selection, and conversely where the rows in use are rows of the selection.
 use Prim.Native.Nat.{ℕ, suc, _≤_}
 use mathlib.Core.Path.{_≡_, sym, subst, _∙_}
 use mathlib.Core.Logic.{_↔_}
