@@ -12,18 +12,20 @@ use Rattle.base.proofs.Decides.{said-no, decides-as}
 use Rattle.definitions.specs.Limits.{signed-half, lead-limit, span-limit, class-optimal, class-unbounded, class-infeasible}
 use Rattle.definitions.specs.Tropical.{Trop, fin}
 use Rattle.definitions.specs.Offset.{tropOf}
-use Rattle.definitions.specs.Problem.{Problem, Keeps, value, whole}
-use Rattle.definitions.specs.Certificate.{Strategy, PicksCount, BelowZero, RowPicksCount, AcceptedOptimal, AcceptedUnbounded, AcceptedInfeasible}
+use Rattle.definitions.specs.Problem.{Problem, Point, Keeps, value, whole}
+use Rattle.definitions.specs.Certificate.{Strategy, Anchor, PicksCount, BelowZero, RowPicksCount, AtLeastZero, AcceptedOptimal, AcceptedUnbounded, AcceptedInfeasible}
 use Rattle.definitions.specs.AnswerRecord.{Answer, known-class, highestPick}
 use Rattle.definitions.specs.Verdict.{Accepted, optimal, unbounded, infeasible, pointOf, strategyOf}
 use Rattle.definitions.proofs.Whole.{minus-read, abs-show}
 use Rattle.definitions.proofs.Tropical.{fin-injective}
 use Rattle.definitions.proofs.Offset.{trop-fin, trop-read, trop-show}
-use Rattle.duality.specs.Picks.{NoneAbove, AtLeastZero}
+use Rattle.duality.specs.Picks.{NoneAbove}
 use Rattle.duality.specs.Within.{Within}
+use Rattle.duality.proofs.Starts.{optimal-from, infeasible-from, unbounded-from}
 use Rattle.duality.proofs.Numbers.{infeasible-below, below-infeasible, unbounded-above, above-unbounded, top-enough}
 use Rattle.records.specs.Decoded.{Near}
 use Rattle.records.specs.Stamps.{stampsPoint}
+use Rattle.reach.specs.Marks.{Begins, StartMarked}
 use Rattle.closed_walks.specs.Tables.{DecodedAs, Picked, Trial}
 use Rattle.checker.specs.Outcome.{Span, Meant}
 
@@ -56,21 +58,21 @@ trial-below-is span {z} s e =
     let r = trop-read span e in
     trop-show (span - 1) (z -ℤ pos 1) (omega (arith, s .near .lo (s .some))) (omega (arith, minus-read z (pos 1), s .near .lo (s .some)))
 
-module _ {p : Problem} {left right : List ℕ} {n m : ℕ} (holds : DecodedAs p left right n m) (stamps : List ℕ) {picks : Strategy} {z : ℤ} where
+module _ {Start : ℕ → Type 0} {p : Problem} {left right : List ℕ} {n m : ℕ} (holds : DecodedAs p left right n m) (stamps : List ℕ) {picks : Strategy} {z : ℤ} where
   -- The rules are broken.
   pub optimal-broken : {c : Bool} → Decides ((i : ℕ) → i < m → Keeps p (stampsPoint stamps) i) c → c ≡ false
-      → Decides (AcceptedOptimal p z (stampsPoint stamps) picks) false
+      → Decides (AcceptedOptimal Start p z (stampsPoint stamps) picks) false
   optimal-broken d e = said-no (λ a. d .no e (λ i h. a .feasible .keeps i (rw (holds .m-is) h)))
 
   -- The value is another.
   pub optimal-other : {c : Bool} → Decides (value p (stampsPoint stamps) ≡ whole z) c → c ≡ false
-      → Decides (AcceptedOptimal p z (stampsPoint stamps) picks) false
+      → Decides (AcceptedOptimal Start p z (stampsPoint stamps) picks) false
   optimal-other d e = said-no (λ a. d .no e (a .value-is))
 
   -- Both are right: the picks decide.
   pub optimal-picks : {c d r : Bool} → getD stamps 0 0 ≡ signed-half → Decides ((i : ℕ) → i < m → Keeps p (stampsPoint stamps) i) c → c ≡ true
       → Decides (value p (stampsPoint stamps) ≡ whole z) d → d ≡ true
-      → Decides (PicksCount p picks × BelowZero p picks (z -ℤ pos 1)) r → Decides (AcceptedOptimal p z (stampsPoint stamps) picks) r
+      → Decides (PicksCount Start p picks × BelowZero Start p picks (z -ℤ pos 1)) r → Decides (AcceptedOptimal Start p z (stampsPoint stamps) picks) r
   unfolding stampsPoint
   optimal-picks zero-is rules c is v walks = decides-as
       (λ h. record {
@@ -86,9 +88,9 @@ module _ {p : Problem} {left right : List ℕ} {n m : ℕ} (holds : DecodedAs p 
       walks
 
 -- The same with the trial as an offset number.
-pub optimal-at : {p : Problem} {picks : Strategy} {span : ℕ} {z : ℤ} {r : Bool} → Span span → tropOf span ≡ fin z
-    → ((y : ℤ) → tropOf (span - 1) ≡ fin y → Decides (PicksCount p picks × BelowZero p picks y) r)
-    → Decides (PicksCount p picks × BelowZero p picks (z -ℤ pos 1)) r
+pub optimal-at : {Start : ℕ → Type 0} {p : Problem} {picks : Strategy} {span : ℕ} {z : ℤ} {r : Bool} → Span span → tropOf span ≡ fin z
+    → ((y : ℤ) → tropOf (span - 1) ≡ fin y → Decides (PicksCount Start p picks × BelowZero Start p picks y) r)
+    → Decides (PicksCount Start p picks × BelowZero Start p picks (z -ℤ pos 1)) r
 optimal-at {span = span} {z = z} s e f = f (z -ℤ pos 1) (trial-below-is span s e)
 
 -- ---- classes 2 and 3
@@ -111,24 +113,42 @@ none-above : {many width : ℕ} {picks : List ℕ} → Picked picks many → Non
 unfolding strategyOf
 none-above h j b = h .none-above j
 
-module _ {p : Problem} {left right : List ℕ} {n m : ℕ} (holds : DecodedAs p left right n m) {picks : List ℕ} {r : Bool} where
-  pub infeasible-at : Picked picks (m + 1) → Decides (PicksCount p (strategyOf picks) × BelowZero p (strategyOf picks) (pos span-limit)) r
-      → Decides (AcceptedInfeasible p (strategyOf picks)) r
+module _ {Start : ℕ → Type 0} {p : Problem} {left right : List ℕ} {n m : ℕ} (holds : DecodedAs p left right n m) (starts : (j : ℕ) → Start j → j ≤ p .n)
+    {picks : List ℕ} {r : Bool} where
+  pub infeasible-at : Picked picks (m + 1) → Decides (PicksCount Start p (strategyOf picks) × BelowZero Start p (strategyOf picks) (pos span-limit)) r
+      → Decides (AcceptedInfeasible Start p (strategyOf picks)) r
   infeasible-at picked d =
       let e : m + 1 ≡ suc (p .m) = omega (arith, holds .m-is) in
       decides-as
-      (λ h. below-infeasible p lead-limit span-limit (strategyOf picks) (holds-within holds) (holds-enough holds) (none-above (rw e at picked)) (h .0) (h .1))
+      (λ h. below-infeasible p lead-limit span-limit (strategyOf picks) starts (holds-within holds) (holds-enough holds) (none-above (rw e at picked)) (h .0) (h .1))
       (λ a. (a .picks-count, infeasible-below p (strategyOf picks) (pos span-limit) a))
       d
 
-  pub unbounded-at : Picked picks (n + 1) → Decides (RowPicksCount p (strategyOf picks) × AtLeastZero p (strategyOf picks) (negsuc span-limit)) r
-      → Decides (AcceptedUnbounded p (strategyOf picks)) r
+  pub unbounded-at : Picked picks (n + 1) → Decides (RowPicksCount Start p (strategyOf picks) × AtLeastZero Start p (strategyOf picks) (negsuc span-limit)) r
+      → Decides (AcceptedUnbounded Start p (strategyOf picks)) r
   unbounded-at picked d =
       let e : n + 1 ≡ suc (p .n) = omega (arith, holds .n-is) in
       decides-as
-      (λ h. above-unbounded p lead-limit span-limit (strategyOf picks) (holds-within holds) (holds-enough holds) (none-above (rw e at picked)) (h .0) (h .1))
+      (λ h. above-unbounded p lead-limit span-limit (strategyOf picks) starts (holds-within holds) (holds-enough holds) (none-above (rw e at picked)) (h .0) (h .1))
       (λ a. (a .picks-count, unbounded-above p (strategyOf picks) (negsuc span-limit) a))
       d
+
+-- ---- from marks, and from the start that they mark
+
+-- A start as marks of the variables 0 to n lies inside the problem.
+pub begins-inside : {p : Problem} {left right start : List ℕ} {n m : ℕ} → DecodedAs p left right n m → (j : ℕ) → Begins start (n + 1) j → j ≤ p .n
+begins-inside holds j b = omega (arith, b .inside, holds .n-is)
+
+-- What is decided of the marks is decided of the start.
+module _ {Start : ℕ → Type 0} {width : ℕ} {start : List ℕ} (starts : StartMarked Start width start) {p : Problem} {picks : Strategy} {r : Bool} where
+  pub optimal-started : {z : ℤ} {x : Point} → Decides (AcceptedOptimal (Begins start width) p z x picks) r → Decides (AcceptedOptimal Start p z x picks) r
+  optimal-started d = decides-as (optimal-from (starts .marked)) (optimal-from (starts .only)) d
+
+  pub unbounded-started : Decides (AcceptedUnbounded (Begins start width) p picks) r → Decides (AcceptedUnbounded Start p picks) r
+  unbounded-started d = decides-as (unbounded-from (starts .marked)) (unbounded-from (starts .only)) d
+
+  pub infeasible-started : Decides (AcceptedInfeasible (Begins start width) p picks) r → Decides (AcceptedInfeasible Start p picks) r
+  infeasible-started d = decides-as (infeasible-from (starts .marked)) (infeasible-from (starts .only)) d
 
 -- ---- by class
 
@@ -141,7 +161,7 @@ unfolding strategyOf
 strategy-same meant = fun-ext (meant .strategy-is)
 
 module _ {p : Problem} {a : Answer} {class span : ℕ} {stamps picks : List ℕ} (meant : Meant a class span stamps picks) {r : Bool} where
-  pub by-optimal : class ≡ 1 → Span span → ((z : ℤ) → tropOf span ≡ fin z → Decides (AcceptedOptimal p z (stampsPoint stamps) (strategyOf picks)) r) → Decides (Accepted p a) r
+  pub by-optimal : class ≡ 1 → Span span → ((z : ℤ) → tropOf span ≡ fin z → Decides (AcceptedOptimal Anchor p z (stampsPoint stamps) (strategyOf picks)) r) → Decides (Accepted p a) r
   by-optimal e s d =
       let is : tropOf span ≡ fin (subℕ span signed-half) = trop-fin span (s .some) in
       decides-as
@@ -149,25 +169,25 @@ module _ {p : Problem} {a : Answer} {class span : ℕ} {stamps picks : List ℕ}
       (λ h. back is h)
       (d (subℕ span signed-half) is)
     where
-      back : tropOf span ≡ fin (subℕ span signed-half) → Accepted p a → AcceptedOptimal p (subℕ span signed-half) (stampsPoint stamps) (strategyOf picks)
+      back : tropOf span ≡ fin (subℕ span signed-half) → Accepted p a → AcceptedOptimal Anchor p (subℕ span signed-half) (stampsPoint stamps) (strategyOf picks)
       back is (optimal {s = y} c f h) =
           let q : y ≡ subℕ span signed-half = fin-injective (sym f ∙ meant .span-is ∙ is) in
           rw (point-same meant, strategy-same meant, ← q) h
       back is (unbounded c h) = absurd (omega (arith, meant .class-is))
       back is (infeasible c h) = absurd (omega (arith, meant .class-is))
 
-  pub by-unbounded : class ≡ 2 → Decides (AcceptedUnbounded p (strategyOf picks)) r → Decides (Accepted p a) r
+  pub by-unbounded : class ≡ 2 → Decides (AcceptedUnbounded Anchor p (strategyOf picks)) r → Decides (Accepted p a) r
   by-unbounded e d = decides-as (λ h. unbounded (meant .class-is ∙ e) (rw (← strategy-same meant) h)) back d
     where
-      back : Accepted p a → AcceptedUnbounded p (strategyOf picks)
+      back : Accepted p a → AcceptedUnbounded Anchor p (strategyOf picks)
       back (optimal c f h) = absurd (omega (arith, meant .class-is))
       back (unbounded c h) = rw (strategy-same meant) h
       back (infeasible c h) = absurd (omega (arith, meant .class-is))
 
-  pub by-infeasible : class ≡ 3 → Decides (AcceptedInfeasible p (strategyOf picks)) r → Decides (Accepted p a) r
+  pub by-infeasible : class ≡ 3 → Decides (AcceptedInfeasible Anchor p (strategyOf picks)) r → Decides (Accepted p a) r
   by-infeasible e d = decides-as (λ h. infeasible (meant .class-is ∙ e) (rw (← strategy-same meant) h)) back d
     where
-      back : Accepted p a → AcceptedInfeasible p (strategyOf picks)
+      back : Accepted p a → AcceptedInfeasible Anchor p (strategyOf picks)
       back (optimal c f h) = absurd (omega (arith, meant .class-is))
       back (unbounded c h) = absurd (omega (arith, meant .class-is))
       back (infeasible c h) = rw (strategy-same meant) h

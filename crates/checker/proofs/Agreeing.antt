@@ -65,9 +65,9 @@ module _ (p : Problem) {x y : Point} (same : (j : ℕ) → j < suc (p .n) → x 
 
 -- ---- picks that agree
 
-module _ (p : Problem) {a b : Strategy} (same : (j : ℕ) → j < suc (p .n) → a j ≡ b j) where
-  anchored : (j : ℕ) → j ≡ 0 → (j ≡ 0) × (j ≤ p .n)
-  anchored j e = (e, omega arith)
+module _ {Start : ℕ → Type 0} (p : Problem) (starts : (j : ℕ) → Start j → j ≤ p .n) {a b : Strategy} (same : (j : ℕ) → j < suc (p .n) → a j ≡ b j) where
+  begins : (j : ℕ) → Start j → Start j × (j ≤ p .n)
+  begins j h = (h, starts j h)
 
   -- What b leads to, a leads to, and the arcs are the same.
   leads-back : (j l : ℕ) → j ≤ p .n → Leads p b j l → Leads p a j l × (l ≤ p .n)
@@ -79,29 +79,29 @@ module _ (p : Problem) {a b : Strategy} (same : (j : ℕ) → j < suc (p .n) →
   objective-back : (j l : ℕ) (w : ℤ) → j ≤ p .n → ObjectiveArc p b j l w → ObjectiveArc p a j l w × (l ≤ p .n)
   objective-back j l w h r = (record { picked = same j (omega arith) ∙ r .picked; inside = r .inside; by = r .by }, r .inside)
 
-  pub picks-agree : PicksCount p a → PicksCount p b
+  pub picks-agree : PicksCount Start p a → PicksCount Start p b
   picks-agree c j r =
-      let q = reach-keep (λ j. j ≤ p .n) anchored leads-back r in
+      let q = reach-keep (λ j. j ≤ p .n) begins leads-back r in
       let h = c j (q .0) in
       record { row = h .row; picked = sym (same j (omega (arith, q .1))) ∙ h .picked; left = h .left }
 
-  pub below-agrees : (t : ℤ) → BelowZero p a t → BelowZero p b t
-  below-agrees t c w k = below-exactly p a t .0 c w (circuit-keep (λ j. j ≤ p .n) anchored leads-back (arc-back t) (cycle-circuit k))
+  pub below-agrees : (t : ℤ) → BelowZero Start p a t → BelowZero Start p b t
+  below-agrees t c w k = below-exactly Start p a t .0 c w (circuit-keep (λ j. j ≤ p .n) begins leads-back (arc-back t) (cycle-circuit k))
 
-  pub infeasible-agrees : AcceptedInfeasible p a → AcceptedInfeasible p b
+  pub infeasible-agrees : AcceptedInfeasible Start p a → AcceptedInfeasible Start p b
   infeasible-agrees c = record {
     picks-count = picks-agree (c .picks-count);
-    no-objective = objective-exactly p b .1 (λ u. objective-exactly p a .0 (c .no-objective) (uses-keep (λ j. j ≤ p .n) anchored leads-back objective-back (arc-back (pos 0)) u));
+    no-objective = objective-exactly Start p b .1 (λ u. objective-exactly Start p a .0 (c .no-objective) (uses-keep (λ j. j ≤ p .n) begins leads-back objective-back (arc-back (pos 0)) u));
     below-zero = below-agrees (pos 0) (c .below-zero);
   }
 
-pub optimal-agrees : (p : Problem) (s : ℤ) {x y : Point} {a b : Strategy} → ((j : ℕ) → j < suc (p .n) → x j ≡ y j) → ((j : ℕ) → j < suc (p .n) → a j ≡ b j)
-    → AcceptedOptimal p s x a → AcceptedOptimal p s y b
-optimal-agrees p s e f c = record {
+pub optimal-agrees : {Start : ℕ → Type 0} (p : Problem) (s : ℤ) (starts : (j : ℕ) → Start j → j ≤ p .n) {x y : Point} {a b : Strategy} → ((j : ℕ) → j < suc (p .n) → x j ≡ y j) → ((j : ℕ) → j < suc (p .n) → a j ≡ b j)
+    → AcceptedOptimal Start p s x a → AcceptedOptimal Start p s y b
+optimal-agrees p s starts e f c = record {
   feasible = feasible-agrees p e (c .feasible);
   value-is = sym (value-agrees p e) ∙ c .value-is;
-  picks-count = picks-agree p f (c .picks-count);
-  below-zero = below-agrees p f _ (c .below-zero);
+  picks-count = picks-agree p starts f (c .picks-count);
+  below-zero = below-agrees p starts f _ (c .below-zero);
 }
 
 -- ---- row picks that agree
@@ -116,11 +116,11 @@ module _ (p : Problem) {a b : Strategy} (same : (i : ℕ) → i < suc (p .m) →
   row-objective-back : (j l : ℕ) (w : ℤ) → RowObjectiveArc p b j l w → RowObjectiveArc p a j l w
   row-objective-back j l w r = record { picked = same (p .m) (omega arith) ∙ r .picked; by = r .by }
 
-  pub unbounded-agrees : AcceptedUnbounded p a → AcceptedUnbounded p b
-  unbounded-agrees c = record {
+  pub unbounded-agrees : {Start : ℕ → Type 0} → AcceptedUnbounded Start p a → AcceptedUnbounded Start p b
+  unbounded-agrees {Start} c = record {
     picks-count = λ i j h r l.
         let q = c .picks-count i j h (reach-map (λ j e. e) row-leads-back r) l in
         record { variable = q .variable; picked = sym (same i (omega arith)) ∙ q .picked; right = q .right };
-    no-objective = row-objective-exactly p b .1 (λ u. row-objective-exactly p a .0 (c .no-objective) (uses-keep {O′ = RowObjectiveArc p a} {A′ = RowArc p a (pos 0)} (λ _. Unit) (λ j e. (e, tt)) (λ j l _ r. (row-leads-back j l r, tt)) (λ j l w _ r. (row-objective-back j l w r, tt)) (λ j l w _ r. (row-arc-back (pos 0) j l w r, tt)) u));
-    zero-or-more = λ w k. at-least-exactly p a (pos 0) .0 (c .zero-or-more) w (circuit-map (λ j e. e) row-leads-back (row-arc-back (pos 0)) (cycle-circuit k));
+    no-objective = row-objective-exactly Start p b .1 (λ u. row-objective-exactly Start p a .0 (c .no-objective) (uses-keep {O′ = RowObjectiveArc p a} {A′ = RowArc p a (pos 0)} (λ _. Unit) (λ j e. (e, tt)) (λ j l _ r. (row-leads-back j l r, tt)) (λ j l w _ r. (row-objective-back j l w r, tt)) (λ j l w _ r. (row-arc-back (pos 0) j l w r, tt)) u));
+    zero-or-more = λ w k. at-least-exactly Start p a (pos 0) .0 (c .zero-or-more) w (circuit-map (λ j e. e) row-leads-back (row-arc-back (pos 0)) (cycle-circuit k));
   }

@@ -9,6 +9,7 @@ use Rattle.definitions.specs.ProblemRecord.{nField, mField, WithinLayout, probl
 use Rattle.definitions.specs.Verdict.{optimal, unbounded, infeasible}
 use Rattle.definitions.specs.Demands.{Slice, Checker, CheckerJudges, SomeTable, Fits, leastAnswer, blankAnswer}
 use Rattle.definitions.proofs.ProblemBack.{listed-length}
+use Rattle.duality.proofs.Starts.{anchor-inside}
 use Rattle.duality.proofs.Classes.{optimal-accepted, infeasible-accepted, unbounded-accepted}
 use Rattle.checker.proofs.Agreeing.{listed-point, listed-strategy, listed-fit, optimal-agrees, infeasible-agrees, unbounded-agrees}
 use Rattle.duality.proofs.SmallLeads.{layout-within, layout-enough}
@@ -30,7 +31,7 @@ module _ (check : Checker) (judges : CheckerJudges check) (p : List ℕ) (b : Sl
         count = count;
         none-above = fit;
         accepted-with = record-accepted check judges p (leastAnswer (nField p) s x picks) b w (least-fits p w x s f picks count fit) .1
-            (optimal refl refl (optimal-agrees (problemOf p) s (listed-point x (suc (nField p))) (listed-strategy (c .picks) (suc (nField p))) (c .accepted)));
+            (optimal refl refl (optimal-agrees (problemOf p) s (anchor-inside (problemOf p)) (listed-point x (suc (nField p))) (listed-strategy (c .picks) (suc (nField p))) (c .accepted)));
       }
 
   -- Where no plan has a span below plus infinity, some table is accepted for none.
@@ -46,7 +47,7 @@ module _ (check : Checker) (judges : CheckerJudges check) (p : List ℕ) (b : Sl
         count = count;
         none-above = fit;
         accepted-with = record-accepted check judges p (blankAnswer class-infeasible picks) b w (infeasible-fits p w picks count fit) .1
-            (infeasible refl (infeasible-agrees (problemOf p) (listed-strategy (c .picks) (suc (nField p))) (c .accepted)));
+            (infeasible refl (infeasible-agrees (problemOf p) (anchor-inside (problemOf p)) (listed-strategy (c .picks) (suc (nField p))) (c .accepted)));
       }
 
   -- Where spans fall below every whole number, some table is accepted for bottomless.

@@ -8,7 +8,7 @@ use mathlib.Core.Logic.{_⊎_, inl, inr, ⊎-elim}
 use native.Mathlib.Omega.{arith}
 use native.Mathlib.Nat.{eq-zero-or-pos}
 use lib.Dec.{eqb}
-use lib.ListN.{length, getD, replicate, List·getD-eq-default}
+use lib.ListN.{length, getD, List·getD-eq-default}
 use lib.IntN.{ℤ, pos, subℕ, _-ℤ_}
 use borrow.Author.Tests.{eqb-true, eqb-false}
 use Rattle.base.specs.Decides.{Decides}
@@ -20,7 +20,7 @@ use Rattle.definitions.specs.Bytes.{Bytes}
 use Rattle.definitions.specs.Offset.{tropOf}
 use Rattle.definitions.specs.Problem as Problems
 use Rattle.definitions.specs.Problem.{Problem, Point, Value, minus-infinity, plus-infinity, Keeps, value}
-use Rattle.definitions.specs.Certificate.{PicksCount, BelowZero, RowPicksCount, AcceptedOptimal}
+use Rattle.definitions.specs.Certificate.{Anchor, PicksCount, BelowZero, RowPicksCount, AtLeastZero, AcceptedOptimal}
 use Rattle.definitions.specs.ProblemRecord.{listOf, WithinLayout, problemOf, nField, mField}
 use Rattle.definitions.specs.AnswerRecord.{Answer, classField, spanField, answerOf, answerRefusal, answerOutcome}
 use Rattle.definitions.specs.Verdict.{Accepted, strategyOf}
@@ -29,8 +29,8 @@ use Rattle.definitions.proofs.Whole.{le-or-lt}
 use Rattle.definitions.proofs.Tropical.{fin-injective, ⊑-or-above, finite-above}
 use Rattle.definitions.proofs.Offset.{trop-fin}
 use Rattle.definitions.proofs.Refusals.{answer-fits}
-use Rattle.duality.specs.Picks.{AtLeastZero}
 use Rattle.duality.specs.Values.{valueAt}
+use Rattle.duality.proofs.Starts.{anchor-inside}
 use Rattle.duality.proofs.Longest.{exit-value, stable-potential, still-stable, potential-closed}
 use Rattle.problem_records.specs.Tables.{leftTable, rightTable}
 use Rattle.answer_reader.specs.Fields.{Padded, stampsOf, picksOf}
@@ -41,7 +41,8 @@ use Rattle.answer_reader.proofs.Judging.{span-meant}
 use Rattle.problem_records.proofs.Tables.{length-listOf, getD-listOf}
 use Rattle.answer_reader.proofs.Passing.{stampsAt-length, picksAt-length}
 use Rattle.answer_reader.proofs.ByClass.{stamps-most, picks-most}
-use Rattle.reach.proofs.Marks.{anchor-marked}
+use Rattle.reach.specs.Marks.{StartMarked}
+use Rattle.reach.proofs.Marks.{anchor-marked, anchored-marked}
 use Rattle.reach.proofs.Existence.{MarksOf, reach-exists}
 use Rattle.closed_walks.specs.Gains.{matrix, anywhere, Table, NoneGains, Tested}
 use Rattle.records.specs.Stamps.{stampsPoint}
@@ -168,8 +169,10 @@ row-cells left right n m t picks w = record {
   cells = λ j l h k. cell-at (heaviest left right m t picks (m + 1)) n j l w h k;
 }
 
-module _ {p : Problem} {left right : List ℕ} {n m : ℕ} (t : ℕ) {picks : List ℕ} {z : ℤ} (holds : DecodedAs p left right n m) (trial : Trial t) (trial-is : tropOf t ≡ fin z) where
-  pub strategy-decided : Picked picks (m + 1) → Decided (PicksCount p (strategyOf picks) × BelowZero p (strategyOf picks) z)
+-- From any start, as marks.
+module _ {Start : ℕ → Type 0} {p : Problem} {left right begin : List ℕ} {n m : ℕ} (t : ℕ) {picks : List ℕ} {z : ℤ} (holds : DecodedAs p left right n m) (trial : Trial t)
+    (trial-is : tropOf t ≡ fin z) (starts : StartMarked Start (n + 1) begin) where
+  pub strategy-decided : Picked picks (m + 1) → Decided (PicksCount Start p (strategyOf picks) × BelowZero Start p (strategyOf picks) z)
   strategy-decided picked = go (counts .answer) refl
     where
       sized : Sized left right n m
@@ -181,8 +184,8 @@ module _ {p : Problem} {left right : List ℕ} {n m : ℕ} (t : ℕ) {picks : Li
       shown : VariableArcs left right m t picks (n + 1) (n + 1) arcs
       shown = variable-cells left right n m t picks (sized .n-most)
 
-      marked : MarksOf arcs (n + 1) (1 ∷ replicate 31 0)
-      marked = reach-exists arcs (n + 1) (1 ∷ replicate 31 0) (omega (arith, sized .n-most)) (anchor-marked .flags)
+      marked : MarksOf arcs (n + 1) begin
+      marked = reach-exists arcs (n + 1) begin (omega (arith, sized .n-most)) (starts .flags)
 
       counts : Decided (VariablesCount left picks (marked .marks) (n + 1))
       counts = variables-decided left picks (marked .marks) (n + 1)
@@ -190,11 +193,11 @@ module _ {p : Problem} {left right : List ℕ} {n m : ℕ} (t : ℕ) {picks : Li
       test : TestOf arcs (marked .marks) (n + 1)
       test = test-exists arcs (marked .marks) (n + 1) (variables-table sized trial picked shown) (omega arith)
 
-      go : (b : Bool) → counts .answer ≡ b → Decided (PicksCount p (strategyOf picks) × BelowZero p (strategyOf picks) z)
-      go false e = record { answer = false; decides = variables-not sized trial picked shown holds trial-is anchor-marked (marked .reached) (counts .decides) e }
-      go true e = record { answer = test .answer; decides = variables-both sized trial picked shown holds trial-is anchor-marked (marked .reached) (counts .decides) e (test .tested) }
+      go : (b : Bool) → counts .answer ≡ b → Decided (PicksCount Start p (strategyOf picks) × BelowZero Start p (strategyOf picks) z)
+      go false e = record { answer = false; decides = variables-not sized trial picked shown holds trial-is starts (marked .reached) (counts .decides) e }
+      go true e = record { answer = test .answer; decides = variables-both sized trial picked shown holds trial-is starts (marked .reached) (counts .decides) e (test .tested) }
 
-  pub row-strategy-decided : Picked picks (n + 1) → Decided (RowPicksCount p (strategyOf picks) × AtLeastZero p (strategyOf picks) z)
+  pub row-strategy-decided : Picked picks (n + 1) → Decided (RowPicksCount Start p (strategyOf picks) × AtLeastZero Start p (strategyOf picks) z)
   row-strategy-decided picked = go (counts .answer) refl
     where
       sized : Sized left right n m
@@ -206,8 +209,8 @@ module _ {p : Problem} {left right : List ℕ} {n m : ℕ} (t : ℕ) {picks : Li
       shown : RowArcs left right m t picks (n + 1) (m + 1) arcs
       shown = row-cells left right n m t picks (sized .n-most)
 
-      marked : MarksOf arcs (n + 1) (1 ∷ replicate 31 0)
-      marked = reach-exists arcs (n + 1) (1 ∷ replicate 31 0) (omega (arith, sized .n-most)) (anchor-marked .flags)
+      marked : MarksOf arcs (n + 1) begin
+      marked = reach-exists arcs (n + 1) begin (omega (arith, sized .n-most)) (starts .flags)
 
       counts : Decided (RowsCount left right picks (marked .marks) (n + 1) (m + 1))
       counts = rows-decided left right picks (marked .marks) (n + 1) (m + 1)
@@ -215,9 +218,9 @@ module _ {p : Problem} {left right : List ℕ} {n m : ℕ} (t : ℕ) {picks : Li
       test : TestOf arcs (marked .marks) (n + 1)
       test = test-exists arcs (marked .marks) (n + 1) (rows-table sized trial picked shown) (omega arith)
 
-      go : (b : Bool) → counts .answer ≡ b → Decided (RowPicksCount p (strategyOf picks) × AtLeastZero p (strategyOf picks) z)
-      go false e = record { answer = false; decides = rows-not sized trial picked shown holds trial-is anchor-marked (marked .reached) (counts .decides) e }
-      go true e = record { answer = test .answer; decides = rows-both sized trial picked shown holds trial-is anchor-marked (marked .reached) (counts .decides) e (test .tested) }
+      go : (b : Bool) → counts .answer ≡ b → Decided (RowPicksCount Start p (strategyOf picks) × AtLeastZero Start p (strategyOf picks) z)
+      go false e = record { answer = false; decides = rows-not sized trial picked shown holds trial-is starts (marked .reached) (counts .decides) e }
+      go true e = record { answer = test .answer; decides = rows-both sized trial picked shown holds trial-is starts (marked .reached) (counts .decides) e (test .tested) }
 
 -- ---- points
 
@@ -236,7 +239,7 @@ value-decided (Problems.whole y) z = ⊎-elim
 
 module _ {p : Problem} {left right : List ℕ} {n m class span : ℕ} {stamps picks : List ℕ} (holds : DecodedAs p left right n m)
     (formed : Formed n m class span stamps picks) where
-  pub optimal-decided : class ≡ 1 → {z : ℤ} → tropOf span ≡ fin z → Decided (AcceptedOptimal p z (stampsPoint stamps) (strategyOf picks))
+  pub optimal-decided : class ≡ 1 → {z : ℤ} → tropOf span ≡ fin z → Decided (AcceptedOptimal Anchor p z (stampsPoint stamps) (strategyOf picks))
   optimal-decided e {z} f = go (rules .answer) refl (is .answer) refl
     where
       rules : Decided ((i : ℕ) → i < m → Keeps p (stampsPoint stamps) i)
@@ -245,11 +248,11 @@ module _ {p : Problem} {left right : List ℕ} {n m class span : ℕ} {stamps pi
       is : Decided (value p (stampsPoint stamps) ≡ Problems.whole z)
       is = value-decided (value p (stampsPoint stamps)) z
 
-      walks : Decided (PicksCount p (strategyOf picks) × BelowZero p (strategyOf picks) (z -ℤ pos 1))
-      walks = strategy-decided (span - 1) holds (trial-below (formed .whole-span e)) (trial-below-is span (formed .whole-span e) f)
+      walks : Decided (PicksCount Anchor p (strategyOf picks) × BelowZero Anchor p (strategyOf picks) (z -ℤ pos 1))
+      walks = strategy-decided (span - 1) holds (trial-below (formed .whole-span e)) (trial-below-is span (formed .whole-span e) f) (anchored-marked anchor-marked (omega arith))
           (rw (highest-optimal n m class e) at (formed .picked))
 
-      go : (a : Bool) → rules .answer ≡ a → (b : Bool) → is .answer ≡ b → Decided (AcceptedOptimal p z (stampsPoint stamps) (strategyOf picks))
+      go : (a : Bool) → rules .answer ≡ a → (b : Bool) → is .answer ≡ b → Decided (AcceptedOptimal Anchor p z (stampsPoint stamps) (strategyOf picks))
       go false a b c = record { answer = false; decides = optimal-broken holds stamps (rules .decides) a }
       go true a false c = record { answer = false; decides = optimal-other holds stamps (is .decides) c }
       go true a true c = record { answer = walks .answer; decides = optimal-picks holds stamps (formed .anchored e) (rules .decides) a (is .decides) c (walks .decides) }
@@ -267,18 +270,18 @@ module _ {p : Problem} {left right : List ℕ} {n m class span : ℕ} {stamps pi
           record {
             answer = d .answer;
             decides = by-optimal meant one whole-span
-                (λ z h. subst (λ (y : ℤ). Decides (AcceptedOptimal p y (stampsPoint stamps) (strategyOf picks)) (d .answer)) (fin-injective (sym is ∙ h)) (d .decides));
+                (λ z h. subst (λ (y : ℤ). Decides (AcceptedOptimal Anchor p y (stampsPoint stamps) (strategyOf picks)) (d .answer)) (fin-injective (sym is ∙ h)) (d .decides));
           }
       by-class false e true f d g =
           let two : class ≡ 2 = eqb-true class 2 f in
           let picked = rw (highest-unbounded n m class two) at (formed .picked) in
-          let d = row-strategy-decided (signed-half - span-limit - 1) holds lowest-trial lowest-trial-is picked in
-          record { answer = d .answer; decides = by-unbounded meant two (unbounded-at holds picked (d .decides)) }
+          let d = row-strategy-decided (signed-half - span-limit - 1) holds lowest-trial lowest-trial-is (anchored-marked anchor-marked (omega arith)) picked in
+          record { answer = d .answer; decides = by-unbounded meant two (unbounded-at holds (anchor-inside p) picked (d .decides)) }
       by-class false e false f true g =
           let three : class ≡ 3 = eqb-true class 3 g in
           let picked = rw (highest-infeasible n m class three) at (formed .picked) in
-          let d = strategy-decided (signed-half + span-limit) holds top-trial top-trial-is picked in
-          record { answer = d .answer; decides = by-infeasible meant three (infeasible-at holds picked (d .decides)) }
+          let d = strategy-decided (signed-half + span-limit) holds top-trial top-trial-is (anchored-marked anchor-marked (omega arith)) picked in
+          record { answer = d .answer; decides = by-infeasible meant three (infeasible-at holds (anchor-inside p) picked (d .decides)) }
       by-class false e false f false g = absurd (class-other (formed .class-known) (eqb-false class 1 e) (eqb-false class 2 f) (eqb-false class 3 g))
 
 -- ---- bytes

@@ -9,7 +9,7 @@ use lib.IntN.{ℤ}
 use Rattle.definitions.specs.Limits.{answer-most, class-optimal, class-unbounded, class-infeasible}
 use Rattle.definitions.specs.Tropical.{Trop, fin}
 use Rattle.definitions.specs.Problem.{Problem, Point, Feasible, value, whole, _≼_, Infeasible, Unbounded}
-use Rattle.definitions.specs.Certificate.{AcceptedOptimal, AcceptedInfeasible, AcceptedUnbounded}
+use Rattle.definitions.specs.Certificate.{Anchor, AcceptedOptimal, AcceptedInfeasible, AcceptedUnbounded}
 use Rattle.definitions.specs.ProblemRecord.{nField, mField, WithinLayout, problemOf, listOf}
 use Rattle.definitions.specs.AnswerRecord.{spanFits, is-blank, stampsFit, pickCount, highestPick, picksFit}
 use Rattle.definitions.specs.Verdict.{Accepted, optimal, unbounded, infeasible, pointOf, strategyOf}
@@ -76,17 +76,17 @@ module _ (p : List ℕ) (w : WithinLayout p) where
 
 -- An accepted answer of class 1 has its span and what is listed for it.
 pub accepted-least : {p : Problem} {s : ℤ} {stamps : List Trop} {picks : List ℕ} → Accepted p (record { class = class-optimal; span = fin s; stamps = stamps; picks = picks })
-    → AcceptedOptimal p s (pointOf stamps) (strategyOf picks)
-accepted-least {p} {s} {stamps} {picks} (optimal c e h) = subst (λ (z : ℤ). AcceptedOptimal p z (pointOf stamps) (strategyOf picks)) (sym (fin-injective e)) h
+    → AcceptedOptimal Anchor p s (pointOf stamps) (strategyOf picks)
+accepted-least {p} {s} {stamps} {picks} (optimal c e h) = subst (λ (z : ℤ). AcceptedOptimal Anchor p z (pointOf stamps) (strategyOf picks)) (sym (fin-injective e)) h
 accepted-least (unbounded c h) = absurd (omega (arith, c))
 accepted-least (infeasible c h) = absurd (omega (arith, c))
 
-pub accepted-none : {p : Problem} {picks : List ℕ} → Accepted p (blankAnswer class-infeasible picks) → AcceptedInfeasible p (strategyOf picks)
+pub accepted-none : {p : Problem} {picks : List ℕ} → Accepted p (blankAnswer class-infeasible picks) → AcceptedInfeasible Anchor p (strategyOf picks)
 accepted-none (optimal c e h) = absurd (omega (arith, c))
 accepted-none (unbounded c h) = absurd (omega (arith, c))
 accepted-none (infeasible c h) = h
 
-pub accepted-bottomless : {p : Problem} {picks : List ℕ} → Accepted p (blankAnswer class-unbounded picks) → AcceptedUnbounded p (strategyOf picks)
+pub accepted-bottomless : {p : Problem} {picks : List ℕ} → Accepted p (blankAnswer class-unbounded picks) → AcceptedUnbounded Anchor p (strategyOf picks)
 accepted-bottomless (optimal c e h) = absurd (omega (arith, c))
 accepted-bottomless (unbounded c h) = h
 accepted-bottomless (infeasible c h) = absurd (omega (arith, c))

@@ -13,6 +13,7 @@ ghost use Rattle.definitions.specs.Certificate.{AcceptedOptimal, AcceptedUnboun
 ghost use Rattle.definitions.specs.Verdict.{Accepted, Judged, strategyOf};
 ghost use Rattle.records.specs.Stamps.{Stamped, stampsPoint};
 ghost use Rattle.problem_records.specs.Tables.{Laid};
+ghost use Rattle.reach.specs.Marks.{Flags, Begins};
 ghost use Rattle.closed_walks.specs.Tables.{Picked};
 ghost use Rattle.checker.specs.Outcome.{verdictOf, answerRefused, Span, Meant, Formed, Answered};
 use answer_reader::answer::AnswerHead;
@@ -22,6 +23,7 @@ use plan_tests::lower_point;
 use plan_tests::value_is;
 use problem_records::reader::judge_problem;
 use problem_records::reader::read_tables;
+use reach::anchor;
 use records::limits::INFEASIBLE;
 use records::limits::NOT_CERTIFIED;
 use records::limits::OFFSET;
@@ -43,7 +45,7 @@ pub enum Verdict {
 }
 
 // Class 1, least: the point keeps the rules, its value is the span, and the picks show that none is smaller: judged at
-// the span less 1.
+// the span less 1, from a start.
 fn certify_optimal(
     problem: &[u8],
     n: usize,
@@ -51,9 +53,10 @@ fn certify_optimal(
     stamps: &[u64; STRIDE],
     picks: &[u64; ROWS],
     span: u64,
+    start: [u8; STRIDE],
 ) -> bool
-    requires { ⌜ Laid (now problem) n m × Stamped (now stamps) × (getD (now stamps) 0 0 ≡ signed-half) × Picked (now picks) (m + 1) × Span span ⌝ }
-    ensures { λ r. ⌜ ((z : ℤ) → tropOf span ≡ fin z → Decides (AcceptedOptimal (problemOf (now (problem .entry))) z (stampsPoint (now (stamps .entry))) (strategyOf (now (picks .entry)))) r) ⌝ }
+    requires { ⌜ Laid (now problem) n m × Stamped (now stamps) × (getD (now stamps) 0 0 ≡ signed-half) × Picked (now picks) (m + 1) × Span span × Flags start ⌝ }
+    ensures { λ r. ⌜ ((z : ℤ) → tropOf span ≡ fin z → Decides (AcceptedOptimal (Begins start (n + 1)) (problemOf (now (problem .entry))) z (stampsPoint (now (stamps .entry))) (strategyOf (now (picks .entry)))) r) ⌝ }
 {
     let x = lower_point(stamps, n + 1);
     if !keeps_rules(problem, n, m, &x) {
@@ -62,22 +65,28 @@ fn certify_optimal(
     if !value_is(problem, n, m, &x, span) {
         return false;
     }
-    certify_variables(problem, n, m, picks, span - 1)
+    certify_variables(problem, n, m, picks, span - 1, start)
 }
 
-// Class 2, bottomless: judged at the lowest trial, on tables: a cycle that uses the objective then weighs below zero.
-fn certify_unbounded(problem: &[u8], n: usize, m: usize, picks: &[u64; ROWS]) -> bool
-    requires { ⌜ Laid (now problem) n m × Picked (now picks) (n + 1) ⌝ }
-    ensures { λ r. ⌜ Decides (AcceptedUnbounded (problemOf (now (problem .entry))) (strategyOf (now (picks .entry)))) r ⌝ }
+// Class 2, bottomless: judged at the lowest trial from a start, on tables: a cycle that uses the objective then weighs below zero.
+fn certify_unbounded(
+    problem: &[u8],
+    n: usize,
+    m: usize,
+    picks: &[u64; ROWS],
+    start: [u8; STRIDE],
+) -> bool
+    requires { ⌜ Laid (now problem) n m × Picked (now picks) (n + 1) × Flags start ⌝ }
+    ensures { λ r. ⌜ Decides (AcceptedUnbounded (Begins start (n + 1)) (problemOf (now (problem .entry))) (strategyOf (now (picks .entry)))) r ⌝ }
 {
     let mut left = [0u32; TABLE];
     let mut right = [0u32; TABLE];
     read_tables(problem, n, m, &mut left, &mut right);
-    certify_rows(&left, &right, n, m, picks, OFFSET - SPAN_LIMIT - 1)
+    certify_rows(&left, &right, n, m, picks, OFFSET - SPAN_LIMIT - 1, start)
 }
 
-// What document 01 lists for the answer's class holds. Class 3 is judged at the top trial: a cycle that uses the
-// objective then weighs zero or more.
+// What document 01 lists for the answer's class holds: reach begins at the anchor. Class 3 is judged at the top trial: a cycle that
+// uses the objective then weighs zero or more.
 fn certify(
     problem: &[u8],
     n: usize,
@@ -90,10 +99,11 @@ fn certify(
     requires { ⌜ Laid (now problem) n m × Formed n m class span (now stamps) (now picks) ⌝ }
     ensures { λ r. ⌜ ((a : Answer) → Meant a class span (now (stamps .entry)) (now (picks .entry)) → Decides (Accepted (problemOf (now (problem .entry))) a) r) ⌝ }
 {
+    let start = anchor();
     match class {
-        OPTIMAL => certify_optimal(problem, n, m, stamps, picks, span),
-        UNBOUNDED => certify_unbounded(problem, n, m, picks),
-        INFEASIBLE => certify_variables(problem, n, m, picks, OFFSET + SPAN_LIMIT),
+        OPTIMAL => certify_optimal(problem, n, m, stamps, picks, span, start),
+        UNBOUNDED => certify_unbounded(problem, n, m, picks, start),
+        INFEASIBLE => certify_variables(problem, n, m, picks, OFFSET + SPAN_LIMIT, start),
         0 | 4.. => false,
     }
 }

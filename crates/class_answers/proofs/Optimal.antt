@@ -30,9 +30,12 @@ use Rattle.duality.specs.Values.{difference}
 use Rattle.duality.specs.Picks.{picksFrom}
 use Rattle.duality.proofs.Weights.{difference-plus}
 use Rattle.duality.proofs.Attain.{moved, moved-anchored, moved-solves, solves-feasible, solves-within}
+use Rattle.duality.proofs.Starts.{anchor-inside}
 use Rattle.duality.proofs.Picks.{picks-joined, block-picks}
 use Rattle.duality.proofs.Classes.{value-exactly, optimal-exactly, optimal-range}
 use Rattle.duality.proofs.Unused.{optimal-unused}
+use Rattle.reach.specs.Marks.{StartMarked}
+use Rattle.reach.proofs.Marks.{anchored-marked}
 use Rattle.trials.specs.Tables.{pointOf, pickOf}
 use Rattle.trial_tables.specs.declared.frame.Frame.{Frame}
 use Rattle.trial_tables.specs.Frames.{wholeOf, zero-offset, Raised, Holds, Ready}
@@ -45,7 +48,7 @@ use Rattle.pick_tables.specs.Shown.{VariablePicks}
 use Rattle.class_answers.specs.Answered.{Stamps, answerIn, Settled}
 use Rattle.class_answers.proofs.Variables.{variables-agree, variables-idle, variables-most}
 use Rattle.class_answers.proofs.Form.{cut-point, picks-fit, stamps-fit, cut-count, cut-count-map}
-use Rattle.class_answers.proofs.Shared.{enough, blocked-unattainable, same-count, cut-64, fits-64}
+use Rattle.class_answers.proofs.Shared.{enough, anchor-blocks, blocked-unattainable, same-count, cut-64, fits-64}
 
 optimal-form : (n m span : ℕ) (stamps out : List ℕ) → n ≤ 31 → length stamps ≡ 32 → length out ≡ 64 → 0 < span → natAbs (wholeOf span) ≤ span-limit
     → stampsFit (map tropOf (take (suc n) stamps)) ≡ true → picksFit (suc m) (take (suc n) out) ≡ true
@@ -82,7 +85,7 @@ moved-within p t point k f =
 
 -- The halving ended: least.
 pub optimal-settled : (f : Frame) (left before right right′ : List ℕ) (s : Search) (least : Least) (out stamps : List ℕ) → LeastFound f left before right s least
-    → Raised right (f .objective) (f .m) zero-offset 32 right′ → VariablePicks right′ (least .blocking) (f .n + 1) (f .m + 1) out
+    → Raised right (f .objective) (f .m) zero-offset 32 right′ → VariablePicks right′ (least .blocking) (least .start) (f .n + 1) (f .m + 1) out
     → Stamps (least .point) (f .n + 1) stamps
     → Settled f left right s (record { class = 1; span = least .span; trials = least .trials; made = least .made; stamps = stamps; picks = out })
 unfolding is-zero Verdict.pointOf
@@ -106,6 +109,9 @@ optimal-settled f left before right right′ s l out stamps g r v d = record { a
     y : Ready f left right
     y = g .raised .ready
 
+    starts : StartMarked Anchor (n + 1) (l .start)
+    starts = anchored-marked (g .started) (omega arith)
+
     some : 0 < span
     some = omega (arith, g .span-trialled .lowest)
 
@@ -113,7 +119,8 @@ optimal-settled f left before right right′ s l out stamps g r v d = record { a
     shown p q = g .least p q .possible
 
     blocks : (p : Problem) → Holds p f left right → Blocks (systemAt p (wholeOf span -ℤ pos 1)) Anchor (pickOf blocking)
-    blocks p q = subst (λ (t : ℤ). Blocks (systemAt p t) Anchor (pickOf blocking)) (below-whole span some) (g .least p q .impossible)
+    blocks p q = subst (λ (t : ℤ). Blocks (systemAt p t) Anchor (pickOf blocking)) (below-whole span some)
+        (anchor-blocks p (wholeOf (span - 1)) (l .start) blocking (g .started) (g .least p q .impossible))
 
     solves : (p : Problem) → Holds p f left right → Solves (systemAt p (wholeOf span)) (moved (pointOf point) (wholeOf (getD point 0 0)))
     solves p q = moved-solves (systemAt p (wholeOf span)) (pointOf point) (wholeOf (getD point 0 0)) (shown p q .solves)
@@ -130,19 +137,19 @@ optimal-settled f left before right right′ s l out stamps g r v d = record { a
       unattainable p q,
     )
 
-    accepted : (p : Problem) → Holds p f left right → AcceptedOptimal p (wholeOf span) (moved (pointOf point) (wholeOf (getD point 0 0))) (pickOf out)
+    accepted : (p : Problem) → Holds p f left right → AcceptedOptimal Anchor p (wholeOf span) (moved (pointOf point) (wholeOf (getD point 0 0))) (pickOf out)
     accepted p q =
         let held = raised-held p f left right right′ q y r in
-        let c = block-picks p (wholeOf span -ℤ pos 1) (picks-joined (pickOf blocking) (suc (p .m)) (suc (p .n))) (blocks p q) in
-        let a : AcceptedOptimal p (wholeOf span) (moved (pointOf point) (wholeOf (getD point 0 0))) (picksFrom (pickOf blocking) (suc (p .m))) = record {
+        let c = block-picks p (wholeOf span -ℤ pos 1) (picks-joined (pickOf blocking) (suc (p .m)) (suc (p .n))) (anchor-inside p) (blocks p q) in
+        let a : AcceptedOptimal Anchor p (wholeOf span) (moved (pointOf point) (wholeOf (getD point 0 0))) (picksFrom (pickOf blocking) (suc (p .m))) = record {
           feasible = feasible p q;
           value-is = value-exactly p (wholeOf span) _ (feasible p q) (solves-within p (wholeOf span) _ (solves p q)) (unattainable p q);
           picks-count = c .0;
           below-zero = c .1;
         } in
-        let b : AcceptedOptimal p (wholeOf span) (moved (pointOf point) (wholeOf (getD point 0 0))) (picksFrom (pickOf blocking) (m + 1)) =
-        subst (λ (i : ℕ). AcceptedOptimal p (wholeOf span) (moved (pointOf point) (wholeOf (getD point 0 0))) (picksFrom (pickOf blocking) i)) (sym (same-count (p .m) m (q .m-is))) a in
-        optimal-unused (variables-agree p n m left right′ blocking out held (y .n-most) v) (wholeOf span) _ b
+        let b : AcceptedOptimal Anchor p (wholeOf span) (moved (pointOf point) (wholeOf (getD point 0 0))) (picksFrom (pickOf blocking) (m + 1)) =
+        subst (λ (i : ℕ). AcceptedOptimal Anchor p (wholeOf span) (moved (pointOf point) (wholeOf (getD point 0 0))) (picksFrom (pickOf blocking) i)) (sym (same-count (p .m) m (q .m-is))) a in
+        optimal-unused (variables-agree p n m left right′ blocking (l .start) out held (y .n-most) starts v) (wholeOf span) _ b
 
     stamps-point : (p : Problem) → Holds p f left right
         → Verdict.pointOf (map tropOf (take (suc n) stamps)) ≡ moved (pointOf point) (wholeOf (getD point 0 0))
@@ -166,16 +173,16 @@ optimal-settled f left before right right′ s l out stamps g r v d = record { a
         let held = raised-held p f left right right′ q y r in
         let cut = cut-64 n out (omega (arith, y .n-most)) (v .shown) in
         let form = optimal-form n m span stamps out (y .n-most) (d .size-is) (v .shown .size-is) some (range p q) (fit p q)
-        (fits-64 (suc m) n out (omega (arith, y .n-most)) (v .shown) (λ j. omega (arith, variables-most p n m left right′ blocking out held (y .n-most) v j))) in
+        (fits-64 (suc m) n out (omega (arith, y .n-most)) (v .shown) (λ j. omega (arith, variables-most p n m left right′ blocking (l .start) out held (y .n-most) starts v j))) in
         record {
           found = rw (trop-fin span some) (subst (Found p 1 (fin (wholeOf span))) (g .count) (Solved.optimal (optimal p q)));
           class-is = refl;
           span-is = refl;
           counts = rw (q .n-is, q .m-is) (form .0);
           form = rw (q .n-is, q .m-is) (form .1);
-          idle-variables = λ _. subst (λ (s : Strategy). IdleVariables p s) (sym cut) (variables-idle p n m left right′ blocking out held (y .n-most) v);
+          idle-variables = λ _. subst (λ (s : Strategy). IdleVariables Anchor p s) (sym cut) (variables-idle p n m left right′ blocking (l .start) out held (y .n-most) starts v);
           idle-rows = λ e. absurd (omega arith);
           accepted = Verdict.optimal refl (trop-fin span some)
-              (subst (AcceptedOptimal p (wholeOf span) (Verdict.pointOf (map tropOf (take (suc n) stamps)))) (sym cut)
-              (subst (λ (z : Point). AcceptedOptimal p (wholeOf span) z (pickOf out)) (sym (stamps-point p q)) (accepted p q)));
+              (subst (AcceptedOptimal Anchor p (wholeOf span) (Verdict.pointOf (map tropOf (take (suc n) stamps)))) (sym cut)
+              (subst (λ (z : Point). AcceptedOptimal Anchor p (wholeOf span) z (pickOf out)) (sym (stamps-point p q)) (accepted p q)));
         }

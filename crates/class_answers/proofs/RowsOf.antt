@@ -1,5 +1,5 @@
--- The picks of a strategy of rows, as an answer shows them: they agree with the strategy at every row in use, and are 0
--- elsewhere.
+-- The picks of a strategy of rows, as an answer shows them: they agree with the strategy at every row in use from the
+-- start, and are 0 elsewhere.
 use Prim.Native.Nat.{ℕ, suc, _+_, _*_, _-_, _/_, _%_, _≤_, _<_}
 use mathlib.Core.Path.{_≡_, sym, ap, subst, _∙_}
 use mathlib.Core.Logic.{_⊎_, ⊎-elim}
@@ -10,19 +10,20 @@ use lib.ListN.{getD}
 use Rattle.base.proofs.Numbers.{nat-le-or-lt, positive}
 use Rattle.definitions.specs.Tropical.{Finite}
 use Rattle.definitions.specs.Problem.{Problem}
-use Rattle.definitions.specs.Certificate.{Reachable, Anchor, start, onward, RowLeads}
+use Rattle.definitions.specs.Certificate.{Reachable, start, onward, RowLeads}
 use Rattle.definitions.specs.Solved.{IdleRows}
 use Rattle.duality.specs.Picks.{picksFrom, AgreeInUse}
 use Rattle.duality.proofs.Reach.{reach-keep, reach-map}
 use Rattle.trials.specs.Tables.{pickOf}
 use Rattle.trial_tables.specs.Frames.{LeftHeld}
-use Rattle.reach.specs.Marks.{Led}
+use Rattle.reach.specs.Marks.{Led, StartMarked}
+use Rattle.reach.proofs.Marks.{reached-from, from-reached}
 use Rattle.pick_tables.specs.Shown.{RowTo, RowArcIs, UsedBy, RowShown, RowPicks}
 use Rattle.pick_tables.proofs.Shown.{shown-unmarked}
 use Rattle.class_answers.proofs.Variables.{finite-offset, offset-finite, full-picked, full-read, shown-full, shown-most}
 
-module _ (p : Problem) (n m : ℕ) (left picks out : List ℕ) (held : LeftHeld p n m left) (small : n ≤ 31)
-    (v : RowPicks left picks (n + 1) (m + 1) out) where
+module _ {Start : ℕ → Type 0} (p : Problem) (n m : ℕ) (left picks begin out : List ℕ) (held : LeftHeld p n m left) (small : n ≤ 31)
+    (starts : StartMarked Start (n + 1) begin) (v : RowPicks left picks begin (n + 1) (m + 1) out) where
   arcs-at : (j l : ℕ) → j < n + 1 → l < 32 → RowArcIs left picks (m + 1) j l (getD (v .arcs) (j * 32 + l) 0)
   arcs-at j l h k =
       let e : (j * 32 + l) / 32 ≡ j = omega arith in
@@ -57,14 +58,14 @@ module _ (p : Problem) (n m : ℕ) (left picks out : List ℕ) (held : LeftHeld 
         omega arith,
       )
 
-  reaches-full : {j : ℕ} → Reachable Anchor (Led (v .arcs) (n + 1)) j → Reachable Anchor (RowLeads p (picksFrom (pickOf picks) (n + 1))) j
+  reaches-full : {j : ℕ} → Reachable Start (Led (v .arcs) (n + 1)) j → Reachable Start (RowLeads p (picksFrom (pickOf picks) (n + 1))) j
   reaches-full r = reach-map (λ j e. e) arc-leads r
 
-  reaches-arcs : {j : ℕ} → Reachable Anchor (RowLeads p (picksFrom (pickOf picks) (n + 1))) j → Reachable Anchor (Led (v .arcs) (n + 1)) j × (j ≤ n)
-  reaches-arcs r = reach-keep (λ j. j ≤ n) (λ j e. (e, omega arith)) leads-arc r
+  reaches-arcs : {j : ℕ} → Reachable Start (RowLeads p (picksFrom (pickOf picks) (n + 1))) j → Reachable Start (Led (v .arcs) (n + 1)) j × (j ≤ n)
+  reaches-arcs r = reach-keep (λ j. j ≤ n) (λ j h. (h, omega (arith, starts .marked j h .inside))) leads-arc r
 
   -- They agree at every row in use.
-  pub rows-agree : AgreeInUse p (picksFrom (pickOf picks) (n + 1)) (pickOf out)
+  pub rows-agree : AgreeInUse Start p (picksFrom (pickOf picks) (n + 1)) (pickOf out)
   rows-agree i j h r f =
       let q = reaches-arcs r in
       let k : i ≤ m = omega (arith, held .m-is) in
@@ -72,24 +73,24 @@ module _ (p : Problem) (n m : ℕ) (left picks out : List ℕ) (held : LeftHeld 
       let u : UsedBy left (v .marks) (n + 1) i = record {
         at = j;
         inside = omega (arith, q .1);
-        marked = v .reached .marked j (q .0);
+        marked = from-reached starts (v .reached) j (q .0) .1;
         left-is = offset-finite _ (subst Finite (sym (held .left-is i j k (q .1))) f);
       } in
       s .is ∙ shown-full picks (n + 1) (s .mark) i (λ z. s .used .none z u)
 
-  reaches-shown : {j : ℕ} → Reachable Anchor (RowLeads p (picksFrom (pickOf picks) (n + 1))) j → Reachable Anchor (RowLeads p (pickOf out)) j
-  reaches-shown r = reach-keep {L′ = RowLeads p (pickOf out)} (Reachable Anchor (RowLeads p (picksFrom (pickOf picks) (n + 1)))) (λ j e. (e, start e))
+  reaches-shown : {j : ℕ} → Reachable Start (RowLeads p (picksFrom (pickOf picks) (n + 1))) j → Reachable Start (RowLeads p (pickOf out)) j
+  reaches-shown r = reach-keep {L′ = RowLeads p (pickOf out)} (Reachable Start (RowLeads p (picksFrom (pickOf picks) (n + 1)))) (λ j e. (e, start e))
       (λ j l q a. (
         record { row = a .row; inside = a .inside; left = a .left; picked = rows-agree (a .row) j (a .inside) q (a .left) ∙ a .picked },
         onward q a,
       )) r .0
 
   -- Elsewhere they are 0.
-  pub rows-idle : IdleRows p (pickOf out)
+  pub rows-idle : IdleRows Start p (pickOf out)
   rows-idle i d = ⊎-elim (λ (h : m + 1 ≤ i). v .shown .rest i h) (λ (h : i < m + 1). inside h (v .shown .each i h)) (nat-le-or-lt (m + 1) i)
     where
       in-use : i < m + 1 → UsedBy left (v .marks) (n + 1) i → ⊥
-      in-use h u = d (u .at) (reaches-shown (reaches-full (v .reached .reachable (u .at) (u .marked))))
+      in-use h u = d (u .at) (reaches-shown (reaches-full (reached-from starts (v .reached) (u .at) (u .inside) (u .marked))))
           (subst Finite (held .left-is i (u .at) (omega arith) (omega (arith, u .inside))) (finite-offset _ (u .left-is)))
 
       inside : i < m + 1 → RowShown left (v .marks) (n + 1) i (getD picks i 0) (getD out i 0) → getD out i 0 ≡ 0

@@ -18,9 +18,12 @@ use Rattle.definitions.specs.Solved as Solved
 use Rattle.definitions.proofs.Offset.{trop-fin}
 use Rattle.duality.specs.System.{Blocks, systemAt}
 use Rattle.duality.specs.Within.{Enough}
+use Rattle.duality.proofs.Starts.{blocks-from}
 use Rattle.duality.proofs.Weak.{not-solved-and-blocked}
 use Rattle.duality.proofs.Attain.{attainable-solution, solution-attainable}
 use Rattle.duality.proofs.Numbers.{top-enough}
+use Rattle.reach.specs.Marks.{Begins, Anchored}
+use Rattle.reach.proofs.Marks.{anchored-marked}
 use Rattle.trials.specs.Tables.{pointOf, pickOf}
 use Rattle.trial_tables.specs.Frames.{wholeOf}
 use Rattle.least_span.specs.State.{PointAt}
@@ -36,6 +39,11 @@ enough p n e h = enough-of p n lead-limit e h
 pub first-inside : (p : Problem) (t : ℤ) → 0 < systemAt p t .variables
 unfolding systemAt
 first-inside p t = omega arith
+
+-- What blocks from marks of the anchor blocks from it.
+pub anchor-blocks : (p : Problem) (t : ℤ) (begin picks : List ℕ) → Anchored begin → Blocks (systemAt p t) (Begins begin (p .n + 1)) (pickOf picks)
+    → Blocks (systemAt p t) Anchor (pickOf picks)
+anchor-blocks p t begin picks a b = blocks-from (anchored-marked a (omega arith) .marked) b
 
 -- Where a strategy blocks, nothing is attainable.
 pub blocked-unattainable : (p : Problem) (t : ℤ) (τ : Strategy) → Blocks (systemAt p t) Anchor τ → Attainable p t → ⊥

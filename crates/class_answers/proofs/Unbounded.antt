@@ -24,10 +24,13 @@ use Rattle.duality.specs.Within.{lower}
 use Rattle.duality.specs.Induced.{Induced}
 use Rattle.duality.specs.Picks.{picksFrom}
 use Rattle.duality.proofs.Weak.{solution-saves}
+use Rattle.duality.proofs.Starts.{anchor-inside}
 use Rattle.duality.proofs.Picks.{picks-joined, picks-none-above, save-picks}
 use Rattle.duality.proofs.Numbers.{above-unbounded}
 use Rattle.duality.proofs.Classes.{unbounded-exactly}
 use Rattle.duality.proofs.Unused.{unbounded-unused}
+use Rattle.reach.specs.Marks.{StartMarked, Anchored}
+use Rattle.reach.proofs.Marks.{anchored-marked}
 use Rattle.trials.specs.Tables.{systemOf, pointOf, pickOf}
 use Rattle.trial_tables.specs.declared.frame.Frame.{Frame}
 use Rattle.trial_tables.specs.Frames.{wholeOf, top-offset, Trialled, Raised, Holds, Ready}
@@ -78,18 +81,21 @@ floor-whole : (b floor : ℕ) → FloorIs b floor → wholeOf floor ≡ lower (6
 floor-whole b floor e = omega (whole, subℕ-read floor signed-half)
 
 -- The trial at the floor is possible: bottomless.
-pub unbounded-settled : (f : Frame) (left right lowered : List ℕ) (s : Search) (rows out stamps : List ℕ) → Ready f left right
+pub unbounded-settled : (f : Frame) (left right lowered : List ℕ) (s : Search) (rows begin out stamps : List ℕ) → Ready f left right
     → Searched f left right s → s .reached ≤ s .floor → s .reached ≤ top-offset
     → Raised right (f .objective) (f .m) (s .reached) 32 lowered → InducedRows lowered (s .point) (f .n + 1) (f .m + 1) rows
-    → RowPicks left rows (f .n + 1) (f .m + 1) out
+    → Anchored begin → RowPicks left rows begin (f .n + 1) (f .m + 1) out
     → Settled f left right s (record { class = 2; span = 0; trials = 2; made = s .made; stamps = stamps; picks = out })
-unbounded-settled f left right lowered s rows out stamps y z low top r d v = record { answers = answers; made-up = omega arith; made-most = z .numbers .made-most }
+unbounded-settled f left right lowered s rows begin out stamps y z low top r d anchored v = record { answers = answers; made-up = omega arith; made-most = z .numbers .made-most }
   where
     n : ℕ
     n = f .n
 
     m : ℕ
     m = f .m
+
+    starts : StartMarked Anchor (n + 1) begin
+    starts = anchored-marked anchored (omega arith)
 
     at-floor : s .floor ≡ s .reached
     at-floor = omega (arith, z .numbers .low, z .numbers .apart)
@@ -108,16 +114,16 @@ unbounded-settled f left right lowered s rows out stamps y z low top r d v = rec
         let held = holds-left q in
         let c = induced-saves p f left right lowered s rows q y trialled x r d in
         let k = save-picks p (lower (64 * b)) (picks-joined (pickOf rows) (suc (p .n)) (suc (p .m))) (subst (λ (u : ℤ). Saves (systemAt p u) Anchor (pickOf rows)) e c) in
-        let h = above-unbounded p b (64 * b) (picksFrom (pickOf rows) (suc (p .n))) w (enough-of p n b (q .n-is) (y .n-most))
+        let h = above-unbounded p b (64 * b) (picksFrom (pickOf rows) (suc (p .n))) (anchor-inside p) w (enough-of p n b (q .n-is) (y .n-most))
         (picks-none-above (pickOf rows) (suc (p .n)) (suc (p .m))) (k .0) (k .1) in
-        let g : AcceptedUnbounded p (picksFrom (pickOf rows) (n + 1)) =
-        subst (λ (i : ℕ). AcceptedUnbounded p (picksFrom (pickOf rows) i)) (sym (same-count (p .n) n (q .n-is))) h in
-        let a = unbounded-unused (rows-agree p n m left rows out held (y .n-most) v) g in
+        let g : AcceptedUnbounded Anchor p (picksFrom (pickOf rows) (n + 1)) =
+        subst (λ (i : ℕ). AcceptedUnbounded Anchor p (picksFrom (pickOf rows) i)) (sym (same-count (p .n) n (q .n-is))) h in
+        let a = unbounded-unused (rows-agree p n m left rows begin out held (y .n-most) starts v) g in
         let u : Unbounded p = unbounded-exactly p b (64 * b) w (enough-of p n b (q .n-is) (y .n-most)) .1
         (subst (Attainable p) e (point-attainable p (s .reached) (s .point) x)) in
         let cut = cut-64 m out (y .m-most) (v .shown) in
         let form = unbounded-form n m stamps out (y .m-most) (v .shown .size-is)
-        (fits-64 (suc n) m out (y .m-most) (v .shown) (λ j. omega (arith, rows-most p n m left rows out held (y .n-most) v j))) in
+        (fits-64 (suc n) m out (y .m-most) (v .shown) (λ j. omega (arith, rows-most p n m left rows begin out held (y .n-most) starts v j))) in
         record {
           found = rw trop-zero (Solved.unbounded u);
           class-is = refl;
@@ -125,6 +131,6 @@ unbounded-settled f left right lowered s rows out stamps y z low top r d v = rec
           counts = rw (q .n-is, q .m-is) (form .0);
           form = rw (q .n-is, q .m-is) (form .1);
           idle-variables = λ e. absurd (e refl);
-          idle-rows = λ _. subst (λ (s : Strategy). IdleRows p s) (sym cut) (rows-idle p n m left rows out held (y .n-most) v);
-          accepted = Verdict.unbounded refl (subst (AcceptedUnbounded p) (sym cut) a);
+          idle-rows = λ _. subst (λ (s : Strategy). IdleRows Anchor p s) (sym cut) (rows-idle p n m left rows begin out held (y .n-most) starts v);
+          accepted = Verdict.unbounded refl (subst (AcceptedUnbounded Anchor p) (sym cut) a);
         }

@@ -1,5 +1,5 @@
--- The picks of a strategy of variables, as an answer shows them: they agree with the strategy wherever it reaches, and
--- are 0 elsewhere.
+-- The picks of a strategy of variables, as an answer shows them: they agree with the strategy wherever it reaches from
+-- the start, and are 0 elsewhere.
 use Prim.Native.Nat.{ℕ, suc, _+_, _*_, _-_, _/_, _%_, _≤_, _<_}
 use mathlib.Core.Path.{_≡_, sym, ap₂, subst, _∙_}
 use mathlib.Core.Logic.{_⊎_, ⊎-elim}
@@ -13,7 +13,7 @@ use borrow.Author.Tests.{lt-ltb, le-ltb}
 use Rattle.base.proofs.Numbers.{nat-le-or-lt, positive}
 use Rattle.definitions.specs.Tropical.{Finite}
 use Rattle.definitions.specs.Problem.{Problem}
-use Rattle.definitions.specs.Certificate.{Strategy, Reachable, Anchor, start, onward, Leads}
+use Rattle.definitions.specs.Certificate.{Strategy, Reachable, start, onward, Leads}
 use Rattle.definitions.specs.Offset.{tropOf}
 use Rattle.definitions.specs.Solved.{IdleVariables}
 use Rattle.definitions.proofs.Tropical.{not-finite-bot}
@@ -22,7 +22,8 @@ use Rattle.duality.specs.Picks.{picksFrom, AgreeReached}
 use Rattle.duality.proofs.Reach.{reach-keep, reach-map}
 use Rattle.trials.specs.Tables.{entryOf, pickOf}
 use Rattle.trial_tables.specs.Frames.{Held}
-use Rattle.reach.specs.Marks.{Led}
+use Rattle.reach.specs.Marks.{Led, StartMarked}
+use Rattle.reach.proofs.Marks.{reached-from, from-reached}
 use Rattle.pick_tables.specs.Shown.{shownPick, arcBy, VariablePicks}
 use Rattle.pick_tables.proofs.Shown.{shown-unmarked, shown-picked, shown-none, arc-picked, arc-none}
 
@@ -68,8 +69,8 @@ shown-most many mark pick = ⊎-elim
     (nat-le-or-lt many pick))
     (eq-zero-or-pos mark)
 
-module _ (p : Problem) (n m : ℕ) (left right picks out : List ℕ) (held : Held p n m left right) (small : n ≤ 31)
-    (v : VariablePicks right picks (n + 1) (m + 1) out) where
+module _ {Start : ℕ → Type 0} (p : Problem) (n m : ℕ) (left right picks begin out : List ℕ) (held : Held p n m left right) (small : n ≤ 31)
+    (starts : StartMarked Start (n + 1) begin) (v : VariablePicks right picks begin (n + 1) (m + 1) out) where
   arcs-at : (j l : ℕ) → j < n + 1 → l < 32 → getD (v .arcs) (j * 32 + l) 0 ≡ arcBy right (m + 1) (getD picks j 0) l
   arcs-at j l h k =
       let e : (j * 32 + l) / 32 ≡ j = omega arith in
@@ -106,30 +107,30 @@ module _ (p : Problem) (n m : ℕ) (left right picks out : List ℕ) (held : Hel
         i,
       )
 
-  reaches-full : {j : ℕ} → Reachable Anchor (Led (v .arcs) (n + 1)) j → Reachable Anchor (Leads p (picksFrom (pickOf picks) (m + 1))) j
+  reaches-full : {j : ℕ} → Reachable Start (Led (v .arcs) (n + 1)) j → Reachable Start (Leads p (picksFrom (pickOf picks) (m + 1))) j
   reaches-full r = reach-map (λ j e. e) arc-leads r
 
-  reaches-arcs : {j : ℕ} → Reachable Anchor (Leads p (picksFrom (pickOf picks) (m + 1))) j → Reachable Anchor (Led (v .arcs) (n + 1)) j × (j ≤ n)
-  reaches-arcs r = reach-keep (λ j. j ≤ n) (λ j e. (e, omega arith)) leads-arc r
+  reaches-arcs : {j : ℕ} → Reachable Start (Leads p (picksFrom (pickOf picks) (m + 1))) j → Reachable Start (Led (v .arcs) (n + 1)) j × (j ≤ n)
+  reaches-arcs r = reach-keep (λ j. j ≤ n) (λ j h. (h, omega (arith, starts .marked j h .inside))) leads-arc r
 
   -- They agree wherever the strategy reaches.
-  pub variables-agree : AgreeReached p (picksFrom (pickOf picks) (m + 1)) (pickOf out)
+  pub variables-agree : AgreeReached Start p (picksFrom (pickOf picks) (m + 1)) (pickOf out)
   variables-agree j r =
       let q = reaches-arcs r in
-      v .shown .each j (omega (arith, q .1)) ∙ shown-full picks (m + 1) (getD (v .marks) j 0) j (v .reached .marked j (q .0) .1)
+      v .shown .each j (omega (arith, q .1)) ∙ shown-full picks (m + 1) (getD (v .marks) j 0) j (λ z. omega (arith, from-reached starts (v .reached) j (q .0) .1, z))
 
-  reaches-shown : {j : ℕ} → Reachable Anchor (Leads p (picksFrom (pickOf picks) (m + 1))) j → Reachable Anchor (Leads p (pickOf out)) j
-  reaches-shown r = reach-keep {L′ = Leads p (pickOf out)} (Reachable Anchor (Leads p (picksFrom (pickOf picks) (m + 1)))) (λ j e. (e, start e))
+  reaches-shown : {j : ℕ} → Reachable Start (Leads p (picksFrom (pickOf picks) (m + 1))) j → Reachable Start (Leads p (pickOf out)) j
+  reaches-shown r = reach-keep {L′ = Leads p (pickOf out)} (Reachable Start (Leads p (picksFrom (pickOf picks) (m + 1)))) (λ j e. (e, start e))
       (λ j l q a. (record { row = a .row; picked = variables-agree j q ∙ a .picked; inside = a .inside; right = a .right }, onward q a)) r .0
 
   -- Elsewhere they are 0.
-  pub variables-idle : IdleVariables p (pickOf out)
+  pub variables-idle : IdleVariables Start p (pickOf out)
   variables-idle j d = ⊎-elim (λ (h : n + 1 ≤ j). v .shown .rest j h) inside (nat-le-or-lt (n + 1) j)
     where
       inside : j < n + 1 → getD out j 0 ≡ 0
       inside h = ⊎-elim
           (λ (z : getD (v .marks) j 0 ≡ 0). v .shown .each j h ∙ sym (shown-unmarked (m + 1) (getD (v .marks) j 0) (getD picks j 0) z))
-          (λ (p : 0 < getD (v .marks) j 0). absurd (d (reaches-shown (reaches-full (v .reached .reachable j (h, λ e. omega arith))))))
+          (λ (p : 0 < getD (v .marks) j 0). absurd (d (reaches-shown (reaches-full (reached-from starts (v .reached) j h p)))))
           (eq-zero-or-pos (getD (v .marks) j 0))
 
   -- None is above m + 1.

@@ -18,6 +18,7 @@ use least_span::state::try_at;
 use pick_tables::tables::induced;
 use pick_tables::tables::row_picks;
 use pick_tables::tables::variable_picks;
+use reach::anchor;
 use records::limits::INFEASIBLE;
 use records::limits::OFFSET;
 use records::limits::OPTIMAL;
@@ -68,7 +69,8 @@ fn infeasible(left: &[u32; TABLE], right: &mut [u32; TABLE], frame: Frame, searc
     let objective = frame.objective;
     raise(right, &objective, frame.m, OFFSET);
     let blocking = search.blocking;
-    let shown = variable_picks(right, &blocking, frame.n + 1, rows);
+    let start = search.start;
+    let shown = variable_picks(right, &blocking, start, frame.n + 1, rows);
     Answer {
         class: INFEASIBLE,
         span: 0,
@@ -89,7 +91,7 @@ fn unbounded(left: &[u32; TABLE], right: &mut [u32; TABLE], frame: Frame, search
     raise(right, &objective, frame.m, search.reached);
     let point = search.point;
     let targets = induced(right, &point, frame.n + 1, rows);
-    let shown = row_picks(left, &targets, frame.n + 1, rows);
+    let shown = row_picks(left, &targets, anchor(), frame.n + 1, rows);
     Answer {
         class: UNBOUNDED,
         span: 0,
@@ -112,7 +114,8 @@ fn optimal(left: &[u32; TABLE], right: &mut [u32; TABLE], frame: Frame, search: 
     raise(right, &objective, frame.m, OFFSET);
     let point = least.point;
     let blocking = least.blocking;
-    let shown = variable_picks(right, &blocking, width, rows);
+    let start = least.start;
+    let shown = variable_picks(right, &blocking, start, width, rows);
     let plan = stamps(&point, width);
     Answer {
         class: OPTIMAL,
@@ -130,7 +133,7 @@ fn solve_framed(left: &[u32; TABLE], right: &mut [u32; TABLE], frame: Frame) -> 
     requires { ⌜ Ready frame (now left) (now right) ⌝ }
     ensures { λ r. ⌜ AnswerOf frame (now (left .entry)) (now (right .entry)) r × Reraised frame (now (left .entry)) (now (right .entry)) (now (right .exit)) ⌝ }
 {
-    let top = try_at(left, right, frame, opened(frame.m + 1), TOP);
+    let top = try_at(left, right, frame, opened(frame.m + 1, anchor()), TOP);
     if top.blocked == TOP {
         return infeasible(left, right, frame, top);
     }

@@ -1,5 +1,5 @@
--- Facts that pin what a cycle is and what it uses: it has an arc, it goes round once, and in class 2 none may use the objective,
--- whatever it weighs.
+-- Facts that pin what a cycle is, what it uses and where it is reached from: it has an arc, it goes round once, in class 2 none may use
+-- the objective, whatever it weighs, and from a start without variables there is none.
 use Prim.Native.Nat.{ℕ, _≤_}
 use mathlib.Core.Path.{_≡_, refl, sym, _∙_}
 use mathlib.Core.Logic.{inl}
@@ -7,7 +7,7 @@ use native.Mathlib.Omega.{arith}
 use lib.IntN.{ℤ, pos, +ℤ-idr}
 use Rattle.definitions.specs.Tropical.{fin}
 use Rattle.definitions.specs.Problem.{Problem}
-use Rattle.definitions.specs.Certificate.{start, Walk, stop, step, Uses, Distinct, Cycle, raise, AcceptedUnbounded}
+use Rattle.definitions.specs.Certificate.{Strategy, Reachable, start, onward, Anchor, Walk, stop, step, Uses, Distinct, Cycle, raise, AcceptedInfeasible, AcceptedUnbounded}
 
 -- ---- at least one arc
 
@@ -45,7 +45,7 @@ unfoldable pub level : Problem
 level = record { n = 0; m = 0; left = λ i j. fin (pos 0); right = λ i j. fin (pos 0) }
 
 -- Class 2 does not accept the one row's only pick: the cycle weighs 0, and it uses the objective.
-pub not-unbounded-level : AcceptedUnbounded level (λ i. 1) → ⊥
+pub not-unbounded-level : AcceptedUnbounded Anchor level (λ i. 1) → ⊥
 unfolding level raise Uses Distinct
 not-unbounded-level c = c .no-objective (pos 0) (record {
   at = 0;
@@ -54,3 +54,25 @@ not-unbounded-level c = c .no-objective (pos 0) (record {
   walk = step {l = 0} {w = pos 0} {v = pos 0} (record { row = 0; inside = omega arith; picked = refl; by = record { a = pos 0; b = pos 0; left-is = refl; right-is = refl; weighs = refl } }) stop;
   distinct = (λ f. f, tt);
 }) (inl refl)
+
+-- ---- the start
+
+-- A start without variables reaches nothing,
+pub nothing-reached : {L : ℕ → ℕ → Type 0} {j : ℕ} → Reachable (λ _. ⊥) L j → ⊥
+nothing-reached (start e) = e
+nothing-reached (onward r a) = nothing-reached r
+
+-- so that from there class 3 accepts every table, and class 2 does.
+pub infeasible-from-none : (p : Problem) (picks : Strategy) → AcceptedInfeasible (λ _. ⊥) p picks
+infeasible-from-none p picks = record {
+  picks-count = λ j r. absurd (nothing-reached r);
+  no-objective = λ w c u. nothing-reached (c .reachable);
+  below-zero = λ w c. absurd (nothing-reached (c .reachable));
+}
+
+pub unbounded-from-none : (p : Problem) (picks : Strategy) → AcceptedUnbounded (λ _. ⊥) p picks
+unbounded-from-none p picks = record {
+  picks-count = λ i j h r l. absurd (nothing-reached r);
+  no-objective = λ w c u. nothing-reached (c .reachable);
+  zero-or-more = λ w c. absurd (nothing-reached (c .reachable));
+}

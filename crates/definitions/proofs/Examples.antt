@@ -172,12 +172,12 @@ pub not-accepted-M : Accepted (problemOf (example-M .problem)) (answerOf (exampl
 unfolding example-M answerOf tropAt tropField numAt numsAt signed
 not-accepted-M (optimal {s = s} c e h) =
     let s-is : pos 31 ≡ s = fin-injective e in
-    let b : BelowZero (problemOf (example-M .problem)) (strategyOf (1 ∷ 2 ∷ [])) (pos 30) = subst (λ (z : ℤ). BelowZero (problemOf (example-M .problem)) (strategyOf (1 ∷ 2 ∷ [])) (z -ℤ pos 1)) (sym s-is) (h .below-zero) in
+    let b : BelowZero Anchor (problemOf (example-M .problem)) (strategyOf (1 ∷ 2 ∷ [])) (pos 30) = subst (λ (z : ℤ). BelowZero Anchor (problemOf (example-M .problem)) (strategyOf (1 ∷ 2 ∷ [])) (z -ℤ pos 1)) (sym s-is) (h .below-zero) in
     <ℤ-irrefl (b (pos 0) (cycle-M (pos 30)))
 not-accepted-M (unbounded c h) = absurd (omega (arith, c))
 not-accepted-M (infeasible c h) = absurd (omega (arith, c))
 
 -- Nor does class 3 accept its picks: the cycle uses the question, on its way back.
-pub not-infeasible-M : AcceptedInfeasible (problemOf (example-M .problem)) (strategyOf (1 ∷ 2 ∷ [])) → ⊥
+pub not-infeasible-M : AcceptedInfeasible Anchor (problemOf (example-M .problem)) (strategyOf (1 ∷ 2 ∷ [])) → ⊥
 unfolding problemOf example-M numAt Uses cycle-M
 not-infeasible-M c = c .no-objective (negsuc 29) (cycle-M (pos 0)) (inr (inl refl))

@@ -10,6 +10,7 @@ use borrow.Author.Tests.{eq-eqb, ne-eqb}
 use lib.ListN.{length, getD, take, drop, length-append, length-drop, List·getD-append}
 use lib.Seq.{getD-append-add, getD-take, getD-drop, length-take-le}
 use Rattle.definitions.specs.Limits.{highest-n, highest-m, lead-limit, length-bytes, short-bytes, signed-bytes, signed-full, problem-kind, questions-kind, most-questions, problem-header, questions-header}
+use Rattle.definitions.specs.Tropical.{Trop}
 use Rattle.definitions.specs.Bytes.{Bytes, numAt, tropField, tropAt, all, blank-or-within}
 use Rattle.definitions.specs.ProblemRecord.{nField, mField, lengthField, kindField, countField, problemSize, leadsOf, leadsPlace, questionsAsked, headerRefusal, WithinLayout, WithinLayouts, rowPlace, headerBytes}
 use Rattle.definitions.specs.Questions.{part, rowsSize, alone, asking, askedRow}
@@ -182,55 +183,55 @@ several-passes several {s} k e =
     }
 
 -- Each lead of such a record stands among its rules, or in a question.
-leads-of : (s : List ℕ) → Several s → (all (blank-or-within lead-limit) (leadsOf s) ≡ true)
-    ↔ ((k : ℕ) → k < 2 * ((mField s + countField s) * suc (nField s)) → blank-or-within lead-limit (tropAt s (questions-header + signed-bytes * k)) ≡ true)
+leads-of : (fits : Trop → Bool) (s : List ℕ) → Several s → (all fits (leadsOf s) ≡ true)
+    ↔ ((k : ℕ) → k < 2 * ((mField s + countField s) * suc (nField s)) → fits (tropAt s (questions-header + signed-bytes * k)) ≡ true)
 unfolding leadsOf tropAt
-leads-of s v =
+leads-of fits s v =
     let place : leadsPlace (kindField s) ≡ questions-header = rw (v .kind-is) refl in
     let count : 2 * (suc (nField s) * (mField s + questionsAsked (kindField s) (countField s))) ≡ 2 * ((mField s + countField s) * suc (nField s)) = rw (v .kind-is) (omega arith) in
-    rw (place, count) (all-numsAt (blank-or-within lead-limit) tropField signed-bytes (2 * ((mField s + countField s) * suc (nField s))) s questions-header)
+    rw (place, count) (all-numsAt fits tropField signed-bytes (2 * ((mField s + countField s) * suc (nField s))) s questions-header)
 
 -- Those of one question's record likewise.
-alone-leads : (s : List ℕ) (v : Several s) (q : ℕ) → q < countField s → (all (blank-or-within lead-limit) (leadsOf (alone s q)) ≡ true)
-    ↔ ((k : ℕ) → k < 2 * (suc (mField s) * suc (nField s)) → blank-or-within lead-limit (tropAt (alone s q) (problem-header + signed-bytes * k)) ≡ true)
+alone-leads : (fits : Trop → Bool) (s : List ℕ) (v : Several s) (q : ℕ) → q < countField s → (all fits (leadsOf (alone s q)) ≡ true)
+    ↔ ((k : ℕ) → k < 2 * (suc (mField s) * suc (nField s)) → fits (tropAt (alone s q) (problem-header + signed-bytes * k)) ≡ true)
 unfolding tropAt
-alone-leads s v q h =
+alone-leads fits s v q h =
     let count : 2 * (suc (nField (alone s q)) * suc (mField (alone s q))) ≡ 2 * (suc (mField s) * suc (nField s)) = rw (alone-n s (v .asks) q h, alone-m s (v .asks) q h) (omega arith) in
     rw (leads-one (alone s q) (alone-kind s (v .asks) q h), count)
-    (all-numsAt (blank-or-within lead-limit) tropField signed-bytes (2 * (suc (mField s) * suc (nField s))) (alone s q) problem-header)
+    (all-numsAt fits tropField signed-bytes (2 * (suc (mField s) * suc (nField s))) (alone s q) problem-header)
 
--- Every lead is blank or within the limit.
-abbrev pub LeadsFit : List ℕ → Type 0
-LeadsFit t = all (blank-or-within lead-limit) (leadsOf t) ≡ true
+-- Every lead is one that fits.
+abbrev pub LeadsFit : (Trop → Bool) → List ℕ → Type 0
+LeadsFit fits t = all fits (leadsOf t) ≡ true
 
-module _ (s : List ℕ) (v : Several s) where
+module _ (fits : Trop → Bool) (s : List ℕ) (v : Several s) where
   -- The leads of a question's record are leads of the record.
-  pub leads-alone : LeadsFit s → (q : ℕ) → q < countField s → LeadsFit (alone s q)
-  leads-alone w q h = alone-leads s v q h .1 (λ k l. ⊎-elim (asked k l) (rule k) (nat-le-or-lt (2 * (mField s * suc (nField s))) k))
+  pub leads-alone : LeadsFit fits s → (q : ℕ) → q < countField s → LeadsFit fits (alone s q)
+  leads-alone w q h = alone-leads fits s v q h .1 (λ k l. ⊎-elim (asked k l) (rule k) (nat-le-or-lt (2 * (mField s * suc (nField s))) k))
     where
-      rule : (k : ℕ) → k < 2 * (mField s * suc (nField s)) → blank-or-within lead-limit (tropAt (alone s q) (problem-header + signed-bytes * k)) ≡ true
-      rule k l = rw (rule-lead s (v .asks) q h k l) (leads-of s v .0 w k (omega (arith, mul-le-mul-right {m = mField s} {n = mField s + countField s} (suc (nField s)) (omega arith))))
+      rule : (k : ℕ) → k < 2 * (mField s * suc (nField s)) → fits (tropAt (alone s q) (problem-header + signed-bytes * k)) ≡ true
+      rule k l = rw (rule-lead s (v .asks) q h k l) (leads-of fits s v .0 w k (omega (arith, mul-le-mul-right {m = mField s} {n = mField s + countField s} (suc (nField s)) (omega arith))))
 
-      asked : (k : ℕ) → k < 2 * (suc (mField s) * suc (nField s)) → 2 * (mField s * suc (nField s)) ≤ k → blank-or-within lead-limit (tropAt (alone s q) (problem-header + signed-bytes * k)) ≡ true
+      asked : (k : ℕ) → k < 2 * (suc (mField s) * suc (nField s)) → 2 * (mField s * suc (nField s)) ≤ k → fits (tropAt (alone s q) (problem-header + signed-bytes * k)) ≡ true
       asked k l g =
           let r : ℕ = k - 2 * (mField s * suc (nField s)) in
           let e : k ≡ 2 * (mField s * suc (nField s)) + (k - 2 * (mField s * suc (nField s))) = omega arith in
           rw e (rw (question-lead s (v .asks) q h r (omega arith))
-          (leads-of s v .0 w (2 * ((mField s + q) * suc (nField s)) + r) (omega (arith, mul-le-mul-right {m = suc (mField s + q)} {n = mField s + countField s} (suc (nField s)) (omega arith)))))
+          (leads-of fits s v .0 w (2 * ((mField s + q) * suc (nField s)) + r) (omega (arith, mul-le-mul-right {m = suc (mField s + q)} {n = mField s + countField s} (suc (nField s)) (omega arith)))))
 
   -- And every lead of the record is one of some question's record.
-  pub leads-each : ((q : ℕ) → q < countField s → LeadsFit (alone s q)) → LeadsFit s
-  leads-each w = leads-of s v .1 (λ k l. ⊎-elim (asked k l) (rule k) (nat-le-or-lt (2 * (mField s * suc (nField s))) k))
+  pub leads-each : ((q : ℕ) → q < countField s → LeadsFit fits (alone s q)) → LeadsFit fits s
+  leads-each w = leads-of fits s v .1 (λ k l. ⊎-elim (asked k l) (rule k) (nat-le-or-lt (2 * (mField s * suc (nField s))) k))
     where
-      rule : (k : ℕ) → k < 2 * (mField s * suc (nField s)) → blank-or-within lead-limit (tropAt s (questions-header + signed-bytes * k)) ≡ true
-      rule k l = rw (rule-lead s (v .asks) 0 (v .some) k l) at (alone-leads s v 0 (v .some) .0 (w 0 (v .some)) k (omega arith))
+      rule : (k : ℕ) → k < 2 * (mField s * suc (nField s)) → fits (tropAt s (questions-header + signed-bytes * k)) ≡ true
+      rule k l = rw (rule-lead s (v .asks) 0 (v .some) k l) at (alone-leads fits s v 0 (v .some) .0 (w 0 (v .some)) k (omega arith))
 
-      asked : (k : ℕ) → k < 2 * ((mField s + countField s) * suc (nField s)) → 2 * (mField s * suc (nField s)) ≤ k → blank-or-within lead-limit (tropAt s (questions-header + signed-bytes * k)) ≡ true
+      asked : (k : ℕ) → k < 2 * ((mField s + countField s) * suc (nField s)) → 2 * (mField s * suc (nField s)) ≤ k → fits (tropAt s (questions-header + signed-bytes * k)) ≡ true
       asked k l g =
           let c = divided (2 * suc (nField s)) (k - 2 * (mField s * suc (nField s))) (countField s) (omega arith) in
           let e : k ≡ 2 * ((mField s + c .turns) * suc (nField s)) + c .rest = omega (arith, c .is) in
           rw e (rw (question-lead s (v .asks) (c .turns) (c .few) (c .rest) (c .small))
-          at (alone-leads s v (c .turns) (c .few) .0 (w (c .turns) (c .few)) (2 * (mField s * suc (nField s)) + c .rest) (omega (arith, c .small))))
+          at (alone-leads fits s v (c .turns) (c .few) .0 (w (c .turns) (c .few)) (2 * (mField s * suc (nField s)) + c .rest) (omega (arith, c .small))))
 
 -- A question's record is within the layout if the record is.
 pub alone-within : (s : List ℕ) → kindField s ≡ questions-kind → WithinLayouts s → (q : ℕ) → q < countField s → WithinLayout (alone s q)
@@ -247,7 +248,7 @@ alone-within s k w q h =
       n-most = rw n-is (r .header .n-most);
       m-most = rw m-is (r .header .m-most);
       size-is = rw (n-is, m-is) size;
-      leads-fit = leads-alone s v (r .leads-fit) q h;
+      leads-fit = leads-alone (blank-or-within lead-limit) s v (r .leads-fit) q h;
     })
 
 -- A problem of one question is its own record.

@@ -1,4 +1,5 @@
 -- What the checker judges: a strategy (pick table) and the cycles that it leaves. Document 01, "The checker".
+-- Each class's conditions are stated from any start, a set of variables; document 01's is the anchor alone.
 -- A pick is 0 for none; else it is 1 + the number of a row (classes 1 and 3) or of a variable (class 2). Variables are document
 -- 01's moments, coefficients its leads, inequalities its rules; the objective, row m, is its question.
 use Prim.Native.Nat.{ℕ, zero, suc, _+_, _≤_}
@@ -20,7 +21,7 @@ pub data Reachable (Start : ℕ → Type 0) (Leads : ℕ → ℕ → Type 0) : �
   start : {j : ℕ} → Start j → Reachable Start Leads j
   onward : {j l : ℕ} → Reachable Start Leads j → Leads j l → Reachable Start Leads l
 
--- The start is variable 0, the anchor.
+-- Document 01's start: variable 0, the anchor.
 abbrev pub Anchor : ℕ → Type 0
 Anchor j = j ≡ 0
 
@@ -90,26 +91,30 @@ pub record HasPick (p : Problem) (picks : Strategy) (j : ℕ) : Type 0 where
   pub left : Finite (p .left row j)
 
 -- Every reached variable has such a pick.
-abbrev pub PicksCount : Problem → Strategy → Type 0
-PicksCount p picks = (j : ℕ) → Reachable Anchor (Leads p picks) j → HasPick p picks j
+abbrev pub PicksCount : (ℕ → Type 0) → Problem → Strategy → Type 0
+PicksCount Start p picks = (j : ℕ) → Reachable Start (Leads p picks) j → HasPick p picks j
 
 -- Every reached cycle weighs below zero when each arc by the objective weighs t more.
-abbrev pub BelowZero : Problem → Strategy → ℤ → Type 0
-BelowZero p picks t = (w : ℤ) → Cycle Anchor (Leads p picks) (Arc p picks t) w → w <ℤ pos 0
+abbrev pub BelowZero : (ℕ → Type 0) → Problem → Strategy → ℤ → Type 0
+BelowZero Start p picks t = (w : ℤ) → Cycle Start (Leads p picks) (Arc p picks t) w → w <ℤ pos 0
+
+-- No reached cycle uses the objective.
+abbrev pub ObjectiveUnused : (ℕ → Type 0) → Problem → Strategy → Type 0
+ObjectiveUnused Start p picks = NoCycleUses Start (Leads p picks) (Arc p picks (pos 0)) (λ j l w arc. arc .row ≡ p .m)
 
 -- Class 1, accepted: the point is feasible, its value is the span field s, every reached variable has a pick whose left
 -- coefficient for it is not blank, and every reached cycle weighs below zero when each arc by the objective weighs s − 1 more.
-pub record AcceptedOptimal (p : Problem) (s : ℤ) (x : Point) (picks : Strategy) : Type 0 where
+pub record AcceptedOptimal (Start : ℕ → Type 0) (p : Problem) (s : ℤ) (x : Point) (picks : Strategy) : Type 0 where
   pub feasible : Feasible p x
   pub value-is : value p x ≡ whole s
-  pub picks-count : PicksCount p picks
-  pub below-zero : BelowZero p picks (s -ℤ pos 1)
+  pub picks-count : PicksCount Start p picks
+  pub below-zero : BelowZero Start p picks (s -ℤ pos 1)
 
 -- Class 3, accepted: picks as in class 1; no reached cycle uses the objective; every reached cycle weighs below zero.
-pub record AcceptedInfeasible (p : Problem) (picks : Strategy) : Type 0 where
-  pub picks-count : PicksCount p picks
-  pub no-objective : NoCycleUses Anchor (Leads p picks) (Arc p picks (pos 0)) (λ j l w arc. arc .row ≡ p .m)
-  pub below-zero : BelowZero p picks (pos 0)
+pub record AcceptedInfeasible (Start : ℕ → Type 0) (p : Problem) (picks : Strategy) : Type 0 where
+  pub picks-count : PicksCount Start p picks
+  pub no-objective : ObjectiveUnused Start p picks
+  pub below-zero : BelowZero Start p picks (pos 0)
 
 -- ---- class 2: a strategy of rows
 
@@ -134,13 +139,21 @@ pub record RowHasPick (p : Problem) (picks : Strategy) (i : ℕ) : Type 0 where
   pub right : Finite (p .right i variable)
 
 -- Every row with a non-blank left coefficient of a reached variable has such a pick.
-abbrev pub RowPicksCount : Problem → Strategy → Type 0
-RowPicksCount p picks =
-    (i j : ℕ) → i ≤ p .m → Reachable Anchor (RowLeads p picks) j → Finite (p .left i j) → RowHasPick p picks i
+abbrev pub RowPicksCount : (ℕ → Type 0) → Problem → Strategy → Type 0
+RowPicksCount Start p picks =
+    (i j : ℕ) → i ≤ p .m → Reachable Start (RowLeads p picks) j → Finite (p .left i j) → RowHasPick p picks i
+
+-- Every reached cycle weighs zero or more when each arc by the objective weighs t more.
+abbrev pub AtLeastZero : (ℕ → Type 0) → Problem → Strategy → ℤ → Type 0
+AtLeastZero Start p picks t = (w : ℤ) → Cycle Start (RowLeads p picks) (RowArc p picks t) w → pos 0 ≤ℤ w
+
+-- No reached cycle uses the objective.
+abbrev pub ObjectiveUnusedByRows : (ℕ → Type 0) → Problem → Strategy → Type 0
+ObjectiveUnusedByRows Start p picks = NoCycleUses Start (RowLeads p picks) (RowArc p picks (pos 0)) (λ j l w arc. arc .row ≡ p .m)
 
 -- Class 2, accepted: every row with a non-blank left coefficient of a reached variable picks a variable with a non-blank
 -- right coefficient; no reached cycle uses the objective; every reached cycle weighs zero or more.
-pub record AcceptedUnbounded (p : Problem) (picks : Strategy) : Type 0 where
-  pub picks-count : RowPicksCount p picks
-  pub no-objective : NoCycleUses Anchor (RowLeads p picks) (RowArc p picks (pos 0)) (λ j l w arc. arc .row ≡ p .m)
-  pub zero-or-more : (w : ℤ) → Cycle Anchor (RowLeads p picks) (RowArc p picks (pos 0)) w → pos 0 ≤ℤ w
+pub record AcceptedUnbounded (Start : ℕ → Type 0) (p : Problem) (picks : Strategy) : Type 0 where
+  pub picks-count : RowPicksCount Start p picks
+  pub no-objective : ObjectiveUnusedByRows Start p picks
+  pub zero-or-more : AtLeastZero Start p picks (pos 0)

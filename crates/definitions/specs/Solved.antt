@@ -34,13 +34,13 @@ pub data Found (p : Problem) : ℕ → Trop → ℕ → Type 0 where
   infeasible : Infeasible p → Found p class-infeasible bot trials-infeasible
 
 -- Picks that play no part are 0. Classes 1 and 3: those of variables that are not reachable.
-abbrev pub IdleVariables : Problem → Strategy → Type 0
-IdleVariables p picks = (j : ℕ) → (Reachable Anchor (Leads p picks) j → ⊥) → picks j ≡ 0
+abbrev pub IdleVariables : (ℕ → Type 0) → Problem → Strategy → Type 0
+IdleVariables Start p picks = (j : ℕ) → (Reachable Start (Leads p picks) j → ⊥) → picks j ≡ 0
 
 -- Class 2: those of rows with no non-blank left coefficient of a reachable variable.
-abbrev pub IdleRows : Problem → Strategy → Type 0
-IdleRows p picks =
-    (i : ℕ) → ((j : ℕ) → Reachable Anchor (RowLeads p picks) j → Finite (p .left i j) → ⊥) → picks i ≡ 0
+abbrev pub IdleRows : (ℕ → Type 0) → Problem → Strategy → Type 0
+IdleRows Start p picks =
+    (i : ℕ) → ((j : ℕ) → Reachable Start (RowLeads p picks) j → Finite (p .left i j) → ⊥) → picks i ≡ 0
 
 -- An answer that the engine may give, of this class, span and trials. Stamps and picks that play a part are free,
 -- provided that the answer is accepted.
@@ -50,8 +50,8 @@ pub record Answers (p : Problem) (class : ℕ) (span : Trop) (trials : ℕ) (a :
   pub span-is : a .span ≡ span
   pub counts : rightCounts a (p .n) (p .m) ≡ true
   pub form : formRefusal a (p .n) (p .m) ≡ 0
-  pub idle-variables : (class ≡ class-unbounded → ⊥) → IdleVariables p (strategyOf (a .picks))
-  pub idle-rows : class ≡ class-unbounded → IdleRows p (strategyOf (a .picks))
+  pub idle-variables : (class ≡ class-unbounded → ⊥) → IdleVariables Anchor p (strategyOf (a .picks))
+  pub idle-rows : class ≡ class-unbounded → IdleRows Anchor p (strategyOf (a .picks))
   pub accepted : Accepted p a
 
 -- The answers to the first questions of a record of several, one after another: their bytes, and the sum of their trials. Each is one

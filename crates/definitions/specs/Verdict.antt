@@ -8,7 +8,7 @@ use lib.IntN.{ℤ}
 use Rattle.definitions.specs.Limits.{class-optimal, class-unbounded, class-infeasible}
 use Rattle.definitions.specs.Tropical.{Trop, bot, fin}
 use Rattle.definitions.specs.Problem.{Problem, Point}
-use Rattle.definitions.specs.Certificate.{Strategy, AcceptedOptimal, AcceptedUnbounded, AcceptedInfeasible}
+use Rattle.definitions.specs.Certificate.{Strategy, Anchor, AcceptedOptimal, AcceptedUnbounded, AcceptedInfeasible}
 use Rattle.definitions.specs.Bytes.{or-else}
 use Rattle.definitions.specs.ProblemRecord.{problemRefusal, problemOf, nField, mField}
 use Rattle.definitions.specs.AnswerRecord.{Answer, answerRefusal, answerOf}
@@ -23,10 +23,10 @@ strategyOf picks j = getD picks j 0
 -- All that document 01 lists under 'Accepted' for the answer's class holds.
 pub data Accepted (p : Problem) (a : Answer) : Type 0 where
   optimal :
-      {s : ℤ} → a .class ≡ class-optimal → a .span ≡ fin s → AcceptedOptimal p s (pointOf (a .stamps)) (strategyOf (a .picks))
+      {s : ℤ} → a .class ≡ class-optimal → a .span ≡ fin s → AcceptedOptimal Anchor p s (pointOf (a .stamps)) (strategyOf (a .picks))
       → Accepted p a
-  unbounded : a .class ≡ class-unbounded → AcceptedUnbounded p (strategyOf (a .picks)) → Accepted p a
-  infeasible : a .class ≡ class-infeasible → AcceptedInfeasible p (strategyOf (a .picks)) → Accepted p a
+  unbounded : a .class ≡ class-unbounded → AcceptedUnbounded Anchor p (strategyOf (a .picks)) → Accepted p a
+  infeasible : a .class ≡ class-infeasible → AcceptedInfeasible Anchor p (strategyOf (a .picks)) → Accepted p a
 
 -- The first of refusals 1 to 6 for the problem, then 8 to 13 for the answer, that applies; 0 where none does.
 unfoldable pub checkRefusal : List ℕ → List ℕ → ℕ

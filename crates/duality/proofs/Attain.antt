@@ -10,24 +10,13 @@ use Rattle.definitions.specs.Tropical.{Trop, fin, plus, largest, _⊑_}
 use Rattle.definitions.specs.Problem as Problems
 use Rattle.definitions.specs.Problem.{Problem, Point, side, Keeps, Feasible, value, Attainable, _≼_, between}
 use Rattle.definitions.specs.Certificate.{Anchor, raise}
-use Rattle.definitions.proofs.Tropical.{plus-comm, plus-assoc, plus-zero, plus-is, plus-mono, ⊑-refl, largest-ext, largest-plus}
+use Rattle.definitions.proofs.Tropical.{plus-comm, plus-assoc, plus-zero, plus-is, largest-ext, largest-plus}
 use Rattle.definitions.proofs.Values.{≼-trans, minus-raised, raised-minus}
 use Rattle.definitions.proofs.Raise.{raised, unraised}
 use Rattle.duality.specs.System.{System, Solves, Solution, systemAt}
+use Rattle.duality.proofs.Solutions.{solves-moved}
 
--- ---- shifting
-
--- A point moved by d moves each side by d.
-side-moved : (c : ℕ → Trop) (x : Point) (d : Trop) (k : ℕ)
-    → largest (λ j. plus (c j) (plus (x j) d)) k ≡ plus (largest (λ j. plus (c j) (x j)) k) d
-side-moved c x d k =
-    largest-ext (λ j. plus (c j) (plus (x j) d)) (λ j. plus (plus (c j) (x j)) d) k (λ j _. sym (plus-assoc (c j) (x j) d))
-    ∙ largest-plus (λ j. plus (c j) (x j)) d k
-
--- A solution moved is a solution.
-pub solves-moved : (s : System) (x : Point) (d : Trop) → Solves s x → Solves s (λ j. plus (x j) d)
-solves-moved s x d h i r =
-    rw (side-moved (s .left i) x d (s .variables), side-moved (s .right i) x d (s .variables)) (plus-mono (h i r) (⊑-refl d))
+-- ---- raising
 
 -- Coefficients raised by d raise the side by d.
 side-raised : (c : ℕ → Trop) (x : Point) (d : Trop) (k : ℕ)

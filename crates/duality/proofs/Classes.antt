@@ -1,7 +1,8 @@
 -- The three classes, in the words of the definitions. Optimal s is attainable at s and not at s − 1; infeasible is
 -- attainable at no t, which the trial at T decides; unbounded is attainable at every t, which the trial at −T − 1
--- decides. Exactly one of the three holds, and each is shown by some picks that the checker's list accepts.
-use Prim.Native.Nat.{ℕ, zero, suc, _+_, _*_, _≤_, _<_}
+-- decides. Exactly one of the three holds, and each is shown by some picks that the checker's list accepts. What the lists of
+-- classes 2 and 3 show is proved from any start; the classes themselves are about the anchor.
+use Prim.Native.Nat.{ℕ, zero, suc, _+_, _*_, _≤_}
 use mathlib.Core.Path.{_≡_}
 use mathlib.Core.Logic.{_⊎_, inl, inr, ⊎-elim, _↔_, Iff·trans}
 use native.Mathlib.Omega.{arith}
@@ -10,66 +11,93 @@ use lib.IntN.{ℤ, pos, negsuc, natAbs, _-ℤ_}
 use lib.Signed.{_≤ℤ_, _<ℤ_}
 use Rattle.definitions.specs.Problem as Problems
 use Rattle.definitions.specs.Problem.{Problem, Point, Feasible, value, _≼_, Attainable, Optimal, Unbounded, Infeasible}
-use Rattle.definitions.specs.Certificate.{PicksCount, BelowZero, AcceptedOptimal, AcceptedInfeasible, RowPicksCount, AcceptedUnbounded}
+use Rattle.definitions.specs.Certificate.{Anchor, PicksCount, BelowZero, AcceptedOptimal, AcceptedInfeasible, RowPicksCount, AtLeastZero, AcceptedUnbounded}
 use Rattle.definitions.proofs.Whole.{whole, minus-read, abs-show, le-or-lt}
 use Rattle.definitions.proofs.Values.{≼-refl, ≼-trans, ≼-antisym, infinite-not-below, least-or-below, not-least-and-below, infinite-or-bounded, whole-below}
-use Rattle.duality.specs.System.{systemAt}
-use Rattle.duality.specs.Picks.{picksFrom, SomePicks, strategyOf, AtLeastZero}
+use Rattle.duality.specs.Starts.{StartBelow}
+use Rattle.duality.specs.System.{Solution, AllSolved, systemAt}
+use Rattle.duality.specs.Picks.{picksFrom, SomePicks, strategyOf}
 use Rattle.duality.specs.Within.{Within, Enough, upper, lower}
 use Rattle.duality.specs.Classes.{HasOptimal}
+use Rattle.duality.proofs.Starts.{anchor-below}
 use Rattle.duality.proofs.Strong.{bound}
 use Rattle.duality.proofs.Picks.{picks-joined, picks-none-above, block-picks, save-picks, blocks-exactly, saves-exactly}
 use Rattle.duality.proofs.Numbers.{infeasible-below, below-infeasible, unbounded-above, above-unbounded, within-some}
-use Rattle.duality.proofs.Rows.{saved-exactly, blocked-exactly, solution-decided}
+use Rattle.duality.proofs.Rows.{saved-exactly, blocked-exactly, solution-decided, only-solved}
 use Rattle.duality.proofs.Attain.{attainable-solution, solution-attainable, attainable-above}
 
--- ---- attainable, decided by picks
+-- ---- from a start, decided by picks
 
-some-variable : (p : Problem) (t : ℤ) → 0 < systemAt p t .variables
+-- A start inside the problem is one of its systems.
+starts-at : {Start : ℕ → Type 0} (p : Problem) (t : ℤ) → StartBelow (suc (p .n)) Start → StartBelow (systemAt p t .variables) Start
 unfolding systemAt
-some-variable p t = omega arith
+starts-at p t starts = starts
+
+pub starts-inside : {Start : ℕ → Type 0} (p : Problem) → StartBelow (suc (p .n)) Start → (j : ℕ) → Start j → j ≤ p .n
+starts-inside p starts j h = omega (arith, starts .inside j h)
+
+module _ (Start : ℕ → Type 0) (p : Problem) (starts : StartBelow (suc (p .n)) Start) (t : ℤ) where
+  -- No solution at t is finite at a variable of the start exactly when some picks count and leave cycles below zero at t.
+  pub unsolved-exactly : (Solution (systemAt p t) Start → ⊥)
+      ↔ SomePicks (suc (p .m)) (suc (p .n)) (λ picks. PicksCount Start p picks × BelowZero Start p picks t)
+  unsolved-exactly = (show, refute)
+    where
+      show : (Solution (systemAt p t) Start → ⊥) → SomePicks (suc (p .m)) (suc (p .n)) (λ picks. PicksCount Start p picks × BelowZero Start p picks t)
+      show d =
+          let b = blocked-exactly (systemAt p t) Start (starts-at p t starts) .0 d in
+          record {
+            picks = picksFrom (b .strategy) (suc (p .m));
+            none-above = picks-none-above (b .strategy) (suc (p .m)) (suc (p .n));
+            accepted = block-picks p t (picks-joined (b .strategy) (suc (p .m)) (suc (p .n))) (starts-inside p starts) (b .blocks);
+          }
+
+      refute : SomePicks (suc (p .m)) (suc (p .n)) (λ picks. PicksCount Start p picks × BelowZero Start p picks t) → Solution (systemAt p t) Start → ⊥
+      refute c = blocked-exactly (systemAt p t) Start (starts-at p t starts) .1 (record {
+        strategy = strategyOf (c .picks) (suc (p .m));
+        blocks = blocks-exactly Start p t (c .picks) (starts-inside p starts) (c .none-above) .0 (c .accepted);
+      })
+
+  -- Each variable of the start is finite in some solution at t exactly when the rows in use have picks that leave cycles at zero or
+  -- more at t.
+  pub solved-by-rows : AllSolved (systemAt p t) Start
+      ↔ SomePicks (suc (p .n)) (suc (p .m)) (λ picks. RowPicksCount Start p picks × AtLeastZero Start p picks t)
+  solved-by-rows = (show, solve)
+    where
+      show : AllSolved (systemAt p t) Start → SomePicks (suc (p .n)) (suc (p .m)) (λ picks. RowPicksCount Start p picks × AtLeastZero Start p picks t)
+      show all =
+          let b = saved-exactly (systemAt p t) Start (starts-at p t starts .inside) .0 all in
+          record {
+            picks = picksFrom (b .strategy) (suc (p .n));
+            none-above = picks-none-above (b .strategy) (suc (p .n)) (suc (p .m));
+            accepted = save-picks p t (picks-joined (b .strategy) (suc (p .n)) (suc (p .m))) (b .saves);
+          }
+
+      solve : SomePicks (suc (p .n)) (suc (p .m)) (λ picks. RowPicksCount Start p picks × AtLeastZero Start p picks t) → AllSolved (systemAt p t) Start
+      solve c = saved-exactly (systemAt p t) Start (starts-at p t starts .inside) .1
+          (record { strategy = strategyOf (c .picks) (suc (p .n)); saves = saves-exactly Start p t (c .picks) (c .none-above) .0 (c .accepted) })
+
+-- ---- attainable, decided by picks from the anchor
+
+-- Attainable at t exactly when a solution at t is finite at the anchor.
+pub attainable-exactly : (p : Problem) (t : ℤ) → Attainable p t ↔ Solution (systemAt p t) Anchor
+attainable-exactly p t = (attainable-solution p t, solution-attainable p t)
 
 -- Whether a value of at most t is attainable is decided.
 pub attainable-decided : (p : Problem) (t : ℤ) → Attainable p t ⊎ (Attainable p t → ⊥)
 attainable-decided p t = ⊎-elim (λ v. inl (solution-attainable p t v)) (λ d. inr (λ a. d (attainable-solution p t a)))
-    (solution-decided (systemAt p t) (some-variable p t))
+    (solution-decided (systemAt p t) Anchor (starts-at p t (anchor-below p)))
 
 -- Not attainable at t exactly when some picks count and leave cycles below zero at t.
 pub unattainable-exactly : (p : Problem) (t : ℤ)
-    → (Attainable p t → ⊥) ↔ SomePicks (suc (p .m)) (suc (p .n)) (λ picks. PicksCount p picks × BelowZero p picks t)
-unattainable-exactly p t = (show, refute)
-  where
-    show : (Attainable p t → ⊥) → SomePicks (suc (p .m)) (suc (p .n)) (λ picks. PicksCount p picks × BelowZero p picks t)
-    show d =
-        let b = blocked-exactly (systemAt p t) (some-variable p t) .0 (λ v. d (solution-attainable p t v)) in
-        record {
-          picks = picksFrom (b .strategy) (suc (p .m));
-          none-above = picks-none-above (b .strategy) (suc (p .m)) (suc (p .n));
-          accepted = block-picks p t (picks-joined (b .strategy) (suc (p .m)) (suc (p .n))) (b .blocks);
-        }
-
-    refute : SomePicks (suc (p .m)) (suc (p .n)) (λ picks. PicksCount p picks × BelowZero p picks t) → Attainable p t → ⊥
-    refute c a = blocked-exactly (systemAt p t) (some-variable p t) .1
-        (record { strategy = strategyOf (c .picks) (suc (p .m)); blocks = blocks-exactly p t (c .picks) (c .none-above) .0 (c .accepted) })
-        (attainable-solution p t a)
+    → (Attainable p t → ⊥) ↔ SomePicks (suc (p .m)) (suc (p .n)) (λ picks. PicksCount Anchor p picks × BelowZero Anchor p picks t)
+unattainable-exactly p t = Iff·trans
+    (λ d v. d (solution-attainable p t v), λ d a. d (attainable-solution p t a))
+    (unsolved-exactly Anchor p (anchor-below p) t)
 
 -- Attainable at t exactly when the rows in use have picks that leave cycles at zero or more at t.
 pub attainable-by-rows : (p : Problem) (t : ℤ)
-    → Attainable p t ↔ SomePicks (suc (p .n)) (suc (p .m)) (λ picks. RowPicksCount p picks × AtLeastZero p picks t)
-attainable-by-rows p t = (show, attain)
-  where
-    show : Attainable p t → SomePicks (suc (p .n)) (suc (p .m)) (λ picks. RowPicksCount p picks × AtLeastZero p picks t)
-    show a =
-        let b = saved-exactly (systemAt p t) (some-variable p t) .0 (attainable-solution p t a) in
-        record {
-          picks = picksFrom (b .strategy) (suc (p .n));
-          none-above = picks-none-above (b .strategy) (suc (p .n)) (suc (p .m));
-          accepted = save-picks p t (picks-joined (b .strategy) (suc (p .n)) (suc (p .m))) (b .saves);
-        }
-
-    attain : SomePicks (suc (p .n)) (suc (p .m)) (λ picks. RowPicksCount p picks × AtLeastZero p picks t) → Attainable p t
-    attain c = solution-attainable p t (saved-exactly (systemAt p t) (some-variable p t) .1
-        (record { strategy = strategyOf (c .picks) (suc (p .n)); saves = saves-exactly p t (c .picks) (c .none-above) .0 (c .accepted) }))
+    → Attainable p t ↔ SomePicks (suc (p .n)) (suc (p .m)) (λ picks. RowPicksCount Anchor p picks × AtLeastZero Anchor p picks t)
+attainable-by-rows p t = Iff·trans (attainable-exactly p t) (Iff·trans (only-solved (systemAt p t) 0) (solved-by-rows Anchor p (anchor-below p) t))
 
 -- ---- class 1
 
@@ -103,12 +131,12 @@ optimal-exactly p s = (
 
 -- Every feasible point has a value of at least s exactly when some picks count and leave cycles below zero at s − 1.
 pub least-by-picks : (p : Problem) (s : ℤ) → ((y : Point) → Feasible p y → Problems.whole s ≼ value p y)
-    ↔ SomePicks (suc (p .m)) (suc (p .n)) (λ picks. PicksCount p picks × BelowZero p picks (s -ℤ pos 1))
+    ↔ SomePicks (suc (p .m)) (suc (p .n)) (λ picks. PicksCount Anchor p picks × BelowZero Anchor p picks (s -ℤ pos 1))
 least-by-picks p s = Iff·trans (least-exactly p s) (unattainable-exactly p (s -ℤ pos 1))
 
 -- A feasible point of value s is least exactly when some picks make the list of class 1.
 pub optimal-accepted : (p : Problem) (s : ℤ) (x : Point) → Feasible p x → value p x ≡ Problems.whole s
-    → ((y : Point) → Feasible p y → Problems.whole s ≼ value p y) ↔ SomePicks (suc (p .m)) (suc (p .n)) (AcceptedOptimal p s x)
+    → ((y : Point) → Feasible p y → Problems.whole s ≼ value p y) ↔ SomePicks (suc (p .m)) (suc (p .n)) (AcceptedOptimal Anchor p s x)
 optimal-accepted p s x f v = (
   λ least. let c = least-by-picks p s .0 least in record {
     picks = c .picks;
@@ -120,7 +148,7 @@ optimal-accepted p s x f v = (
 )
 
 -- Where class 1 accepts, s is optimal.
-pub accepted-optimal : (p : Problem) (s : ℤ) (x : Point) → SomePicks (suc (p .m)) (suc (p .n)) (AcceptedOptimal p s x) → Optimal p s
+pub accepted-optimal : (p : Problem) (s : ℤ) (x : Point) → SomePicks (suc (p .m)) (suc (p .n)) (AcceptedOptimal Anchor p s x) → Optimal p s
 accepted-optimal p s x c = record {
   point = x;
   feasible = c .accepted .feasible;
@@ -149,52 +177,100 @@ infeasible-never p = (
       (infinite-or-bounded (value p x)),
 )
 
+-- Infeasible exactly when no solution at any t is finite at the anchor,
+never-exactly : (p : Problem) → Infeasible p ↔ ((t : ℤ) → Solution (systemAt p t) Anchor → ⊥)
+never-exactly p = Iff·trans (infeasible-never p) (λ d t v. d t (solution-attainable p t v), λ d t a. d t (attainable-solution p t a))
+
+-- and unbounded exactly when at every t some solution is.
+always-exactly : (p : Problem) → Unbounded p ↔ ((t : ℤ) → AllSolved (systemAt p t) Anchor)
+always-exactly p = (
+  λ u t. only-solved (systemAt p t) 0 .0 (attainable-solution p t (u t)),
+  λ all t. solution-attainable p t (only-solved (systemAt p t) 0 .1 (all t)),
+)
+
+-- ---- from a start, at every t
+
+module _ (Start : ℕ → Type 0) (p : Problem) (starts : StartBelow (suc (p .n)) Start) where
+  -- Where class 3 accepts, no solution at any t is finite at a variable of the start.
+  pub accepted-unsolved : SomePicks (suc (p .m)) (suc (p .n)) (AcceptedInfeasible Start p) → (t : ℤ) → Solution (systemAt p t) Start → ⊥
+  accepted-unsolved c t = unsolved-exactly Start p starts t .1 (record {
+    picks = c .picks;
+    none-above = c .none-above;
+    accepted = (c .accepted .picks-count, infeasible-below p (c .picks) t (c .accepted));
+  })
+
+  -- Where class 2 accepts, at every t each variable of the start is finite in some solution.
+  pub accepted-solved : SomePicks (suc (p .n)) (suc (p .m)) (AcceptedUnbounded Start p) → (t : ℤ) → AllSolved (systemAt p t) Start
+  accepted-solved c t = solved-by-rows Start p starts t .1 (record {
+    picks = c .picks;
+    none-above = c .none-above;
+    accepted = (c .accepted .picks-count, unbounded-above p (c .picks) t (c .accepted));
+  })
+
+  module _ (L T : ℕ) (within : Within p L) (enough : Enough (p .n) L T) where
+    -- Where no solution at T is, class 3 accepts some picks.
+    pub unsolved-accepted : (Solution (systemAt p (upper T)) Start → ⊥) → SomePicks (suc (p .m)) (suc (p .n)) (AcceptedInfeasible Start p)
+    unsolved-accepted d =
+        let c = unsolved-exactly Start p starts (upper T) .0 d in
+        record {
+          picks = c .picks;
+          none-above = c .none-above;
+          accepted = below-infeasible p L T (c .picks) (starts-inside p starts) within enough (c .none-above) (c .accepted .0) (c .accepted .1);
+        }
+
+    -- Where each variable of the start is finite in some solution at −T − 1, class 2 accepts some row picks.
+    pub solved-accepted : AllSolved (systemAt p (lower T)) Start → SomePicks (suc (p .n)) (suc (p .m)) (AcceptedUnbounded Start p)
+    solved-accepted all =
+        let c = solved-by-rows Start p starts (lower T) .0 all in
+        record {
+          picks = c .picks;
+          none-above = c .none-above;
+          accepted = above-unbounded p L T (c .picks) (starts-inside p starts) within enough (c .none-above) (c .accepted .0) (c .accepted .1);
+        }
+
+  -- For every problem, whatever its limit: class 3 accepts some picks exactly when no solution at any t is finite at a variable of
+  -- the start,
+  pub unsolved-never : ((t : ℤ) → Solution (systemAt p t) Start → ⊥) ↔ SomePicks (suc (p .m)) (suc (p .n)) (AcceptedInfeasible Start p)
+  unsolved-never = (λ d. unsolved-accepted _ _ (within-some p) (le-refl _) (d _), accepted-unsolved)
+
+  -- and class 2 exactly when at every t each is finite in some solution.
+  pub solved-always : ((t : ℤ) → AllSolved (systemAt p t) Start) ↔ SomePicks (suc (p .n)) (suc (p .m)) (AcceptedUnbounded Start p)
+  solved-always = (λ all. solved-accepted _ _ (within-some p) (le-refl _) (all _), accepted-solved)
+
+-- ---- from the anchor
+
+-- Infeasible exactly when class 3 accepts some picks.
+pub infeasible-accepted : (p : Problem) → Infeasible p ↔ SomePicks (suc (p .m)) (suc (p .n)) (AcceptedInfeasible Anchor p)
+infeasible-accepted p = Iff·trans (never-exactly p) (unsolved-never Anchor p (anchor-below p))
+
+-- Unbounded exactly when class 2 accepts some row picks.
+pub unbounded-accepted : (p : Problem) → Unbounded p ↔ SomePicks (suc (p .n)) (suc (p .m)) (AcceptedUnbounded Anchor p)
+unbounded-accepted p = Iff·trans (always-exactly p) (solved-always Anchor p (anchor-below p))
+
 -- Where class 3 accepts, nothing is attainable.
-pub accepted-infeasible : (p : Problem) → SomePicks (suc (p .m)) (suc (p .n)) (AcceptedInfeasible p) → Infeasible p
-accepted-infeasible p c = infeasible-never p .1 (λ t. unattainable-exactly p t .1 (record {
-  picks = c .picks;
-  none-above = c .none-above;
-  accepted = (c .accepted .picks-count, infeasible-below p (c .picks) t (c .accepted));
-}))
+pub accepted-infeasible : (p : Problem) → SomePicks (suc (p .m)) (suc (p .n)) (AcceptedInfeasible Anchor p) → Infeasible p
+accepted-infeasible p = infeasible-accepted p .1
 
 -- Where class 2 accepts, everything is attainable.
-pub accepted-unbounded : (p : Problem) → SomePicks (suc (p .n)) (suc (p .m)) (AcceptedUnbounded p) → Unbounded p
-accepted-unbounded p c t = attainable-by-rows p t .1 (record {
-  picks = c .picks;
-  none-above = c .none-above;
-  accepted = (c .accepted .picks-count, unbounded-above p (c .picks) t (c .accepted));
-})
+pub accepted-unbounded : (p : Problem) → SomePicks (suc (p .n)) (suc (p .m)) (AcceptedUnbounded Anchor p) → Unbounded p
+accepted-unbounded p = unbounded-accepted p .1
 
 -- ---- the numbers that decide
 
 module _ (p : Problem) (L T : ℕ) (within : Within p L) (enough : Enough (p .n) L T) where
-  -- What is not attainable at T has picks that class 3 accepts.
-  unattainable-accepted : (Attainable p (upper T) → ⊥) → SomePicks (suc (p .m)) (suc (p .n)) (AcceptedInfeasible p)
-  unattainable-accepted d =
-      let c = unattainable-exactly p (upper T) .0 d in
-      record {
-        picks = c .picks;
-        none-above = c .none-above;
-        accepted = below-infeasible p L T (c .picks) within enough (c .none-above) (c .accepted .0) (c .accepted .1);
-      }
-
-  -- What is attainable at −T − 1 has row picks that class 2 accepts.
-  attainable-accepted : Attainable p (lower T) → SomePicks (suc (p .n)) (suc (p .m)) (AcceptedUnbounded p)
-  attainable-accepted a =
-      let c = attainable-by-rows p (lower T) .0 a in
-      record {
-        picks = c .picks;
-        none-above = c .none-above;
-        accepted = above-unbounded p L T (c .picks) within enough (c .none-above) (c .accepted .0) (c .accepted .1);
-      }
-
   -- Infeasible exactly when T is not attainable.
   pub infeasible-exactly : Infeasible p ↔ (Attainable p (upper T) → ⊥)
-  infeasible-exactly = (λ h. infeasible-never p .0 h (upper T), λ d. accepted-infeasible p (unattainable-accepted d))
+  infeasible-exactly = (
+    λ h. infeasible-never p .0 h (upper T),
+    λ d. accepted-infeasible p (unsolved-accepted Anchor p (anchor-below p) L T within enough (λ v. d (solution-attainable p (upper T) v))),
+  )
 
   -- Unbounded exactly when −T − 1 is attainable.
   pub unbounded-exactly : Unbounded p ↔ Attainable p (lower T)
-  unbounded-exactly = (λ h. h (lower T), λ a. accepted-unbounded p (attainable-accepted a))
+  unbounded-exactly = (
+    λ h. h (lower T),
+    λ a. accepted-unbounded p (solved-accepted Anchor p (anchor-below p) L T within enough (only-solved (systemAt p (lower T)) 0 .0 (attainable-solution p (lower T) a))),
+  )
 
   -- An optimal value is at most T, and at least −T.
   optimal-not-above : (s : ℤ) → Optimal p s → upper T <ℤ s → ⊥
@@ -218,16 +294,7 @@ module _ (p : Problem) (L T : ℕ) (within : Within p L) (enough : Enough (p .n)
       (λ (h : upper T <ℤ s). absurd (optimal-not-above s o h))
       (le-or-lt s (upper T))
 
--- ---- for every problem, whatever its limit
-
--- Infeasible exactly when class 3 accepts some picks.
-pub infeasible-accepted : (p : Problem) → Infeasible p ↔ SomePicks (suc (p .m)) (suc (p .n)) (AcceptedInfeasible p)
-infeasible-accepted p =
-    (λ h. unattainable-accepted p _ _ (within-some p) (le-refl _) (infeasible-never p .0 h _), accepted-infeasible p)
-
--- Unbounded exactly when class 2 accepts some row picks.
-pub unbounded-accepted : (p : Problem) → Unbounded p ↔ SomePicks (suc (p .n)) (suc (p .m)) (AcceptedUnbounded p)
-unbounded-accepted p = (λ h. attainable-accepted p _ _ (within-some p) (le-refl _) (h _), accepted-unbounded p)
+-- ---- one class holds
 
 -- One of the three classes holds.
 pub classified : (p : Problem) → Infeasible p ⊎ (HasOptimal p ⊎ Unbounded p)

@@ -11,10 +11,9 @@ use native.Mathlib.Decide.{ℕ-discrete}
 use lib.IntN.{ℤ, pos, _+ℤ_, +ℤ-assoc}
 use lib.Signed.{_≤ℤ_, _<ℤ_}
 use Rattle.definitions.specs.Problem.{Problem}
-use Rattle.definitions.specs.Certificate.{Strategy, Anchor, Reachable, onward, Walk, stop, step, Uses, Distinct, Cycle, NoCycleUses, ArcBy, Leads, Arc, BelowZero, RowLeads, RowArc}
+use Rattle.definitions.specs.Certificate.{Strategy, Reachable, onward, Walk, stop, step, Uses, Distinct, Cycle, NoCycleUses, ArcBy, Leads, Arc, BelowZero, ObjectiveUnused, RowLeads, RowArc, AtLeastZero, ObjectiveUnusedByRows}
 use Rattle.definitions.proofs.Whole.{whole, plus-read}
 use Rattle.duality.specs.Circuits.{Circuit, UsesObjective, ObjectiveArc, RowObjectiveArc}
-use Rattle.duality.specs.Picks.{AtLeastZero}
 use Rattle.duality.proofs.Walks.{walk-append}
 use Rattle.duality.proofs.Objective.{picked-kind, row-picked-kind}
 
@@ -238,36 +237,30 @@ module _ {Start : ℕ → Type 0} {L : ℕ → ℕ → Type 0} {A O : ℕ → �
   pub unused-exactly : NoCycleUses Start L A Q ↔ (UsesObjective Start L O A → ⊥)
   unused-exactly = (unused-circuit, λ none w c u. none (begun refl (c .reachable) stop (c .walk) u))
 
--- ---- the conditions of each class
+-- ---- the conditions of each class, from any start
 
--- Classes 1 and 3: every cycle weighs below zero exactly when every closed walk does.
-pub below-exactly : (p : Problem) (picks : Strategy) (t : ℤ)
-    → BelowZero p picks t ↔ ((w : ℤ) → Circuit Anchor (Leads p picks) (Arc p picks t) w → w <ℤ pos 0)
-below-exactly p picks t =
-    cycles-exactly (λ w. w <ℤ pos 0) (λ u v h k. omega (whole, h, k, plus-read u v)) (picked-kind p picks .leads t)
+module _ (Start : ℕ → Type 0) (p : Problem) (picks : Strategy) where
+  -- Classes 1 and 3: every cycle weighs below zero exactly when every closed walk does.
+  pub below-exactly : (t : ℤ) → BelowZero Start p picks t ↔ ((w : ℤ) → Circuit Start (Leads p picks) (Arc p picks t) w → w <ℤ pos 0)
+  below-exactly t = cycles-exactly (λ w. w <ℤ pos 0) (λ u v h k. omega (whole, h, k, plus-read u v)) (picked-kind p picks .leads t)
 
--- Class 2: every cycle weighs zero or more exactly when every closed walk does.
-pub at-least-exactly : (p : Problem) (picks : Strategy) (t : ℤ)
-    → AtLeastZero p picks t ↔ ((w : ℤ) → Circuit Anchor (RowLeads p picks) (RowArc p picks t) w → pos 0 ≤ℤ w)
-at-least-exactly p picks t =
-    cycles-exactly (λ w. pos 0 ≤ℤ w) (λ u v h k. omega (whole, h, k, plus-read u v)) (row-picked-kind p picks .leads t)
+  -- Class 2: every cycle weighs zero or more exactly when every closed walk does.
+  pub at-least-exactly : (t : ℤ) → AtLeastZero Start p picks t ↔ ((w : ℤ) → Circuit Start (RowLeads p picks) (RowArc p picks t) w → pos 0 ≤ℤ w)
+  at-least-exactly t = cycles-exactly (λ w. pos 0 ≤ℤ w) (λ u v h k. omega (whole, h, k, plus-read u v)) (row-picked-kind p picks .leads t)
 
--- Class 3: no cycle uses the objective exactly when no closed walk does.
-pub objective-exactly : (p : Problem) (picks : Strategy)
-    → NoCycleUses Anchor (Leads p picks) (Arc p picks (pos 0)) (λ j l w arc. arc .row ≡ p .m)
-    ↔ (UsesObjective Anchor (Leads p picks) (ObjectiveArc p picks) (Arc p picks (pos 0)) → ⊥)
-objective-exactly p picks = unused-exactly (record {
-  arc = λ j l w o. record { row = p .m; picked = o .picked; inside = o .inside; by = o .by };
-  has = λ j l w o. refl;
-  is = λ j l w a e. record { picked = rw (← e) (a .picked); inside = a .inside; by = subst (λ (i : ℕ). ArcBy p (pos 0) i j l w) e (a .by) };
-}) (picked-kind p picks .leads (pos 0))
+  -- Class 3: no cycle uses the objective exactly when no closed walk does.
+  pub objective-exactly : ObjectiveUnused Start p picks ↔ (UsesObjective Start (Leads p picks) (ObjectiveArc p picks) (Arc p picks (pos 0)) → ⊥)
+  objective-exactly = unused-exactly (record {
+    arc = λ j l w o. record { row = p .m; picked = o .picked; inside = o .inside; by = o .by };
+    has = λ j l w o. refl;
+    is = λ j l w a e. record { picked = rw (← e) (a .picked); inside = a .inside; by = subst (λ (i : ℕ). ArcBy p (pos 0) i j l w) e (a .by) };
+  }) (picked-kind p picks .leads (pos 0))
 
--- Class 2: the same.
-pub row-objective-exactly : (p : Problem) (picks : Strategy)
-    → NoCycleUses Anchor (RowLeads p picks) (RowArc p picks (pos 0)) (λ j l w arc. arc .row ≡ p .m)
-    ↔ (UsesObjective Anchor (RowLeads p picks) (RowObjectiveArc p picks) (RowArc p picks (pos 0)) → ⊥)
-row-objective-exactly p picks = unused-exactly (record {
-  arc = λ j l w o. record { row = p .m; inside = omega arith; picked = o .picked; by = o .by };
-  has = λ j l w o. refl;
-  is = λ j l w a e. record { picked = rw (← e) (a .picked); by = subst (λ (i : ℕ). ArcBy p (pos 0) i j l w) e (a .by) };
-}) (row-picked-kind p picks .leads (pos 0))
+  -- Class 2: the same.
+  pub row-objective-exactly :
+      ObjectiveUnusedByRows Start p picks ↔ (UsesObjective Start (RowLeads p picks) (RowObjectiveArc p picks) (RowArc p picks (pos 0)) → ⊥)
+  row-objective-exactly = unused-exactly (record {
+    arc = λ j l w o. record { row = p .m; inside = omega arith; picked = o .picked; by = o .by };
+    has = λ j l w o. refl;
+    is = λ j l w a e. record { picked = rw (← e) (a .picked); by = subst (λ (i : ℕ). ArcBy p (pos 0) i j l w) e (a .by) };
+  }) (row-picked-kind p picks .leads (pos 0))

@@ -1,6 +1,7 @@
 pub mod Pigeonhole
 pub mod Walks
 pub mod Reach
+pub mod Starts
 pub mod Weak
 pub mod Longest
 pub mod Sweeps
@@ -10,6 +11,7 @@ pub mod Ends
 pub mod Warm
 pub mod Height
 pub mod Strong
+pub mod Solutions
 pub mod Stamps
 pub mod Objective
 pub mod Cycles

@@ -11,14 +11,14 @@ use native.Mathlib.Nat.{mul-le-mul-right}
 use lib.IntN.{ℤ, pos, negsuc, negℤ, natAbs, _+ℤ_, _-ℤ_, negℤ-+ℤ}
 use lib.Signed.{_≤ℤ_, _<ℤ_}
 use Rattle.definitions.specs.Problem.{Problem}
-use Rattle.definitions.specs.Certificate.{Strategy, Anchor, Reachable, Walk, stop, step, raise, ArcBy, Leads, Arc, PicksCount, BelowZero, AcceptedInfeasible, RowLeads, RowArc, RowPicksCount, AcceptedUnbounded}
+use Rattle.definitions.specs.Certificate.{Strategy, Reachable, Walk, stop, step, raise, ArcBy, Leads, Arc, PicksCount, BelowZero, AcceptedInfeasible, RowLeads, RowArc, RowPicksCount, AcceptedUnbounded, AtLeastZero}
 use Rattle.definitions.proofs.Whole.{up, down, whole, plus-read, minus-read, neg-read, abs-read, abs-show}
 use Rattle.definitions.proofs.Tropical.{plus-zero}
 use Rattle.definitions.proofs.Raise.{raised, unraised, raise-zero}
 use Rattle.duality.specs.Circuits.{Circuit, UsesObjective, ObjectiveArc, RowObjectiveArc}
 use Rattle.duality.specs.System.{systemAt}
 use Rattle.duality.specs.Height.{Bounded}
-use Rattle.duality.specs.Picks.{NoneAbove, AtLeastZero}
+use Rattle.duality.specs.Picks.{NoneAbove}
 use Rattle.duality.specs.Within.{Within, Enough, upper, lower}
 use Rattle.duality.proofs.Walks.{Brief, brief}
 use Rattle.duality.proofs.Reach.{reach-keep, circuit-map, uses-map}
@@ -152,32 +152,35 @@ outweighs {p} kind L within choice sign t upwards low q =
 picked-choice : (p : Problem) (picks : Strategy) → NoneAbove (suc (p .m)) (suc (p .n)) picks → Choice p (Picked p picks)
 picked-choice p picks h = record { to = λ i j l c. c .1; row = λ i j l k c. omega (arith, h j (omega arith)) }
 
--- Reachable variables are inside.
-pub reached-inside : (p : Problem) (picks : Strategy) (j : ℕ) → Reachable Anchor (Leads p picks) j → j ≤ p .n
-reached-inside p picks j r =
-    reach-keep {L′ = Leads p picks} (λ j. j ≤ p .n) (λ j e. (e, omega arith)) (λ j l _ a. (a, a .inside)) r .1
+-- From a start inside the problem, reachable variables are inside.
+pub reached-inside : {Start : ℕ → Type 0} (p : Problem) (picks : Strategy) → ((j : ℕ) → Start j → j ≤ p .n)
+    → (j : ℕ) → Reachable Start (Leads p picks) j → j ≤ p .n
+reached-inside p picks inside j r =
+    reach-keep {L′ = Leads p picks} (λ j. j ≤ p .n) (λ j h. (h, inside j h)) (λ j l _ a. (a, a .inside)) r .1
 
 -- Where class 3 accepts, reached cycles weigh below zero at every t.
-pub infeasible-below : (p : Problem) (picks : Strategy) (t : ℤ) → AcceptedInfeasible p picks → BelowZero p picks t
-infeasible-below p picks t c w q =
-    below-exactly p picks (pos 0) .0 (c .below-zero) w (circuit-moved (picked-kind p picks) t (pos 0) (objective-exactly p picks .0 (c .no-objective)) (cycle-circuit q))
+pub infeasible-below : {Start : ℕ → Type 0} (p : Problem) (picks : Strategy) (t : ℤ) → AcceptedInfeasible Start p picks → BelowZero Start p picks t
+infeasible-below {Start} p picks t c w q =
+    below-exactly Start p picks (pos 0) .0 (c .below-zero) w
+    (circuit-moved (picked-kind p picks) t (pos 0) (objective-exactly Start p picks .0 (c .no-objective)) (cycle-circuit q))
 
 -- Where the picks count and reached cycles weigh below zero at T, class 3 accepts.
-pub below-infeasible : (p : Problem) (L T : ℕ) (picks : Strategy) → Within p L → Enough (p .n) L T
-    → NoneAbove (suc (p .m)) (suc (p .n)) picks → PicksCount p picks → BelowZero p picks (upper T) → AcceptedInfeasible p picks
-below-infeasible p L T picks within h above count below = record {
+pub below-infeasible : {Start : ℕ → Type 0} (p : Problem) (L T : ℕ) (picks : Strategy) → ((j : ℕ) → Start j → j ≤ p .n) → Within p L
+    → Enough (p .n) L T → NoneAbove (suc (p .m)) (suc (p .n)) picks → PicksCount Start p picks → BelowZero Start p picks (upper T)
+    → AcceptedInfeasible Start p picks
+below-infeasible {Start} p L T picks inside within h above count below = record {
   picks-count = count;
-  no-objective = objective-exactly p picks .1 none;
+  no-objective = objective-exactly Start p picks .1 none;
   below-zero = λ w c. walks w (circuit-moved (picked-kind p picks) (pos 0) (upper T) none (cycle-circuit c));
 }
   where
-    walks : (w : ℤ) → Circuit Anchor (Leads p picks) (Arc p picks (upper T)) w → w <ℤ pos 0
-    walks = below-exactly p picks (upper T) .0 below
+    walks : (w : ℤ) → Circuit Start (Leads p picks) (Arc p picks (upper T)) w → w <ℤ pos 0
+    walks = below-exactly Start p picks (upper T) .0 below
 
-    none : UsesObjective Anchor (Leads p picks) (ObjectiveArc p picks) (Arc p picks (pos 0)) → ⊥
+    none : UsesObjective Start (Leads p picks) (ObjectiveArc p picks) (Arc p picks (pos 0)) → ⊥
     none q =
         let r = outweighs (picked-kind p picks) L within (picked-choice p picks above) as-is (upper T) (omega arith)
-        (reached-inside p picks) q in
+        (reached-inside p picks inside) q in
         omega (whole, walks (r .weight) (r .circuit), r .heavy)
 
 -- ---- class 2
@@ -187,32 +190,34 @@ row-picked-choice : (p : Problem) (picks : Strategy) → NoneAbove (suc (p .n)) 
 row-picked-choice p picks h = record { to = λ i j l c. omega (arith, h i (omega arith)); row = λ i j l k c. c .0 }
 
 -- The same by strategies of rows.
-pub row-reached-inside : (p : Problem) (picks : Strategy) → NoneAbove (suc (p .n)) (suc (p .m)) picks
-    → (j : ℕ) → Reachable Anchor (RowLeads p picks) j → j ≤ p .n
-row-reached-inside p picks h j r = reach-keep {L′ = RowLeads p picks} (λ j. j ≤ p .n) (λ j e. (e, omega arith))
+pub row-reached-inside : {Start : ℕ → Type 0} (p : Problem) (picks : Strategy) → ((j : ℕ) → Start j → j ≤ p .n)
+    → NoneAbove (suc (p .n)) (suc (p .m)) picks → (j : ℕ) → Reachable Start (RowLeads p picks) j → j ≤ p .n
+row-reached-inside p picks inside h j r = reach-keep {L′ = RowLeads p picks} (λ j. j ≤ p .n) (λ j b. (b, inside j b))
     (λ j l _ a. (a, omega (arith, h (a .row) (omega (arith, a .inside)), a .picked))) r .1
 
 -- Where class 2 accepts, reached cycles weigh zero or more at every t.
-pub unbounded-above : (p : Problem) (picks : Strategy) (t : ℤ) → AcceptedUnbounded p picks → AtLeastZero p picks t
-unbounded-above p picks t c w q =
-    at-least-exactly p picks (pos 0) .0 (c .zero-or-more) w (circuit-moved (row-picked-kind p picks) t (pos 0) (row-objective-exactly p picks .0 (c .no-objective)) (cycle-circuit q))
+pub unbounded-above : {Start : ℕ → Type 0} (p : Problem) (picks : Strategy) (t : ℤ) → AcceptedUnbounded Start p picks → AtLeastZero Start p picks t
+unbounded-above {Start} p picks t c w q =
+    at-least-exactly Start p picks (pos 0) .0 (c .zero-or-more) w
+    (circuit-moved (row-picked-kind p picks) t (pos 0) (row-objective-exactly Start p picks .0 (c .no-objective)) (cycle-circuit q))
 
 -- Where the rows in use pick and reached cycles weigh zero or more at −T − 1, class 2 accepts.
-pub above-unbounded : (p : Problem) (L T : ℕ) (picks : Strategy) → Within p L → Enough (p .n) L T
-    → NoneAbove (suc (p .n)) (suc (p .m)) picks → RowPicksCount p picks → AtLeastZero p picks (lower T) → AcceptedUnbounded p picks
-above-unbounded p L T picks within h above count more = record {
+pub above-unbounded : {Start : ℕ → Type 0} (p : Problem) (L T : ℕ) (picks : Strategy) → ((j : ℕ) → Start j → j ≤ p .n) → Within p L
+    → Enough (p .n) L T → NoneAbove (suc (p .n)) (suc (p .m)) picks → RowPicksCount Start p picks → AtLeastZero Start p picks (lower T)
+    → AcceptedUnbounded Start p picks
+above-unbounded {Start} p L T picks inside within h above count more = record {
   picks-count = count;
-  no-objective = row-objective-exactly p picks .1 none;
+  no-objective = row-objective-exactly Start p picks .1 none;
   zero-or-more = λ w c. walks w (circuit-moved (row-picked-kind p picks) (pos 0) (lower T) none (cycle-circuit c));
 }
   where
-    walks : (w : ℤ) → Circuit Anchor (RowLeads p picks) (RowArc p picks (lower T)) w → pos 0 ≤ℤ w
-    walks = at-least-exactly p picks (lower T) .0 more
+    walks : (w : ℤ) → Circuit Start (RowLeads p picks) (RowArc p picks (lower T)) w → pos 0 ≤ℤ w
+    walks = at-least-exactly Start p picks (lower T) .0 more
 
-    none : UsesObjective Anchor (RowLeads p picks) (RowObjectiveArc p picks) (RowArc p picks (pos 0)) → ⊥
+    none : UsesObjective Start (RowLeads p picks) (RowObjectiveArc p picks) (RowArc p picks (pos 0)) → ⊥
     none q =
         let r = outweighs (row-picked-kind p picks) L within (row-picked-choice p picks above) negated (lower T) (omega arith)
-        (row-reached-inside p picks above) q in
+        (row-reached-inside p picks inside above) q in
         omega (whole, walks (r .weight) (r .circuit), r .heavy, neg-read (r .weight))
 
 -- ---- the limit

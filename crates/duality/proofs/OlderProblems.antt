@@ -7,16 +7,20 @@ use mathlib.Core.List.{List, [], _∷_}
 use mathlib.Core.Logic.{_↔_, ⊎-elim}
 use native.Mathlib.Omega.{arith}
 use lib.ListN.{length}
-use lib.IntN.{ℤ, natAbs}
+use lib.IntN.{ℤ, pos, negsuc, natAbs}
 use borrow.Author.Tests.{leb-true, le-leb}
 use Rattle.definitions.specs.Limits.{lead-limit, span-limit, top-trial, lowest-trial}
 use Rattle.definitions.specs.Tropical.{Trop, bot, fin}
 use Rattle.definitions.specs.Bytes.{numAt, numsAt, signed, tropField, all, blank-or-within}
 use Rattle.definitions.specs.Problem.{Problem, Attainable, Infeasible}
 use Rattle.definitions.specs.ProblemRecord.{leadsOf, headerRefusal, headerJudged, refusalFor, WithinLayout, problemOf}
+use Rattle.definitions.specs.Questions.{alone}
 use Rattle.definitions.specs.Examples.{example-A}
 use Rattle.definitions.proofs.Bytes.{all-true}
 use Rattle.definitions.proofs.Refusals.{or-else-none, passes-clause}
+use Rattle.definitions.proofs.Inputs.{header-none}
+use Rattle.definitions.proofs.Questions.{several-passes, leads-alone}
+use Rattle.definitions.proofs.Solved.{one-asked}
 use Rattle.duality.specs.Within.{Within, Enough}
 use Rattle.duality.specs.OlderProblems.{older-lead-limit, LeadsWithin, refusalBefore, spans-by, top-by, lowest-by, Stays, OlderStay}
 use Rattle.duality.proofs.Classes.{attainable-decided, infeasible-exactly, unbounded-exactly, optimal-range}
@@ -40,10 +44,10 @@ unfolding refusalFor refusalBefore
 same-refusal limit h several s e = rw (e, all-more h s e)
 
 -- A problem that was within the older layout had its leads within the limit.
-leads-before : (limit : ℕ) (s : List ℕ) → refusalBefore limit false s ≡ 0 → LeadsWithin limit s
+leads-before : (limit : ℕ) (several : Bool) (s : List ℕ) → refusalBefore limit several s ≡ 0 → LeadsWithin limit s
 unfolding refusalBefore
-leads-before limit s e =
-    passes-clause (all (blank-or-within limit) (leadsOf s)) _ _ .0 (or-else-none (headerRefusal false s (length s)) _ .0 e .1) .0
+leads-before limit several s e =
+    passes-clause (all (blank-or-within limit) (leadsOf s)) _ _ .0 (or-else-none (headerRefusal several s (length s)) _ .0 e .1) .0
 
 -- ---- the trials
 
@@ -74,9 +78,14 @@ pub older-stay : (limit : ℕ) → limit ≤ lead-limit → OlderStay limit
 older-stay limit h = (
   same-refusal limit h,
   λ s e.
-      let f = leads-before limit s e in
+      let f = leads-before limit false s e in
       let w = same-refusal limit h false s f ∙ e in
       (w, stays limit s w f),
+  λ s k e q b.
+      let f = leads-before limit true s e in
+      let w = same-refusal limit h true s f ∙ e in
+      let one = one-asked s k w q b .within in
+      (one, stays limit (alone s q) one (leads-alone (blank-or-within limit) s (several-passes true k (header-none true s w)) f q b)),
 )
 
 -- Document 01's limit.
@@ -86,8 +95,8 @@ older-problems-stay = older-stay older-lead-limit (omega arith)
 -- ---- facts that pin the definitions
 
 -- The limits and the outer trials before, and now.
-older-numbers : (spans-by older-lead-limit ≡ 645120) × (spans-by lead-limit ≡ span-limit) × (top-by lead-limit ≡ top-trial) × (lowest-by lead-limit ≡ lowest-trial)
-older-numbers = (refl, refl, refl, refl)
+older-numbers : (top-by older-lead-limit ≡ pos 645120) × (lowest-by older-lead-limit ≡ negsuc 645120) × (spans-by older-lead-limit ≡ 645120) × (spans-by lead-limit ≡ span-limit) × (top-by lead-limit ≡ top-trial) × (lowest-by lead-limit ≡ lowest-trial)
+older-numbers = (refl, refl, refl, refl, refl, refl)
 
 -- By the limit of today the refusals are those of the definitions.
 refusal-now : (several : Bool) (s : List ℕ) → refusalBefore lead-limit several s ≡ refusalFor several s

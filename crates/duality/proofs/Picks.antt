@@ -10,12 +10,12 @@ use lib.IntN.{ℤ, _+ℤ_, _-ℤ_}
 use borrow.Author.Tests.{ltb-true, ltb-false}
 use Rattle.definitions.specs.Tropical.{Trop, fin, plus, Finite}
 use Rattle.definitions.specs.Problem.{Problem}
-use Rattle.definitions.specs.Certificate.{Strategy, Anchor, raise, ArcBy, Leads, Arc, HasPick, PicksCount, BelowZero, RowLeads, RowArc, RowHasPick, RowPicksCount}
+use Rattle.definitions.specs.Certificate.{Strategy, raise, ArcBy, Leads, Arc, HasPick, PicksCount, BelowZero, RowLeads, RowArc, RowHasPick, RowPicksCount, AtLeastZero}
 use Rattle.definitions.proofs.Whole.{whole, plus-read, minus-read}
 use Rattle.definitions.proofs.Tropical.{plus-is, plus-from}
 use Rattle.duality.specs.System as Theory
 use Rattle.duality.specs.System.{systemAt, Blocks, Saves}
-use Rattle.duality.specs.Picks.{unpick, strategyOf, picksFrom, NoneAbove, Joined, AtLeastZero}
+use Rattle.duality.specs.Picks.{unpick, strategyOf, picksFrom, NoneAbove, Joined}
 use Rattle.duality.proofs.Reach.{reach-keep, reach-map, circuit-keep, circuit-map}
 use Rattle.duality.proofs.Cycles.{cycle-circuit, below-exactly, at-least-exactly}
 
@@ -94,9 +94,6 @@ finite-raised c f = record { whole = f .whole -ℤ c; is = plus-from c (f .is) }
 -- ---- strategies of variables
 
 module _ (p : Problem) (t : ℤ) {picks τ : Strategy} (same : Joined picks τ (suc (p .m)) (suc (p .n))) where
-  anchored : (j : ℕ) → j ≡ 0 → (j ≡ 0) × (j < suc (p .n))
-  anchored j e = (e, omega arith)
-
   leads-to : (j l : ℕ) → j < suc (p .n) → Leads p picks j l → Theory.Leads (systemAt p t) τ j l × (l < suc (p .n))
   unfolding systemAt
   leads-to j l h a =
@@ -151,19 +148,23 @@ module _ (p : Problem) (t : ℤ) {picks τ : Strategy} (same : Joined picks τ (
   unfolding systemAt
   pick-back j h a = record { row = τ j; picked = same .show j h (a .picked); left = a .left }
 
-  -- Picks that count and cycles below zero at t block the system at t.
-  pub picks-block : PicksCount p picks → BelowZero p picks t → Blocks (systemAt p t) Anchor τ
-  picks-block count below = record {
-    counts = λ j r. let q = reach-keep (λ j. j < suc (p .n)) anchored leads-back r in pick-to j (q .1) (count j (q .0));
-    negative = λ w c. below-exactly p picks t .0 below w (circuit-keep (λ j. j < suc (p .n)) anchored leads-back arc-back c);
-  }
+  module _ {Start : ℕ → Type 0} (inside : (j : ℕ) → Start j → j ≤ p .n) where
+    begins : (j : ℕ) → Start j → Start j × (j < suc (p .n))
+    begins j h = (h, omega (arith, inside j h))
 
-  -- And what blocks it are such picks.
-  pub block-picks : Blocks (systemAt p t) Anchor τ → PicksCount p picks × BelowZero p picks t
-  block-picks b = (
-    λ j r. let q = reach-keep (λ j. j < suc (p .n)) anchored leads-to r in pick-back j (q .1) (b .counts j (q .0)),
-    λ w c. b .negative w (circuit-keep (λ j. j < suc (p .n)) anchored leads-to arc-to (cycle-circuit c)),
-  )
+    -- From any start inside the problem, picks that count and cycles below zero at t block the system at t.
+    pub picks-block : PicksCount Start p picks → BelowZero Start p picks t → Blocks (systemAt p t) Start τ
+    picks-block count below = record {
+      counts = λ j r. let q = reach-keep (λ j. j < suc (p .n)) begins leads-back r in pick-to j (q .1) (count j (q .0));
+      negative = λ w c. below-exactly Start p picks t .0 below w (circuit-keep (λ j. j < suc (p .n)) begins leads-back arc-back c);
+    }
+
+    -- And what blocks it are such picks.
+    pub block-picks : Blocks (systemAt p t) Start τ → PicksCount Start p picks × BelowZero Start p picks t
+    block-picks b = (
+      λ j r. let q = reach-keep (λ j. j < suc (p .n)) begins leads-to r in pick-back j (q .1) (b .counts j (q .0)),
+      λ w c. b .negative w (circuit-keep (λ j. j < suc (p .n)) begins leads-to arc-to (cycle-circuit c)),
+    )
 
 -- ---- strategies of rows
 
@@ -220,16 +221,16 @@ module _ (p : Problem) (t : ℤ) {picks σ : Strategy} (same : Joined picks σ (
   unfolding systemAt
   row-pick-back i h a = record { variable = σ i; picked = same .show i h (a .picked); right = finite-raised (raise p t i) (a .right) }
 
-  -- Rows in use that pick and cycles of zero or more at t save the system at t.
-  pub picks-save : RowPicksCount p picks → AtLeastZero p picks t → Saves (systemAt p t) Anchor σ
+  -- From any start, rows in use that pick and cycles of zero or more at t save the system at t.
+  pub picks-save : {Start : ℕ → Type 0} → RowPicksCount Start p picks → AtLeastZero Start p picks t → Saves (systemAt p t) Start σ
   unfolding systemAt
-  picks-save count more = record {
+  picks-save {Start} count more = record {
     counts = λ i j h r l. row-pick-to i h (count i j (omega arith) (reach-map (λ j e. e) row-leads-back r) l);
-    nonnegative = λ w c. at-least-exactly p picks t .0 more w (circuit-map (λ j e. e) row-leads-back row-arc-back c);
+    nonnegative = λ w c. at-least-exactly Start p picks t .0 more w (circuit-map (λ j e. e) row-leads-back row-arc-back c);
   }
 
   -- And what saves it are such picks.
-  pub save-picks : Saves (systemAt p t) Anchor σ → RowPicksCount p picks × AtLeastZero p picks t
+  pub save-picks : {Start : ℕ → Type 0} → Saves (systemAt p t) Start σ → RowPicksCount Start p picks × AtLeastZero Start p picks t
   unfolding systemAt
   save-picks b = (
     λ i j h r l. row-pick-back i (omega arith) (b .counts i j (omega arith) (reach-map (λ j e. e) row-leads-to r) l),
@@ -238,16 +239,18 @@ module _ (p : Problem) (t : ℤ) {picks σ : Strategy} (same : Joined picks σ (
 
 -- ---- exactly when
 
--- For picks none above the number of rows: what document 01 lists at t, and blocking the system at t.
-pub blocks-exactly : (p : Problem) (t : ℤ) (picks : Strategy) → NoneAbove (suc (p .m)) (suc (p .n)) picks
-    → (PicksCount p picks × BelowZero p picks t) ↔ Blocks (systemAt p t) Anchor (strategyOf picks (suc (p .m)))
-blocks-exactly p t picks h =
+-- For picks none above the number of rows, from any start inside the problem: what document 01 lists at t, and blocking the system
+-- at t.
+pub blocks-exactly : (Start : ℕ → Type 0) (p : Problem) (t : ℤ) (picks : Strategy) → ((j : ℕ) → Start j → j ≤ p .n)
+    → NoneAbove (suc (p .m)) (suc (p .n)) picks
+    → (PicksCount Start p picks × BelowZero Start p picks t) ↔ Blocks (systemAt p t) Start (strategyOf picks (suc (p .m)))
+blocks-exactly Start p t picks inside h =
     let s = strategy-joined picks (suc (p .m)) (suc (p .n)) h in
-    (λ b. picks-block p t s (b .0) (b .1), block-picks p t s)
+    (λ b. picks-block p t s inside (b .0) (b .1), block-picks p t s inside)
 
--- For row picks none above the number of variables: what document 01 lists at t, and saving the system at t.
-pub saves-exactly : (p : Problem) (t : ℤ) (picks : Strategy) → NoneAbove (suc (p .n)) (suc (p .m)) picks
-    → (RowPicksCount p picks × AtLeastZero p picks t) ↔ Saves (systemAt p t) Anchor (strategyOf picks (suc (p .n)))
-saves-exactly p t picks h =
+-- For row picks none above the number of variables, from any start: what document 01 lists at t, and saving the system at t.
+pub saves-exactly : (Start : ℕ → Type 0) (p : Problem) (t : ℤ) (picks : Strategy) → NoneAbove (suc (p .n)) (suc (p .m)) picks
+    → (RowPicksCount Start p picks × AtLeastZero Start p picks t) ↔ Saves (systemAt p t) Start (strategyOf picks (suc (p .n)))
+saves-exactly Start p t picks h =
     let s = strategy-joined picks (suc (p .n)) (suc (p .m)) h in
     (λ b. picks-save p t s (b .0) (b .1), save-picks p t s)

@@ -1,9 +1,9 @@
--- Strong duality: every system has a solution with a start variable whole, or a strategy that blocks. Policy iteration
+-- Strong duality: from every start a system has a solution with a start variable whole, or a strategy that blocks. Policy iteration
 -- finds one of the two: from the strategy without picks, switch one variable to a row that fails there as long as there
 -- is one; the height bounds the number of steps. A finite table of coefficients has a bound, so nothing is assumed.
 use Prim.Native.Nat.{ℕ, zero, suc, _+_, _≤_, _<_}
-use mathlib.Core.Path.{_≡_, refl, ap, sym, _∙_}
-use mathlib.Core.Bool.{Bool, true, false, cond, true≢false}
+use mathlib.Core.Path.{_≡_, refl, ap}
+use mathlib.Core.Bool.{Bool, true, false, cond}
 use mathlib.Core.Logic.{_⊎_, inl, inr, ⊎-elim}
 use native.Mathlib.Omega.{arith}
 use lib.Dec.{eqb}
@@ -12,9 +12,10 @@ use borrow.Author.Tests.{eqb-true, eq-eqb}
 use Rattle.base.proofs.Numbers.{nat-le-or-lt}
 use Rattle.definitions.specs.Tropical.{Trop, bot, fin, plus, _⊑_, Finite}
 use Rattle.definitions.specs.Problem.{Point}
-use Rattle.definitions.specs.Certificate.{Strategy, Anchor}
+use Rattle.definitions.specs.Certificate.{Strategy}
 use Rattle.definitions.proofs.Tropical.{blank-or-finite, ⊑-or-above}
-use Rattle.duality.specs.System.{System, sideOf, Solution, Blocked}
+use Rattle.duality.specs.Starts.{StartBelow}
+use Rattle.duality.specs.System.{System, sideOf, Solves, Solution, Meets, Blocks, Blocked}
 use Rattle.duality.specs.Values.{values, Policy, Fails, Switched, Switch}
 use Rattle.duality.specs.Height.{Bounded, total, height}
 use Rattle.duality.proofs.Policy.{next-policy}
@@ -139,45 +140,36 @@ module _ (s : System) where
   pub settled : Settled s
   settled = settle (suc (height s (bound s) (idle s))) (idle s) (empty-policy s) (omega arith)
 
--- Strong duality, for a start that is decided and lies below the number of variables.
-pub strong-start : (s : System) (Start : ℕ → Type 0) → ((j : ℕ) → Start j ⊎ (Start j → ⊥))
-    → ((j : ℕ) → Start j → j < s .variables) → Solution s Start ⊎ Blocked s Start
-strong-start s Start decided inside = ⊎-elim (λ b. inr (blocked b)) (λ f. inl (solution f)) (all-or-some _ _ blank-or-started (s .variables))
+-- ---- strong duality
+
+-- Of numbers for the variables, all of a start are blank or one is finite.
+pub blank-or-met : (s : System) {Start : ℕ → Type 0} → StartBelow (s .variables) Start → (x : Point)
+    → ((j : ℕ) → Start j → x j ≡ bot) ⊎ Meets s Start x
+blank-or-met s {Start} starts x = ⊎-elim
+    (λ b. inl (λ j h. b j (starts .inside j h) h))
+    (λ f. inr (record { at = f .place; inside = f .inside; started = f .holds .0; finite = f .holds .1 }))
+    (all-or-some _ _ (λ j. go j (starts .decided j) (blank-or-finite (x j))) (s .variables))
+  where
+    go : (j : ℕ) → Start j ⊎ (Start j → ⊥) → (x j ≡ bot) ⊎ Finite (x j) → (Start j → x j ≡ bot) ⊎ (Start j × Finite (x j))
+    go j d (inl e) = inl (λ _. e)
+    go j (inl b) (inr f) = inr (b, f)
+    go j (inr n) (inr f) = inl (λ b. absurd (n b))
+
+-- From every start at once: a kept strategy has a finite value there, or it blocks.
+pub met-or-blocks : (s : System) {Start : ℕ → Type 0} (τ : Strategy) → StartBelow (s .variables) Start → Policy s τ
+    → Meets s Start (values s τ) ⊎ Blocks s Start τ
+met-or-blocks s {Start} τ starts policy =
+    ⊎-elim (λ b. inr (blank-blocks s τ policy Start (λ j h. (starts .inside j h, b j h)))) inl (blank-or-met s starts (values s τ))
+
+-- From every start there is a solution, or some strategy blocks.
+pub strong : (s : System) (Start : ℕ → Type 0) → StartBelow (s .variables) Start → Solution s Start ⊎ Blocked s Start
+strong s Start starts = ⊎-elim
+    (λ m. inl (started-solution s Start (values s τ) solves (m .at) (m .inside) (m .started) (m .finite)))
+    (λ b. inr (record { strategy = τ; blocks = b }))
+    (met-or-blocks s τ starts (settled s .policy))
   where
     τ : Strategy
     τ = settled s .strategy
 
-    blank-or-started : (j : ℕ) → (Start j → values s τ j ≡ bot) ⊎ (Start j × Finite (values s τ j))
-    blank-or-started j = go (decided j) (blank-or-finite (values s τ j))
-      where
-        go : Start j ⊎ (Start j → ⊥) → (values s τ j ≡ bot) ⊎ Finite (values s τ j) → (Start j → values s τ j ≡ bot) ⊎ (Start j × Finite (values s τ j))
-        go d (inl e) = inl (λ _. e)
-        go (inl b) (inr f) = inr (b, f)
-        go (inr n) (inr f) = inl (λ b. absurd (n b))
-
-    blocked : ((j : ℕ) → j < s .variables → Start j → values s τ j ≡ bot) → Blocked s Start
-    blocked h = record
-        { strategy = τ; blocks = blank-blocks s τ (settled s .policy) Start (λ j b. (inside j b, h j (inside j b) b)) }
-
-    solution : Some (λ j. Start j × Finite (values s τ j)) (s .variables) → Solution s Start
-    solution f =
-        started-solution s Start (values s τ) (finished s (values s τ) (settled s .stands)) (f .place) (f .inside) (f .holds .0) (f .holds .1)
-
--- For a start given by marks on the variables.
-pub strong : (s : System) (marks : ℕ → Bool)
-    → Solution s (λ j. (marks j ≡ true) × (j < s .variables)) ⊎ Blocked s (λ j. (marks j ≡ true) × (j < s .variables))
-strong s marks = strong-start s _ decided (λ j b. b .1)
-  where
-    decided : (j : ℕ) → ((marks j ≡ true) × (j < s .variables)) ⊎ (((marks j ≡ true) × (j < s .variables)) → ⊥)
-    decided j = go (marks j) refl (nat-le-or-lt (s .variables) j)
-      where
-        go : (t : Bool) → marks j ≡ t → (s .variables ≤ j) ⊎ (j < s .variables)
-            → ((marks j ≡ true) × (j < s .variables)) ⊎ (((marks j ≡ true) × (j < s .variables)) → ⊥)
-        go t e (inl h) = inr (λ b. omega arith)
-        go true e (inr h) = inl (e, h)
-        go false e (inr h) = inr (λ b. true≢false (sym (b .0) ∙ e))
-
--- For variable 0.
-pub strong-anchor : (s : System) → 0 < s .variables → Solution s Anchor ⊎ Blocked s Anchor
-strong-anchor s h =
-    strong-start s Anchor (λ j. ⊎-elim (λ (e : j ≤ 0). inl (omega arith)) (λ (l : 0 < j). inr (λ e. omega arith)) (nat-le-or-lt j 0)) (λ j e. omega arith)
+    solves : Solves s (values s τ)
+    solves = finished s (values s τ) (settled s .stands)

@@ -18,7 +18,8 @@ use Rattle.duality.specs.Circuits.{Circuit}
 use Rattle.duality.specs.System.{System, sideOf, Solves, Solution, Leads, Arc, Blocks, Blocked, RowLeads, RowArc, RowHasPick, Saves}
 use Rattle.duality.specs.Induced.{Attaining, Induced}
 use Rattle.duality.proofs.Walks.{Inside, Looped, looped, Onward, Endless, endless, walk-keep, walk-change}
-use Rattle.duality.proofs.Reach.{reach-keep, reach-map, circuit-map, circuit, lower-walk}
+use Rattle.duality.proofs.Reach.{reach-keep, circuit, lower-walk}
+use Rattle.duality.proofs.Starts.{blocks-from}
 
 -- ---- a solution saves
 
@@ -210,30 +211,10 @@ clash s Start τ σ j h k b v = closed (looped (both-inside s τ σ) k (omega ar
 
 -- ---- weak duality
 
--- A strategy that blocks from a start blocks from each of its variables alone.
-pub blocks-from : (s : System) (Start : ℕ → Type 0) (τ : Strategy) (j : ℕ) → Start j → Blocks s Start τ → Blocks s (λ i. i ≡ j) τ
-blocks-from s Start τ j h b = record {
-  counts = λ i r. b .counts i (reach-map wider (λ i l a. a) r);
-  negative = λ w c. b .negative w (circuit-map wider (λ i l a. a) (λ i l w a. a) c);
-}
-  where
-    wider : (i : ℕ) → i ≡ j → Start i
-    wider i e = rw e h
-
--- The same of a strategy of rows that saves.
-pub saves-from : (s : System) (Start : ℕ → Type 0) (σ : Strategy) (j : ℕ) → Start j → Saves s Start σ → Saves s (λ i. i ≡ j) σ
-saves-from s Start σ j h v = record {
-  counts = λ i k b r l. v .counts i k b (reach-map wider (λ i l a. a) r) l;
-  nonnegative = λ w c. v .nonnegative w (circuit-map wider (λ i l a. a) (λ i l w a. a) c);
-}
-  where
-    wider : (i : ℕ) → i ≡ j → Start i
-    wider i e = rw e h
-
 -- A point that solves the system and is finite at a start variable excludes a strategy that blocks.
 pub weak : (s : System) (Start : ℕ → Type 0) (x : Point) (τ : Strategy) (j : ℕ) → Start j → j < s .variables → Finite (x j)
     → Solves s x → Blocks s Start τ → ⊥
-weak s Start x τ j h k f v b = clash s (λ i. i ≡ j) τ (best s x) j refl k (blocks-from s Start τ j h b)
+weak s Start x τ j h k f v b = clash s (λ i. i ≡ j) τ (best s x) j refl k (blocks-from (λ i e. rw e h) b)
     (solution-saves s x (best s x) v (best-induced s x) (λ i. i ≡ j) (λ i e. (rw e k, rw e f)))
 
 -- No system has both a solution and a strategy that blocks.

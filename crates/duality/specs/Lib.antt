@@ -1,4 +1,5 @@
 pub mod Circuits
+pub mod Starts
 pub mod System
 pub mod Values
 pub mod Height

@@ -1,17 +1,18 @@
 -- Problems of an older layout, whose leads lay within a smaller limit: what stays of them. Document 02, 2.2: "Class and least span
 -- of an older problem do not move". What a problem means, its classes and its least span know no limit (Problem, `problemOf`); the
 -- trials that decide them do.
-use Prim.Native.Nat.{ℕ, _*_, _≤_}
+use Prim.Native.Nat.{ℕ, _*_, _≤_, _<_}
 use mathlib.Core.Path.{_≡_}
 use mathlib.Core.Bool.{Bool, true, false, not}
 use mathlib.Core.List.{List, [], _∷_}
 use mathlib.Core.Logic.{_↔_}
 use lib.ListN.{length}
 use lib.IntN.{ℤ, pos, negsuc, natAbs}
-use Rattle.definitions.specs.Limits.{stride, top-trial, lowest-trial, refused-lead}
+use Rattle.definitions.specs.Limits.{questions-kind, stride, top-trial, lowest-trial, refused-lead}
 use Rattle.definitions.specs.Bytes.{all, blank-or-within, first, or-else}
 use Rattle.definitions.specs.Problem.{Problem, Attainable, Optimal, Unbounded, Infeasible}
-use Rattle.definitions.specs.ProblemRecord.{leadsOf, headerRefusal, refusalFor, WithinLayout, problemOf}
+use Rattle.definitions.specs.ProblemRecord.{kindField, countField, leadsOf, headerRefusal, refusalFor, WithinLayout, problemOf}
+use Rattle.definitions.specs.Questions.{alone}
 
 -- The limit of leads before: ±10,080.
 abbrev pub older-lead-limit : ℕ
@@ -46,8 +47,10 @@ pub record Stays (limit : ℕ) (p : Problem) : Type 0 where
   pub least : (z : ℤ) → Optimal p z → natAbs z ≤ spans-by limit
 
 -- Of every record whose leads lie within an older limit: the same refusal, or none, applies to it. And of every problem that was
--- within that layout: it is within this one, and stays.
+-- within that layout: it is within this one, and stays; so does each of several questions.
 abbrev pub OlderStay : ℕ → Type 0
 OlderStay limit =
     ((several : Bool) (s : List ℕ) → LeadsWithin limit s → refusalFor several s ≡ refusalBefore limit several s)
     × ((s : List ℕ) → refusalBefore limit false s ≡ 0 → WithinLayout s × Stays limit (problemOf s))
+    × ((s : List ℕ) → kindField s ≡ questions-kind → refusalBefore limit true s ≡ 0 → (q : ℕ) → q < countField s
+    → WithinLayout (alone s q) × Stays limit (problemOf (alone s q)))

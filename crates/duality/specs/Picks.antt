@@ -4,11 +4,9 @@ use Prim.Native.Nat.{ℕ, zero, suc, _≤_, _<_}
 use mathlib.Core.Path.{_≡_}
 use mathlib.Core.Bool.{cond}
 use lib.Dec.{ltb}
-use lib.IntN.{ℤ, pos}
-use lib.Signed.{_≤ℤ_}
 use Rattle.definitions.specs.Tropical.{Finite}
 use Rattle.definitions.specs.Problem.{Problem}
-use Rattle.definitions.specs.Certificate.{Strategy, Anchor, Reachable, Cycle, Leads, RowLeads, RowArc}
+use Rattle.definitions.specs.Certificate.{Strategy, Reachable, Leads, RowLeads}
 
 -- One pick of the records as one of the theory; `none` stands for no pick.
 unfoldable pub unpick : ℕ → ℕ → ℕ
@@ -38,14 +36,10 @@ pub record SomePicks (many width : ℕ) (Accepted : Strategy → Type 0) : Type 
   pub none-above : NoneAbove many width picks
   pub accepted : Accepted picks
 
--- Every reached cycle weighs zero or more when each arc by the objective weighs t more.
-abbrev pub AtLeastZero : Problem → Strategy → ℤ → Type 0
-AtLeastZero p picks t = (w : ℤ) → Cycle Anchor (RowLeads p picks) (RowArc p picks t) w → pos 0 ≤ℤ w
+-- Two strategies of variables agree at every variable that the first reaches from the start.
+abbrev pub AgreeReached : (ℕ → Type 0) → Problem → Strategy → Strategy → Type 0
+AgreeReached Start p picks picks′ = (j : ℕ) → Reachable Start (Leads p picks) j → picks′ j ≡ picks j
 
--- Two strategies of variables agree at every variable that the first reaches.
-abbrev pub AgreeReached : Problem → Strategy → Strategy → Type 0
-AgreeReached p picks picks′ = (j : ℕ) → Reachable Anchor (Leads p picks) j → picks′ j ≡ picks j
-
--- Two strategies of rows agree at every row with a non-blank left coefficient of a variable that the first reaches.
-abbrev pub AgreeInUse : Problem → Strategy → Strategy → Type 0
-AgreeInUse p picks picks′ = (i j : ℕ) → i ≤ p .m → Reachable Anchor (RowLeads p picks) j → Finite (p .left i j) → picks′ i ≡ picks i
+-- Two strategies of rows agree at every row with a non-blank left coefficient of a variable that the first reaches from the start.
+abbrev pub AgreeInUse : (ℕ → Type 0) → Problem → Strategy → Strategy → Type 0
+AgreeInUse Start p picks picks′ = (i j : ℕ) → i ≤ p .m → Reachable Start (RowLeads p picks) j → Finite (p .left i j) → picks′ i ≡ picks i

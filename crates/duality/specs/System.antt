@@ -9,6 +9,7 @@ use Rattle.definitions.specs.Tropical.{Trop, fin, plus, largest, _⊑_, Finite}
 use Rattle.definitions.specs.Problem.{Problem, Point}
 use Rattle.definitions.specs.Certificate.{Strategy, Reachable, raise}
 use Rattle.duality.specs.Circuits.{Circuit}
+use Rattle.duality.specs.Starts.{Only}
 
 -- Variables 0 to variables − 1, rows 0 to rows − 1, coefficients by row and variable.
 pub record System : Type 0 where
@@ -33,6 +34,24 @@ pub record Solution (s : System) (Start : ℕ → Type 0) : Type 0 where
   pub inside : at < s .variables
   pub started : Start at
   pub finite : Finite (point at)
+
+-- Each variable of the start is finite in some solution.
+abbrev pub AllSolved : System → (ℕ → Type 0) → Type 0
+AllSolved s Start = (j : ℕ) → Start j → Solution s (Only j)
+
+-- The point is finite at a variable of the start.
+pub record Meets (s : System) (Start : ℕ → Type 0) (x : Point) : Type 0 where
+  pub at : ℕ
+  pub inside : at < s .variables
+  pub started : Start at
+  pub finite : Finite (x at)
+
+-- One solution that is finite at a variable of the one start and at one of the other.
+pub record Joint (s : System) (A B : ℕ → Type 0) : Type 0 where
+  pub point : Point
+  pub solves : Solves s point
+  pub first : Meets s A point
+  pub second : Meets s B point
 
 -- ---- strategies of variables: τ j is a row; anything from the number of rows on is no pick
 

@@ -16,13 +16,14 @@ use Rattle.definitions.specs.Limits.{lead-limit, span-limit, class-optimal, cla
 use Rattle.definitions.specs.Tropical.{Trop, bot, fin, _⊑_, blank-least, whole-least, Finite}
 use Rattle.definitions.specs.Problem as Problems
 use Rattle.definitions.specs.Problem.{Problem, Value, minus-infinity, plus-infinity, side, value}
-use Rattle.definitions.specs.Certificate.{Strategy, Anchor, Reachable, start, onward, Walk, stop, step, Cycle, raise, Leads, Arc, HasPick, PicksCount, BelowZero, RowLeads, RowArc, RowHasPick, RowPicksCount}
+use Rattle.definitions.specs.Certificate.{Strategy, Anchor, Reachable, start, onward, Walk, stop, step, Cycle, raise, Leads, Arc, HasPick, PicksCount, BelowZero, RowLeads, RowArc, RowHasPick, RowPicksCount, AtLeastZero}
 use Rattle.definitions.specs.ProblemRecord.{nField, mField, WithinLayout, problemOf}
 use Rattle.definitions.specs.AnswerRecord.{Answer, answerRefusal}
 use Rattle.definitions.specs.Verdict.{Accepted, optimal, unbounded, infeasible, answerFor, pointOf, strategyOf}
 use Rattle.definitions.proofs.Whole.{whole, plus-read}
 use Rattle.definitions.proofs.Tropical.{fin-injective, bot-not-fin, not-finite-bot}
-use Rattle.duality.specs.Picks.{NoneAbove, AtLeastZero}
+use Rattle.duality.specs.Picks.{NoneAbove}
+use Rattle.duality.proofs.Starts.{anchor-inside}
 use Rattle.duality.proofs.Numbers.{below-infeasible, above-unbounded}
 use Rattle.strategy_tests.proofs.Certified.{Scale, strict, loose, strict-scale, loose-scale}
 use Rattle.duality.proofs.SmallLeads.{layout-within, layout-enough}
@@ -190,7 +191,7 @@ falls-bounded (fin y) bot a r h pot l e q t = absurd (false≢true t)
 falls-bounded (fin y) (fin k) a r h pot l e q t =
     record { there = k; is = q; under = subst (λ (z : ℤ). (strict 1 ((z -ℤ a) +ℤ r) +ℤ k) ≤ℤ h) (fin-injective e) (le-tested t) }
 
-pub variables-fall : (p : Problem) (t : ℤ) (pots : List Trop) (picks : Strategy) → variablesFall p t pots picks ≡ true → PicksCount p picks × BelowZero p picks t
+pub variables-fall : (p : Problem) (t : ℤ) (pots : List Trop) (picks : Strategy) → variablesFall p t pots picks ≡ true → PicksCount Anchor p picks × BelowZero Anchor p picks t
 unfolding variablesFall
 variables-fall p t pots picks e = certifies strict-scale pot (finite-tested (pot 0) (both .0)) counts leads bounded
   where
@@ -279,7 +280,7 @@ rise-of p t pot picks i h a e = go (picks i) refl e
         let f = rises-finite (p .right i l) (pot l) a (raise p t i) h e in
         record { variable = l; b = f .whole; picked = q; right-is = f .is; bound = rises-bounded (p .right i l) (pot l) a (raise p t i) h pot l refl e (f .whole) (f .is) }
 
-pub variables-rise : (p : Problem) (t : ℤ) (pots : List Trop) (picks : Strategy) → variablesRise p t pots picks ≡ true → RowPicksCount p picks × AtLeastZero p picks t
+pub variables-rise : (p : Problem) (t : ℤ) (pots : List Trop) (picks : Strategy) → variablesRise p t pots picks ≡ true → RowPicksCount Anchor p picks × AtLeastZero Anchor p picks t
 unfolding variablesRise variableRises
 variables-rise p t pots picks e = (λ i j h r f. c .0 j r i h f, c .1)
   where
@@ -311,7 +312,7 @@ variables-rise p t pots picks e = (λ i j h r f. c .0 j r i h f, c .1)
         let k : w ≡ (r .b -ℤ a .by .a) +ℤ raise p t (a .row) = a .by .weighs ∙ ap (λ (x : ℤ). (x -ℤ a .by .a) +ℤ raise p t (a .row)) g in
         rw (k, ← d) (r .bound)
 
-    c : ((j : ℕ) → Reachable Anchor (RowLeads p picks) j → (i : ℕ) → i ≤ p .m → Finite (p .left i j) → RowHasPick p picks i) × AtLeastZero p picks t
+    c : ((j : ℕ) → Reachable Anchor (RowLeads p picks) j → (i : ℕ) → i ≤ p .m → Finite (p .left i j) → RowHasPick p picks i) × AtLeastZero Anchor p picks t
     c = certifies loose-scale (pointOf pots) (finite-tested (pointOf pots 0) (both .0)) counts leads bounded
 
 -- ---- answers
@@ -374,9 +375,9 @@ tested-accepted p a pots w none e = go (eqb (answerFor p a .class) 1) refl (eqb 
     go false q true r d s e =
         let two : answerFor p a .class ≡ 2 = eqb-true _ 2 r in
         let f = variables-rise (problemOf p) (negsuc span-limit) pots (strategyOf (answerFor p a .picks)) e in
-        unbounded two (above-unbounded (problemOf p) lead-limit span-limit (strategyOf (answerFor p a .picks)) (layout-within p w) (layout-enough p w) (rows-table p a none two) (f .0) (f .1))
+        unbounded two (above-unbounded (problemOf p) lead-limit span-limit (strategyOf (answerFor p a .picks)) (anchor-inside (problemOf p)) (layout-within p w) (layout-enough p w) (rows-table p a none two) (f .0) (f .1))
     go false q false r true s e =
         let three : answerFor p a .class ≡ 3 = eqb-true _ 3 s in
         let f = variables-fall (problemOf p) (pos span-limit) pots (strategyOf (answerFor p a .picks)) e in
-        infeasible three (below-infeasible (problemOf p) lead-limit span-limit (strategyOf (answerFor p a .picks)) (layout-within p w) (layout-enough p w) (variables-table p a none three) (f .0) (f .1))
+        infeasible three (below-infeasible (problemOf p) lead-limit span-limit (strategyOf (answerFor p a .picks)) (anchor-inside (problemOf p)) (layout-within p w) (layout-enough p w) (variables-table p a none three) (f .0) (f .1))
     go false q false r false s e = absurd (false≢true e)

@@ -95,8 +95,8 @@ module _ (width : ℕ) (some : 0 < width) (most : width ≤ 32) (L : ℕ → ℕ
   reach-known j = ⊎-elim
       (λ (h : width ≤ j). inr (λ r. omega (arith, there r .1)))
       (λ (h : j < width). ⊎-elim
-      (λ (z : getD (marks .marks) j 0 ≡ 0). inr (λ r. omega (arith, anchor-reached anchor-marked (marks .reached) some j (there r .0))))
-      (λ m. inl (reach-map (λ j e. e) led (reached-anchor anchor-marked (marks .reached) j h m)))
+      (λ (z : getD (marks .marks) j 0 ≡ 0). inr (λ r. omega (arith, anchor-reached anchor-marked (marks .reached) some j (there r .0) .1)))
+      (λ m. inl (reach-map (λ j e. e) led (reached-anchor anchor-marked (marks .reached) some j h m)))
       (eq-zero-or-pos (getD (marks .marks) j 0)))
       (nat-le-or-lt width j)
 
@@ -131,7 +131,7 @@ module _ (p : Problem) (picks : Strategy) (most : p .n ≤ highest-n) where
   pub shown : Strategy
   shown j = kept (reached-known j) (picks j)
 
-  pub shown-agree : AgreeReached p picks shown
+  pub shown-agree : AgreeReached Anchor p picks shown
   unfolding shown
   shown-agree j r = kept-yes (reached-known j) (picks j) r
 
@@ -143,7 +143,7 @@ module _ (p : Problem) (picks : Strategy) (most : p .n ≤ highest-n) where
   unfolding shown
   shown-past j h = kept-no (reached-known j) (picks j) (λ r. omega (arith, reached-inside r))
 
-  pub shown-idle : IdleVariables p shown
+  pub shown-idle : IdleVariables Anchor p shown
   unfolding shown
   shown-idle j d = kept-no (reached-known j) (picks j) (λ r. d (forward r))
     where
@@ -207,7 +207,7 @@ module _ (p : Problem) (picks : Strategy) (most : p .n ≤ highest-n) (none-abov
   pub rows-shown : Strategy
   rows-shown i = kept (used-known i) (picks i)
 
-  pub rows-shown-agree : AgreeInUse p picks rows-shown
+  pub rows-shown-agree : AgreeInUse Anchor p picks rows-shown
   unfolding rows-shown
   rows-shown-agree i j h r f = kept-yes (used-known i) (picks i) (record { row = h; at = j; reached = r; left = f })
 
@@ -215,7 +215,7 @@ module _ (p : Problem) (picks : Strategy) (most : p .n ≤ highest-n) (none-abov
   unfolding rows-shown
   rows-shown-past i h = kept-no (used-known i) (picks i) (λ u. omega (arith, u .row))
 
-  pub rows-shown-idle : IdleRows p rows-shown
+  pub rows-shown-idle : IdleRows Anchor p rows-shown
   unfolding rows-shown
   rows-shown-idle i d = kept-no (used-known i) (picks i) (λ u. d (u .at) (forward (u .reached)) (u .left))
     where

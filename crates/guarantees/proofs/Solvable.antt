@@ -36,6 +36,7 @@ use Rattle.duality.proofs.Attain.{moved, moved-anchored, moved-solves, solves-f
 use Rattle.duality.proofs.Ends.{finished, blank-blocks}
 use Rattle.duality.proofs.Strong.{settled}
 use Rattle.duality.proofs.Stamps.{stamps-at-most-32}
+use Rattle.duality.proofs.Starts.{anchor-inside}
 use Rattle.duality.proofs.Numbers.{top-enough}
 use Rattle.duality.proofs.Unused.{optimal-unused, infeasible-unused, unbounded-unused}
 use Rattle.duality.proofs.Classes.{value-exactly, optimal-exactly, optimal-accepted, optimal-range, infeasible-accepted, unbounded-accepted, classified}
@@ -114,9 +115,9 @@ module _ (p : Problem) (n-most : p .n ≤ highest-n) (within : Within p lead-lim
           span-is = refl;
           counts = counts-right a (p .n) (p .m) refl (listed-length picks (suc (p .n)));
           form = form-fits a (p .n) (p .m) .1 (record { span-fits = refl; stamps-fit = refl; picks-fit = fit });
-          idle-variables = λ _. subst (IdleVariables p) (sym whole-is) (shown-idle p (c .picks) n-most);
+          idle-variables = λ _. subst (IdleVariables Anchor p) (sym whole-is) (shown-idle p (c .picks) n-most);
           idle-rows = λ e. absurd (omega arith);
-          accepted = Verdicts.infeasible refl (infeasible-agrees p (listed-strategy picks (suc (p .n))) (infeasible-unused (shown-agree p (c .picks) n-most) (c .accepted)));
+          accepted = Verdicts.infeasible refl (infeasible-agrees p (anchor-inside p) (listed-strategy picks (suc (p .n))) (infeasible-unused (shown-agree p (c .picks) n-most) (c .accepted)));
         };
       }
 
@@ -141,7 +142,7 @@ module _ (p : Problem) (n-most : p .n ≤ highest-n) (within : Within p lead-lim
           counts = counts-right a (p .n) (p .m) refl (listed-length picks (suc (p .m)));
           form = form-fits a (p .n) (p .m) .1 (record { span-fits = refl; stamps-fit = refl; picks-fit = fit });
           idle-variables = λ d. absurd (d refl);
-          idle-rows = λ _. subst (IdleRows p) (sym whole-is) (rows-shown-idle p (c .picks) n-most (c .none-above));
+          idle-rows = λ _. subst (IdleRows Anchor p) (sym whole-is) (rows-shown-idle p (c .picks) n-most (c .none-above));
           accepted = Verdicts.unbounded refl (unbounded-agrees p (listed-strategy picks (suc (p .m))) (unbounded-unused (rows-shown-agree p (c .picks) n-most (c .none-above)) (c .accepted)));
         };
       }
@@ -222,9 +223,9 @@ module _ (p : Problem) (n-most : p .n ≤ highest-n) (within : Within p lead-lim
           span-is = refl;
           counts = counts-right a (p .n) (p .m) (listed-length x (suc (p .n))) (listed-length picks (suc (p .n)));
           form = form-fits a (p .n) (p .m) .1 (record { span-fits = le-leb _ span-limit (range s o); stamps-fit = l .stamps; picks-fit = fit });
-          idle-variables = λ _. subst (IdleVariables p) (sym whole-is) (shown-idle p (c .picks) n-most);
+          idle-variables = λ _. subst (IdleVariables Anchor p) (sym whole-is) (shown-idle p (c .picks) n-most);
           idle-rows = λ e. absurd (omega arith);
-          accepted = Verdicts.optimal refl refl (optimal-agrees p s (listed-point x (suc (p .n))) (listed-strategy picks (suc (p .n)))
+          accepted = Verdicts.optimal refl refl (optimal-agrees p s (anchor-inside p) (listed-point x (suc (p .n))) (listed-strategy picks (suc (p .n)))
               (optimal-unused (shown-agree p (c .picks) n-most) s x (c .accepted)));
         };
       }

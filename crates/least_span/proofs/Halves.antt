@@ -14,8 +14,8 @@ use Rattle.definitions.specs.Limits.{signed-half}
 use Rattle.definitions.specs.Bisection.{Bracket, Brackets, opening, middle, next, width, Halved, counted, halved, trials-optimal}
 use Rattle.definitions.proofs.Whole.{whole, plus-read, subℕ-read}
 use Rattle.definitions.proofs.Bisection.{half-up-is, width-is, Inside, middle-inside, halved-stop, halved-on, following}
-use Rattle.definitions.specs.Certificate.{Anchor}
 use Rattle.duality.specs.System.{Blocks, systemAt}
+use Rattle.reach.specs.Marks.{Begins}
 use Rattle.trials.specs.Tables.{pickOf}
 use Rattle.trial_tables.specs.declared.frame.Frame.{Frame}
 use Rattle.trial_tables.specs.Frames.{wholeOf, top-offset, lowest-offset, Trialled, Reraised}
@@ -194,12 +194,12 @@ module _ (s : Search) (low high trials low′ high′ half : ℕ) (w : low + 1 <
 -- A bracket of width 1: high is the least span, and the trials counted are those of the bisection.
 pub bracketed-end : (f : Frame) (left before after : List ℕ) (s₀ s : Search) (low high trials : ℕ) → Reraised f left before after → s₀ .made ≤ s .made → Searched f left after s
     → Bracketed s low high trials → high - low ≡ 1
-    → LeastFound f left before after s₀ (record { span = high; trials = trials; made = s .made; point = s .point; blocking = s .blocking })
+    → LeastFound f left before after s₀ (record { span = high; trials = trials; made = s .made; point = s .point; blocking = s .blocking; start = s .start })
 bracketed-end f left before after s₀ s low high trials r u₀ z b e = record {
   raised = r;
   least = λ p q. record {
     possible = subst (λ (t : ℕ). PointAt p t (s .point)) u (z .known p q .possible (omega (arith, b .high-least, b .highest)));
-    impossible = subst (λ (t : ℕ). Blocks (systemAt p (wholeOf t)) Anchor (pickOf (s .blocking))) v (z .known p q .impossible (b .settled));
+    impossible = subst (λ (t : ℕ). Blocks (systemAt p (wholeOf t)) (Begins (s .start) (p .n + 1)) (pickOf (s .blocking))) v (z .known p q .impossible (b .settled));
   };
   span-trialled = record { lowest = omega (arith, b .lowest); highest = omega (arith, b .highest) };
   count = count;
@@ -208,6 +208,7 @@ bracketed-end f left before after s₀ s low high trials r u₀ z b e = record {
   ranged = z .numbers .ranged;
   anchored = z .numbers .anchored;
   blocking-size = z .numbers .blocking-size;
+  started = z .numbers .started;
 }
   where
     u : s .reached ≡ high

@@ -13,7 +13,6 @@ use Rattle.base.proofs.Filled.{zeros}
 use Rattle.definitions.specs.Limits.{signed-half, lead-limit, stamp-limit, most-trials}
 use Rattle.definitions.specs.Tropical.{Trop, bot, fin}
 use Rattle.definitions.specs.Problem.{Problem}
-use Rattle.definitions.specs.Certificate.{Anchor}
 use Rattle.definitions.specs.Bytes.{blank-or-within}
 use Rattle.definitions.specs.Offset.{tropOf}
 use Rattle.definitions.proofs.Whole.{whole, minus-read}
@@ -22,6 +21,7 @@ use Rattle.duality.specs.System.{Solves, systemAt}
 use Rattle.duality.specs.Values.{Policy, difference}
 use Rattle.records.specs.Decoded.{Near}
 use Rattle.records.proofs.Near.{near-zero}
+use Rattle.reach.specs.Marks.{Begins, Anchored}
 use Rattle.trials.specs.Tables.{systemOf, pointOf, pickOf, value-limit, low-half, high, highs, Ranged}
 use Rattle.trials.specs.Steps.{Tried}
 use Rattle.trials.proofs.Low.{high-zero, high-whole, highs-at}
@@ -35,7 +35,7 @@ use Rattle.guesses.proofs.Stamping.{stamped-lows}
 use Rattle.trial_tables.proofs.Raising.{agree-raised, raised-reraised, holds-before, holds-after, holds-within, reraised-refl, reraised-trans}
 use Rattle.least_span.specs.declared.state.Search.{Search}
 use Rattle.least_span.specs.State.{PointAt, Known, Budgeted, Searched, Affordable, reachedAt, blockedAt, MovedTo, TrialMade, Opened, Advanced, Fallen, Stepped, floorAt}
-use Rattle.least_span.proofs.Trials.{kept-none, kept-down, trial-found, trial-ranged, trial-anchored, tried-blocks, tried-point}
+use Rattle.least_span.proofs.Trials.{kept-none, kept-down, trial-found, trial-ranged, trial-anchored, anchored-blank, tried-blocks, tried-point}
 use Rattle.least_span.proofs.Budget.{room-after, inside-trialled}
 
 -- ---- the opening
@@ -44,7 +44,7 @@ zeros-ranged : Ranged (replicate 32 0)
 zeros-ranged = record { size = length-replicate {A = ℕ} 32 0; near = λ k. rw (zeros 32 k) (near-zero value-limit) }
 
 -- Nothing is known at first.
-pub opening : (rows : ℕ) → Opened rows (record {
+pub opening : (rows : ℕ) (begin : List ℕ) → Anchored begin → Opened rows (record {
   reached = top-offset + 1;
   blocked = lowest-offset - 1;
   floor = lowest-offset;
@@ -53,8 +53,9 @@ pub opening : (rows : ℕ) → Opened rows (record {
   point = replicate 32 0;
   kept = replicate 32 rows;
   blocking = replicate 32 rows;
+  start = begin;
 })
-opening rows = record {
+opening rows begin anchored = record {
   searched = λ f left right e y. record {
     numbers = record {
       lowest = omega arith;
@@ -69,6 +70,7 @@ opening rows = record {
       anchored = omega (arith, zeros 32 0);
       kept-size = length-replicate {A = ℕ} 32 rows;
       blocking-size = length-replicate {A = ℕ} 32 rows;
+      started = anchored;
     };
     known = λ p q. record {
       possible = λ h. absurd (omega arith);
@@ -114,6 +116,7 @@ module _ (f : Frame) (t : ℕ) (left right right′ x picks : List ℕ) (s : Sea
         anchored = trial-anchored _ x picks (omega arith) d;
         kept-size = d .size;
         blocking-size = z .numbers .blocking-size;
+        started = z .numbers .started;
       };
       known = λ p q′. let q = holds-before again q′ in record {
         possible = λ _. tried-point p t x picks (omega (arith, y .n-most, q .n-is)) (holds-within q y) b (found p q) h;
@@ -146,10 +149,11 @@ module _ (f : Frame) (t : ℕ) (left right right′ x picks : List ℕ) (s : Sea
         anchored = z .numbers .anchored;
         kept-size = z .numbers .kept-size;
         blocking-size = d .size;
+        started = z .numbers .started;
       };
       known = λ p q′. let q = holds-before again q′ in record {
         possible = z .known p q .possible;
-        impossible = λ _. tried-blocks p (wholeOf t) x picks (found p q) e;
+        impossible = λ _. tried-blocks (Begins (s .start) (p .n + 1)) p (wholeOf t) x picks (found p q) (anchored-blank p x (z .numbers .started) e);
         kept = z .known p q .kept;
         floored = z .known p q .floored;
       };
@@ -262,6 +266,7 @@ pub fallen-to : {f : Frame} {left before after : List ℕ} (s : Search) (t : ℕ
       point = x;
       kept = s .kept;
       blocking = s .blocking;
+      start = s .start;
     })
 fallen-to s t x r z l h g a v = record {
   advanced = record {
@@ -280,6 +285,7 @@ fallen-to s t x r z l h g a v = record {
         anchored = a;
         kept-size = z .numbers .kept-size;
         blocking-size = z .numbers .blocking-size;
+        started = z .numbers .started;
       };
       known = λ p q. let k = z .known p (holds-before r q) in record {
         possible = λ _. v p q;
@@ -317,6 +323,7 @@ floor-searched s floor z e l g = record {
     anchored = z .numbers .anchored;
     kept-size = z .numbers .kept-size;
     blocking-size = z .numbers .blocking-size;
+    started = z .numbers .started;
   };
   known = λ p q. let k = z .known p q in record {
     possible = k .possible;

@@ -2,7 +2,7 @@
 use Prim.Native.Nat.{ℕ, suc, _+_, _*_, _-_, _≤_, _<_}
 use mathlib.Core.Path.{_≡_, refl, sym, ap, subst, _∙_}
 use mathlib.Core.Bool.{true}
-use mathlib.Core.Logic.{_⊎_, inl, inr, ⊎-elim}
+use mathlib.Core.Logic.{_⊎_, inl, inr, ⊎-elim, _↔_}
 use mathlib.Core.List.{List}
 use native.Mathlib.Omega.{arith}
 use native.Mathlib.Numerals.{add-one}
@@ -13,20 +13,22 @@ use borrow.Author.Tests.{le-leb}
 use Rattle.base.proofs.Numbers.{nat-le-or-lt}
 use Rattle.base.proofs.Filled.{filled-map, filled-end}
 use Rattle.definitions.specs.Limits.{signed-half, lead-limit, span-limit, stamp-limit}
-use Rattle.definitions.specs.Tropical.{Trop, bot, fin, plus}
+use Rattle.definitions.specs.Tropical.{Trop, bot, fin, plus, Finite}
 use Rattle.definitions.specs.Problem.{Problem, Point}
-use Rattle.definitions.specs.Certificate.{Anchor}
 use Rattle.definitions.specs.Bytes.{blank-or-within}
 use Rattle.definitions.specs.Offset.{tropOf}
 use Rattle.definitions.proofs.Whole.{up, down, whole, minus-read, abs-show, subℕ-read}
 use Rattle.definitions.proofs.Tropical.{bot-not-fin}
 use Rattle.definitions.proofs.Offset.{trop-zero, trop-fin, trop-order}
-use Rattle.duality.specs.System.{System, Blocks, systemAt}
-use Rattle.duality.specs.Values.{Policy, difference}
+use Rattle.duality.specs.Starts.{Only}
+use Rattle.duality.specs.System.{System, Solution, Blocks, systemAt}
+use Rattle.duality.specs.Values.{values, Policy, difference}
 use Rattle.duality.specs.Within.{Within}
-use Rattle.duality.proofs.Ends.{idle, empty-policy, blank-blocks}
+use Rattle.duality.proofs.Ends.{idle, empty-policy, started-solution, blank-blocks}
+use Rattle.duality.proofs.Solutions.{solved-finite}
 use Rattle.duality.proofs.Warm.{stays-down-at}
 use Rattle.duality.proofs.Stamps.{stamps-at-most-32}
+use Rattle.reach.specs.Marks.{Begins, Anchored}
 use Rattle.trials.specs.Tables.{systemOf, pointOf, pickOf, Ranged}
 use Rattle.trials.specs.Steps.{Tried}
 use Rattle.trials.proofs.Rounds.{zero-is}
@@ -95,11 +97,28 @@ first-inside : (p : Problem) (t : ℤ) → 0 < systemAt p t .variables
 unfolding systemAt
 first-inside p t = omega arith
 
--- Variable 0 blank: the strategy blocks.
-pub tried-blocks : (p : Problem) (t : ℤ) (x picks : List ℕ) → Tried (systemAt p t) x picks → getD x 0 0 ≡ 0
-    → Blocks (systemAt p t) Anchor (pickOf picks)
-tried-blocks p t x picks f e = blank-blocks (systemAt p t) (pickOf picks) (f .policy) Anchor
-    (λ j d. (rw d (first-inside p t), rw d (sym (f .values-are .each 0 (first-inside p t)) ∙ rw e trop-zero)))
+-- A start whose variables are blank: the strategy blocks from it.
+pub tried-blocks : (Start : ℕ → Type 0) (p : Problem) (t : ℤ) (x picks : List ℕ) → Tried (systemAt p t) x picks
+    → ((j : ℕ) → Start j → (j ≤ p .n) × (getD x j 0 ≡ 0)) → Blocks (systemAt p t) Start (pickOf picks)
+unfolding systemAt
+tried-blocks Start p t x picks f blank = blank-blocks (systemAt p t) (pickOf picks) (f .policy) Start
+    (λ j h. let b = blank j h in let i : j < suc (p .n) = omega (arith, b .0) in (i, sym (f .values-are .each j i) ∙ rw (b .1) trop-zero))
+
+-- The anchor is such a start where variable 0 is blank.
+pub anchored-blank : (p : Problem) {begin : List ℕ} (x : List ℕ) → Anchored begin → getD x 0 0 ≡ 0
+    → (j : ℕ) → Begins begin (p .n + 1) j → (j ≤ p .n) × (getD x j 0 ≡ 0)
+anchored-blank p x a e j b = (omega (arith, b .inside), let d : j ≡ 0 = a .only j (b .marked) in rw d e)
+
+-- Where variable 0 is not blank, the values are finite exactly at the variables that are finite in some solution.
+pub tried-finite : (p : Problem) (t : ℤ) (x picks : List ℕ) → Tried (systemAt p t) x picks → 0 < getD x 0 0
+    → (k : ℕ) → k ≤ p .n → Finite (pointOf x k) ↔ Solution (systemAt p t) (Only k)
+unfolding systemAt
+tried-finite p t x picks f h k b =
+    let i : k < suc (p .n) = omega arith in
+    let e : pointOf x k ≡ values (systemAt p t) (pickOf picks) k = f .values-are .each k i in (
+      λ q. started-solution (systemAt p t) (Only k) (pointOf x) (f .solves h) k i refl q,
+      λ v. rw e (solved-finite (systemAt p t) (pickOf picks) (f .policy) k v),
+    )
 
 -- A value of a kept strategy at t lies between −(64 L + |t|) and 0.
 record Low (t v : ℤ) : Type 0 where

@@ -7,10 +7,10 @@ use mathlib.Core.List.{List}
 use lib.ListN.{length, getD}
 use Rattle.definitions.specs.Limits.{stamp-limit, most-trials, stride}
 use Rattle.definitions.specs.Problem.{Problem}
-use Rattle.definitions.specs.Certificate.{Anchor}
 use Rattle.definitions.specs.Bytes.{blank-or-within}
 use Rattle.duality.specs.System.{Solves, Blocks, systemAt}
 use Rattle.duality.specs.Values.{Policy, difference}
+use Rattle.reach.specs.Marks.{Begins, Anchored}
 use Rattle.trials.specs.Tables.{pointOf, pickOf, highs, Ranged}
 use Rattle.trial_tables.specs.declared.frame.Frame.{Frame}
 use Rattle.trial_tables.specs.Frames.{wholeOf, zero-offset, top-offset, lowest-offset, Holds, Ready, Reraised}
@@ -27,11 +27,11 @@ pub record PointAt (p : Problem) (t : ℕ) (x : List ℕ) : Type 0 where
   pub stamps : (k : ℕ) → blank-or-within stamp-limit (difference (pointOf x k) (pointOf x 0)) ≡ true
   pub rest : (k : ℕ) → p .n < k → getD x k 0 ≡ 0
 
--- `reached` is possible unless it lies above the top, `blocked` is not unless it lies below the floor; each trial up to `reached`
--- may start from the strategy that was kept.
+-- `reached` is possible unless it lies above the top; `blocked` is not, by a strategy that blocks from the start, unless it lies below
+-- the floor; each trial up to `reached` may start from the strategy that was kept.
 pub record Known (p : Problem) (s : Search) : Type 0 where
   pub possible : s .reached ≤ top-offset → PointAt p (s .reached) (s .point)
-  pub impossible : s .floor ≤ s .blocked → Blocks (systemAt p (wholeOf (s .blocked))) Anchor (pickOf (s .blocking))
+  pub impossible : s .floor ≤ s .blocked → Blocks (systemAt p (wholeOf (s .blocked))) (Begins (s .start) (p .n + 1)) (pickOf (s .blocking))
   pub kept : (t : ℕ) → t ≤ s .reached → Policy (systemAt p (wholeOf t)) (pickOf (s .kept))
   pub floored : Floored p (s .floor)
 
@@ -51,6 +51,7 @@ pub record Budgeted (s : Search) : Type 0 where
   pub anchored : getD (s .point) 0 0 ≤ zero-offset
   pub kept-size : length (s .kept) ≡ stride
   pub blocking-size : length (s .blocking) ≡ stride
+  pub started : Anchored (s .start)
 
 -- A search of the problem in the tables.
 pub record Searched (f : Frame) (left right : List ℕ) (s : Search) : Type 0 where
@@ -84,6 +85,7 @@ reachedAt s t values picks = record {
   point = values;
   kept = picks;
   blocking = s .blocking;
+  start = s .start;
 }
 
 -- One that is not: its strategy blocks.
@@ -97,6 +99,7 @@ blockedAt s t picks = record {
   point = s .point;
   kept = s .kept;
   blocking = picks;
+  start = s .start;
 }
 
 -- The search after a trial at t with these values and this strategy.
@@ -171,6 +174,7 @@ floorAt s floor = record {
   point = s .point;
   kept = s .kept;
   blocking = s .blocking;
+  start = s .start;
 }
 
 -- Whether a point in low numbers shows that t is possible; the objective's row may have been raised meanwhile.

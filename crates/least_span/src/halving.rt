@@ -13,13 +13,15 @@ use records::limits::TABLE;
 use records::limits::TRIALS_UNBOUNDED;
 use trial_tables::frame::Frame;
 
-// The least span with the trials of the definition, the trials made, its point, and a strategy that blocks one below it.
+// The least span with the trials of the definition, the trials made, its point, and a strategy that blocks one below it,
+// from the start.
 pub struct Least {
     pub span: u64,
     pub trials: u64,
     pub made: u64,
     pub point: [u64; STRIDE],
     pub blocking: [usize; STRIDE],
+    pub start: [u8; STRIDE],
 }
 
 // Halvings until the bracket is 1 wide; its high is the least span. A middle whose outcome is known is counted, for another
@@ -38,12 +40,14 @@ pub fn halve(left: &[u32; TABLE], right: &mut [u32; TABLE], frame: Frame, start:
         if bracket.high - bracket.low == 1 {
             let point = search.point;
             let blocking = search.blocking;
+            let begun = search.start;
             break 'halving Least {
                 span: bracket.high,
                 trials,
                 made: search.made,
                 point,
                 blocking,
+                start: begun,
             };
         }
         let half = bracket.middle();

@@ -4,6 +4,7 @@ ghost use mathlib.Core.Path.{_≡_};
 ghost use Prim.Native.Nat.{_+_, _<_, _≤_};
 ghost use lib.ListN.{length};
 ghost use Rattle.definitions.specs.Limits.{most-trials, table-rows, stride};
+ghost use Rattle.reach.specs.Marks.{Anchored};
 ghost use Rattle.trial_tables.specs.Frames.{Ready};
 ghost use Rattle.trial_tables.specs.Floor.{FloorFor};
 ghost use Rattle.least_span.specs.State.{Searched, Affordable, PossibleIs, MovedTo, TrialMade, Opened};
@@ -26,7 +27,8 @@ pub const LOWEST: u64 = OFFSET - SPAN_LIMIT - 1;
 const ROOM: u64 = 1 << MOST_TRIALS;
 
 // What is known: `reached` is possible, with this point, or lies one above the top while that is not tried; `blocked` is not
-// possible, by the blocking strategy, or lies one below the floor, at which a possible trial shows that spans are bottomless.
+// possible, by the strategy that blocks from the start, or lies one below the floor, at which a possible trial shows that spans are
+// bottomless. The start is the anchor, as marks.
 // Every trial below `reached` may start from `kept`. So many trials are made, and `room` is 2 to the power of those left.
 pub struct Search {
     pub reached: u64,
@@ -37,11 +39,12 @@ pub struct Search {
     pub point: [u64; STRIDE],
     pub kept: [usize; STRIDE],
     pub blocking: [usize; STRIDE],
+    pub start: [u8; STRIDE],
 }
 
-// Nothing is known, and no trial made: the first starts from the strategy without picks. Public for `class_answers::answer`.
-pub fn opened(rows: usize) -> Search
-    requires { ⌜ (0 < rows) × (rows ≤ table-rows) ⌝ }
+// Nothing is known, and no trial made: the first goes on from the strategy without picks. Public for `class_answers::answer`.
+pub fn opened(rows: usize, start: [u8; STRIDE]) -> Search
+    requires { ⌜ (0 < rows) × (rows ≤ table-rows) × Anchored start ⌝ }
     ensures { λ r. ⌜ Opened rows r ⌝ }
 {
     Search {
@@ -53,6 +56,7 @@ pub fn opened(rows: usize) -> Search
         point: [0; STRIDE],
         kept: [rows; STRIDE],
         blocking: [rows; STRIDE],
+        start,
     }
 }
 

@@ -9,7 +9,7 @@ use native.Mathlib.Nat.{eq-zero-or-pos}
 use lib.ListN.{length, getD, set, replicate, length-set, length-replicate}
 use lib.Seq.{getD-set-same, getD-set-other}
 use borrow.Author.Tests.{eq-eqb, ne-eqb, lt-ltb, le-ltb}
-use Rattle.base.proofs.Numbers.{nat-le-or-lt, same-or-not}
+use Rattle.base.proofs.Numbers.{nat-le-or-lt, same-or-not, positive}
 use Rattle.base.proofs.Filled.{zeros, filled-more, filled-map}
 use Rattle.definitions.specs.Tropical.{bot, plus, largest, _⊑_, Finite}
 use Rattle.definitions.specs.Offset.{tropOf}
@@ -141,7 +141,7 @@ both-second a b r d y n = record { yes = λ e. (d, y e); no = λ e _. n e }
 pub used-found : (left marks : List ℕ) (width i j : ℕ) (r : Bool) → j < width → BothAre (getD marks j 0) (getD left (i * 32 + j) 0) r → r ≡ true
     → UsedIs left marks width i 1
 used-found left marks width i j r h b e = record {
-  some = λ _. record { at = j; inside = h; marked = (h, b .yes e .0); left-is = b .yes e .1 };
+  some = λ _. record { at = j; inside = h; marked = positive _ (b .yes e .0); left-is = b .yes e .1 };
   none = λ f. absurd (omega arith);
 }
 
@@ -149,7 +149,7 @@ pub used-none : (left marks : List ℕ) (width i n : ℕ) → ((j : ℕ) → j <
     → UsedIs left marks width i 0
 used-none left marks width i n f h = record {
   some = λ d. absurd (d refl);
-  none = λ _ t. t .left-is (f (t .at) (omega (arith, t .inside)) (t .marked .1));
+  none = λ _ t. t .left-is (f (t .at) (omega (arith, t .inside)) (λ z. omega (arith, t .marked, z)));
 }
 
 -- ---- the row strategy of a point

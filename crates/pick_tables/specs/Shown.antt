@@ -8,10 +8,10 @@ use lib.ListN.{length, getD}
 use Rattle.base.specs.Filled.{Filled}
 use Rattle.definitions.specs.Limits.{stride, arcs-size, table-rows}
 use Rattle.definitions.specs.Tropical.{plus, largest, _⊑_, Finite}
+use Rattle.reach.specs.Marks.{Marked, Reached}
 use Rattle.reach.specs.Spreading.{markOf}
 use Rattle.trials.specs.Tables.{entryOf, pointOf}
 use Rattle.trials.specs.Rounds.{sums}
-use Rattle.pick_tables.specs.Marks.{Marked, Reached}
 
 -- The record's form of a pick below `many`, 0 where its mark is 0 or it is none.
 unfoldable pub shownPick : ℕ → ℕ → ℕ → ℕ
@@ -31,12 +31,12 @@ VariableArcs right picks rows n arcs = Filled (λ k v. v ≡ arcBy right rows (g
 abbrev pub ShownVariables : List ℕ → List ℕ → ℕ → ℕ → List ℕ → Type 0
 ShownVariables picks marks rows n out = Filled (λ j v. v ≡ shownPick rows (getD marks j 0) (getD picks j 0)) table-rows n out
 
--- The picks of a strategy of variables, by the marks of what it reaches.
-pub record VariablePicks (right picks : List ℕ) (width rows : ℕ) (out : List ℕ) : Type 0 where
+-- The picks of a strategy of variables, by the marks of what it reaches from the start.
+pub record VariablePicks (right picks start : List ℕ) (width rows : ℕ) (out : List ℕ) : Type 0 where
   pub arcs : List ℕ
   pub marks : List ℕ
   pub arcs-are : VariableArcs right picks rows (width * stride) arcs
-  pub reached : Reached arcs width marks
+  pub reached : Reached arcs width start marks
   pub shown : ShownVariables picks marks rows width out
 
 -- ---- class 2
@@ -73,7 +73,7 @@ pub record BothAre (a b : ℕ) (r : Bool) : Type 0 where
 pub record UsedBy (left marks : List ℕ) (width i : ℕ) : Type 0 where
   pub at : ℕ
   pub inside : at < width
-  pub marked : Marked marks width at
+  pub marked : Marked marks at
   pub left-is : getD left (i * stride + at) 0 ≡ 0 → ⊥
 
 -- The mark of a row: not 0 exactly when it is in use.
@@ -90,12 +90,12 @@ pub record RowShown (left marks : List ℕ) (width i pick v : ℕ) : Type 0 wher
 abbrev pub ShownRows : List ℕ → List ℕ → List ℕ → ℕ → ℕ → List ℕ → Type 0
 ShownRows left picks marks width n out = Filled (λ i v. RowShown left marks width i (getD picks i 0) v) table-rows n out
 
--- The picks of a strategy of rows, by the marks of what it reaches.
-pub record RowPicks (left picks : List ℕ) (width rows : ℕ) (out : List ℕ) : Type 0 where
+-- The picks of a strategy of rows, by the marks of what it reaches from the start.
+pub record RowPicks (left picks start : List ℕ) (width rows : ℕ) (out : List ℕ) : Type 0 where
   pub arcs : List ℕ
   pub marks : List ℕ
   pub arcs-are : RowArcs left picks rows (width * stride) arcs
-  pub reached : Reached arcs width marks
+  pub reached : Reached arcs width start marks
   pub shown : ShownRows left picks marks width rows out
 
 -- ---- the row strategy of a point

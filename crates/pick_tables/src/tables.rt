@@ -3,10 +3,10 @@ ghost use mathlib.Core.Path.{_≡_};
 ghost use Prim.Native.Nat.{_+_, _*_, _/_, _%_, _<_, _≤_};
 ghost use lib.ListN.{length};
 ghost use Rattle.definitions.specs.Limits.{table-rows, table-size, stride, arcs-size};
+ghost use Rattle.reach.specs.Marks.{Flags};
 ghost use Rattle.reach.specs.Spreading.{markOf};
 ghost use Rattle.trials.specs.Tables.{raised-limit, Table, Ranged};
 ghost use Rattle.pick_tables.specs.Shown.{BothAre, shownPick, arcBy, VariableArcs, ShownVariables, VariablePicks, Column, RowArcs, UsedIs, ShownRows, RowPicks, BestIs, InducedRows};
-use reach::anchor;
 use reach::reach;
 use records::limits::ARCS;
 use records::limits::OFFSET;
@@ -95,18 +95,19 @@ fn shown_variables(
     out
 }
 
-// The picks of a strategy of variables; those of variables that are not reachable are 0. Public for `class_answers::answer`.
+// The picks of a strategy of variables; those of variables that the start does not reach are 0. Public for `class_answers::answer`.
 pub fn variable_picks(
     right: &[u32; TABLE],
     picks: &[usize; STRIDE],
+    start: [u8; STRIDE],
     width: usize,
     rows: usize,
 ) -> [u64; ROWS]
-    requires { ⌜ (length (now right) ≡ table-size) × (length (now picks) ≡ stride) × (width ≤ stride) × (0 < width) × (rows ≤ table-rows) ⌝ }
-    ensures { λ r. ⌜ VariablePicks (now (right .entry)) (now (picks .entry)) width rows r ⌝ }
+    requires { ⌜ (length (now right) ≡ table-size) × (length (now picks) ≡ stride) × Flags start × (width ≤ stride) × (rows ≤ table-rows) ⌝ }
+    ensures { λ r. ⌜ VariablePicks (now (right .entry)) (now (picks .entry)) start width rows r ⌝ }
 {
     let arcs = variable_arcs(right, picks, width, rows);
-    let marks = reach(&arcs, width, anchor());
+    let marks = reach(&arcs, width, start);
     shown_variables(picks, &marks, width, rows)
 }
 
@@ -192,14 +193,15 @@ fn shown_rows(
 pub fn row_picks(
     left: &[u32; TABLE],
     picks: &[usize; ROWS],
+    start: [u8; STRIDE],
     width: usize,
     rows: usize,
 ) -> [u64; ROWS]
-    requires { ⌜ (length (now left) ≡ table-size) × (length (now picks) ≡ table-rows) × (width ≤ stride) × (0 < width) × (rows ≤ table-rows) ⌝ }
-    ensures { λ r. ⌜ RowPicks (now (left .entry)) (now (picks .entry)) width rows r ⌝ }
+    requires { ⌜ (length (now left) ≡ table-size) × (length (now picks) ≡ table-rows) × Flags start × (width ≤ stride) × (rows ≤ table-rows) ⌝ }
+    ensures { λ r. ⌜ RowPicks (now (left .entry)) (now (picks .entry)) start width rows r ⌝ }
 {
     let arcs = row_arcs(left, picks, width, rows);
-    let marks = reach(&arcs, width, anchor());
+    let marks = reach(&arcs, width, start);
     shown_rows(left, picks, &marks, width, rows)
 }
 

@@ -16,9 +16,10 @@ use Rattle.base.proofs.Filled.{zeros}
 use Rattle.definitions.specs.Certificate.{Reachable, Anchor, start, onward}
 use Rattle.definitions.specs.Marks.{DifferBelow}
 use Rattle.definitions.proofs.Marks.{differ-here}
+use Rattle.duality.specs.Starts.{StartBelow}
 use Rattle.duality.proofs.Height.{total-falls}
-use Rattle.duality.proofs.Reach.{reach-map}
-use Rattle.reach.specs.Marks.{Marked, Led, Begins, Flags, Anchored, Reached}
+use Rattle.duality.proofs.Reach.{reach-keep, reach-map}
+use Rattle.reach.specs.Marks.{Marked, Led, Begins, Flags, StartMarked, Anchored, Reached}
 use Rattle.reach.specs.Spreading.{markOf, RowMarked, Reaching, unmarked, Spreading}
 
 -- ---- the start
@@ -248,15 +249,48 @@ spreading-reached {width = width} {begin} {marks} {new = new} h s same = reachin
         (λ u. absurd (same (differ-here b u)))
         (same-or-not (getD marks j 0) (getD new j 0))
 
--- ---- from the anchor
+-- ---- from a start
 
--- What is reached from variable 0 alone is reachable from the anchor, and what is reachable from it is reached.
+-- Marks are those of the start that they mark,
+pub begins-marked : {width : ℕ} {begin : List ℕ} → Flags begin → StartMarked (Begins begin width) width begin
+begins-marked f = record { flags = f; marked = λ j b. b; only = λ j b. b }
+
+-- and the anchor's those of variable 0.
+pub anchored-marked : {width : ℕ} {begin : List ℕ} → Anchored begin → 0 < width → StartMarked Anchor width begin
+anchored-marked a w = record {
+  flags = a .flags;
+  marked = λ j e. record { inside = omega arith; marked = rw e (a .anchor) };
+  only = λ j b. a .only j (b .marked);
+}
+
+-- Whether a variable is one of the start is decided by its mark.
+pub marked-start : {Start : ℕ → Type 0} {width : ℕ} {begin : List ℕ} → StartMarked Start width begin → StartBelow width Start
+marked-start {Start} {width} {begin} s = record { decided = decided; inside = λ j h. s .marked j h .inside }
+  where
+    decided : (j : ℕ) → Start j ⊎ (Start j → ⊥)
+    decided j = ⊎-elim
+        (λ (h : width ≤ j). inr (λ b. omega (arith, s .marked j b .inside)))
+        (λ (h : j < width). ⊎-elim
+        (λ (z : getD begin j 0 ≡ 0). inr (λ b. omega (arith, s .marked j b .marked)))
+        (λ m. inl (s .only j (record { inside = h; marked = m })))
+        (eq-zero-or-pos (getD begin j 0)))
+        (nat-le-or-lt width j)
+
+-- What is reached from these marks is reachable from the start, and what is reachable from it is reached.
+module _ {Start : ℕ → Type 0} {arcs : List ℕ} {width : ℕ} {begin marks : List ℕ} (starts : StartMarked Start width begin)
+    (reached : Reached arcs width begin marks) where
+  pub reached-from : (j : ℕ) → j < width → Marked marks j → Reachable Start (Led arcs width) j
+  reached-from j b m = reach-map (starts .only) (λ j l h. h) (reached .only j b m)
+
+  pub from-reached : (j : ℕ) → Reachable Start (Led arcs width) j → (j < width) × Marked marks j
+  from-reached j r =
+      let q = reach-keep {L′ = Led arcs width} (λ j. j < width) (λ j h. let b = starts .marked j h in (b, b .inside)) (λ j l _ a. (a, a .to)) r in
+      (q .1, reached .marked j (q .0))
+
+-- The same of the anchor.
 module _ {arcs : List ℕ} {width : ℕ} {begin marks : List ℕ} (anchored : Anchored begin) (reached : Reached arcs width begin marks) where
-  pub reached-anchor : (j : ℕ) → j < width → Marked marks j → Reachable Anchor (Led arcs width) j
-  reached-anchor j b m = reach-map (λ j s. anchored .only j (s .marked)) (λ j l h. h) (reached .only j b m)
+  pub reached-anchor : 0 < width → (j : ℕ) → j < width → Marked marks j → Reachable Anchor (Led arcs width) j
+  reached-anchor w = reached-from (anchored-marked anchored w) reached
 
-  pub anchor-reached : 0 < width → (j : ℕ) → Reachable Anchor (Led arcs width) j → Marked marks j
-  anchor-reached w j r = reached .marked j (reach-map (λ j e. begins j e) (λ j l h. h) r)
-    where
-      begins : (j : ℕ) → j ≡ 0 → Begins begin width j
-      begins j e = record { inside = omega arith; marked = rw e (anchored .anchor) }
+  pub anchor-reached : 0 < width → (j : ℕ) → Reachable Anchor (Led arcs width) j → (j < width) × Marked marks j
+  anchor-reached w = from-reached (anchored-marked anchored w) reached

@@ -26,6 +26,12 @@ pub record Flags (marks : List ℕ) : Type 0 where
   pub length-is : length marks ≡ stride
   pub flag : (k : ℕ) → getD marks k 0 ≤ 1
 
+-- The marks are those of a start of variables below the width: exactly these are marked there.
+pub record StartMarked (Start : ℕ → Type 0) (width : ℕ) (start : List ℕ) : Type 0 where
+  pub flags : Flags start
+  pub marked : (j : ℕ) → Start j → Begins start width j
+  pub only : (j : ℕ) → Begins start width j → Start j
+
 -- Only variable 0 is marked.
 pub record Anchored (start : List ℕ) : Type 0 where
   pub flags : Flags start
@@ -37,3 +43,9 @@ pub record Reached (arcs : List ℕ) (width : ℕ) (start marks : List ℕ) : Ty
   pub flags : Flags marks
   pub marked : (j : ℕ) → Reachable (Begins start width) (Led arcs width) j → Marked marks j
   pub only : (j : ℕ) → j < width → Marked marks j → Reachable (Begins start width) (Led arcs width) j
+
+-- The same of any leads: of the variables below the width exactly those are marked that the start reaches, and it reaches no others.
+pub record ReachedBy (Start : ℕ → Type 0) (Leads : ℕ → ℕ → Type 0) (width : ℕ) (marks : List ℕ) : Type 0 where
+  pub flags : Flags marks
+  pub marked : (j : ℕ) → Reachable Start Leads j → (j < width) × Marked marks j
+  pub only : (j : ℕ) → j < width → Marked marks j → Reachable Start Leads j

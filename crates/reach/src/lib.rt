@@ -12,7 +12,7 @@ use crate::compare::marks_differ;
 use records::limits::ARCS;
 use records::limits::STRIDE;
 
-// The start of document 01: variable 0, the anchor, alone. Public for `strategy_tests`, `pick_tables`.
+// The start of document 01: variable 0, the anchor, alone. Public for `checker::check`, `class_answers`.
 pub fn anchor() -> [u8; STRIDE]
     ensures { λ r. ⌜ Anchored r ⌝ }
 {

@@ -6,12 +6,11 @@ use native.Mathlib.Omega.{arith}
 use lib.IntN.{ℤ, pos}
 use Rattle.definitions.specs.Tropical.{Finite}
 use Rattle.definitions.specs.Problem.{Problem}
-use Rattle.definitions.specs.Certificate.{Strategy, Reachable, start, onward, Cycle, ArcBy, Leads, Arc, HasPick}
+use Rattle.definitions.specs.Certificate.{Strategy, Reachable, start, onward, Cycle, ArcBy, Leads, Arc, HasPick, PicksCount, ObjectiveUnused}
 use Rattle.definitions.specs.Selection.{rowOf, selected, Choice, renumbered}
 use Rattle.definitions.proofs.Selection.{row-objective}
 use Rattle.duality.proofs.Reach.{reach-keep, reach-map}
 use Rattle.duality.proofs.CycleMaps.{cycle-keep, unused-keep}
-use Rattle.selection.specs.Starts.{PicksCountFrom, ObjectiveUnused}
 use Rattle.selection.specs.Chosen.{Chosen, PicksChosen}
 use Rattle.selection.proofs.Rows.{row-last, by-all, by-selected, renumber-back, renumber-on}
 
@@ -97,12 +96,12 @@ module _ {p : Problem} {f : ℕ → ℕ} {m′ : ℕ} (c : Choice p f m′) (pic
         none
 
     -- Picks that count still do, where they are of its rows.
-    pub counts-selected : PicksChosen Start p f m′ picks → PicksCountFrom Start p picks → PicksCountFrom Start q picks′
+    pub counts-selected : PicksChosen Start p f m′ picks → PicksCount Start p picks → PicksCount Start q picks′
     counts-selected chosen counts j r = let s = reached-all r in pick-selected j (λ i. chosen j i s) (counts j s)
 
     -- ---- what holds of the selection, whose picks count, holds of the problem
 
-    module _ (counts : PicksCountFrom Start q picks′) where
+    module _ (counts : PicksCount Start q picks′) where
       abbrev Reached : ℕ → Type 0
       Reached = Reachable Start (Leads q picks′)
 
@@ -124,7 +123,7 @@ module _ {p : Problem} {f : ℕ → ℕ} {m′ : ℕ} (c : Choice p f m′) (pic
       picks-chosen j i r e = chosen-at j (counts j (reached-selected r)) i e
 
       -- and count.
-      pub counts-all : PicksCountFrom Start p picks
+      pub counts-all : PicksCount Start p picks
       counts-all j r = pick-all j (counts j (reached-selected r))
 
       -- Its cycles are cycles of the selection,

@@ -1,5 +1,5 @@
 -- What document 02's requests ask of a selection, each in a line or two by what stands below.
-use Prim.Native.Nat.{ℕ}
+use Prim.Native.Nat.{ℕ, _≤_}
 use lib.IntN.{ℤ}
 use Rattle.definitions.specs.Problem.{Problem, Point, Optimal, Infeasible}
 use Rattle.definitions.specs.Certificate.{Strategy, Anchor, AcceptedOptimal, AcceptedInfeasible}
@@ -17,7 +17,7 @@ module _ {p : Problem} {f : ℕ → ℕ} {m′ : ℕ} (c : Choice p f m′) wher
 
   -- Class 1.
   pub least-behind :
-      {s : ℤ} {x : Point} {picks : Strategy} → AcceptedOptimal p s x picks → PicksChosen Anchor p f m′ picks
+      {s : ℤ} {x : Point} {picks : Strategy} → AcceptedOptimal Anchor p s x picks → PicksChosen Anchor p f m′ picks
       → Optimal (selected p f m′) s × SameClass p (selected p f m′)
   least-behind {s} {x} {picks} a chosen =
       let o : Optimal (selected p f m′) s = accepted-optimal (selected p f m′) s x (record {
@@ -29,7 +29,7 @@ module _ {p : Problem} {f : ℕ → ℕ} {m′ : ℕ} (c : Choice p f m′) wher
 
   -- Class 3.
   pub none-behind :
-      {picks : Strategy} → AcceptedInfeasible p picks → PicksChosen Anchor p f m′ picks
+      {picks : Strategy} → AcceptedInfeasible Anchor p picks → PicksChosen Anchor p f m′ picks
       → Infeasible (selected p f m′) × SameClass p (selected p f m′)
   none-behind {picks} a chosen =
       let i : Infeasible (selected p f m′) = accepted-infeasible (selected p f m′) (record {
@@ -46,5 +46,7 @@ module _ {p : Problem} {f : ℕ → ℕ} {m′ : ℕ} (c : Choice p f m′) wher
 
   -- ---- 2.10: class and span are those of the problem that holds only the rules in force, and so are the certificates
 
-  pub suspended-out : ((i : ℕ) → LeftOut p f m′ i → BlankRow p i) → SameClass p (selected p f m′) × SameCertificates p f m′
-  suspended-out blank = (class-selected c (blank-kept blank), same-certificates c (λ i o. blank i o .left))
+  pub suspended-out :
+      {Start : ℕ → Type 0} → ((j : ℕ) → Start j → j ≤ p .n) → ((i : ℕ) → LeftOut p f m′ i → BlankRow p i)
+      → SameClass p (selected p f m′) × SameCertificates Start p f m′
+  suspended-out begins blank = (class-selected c (blank-kept blank), same-certificates c begins (λ i o. blank i o .left))

@@ -5,12 +5,11 @@ use mathlib.Core.Path.{_≡_, ap, sym, subst, _∙_}
 use lib.IntN.{ℤ, pos}
 use Rattle.definitions.specs.Tropical.{Finite}
 use Rattle.definitions.specs.Problem.{Problem}
-use Rattle.definitions.specs.Certificate.{Strategy, Reachable, start, onward, Cycle, ArcBy, RowLeads, RowArc, RowHasPick}
+use Rattle.definitions.specs.Certificate.{Strategy, Reachable, start, onward, Cycle, ArcBy, RowLeads, RowArc, RowHasPick, RowPicksCount, ObjectiveUnusedByRows}
 use Rattle.definitions.specs.Selection.{rowOf, selected, Choice, rowsRenumbered}
 use Rattle.definitions.proofs.Selection.{row-objective}
 use Rattle.duality.proofs.Reach.{reach-keep, reach-map}
 use Rattle.duality.proofs.CycleMaps.{cycle-keep, unused-keep}
-use Rattle.selection.specs.Starts.{RowPicksCountFrom, ObjectiveUnusedByRows}
 use Rattle.selection.specs.Chosen.{Chosen, RowsChosen}
 use Rattle.selection.proofs.Rows.{row-inside, row-last, by-all, by-selected}
 
@@ -72,7 +71,7 @@ module _ {p : Problem} {f : ℕ → ℕ} {m′ : ℕ} (c : Choice p f m′) (pic
         none
 
     -- Picks that count still do.
-    pub row-counts-selected : RowPicksCountFrom Start p picks → RowPicksCountFrom Start q picks′
+    pub row-counts-selected : RowPicksCount Start p picks → RowPicksCount Start q picks′
     row-counts-selected counts i j h r l =
         let k = counts (rowOf p f m′ i) j (row-inside c i h) (row-reached-all r) l in
         record { variable = k .variable; picked = k .picked; right = k .right }
@@ -113,7 +112,7 @@ module _ {p : Problem} {f : ℕ → ℕ} {m′ : ℕ} (c : Choice p f m′) (pic
           none
 
       -- and picks that count in the selection count.
-      pub row-counts-all : RowPicksCountFrom Start q picks′ → RowPicksCountFrom Start p picks
+      pub row-counts-all : RowPicksCount Start q picks′ → RowPicksCount Start p picks
       row-counts-all counts i j h r l =
           let s = chosen i j h r l in
           let k = counts (s .place) j (s .inside) (row-reached-selected r) (subst (λ (i : ℕ). Finite (p .left i j)) (sym (s .is)) l) in

@@ -1,6 +1,6 @@
 -- What the tests on a table of arcs say of a strategy. The table shows the strategy's arcs, scaled; reach follows the
 -- table, document 01's `Leads` one coefficient alone, and the two agree once all reached picks count. Written once for
--- strategies of variables and of rows.
+-- strategies of variables and of rows, from any start.
 use Prim.Native.Nat.{ℕ, suc, _+_, _*_, _≤_, _<_}
 use mathlib.Core.Path.{_≡_, ap, sym, subst, _∙_}
 use mathlib.Core.Bool.{Bool, true, false}
@@ -15,14 +15,14 @@ use borrow.Author.Tests.{eq-eqb, ne-eqb}
 use Rattle.base.specs.Decides.{Decides}
 use Rattle.base.proofs.Decides.{said-no}
 use Rattle.definitions.specs.Tropical.{Trop, fin}
-use Rattle.definitions.specs.Certificate.{Reachable, Anchor, Walk, stop, step, Cycle}
+use Rattle.definitions.specs.Certificate.{Reachable, Walk, stop, step, Cycle}
 use Rattle.definitions.proofs.Whole.{up, down, whole, subℕ-read, plus-read, neg-read}
 use Rattle.definitions.proofs.Tropical.{fin-injective, bot-not-fin}
 use Rattle.duality.proofs.Reach.{reach-keep, reach-map, circuit}
 use Rattle.duality.proofs.Cycles.{circuits-good}
 use Rattle.duality.proofs.Longest.{entries-end}
 use Rattle.duality.specs.Gains.{Entry}
-use Rattle.reach.specs.Marks.{Marked, Led, Begins, Anchored, Reached}
+use Rattle.reach.specs.Marks.{Marked, Led, Begins, StartMarked, Reached, ReachedBy}
 use Rattle.closed_walks.specs.Gains.{arc-zero, weightOf, matrix, Tested}
 use Rattle.closed_walks.proofs.ClosedWalks.{weight-none, weight-some}
 
@@ -137,9 +137,9 @@ first-marked : (arcs marks : List ℕ) {N j k n : ℕ} {w : ℤ} → 0 < n → W
 first-marked arcs marks h stop = absurd (omega arith)
 first-marked arcs marks h (step {j = j} {l = l} a p) = matrix-some arcs marks j l (a .entry)
 
-module _ {arcs : List ℕ} {N : ℕ} {Leads : ℕ → ℕ → Type 0} {A : ℕ → ℕ → ℤ → Type 0} {Counts : ℕ → Type 0} {s : ℕ → ℤ → ℤ} {Good : ℤ → Type 0}
-    (shows : ShownArcs arcs N Leads A Counts s) (scale : Scale s Good) (small : N ≤ 32) (some : 0 < N)
-    {begin marks : List ℕ} (anchored : Anchored begin) (reached : Reached arcs N begin marks) where
+module _ {Start : ℕ → Type 0} {arcs : List ℕ} {N : ℕ} {Leads : ℕ → ℕ → Type 0} {A : ℕ → ℕ → ℤ → Type 0} {Counts : ℕ → Type 0} {s : ℕ → ℤ → ℤ} {Good : ℤ → Type 0}
+    (shows : ShownArcs arcs N Leads A Counts s) (scale : Scale s Good) (small : N ≤ 32)
+    {begin marks : List ℕ} (starts : StartMarked Start N begin) (reached : Reached arcs N begin marks) where
   -- An arc of the strategy leads in the table.
   led : (j l : ℕ) (w : ℤ) → j < N → A j l w → Led arcs N j l
   led j l w h a =
@@ -147,24 +147,29 @@ module _ {arcs : List ℕ} {N : ℕ} {Leads : ℕ → ℕ → Type 0} {A : ℕ �
       record { from = h; to = t .0; arc = weight-read (getD arcs (j * 32 + l) 0) (t .1 .is) .0 }
 
   -- Where marked variables count, what the strategy reaches, the table reaches.
-  table-reaches : ((j : ℕ) → j < N → Marked marks j → Counts j) → {j : ℕ} → Reachable Anchor Leads j
+  table-reaches : ((j : ℕ) → j < N → Marked marks j → Counts j) → {j : ℕ} → Reachable Start Leads j
       → (j < N) × Reachable (Begins begin N) (Led arcs N) j
   table-reaches counts r =
       reach-keep {L′ = Led arcs N} (λ j. (j < N) × Reachable (Begins begin N) (Led arcs N) j)
-      (λ j e. let b = begins j e in (b, (b .inside, Reachable.start b)))
+      (λ j h. let b = starts .marked j h in (b, (b .inside, Reachable.start b)))
       (λ j l h a.
       let q = shows .counted j l (h .0) (counts j (h .0) (reached .marked j (h .1))) a in
       let d = led j l (q .weight) (h .0) (q .arc) in
       (d, (d .to, Reachable.onward (h .1) d)))
       r .1
-    where
-      begins : (j : ℕ) → j ≡ 0 → Begins begin N j
-      begins j e = record { inside = omega arith; marked = rw e (anchored .anchor) }
 
   -- What the table reaches, the strategy does.
-  strategy-reaches : {j : ℕ} → Reachable (Begins begin N) (Led arcs N) j → Reachable Anchor Leads j
-  strategy-reaches r = reach-map (λ j b. anchored .only j (b .marked))
+  strategy-reaches : {j : ℕ} → Reachable (Begins begin N) (Led arcs N) j → Reachable Start Leads j
+  strategy-reaches r = reach-map (starts .only)
       (λ j l d. let q = shows .from j l (d .from) (d .to) (d .arc) in shows .leads j l (q .weight) (q .arc)) r
+
+  -- So where the picks that the strategy reaches count, the marks are those of what it reaches.
+  pub marks-reached : ((j : ℕ) → Reachable Start Leads j → Counts j) → ReachedBy Start Leads N marks
+  marks-reached counts = record {
+    flags = reached .flags;
+    marked = λ j r. let q = table-reaches (λ k b m. counts k (strategy-reaches (reached .only k b m))) r in (q .0, reached .marked j (q .1));
+    only = λ j b m. strategy-reaches (reached .only j b m);
+  }
 
   -- A walk of the strategy from a reached variable, in the table.
   walk-above : {j k n : ℕ} {w : ℤ} → j < N → Reachable (Begins begin N) (Led arcs N) j → Walk A j k n w → Above (matrix arcs marks) N j k n (s n w)
@@ -195,7 +200,7 @@ module _ {arcs : List ℕ} {N : ℕ} {Leads : ℕ → ℕ → Type 0} {A : ℕ �
 
   -- Both tests passed: the picks count, and every reached cycle is good.
   certified-yes : {c g : Bool} → Decides ((j : ℕ) → j < N → Marked marks j → Counts j) c → Tested arcs marks N g → c ≡ true → g ≡ true
-      → ((j : ℕ) → Reachable Anchor Leads j → Counts j) × ((w : ℤ) → Cycle Anchor Leads A w → Good w)
+      → ((j : ℕ) → Reachable Start Leads j → Counts j) × ((w : ℤ) → Cycle Start Leads A w → Good w)
   certified-yes counts tested c g = (
     λ j r. let q = table-reaches (counts .yes c) r in counts .yes c j (q .0) (reached .marked j (q .1)),
     λ w k. let q = table-reaches (counts .yes c) (k .reachable) in
@@ -206,11 +211,11 @@ module _ {arcs : List ℕ} {N : ℕ} {Leads : ℕ → ℕ → Type 0} {A : ℕ �
 
   -- A marked variable does not count.
   uncounted : {c : Bool} → Decides ((j : ℕ) → j < N → Marked marks j → Counts j) c → c ≡ false
-      → ((j : ℕ) → Reachable Anchor Leads j → Counts j) → ⊥
+      → ((j : ℕ) → Reachable Start Leads j → Counts j) → ⊥
   uncounted counts c h = counts .no c (λ j b m. h j (strategy-reaches (reached .only j b m)))
 
   -- A closed walk is bad, so a cycle is.
-  gains-bad : {g : Bool} → Tested arcs marks N g → g ≡ false → ((w : ℤ) → Cycle Anchor Leads A w → Good w) → ⊥
+  gains-bad : {g : Bool} → Tested arcs marks N g → g ≡ false → ((w : ℤ) → Cycle Start Leads A w → Good w) → ⊥
   gains-bad tested g h =
       let q = tested .no g .gain in
       let b = entries-end (q .some) (q .loop) in
@@ -220,9 +225,9 @@ module _ {arcs : List ℕ} {N : ℕ} {Leads : ℕ → ℕ → Type 0} {A : ℕ �
 
   -- The first test alone, and both.
   pub certified-not : {c : Bool} → Decides ((j : ℕ) → j < N → Marked marks j → Counts j) c → c ≡ false
-      → Decides (((j : ℕ) → Reachable Anchor Leads j → Counts j) × ((w : ℤ) → Cycle Anchor Leads A w → Good w)) false
+      → Decides (((j : ℕ) → Reachable Start Leads j → Counts j) × ((w : ℤ) → Cycle Start Leads A w → Good w)) false
   certified-not counts c = said-no (λ h. uncounted counts c (h .0))
 
   pub certified-both : {c g : Bool} → Decides ((j : ℕ) → j < N → Marked marks j → Counts j) c → c ≡ true → Tested arcs marks N g
-      → Decides (((j : ℕ) → Reachable Anchor Leads j → Counts j) × ((w : ℤ) → Cycle Anchor Leads A w → Good w)) g
+      → Decides (((j : ℕ) → Reachable Start Leads j → Counts j) × ((w : ℤ) → Cycle Start Leads A w → Good w)) g
   certified-both counts c tested = record { yes = λ g. certified-yes counts tested c g; no = λ g h. gains-bad tested g (h .1) }

@@ -17,13 +17,12 @@ use Rattle.definitions.specs.Limits.{signed-half, lead-limit, span-limit}
 use Rattle.definitions.specs.Tropical.{fin, Finite}
 use Rattle.definitions.specs.Offset.{tropOf}
 use Rattle.definitions.specs.Problem.{Problem}
-use Rattle.definitions.specs.Certificate.{Reachable, Anchor, raise, ArcBy, RowLeads, RowArc, RowHasPick, RowPicksCount}
+use Rattle.definitions.specs.Certificate.{Reachable, raise, ArcBy, RowLeads, RowArc, RowHasPick, RowPicksCount, AtLeastZero}
 use Rattle.definitions.specs.Verdict.{strategyOf}
 use Rattle.definitions.proofs.Whole.{whole, subℕ-read, plus-read, minus-read}
 use Rattle.definitions.proofs.Offset.{trop-read}
-use Rattle.duality.specs.Picks.{AtLeastZero}
 use Rattle.records.specs.Decoded.{Near}
-use Rattle.reach.specs.Marks.{Marked, Anchored, Reached}
+use Rattle.reach.specs.Marks.{Marked, StartMarked, Reached}
 use Rattle.closed_walks.specs.Gains.{arc-zero, arc-most, weightOf, Table, Tested}
 use Rattle.closed_walks.specs.Tables.{Sized, DecodedAs, Picked, Trial}
 use Rattle.closed_walks.specs.Arcs.{raisedBy, least-lead, fall, fallen, looseArc, rowArc, heaviest, RowArcs}
@@ -239,17 +238,17 @@ module _ {left right : List ℕ} {n m t : ℕ} {picks arcs : List ℕ} (sized : 
         d
 
     -- The verdict of the two tests, in the words of the definitions.
-    in-words : {r : Bool}
-        → Decides (((j : ℕ) → Reachable Anchor (RowLeads p (strategyOf picks)) j → RowsStand j) × AtLeastZero p (strategyOf picks) z) r
-        → Decides (RowPicksCount p (strategyOf picks) × AtLeastZero p (strategyOf picks) z) r
+    in-words : {Start : ℕ → Type 0} {r : Bool}
+        → Decides (((j : ℕ) → Reachable Start (RowLeads p (strategyOf picks)) j → RowsStand j) × AtLeastZero Start p (strategyOf picks) z) r
+        → Decides (RowPicksCount Start p (strategyOf picks) × AtLeastZero Start p (strategyOf picks) z) r
     in-words d = decides-as (λ f. (λ i j h r l. f .0 j r i h l, f .1)) (λ f. (λ j r i h l. f .0 i j h r l, f .1)) d
 
-    pub rows-not : {begin marks : List ℕ} {c : Bool} → Anchored begin → Reached arcs (n + 1) begin marks
+    pub rows-not : {Start : ℕ → Type 0} {begin marks : List ℕ} {c : Bool} → StartMarked Start (n + 1) begin → Reached arcs (n + 1) begin marks
         → Decides (RowsCount left right picks marks (n + 1) (m + 1)) c → c ≡ false
-        → Decides (RowPicksCount p (strategyOf picks) × AtLeastZero p (strategyOf picks) z) false
-    rows-not {marks = marks} a r d c = in-words (certified-not rows-shown loose-scale (omega (arith, sized .n-most)) (omega arith) a r (rows-counted marks d) c)
+        → Decides (RowPicksCount Start p (strategyOf picks) × AtLeastZero Start p (strategyOf picks) z) false
+    rows-not {marks = marks} a r d c = in-words (certified-not rows-shown loose-scale (omega (arith, sized .n-most)) a r (rows-counted marks d) c)
 
-    pub rows-both : {begin marks : List ℕ} {c g : Bool} → Anchored begin → Reached arcs (n + 1) begin marks
+    pub rows-both : {Start : ℕ → Type 0} {begin marks : List ℕ} {c g : Bool} → StartMarked Start (n + 1) begin → Reached arcs (n + 1) begin marks
         → Decides (RowsCount left right picks marks (n + 1) (m + 1)) c → c ≡ true → Tested arcs marks (n + 1) g
-        → Decides (RowPicksCount p (strategyOf picks) × AtLeastZero p (strategyOf picks) z) g
-    rows-both {marks = marks} a r d c g = in-words (certified-both rows-shown loose-scale (omega (arith, sized .n-most)) (omega arith) a r (rows-counted marks d) c g)
+        → Decides (RowPicksCount Start p (strategyOf picks) × AtLeastZero Start p (strategyOf picks) z) g
+    rows-both {marks = marks} a r d c g = in-words (certified-both rows-shown loose-scale (omega (arith, sized .n-most)) a r (rows-counted marks d) c g)

@@ -22,12 +22,12 @@ use Rattle.definitions.specs.Verdict.{strategyOf}
 use Rattle.definitions.proofs.Whole.{whole, plus-read, minus-read}
 use Rattle.definitions.proofs.Offset.{trop-fin, trop-read, trop-show}
 use Rattle.records.specs.Decoded.{Near}
-use Rattle.reach.specs.Marks.{Marked, Anchored, Reached}
+use Rattle.reach.specs.Marks.{Marked, StartMarked, Reached, ReachedBy}
 use Rattle.closed_walks.specs.Gains.{arc-zero, arc-most, weightOf, Table, Tested}
 use Rattle.closed_walks.specs.Tables.{Sized, DecodedAs, Picked, Trial}
 use Rattle.closed_walks.specs.Arcs.{raisedBy, least-lead, lift, lifted, strictArc, variableArc, VariableArcs}
 use Rattle.strategy_tests.specs.Counts.{VariablesCount}
-use Rattle.strategy_tests.proofs.Certified.{weight-show, strict, strict-read, strict-scale, Behind, ShownArcs, certified-not, certified-both}
+use Rattle.strategy_tests.proofs.Certified.{weight-show, strict, strict-read, strict-scale, Behind, ShownArcs, marks-reached, certified-not, certified-both}
 
 -- ---- coefficients
 
@@ -186,13 +186,18 @@ module _ {left right : List ℕ} {n m t : ℕ} {picks arcs : List ℕ} (sized : 
         })
         d
 
-    -- The verdict of the two tests.
-    pub variables-not : {begin marks : List ℕ} {c : Bool} → Anchored begin → Reached arcs (n + 1) begin marks
-        → Decides (VariablesCount left picks marks (n + 1)) c → c ≡ false
-        → Decides (PicksCount p (strategyOf picks) × BelowZero p (strategyOf picks) z) false
-    variables-not {marks = marks} a r d c = certified-not variables-shown strict-scale (omega (arith, sized .n-most)) (omega arith) a r (variables-counted marks d) c
+    -- Where they count from the start, the marks are those of what the strategy reaches from it.
+    pub variables-reached : {Start : ℕ → Type 0} {begin marks : List ℕ} → StartMarked Start (n + 1) begin → Reached arcs (n + 1) begin marks
+        → PicksCount Start p (strategyOf picks) → ReachedBy Start (Leads p (strategyOf picks)) (n + 1) marks
+    variables-reached a r count = marks-reached variables-shown strict-scale (omega (arith, sized .n-most)) a r count
 
-    pub variables-both : {begin marks : List ℕ} {c g : Bool} → Anchored begin → Reached arcs (n + 1) begin marks
+    -- The verdict of the two tests.
+    pub variables-not : {Start : ℕ → Type 0} {begin marks : List ℕ} {c : Bool} → StartMarked Start (n + 1) begin → Reached arcs (n + 1) begin marks
+        → Decides (VariablesCount left picks marks (n + 1)) c → c ≡ false
+        → Decides (PicksCount Start p (strategyOf picks) × BelowZero Start p (strategyOf picks) z) false
+    variables-not {marks = marks} a r d c = certified-not variables-shown strict-scale (omega (arith, sized .n-most)) a r (variables-counted marks d) c
+
+    pub variables-both : {Start : ℕ → Type 0} {begin marks : List ℕ} {c g : Bool} → StartMarked Start (n + 1) begin → Reached arcs (n + 1) begin marks
         → Decides (VariablesCount left picks marks (n + 1)) c → c ≡ true → Tested arcs marks (n + 1) g
-        → Decides (PicksCount p (strategyOf picks) × BelowZero p (strategyOf picks) z) g
-    variables-both {marks = marks} a r d c g = certified-both variables-shown strict-scale (omega (arith, sized .n-most)) (omega arith) a r (variables-counted marks d) c g
+        → Decides (PicksCount Start p (strategyOf picks) × BelowZero Start p (strategyOf picks) z) g
+    variables-both {marks = marks} a r d c g = certified-both variables-shown strict-scale (omega (arith, sized .n-most)) a r (variables-counted marks d) c g

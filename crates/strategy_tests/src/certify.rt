@@ -10,11 +10,11 @@ ghost use Rattle.definitions.specs.Limits.{stride, table-size, table-rows};
 ghost use Rattle.definitions.specs.Tropical.{fin};
 ghost use Rattle.definitions.specs.Offset.{tropOf};
 ghost use Rattle.definitions.specs.Problem.{Problem};
-ghost use Rattle.definitions.specs.Certificate.{PicksCount, BelowZero, RowPicksCount};
+ghost use Rattle.definitions.specs.Certificate.{PicksCount, BelowZero, RowPicksCount, AtLeastZero};
 ghost use Rattle.definitions.specs.ProblemRecord.{problemOf};
 ghost use Rattle.definitions.specs.Verdict.{strategyOf};
-ghost use Rattle.duality.specs.Picks.{AtLeastZero};
 ghost use Rattle.problem_records.specs.Tables.{leftTable, Laid};
+ghost use Rattle.reach.specs.Marks.{Flags, Begins};
 ghost use Rattle.closed_walks.specs.Tables.{Sized, DecodedAs, Picked, Trial};
 ghost use Rattle.strategy_tests.specs.Counts.{PickCounts, RowPickCounts, PlacesCount, Idle, Stands, RowsCount};
 use closed_walks::arcs::row_arcs;
@@ -23,7 +23,6 @@ use closed_walks::gains::none_gains;
 use closed_walks::gains::order_of;
 use problem_records::reader::lead_in;
 use problem_records::reader::row_place;
-use reach::anchor;
 use reach::reach;
 use records::limits::ARCS;
 use records::limits::LEAD_BYTES;
@@ -64,15 +63,22 @@ fn variables_count(
     true
 }
 
-// A strategy of variables, judged at t, for a problem as bytes. Public for the checker's `check`.
-pub fn certify_variables(bytes: &[u8], n: usize, m: usize, picks: &[u64; ROWS], t: u64) -> bool
-    requires { ⌜ Laid (now bytes) n m × Trial t × Picked (now picks) (m + 1) ⌝ }
-    ensures { λ r. ⌜ ((z : ℤ) → tropOf t ≡ fin z → Decides (PicksCount (problemOf (now (bytes .entry))) (strategyOf (now (picks .entry))) × BelowZero (problemOf (now (bytes .entry))) (strategyOf (now (picks .entry))) z) r) ⌝ }
+// A strategy of variables, judged at t from a start, for a problem as bytes. Public for the checker's `check`.
+pub fn certify_variables(
+    bytes: &[u8],
+    n: usize,
+    m: usize,
+    picks: &[u64; ROWS],
+    t: u64,
+    start: [u8; STRIDE],
+) -> bool
+    requires { ⌜ Laid (now bytes) n m × Trial t × Picked (now picks) (m + 1) × Flags start ⌝ }
+    ensures { λ r. ⌜ ((z : ℤ) → tropOf t ≡ fin z → Decides (PicksCount (Begins start (n + 1)) (problemOf (now (bytes .entry))) (strategyOf (now (picks .entry))) × BelowZero (Begins start (n + 1)) (problemOf (now (bytes .entry))) (strategyOf (now (picks .entry))) z) r) ⌝ }
 {
     let width = n + 1;
     let mut arcs = [0u32; ARCS];
     variable_arcs(&mut arcs, bytes, n, m, picks, t);
-    let marks = reach(&arcs, width, anchor());
+    let marks = reach(&arcs, width, start);
     let order = order_of(&marks, width);
     let places = order.places;
     let count = order.count;
@@ -147,7 +153,7 @@ fn rows_count(
     true
 }
 
-// A strategy of rows, judged at t. Public for the checker's `check`.
+// A strategy of rows, judged at t from a start. Public for the checker's `check`.
 pub fn certify_rows(
     left: &[u32; TABLE],
     right: &[u32; TABLE],
@@ -155,14 +161,15 @@ pub fn certify_rows(
     m: usize,
     picks: &[u64; ROWS],
     t: u64,
+    start: [u8; STRIDE],
 ) -> bool
-    requires { ⌜ Sized (now left) (now right) n m × Trial t × Picked (now picks) (n + 1) ⌝ }
-    ensures { λ r. ⌜ ((p : Problem) (z : ℤ) → DecodedAs p (now (left .entry)) (now (right .entry)) n m → tropOf t ≡ fin z → Decides (RowPicksCount p (strategyOf (now (picks .entry))) × AtLeastZero p (strategyOf (now (picks .entry))) z) r) ⌝ }
+    requires { ⌜ Sized (now left) (now right) n m × Trial t × Picked (now picks) (n + 1) × Flags start ⌝ }
+    ensures { λ r. ⌜ ((p : Problem) (z : ℤ) → DecodedAs p (now (left .entry)) (now (right .entry)) n m → tropOf t ≡ fin z → Decides (RowPicksCount (Begins start (n + 1)) p (strategyOf (now (picks .entry))) × AtLeastZero (Begins start (n + 1)) p (strategyOf (now (picks .entry))) z) r) ⌝ }
 {
     let width = n + 1;
     let mut arcs = [0u32; ARCS];
     row_arcs(&mut arcs, left, right, n, m, picks, t);
-    let marks = reach(&arcs, width, anchor());
+    let marks = reach(&arcs, width, start);
     if !rows_count(left, right, picks, &marks, width, m + 1) {
         return false;
     }

@@ -23,7 +23,7 @@ certify-optimal-spec =
     (λ c κs.
     let start = c .before .before .before .before .before .before .before .before in
     let s = start .pre .4 in
-    (start .pre .0, record { some = omega (arith, s .near .lo (s .some)); near = record { hi = omega (arith, s .near .hi); lo = λ h. omega (arith, s .near .lo (s .some)) } }, start .pre .3))
+    (start .pre .0, record { some = omega (arith, s .near .lo (s .some)); near = record { hi = omega (arith, s .near .hi); lo = λ h. omega (arith, s .near .lo (s .some)) } }, start .pre .3, start .pre .5))
     (λ c. λ z e. let start = c .before .before .before .before .before .before .before .before .before in
     let low = c .before .before .before .before .before .before .before .lower-point .ensures in
     optimal-picks (laid-holds (start .pre .0)) _ (start .pre .2) (c .before .before .before .before .before .keeps-rules .ensures _ (start .pre .1) low) (not-false _ (c .before .before .before .before .if1 .left)) (c .before .before .value-is .ensures _ z (start .pre .1) low e) (not-false _ (c .before .if2 .left)) (optimal-at (start .pre .4) e (λ y f. c .certify-variables .ensures y f))))

@@ -7,7 +7,7 @@ use Rattle.problem_records.specs.Filling.{Tabled}
 use Rattle.closed_walks.specs.Tables.{DecodedAs}
 use Rattle.problem_records.proofs.ReadProblem.{laid-framed, left-tabled, right-tabled}
 use Rattle.closed_walks.proofs.Holding.{laid-holds, holds-sized}
-use Rattle.checker.proofs.Acceptance.{lowest-trial-is, unbounded-at}
+use Rattle.checker.proofs.Acceptance.{lowest-trial-is, unbounded-at, begins-inside}
 use native.Mathlib.Omega.{arith}
 use Rattle.checker.proofs.check.certify_unbounded.Statement.{statement}
 use Rattle.checker.proofs.check.certify_unbounded.Tie as tie
@@ -26,7 +26,7 @@ certify-unbounded-spec =
     (λ c. search needs)
     (λ c. search needs)
     (λ c κs. let start = c .before .before .before .before .before .before .before .before in
-    (holds-sized (tables-held (start .pre .0) (c .before .before .before .before .read-tables .ensures)), record { some = omega arith; near = record { hi = omega arith; lo = λ _. omega arith } }, start .pre .1))
+    (holds-sized (tables-held (start .pre .0) (c .before .before .before .before .read-tables .ensures)), record { some = omega arith; near = record { hi = omega arith; lo = λ _. omega arith } }, start .pre .1, start .pre .2))
     (λ c. let start = c .before .before .before .before .before .before .before .before .before in
     let held = tables-held (start .pre .0) (c .before .before .before .before .before .read-tables .ensures) in
-    unbounded-at held (start .pre .1) (c .certify-rows .ensures _ _ held lowest-trial-is)))
+    unbounded-at held (begins-inside held) (start .pre .1) (c .certify-rows .ensures _ _ held lowest-trial-is)))
