@@ -14,13 +14,14 @@ use borrow.Author.Tests.{lt-ltb, le-ltb, eqb-true, ne-eqb}
 use Rattle.base.proofs.Numbers.{nat-le-or-lt}
 use Rattle.definitions.specs.Limits.{kept-bytes, word-values, length-bytes, problem-header, answer-header, signed-full, highest-n, highest-m, problem-kind, questions-header, questions-kind}
 use Rattle.definitions.specs.Bytes.{Bytes, numAt, put}
-use Rattle.definitions.specs.ProblemRecord.{lengthField, kindField, nField, mField, headerRefusal, headerJudged, problemRefusal, WithinLayout, problemSize, refusalFor, countField}
+use Rattle.definitions.specs.ProblemRecord.{lengthField, kindField, nField, mField, headerRefusal, headerJudged, problemRefusal, WithinLayout, meant, problemSize, refusalFor, countField}
 use Rattle.definitions.specs.AnswerRecord.{answerHeaderRefusal, answerHeaderJudged, answerRefusal}
 use Rattle.definitions.specs.Verdict.{Verdict, refused, checkRefusal, Judged, turned-away, certified, uncertified}
 use Rattle.definitions.specs.Programs.{cutPlace, problemPart, answerPart, KeptOf, SpanOutput, VerdictOutput, read-most, ReadFrom}
 use Rattle.definitions.specs.Programs as Programs
 use Rattle.definitions.proofs.Bytes.{numAt-same, numAt-bound, bytes-take, bytes-drop, bytes-put, zero-bytes}
 use Rattle.definitions.proofs.Put.{take-put, length-put}
+use Rattle.definitions.proofs.IdleDay.{meant-some}
 use Rattle.definitions.proofs.Refusals.{or-else-suc, or-else-none, limits-clause, enough-clause, equal-clause, problem-fits, HeaderPasses, header-passes, kind-known, few-questions, size-one}
 
 -- ---- what was kept
@@ -280,6 +281,16 @@ judged-with : {p a : List ℕ} {v : Verdict} (k : ℕ) → checkRefusal p a ≡ 
 judged-with zero e h f = absurd (omega arith)
 judged-with (suc k) e h f = rw f (turned-away e)
 
+-- What is so long is no idle day, nor is its problem part.
+far-meant : (s : List ℕ) → read-most ≤ length s → meant s ≡ s
+far-meant s h = meant-some s (omega arith)
+
+far-part-meant : (s : List ℕ) → Bytes s → read-most ≤ length s → meant (problemPart s) ≡ problemPart s
+unfolding problemPart
+far-part-meant s b h =
+    let cut = cut-inside s (omega arith) (omega (arith, field-below b)) in
+    meant-some (take (cutPlace s) s) (omega (arith, length-take-le (cutPlace s) s (omega (arith, field-below b))))
+
 -- What the verdict program puts out is the same for all inputs that are so long and begin alike.
 pub verdict-far : (input other : List ℕ) → Bytes input → Bytes other → read-most ≤ length input → read-most ≤ length other → take kept-bytes input ≡ take kept-bytes other
     → {output : List ℕ} → VerdictOutput other output → VerdictOutput input output
@@ -290,9 +301,9 @@ verdict-far input other b c h g begins o =
     record { verdict = o .verdict; judged = go (checkRefusal (problemPart other) (answerPart other)) refl (alike .0) (alike .1); line = o .line }
   where
     go : (k : ℕ) → checkRefusal (problemPart other) (answerPart other) ≡ k → checkRefusal (problemPart input) (answerPart input) ≡ checkRefusal (problemPart other) (answerPart other)
-        → 0 < checkRefusal (problemPart input) (answerPart input) → Judged (problemPart input) (answerPart input) (o .verdict)
+        → 0 < checkRefusal (problemPart input) (answerPart input) → Judged (meant (problemPart input)) (answerPart input) (o .verdict)
     go zero e f some = absurd (omega arith)
-    go (suc k) e f some = judged-with (suc k) (f ∙ e) (omega arith) (refused-with (o .judged) k e)
+    go (suc k) e f some = rw (far-part-meant input b h) (judged-with (suc k) (f ∙ e) (omega arith) (refused-with (rw (far-part-meant other c g) at (o .judged)) k e))
 
 -- ---- what is put out for all inputs of which the same was read
 
@@ -300,10 +311,12 @@ module _ (kept : List ℕ) (size : ℕ) (output : List ℕ) where
   part-long : (input : List ℕ) → size ≤ length input → length (take size input) ≡ size
   part-long input h = length-take-le size input h
 
-  pub span-read : ((input : List ℕ) → KeptOf kept size input → SpanOutput input output) → (input : List ℕ) → ReadFrom kept size input → SpanOutput input output
+  pub span-read : ((input : List ℕ) → KeptOf kept size input → SpanOutput (meant input) output) → (input : List ℕ) → ReadFrom kept size input
+      → SpanOutput (meant input) output
   span-read f input (Programs.whole k) = f input k
   span-read f input (Programs.part b h g k) =
-      span-far input (take size input) b (bytes-take size b) (omega arith) (omega (arith, part-long input g)) (f (take size input) k)
+      let far : SpanOutput (take size input) output = rw (far-meant (take size input) (omega (arith, part-long input g))) at (f (take size input) k) in
+      rw (far-meant input (omega arith)) (span-far input (take size input) b (bytes-take size b) (omega arith) (omega (arith, part-long input g)) far)
 
   pub verdict-read : ((input : List ℕ) → KeptOf kept size input → VerdictOutput input output) → (input : List ℕ) → ReadFrom kept size input → VerdictOutput input output
   verdict-read f input (Programs.whole k) = f input k

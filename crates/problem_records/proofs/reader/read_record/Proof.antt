@@ -5,11 +5,11 @@ use Prim.Native.Nat.{_-_}
 use Rattle.base.proofs.Lists.{rest-whole}
 use Rattle.records.specs.ProblemHeader.{headerOf}
 use borrow.Author.Needs.{needs}
-use Rattle.problem_records.proofs.reader.read_problem.Statement.{statement}
-use Rattle.problem_records.proofs.reader.read_problem.Tie as tie
+use Rattle.problem_records.proofs.reader.read_record.Statement.{statement}
+use Rattle.problem_records.proofs.reader.read_record.Tie as tie
 
-pub read-problem-spec : {M : Type 1} → statement M
-read-problem-spec =
+pub read-record-spec : {M : Type 1} → statement M
+read-record-spec =
     tie.close
     (tie.spec
     (λ c κs. search needs)
