@@ -24,7 +24,12 @@ pub idle-bytes : problemBytes idle ≡ 14 ∷ 0 ∷ 0 ∷ 0 ∷ 1 ∷ 0 ∷ 0 �
 unfolding idle problemBytes headerBytes rowsBytes rowBytes listOf fieldOf fields le
 idle-bytes = refl
 
--- Other bytes mean themselves,
+-- It is what no bytes mean;
+pub meant-none : (p : List ℕ) → length p ≡ 0 → meant p ≡ problemBytes idle
+meant-none [] e = refl
+meant-none (b ∷ p) e = absurd (omega arith)
+
+-- other bytes mean themselves,
 pub meant-some : (p : List ℕ) → 0 < length p → meant p ≡ p
 meant-some [] h = absurd (omega arith)
 meant-some (b ∷ p) h = refl

@@ -159,6 +159,17 @@ pub cut-inside : (s : List ℕ) → length-bytes ≤ length s → lengthField s 
 unfolding cutPlace
 cut-inside s h k = rw (le-ltb (length s) length-bytes h, le-ltb (length s) (lengthField s + length-bytes) k)
 
+-- Where there is a length field, the problem part has bytes: it is no idle day.
+pub part-meant : (s : List ℕ) → length-bytes ≤ length s → meant (problemPart s) ≡ problemPart s
+unfolding problemPart
+part-meant s h = ⊎-elim
+    (λ (k : lengthField s + length-bytes ≤ length s). inside (omega (arith, cut-inside s h k)) (omega (arith, cut-inside s h k)))
+    (λ (k : length s < lengthField s + length-bytes). inside (omega (arith, cut-past s h k)) (omega (arith, cut-past s h k)))
+    (nat-le-or-lt (lengthField s + length-bytes) (length s))
+  where
+    inside : 0 < cutPlace s → cutPlace s ≤ length s → meant (take (cutPlace s) s) ≡ take (cutPlace s) s
+    inside g l = meant-some (take (cutPlace s) s) (omega (arith, length-take-le (cutPlace s) s l))
+
 -- ---- from 2³³ bytes on
 
 field-below : {s : List ℕ} → Bytes s → lengthField s + length-bytes < signed-full + length-bytes
@@ -281,15 +292,9 @@ judged-with : {p a : List ℕ} {v : Verdict} (k : ℕ) → checkRefusal p a ≡ 
 judged-with zero e h f = absurd (omega arith)
 judged-with (suc k) e h f = rw f (turned-away e)
 
--- What is so long is no idle day, nor is its problem part.
+-- What is so long is no idle day.
 far-meant : (s : List ℕ) → read-most ≤ length s → meant s ≡ s
 far-meant s h = meant-some s (omega arith)
-
-far-part-meant : (s : List ℕ) → Bytes s → read-most ≤ length s → meant (problemPart s) ≡ problemPart s
-unfolding problemPart
-far-part-meant s b h =
-    let cut = cut-inside s (omega arith) (omega (arith, field-below b)) in
-    meant-some (take (cutPlace s) s) (omega (arith, length-take-le (cutPlace s) s (omega (arith, field-below b))))
 
 -- What the verdict program puts out is the same for all inputs that are so long and begin alike.
 pub verdict-far : (input other : List ℕ) → Bytes input → Bytes other → read-most ≤ length input → read-most ≤ length other → take kept-bytes input ≡ take kept-bytes other
@@ -303,7 +308,7 @@ verdict-far input other b c h g begins o =
     go : (k : ℕ) → checkRefusal (problemPart other) (answerPart other) ≡ k → checkRefusal (problemPart input) (answerPart input) ≡ checkRefusal (problemPart other) (answerPart other)
         → 0 < checkRefusal (problemPart input) (answerPart input) → Judged (meant (problemPart input)) (answerPart input) (o .verdict)
     go zero e f some = absurd (omega arith)
-    go (suc k) e f some = rw (far-part-meant input b h) (judged-with (suc k) (f ∙ e) (omega arith) (refused-with (rw (far-part-meant other c g) at (o .judged)) k e))
+    go (suc k) e f some = rw (part-meant input (omega arith)) (judged-with (suc k) (f ∙ e) (omega arith) (refused-with (rw (part-meant other (omega arith)) at (o .judged)) k e))
 
 -- ---- what is put out for all inputs of which the same was read
 

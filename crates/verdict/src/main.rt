@@ -37,8 +37,14 @@ fn answer(kept: &[u8; KEPT], size: u64, line: &mut [u8]) -> usize
 
 fn main() {
     let mut kept = [0u8; KEPT];
-    let size = read_all(&mut kept);
+    let input = read_all(&mut kept);
+    let Input::Ended(size) = input else {
+        io::write_all(STDERR_FILENO, &NOT_READ);
+        return;
+    };
     let mut line = [0u8; LINE_MOST];
     let n = answer(&kept, size, &mut line);
-    io::write_all(STDOUT_FILENO, &line[..n]);
+    if !io::write_all(STDOUT_FILENO, &line[..n]) {
+        io::write_all(STDERR_FILENO, &NOT_WRITTEN);
+    }
 }
