@@ -9,7 +9,9 @@ ghost use Rattle.definitions.specs.Programs.{ReadFrom, SpanOutput};
 ghost use Rattle.span.specs.Shown.{out-most, Shown, shownRecords};
 use engine::input::solve_input;
 use engine::solve::Solved;
+use input::Input;
 use input::read_all;
+use libc::STDERR_FILENO;
 use libc::STDOUT_FILENO;
 use output::writer::write_record;
 use output::writer::write_refused;
@@ -60,12 +62,12 @@ fn main() {
     let mut kept = [0u8; KEPT];
     let input = read_all(&mut kept);
     let Input::Ended(size) = input else {
-        io::write_all(STDERR_FILENO, &NOT_READ);
+        io::write_all(STDERR_FILENO, b"span: standard input cannot be read to its end\n");
         return;
     };
     let mut out = [0u8; OUT_MOST];
     let n = answer(&kept, size, &mut out);
     if !io::write_all(STDOUT_FILENO, &out[..n]) {
-        io::write_all(STDERR_FILENO, &NOT_WRITTEN);
+        io::write_all(STDERR_FILENO, b"span: standard output cannot be written\n");
     }
 }
