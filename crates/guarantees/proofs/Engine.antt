@@ -164,8 +164,8 @@ within-itself p w = meant-some p (omega (arith, problem-fits p .0 w .size-enough
 accepts-record : (check : Checker) → CheckerJudges check → (p : List ℕ) → Slice p → WithinLayout p → {class : ℕ} {span : Trop} {trials : ℕ} (a : Answer)
     → Answers (problemOf p) class span trials a → check p (answerBytes (nField p) a) ≡ accepted class span
 accepts-record check judges p b w a ans =
-    let itself = within-itself p w in
-    rw itself at (accepts-it check judges p b (rw itself w) a (rw itself ans))
+    verdict-on p w a ans
+    (rw (within-itself p w) at (judges p (answerBytes (nField p) a) b (record-slice (nField p) (mField p) answer-most a (answer-takes p w a ans))))
 
 -- The record of one question can be handed over.
 alone-slice : (p : List ℕ) → Slice p → {q : ℕ} → OneAsked p q → Slice (alone p q)

@@ -1,7 +1,7 @@
 -- An idle day (document 02, 2.9) for every engine, checker and program that meets its contract: no bytes are answered with least 0, an
 -- empty answer to them gets 8, and so does no input of the verdict program.
 use Prim.Native.Nat.{ℕ, _≤_}
-use mathlib.Core.Path.{_≡_, refl, ap, ap₂, sym, _∙_}
+use mathlib.Core.Path.{_≡_, refl, ap, _∙_}
 use mathlib.Core.List.{List, []}
 use native.Mathlib.Omega.{arith}
 use lib.ListN.{length}
@@ -9,14 +9,14 @@ use lib.IntN.{ℤ, pos}
 use Rattle.definitions.specs.Limits.{answer-most, class-optimal}
 use Rattle.definitions.specs.Tropical.{Trop, fin}
 use Rattle.definitions.specs.Problem.{Problem, Optimal}
-use Rattle.definitions.specs.ProblemRecord.{meant, problemOf, nField, mField}
+use Rattle.definitions.specs.ProblemRecord.{meant}
 use Rattle.definitions.specs.AnswerRecord.{answerSize}
 use Rattle.definitions.specs.Bisection.{trials-optimal}
 use Rattle.definitions.specs.Verdict.{refused, turned-away}
 use Rattle.definitions.specs.Solved.{answered, Found, optimal, unbounded, infeasible}
-use Rattle.definitions.specs.Programs.{VerdictOutput, verdictLine, problemPart, answerPart}
+use Rattle.definitions.specs.Programs.{VerdictOutput, verdictLine, cutPlace, problemPart, answerPart}
 use Rattle.definitions.specs.Demands.{Slice, Engine, EngineSolves, Checker, CheckerJudges}
-use Rattle.definitions.proofs.IdleDay.{idle-within, idle-n, idle-m, idle-least, no-input}
+use Rattle.definitions.proofs.IdleDay.{idle-within, idle-n, idle-least, no-input}
 use Rattle.duality.proofs.Classes.{optimal-unique, infeasible-not-optimal, unbounded-not-optimal}
 use Rattle.checker.proofs.Judgement.{judged-unique}
 use Rattle.guarantees.proofs.Engine.{engine-answer}
@@ -37,11 +37,11 @@ pub idle-answered : (engine : Engine) → EngineSolves engine → (buffer : List
 idle-answered engine solves buffer b long =
     let e = engine-answer engine solves [] buffer no-bytes b idle-within long in
     let f = least-found (e .answers .found) (pos 0) idle-least in
-    e .result-is ∙ rw (f .0, f .1, f .2, idle-n, idle-m) refl
+    e .result-is ∙ rw (f .0, f .1, f .2, idle-n) refl
 
 -- An empty answer to no bytes.
 pub idle-empty : (check : Checker) → CheckerJudges check → check [] [] ≡ refused 8
-unfolding problemPart answerPart
+unfolding cutPlace problemPart answerPart
 idle-empty check judges = judged-unique (judges [] [] no-bytes no-bytes) (turned-away {k = 7} no-input)
 
 -- "In the verdict program empty input gives `refused 8`."
