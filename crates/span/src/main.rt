@@ -62,7 +62,10 @@ fn main() {
     let mut kept = [0u8; KEPT];
     let input = read_all(&mut kept);
     let Input::Ended(size) = input else {
-        io::write_all(STDERR_FILENO, b"span: standard input cannot be read to its end\n");
+        io::write_all(
+            STDERR_FILENO,
+            b"span: standard input cannot be read to its end\n",
+        );
         return;
     };
     let mut out = [0u8; OUT_MOST];

@@ -41,12 +41,18 @@ fn main() {
     let mut kept = [0u8; KEPT];
     let input = read_all(&mut kept);
     let Input::Ended(size) = input else {
-        io::write_all(STDERR_FILENO, b"verdict: standard input cannot be read to its end\n");
+        io::write_all(
+            STDERR_FILENO,
+            b"verdict: standard input cannot be read to its end\n",
+        );
         return;
     };
     let mut line = [0u8; LINE_MOST];
     let n = answer(&kept, size, &mut line);
     if !io::write_all(STDOUT_FILENO, &line[..n]) {
-        io::write_all(STDERR_FILENO, b"verdict: standard output cannot be written\n");
+        io::write_all(
+            STDERR_FILENO,
+            b"verdict: standard output cannot be written\n",
+        );
     }
 }
