@@ -13,9 +13,10 @@
  * An offset number stands for a stamp or a span: 0 is blank, and v + 2147483648 is the minute v.
  *
  * A problem of kind 1 has one question. One of kind 3 has up to eight over the same rules: after m a count of two bytes, then
- * the rules, then that many question rows. span_solve takes both, span_check kind 1 alone.
+ * the rules, then that many question rows. span_solve takes both, span_check kind 1 alone. A problem of 0 bytes is an idle day: n
+ * and m are 0, and so are both leads of the anchor; its answer is least 0.
  *
- * Refusals: 1 the problem has fewer than 10 bytes; 2 its length field is not its size - 4; 3 its kind is not 1, nor, in
+ * Refusals: 1 the problem has 1 to 9 bytes; 2 its length field is not its size - 4; 3 its kind is not 1, nor, in
  * span_solve, 3; 4 n is above 31 or m above 63; 5 its size does not fit n and m, and for kind 3 the count; 6 a lead is
  * neither blank nor within 20,160 of 0; 7 the answer buffer is shorter than 206 bytes a question; 8 the answer has fewer
  * than 14 bytes; 9 its length field is not its size - 4; 10 its kind is not 2 or its class not 1 to 3; 11 its n is not the

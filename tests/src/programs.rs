@@ -48,6 +48,24 @@ fn run(mut command: Command, input: &[u8]) -> Result<Vec<u8>, String> {
     }
 }
 
+/// What a program writes on standard output and on standard error, with this standard input and these words of the shell
+/// behind its name.
+fn run_with(name: &str, variable: &str, input: Stdio, redirect: &str) -> Result<(Vec<u8>, Vec<u8>), String> {
+    let program = command(name, variable);
+    let mut shell = Command::new("sh");
+    shell.arg("-c").arg(format!("exec \"$0\" \"$@\" {redirect}")).arg(program.get_program()).args(program.get_args());
+    let ended = shell.stdin(input).stderr(Stdio::piped()).stdout(Stdio::piped()).output();
+    ended.map(|output| (output.stdout, output.stderr)).map_err(|error| format!("{name} cannot be run: {error}"))
+}
+
+/// Both programs in turn, by their names.
+pub fn both_with(input: impl Fn() -> Stdio, redirect: &str) -> Result<[(Vec<u8>, Vec<u8>); 2], String> {
+    Ok([
+        run_with("span", "SPAN_PROGRAM", input(), redirect)?,
+        run_with("verdict", "VERDICT_PROGRAM", input(), redirect)?,
+    ])
+}
+
 pub fn span(input: &[u8]) -> Result<Vec<u8>, String> {
     run(command("span", "SPAN_PROGRAM"), input)
 }
@@ -67,7 +85,8 @@ pub fn acted_as_a_program(words: &[String]) -> bool {
     std::io::stdin().read_to_end(&mut input).expect("standard input");
     let output =
         if name == "act-as-span" { unproved::programs::span(&input) } else { unproved::programs::verdict(&input) };
-    std::io::stdout().write_all(&output).expect("standard output");
+    let mut pipe = std::io::stdout();
+    pipe.write_all(&output).and_then(|()| pipe.flush()).expect("standard output");
     true
 }
 

@@ -27,7 +27,7 @@ const NO_ARC: i32 = -2_000_000_000;
 /// Judges an answer; refusals 1 to 6 and 8 to 14.
 pub fn check(problem: &[u8], answer: &[u8]) -> Result<Accepted, u8> {
     let mut table = Problem::new();
-    record::read(problem, &mut table)?;
+    record::read(record::meant(problem), &mut table)?;
     let problem = &table;
     let answer = record::answer(answer, problem.variables, problem.rows)?;
     let accepted = match answer.class {

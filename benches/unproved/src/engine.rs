@@ -37,6 +37,7 @@ enum Found {
 
 /// Answers a problem of one question with rows kept in one way and one search; refusals 1 to 7.
 pub fn solve_by<K: Kind>(search: Search, problem: &[u8], buffer: &mut [u8]) -> Result<Answered, u8> {
+    let problem = record::meant(problem);
     let mut table = Problem::new();
     record::read(problem, &mut table)?;
     if buffer.len() < BUFFER {
@@ -47,6 +48,7 @@ pub fn solve_by<K: Kind>(search: Search, problem: &[u8], buffer: &mut [u8]) -> R
 
 /// Answers every question of a problem of kind 1 or 3, each answer starting where the one before ended; refusals 1 to 7 and 15.
 pub fn solve_all_by<K: Kind>(search: Search, problem: &[u8], buffer: &mut [u8]) -> Result<Vec<Answered>, u8> {
+    let problem = record::meant(problem);
     let mut table = Problem::new();
     let layout = record::read_rules(problem, &mut table)?;
     if buffer.len() < BUFFER * layout.questions {

@@ -106,6 +106,18 @@ impl Layout {
     }
 }
 
+/// The idle day: n = m = 0, and both leads of the anchor 0.
+const IDLE: [u8; 18] = [14, 0, 0, 0, 1, 0, 0, 0, 0, 0, 0, 0, 0, 0, 0, 0, 0, 0];
+
+/// The record that bytes mean: no bytes mean the idle day.
+pub fn meant(bytes: &[u8]) -> &[u8] {
+    if bytes.is_empty() {
+        &IDLE
+    } else {
+        bytes
+    }
+}
+
 /// Reads a problem of kind 1 into room that is blank; refusals 1 to 6.
 pub fn read(bytes: &[u8], problem: &mut Problem) -> Result<(), u8> {
     fill(bytes, header(bytes, false)?, problem).map(|_| ())

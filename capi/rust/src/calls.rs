@@ -15,7 +15,8 @@ pub const QUESTIONS_SIZE: usize = 18_188;
 /// The offset of the numbers that cross the boundary: 0 is blank, `v + OFFSET` is the minute v.
 const OFFSET: i64 = 1 << 31;
 
-/// Answers a problem of one question, and writes the answer record at the start of `answer`. Bytes after the record stay.
+/// Answers a problem of one question, and writes the answer record at the start of `answer`. Bytes after the record stay. No
+/// bytes are an idle day (document 02, 2.9), here and in [`solve_all`] and [`check`].
 ///
 /// Refusals: 1 to 7. A problem of kind 3 gets 3 here: its answers are several, and [`solve_all`] gives them. A refusal leaves
 /// `answer` untouched.

@@ -16,6 +16,12 @@
 //! let judged = span::check(&problem, &answer[..solved.size]).unwrap();
 //! assert_eq!(judged.to_string(), "accepted least 3");
 //!
+//! // No bytes are an idle day: n = m = 0, and both leads of the anchor 0.
+//! let solved = span::solve(&[], &mut answer).unwrap();
+//! assert_eq!(solved.to_string(), "least 0");
+//! assert_eq!(span::check(&[], &answer[..solved.size]).unwrap().to_string(), "accepted least 0");
+//! assert_eq!(span::solve(&problem[..9], &mut answer).unwrap_err().number, 1);
+//!
 //! let mut text = [0; span::TEXT_SIZE];
 //! let size = span::write_hours(Some(425), &mut text).unwrap();
 //! assert_eq!(&text[..size], b"7:05");

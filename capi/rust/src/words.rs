@@ -142,7 +142,7 @@ impl Refusal {
     /// The refusal's sentence in document 01 or 02.
     pub fn reason(self) -> &'static str {
         match self.number {
-            1 => "The problem has fewer than 10 bytes.",
+            1 => "The problem has 1 to 9 bytes.",
             2 => "Its length field is not its size − 4.",
             3 => "Its kind is not 1, nor, for the engine, 3.",
             4 => "n is above 31 or m above 63.",

@@ -6,7 +6,7 @@ use mathlib.Core.List.{List}
 use mathlib.Core.Logic.{_↔_}
 use native.Mathlib.Omega.{arith}
 use Rattle.definitions.specs.Limits.{answer-most}
-use Rattle.definitions.specs.ProblemRecord.{nField, mField, problemRefusal, WithinLayout, problemOf}
+use Rattle.definitions.specs.ProblemRecord.{nField, mField, problemRefusal, WithinLayout, problemOf, meant}
 use Rattle.definitions.specs.AnswerRecord.{Answer, answerRefusal, answerBytes}
 use Rattle.definitions.specs.Verdict.{Verdict, accepts, Accepted, optimal, unbounded, infeasible, checkRefusal, answerFor, Judged, turned-away, certified, uncertified}
 use Rattle.definitions.specs.Demands.{Slice, Checker, Accepts, CheckerJudges, CheckerRefuses, AcceptsExactly, PlanHolds, NeverBroken}
@@ -34,17 +34,17 @@ module _ (check : Checker) (judges : CheckerJudges check) where
 
   -- What is accepted is of the right form, and all that is listed holds,
   pub accepts-only : (p a : List ℕ) → Slice p → Slice a → Accepts check p a
-      → (answerRefusal a (nField p) (mField p) ≡ 0) × Accepted (problemOf p) (answerFor p a)
+      → (answerRefusal a (nField (meant p)) (mField (meant p)) ≡ 0) × Accepted (problemOf (meant p)) (answerFor (meant p) a)
   unfolding checkRefusal
   accepts-only p a b c t =
       let h = accepts-judged (judges p a b c) t in
-      (or-else-none (problemRefusal p) (answerRefusal a (nField p) (mField p)) .0 (h .0) .1, h .1)
+      (or-else-none (problemRefusal (meant p)) (answerRefusal a (nField (meant p)) (mField (meant p))) .0 (h .0) .1, h .1)
 
   -- and the other way round.
-  pub accepts-all : (p a : List ℕ) → Slice p → Slice a → WithinLayout p → answerRefusal a (nField p) (mField p) ≡ 0 → Accepted (problemOf p) (answerFor p a)
+  pub accepts-all : (p a : List ℕ) → Slice p → Slice a → WithinLayout (meant p) → answerRefusal a (nField (meant p)) (mField (meant p)) ≡ 0 → Accepted (problemOf (meant p)) (answerFor (meant p) a)
       → Accepts check p a
   unfolding checkRefusal accepts
-  accepts-all p a b c w e h = ap accepts (judged-unique (judges p a b c) (certified (or-else-none (problemRefusal p) (answerRefusal a (nField p) (mField p)) .1 (w, e)) h))
+  accepts-all p a b c w e h = ap accepts (judged-unique (judges p a b c) (certified (or-else-none (problemRefusal (meant p)) (answerRefusal a (nField (meant p)) (mField (meant p))) .1 (w, e)) h))
 
   pub accepts-exactly : AcceptsExactly check
   accepts-exactly p a b c w = (accepts-only p a b c, λ h. accepts-all p a b c w (h .0) (h .1))
@@ -53,7 +53,7 @@ module _ (check : Checker) (judges : CheckerJudges check) where
   pub never-broken : NeverBroken check
   never-broken p a b c t e = go (accepts-only p a b c t .1)
     where
-      go : Accepted (problemOf p) (answerFor p a) → PlanHolds p a
+      go : Accepted (problemOf (meant p)) (answerFor (meant p) a) → PlanHolds (meant p) a
       go (optimal {s = s} d f h) = record { keeps-rules = h .feasible; s = s; span-is = f; value-is = h .value-is }
       go (unbounded d h) = absurd (omega (arith, e, d))
       go (infeasible d h) = absurd (omega (arith, e, d))
@@ -61,11 +61,11 @@ module _ (check : Checker) (judges : CheckerJudges check) where
   -- ---- answers that were written
 
   -- The record of an answer of the right form is accepted exactly when all that is listed for the answer holds.
-  pub record-accepted : (p : List ℕ) (a : Answer) → Slice p → WithinLayout p → WriterFits a (nField p) (mField p) answer-most
-      → Accepts check p (answerBytes (nField p) a) ↔ Accepted (problemOf p) a
+  pub record-accepted : (p : List ℕ) (a : Answer) → Slice p → WithinLayout (meant p) → WriterFits a (nField (meant p)) (mField (meant p)) answer-most
+      → Accepts check p (answerBytes (nField (meant p)) a) ↔ Accepted (problemOf (meant p)) a
   record-accepted p a b w f =
-      let s = record-slice (nField p) (mField p) answer-most a f in
-      let back : answerFor p (answerBytes (nField p) a) ≡ a = answer-back a (nField p) (mField p) answer-most f in (
-        λ t. rw back at (accepts-only p (answerBytes (nField p) a) b s t .1),
-        λ h. accepts-all p (answerBytes (nField p) a) b s w (answer-accepted a (nField p) (mField p) answer-most f) (rw back h),
+      let s = record-slice (nField (meant p)) (mField (meant p)) answer-most a f in
+      let back : answerFor (meant p) (answerBytes (nField (meant p)) a) ≡ a = answer-back a (nField (meant p)) (mField (meant p)) answer-most f in (
+        λ t. rw back at (accepts-only p (answerBytes (nField (meant p)) a) b s t .1),
+        λ h. accepts-all p (answerBytes (nField (meant p)) a) b s w (answer-accepted a (nField (meant p)) (mField (meant p)) answer-most f) (rw back h),
       )

@@ -11,11 +11,12 @@ use borrow.Author.Tests.{ltb-true, lt-ltb}
 use Rattle.base.proofs.Numbers.{nat-le-or-lt}
 use Rattle.definitions.specs.Limits.{byte-values}
 use Rattle.definitions.specs.Bytes.{Bytes, all}
-use Rattle.definitions.specs.ProblemRecord.{nField, mField, problemRefusal}
+use Rattle.definitions.specs.ProblemRecord.{nField, mField, problemRefusal, meant}
 use Rattle.definitions.specs.AnswerRecord.{answerRefusal}
 use Rattle.definitions.specs.Verdict.{Verdict, accepted, refused, checkRefusal, answerFor, not-certified, Judged, turned-away, certified, uncertified}
 use Rattle.definitions.specs.Demands.{Checker, CheckerJudges}
 use Rattle.definitions.proofs.Bytes.{all-true}
+use Rattle.definitions.proofs.IdleDay.{meant-bytes}
 use Rattle.definitions.proofs.Refusals.{or-else-none}
 use Rattle.checker.proofs.Decided.{known, bytes-decided}
 
@@ -75,7 +76,7 @@ bytes-known s = go (all (λ b. ltb b byte-values) s) refl
 
 -- The verdict on bytes; lists that are no strings of bytes are refused.
 checked : (p a : List ℕ) → Bytes p ⊎ (Bytes p → ⊥) → Bytes a ⊎ (Bytes a → ⊥) → Verdict
-checked p a (inl b) (inl c) = judged-exists p a b c .verdict
+checked p a (inl b) (inl c) = judged-exists (meant p) a (meant-bytes p b) c .verdict
 checked p a (inl b) (inr d) = refused 0
 checked p a (inr d) c = refused 0
 
@@ -86,7 +87,7 @@ pub the-checker-judges : CheckerJudges the-checker
 unfolding the-checker checked
 the-checker-judges p a b c = go (bytes-known p) (bytes-known a)
   where
-    go : (x : Bytes p ⊎ (Bytes p → ⊥)) (y : Bytes a ⊎ (Bytes a → ⊥)) → Judged p a (checked p a x y)
-    go (inl b′) (inl c′) = judged-exists p a b′ c′ .judged
+    go : (x : Bytes p ⊎ (Bytes p → ⊥)) (y : Bytes a ⊎ (Bytes a → ⊥)) → Judged (meant p) a (checked p a x y)
+    go (inl b′) (inl c′) = judged-exists (meant p) a (meant-bytes p b′) c′ .judged
     go (inl b′) (inr d) = absurd (d (c .bytes))
     go (inr d) y = absurd (d (b .bytes))

@@ -14,12 +14,12 @@ use Rattle.base.proofs.Numbers.{nat-le-or-lt}
 use Rattle.definitions.specs.Limits.{kept-bytes, length-bytes, problem-header, answer-header, answer-most, highest-n, highest-m, answer-kind, problem-most}
 use Rattle.definitions.specs.Tropical.{Trop}
 use Rattle.definitions.specs.Bytes.{numAt, Outcome, outcome}
-use Rattle.definitions.specs.ProblemRecord.{lengthField, kindField, nField, mField, headerRefusal, headerOutcome, problemRefusal, refusalFor}
+use Rattle.definitions.specs.ProblemRecord.{lengthField, kindField, nField, mField, headerRefusal, headerOutcome, problemRefusal, refusalFor, meant}
 use Rattle.definitions.specs.AnswerRecord.{known-class, classField, spanField, answerSize, answerHeaderRefusal, answerHeaderJudged, answerHeaderOutcome, answerRefusal}
 use Rattle.definitions.specs.Verdict.{Verdict, refused, checkRefusal, Judged}
 use Rattle.definitions.specs.Programs.{cutPlace, problemPart, answerPart, KeptOf}
 use Rattle.definitions.proofs.Refusals.{or-else-suc, limits-clause, enough-clause, equal-clause, both-clause, problem-fits}
-use Rattle.definitions.proofs.Inputs.{kept-at, length-agrees, one-agrees, answer-agrees, header-short, header-length, cut-past, cut-inside}
+use Rattle.definitions.proofs.Inputs.{kept-at, length-agrees, one-agrees, answer-agrees, header-short, header-length, cut-past, cut-inside, part-meant}
 use Rattle.definitions.proofs.RoundTrip.{size-most}
 use Rattle.definitions.proofs.Outcomes.{outcome-gives, outcome-refusal}
 use Rattle.records.specs.declared.problem.Header.{Header}
@@ -84,9 +84,16 @@ long-answer s size n m head {r} h k l e f =
 
 -- ---- inputs that are kept whole
 
-pub judged-parts : (s : List ℕ) {cut : ℕ} {v : Verdict} → cut ≡ cutPlace s → Judged (take cut s) (drop cut s) v → Judged (problemPart s) (answerPart s) v
+pub judged-parts : (s : List ℕ) {cut : ℕ} {v : Verdict} → cut ≡ cutPlace s → Judged (meant (take cut s)) (drop cut s) v
+    → Judged (meant (problemPart s)) (answerPart s) v
 unfolding problemPart answerPart
 judged-parts s e j = rw (← e) j
+
+-- Where there is a length field, the problem part has bytes.
+pub judged-long : (s : List ℕ) {cut : ℕ} {v : Verdict} → length-bytes ≤ length s → cut ≡ cutPlace s → Judged (take cut s) (drop cut s) v
+    → Judged (meant (problemPart s)) (answerPart s) v
+unfolding problemPart answerPart
+judged-long s h e j = rw (part-meant s h, ← e) j
 
 -- ---- inputs that are longer
 
@@ -149,7 +156,7 @@ module _ {kept input : List ℕ} {size end : ℕ} (longer : Longer kept size inp
 
 -- The length field reaches past the input: all of it is the problem, and refusal 2 applies.
 pub long-past : {kept input : List ℕ} {size : ℕ} → Longer kept size input → kept-bytes < size → size < lengthField kept + length-bytes
-    → Judged (problemPart input) (answerPart input) (refused 2)
+    → Judged (meant (problemPart input)) (answerPart input) (refused 2)
 unfolding refusalFor checkRefusal
 long-past {kept} {input} {size} longer h k =
     let e = length-agrees input kept (λ i b. longer .begins i (omega arith)) in
@@ -157,7 +164,7 @@ long-past {kept} {input} {size} longer h k =
     let first : headerRefusal false (take size input) (length (take size input)) ≡ 2 =
     header-same {end = size} longer (omega arith) ∙ header-length false kept size (omega arith) (λ q. omega arith) in
     let whole : problemRefusal (take size input) ≡ headerRefusal false (take size input) (length (take size input)) = or-else-suc _ _ (omega arith) in
-    judged-parts input cut (turned (take size input) (drop size input) 2 (or-else-suc _ _ (omega arith) ∙ whole ∙ first) (omega arith))
+    judged-long input (omega (arith, longer .size-is)) cut (turned (take size input) (drop size input) 2 (or-else-suc _ _ (omega arith) ∙ whole ∙ first) (omega arith))
 
 -- It does not: the problem is cut there.
 pub long-cut : {kept input : List ℕ} {size : ℕ} → Longer kept size input → kept-bytes < size → lengthField kept + length-bytes ≤ size

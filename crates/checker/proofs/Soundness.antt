@@ -10,7 +10,7 @@ use Rattle.definitions.specs.Limits.{answer-most, class-optimal, class-unbounde
 use Rattle.definitions.specs.Tropical.{Trop, fin}
 use Rattle.definitions.specs.Problem.{Problem, Point, Feasible, value, whole, _≼_, Infeasible, Unbounded}
 use Rattle.definitions.specs.Certificate.{Anchor, AcceptedOptimal, AcceptedInfeasible, AcceptedUnbounded}
-use Rattle.definitions.specs.ProblemRecord.{nField, mField, WithinLayout, problemOf, listOf}
+use Rattle.definitions.specs.ProblemRecord.{nField, mField, WithinLayout, problemOf, listOf, meant}
 use Rattle.definitions.specs.AnswerRecord.{spanFits, is-blank, stampsFit, pickCount, highestPick, picksFit}
 use Rattle.definitions.specs.Verdict.{Accepted, optimal, unbounded, infeasible, pointOf, strategyOf}
 use Rattle.definitions.specs.Demands.{Slice, Checker, CheckerJudges, SomeTable, Fits, leastAnswer, blankAnswer}
@@ -93,40 +93,40 @@ accepted-bottomless (infeasible c h) = absurd (omega (arith, c))
 
 -- ---- the demand
 
-module _ (check : Checker) (judges : CheckerJudges check) (p : List ℕ) (b : Slice p) (w : WithinLayout p) where
+module _ (check : Checker) (judges : CheckerJudges check) (p : List ℕ) (b : Slice p) (w : WithinLayout (meant p)) where
   -- A plan that is accepted with some table is least.
-  pub least-sound : (x : Point) (s : ℤ) → Fits (nField p) s x → SomeTable check p class-optimal (leastAnswer (nField p) s x)
-      → (y : Point) → Feasible (problemOf p) y → whole s ≼ value (problemOf p) y
+  pub least-sound : (x : Point) (s : ℤ) → Fits (nField (meant p)) s x → SomeTable check p class-optimal (leastAnswer (nField (meant p)) s x)
+      → (y : Point) → Feasible (problemOf (meant p)) y → whole s ≼ value (problemOf (meant p)) y
   unfolding problemOf
   least-sound x s f t =
-      let a = accepted-least (record-accepted check judges p (leastAnswer (nField p) s x (t .picks)) b w (least-fits p w x s f (t .picks) (t .count) (t .none-above)) .0 (t .accepted-with)) in
-      optimal-accepted (problemOf p) s (pointOf (listOf x (suc (nField p)))) (a .feasible) (a .value-is) .1
+      let a = accepted-least (record-accepted check judges p (leastAnswer (nField (meant p)) s x (t .picks)) b w (least-fits (meant p) w x s f (t .picks) (t .count) (t .none-above)) .0 (t .accepted-with)) in
+      optimal-accepted (problemOf (meant p)) s (pointOf (listOf x (suc (nField (meant p))))) (a .feasible) (a .value-is) .1
       (record {
         picks = strategyOf (t .picks);
-        none-above = fit-above (suc (mField p)) (t .picks) (suc (nField p)) (t .count) (t .none-above);
+        none-above = fit-above (suc (mField (meant p))) (t .picks) (suc (nField (meant p))) (t .count) (t .none-above);
         accepted = a;
       })
 
   -- Where some table is accepted for none, no plan has a span below plus infinity.
-  pub none-sound : SomeTable check p class-infeasible (blankAnswer class-infeasible) → Infeasible (problemOf p)
+  pub none-sound : SomeTable check p class-infeasible (blankAnswer class-infeasible) → Infeasible (problemOf (meant p))
   unfolding problemOf
   none-sound t =
-      let a = accepted-none (record-accepted check judges p (blankAnswer class-infeasible (t .picks)) b w (infeasible-fits p w (t .picks) (t .count) (t .none-above)) .0 (t .accepted-with)) in
-      accepted-infeasible (problemOf p)
+      let a = accepted-none (record-accepted check judges p (blankAnswer class-infeasible (t .picks)) b w (infeasible-fits (meant p) w (t .picks) (t .count) (t .none-above)) .0 (t .accepted-with)) in
+      accepted-infeasible (problemOf (meant p))
       (record {
         picks = strategyOf (t .picks);
-        none-above = fit-above (suc (mField p)) (t .picks) (suc (nField p)) (t .count) (t .none-above);
+        none-above = fit-above (suc (mField (meant p))) (t .picks) (suc (nField (meant p))) (t .count) (t .none-above);
         accepted = a;
       })
 
   -- Where some table is accepted for bottomless, spans fall below every whole number.
-  pub bottomless-sound : SomeTable check p class-unbounded (blankAnswer class-unbounded) → Unbounded (problemOf p)
+  pub bottomless-sound : SomeTable check p class-unbounded (blankAnswer class-unbounded) → Unbounded (problemOf (meant p))
   unfolding problemOf
   bottomless-sound t =
-      let a = accepted-bottomless (record-accepted check judges p (blankAnswer class-unbounded (t .picks)) b w (unbounded-fits p w (t .picks) (t .count) (t .none-above)) .0 (t .accepted-with)) in
-      accepted-unbounded (problemOf p)
+      let a = accepted-bottomless (record-accepted check judges p (blankAnswer class-unbounded (t .picks)) b w (unbounded-fits (meant p) w (t .picks) (t .count) (t .none-above)) .0 (t .accepted-with)) in
+      accepted-unbounded (problemOf (meant p))
       (record {
         picks = strategyOf (t .picks);
-        none-above = fit-above (suc (nField p)) (t .picks) (suc (mField p)) (t .count) (t .none-above);
+        none-above = fit-above (suc (nField (meant p))) (t .picks) (suc (mField (meant p))) (t .count) (t .none-above);
         accepted = a;
       })

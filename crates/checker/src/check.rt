@@ -7,7 +7,7 @@ ghost use Rattle.base.specs.Decides.{Decides};
 ghost use Rattle.definitions.specs.Limits.{signed-half, span-limit};
 ghost use Rattle.definitions.specs.Tropical.{fin};
 ghost use Rattle.definitions.specs.Offset.{tropOf};
-ghost use Rattle.definitions.specs.ProblemRecord.{problemOf};
+ghost use Rattle.definitions.specs.ProblemRecord.{problemOf, meant};
 ghost use Rattle.definitions.specs.AnswerRecord.{Answer, highestPick};
 ghost use Rattle.definitions.specs.Certificate.{AcceptedOptimal, AcceptedUnbounded};
 ghost use Rattle.definitions.specs.Verdict.{Accepted, Judged, strategyOf};
@@ -24,6 +24,7 @@ use plan_tests::value_is;
 use problem_records::reader::judge_problem;
 use problem_records::reader::read_tables;
 use reach::anchor;
+use records::idle::idle_day;
 use records::limits::INFEASIBLE;
 use records::limits::NOT_CERTIFIED;
 use records::limits::OFFSET;
@@ -135,8 +136,8 @@ fn check_answer(problem: &[u8], n: usize, m: usize, answer: &[u8]) -> Verdict
     Verdict::Refused(NOT_CERTIFIED)
 }
 
-// The verdict on the bytes of a problem and of an answer.
-pub fn check(problem: &[u8], answer: &[u8]) -> Verdict
+// The verdict on a problem record and the bytes of an answer.
+fn check_record(problem: &[u8], answer: &[u8]) -> Verdict
     ensures { λ r. ⌜ Judged (now (problem .entry)) (now (answer .entry)) (verdictOf r) ⌝ }
 {
     let header = judge_problem(problem, false);
@@ -144,4 +145,15 @@ pub fn check(problem: &[u8], answer: &[u8]) -> Verdict
         return Verdict::Refused(problem_refusal(header));
     };
     check_answer(problem, layout.n, layout.m, answer)
+}
+
+// The verdict on the bytes of a problem and of an answer; no bytes mean the idle day.
+pub fn check(problem: &[u8], answer: &[u8]) -> Verdict
+    ensures { λ r. ⌜ Judged (meant (now (problem .entry))) (now (answer .entry)) (verdictOf r) ⌝ }
+{
+    if problem.len() == 0 {
+        let idle = idle_day();
+        return check_record(&idle, answer);
+    }
+    check_record(problem, answer)
 }

@@ -5,6 +5,7 @@ ghost use mathlib.Core.List.{List};
 ghost use Prim.Native.Nat.{ℕ, _+_, _≤_, _<_};
 ghost use lib.ListN.{length, take, drop};
 ghost use Rattle.definitions.specs.Limits.{highest-n, highest-m, answer-most, kept-bytes};
+ghost use Rattle.definitions.specs.ProblemRecord.{meant};
 ghost use Rattle.definitions.specs.AnswerRecord.{answerHeaderRefusal};
 ghost use Rattle.definitions.specs.Verdict.{Judged};
 ghost use Rattle.definitions.specs.Programs.{cutPlace, problemPart, answerPart, KeptOf};
@@ -42,7 +43,7 @@ fn cut_place(input: &[u8]) -> usize
 
 // The verdict on an input that was kept whole.
 fn judge_whole(input: &[u8]) -> Verdict
-    ensures { λ r. ⌜ Judged (problemPart (now (input .entry))) (answerPart (now (input .entry))) (verdictOf r) ⌝ }
+    ensures { λ r. ⌜ Judged (meant (problemPart (now (input .entry)))) (answerPart (now (input .entry))) (verdictOf r) ⌝ }
 {
     let cut = cut_place(input);
     check(&input[..cut], &input[cut..])
@@ -76,7 +77,7 @@ fn judge_long(kept: &[u8], size: usize, end: usize) -> Verdict
 // The same on a slice.
 fn judge_kept(kept: &[u8], size: usize) -> Verdict
     requires { ⌜ length (now kept) ≡ kept-bytes ⌝ }
-    ensures { λ r. ⌜ ((input : List ℕ) → KeptOf (now (kept .entry)) size input → Judged (problemPart input) (answerPart input) (verdictOf r)) ⌝ }
+    ensures { λ r. ⌜ ((input : List ℕ) → KeptOf (now (kept .entry)) size input → Judged (meant (problemPart input)) (answerPart input) (verdictOf r)) ⌝ }
 {
     if size <= KEPT {
         return judge_whole(&kept[..size]);
@@ -90,7 +91,7 @@ fn judge_kept(kept: &[u8], size: usize) -> Verdict
 
 // The verdict on every input of this size that begins with the kept bytes.
 pub fn judge_input(kept: &[u8; KEPT], size: u64) -> Verdict
-    ensures { λ r. ⌜ ((input : List ℕ) → KeptOf (now (kept .entry)) size input → Judged (problemPart input) (answerPart input) (verdictOf r)) ⌝ }
+    ensures { λ r. ⌜ ((input : List ℕ) → KeptOf (now (kept .entry)) size input → Judged (meant (problemPart input)) (answerPart input) (verdictOf r)) ⌝ }
 {
     judge_kept(kept, size as usize)
 }

@@ -14,13 +14,14 @@ use borrow.Author.Tests.{lt-ltb, le-ltb, eqb-true, ne-eqb}
 use Rattle.base.proofs.Numbers.{nat-le-or-lt}
 use Rattle.definitions.specs.Limits.{kept-bytes, word-values, length-bytes, problem-header, answer-header, signed-full, highest-n, highest-m, problem-kind, questions-header, questions-kind}
 use Rattle.definitions.specs.Bytes.{Bytes, numAt, put}
-use Rattle.definitions.specs.ProblemRecord.{lengthField, kindField, nField, mField, headerRefusal, headerJudged, problemRefusal, WithinLayout, problemSize, refusalFor, countField}
+use Rattle.definitions.specs.ProblemRecord.{lengthField, kindField, nField, mField, headerRefusal, headerJudged, problemRefusal, WithinLayout, meant, problemSize, refusalFor, countField}
 use Rattle.definitions.specs.AnswerRecord.{answerHeaderRefusal, answerHeaderJudged, answerRefusal}
 use Rattle.definitions.specs.Verdict.{Verdict, refused, checkRefusal, Judged, turned-away, certified, uncertified}
 use Rattle.definitions.specs.Programs.{cutPlace, problemPart, answerPart, KeptOf, SpanOutput, VerdictOutput, read-most, ReadFrom}
 use Rattle.definitions.specs.Programs as Programs
 use Rattle.definitions.proofs.Bytes.{numAt-same, numAt-bound, bytes-take, bytes-drop, bytes-put, zero-bytes}
 use Rattle.definitions.proofs.Put.{take-put, length-put}
+use Rattle.definitions.proofs.IdleDay.{meant-some}
 use Rattle.definitions.proofs.Refusals.{or-else-suc, or-else-none, limits-clause, enough-clause, equal-clause, problem-fits, HeaderPasses, header-passes, kind-known, few-questions, size-one}
 
 -- ---- what was kept
@@ -158,6 +159,17 @@ pub cut-inside : (s : List ℕ) → length-bytes ≤ length s → lengthField s 
 unfolding cutPlace
 cut-inside s h k = rw (le-ltb (length s) length-bytes h, le-ltb (length s) (lengthField s + length-bytes) k)
 
+-- Where there is a length field, the problem part has bytes: it is no idle day.
+pub part-meant : (s : List ℕ) → length-bytes ≤ length s → meant (problemPart s) ≡ problemPart s
+unfolding problemPart
+part-meant s h = ⊎-elim
+    (λ (k : lengthField s + length-bytes ≤ length s). inside (omega (arith, cut-inside s h k)) (omega (arith, cut-inside s h k)))
+    (λ (k : length s < lengthField s + length-bytes). inside (omega (arith, cut-past s h k)) (omega (arith, cut-past s h k)))
+    (nat-le-or-lt (lengthField s + length-bytes) (length s))
+  where
+    inside : 0 < cutPlace s → cutPlace s ≤ length s → meant (take (cutPlace s) s) ≡ take (cutPlace s) s
+    inside g l = meant-some (take (cutPlace s) s) (omega (arith, length-take-le (cutPlace s) s l))
+
 -- ---- from 2³³ bytes on
 
 field-below : {s : List ℕ} → Bytes s → lengthField s + length-bytes < signed-full + length-bytes
@@ -280,6 +292,10 @@ judged-with : {p a : List ℕ} {v : Verdict} (k : ℕ) → checkRefusal p a ≡ 
 judged-with zero e h f = absurd (omega arith)
 judged-with (suc k) e h f = rw f (turned-away e)
 
+-- What is so long is no idle day.
+far-meant : (s : List ℕ) → read-most ≤ length s → meant s ≡ s
+far-meant s h = meant-some s (omega arith)
+
 -- What the verdict program puts out is the same for all inputs that are so long and begin alike.
 pub verdict-far : (input other : List ℕ) → Bytes input → Bytes other → read-most ≤ length input → read-most ≤ length other → take kept-bytes input ≡ take kept-bytes other
     → {output : List ℕ} → VerdictOutput other output → VerdictOutput input output
@@ -290,9 +306,9 @@ verdict-far input other b c h g begins o =
     record { verdict = o .verdict; judged = go (checkRefusal (problemPart other) (answerPart other)) refl (alike .0) (alike .1); line = o .line }
   where
     go : (k : ℕ) → checkRefusal (problemPart other) (answerPart other) ≡ k → checkRefusal (problemPart input) (answerPart input) ≡ checkRefusal (problemPart other) (answerPart other)
-        → 0 < checkRefusal (problemPart input) (answerPart input) → Judged (problemPart input) (answerPart input) (o .verdict)
+        → 0 < checkRefusal (problemPart input) (answerPart input) → Judged (meant (problemPart input)) (answerPart input) (o .verdict)
     go zero e f some = absurd (omega arith)
-    go (suc k) e f some = judged-with (suc k) (f ∙ e) (omega arith) (refused-with (o .judged) k e)
+    go (suc k) e f some = rw (part-meant input (omega arith)) (judged-with (suc k) (f ∙ e) (omega arith) (refused-with (rw (part-meant other (omega arith)) at (o .judged)) k e))
 
 -- ---- what is put out for all inputs of which the same was read
 
@@ -300,10 +316,12 @@ module _ (kept : List ℕ) (size : ℕ) (output : List ℕ) where
   part-long : (input : List ℕ) → size ≤ length input → length (take size input) ≡ size
   part-long input h = length-take-le size input h
 
-  pub span-read : ((input : List ℕ) → KeptOf kept size input → SpanOutput input output) → (input : List ℕ) → ReadFrom kept size input → SpanOutput input output
+  pub span-read : ((input : List ℕ) → KeptOf kept size input → SpanOutput (meant input) output) → (input : List ℕ) → ReadFrom kept size input
+      → SpanOutput (meant input) output
   span-read f input (Programs.whole k) = f input k
   span-read f input (Programs.part b h g k) =
-      span-far input (take size input) b (bytes-take size b) (omega arith) (omega (arith, part-long input g)) (f (take size input) k)
+      let far : SpanOutput (take size input) output = rw (far-meant (take size input) (omega (arith, part-long input g))) at (f (take size input) k) in
+      rw (far-meant input (omega arith)) (span-far input (take size input) b (bytes-take size b) (omega arith) (omega (arith, part-long input g)) far)
 
   pub verdict-read : ((input : List ℕ) → KeptOf kept size input → VerdictOutput input output) → (input : List ℕ) → ReadFrom kept size input → VerdictOutput input output
   verdict-read f input (Programs.whole k) = f input k

@@ -1,6 +1,7 @@
 -- The three demands of the service description, sentence by sentence, as statements about any functions on bytes:
 -- an engine, a checker, readers, a writer and the two programs. That a function ends on every string of bytes is part
--- of its being a function. Document 01 says under "The checker" what the words of demand 3 mean.
+-- of its being a function. Document 01 says under "The checker" what the words of demand 3 mean. No bytes mean the idle day (document 02,
+-- 2.9): of a string of bytes p the demands hold with the record that it means, `meant p`.
 use Prim.Native.Nat.{ℕ, zero, suc, _+_, _*_, _≤_, _<_}
 use mathlib.Core.Path.{_≡_}
 use mathlib.Core.Bool.{Bool, true}
@@ -13,7 +14,7 @@ use Rattle.definitions.specs.Tropical.{Trop, bot, fin}
 use Rattle.definitions.specs.Problem.{Problem, Point, Feasible, value, whole, plus-infinity, _≼_, Attainable}
 use Rattle.definitions.specs.Bytes.{Bytes, Outcome, refusal, gives}
 use Rattle.definitions.specs.Offset.{tropOf}
-use Rattle.definitions.specs.ProblemRecord.{recordRefusal, WithinLayout, WithinLayouts, problemOf, kindField, nField, mField, countField, listOf}
+use Rattle.definitions.specs.ProblemRecord.{recordRefusal, WithinLayout, WithinLayouts, meant, problemOf, kindField, nField, mField, countField, listOf}
 use Rattle.definitions.specs.Questions.{part, alone, asking}
 use Rattle.definitions.specs.AnswerRecord.{Answer, answerRefusal, writerRefusal, answerOf, answerBytes, answerSize, pickCount, highestPick, picksFit, spanFits, stampsFit, written}
 use Rattle.definitions.specs.Verdict.{Verdict, accepted, refused, accepts, checkRefusal, Accepted, answerFor, pointOf, Judged}
@@ -96,20 +97,20 @@ Program = List ℕ → ℕ → List ℕ
 -- that something can be handed over: no entry relies on somebody having looked beforehand.
 pub record EngineRefuses (engine : Engine) : Type 0 where
   pub first-refusal :
-      (p buffer : List ℕ) → Slice p → Slice buffer → (k : ℕ) → engineRefusal p (length buffer) ≡ suc k
+      (p buffer : List ℕ) → Slice p → Slice buffer → (k : ℕ) → engineRefusal (meant p) (length buffer) ≡ suc k
       → engine .result p buffer ≡ Solved.refused (suc k)
   pub untouched :
-      (p buffer : List ℕ) → Slice p → Slice buffer → (k : ℕ) → engineRefusal p (length buffer) ≡ suc k
+      (p buffer : List ℕ) → Slice p → Slice buffer → (k : ℕ) → engineRefusal (meant p) (length buffer) ≡ suc k
       → engine .buffer p buffer ≡ buffer
 
 abbrev pub CheckerRefuses : Checker → Type 0
 CheckerRefuses check =
-    (p a : List ℕ) → Slice p → Slice a → (k : ℕ) → checkRefusal p a ≡ suc k → check p a ≡ refused (suc k)
+    (p a : List ℕ) → Slice p → Slice a → (k : ℕ) → checkRefusal (meant p) a ≡ suc k → check p a ≡ refused (suc k)
 
 pub record ProblemReaderRefuses (read : ProblemReader) : Type 0 where
-  pub number-is : (p : List ℕ) → Slice p → read .number p ≡ recordRefusal p
+  pub number-is : (p : List ℕ) → Slice p → read .number p ≡ recordRefusal (meant p)
   pub untouched :
-      (p : List ℕ) → Slice p → (k : ℕ) → recordRefusal p ≡ suc k
+      (p : List ℕ) → Slice p → (k : ℕ) → recordRefusal (meant p) ≡ suc k
       → (read .left p ≡ read .lent-left) × (read .right p ≡ read .lent-right)
 
 pub record ReaderRefuses (read : Reader) : Type 0 where
@@ -132,7 +133,7 @@ pub record WriterRefuses (write : Writer) : Type 0 where
 pub record ProgramsAnswer (span verdict : Program) : Type 0 where
   pub span-output :
       (kept : List ℕ) → Bytes kept → length kept ≡ kept-bytes → (size : ℕ) → Word size → (input : List ℕ) → ReadFrom kept size input
-      → SpanOutput input (span kept size)
+      → SpanOutput (meant input) (span kept size)
   pub verdict-output :
       (kept : List ℕ) → Bytes kept → length kept ≡ kept-bytes → (size : ℕ) → Word size → (input : List ℕ) → ReadFrom kept size input
       → VerdictOutput input (verdict kept size)
@@ -147,28 +148,28 @@ pub record FoundBy (engine : Engine) (p buffer : List ℕ) : Type 0 where
   pub trials : ℕ
   pub size : ℕ
   pub result-is : engine .result p buffer ≡ answered class span trials size
-  pub found : Found (problemOf p) class span trials
+  pub found : Found (problemOf (meant p)) class span trials
   pub few : trials ≤ most-trials
 
 abbrev pub LeastSpans : Engine → Type 0
 LeastSpans engine =
-    (p buffer : List ℕ) → Slice p → Slice buffer → WithinLayout p → answer-most ≤ length buffer → FoundBy engine p buffer
+    (p buffer : List ℕ) → Slice p → Slice buffer → WithinLayout (meant p) → answer-most ≤ length buffer → FoundBy engine p buffer
 
 -- Result and buffer are those that document 01 gives: every byte but the free ones, and those after the record stay.
 abbrev pub EngineSolves : Engine → Type 0
 EngineSolves engine =
-    (p buffer : List ℕ) → Slice p → Slice buffer → Solves p buffer (engine .result p buffer) (engine .buffer p buffer)
+    (p buffer : List ℕ) → Slice p → Slice buffer → Solves (meant p) buffer (engine .result p buffer) (engine .buffer p buffer)
 
 -- What is read: the fields of the bytes, of several questions the first. What is written: the record of the fields, and every byte after
 -- it stays.
 pub record ReadsProblem (read : ProblemReader) (p : List ℕ) : Type 0 where
-  pub n-is : read .problem p .n ≡ problemOf (asking p 0) .n
-  pub m-is : read .problem p .m ≡ problemOf (asking p 0) .m
-  pub left-is : (i j : ℕ) → i ≤ mField p → j ≤ nField p → read .problem p .left i j ≡ problemOf (asking p 0) .left i j
-  pub right-is : (i j : ℕ) → i ≤ mField p → j ≤ nField p → read .problem p .right i j ≡ problemOf (asking p 0) .right i j
+  pub n-is : read .problem p .n ≡ problemOf (asking (meant p) 0) .n
+  pub m-is : read .problem p .m ≡ problemOf (asking (meant p) 0) .m
+  pub left-is : (i j : ℕ) → i ≤ mField (meant p) → j ≤ nField (meant p) → read .problem p .left i j ≡ problemOf (asking (meant p) 0) .left i j
+  pub right-is : (i j : ℕ) → i ≤ mField (meant p) → j ≤ nField (meant p) → read .problem p .right i j ≡ problemOf (asking (meant p) 0) .right i j
 
 abbrev pub ReadsProblems : ProblemReader → Type 0
-ReadsProblems read = (p : List ℕ) → Slice p → WithinLayouts p → ReadsProblem read p
+ReadsProblems read = (p : List ℕ) → Slice p → WithinLayouts (meant p) → ReadsProblem read p
 
 abbrev pub ReadsFields : Reader → Type 0
 ReadsFields read =
@@ -185,12 +186,12 @@ pub record ReadBy (engine : Engine) (read : Reader) (p buffer : List ℕ) : Type
   pub size : ℕ
   pub answer : Answer
   pub result-is : engine .result p buffer ≡ answered (answer .class) (answer .span) trials size
-  pub written-is : engine .buffer p buffer ≡ written buffer (answerBytes (nField p) answer)
-  pub reads : read .reading (take size (engine .buffer p buffer)) (nField p) (mField p) ≡ gives answer
+  pub written-is : engine .buffer p buffer ≡ written buffer (answerBytes (nField (meant p)) answer)
+  pub reads : read .reading (take size (engine .buffer p buffer)) (nField (meant p)) (mField (meant p)) ≡ gives answer
 
 abbrev pub EngineReadsBack : Engine → Reader → Type 0
 EngineReadsBack engine read =
-    (p buffer : List ℕ) → Slice p → Slice buffer → WithinLayout p → answer-most ≤ length buffer
+    (p buffer : List ℕ) → Slice p → Slice buffer → WithinLayout (meant p) → answer-most ≤ length buffer
     → ReadBy engine read p buffer
 
 -- What the writer wrote does, read with the same n and m.
@@ -214,13 +215,13 @@ Accepts check p a = accepts (check p a) ≡ true
 -- The checker's verdict is the one that document 01 gives: 14 where the form is right and the answer is not accepted,
 -- and an accepted answer's own class and span.
 abbrev pub CheckerJudges : Checker → Type 0
-CheckerJudges check = (p a : List ℕ) → Slice p → Slice a → Judged p a (check p a)
+CheckerJudges check = (p a : List ℕ) → Slice p → Slice a → Judged (meant p) a (check p a)
 
 -- The checker accepts an answer exactly when it is of the right form and all that document 01 lists for its class holds.
 abbrev pub AcceptsExactly : Checker → Type 0
 AcceptsExactly check =
-    (p a : List ℕ) → Slice p → Slice a → WithinLayout p
-    → Accepts check p a ↔ ((answerRefusal a (nField p) (mField p) ≡ 0) × Accepted (problemOf p) (answerFor p a))
+    (p a : List ℕ) → Slice p → Slice a → WithinLayout (meant p)
+    → Accepts check p a ↔ ((answerRefusal a (nField (meant p)) (mField (meant p)) ≡ 0) × Accepted (problemOf (meant p)) (answerFor (meant p) a))
 
 -- So never one whose plan breaks a rule or has another span than its field.
 pub record PlanHolds (p a : List ℕ) : Type 0 where
@@ -231,15 +232,15 @@ pub record PlanHolds (p a : List ℕ) : Type 0 where
 
 abbrev pub NeverBroken : Checker → Type 0
 NeverBroken check =
-    (p a : List ℕ) → Slice p → Slice a → Accepts check p a → answerFor p a .class ≡ class-optimal → PlanHolds p a
+    (p a : List ℕ) → Slice p → Slice a → Accepts check p a → answerFor (meant p) a .class ≡ class-optimal → PlanHolds (meant p) a
 
 -- A pick table has as many picks as an answer of its class, none above the highest value there. Some table makes the
 -- checker accept the answer that holds it.
 pub record SomeTable (check : Checker) (p : List ℕ) (class : ℕ) (answerWith : List ℕ → Answer) : Type 0 where
   pub picks : List ℕ
-  pub count : length picks ≡ pickCount class (nField p) (mField p)
-  pub none-above : picksFit (highestPick class (nField p) (mField p)) picks ≡ true
-  pub accepted-with : Accepts check p (answerBytes (nField p) (answerWith picks))
+  pub count : length picks ≡ pickCount class (nField (meant p)) (mField (meant p))
+  pub none-above : picksFit (highestPick class (nField (meant p)) (mField (meant p))) picks ≡ true
+  pub accepted-with : Accepts check p (answerBytes (nField (meant p)) (answerWith picks))
 
 -- A plan fits the answer record if its span and stamps have the form of class 1.
 pub record Fits (n : ℕ) (s : ℤ) (x : Point) : Type 0 where
@@ -258,24 +259,24 @@ blankAnswer class picks = record { class = class; span = bot; stamps = []; picks
 -- great a span.
 abbrev pub LeastExactly : Checker → Type 0
 LeastExactly check =
-    (p : List ℕ) → Slice p → WithinLayout p → (x : Point) (s : ℤ) → Fits (nField p) s x → Feasible (problemOf p) x
-    → value (problemOf p) x ≡ whole s
-    → SomeTable check p class-optimal (leastAnswer (nField p) s x)
-    ↔ ((y : Point) → Feasible (problemOf p) y → whole s ≼ value (problemOf p) y)
+    (p : List ℕ) → Slice p → WithinLayout (meant p) → (x : Point) (s : ℤ) → Fits (nField (meant p)) s x → Feasible (problemOf (meant p)) x
+    → value (problemOf (meant p)) x ≡ whole s
+    → SomeTable check p class-optimal (leastAnswer (nField (meant p)) s x)
+    ↔ ((y : Point) → Feasible (problemOf (meant p)) y → whole s ≼ value (problemOf (meant p)) y)
 
 -- The checker accepts some pick table for none exactly when no plan that keeps the rules has a span below plus infinity.
 abbrev pub NoneExactly : Checker → Type 0
 NoneExactly check =
-    (p : List ℕ) → Slice p → WithinLayout p
+    (p : List ℕ) → Slice p → WithinLayout (meant p)
     → SomeTable check p class-infeasible (blankAnswer class-infeasible)
-    ↔ ((y : Point) → Feasible (problemOf p) y → plus-infinity ≼ value (problemOf p) y)
+    ↔ ((y : Point) → Feasible (problemOf (meant p)) y → plus-infinity ≼ value (problemOf (meant p)) y)
 
 -- It accepts some pick table for bottomless exactly when for every whole number some plan that keeps the rules has a
 -- span at or under it.
 abbrev pub BottomlessExactly : Checker → Type 0
 BottomlessExactly check =
-    (p : List ℕ) → Slice p → WithinLayout p
-    → SomeTable check p class-unbounded (blankAnswer class-unbounded) ↔ ((t : ℤ) → Attainable (problemOf p) t)
+    (p : List ℕ) → Slice p → WithinLayout (meant p)
+    → SomeTable check p class-unbounded (blankAnswer class-unbounded) ↔ ((t : ℤ) → Attainable (problemOf (meant p)) t)
 
 -- Whatever stood in an answer buffer that is long enough, the engine writes an answer there, and the checker accepts
 -- that answer for this problem.
@@ -289,7 +290,7 @@ pub record OwnAnswer (engine : Engine) (check : Checker) (p buffer : List ℕ) :
 
 abbrev pub OwnAnswers : Engine → Checker → Type 0
 OwnAnswers engine check =
-    (p buffer : List ℕ) → Slice p → Slice buffer → WithinLayout p → answer-most ≤ length buffer
+    (p buffer : List ℕ) → Slice p → Slice buffer → WithinLayout (meant p) → answer-most ≤ length buffer
     → OwnAnswer engine check p buffer
 
 -- ---- several questions

@@ -1,13 +1,14 @@
 -- The problem record: its size, its refusals, what its bytes mean, and a problem as bytes. Document 01, "Records"
--- and "What is turned away", 1 to 6; document 02, 2.1.
+-- and "What is turned away", 1 to 6; document 02, 2.1 and 2.9.
 use Prim.Native.Nat.{ℕ, zero, suc, _+_, _*_, _-_}
 use mathlib.Core.Path.{_≡_}
 use mathlib.Core.Bool.{Bool, true, false, not, cond, _&&_, _||_}
 use mathlib.Core.List.{List, [], _∷_, _++_, map}
 use lib.Dec.{eqb, ltb, leb}
 use lib.ListN.{length}
+use lib.IntN.{pos}
 use Rattle.definitions.specs.Limits.{highest-n, highest-m, lead-limit, length-bytes, short-bytes, signed-bytes, kind-place, n-place, m-place, count-place, problem-kind, questions-kind, most-questions, problem-header, questions-header, refused-short, refused-length, refused-kind, refused-limits, refused-count, refused-size, refused-lead}
-use Rattle.definitions.specs.Tropical.{Trop}
+use Rattle.definitions.specs.Tropical.{Trop, fin}
 use Rattle.definitions.specs.Problem.{Problem}
 use Rattle.definitions.specs.Bytes.{numAt, numsAt, le, fields, tropField, fieldOf, tropAt, all, blank-or-within, Clause, first, or-else, Outcome, outcome}
 
@@ -182,3 +183,12 @@ headerBytes n m =
 -- A problem as its record.
 unfoldable pub problemBytes : Problem → List ℕ
 problemBytes p = headerBytes (p .n) (p .m) ++ rowsBytes p (suc (p .m))
+
+-- The idle day (document 02, 2.9): n = m = 0 and both anchor leads 0.
+unfoldable pub idle : Problem
+idle = record { n = 0; m = 0; left = λ i j. fin (pos 0); right = λ i j. fin (pos 0) }
+
+-- "No bytes at all now mean the problem with n = m = 0 and both anchor leads 0": the record that is meant by the bytes handed over.
+abbrev pub meant : List ℕ → List ℕ
+meant [] = problemBytes idle
+meant (b ∷ s) = b ∷ s

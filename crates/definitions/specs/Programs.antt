@@ -10,7 +10,7 @@ use lib.IntN.{ℤ, pos, negsuc}
 use Rattle.definitions.specs.Limits.{kept-bytes, length-bytes, signed-full, problem-kind, questions-kind}
 use Rattle.definitions.specs.Tropical.{Trop, bot, fin}
 use Rattle.definitions.specs.Bytes.{Bytes}
-use Rattle.definitions.specs.ProblemRecord.{recordRefusal, problemOf, kindField, nField, countField, lengthField}
+use Rattle.definitions.specs.ProblemRecord.{recordRefusal, meant, problemOf, kindField, nField, countField, lengthField}
 use Rattle.definitions.specs.AnswerRecord.{Answer, by-class, answerBytes}
 use Rattle.definitions.specs.Verdict.{Verdict, accepted, refused, not-certified, Judged}
 use Rattle.definitions.specs.Solved.{Answers, AnswersInTurn}
@@ -87,16 +87,16 @@ problemPart input = take (cutPlace input) input
 unfoldable pub answerPart : List ℕ → List ℕ
 answerPart input = drop (cutPlace input) input
 
--- What the verdict program puts out: the line of the verdict on the two parts.
+-- What the verdict program puts out: the line of the verdict on the two parts. A problem part of no bytes means the idle day.
 pub record VerdictOutput (input output : List ℕ) : Type 0 where
   pub verdict : Verdict
-  pub judged : Judged (problemPart input) (answerPart input) verdict
+  pub judged : Judged (meant (problemPart input)) (answerPart input) verdict
   pub line : output ≡ verdictLine verdict
 
 -- ---- the span program
 
--- What the span program puts out: the answer record, or all answer records one after another where several questions are asked, or the
--- line of the refusal.
+-- What the span program puts out for the record that its input means: the answer record, or all answer records one after another where
+-- several questions are asked, or the line of the refusal.
 pub data SpanOutput (input : List ℕ) : List ℕ → Type 0 where
   refusal : {k : ℕ} → recordRefusal input ≡ suc k → SpanOutput input (refusedLine (suc k))
   answer :

@@ -8,12 +8,13 @@ use lib.ListN.{length, getD, take, length-take}
 use lib.Seq.{getD-take, take-all}
 use Rattle.definitions.specs.Limits.{kept-bytes, problem-header}
 use Rattle.definitions.specs.Bytes.{numAt}
-use Rattle.definitions.specs.ProblemRecord.{headerRefusal, headerOutcome, problemRefusal, refusalFor}
+use Rattle.definitions.specs.ProblemRecord.{headerRefusal, headerOutcome, problemRefusal, refusalFor, meant}
 use Rattle.definitions.specs.Programs.{KeptOf}
 use Rattle.definitions.specs.Solved as Results
 use Rattle.definitions.specs.Solved.{Solves}
 use Rattle.definitions.proofs.Inputs.{kept-whole, kept-at, header-agrees, header-most}
 use Rattle.definitions.proofs.Refusals.{or-else-suc}
+use Rattle.definitions.proofs.IdleDay.{meant-some}
 use Rattle.records.specs.declared.problem.Header.{Header}
 use Rattle.records.specs.declared.problem.Header.the-variants as Headers
 use Rattle.records.specs.ProblemHeader.{problemRefused, headerOf}
@@ -22,15 +23,15 @@ use Rattle.engine.specs.declared.solve.Solved.the-variants as Results′
 use Rattle.engine.specs.Outcome.{solvedOf}
 use Rattle.engine.proofs.Outcomes.{refuses-with}
 
-pub kept-solves : (kept : List ℕ) {size : ℕ} {before : List ℕ} {r : Results.Solved} {after : List ℕ} → Solves (take size kept) before r after
-    → (input : List ℕ) → KeptOf kept size input → size ≤ kept-bytes → Solves input before r after
-kept-solves kept {before = before} {r} {after} s input k h = subst (λ (x : List ℕ). Solves x before r after) (sym (kept-whole k h)) s
+pub kept-solves : (kept : List ℕ) {size : ℕ} {before : List ℕ} {r : Results.Solved} {after : List ℕ} → Solves (meant (take size kept)) before r after
+    → (input : List ℕ) → KeptOf kept size input → size ≤ kept-bytes → Solves (meant input) before r after
+kept-solves kept {before = before} {r} {after} s input k h = subst (λ (x : List ℕ). Solves (meant x) before r after) (sym (kept-whole k h)) s
 
 -- A longer one is refused by its header: no problem is that long.
 pub long-refused : {kept input : List ℕ} {size : ℕ} {before : List ℕ} (header : Header) {r : ℕ} → KeptOf kept size input → kept-bytes < size
-    → headerOf header ≡ headerOutcome true kept size → r ≡ problemRefused header → Solves input before (solvedOf (Results′.Refused r)) before
+    → headerOf header ≡ headerOutcome true kept size → r ≡ problemRefused header → Solves (meant input) before (solvedOf (Results′.Refused r)) before
 unfolding solvedOf problemRefused refusalFor
-long-refused {kept} {input} {size} {before} header {r} k h e g = go header refl
+long-refused {kept} {input} {size} {before} header {r} k h e g = rw (meant-some input (omega (arith, k .size-is))) (go header refl)
   where
     go : (x : Header) → header ≡ x → Solves input before (Results.refused r) before
     go (Headers.Told l) f =

@@ -11,12 +11,13 @@ use Rattle.definitions.specs.Limits.{answer-most, highest-n, highest-m, most-tr
 use Rattle.definitions.specs.Bytes.{Bytes, or-else, Outcome, gives}
 use Rattle.definitions.specs.Offset.{tropOf}
 use Rattle.definitions.specs.Problem.{Problem}
-use Rattle.definitions.specs.ProblemRecord.{kindField, nField, mField, countField, questionsAsked, layoutOf, problemRefusal, recordRefusal, problemOutcome, WithinLayout, WithinLayouts, problemOf}
+use Rattle.definitions.specs.ProblemRecord.{kindField, nField, mField, countField, questionsAsked, layoutOf, problemRefusal, recordRefusal, problemOutcome, WithinLayout, WithinLayouts, problemOf, meant}
 use Rattle.definitions.specs.Questions.{asking}
 use Rattle.definitions.specs.AnswerRecord.{stampCount, pickCount, answerSize, answerBytes, writerOutcome, written}
 use Rattle.definitions.specs.Solved as Results
 use Rattle.definitions.specs.Solved.{Answers, Solves, turned-away, solved, engineRefusal}
 use Rattle.definitions.proofs.Questions.{asking-itself}
+use Rattle.definitions.proofs.IdleDay.{several-itself}
 use Rattle.definitions.proofs.Refusals.{or-else-suc, WriterFits, writer-fits, header-passes, kind-known, one-question}
 use Rattle.definitions.proofs.Outcomes.{outcome-none}
 use Rattle.definitions.proofs.Solved.{answers-taken, none-refused, Wrote, wrote, WroteAll, wrote-all}
@@ -215,6 +216,14 @@ module _ {p : List ℕ} {l : Layout} {left right : List ℕ} (read : Read p l le
         let buffer : written before (answerBytes (nField p) (w .answer)) ≡ after = rw (← read .fits .n-is) (sym (w .buffer-is)) in
         subst₂ (λ (x : Results.Solved) (y : List ℕ). Solves p before x y) result buffer
         (solved (w .answer) one-kind (nothing-refused (length before) long) (w .answers))
+
+-- Several questions are asked by the bytes themselves: the idle day asks one.
+pub several-sent : {p : List ℕ} {l : Layout} {left right : List ℕ} {room : ℕ} → SeveralRead (meant p) l left right room → SeveralRead p l left right room
+several-sent {p} r = rw (several-itself p (r .kind-is)) at r
+
+pub solves-sent : {p : List ℕ} {l : Layout} {left right before after : List ℕ} {r : Results.Solved} → Read (meant p) l left right → l .kind ≡ questions-kind
+    → Solves p before r after → Solves (meant p) before r after
+solves-sent {p} read k s = rw (several-itself p (sym (read .fits .kind-is) ∙ k)) s
 
 -- The trials made for a problem that is refused, and for one that is not.
 pub none-made : {p : List ℕ} {header : Header} {k : ℕ} → headerOf header ≡ problemOutcome false p → header ≡ Headers.Refused k → TrialsMade p 0

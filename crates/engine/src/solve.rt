@@ -4,6 +4,7 @@ ghost use mathlib.Core.Path.{_≡_};
 ghost use Prim.Native.Nat.{ℕ, _*_, _≤_};
 ghost use lib.ListN.{length};
 ghost use Rattle.definitions.specs.Limits.{answer-most, most-questions};
+ghost use Rattle.definitions.specs.ProblemRecord.{meant};
 ghost use Rattle.definitions.specs.AnswerRecord.{answerSize, answerBytes, written};
 ghost use Rattle.definitions.specs.Problem.{Problem};
 ghost use Rattle.definitions.specs.Solved.{Solves};
@@ -115,10 +116,10 @@ fn room_for(questions: usize) -> usize
     questions * ANSWER_MOST
 }
 
-// The answer of the problem in the bytes, or the answers to its questions, written into the lent buffer; a refusal leaves the
-// buffer as it was.
+// The answer of the problem that the bytes mean, or the answers to its questions, written into the lent buffer; a refusal leaves the
+// buffer as it was. No bytes mean the idle day, as which `read_problem` reads them.
 pub fn solve(problem: &[u8], answer: &mut [u8]) -> Solved
-    ensures { λ r. ⌜ Solves (now (problem .entry)) (now (answer .entry)) (solvedOf r) (now (answer .exit)) ⌝ }
+    ensures { λ r. ⌜ Solves (meant (now (problem .entry))) (now (answer .entry)) (solvedOf r) (now (answer .exit)) ⌝ }
 {
     let mut left = [0u32; TABLE];
     let mut right = [0u32; TABLE];

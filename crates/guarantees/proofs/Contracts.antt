@@ -9,16 +9,17 @@ use lib.ListN.{length, getD, take}
 use Rattle.definitions.specs.Offset.{tropOf}
 use Rattle.definitions.specs.Problem.{Problem}
 use Rattle.definitions.specs.Bytes.{Outcome, refusal, gives, outcome, refusalOf}
-use Rattle.definitions.specs.ProblemRecord.{problemOf, recordRefusal, problemOutcome, nField, mField, layoutOf, WithinLayouts}
+use Rattle.definitions.specs.ProblemRecord.{problemOf, recordRefusal, problemOutcome, nField, mField, layoutOf, WithinLayouts, meant}
 use Rattle.definitions.specs.Questions.{asking}
 use Rattle.definitions.specs.AnswerRecord.{Answer, answerRefusal, answerOutcome, answerOf, stampCount, pickCount, classField, spanField, writerRefusal, writerOutcome, answerBytes, written}
-use Rattle.definitions.specs.Programs.{SpanOutput, VerdictOutput}
+use Rattle.definitions.specs.Programs.{VerdictOutput}
 use Rattle.definitions.specs.Demands.{Word, Slice, Handed, Engine, Checker, ProblemReader, Reader, Writer, Program, EngineSolves, CheckerJudges, ProblemReaderRefuses, ReadsProblems, ReaderRefuses, ReadsFields, WriterRefuses, WritesRecord, ProgramsAnswer}
 use Rattle.definitions.proofs.Outcomes.{refusal-outcome}
 use Rattle.records.specs.declared.problem.Header.{Header}
 use Rattle.records.specs.declared.problem.Layout.{Layout}
 use Rattle.definitions.specs.ProblemRecord as Problems
 use Rattle.definitions.proofs.Solved.{first-asked}
+use Rattle.definitions.proofs.IdleDay.{meant-bytes}
 use Rattle.records.specs.declared.problem.Header.the-variants as Headers
 use Rattle.records.specs.ProblemHeader.{headerOf}
 use Rattle.records.proofs.ProblemHeader.{answer-told, answer-refused}
@@ -79,7 +80,7 @@ module _ {left₀ right₀ : List ℕ} (read : ReadProblem left₀ right₀) whe
   pub problem-reader-refuses : ProblemReaderRefuses problemReaderOf
   unfolding problemOutcome
   problem-reader-refuses = record {
-    number-is = λ p b. ap refusalOf (read .contract p b .result) ∙ refusal-outcome (recordRefusal p) _;
+    number-is = λ p b. ap refusalOf (read .contract p b .result) ∙ refusal-outcome (recordRefusal (meant p)) _;
     untouched = λ p b k e. (read .contract p b .left-kept (omega arith), read .contract p b .right-kept (omega arith));
   }
 
@@ -96,9 +97,9 @@ module _ {left₀ right₀ : List ℕ} (read : ReadProblem left₀ right₀) whe
   unfolding problemIn problemOf
   problem-reader-reads p b w =
       let c = read .contract p b in
-      let told = header-given p w (read .header p) (c .result) in
-      let a = first-asked p w in
-      let d = problem-decoded (asking p 0) (a .bytes (b .bytes)) (a .within) in
+      let told = header-given (meant p) w (read .header p) (c .result) in
+      let a = first-asked (meant p) w in
+      let d = problem-decoded (asking (meant p) 0) (a .bytes (meant-bytes p (b .bytes))) (a .within) in
       record {
         n-is = rw (told .is) (told .n-is ∙ sym (a .n-is));
         m-is = rw (told .is) (told .m-is ∙ sym (a .m-is));
@@ -174,7 +175,7 @@ module _ (write : WriteAnswer) where
 abbrev pub programOf : {Output : List ℕ → List ℕ → Type 0} → Entries.Answer Output → Program
 programOf answer kept size = take (answer .count kept size) (answer .out kept size)
 
-pub programs-meet : (span : Entries.Answer SpanOutput) (verdict : Entries.Answer VerdictOutput) → ProgramsAnswer (programOf span) (programOf verdict)
+pub programs-meet : (span : Entries.SpanAnswer) (verdict : Entries.Answer VerdictOutput) → ProgramsAnswer (programOf span) (programOf verdict)
 programs-meet span verdict = record {
   span-output = λ kept b l size s. span .contract kept size b l s;
   verdict-output = λ kept b l size s. verdict .contract kept size b l s;

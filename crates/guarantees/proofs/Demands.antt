@@ -12,17 +12,17 @@ use lib.IntN.{ℤ}
 use Rattle.definitions.specs.Limits.{answer-most, class-optimal}
 use Rattle.definitions.specs.Tropical.{fin}
 use Rattle.definitions.specs.Problem.{Optimal}
-use Rattle.definitions.specs.ProblemRecord.{WithinLayout, problemOf}
+use Rattle.definitions.specs.ProblemRecord.{WithinLayout, meant, problemOf}
 use Rattle.definitions.specs.Solved.{answered}
-use Rattle.definitions.specs.Programs.{SpanOutput, VerdictOutput}
+use Rattle.definitions.specs.Programs.{VerdictOutput}
 use Rattle.definitions.specs.Demands.{Slice, Engine, EngineSolves, Demand1, Demand2, Demand3, Demands, EachQuestion}
 use Rattle.checker.proofs.Demand3.{checker-demand}
-use Rattle.guarantees.specs.Entries.{Solve, Check, ReadProblem, ReadAnswer, WriteAnswer, Answer}
+use Rattle.guarantees.specs.Entries.{Solve, Check, ReadProblem, ReadAnswer, WriteAnswer, Answer, SpanAnswer}
 use Rattle.guarantees.proofs.Contracts.{engineOf, engine-meets, checkerOf, checker-meets, problemReaderOf, problem-reader-refuses, problem-reader-reads, readerOf, reader-refuses, reader-reads, writerOf, writer-meets, programOf, programs-meet}
 use Rattle.guarantees.proofs.Engine.{engine-refuses, least-spans, quoted-is-smallest, engine-reads-back, own-answers, each-question}
 use Rattle.guarantees.proofs.Records.{reads-back, writes-back}
 
-module _ (solve : Solve) (check : Check) {left₀ right₀ : List ℕ} (readProblem : ReadProblem left₀ right₀) {stamps₀ picks₀ : List ℕ} (readAnswer : ReadAnswer stamps₀ picks₀) (writeAnswer : WriteAnswer) (span : Answer SpanOutput) (verdict : Answer VerdictOutput) where
+module _ (solve : Solve) (check : Check) {left₀ right₀ : List ℕ} (readProblem : ReadProblem left₀ right₀) {stamps₀ picks₀ : List ℕ} (readAnswer : ReadAnswer stamps₀ picks₀) (writeAnswer : WriteAnswer) (span : SpanAnswer) (verdict : Answer VerdictOutput) where
   -- Every string of bytes is answered; bytes outside the layouts get the first refusal, and a lent buffer is untouched.
   pub demand-1 : Demand1 (engineOf solve) (checkerOf check) (problemReaderOf readProblem) (readerOf readAnswer) (writerOf writeAnswer) (programOf span) (programOf verdict)
   demand-1 = record {
@@ -76,6 +76,6 @@ module _ (solve : Solve) (check : Check) {left₀ right₀ : List ℕ} (readProb
 -- The release note: a quoted span is the smallest there is. Where the engine answers least with span s, some plan that keeps
 -- the rules has span s, and every plan that keeps the rules, in blanks or whole minutes without limit, has at least that.
 pub quoted-span-is-the-smallest :
-    (engine : Engine) → EngineSolves engine → (p buffer : List ℕ) → Slice p → Slice buffer → WithinLayout p → answer-most ≤ length buffer
-    → (s : ℤ) (trials size : ℕ) → engine .result p buffer ≡ answered class-optimal (fin s) trials size → Optimal (problemOf p) s
+    (engine : Engine) → EngineSolves engine → (p buffer : List ℕ) → Slice p → Slice buffer → WithinLayout (meant p) → answer-most ≤ length buffer
+    → (s : ℤ) (trials size : ℕ) → engine .result p buffer ≡ answered class-optimal (fin s) trials size → Optimal (problemOf (meant p)) s
 quoted-span-is-the-smallest = quoted-is-smallest

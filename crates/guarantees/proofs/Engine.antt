@@ -13,7 +13,7 @@ use Rattle.definitions.specs.Limits.{answer-most, problem-kind, questions-kind,
 use Rattle.definitions.specs.Tropical.{Trop, fin}
 use Rattle.definitions.specs.Problem.{Problem, Optimal}
 use Rattle.definitions.specs.Bytes.{or-else, Outcome, gives}
-use Rattle.definitions.specs.ProblemRecord.{WithinLayout, WithinLayouts, problemRefusal, problemOf, kindField, nField, mField, countField, questionsAsked}
+use Rattle.definitions.specs.ProblemRecord.{WithinLayout, WithinLayouts, problemRefusal, problemOf, kindField, nField, mField, countField, questionsAsked, meant}
 use Rattle.definitions.specs.Questions.{part, alone}
 use Rattle.definitions.specs.AnswerRecord.{Answer, answerRefusal, answerOf, answerSize, answerBytes, written}
 use Rattle.definitions.specs.Verdict.{Verdict, accepted, checkRefusal, answerFor, Accepted, Judged, turned-away, certified, uncertified}
@@ -22,6 +22,7 @@ use Rattle.definitions.specs.Solved.{Solved, answered, Found, optimal, unbounde
 use Rattle.definitions.specs.Demands.{Slice, Engine, Reader, Checker, EngineSolves, EngineRefuses, LeastSpans, FoundBy, ReadsFields, EngineReadsBack, ReadBy, CheckerJudges, OwnAnswers, OwnAnswer, QuestionAnswered, QuestionsAnswered, AllAnswered, EachQuestion}
 use Rattle.definitions.proofs.Tropical.{fin-injective}
 use Rattle.definitions.proofs.Put.{put-front, drop-put}
+use Rattle.definitions.proofs.IdleDay.{meant-some, several-meant}
 use Rattle.definitions.proofs.Inputs.{header-most, header-none}
 use Rattle.definitions.proofs.Questions.{alone-bytes}
 use Rattle.definitions.proofs.Refusals.{or-else-none, problem-fits}
@@ -52,33 +53,33 @@ pub record EngineAnswer (engine : Engine) (p buffer : List ℕ) : Type 0 where
   pub span : Trop
   pub trials : ℕ
   pub answer : Answer
-  pub answers : Answers (problemOf p) class span trials answer
-  pub result-is : engine .result p buffer ≡ answered class span trials (answerSize class (nField p) (mField p))
-  pub buffer-is : engine .buffer p buffer ≡ written buffer (answerBytes (nField p) answer)
+  pub answers : Answers (problemOf (meant p)) class span trials answer
+  pub result-is : engine .result p buffer ≡ answered class span trials (answerSize class (nField (meant p)) (mField (meant p)))
+  pub buffer-is : engine .buffer p buffer ≡ written buffer (answerBytes (nField (meant p)) answer)
 
-answered-by : (engine : Engine) (p buffer : List ℕ) {r : Solved} {after : List ℕ} → Solves p buffer r after → kindField p ≡ problem-kind → engineRefusal p (length buffer) ≡ 0
+answered-by : (engine : Engine) (p buffer : List ℕ) {r : Solved} {after : List ℕ} → Solves (meant p) buffer r after → kindField (meant p) ≡ problem-kind → engineRefusal (meant p) (length buffer) ≡ 0
     → engine .result p buffer ≡ r → engine .buffer p buffer ≡ after → EngineAnswer engine p buffer
 answered-by engine p buffer (Results.turned-away e) k h r-is b-is = absurd (let z : suc _ ≡ 0 = sym e ∙ h in omega arith)
 answered-by engine p buffer (all-solved three e turn) k h r-is b-is = absurd (omega arith)
 answered-by engine p buffer (solved a one e ans) k h r-is b-is = record { class = _; span = _; trials = _; answer = a; answers = ans; result-is = r-is; buffer-is = b-is }
 
-module _ (engine : Engine) (solves : EngineSolves engine) (p buffer : List ℕ) (b : Slice p) (c : Slice buffer) (w : WithinLayout p) (long : answer-most ≤ length buffer) where
+module _ (engine : Engine) (solves : EngineSolves engine) (p buffer : List ℕ) (b : Slice p) (c : Slice buffer) (w : WithinLayout (meant p)) (long : answer-most ≤ length buffer) where
   pub engine-answer : EngineAnswer engine p buffer
   engine-answer =
-      let k = problem-fits p .0 w .kind-is in
-      answered-by engine p buffer (solves p buffer b c) k (one-refused p (length buffer) k .1 (w, long)) refl refl
+      let k = problem-fits (meant p) .0 w .kind-is in
+      answered-by engine p buffer (solves p buffer b c) k (one-refused (meant p) (length buffer) k .1 (w, long)) refl refl
 
 pub least-spans : (engine : Engine) → EngineSolves engine → LeastSpans engine
 least-spans engine solves p buffer b c w long =
     let e = engine-answer engine solves p buffer b c w long in
-    record { class = e .class; span = e .span; trials = e .trials; size = answerSize (e .class) (nField p) (mField p); result-is = e .result-is; found = e .answers .found; few = trials-few p w (e .answers .found) }
+    record { class = e .class; span = e .span; trials = e .trials; size = answerSize (e .class) (nField (meant p)) (mField (meant p)); result-is = e .result-is; found = e .answers .found; few = trials-few (meant p) w (e .answers .found) }
 
 -- What an engine finds, with class, span and trials as its result says them.
 pub found-as : (engine : Engine) (p buffer : List ℕ) (c : ℕ) (s : Trop) (t z : ℕ) → FoundBy engine p buffer → engine .result p buffer ≡ answered c s t z
-    → Found (problemOf p) c s t
+    → Found (problemOf (meant p)) c s t
 found-as engine p buffer c s t z f e =
     let same = result-parts (sym (f .result-is) ∙ e) in
-    subst₃ (Found (problemOf p)) (same .0) (same .1) (same .2) (f .found)
+    subst₃ (Found (problemOf (meant p))) (same .0) (same .1) (same .2) (f .found)
 
 -- A quoted span is the smallest there is.
 quoted : {p : Problem} {c : ℕ} {x : Trop} {t : ℕ} → Found p c x t → (s : ℤ) → c ≡ class-optimal → x ≡ fin s → Optimal p s
@@ -86,8 +87,8 @@ quoted {p} (optimal {s = z} o) s e f = subst (Optimal p) (fin-injective f) o
 quoted (unbounded u) s e f = absurd (omega (arith, e))
 quoted (infeasible n) s e f = absurd (omega (arith, e))
 
-pub quoted-is-smallest : (engine : Engine) → EngineSolves engine → (p buffer : List ℕ) → Slice p → Slice buffer → WithinLayout p → answer-most ≤ length buffer
-    → (s : ℤ) (trials size : ℕ) → engine .result p buffer ≡ answered class-optimal (fin s) trials size → Optimal (problemOf p) s
+pub quoted-is-smallest : (engine : Engine) → EngineSolves engine → (p buffer : List ℕ) → Slice p → Slice buffer → WithinLayout (meant p) → answer-most ≤ length buffer
+    → (s : ℤ) (trials size : ℕ) → engine .result p buffer ≡ answered class-optimal (fin s) trials size → Optimal (problemOf (meant p)) s
 quoted-is-smallest engine solves p buffer b c w long s trials size e =
     quoted (found-as engine p buffer class-optimal (fin s) trials size (least-spans engine solves p buffer b c w long) e) s refl refl
 
@@ -108,11 +109,11 @@ engine-reads-back engine solves read reads p buffer b c w long =
     let ans = e .answers in
     record {
       trials = e .trials;
-      size = answerSize (e .class) (nField p) (mField p);
+      size = answerSize (e .class) (nField (meant p)) (mField (meant p));
       answer = e .answer;
       result-is = rw (ans .class-is, ans .span-is) (e .result-is);
       written-is = e .buffer-is;
-      reads = rw (e .buffer-is, record-stands p buffer w (e .answer) ans) (reads-itself read reads p w (e .answer) ans);
+      reads = rw (e .buffer-is, record-stands (meant p) buffer w (e .answer) ans) (reads-itself read reads (meant p) w (e .answer) ans);
     }
 
 -- ---- the checker's own call on it
@@ -135,10 +136,10 @@ verdict-on p w a ans j =
     names-itself p s a right (answer-back a (nField p) (mField p) answer-most f) (ans .accepted) j ∙ ap₂ accepted (ans .class-is) (ans .span-is)
 
 -- A true checker accepts the bytes of an answer that is accepted.
-pub accepts-it : (check : Checker) → CheckerJudges check → (p : List ℕ) → Slice p → WithinLayout p → {class : ℕ} {span : Trop} {trials : ℕ} (a : Answer)
-    → Answers (problemOf p) class span trials a → check p (answerBytes (nField p) a) ≡ accepted class span
+pub accepts-it : (check : Checker) → CheckerJudges check → (p : List ℕ) → Slice p → WithinLayout (meant p) → {class : ℕ} {span : Trop} {trials : ℕ} (a : Answer)
+    → Answers (problemOf (meant p)) class span trials a → check p (answerBytes (nField (meant p)) a) ≡ accepted class span
 accepts-it check judges p b w a ans =
-    verdict-on p w a ans (judges p (answerBytes (nField p) a) b (record-slice (nField p) (mField p) answer-most a (answer-takes p w a ans)))
+    verdict-on (meant p) w a ans (judges p (answerBytes (nField (meant p)) a) b (record-slice (nField (meant p)) (mField (meant p)) answer-most a (answer-takes (meant p) w a ans)))
 
 pub own-answers : (engine : Engine) → EngineSolves engine → (check : Checker) → CheckerJudges check → OwnAnswers engine check
 own-answers engine solves check judges p buffer b c w long =
@@ -148,12 +149,23 @@ own-answers engine solves check judges p buffer b c w long =
       class = e .class;
       span = e .span;
       trials = e .trials;
-      size = answerSize (e .class) (nField p) (mField p);
+      size = answerSize (e .class) (nField (meant p)) (mField (meant p));
       result-is = e .result-is;
-      accepted-is = rw (e .buffer-is, record-stands p buffer w (e .answer) ans) (accepts-it check judges p b w (e .answer) ans);
+      accepted-is = rw (e .buffer-is, record-stands (meant p) buffer w (e .answer) ans) (accepts-it check judges p b w (e .answer) ans);
     }
 
 -- ---- several questions
+
+-- A record within the layout has bytes, and means itself,
+pub within-itself : (p : List ℕ) → WithinLayout p → meant p ≡ p
+within-itself p w = meant-some p (omega (arith, problem-fits p .0 w .size-enough))
+
+-- so that a true checker accepts the bytes of an answer to it.
+accepts-record : (check : Checker) → CheckerJudges check → (p : List ℕ) → Slice p → WithinLayout p → {class : ℕ} {span : Trop} {trials : ℕ} (a : Answer)
+    → Answers (problemOf p) class span trials a → check p (answerBytes (nField p) a) ≡ accepted class span
+accepts-record check judges p b w a ans =
+    verdict-on p w a ans
+    (rw (within-itself p w) at (judges p (answerBytes (nField p) a) b (record-slice (nField p) (mField p) answer-most a (answer-takes p w a ans))))
 
 -- The record of one question can be handed over.
 alone-slice : (p : List ℕ) → Slice p → {q : ℕ} → OneAsked p q → Slice (alone p q)
@@ -179,7 +191,7 @@ module _ (check : Checker) (judges : CheckerJudges check) (read : Reader) (reads
         reads = rw own (rw (o .n-is, o .m-is) at (reads-itself read reads (alone p q) (o .within) a ans));
         class-is = ans .class-is;
         span-is = ans .span-is;
-        accepted-is = rw own (rw (o .n-is) at (accepts-it check judges (alone p q) (alone-slice p b o) (o .within) a ans));
+        accepted-is = rw own (rw (o .n-is) at (accepts-record check judges (alone p q) (alone-slice p b o) (o .within) a ans));
       }
 
   -- All of them.
@@ -207,4 +219,4 @@ all-answered-by engine check judges read reads p buffer b (all-solved {bytes = b
 pub each-question : (engine : Engine) → EngineSolves engine → (check : Checker) → CheckerJudges check → (read : Reader) → ReadsFields read → EachQuestion engine check read
 each-question engine solves check judges read reads p buffer b c w k long =
     let asked : questionsAsked (kindField p) (countField p) ≡ countField p = rw k refl in
-    all-answered-by engine check judges read reads p buffer b (solves p buffer b c) k w (none-refused p (length buffer) .1 (w, rw asked long)) refl refl
+    all-answered-by engine check judges read reads p buffer b (rw (several-meant p k) at (solves p buffer b c)) k w (none-refused p (length buffer) .1 (w, rw asked long)) refl refl

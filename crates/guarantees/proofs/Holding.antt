@@ -8,7 +8,7 @@ use lib.Dec.{eqb}
 use borrow.Author.Tests.{ne-eqb}
 use Rattle.definitions.specs.Limits.{class-optimal, class-unbounded, class-infeasible}
 use Rattle.definitions.specs.Tropical.{Trop, bot, fin}
-use Rattle.definitions.specs.ProblemRecord.{nField, mField, problemOf}
+use Rattle.definitions.specs.ProblemRecord.{nField, mField, problemOf, meant}
 use Rattle.definitions.specs.AnswerRecord.{is-blank, spanFits, pickCount, highestPick, answerOf, answerRefusal}
 use Rattle.definitions.specs.Verdict.{Accepted, optimal, unbounded, infeasible, answerFor, strategyOf}
 use Rattle.definitions.specs.Demands.{Slice, Checker, Accepts, CheckerJudges}
@@ -63,7 +63,7 @@ module _ (p a : List ℕ) (none : answerRefusal a (nField p) (mField p) ≡ 0) w
 
 -- What any checker that judges accepts, says the class and span.
 pub checker-sound : (check : Checker) → CheckerJudges check → (p a : List ℕ) → Slice p → Slice a → Accepts check p a
-    → ClassHolds (problemOf p) (answerFor p a .class) (answerFor p a .span)
+    → ClassHolds (problemOf (meant p)) (answerFor (meant p) a .class) (answerFor (meant p) a .span)
 checker-sound check judges p a b c t =
     let h = accepts-only check judges p a b c t in
-    accepted-holds p a (h .0) (h .1)
+    accepted-holds (meant p) a (h .0) (h .1)

@@ -14,7 +14,7 @@ use Rattle.definitions.specs.Tropical.{Trop}
 use Rattle.definitions.specs.Problem.{Problem}
 use Rattle.definitions.specs.Bytes.{Bytes, outcome}
 use Rattle.definitions.specs.Offset.{tropOf}
-use Rattle.definitions.specs.ProblemRecord.{lengthField, kindField, nField, mField, countField, leadsPlace, questionsAsked, layoutOf, headerRefusal, headerOutcome, problemRefusal, recordRefusal, problemOutcome, WithinLayout, WithinLayouts, problemOf, refusalFor}
+use Rattle.definitions.specs.ProblemRecord.{lengthField, kindField, nField, mField, countField, leadsPlace, questionsAsked, layoutOf, headerRefusal, headerOutcome, problemRefusal, recordRefusal, problemOutcome, WithinLayout, WithinLayouts, problemOf, refusalFor, meant}
 use Rattle.definitions.specs.AnswerRecord.{Answer, answerRefusal, answerOutcome, answerOf, answerHeaderRefusal, classField, spanField, answerSize, answerBytes, writerRefusal, writerOutcome, written}
 use Rattle.definitions.specs.Verdict as Verdicts
 use Rattle.definitions.specs.Verdict.{Judged, turned-away, certified, uncertified, answerFor, checkRefusal}
@@ -27,6 +27,7 @@ use Rattle.definitions.specs.Demands.{Slice, Numbered, Demands}
 use Rattle.definitions.proofs.Bytes.{bytes-take, bytes-drop}
 use Rattle.definitions.proofs.Refusals.{or-else-none, or-else-suc, record-fits, kind-known, one-question, problem-fits, answer-fits, form-fits}
 use Rattle.definitions.proofs.RoundTrip.{span-within}
+use Rattle.definitions.proofs.IdleDay.{meant-some}
 use Rattle.definitions.proofs.Inputs.{kept-whole, kept-at, header-agrees, header-most, n-agrees, m-agrees, span-read, verdict-read}
 use Rattle.records.specs.declared.problem.Header.{Header}
 use Rattle.records.specs.declared.problem.Header.the-variants as Headers
@@ -52,7 +53,7 @@ use Rattle.checker.specs.Outcome.{verdictOf}
 use Rattle.checker.proofs.Judgement.{the-checker, the-checker-judges}
 use Rattle.checker.proofs.Verdicts.{HeaderRead, turned}
 use Rattle.checker.proofs.Decided.{pad, padded}
-use Rattle.checker.proofs.LongInputs.{kept-longer, judged-parts, long-past, long-cut, header-turned, long-refused, long-answered, header-small, problem-kept}
+use Rattle.checker.proofs.LongInputs.{kept-longer, judged-long, long-past, long-cut, header-turned, long-refused, long-answered, header-small, problem-kept}
 use Rattle.guarantees.specs.Entries as Entries
 use Rattle.guarantees.specs.Entries.{Solve, Check, ReadProblem, ReadAnswer, WriteAnswer, WriterFields}
 use Rattle.guarantees.proofs.Handing.{numberFor, number-back, within-numbered}
@@ -155,9 +156,9 @@ solution-exists p before = go (engineRefusal p (length before)) refl
 
 pub the-solve : Solve
 the-solve = record {
-  result = λ p before. solution-exists p before .result;
-  buffer = λ p before. solution-exists p before .buffer;
-  contract = λ p before b c. solution-exists p before .solves;
+  result = λ p before. solution-exists (meant p) before .result;
+  buffer = λ p before. solution-exists (meant p) before .buffer;
+  contract = λ p before b c. solution-exists (meant p) before .solves;
 }
 
 -- ---- `check`
@@ -186,15 +187,15 @@ the-check = record {
 pub the-read-problem : (left₀ right₀ : List ℕ) → ReadProblem left₀ right₀
 unfolding problemOutcome
 the-read-problem left₀ right₀ = record {
-  header = λ p. headerBy (recordRefusal p) p;
-  left = λ p. unlessRefused (recordRefusal p) left₀ (leftTable (asking p 0));
-  right = λ p. unlessRefused (recordRefusal p) right₀ (rightTable (asking p 0));
+  header = λ p. headerBy (recordRefusal (meant p)) (meant p);
+  left = λ p. unlessRefused (recordRefusal (meant p)) left₀ (leftTable (asking (meant p) 0));
+  right = λ p. unlessRefused (recordRefusal (meant p)) right₀ (rightTable (asking (meant p) 0));
   contract = λ p b. record {
-    result = header-by (recordRefusal p) p;
-    left-kept = λ h. unless-refused (recordRefusal p) left₀ (leftTable (asking p 0)) h;
-    right-kept = λ h. unless-refused (recordRefusal p) right₀ (rightTable (asking p 0)) h;
-    left-read = λ w. unless-none (recordRefusal p) left₀ (leftTable (asking p 0)) w;
-    right-read = λ w. unless-none (recordRefusal p) right₀ (rightTable (asking p 0)) w;
+    result = header-by (recordRefusal (meant p)) (meant p);
+    left-kept = λ h. unless-refused (recordRefusal (meant p)) left₀ (leftTable (asking (meant p) 0)) h;
+    right-kept = λ h. unless-refused (recordRefusal (meant p)) right₀ (rightTable (asking (meant p) 0)) h;
+    left-read = λ w. unless-none (recordRefusal (meant p)) left₀ (leftTable (asking (meant p) 0)) w;
+    right-read = λ w. unless-none (recordRefusal (meant p)) right₀ (rightTable (asking (meant p) 0)) w;
   };
 }
 
@@ -241,7 +242,7 @@ the-write-answer = record {
 -- What is put out for all inputs of which the same was kept.
 record KeptOutput (kept : List ℕ) (size : ℕ) : Type 0 where
   output : List ℕ
-  holds : (input : List ℕ) → KeptOf kept size input → SpanOutput input output
+  holds : (input : List ℕ) → KeptOf kept size input → SpanOutput (meant input) output
 
 -- What the program puts out for an input.
 record SpanText (input : List ℕ) : Type 0 where
@@ -274,8 +275,8 @@ span-kept : (kept : List ℕ) (size : ℕ) → KeptOutput kept size
 unfolding refusalFor
 span-kept kept size = ⊎-elim
     (λ (h : size ≤ kept-bytes).
-    let t = span-text (take size kept) in
-    record { output = t .text; holds = λ input k. subst (λ (x : List ℕ). SpanOutput x (t .text)) (sym (kept-whole k h)) (t .holds) })
+    let t = span-text (meant (take size kept)) in
+    record { output = t .text; holds = λ input k. subst (λ (x : List ℕ). SpanOutput (meant x) (t .text)) (sym (kept-whole k h)) (t .holds) })
     (λ (h : kept-bytes < size). long h (headerRefusal true kept size) refl (long-number kept size h))
     (nat-le-or-lt size kept-bytes)
   where
@@ -285,14 +286,14 @@ span-kept kept size = ⊎-elim
       output = refusedLine (suc k);
       holds = λ input f.
           let same : headerRefusal true input (length input) ≡ suc k = ap (headerRefusal true input) (f .size-is) ∙ header-agrees true input kept (λ i b. kept-at f h i (omega arith)) size ∙ e in
-          Programs.refusal (or-else-suc (headerRefusal true input (length input)) _ (omega arith) ∙ same);
+          rw (meant-some input (omega (arith, f .size-is))) (Programs.refusal (or-else-suc (headerRefusal true input (length input)) _ (omega arith) ∙ same));
     }
 
-pub the-span : Entries.Answer SpanOutput
+pub the-span : Entries.SpanAnswer
 the-span = record {
   count = λ kept size. length (span-kept kept size .output);
   out = λ kept size. span-kept kept size .output;
-  contract = λ kept size b l s input r. subst (SpanOutput input) (sym (take-all (length (span-kept kept size .output)) (span-kept kept size .output) (omega arith)))
+  contract = λ kept size b l s input r. subst (SpanOutput (meant input)) (sym (take-all (length (span-kept kept size .output)) (span-kept kept size .output) (omega arith)))
       (span-read kept size (span-kept kept size .output) (span-kept kept size .holds) input r);
 }
 
@@ -301,14 +302,14 @@ the-span = record {
 -- A verdict for all inputs of which the same was kept.
 record KeptVerdict (kept : List ℕ) (size : ℕ) : Type 0 where
   verdict : Verdicts.Verdict
-  judged : Bytes kept → length kept ≡ kept-bytes → (input : List ℕ) → KeptOf kept size input → Judged (problemPart input) (answerPart input) verdict
+  judged : Bytes kept → length kept ≡ kept-bytes → (input : List ℕ) → KeptOf kept size input → Judged (meant (problemPart input)) (answerPart input) verdict
 
 -- An input that was kept whole.
 verdict-whole : (kept : List ℕ) (size : ℕ) → size ≤ kept-bytes → KeptVerdict kept size
 unfolding problemPart answerPart
 verdict-whole kept size h = record {
   verdict = v;
-  judged = λ b l input k. subst (λ (x : List ℕ). Judged (problemPart x) (answerPart x) v) (sym (kept-whole k h))
+  judged = λ b l input k. subst (λ (x : List ℕ). Judged (meant (problemPart x)) (answerPart x) v) (sym (kept-whole k h))
       (the-checker-judges _ _ (part b l (bytes-take (cutPlace x) (bytes-take size b)) (rw length-take (omega (arith, length-take size kept)))) (part b l (bytes-drop (cutPlace x) (bytes-take size b)) (rw length-drop (omega (arith, length-take size kept)))));
 }
   where
@@ -346,7 +347,7 @@ module _ (kept : List ℕ) (size : ℕ) (h : kept-bytes < size) (cut : lengthFie
             verdict = Verdicts.refused (answerHeaderRefusal (drop end kept) (size - end) (nField kept) (mField kept));
             judged = λ b l input k.
                 let longer = kept-longer k h in
-                judged-parts input (long-cut longer h cut)
+                judged-long input (omega (arith, longer .size-is)) (long-cut longer h cut)
                 (long-answered longer cut (subst (λ (s : List ℕ). HeaderRead s (nField kept) (mField kept)) (problem-kept longer cut l (omega (arith, small .1))) read) refl some);
           }
 
@@ -359,7 +360,7 @@ module _ (kept : List ℕ) (size : ℕ) (h : kept-bytes < size) (cut : lengthFie
             judged = λ b l input k.
                 let longer = kept-longer k h in
                 let is : problemRefusal (take end input) ≡ suc j = ap problemRefusal (sym (problem-kept longer cut l (omega (arith, small .1)))) ∙ w in
-                judged-parts input (long-cut longer h cut) (turned (take end input) (drop end input) (suc j) (or-else-suc (problemRefusal (take end input)) _ (omega arith) ∙ is) (omega arith));
+                judged-long input (omega (arith, longer .size-is)) (long-cut longer h cut) (turned (take end input) (drop end input) (suc j) (or-else-suc (problemRefusal (take end input)) _ (omega arith) ∙ is) (omega arith));
           }
 
       by-header : (k : ℕ) → headerRefusal false kept end ≡ k → KeptVerdict kept size
@@ -368,7 +369,7 @@ module _ (kept : List ℕ) (size : ℕ) (h : kept-bytes < size) (cut : lengthFie
         verdict = Verdicts.refused (suc k);
         judged = λ b l input f.
             let longer = kept-longer f h in
-            judged-parts input (long-cut longer h cut) (header-turned longer cut {header = headerBy (suc k) kept} (header-numbered (suc k) e) refl refl);
+            judged-long input (omega (arith, longer .size-is)) (long-cut longer h cut) (header-turned longer cut {header = headerBy (suc k) kept} (header-numbered (suc k) e) refl refl);
       }
 
 verdict-kept : (kept : List ℕ) (size : ℕ) → KeptVerdict kept size

@@ -5,6 +5,7 @@ pub mod OwnAnswers
 pub mod Pipe
 pub mod Contracts
 pub mod Demands
+pub mod IdleDay
 pub mod Holding
 pub mod Potentials
 pub mod Starred

@@ -1,5 +1,5 @@
 -- The engine's own record, judged by the checker and read by the reader.
-use Prim.Native.Nat.{ℕ, zero, suc, _+_, _≤_}
+use Prim.Native.Nat.{ℕ, zero, suc, _+_, _≤_, _<_}
 use mathlib.Core.Path.{_≡_, ap, ap₂, sym, subst, subst₂, _∙_}
 use mathlib.Core.Bool.{false}
 use mathlib.Core.List.{List}
@@ -10,13 +10,14 @@ use Rattle.definitions.specs.Limits.{answer-most, refused-kind}
 use Rattle.definitions.specs.Tropical.{Trop, bot}
 use Rattle.definitions.specs.Offset.{tropOf}
 use Rattle.definitions.specs.Bytes.{Bytes, numAt, Outcome, gives, outcome}
-use Rattle.definitions.specs.ProblemRecord.{WithinLayout, headerOutcome, nField, mField}
+use Rattle.definitions.specs.ProblemRecord.{WithinLayout, headerOutcome, nField, mField, meant}
 use Rattle.definitions.specs.AnswerRecord.{Answer, answerRefusal, answerOutcome, answerOf, answerBytes, classField, spanField}
 use Rattle.definitions.specs.Verdict as Verdicts
 use Rattle.definitions.specs.Verdict.{Verdict, accepted, Judged, pointOf, strategyOf}
 use Rattle.definitions.specs.Solved as Results
 use Rattle.definitions.specs.Solved.{Solved, answered, Solves, solved, all-solved}
 use Rattle.definitions.proofs.Inputs.{header-none}
+use Rattle.definitions.proofs.IdleDay.{meant-none, meant-some, idle-n, idle-m}
 use Rattle.definitions.proofs.RoundTrip.{answer-back, answer-accepted, answer-bytes}
 use Rattle.definitions.proofs.Solved.{answer-takes}
 use Rattle.definitions.proofs.Outcomes.{outcome-none}
@@ -106,3 +107,13 @@ pub reads-there : (p s : List ℕ) {header : Header} {l : Layout} {head : Answer
 reads-there p s {head = head} {stamps₀} {stamps} {picks₀} {picks} e f g w =
     let h = header-fits false p (length p) e f in
     subst₂ (λ (n m : ℕ). AnswerRead s n m head stamps₀ stamps picks₀ picks) (h .n-is) (h .m-is) g
+
+-- Those of the idle day are 0, and those of other bytes their own.
+pub idle-there : (p s : List ℕ) {head : AnswerHead} {stamps₀ stamps picks₀ picks : List ℕ} → length p ≡ 0 → AnswerRead s 0 0 head stamps₀ stamps picks₀ picks
+    → AnswerRead s (nField (meant p)) (mField (meant p)) head stamps₀ stamps picks₀ picks
+idle-there p s e r = rw (meant-none p e, idle-n, idle-m) r
+
+pub own-there : (p s : List ℕ) {head : AnswerHead} {stamps₀ stamps picks₀ picks : List ℕ} → 0 < length p
+    → (WithinLayout p → AnswerRead s (nField p) (mField p) head stamps₀ stamps picks₀ picks)
+    → WithinLayout (meant p) → AnswerRead s (nField (meant p)) (mField (meant p)) head stamps₀ stamps picks₀ picks
+own-there p s h r = rw (meant-some p h) r

@@ -16,7 +16,7 @@ use Rattle.definitions.proofs.Bytes.{numAt-front}
 use Rattle.definitions.proofs.Inputs.{cut-inside}
 use Rattle.definitions.proofs.Refusals.{problem-fits, one-question}
 use Rattle.guarantees.specs.Pipe.{Piped}
-use Rattle.guarantees.proofs.Engine.{verdict-on}
+use Rattle.guarantees.proofs.Engine.{verdict-on, within-itself}
 
 -- ---- where a problem with bytes behind it is cut
 
@@ -54,7 +54,7 @@ span-then-verdict p out line w (Programs.answer a k e ans) v =
       answer = a;
       answers = ans;
       bytes = refl;
-      says = v .line ∙ ap verdictLine (verdict-on p w a ans (rw (problem-before p out w, answer-behind p out w) at (v .judged)));
+      says = v .line ∙ ap verdictLine (verdict-on p w a ans (rw (problem-before p out w, answer-behind p out w, within-itself p w) at (v .judged)));
     }
 
 -- ---- the programs, one after the other
@@ -65,4 +65,4 @@ pub programs-piped : (span verdict : Program) → ProgramsAnswer span verdict
     → (kept′ : List ℕ) → Bytes kept′ → length kept′ ≡ kept-bytes → (size′ : ℕ) → Word size′ → ReadFrom kept′ size′ (p ++ span kept size)
     → Piped p (span kept size) (verdict kept′ size′)
 programs-piped span verdict programs kept b l size s p r w kept′ b′ l′ size′ s′ r′ =
-    span-then-verdict p (span kept size) (verdict kept′ size′) w (programs .span-output kept b l size s p r) (programs .verdict-output kept′ b′ l′ size′ s′ (p ++ span kept size) r′)
+    span-then-verdict p (span kept size) (verdict kept′ size′) w (rw (within-itself p w) at (programs .span-output kept b l size s p r)) (programs .verdict-output kept′ b′ l′ size′ s′ (p ++ span kept size) r′)

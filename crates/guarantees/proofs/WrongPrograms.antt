@@ -130,6 +130,7 @@ form-M = refl
 pub none-to-every-problem : (engine : Engine) (trials size : List ℕ → ℕ)
     → ((p buffer : List ℕ) → WithinLayout p → answer-most ≤ length buffer → engine .result p buffer ≡ answered class-infeasible bot (trials p) (size p))
     → LeastSpans engine → ⊥
+unfolding example-A
 none-to-every-problem engine trials size always least =
     go (found-as engine _ zeros class-infeasible bot _ _ (least _ zeros slice-A slice-zeros within-A long-zeros) (always _ zeros within-A long-zeros)) refl
   where
@@ -142,6 +143,7 @@ none-to-every-problem engine trials size always least =
 pub all-least-with-one-span : (engine : Engine) (s : ℤ) (trials size : List ℕ → ℕ)
     → ((p buffer : List ℕ) → WithinLayout p → answer-most ≤ length buffer → engine .result p buffer ≡ answered class-optimal (fin s) (trials p) (size p))
     → LeastSpans engine → ⊥
+unfolding example-B
 all-least-with-one-span engine s trials size always least =
     go (found-as engine _ zeros class-optimal (fin s) _ _ (least _ zeros slice-B slice-zeros within-B long-zeros) (always _ zeros within-B long-zeros)) refl
   where
@@ -154,6 +156,7 @@ all-least-with-one-span engine s trials size always least =
 pub always-the-most-trials : (engine : Engine) (c : List ℕ → ℕ) (s : List ℕ → Trop) (size : List ℕ → ℕ)
     → ((p buffer : List ℕ) → WithinLayout p → answer-most ≤ length buffer → engine .result p buffer ≡ answered (c p) (s p) most-trials (size p))
     → LeastSpans engine → ⊥
+unfolding example-B
 always-the-most-trials engine c s size always least =
     go (found-as engine _ zeros _ _ most-trials _ (least _ zeros slice-B slice-zeros within-B long-zeros) (always _ zeros within-B long-zeros)) refl
   where
@@ -175,7 +178,7 @@ buffer-left engine read refuses reads left back =
 
 -- The checker that certifies nothing (demand 3, the engine's own answer).
 pub certifies-nothing : (engine : Engine) (check : Checker) → ((p a : List ℕ) → accepts (check p a) ≡ false) → OwnAnswers engine check → ⊥
-unfolding accepts
+unfolding accepts example-A
 certifies-nothing engine check never own =
     let o = own (example-A .problem) zeros slice-A slice-zeros within-A long-zeros in
     true≢false (sym (ap accepts (o .accepted-is)) ∙ never (example-A .problem) _)
@@ -240,7 +243,7 @@ unused-B picks j r f = bot-not-fin (sym left-B ∙ rw (at-start r) at (f .is))
     at-start (onward r h) = absurd (let z : h .row ≡ 0 = omega (arith, h .inside, rows-B) in bot-not-fin (sym left-B ∙ rw (z, at-start r) at (h .left .is)))
 
 pub idle-row-filled : (engine : Engine) → FillsPicks engine → EngineSolves engine → ⊥
-unfolding strategyOf
+unfolding strategyOf example-B
 idle-row-filled engine fills solves =
     let e = engine-answer engine solves (example-B .problem) zeros slice-B slice-zeros within-B long-zeros in
     let w = answer-takes (example-B .problem) within-B (e .answer) (e .answers) in
@@ -288,7 +291,7 @@ unreached-idle picks most j (onward r h) =
     (eq-zero-or-pos j)
 
 pub idle-variable-filled : (engine : Engine) → FillsPicks engine → EngineSolves engine → ⊥
-unfolding strategyOf problemOf
+unfolding strategyOf problemOf problem-idle
 idle-variable-filled engine fills solves =
     let e = engine-answer engine solves problem-idle zeros slice-idle slice-zeros within-idle long-zeros in
     let w = answer-takes problem-idle within-idle (e .answer) (e .answers) in
@@ -306,7 +309,7 @@ pub byte-after-touched : (engine : Engine) (read : Reader) → ReaderRefuses rea
     → ((p buffer : List ℕ) (class : ℕ) (span : Trop) (trials size : ℕ) → engine .result p buffer ≡ answered class span trials size
     → (size ≡ answerSize class (nField p) (mField p)) × (getD (engine .buffer p buffer) size 0 ≡ 1))
     → EngineReadsBack engine read → ⊥
-unfolding written
+unfolding written example-A
 byte-after-touched engine read refuses reads touches back =
     let p : List ℕ = example-A .problem in
     let r = back (example-A .problem) zeros slice-A slice-zeros within-A long-zeros in
@@ -347,19 +350,19 @@ another-span-accepted check accepts never =
     let z : pos 31 ≡ h .s = cc in
     omega (whole, eq-read span, eq-read z)
 
--- The engine that marks the buffer on a refusal too: no bytes are refused by 1.
+-- The engine that marks the buffer on a refusal too: one byte is refused by 1.
 mark-seen : written zeros (1 ∷ []) ≡ zeros → ⊥
 unfolding written put
 mark-seen e = let z : _≡_ {A = ℕ} 1 (getD zeros 0 0) = ap (λ (l : List ℕ). getD l 0 0) e in omega (arith, z, zero-at 0)
 
-none-refused : (room : ℕ) → engineRefusal [] room ≡ 1
+byte-refused : (room : ℕ) → engineRefusal (0 ∷ []) room ≡ 1
 unfolding engineRefusal refusalFor headerRefusal headerJudged numAt
-none-refused room = refl
+byte-refused room = refl
 
 pub refusal-marked : (engine : Engine) → ((p buffer : List ℕ) → engine .buffer p buffer ≡ written buffer (1 ∷ [])) → EngineRefuses engine → ⊥
 unfolding all
 refusal-marked engine marks refuses =
-    mark-seen (sym (marks [] zeros) ∙ refuses .untouched [] zeros (record { bytes = bytes-tested [] refl; size = omega arith }) slice-zeros 0 (none-refused (length zeros)))
+    mark-seen (sym (marks (0 ∷ []) zeros) ∙ refuses .untouched (0 ∷ []) zeros (record { bytes = bytes-tested (0 ∷ []) refl; size = omega arith }) slice-zeros 0 (byte-refused (length zeros)))
 
 -- The writer that does: class 0 is refused by 10.
 answer-unknown : Answer

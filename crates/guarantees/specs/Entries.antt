@@ -7,9 +7,10 @@ use mathlib.Core.List.{List}
 use lib.ListN.{length, take}
 use Rattle.definitions.specs.Limits.{kept-bytes}
 use Rattle.definitions.specs.Bytes.{Bytes}
+use Rattle.definitions.specs.ProblemRecord.{meant}
 use Rattle.definitions.specs.Verdict.{Judged}
 use Rattle.definitions.specs.Solved.{Solves}
-use Rattle.definitions.specs.Programs.{ReadFrom}
+use Rattle.definitions.specs.Programs.{ReadFrom, SpanOutput}
 use Rattle.definitions.specs.Demands.{Word, Words, Slice}
 use Rattle.records.specs.declared.problem.Header.{Header}
 use Rattle.problem_records.specs.Tables.{ProblemRead}
@@ -27,12 +28,12 @@ use Rattle.engine.specs.Outcome.{solvedOf}
 pub record Solve : Type 0 where
   pub result : List ℕ → List ℕ → Solved
   pub buffer : List ℕ → List ℕ → List ℕ
-  pub contract : (p before : List ℕ) → Slice p → Slice before → Solves p before (solvedOf (result p before)) (buffer p before)
+  pub contract : (p before : List ℕ) → Slice p → Slice before → Solves (meant p) before (solvedOf (result p before)) (buffer p before)
 
 -- `checker::check::check`.
 pub record Check : Type 0 where
   pub verdict : List ℕ → List ℕ → Verdict
-  pub contract : (p a : List ℕ) → Slice p → Slice a → Judged p a (verdictOf (verdict p a))
+  pub contract : (p a : List ℕ) → Slice p → Slice a → Judged (meant p) a (verdictOf (verdict p a))
 
 -- `problem_records::reader::read_problem` as the engine calls it, for one question or several, lent two tables: the header, and the tables
 -- afterwards.
@@ -40,7 +41,7 @@ pub record ReadProblem (left₀ right₀ : List ℕ) : Type 0 where
   pub header : List ℕ → Header
   pub left : List ℕ → List ℕ
   pub right : List ℕ → List ℕ
-  pub contract : (p : List ℕ) → Slice p → ProblemRead true p left₀ right₀ (header p) (left p) (right p)
+  pub contract : (p : List ℕ) → Slice p → ProblemRead true (meant p) left₀ right₀ (header p) (left p) (right p)
 
 -- `answer_reader::answer::read_answer`, lent two arrays: the head, and the arrays afterwards.
 pub record ReadAnswer (stamps₀ picks₀ : List ℕ) : Type 0 where
@@ -83,3 +84,7 @@ pub record Answer (Output : List ℕ → List ℕ → Type 0) : Type 0 where
   pub contract :
       (kept : List ℕ) (size : ℕ) → Bytes kept → length kept ≡ kept-bytes → Word size
       → (input : List ℕ) → ReadFrom kept size input → Output input (take (count kept size) (out kept size))
+
+-- That of the span program, which is to put out the answer to the record that its input means.
+abbrev pub SpanAnswer : Type 0
+SpanAnswer = Answer (λ input. SpanOutput (meant input))

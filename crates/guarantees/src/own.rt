@@ -1,6 +1,6 @@
 // The engine's own answers: what the checker says of them, and what the reader gives. The bytes that are judged and read
 // are those that the engine wrote.
-ghost use Rattle.definitions.specs.ProblemRecord.{WithinLayout, nField, mField};
+ghost use Rattle.definitions.specs.ProblemRecord.{WithinLayout, nField, mField, meant};
 ghost use Rattle.answer_reader.specs.AnswerReading.{headOf, AnswerRead};
 ghost use Rattle.guarantees.specs.OwnAnswers.{OwnVerdict, OwnReading};
 ghost use Rattle.checker.specs.Outcome.{verdictOf};
@@ -18,7 +18,7 @@ use records::problem::read_header;
 
 // The engine, then the checker on what it wrote: accepted, with the engine's class and span.
 pub fn solve_then_check(problem: &[u8], answer: &mut [u8]) -> Verdict
-    ensures { λ r. ⌜ OwnVerdict (now (problem .entry)) (now (answer .entry)) (verdictOf r) (now (answer .exit)) ⌝ }
+    ensures { λ r. ⌜ OwnVerdict (meant (now (problem .entry))) (now (answer .entry)) (verdictOf r) (now (answer .exit)) ⌝ }
 {
     let solved = solve(problem, answer);
     match solved {
@@ -28,15 +28,18 @@ pub fn solve_then_check(problem: &[u8], answer: &mut [u8]) -> Verdict
     }
 }
 
-// What was written, read with the problem's n and m into two arrays.
+// What was written, read with the problem's n and m into two arrays; those of the idle day are 0.
 fn read_own(
     problem: &[u8],
     written: &[u8],
     stamps: &mut [u64; STRIDE],
     picks: &mut [u64; ROWS],
 ) -> AnswerHead
-    ensures { λ r. ⌜ (WithinLayout (now (problem .entry)) → AnswerRead (now (written .entry)) (nField (now (problem .entry))) (mField (now (problem .entry))) r (now (stamps .entry)) (now (stamps .exit)) (now (picks .entry)) (now (picks .exit))) ⌝ }
+    ensures { λ r. ⌜ (WithinLayout (meant (now (problem .entry))) → AnswerRead (now (written .entry)) (nField (meant (now (problem .entry)))) (mField (meant (now (problem .entry)))) r (now (stamps .entry)) (now (stamps .exit)) (now (picks .entry)) (now (picks .exit))) ⌝ }
 {
+    if problem.len() == 0 {
+        return read_answer(written, 0, 0, stamps, picks);
+    }
     let header = read_header(problem, problem.len(), false);
     match header {
         Header::Refused(k) => AnswerHead::Refused(k),
@@ -51,7 +54,7 @@ pub fn solve_then_read(
     stamps: &mut [u64; STRIDE],
     picks: &mut [u64; ROWS],
 ) -> AnswerHead
-    ensures { λ r. ⌜ OwnReading (now (problem .entry)) (now (answer .entry)) (now (stamps .entry)) (now (picks .entry)) (headOf r) (now (answer .exit)) (now (stamps .exit)) (now (picks .exit)) ⌝ }
+    ensures { λ r. ⌜ OwnReading (meant (now (problem .entry))) (now (answer .entry)) (now (stamps .entry)) (now (picks .entry)) (headOf r) (now (answer .exit)) (now (stamps .exit)) (now (picks .exit)) ⌝ }
 {
     let solved = solve(problem, answer);
     match solved {

@@ -4,7 +4,7 @@ ghost use Prim.Native.Nat.{_≤_, _-_};
 ghost use lib.ListN.{length, take};
 ghost use Rattle.definitions.specs.Limits.{kept-bytes};
 ghost use Rattle.definitions.specs.Bytes.{put};
-ghost use Rattle.input.specs.Came.{Came, AllCame, read-size};
+ghost use Rattle.input.specs.Came.{OnceRead, AllRead};
 use libc::STDIN_FILENO;
 use records::limits::KEPT;
 use records::limits::READ_MOST;
@@ -30,30 +30,42 @@ fn keep(kept: &mut [u8], size: u64, buf: &[u8], n: usize)
     }
 }
 
-// Reads once, keeps what fits, and gives how many bytes came; 0 at the end of the input, or where reading failed.
-fn read_some(kept: &mut [u8], size: u64) -> u64
+// What reading ended with: the size of what came, or a read that failed.
+pub enum Input {
+    Ended(u64),
+    Failed,
+}
+
+// Reads once and keeps what fits: how many bytes came, 0 at the end of the input; or reading failed.
+fn read_some(kept: &mut [u8], size: u64) -> Input
     requires { ⌜ length (now kept) ≡ kept-bytes ⌝ }
-    ensures { λ r. ⌜ (r ≤ read-size) × Came (now (kept .entry)) size r (now (kept .exit)) ⌝ }
+    ensures { λ r. ⌜ OnceRead (now (kept .entry)) size r (now (kept .exit)) ⌝ }
 {
     let mut buf = [0u8; READ_SIZE];
     let got = libc::read(STDIN_FILENO, &mut buf);
+    if got < 0 {
+        return Input::Failed;
+    }
     let n = io::count(got, &buf);
     keep(kept, size, &buf, n);
-    n as u64
+    Input::Ended(n as u64)
 }
 
 // Reads standard input to its end, or until so much was counted that no outcome changes; keeps its first 20,000 bytes, and
-// gives its size. A failed read counts as the end. Public for `span`, `verdict`.
-pub fn read_all(kept: &mut [u8; KEPT]) -> u64
-    ensures { λ r. ⌜ AllCame (now (kept .entry)) r (now (kept .exit)) ⌝ }
+// gives its size. A failed read is no end: what came before it is not answered. Public for `span`, `verdict`.
+pub fn read_all(kept: &mut [u8; KEPT]) -> Input
+    ensures { λ r. ⌜ AllRead (now (kept .entry)) r (now (kept .exit)) ⌝ }
 {
     let mut size = 0;
     while size < READ_MOST {
-        let n = read_some(kept, size);
+        let some = read_some(kept, size);
+        let Input::Ended(n) = some else {
+            return Input::Failed;
+        };
         if n == 0 {
-            return size;
+            return Input::Ended(size);
         }
         size += n;
     }
-    size
+    Input::Ended(size)
 }

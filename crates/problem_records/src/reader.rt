@@ -6,12 +6,13 @@ ghost use lib.ListN.{length, getD};
 ghost use Rattle.base.specs.Filled.{FilledFrom};
 ghost use Rattle.definitions.specs.Limits.{lead-limit, signed-full, signed-bytes, highest-n, highest-m, most-questions, questions-header, questions-leads, questions-row, stride, table-size};
 ghost use Rattle.definitions.specs.Bytes.{tropField, blank-or-within};
-ghost use Rattle.definitions.specs.ProblemRecord.{leftPlace, problemOutcome};
+ghost use Rattle.definitions.specs.ProblemRecord.{leftPlace, problemOutcome, meant};
 ghost use Rattle.definitions.specs.Questions.{alone};
 ghost use Rattle.records.specs.ProblemHeader.{headerOf};
 ghost use Rattle.problem_records.specs.Tables.{runFits, leadAt, leftTable, rightTable, ProblemRead};
 ghost use Rattle.problem_records.specs.Filling.{rowCell, RowOf, Framed, QuestionHeld, Tabled};
 use records::bytes::word_in;
+use records::idle::idle_day;
 use records::limits::HIGHEST_N;
 use records::limits::LEAD_BYTES;
 use records::limits::LEAD_LIMIT;
@@ -203,9 +204,9 @@ pub fn judge_problem(bytes: &[u8], several: bool) -> Header
     header
 }
 
-// A problem from its bytes, into two lent tables: its layout, with the leads of its rules and of its first question as offset numbers
+// A problem record, into two lent tables: its layout, with the leads of its rules and of its first question as offset numbers
 // in rows of 32, or the first of refusals 1 to 6 and 15 that applies, where several questions may be asked or one. A refused problem leaves both tables as they are.
-pub fn read_problem(
+fn read_record(
     bytes: &[u8],
     several: bool,
     left: &mut [u32; TABLE],
@@ -225,4 +226,20 @@ pub fn read_problem(
         right,
     );
     header
+}
+
+// A problem from its bytes, the same way; no bytes mean the idle day.
+pub fn read_problem(
+    bytes: &[u8],
+    several: bool,
+    left: &mut [u32; TABLE],
+    right: &mut [u32; TABLE],
+) -> Header
+    ensures { λ r. ⌜ ProblemRead several (meant (now (bytes .entry))) (now (left .entry)) (now (right .entry)) r (now (left .exit)) (now (right .exit)) ⌝ }
+{
+    if bytes.len() == 0 {
+        let idle = idle_day();
+        return read_record(&idle, several, left, right);
+    }
+    read_record(bytes, several, left, right)
 }

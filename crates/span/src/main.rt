@@ -4,11 +4,14 @@ ghost use mathlib.Core.Path.{_≡_};
 ghost use Prim.Native.Nat.{ℕ, _≤_};
 ghost use mathlib.Core.List.{List};
 ghost use lib.ListN.{length, take};
+ghost use Rattle.definitions.specs.ProblemRecord.{meant};
 ghost use Rattle.definitions.specs.Programs.{ReadFrom, SpanOutput};
 ghost use Rattle.span.specs.Shown.{out-most, Shown, shownRecords};
 use engine::input::solve_input;
 use engine::solve::Solved;
+use input::Input;
 use input::read_all;
+use libc::STDERR_FILENO;
 use libc::STDOUT_FILENO;
 use output::writer::write_record;
 use output::writer::write_refused;
@@ -48,7 +51,7 @@ fn put_out(out: &mut [u8], buffer: &[u8], solved: Solved) -> usize
 // What the program puts out for every input of which this was read: so many bytes of the buffer.
 fn answer(kept: &[u8; KEPT], size: u64, out: &mut [u8]) -> usize
     requires { ⌜ length (now out) ≡ out-most ⌝ }
-    ensures { λ r. ⌜ (r ≤ out-most) × ((input : List ℕ) → ReadFrom (now (kept .entry)) size input → SpanOutput input (take r (now (out .exit)))) ⌝ }
+    ensures { λ r. ⌜ (r ≤ out-most) × ((input : List ℕ) → ReadFrom (now (kept .entry)) size input → SpanOutput (meant input) (take r (now (out .exit)))) ⌝ }
 {
     let mut buffer = [0u8; OUT_MOST];
     let solved = solve_input(kept, size, &mut buffer);
@@ -57,8 +60,17 @@ fn answer(kept: &[u8; KEPT], size: u64, out: &mut [u8]) -> usize
 
 fn main() {
     let mut kept = [0u8; KEPT];
-    let size = read_all(&mut kept);
+    let input = read_all(&mut kept);
+    let Input::Ended(size) = input else {
+        io::write_all(
+            STDERR_FILENO,
+            b"span: standard input cannot be read to its end\n",
+        );
+        return;
+    };
     let mut out = [0u8; OUT_MOST];
     let n = answer(&kept, size, &mut out);
-    io::write_all(STDOUT_FILENO, &out[..n]);
+    if !io::write_all(STDOUT_FILENO, &out[..n]) {
+        io::write_all(STDERR_FILENO, b"span: standard output cannot be written\n");
+    }
 }

@@ -5,6 +5,7 @@ use mathlib.Core.List.{List}
 use native.Mathlib.Omega.{arith}
 use lib.ListN.{length, take}
 use borrow.Author.Tests.{ne-eqb}
+use Rattle.definitions.specs.ProblemRecord.{meant}
 use Rattle.definitions.specs.Programs.{verdictLine, VerdictOutput, problemPart, answerPart}
 use Rattle.definitions.specs.Verdict.{Verdict, refused, Judged, turned-away, certified, uncertified}
 use Rattle.checker.specs.Outcome.{verdictOf}
@@ -32,6 +33,6 @@ pub line-put : {before after : List ℕ} {r : ℕ} {w v : Verdict} → length be
     → ((v ≡ refused 0 → ⊥) → w ≡ v) → (r ≤ line-most) × ((v ≡ refused 0 → ⊥) → take r after ≡ verdictLine v)
 line-put room (put, short) same = (omega (arith, put .shown (omega arith) .0), λ h. put .shown (omega arith) .1 ∙ ap verdictLine (same h))
 
-pub line-shown : {input output : List ℕ} {v : Verdict} → Judged (problemPart input) (answerPart input) v → ((v ≡ refused 0 → ⊥) → output ≡ verdictLine v)
+pub line-shown : {input output : List ℕ} {v : Verdict} → Judged (meant (problemPart input)) (answerPart input) v → ((v ≡ refused 0 → ⊥) → output ≡ verdictLine v)
     → VerdictOutput input output
 line-shown {v = v} j h = record { verdict = v; judged = j; line = h (some-refusal j) }

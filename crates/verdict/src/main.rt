@@ -10,7 +10,9 @@ ghost use Rattle.checker.specs.Outcome.{verdictOf};
 ghost use Rattle.printing.specs.Text.{line-most};
 use checker::check::Verdict;
 use checker::input::judge_input;
+use input::Input;
 use input::read_all;
+use libc::STDERR_FILENO;
 use libc::STDOUT_FILENO;
 use output::writer::write_verdict;
 use printing::lines::LINE_MOST;
@@ -37,8 +39,20 @@ fn answer(kept: &[u8; KEPT], size: u64, line: &mut [u8]) -> usize
 
 fn main() {
     let mut kept = [0u8; KEPT];
-    let size = read_all(&mut kept);
+    let input = read_all(&mut kept);
+    let Input::Ended(size) = input else {
+        io::write_all(
+            STDERR_FILENO,
+            b"verdict: standard input cannot be read to its end\n",
+        );
+        return;
+    };
     let mut line = [0u8; LINE_MOST];
     let n = answer(&kept, size, &mut line);
-    io::write_all(STDOUT_FILENO, &line[..n]);
+    if !io::write_all(STDOUT_FILENO, &line[..n]) {
+        io::write_all(
+            STDERR_FILENO,
+            b"verdict: standard output cannot be written\n",
+        );
+    }
 }

@@ -5,6 +5,7 @@ pub mod checker;
 pub mod examples;
 pub mod fields;
 pub mod hours;
+pub mod idle;
 pub mod marks;
 pub mod opening;
 pub mod parts;

@@ -1,7 +1,7 @@
+use borrow.Author.Needs.{needs}
 use native.Mathlib.Omega.{arith}
 use mathlib.Core.Path.{sym}
 use lib.Seq.{length-take-le}
-use borrow.Author.Needs.{needs}
 use Rattle.verdict.proofs.main.Statement.{statement}
 use Rattle.verdict.proofs.main.Tie as tie
 
@@ -11,8 +11,16 @@ main-spec =
     (tie.spec
     (λ c κs. search needs)
     (λ c. search needs)
+    (λ c. search needs)
+    (λ c. search needs)
+    (λ c κs. search needs)
+    (λ c. search needs)
+    (λ c. search needs)
     (λ c κs. search needs)
     (λ c. search needs)
     (λ c. sym (length-take-le _ _ (omega arith)))
     (λ c κs. search needs)
+    (λ c. search needs)
+    (λ c κs. search needs)
+    (λ c. search needs)
     (λ c. search needs))

@@ -1,14 +1,18 @@
 use borrow.Author.Needs.{needs}
-use Rattle.problem_records.proofs.ReadProblem.{laid}
-use Rattle.checker.proofs.Verdicts.{judged-problem, header-read, judged-answer}
-use Rattle.checker.specs.Outcome.{verdictOf}
-use Rattle.definitions.specs.Bytes.{Bytes}
+use native.Mathlib.Omega.{arith}
+use Rattle.definitions.proofs.IdleDay.{meant-none, meant-some}
 use Rattle.checker.proofs.check.check.Statement.{statement}
 use Rattle.checker.proofs.check.check.Tie as tie
 
 returns : tie.Need-returns
-unfolding verdictOf
-returns c = judged-problem _ _ (c .before .before .before .judge-problem .ensures) (c .before .enum-told .given .1) (c .problem-refusal .ensures)
+returns c =
+    let start = c .before .before .before .before .before .before in
+    rw (meant-none (start .args .problem .now) (c .before .before .before .if1 .taken)) (rw (c .before .before .idle-day .ensures) at (c .check-record .ensures))
+
+returns-2 : tie.Need-returns-2
+returns-2 c =
+    let start = c .before .before .before .before in
+    rw (meant-some (start .args .problem .now) (omega arith)) (c .check-record2 .ensures)
 
 pub check-spec : {M : Type 1} → statement M
 check-spec =
@@ -16,9 +20,7 @@ check-spec =
     (tie.spec
     (λ c κs. search needs)
     (λ c. search needs)
-    (λ c. search needs)
     (λ c κs. search needs)
     returns
-    (λ c κs. let bytes : Bytes (c .before .before .before .before .before .before .args .problem .now) = record { byte = λ i. c .before .before .before .before .before .shared-slice-known .given i .fits } in
-    laid bytes (c .before .before .before .judge-problem .ensures) (c .before .header .given .1))
-    (λ c. judged-answer _ _ (header-read _ (c .before .before .before .before .judge-problem .ensures) (c .before .before .header .given .1)) (c .check-answer .ensures)))
+    (λ c κs. search needs)
+    returns-2)

@@ -1,7 +1,7 @@
 use borrow.Author.Needs.{needs}
 use Rattle.checker.specs.Outcome.{verdictOf}
 use Rattle.definitions.proofs.Inputs.{kept-whole}
-use Rattle.checker.proofs.LongInputs.{kept-longer, long-past, long-cut, judged-parts}
+use Rattle.checker.proofs.LongInputs.{kept-longer, long-past, long-cut, judged-long}
 use lib.Seq.{length-take-le}
 use mathlib.Core.Path.{sym, ap, _∙_}
 use native.Mathlib.Omega.{arith}
@@ -26,4 +26,4 @@ judge-kept-spec =
     (λ c κs. search needs)
     (λ c. λ input k.
     let l = kept-longer k (c .before .before .before .if1 .left) in
-    judged-parts input (ap (λ e. e + 4) (c .before .before .word-at .ensures .0) ∙ long-cut l (c .before .before .before .if1 .left) (rw (c .before .before .word-at .ensures .0) at (c .before .if2 .left))) (c .judge-long .ensures input l)))
+    judged-long input (omega (arith, l .size-is, c .before .before .before .if1 .left)) (ap (λ e. e + 4) (c .before .before .word-at .ensures .0) ∙ long-cut l (c .before .before .before .if1 .left) (rw (c .before .before .word-at .ensures .0) at (c .before .if2 .left))) (c .judge-long .ensures input l)))

@@ -1,12 +1,18 @@
-use Rattle.problem_records.proofs.ReadProblem.{told-of, told-framed, refused-read, problem-read}
-use mathlib.Core.Path.{ap, sym, _∙_}
-use native.Mathlib.Omega.{arith}
-use Prim.Native.Nat.{_-_}
-use Rattle.base.proofs.Lists.{rest-whole}
-use Rattle.records.specs.ProblemHeader.{headerOf}
 use borrow.Author.Needs.{needs}
+use native.Mathlib.Omega.{arith}
+use Rattle.definitions.proofs.IdleDay.{meant-none, meant-some}
 use Rattle.problem_records.proofs.reader.read_problem.Statement.{statement}
 use Rattle.problem_records.proofs.reader.read_problem.Tie as tie
+
+returns : tie.Need-returns
+returns c =
+    let start = c .before .before .before .before .before .before .before in
+    rw (meant-none (start .args .bytes .now) (c .before .before .before .before .before .if1 .taken)) (rw (c .before .before .before .before .idle-day .ensures) at (c .read-record .ensures))
+
+returns-2 : tie.Need-returns-2
+returns-2 c =
+    let start = c .before .before .before .before .before in
+    rw (meant-some (start .args .bytes .now) (omega arith)) (c .read-record2 .ensures)
 
 pub read-problem-spec : {M : Type 1} → statement M
 read-problem-spec =
@@ -14,14 +20,7 @@ read-problem-spec =
     (tie.spec
     (λ c κs. search needs)
     (λ c. search needs)
-    (λ c. search needs)
-    (λ c. refused-read _ _ (c .before .before .judge-problem .ensures) (c .enum-told .given .1))
-    (λ c. let t = told-of _ (c .before .before .before .before .judge-problem .ensures) (c .before .before .header .given .1) in omega (arith, t .fits .leads-least))
-    (λ c. let t = told-of _ (c .before .before .before .before .judge-problem .ensures) (c .before .before .header .given .1) in omega (arith, t .fits .leads-least, t .fits .size-is))
-    (λ c. let t = told-of _ (c .before .before .before .before .judge-problem .ensures) (c .before .before .header .given .1) in omega (arith, t .fits .leads-least, t .fits .size-is))
-    (λ c. search needs)
-    (λ c κs. let t = told-of _ (c .before .before .before .before .before .before .before .judge-problem .ensures) (c .before .before .before .before .before .header .given .1) in
-    rw (rest-whole (c .before .before .before .before .before .before .before .before .before .args .bytes .now) (c .before .before .before .before .before .header .given .0 .0 .leads - 10)) (told-framed t (search needs) (search needs)))
-    (λ c. let read = c .before .before .before .before .before .before .before .before .judge-problem .ensures in
-    let told = c .before .before .before .before .before .before .header .given .1 in
-    problem-read (told-of _ read told) (rw (rest-whole (c .before .before .before .before .before .before .before .before .before .before .args .bytes .now) (c .before .before .before .before .before .before .header .given .0 .0 .leads - 10)) at (c .read-tables .ensures)) (sym (ap headerOf told) ∙ read)))
+    (λ c κs. search needs)
+    returns
+    (λ c κs. search needs)
+    returns-2)
