@@ -7,6 +7,7 @@ pub mod Put
 pub mod Offset
 pub mod Outcomes
 pub mod Refusals
+pub mod Silent
 pub mod RoundTrip
 pub mod Solved
 pub mod Bisection
