@@ -1,0 +1,5 @@
+pub mod Rows
+pub mod Converted
+pub mod Once
+pub mod Same
+pub mod Keeps
