@@ -116,8 +116,9 @@ module _ (s : List ℕ) (h : HeaderPasses true s (length s)) where
 
   pub converted-length : length (converted s) ≡ convertedSize s
   converted-length =
-      rw (converted-parts s, length-append, length-append, head-length (convertedSize s - length-bytes) left, rows-length s h (mField s) (omega arith), questions-length)
-      (omega arith)
+      let head : List ℕ = headLeft s (convertedSize s - length-bytes) left in
+      ap length (converted-parts s)
+      ∙ omega (arith, length-append head (rowsLeft s (mField s) ++ questionRows s), length-append (rowsLeft s (mField s)) (questionRows s), head-length (convertedSize s - length-bytes) left, rows-length s h (mField s) (omega arith), questions-length)
 
   pub converted-most : convertedSize s ≤ 18188
   converted-most =
@@ -133,14 +134,18 @@ module _ (s : List ℕ) (h : HeaderPasses true s (length s)) where
   unfolding converted
   converted-length-field = num-here length-bytes (convertedSize s - length-bytes) _ (omega (arith, converted-most))
 
+  -- What stands behind kind and n.
+  abbrev tail : List ℕ
+  tail = le short-bytes left ++ (part s problem-header (from - problem-header) ++ (rowsLeft s (mField s) ++ questionRows s))
+
   -- Kind and n.
   head-byte : (k : ℕ) → k < 4 → getD (converted s) (kind-place + k) 0 ≡ getD s (kind-place + k) 0
   unfolding converted
   head-byte k l =
       let e : kind-place + k ≡ length (le length-bytes (convertedSize s - length-bytes)) + k = rw length-le refl in
       let g : k < length (part s kind-place (m-place - kind-place)) = rw kind-part l in
-      rw e at (getD-append-add (le length-bytes (convertedSize s - length-bytes)) _ k 0)
-      ∙ List·getD-append (part s kind-place (m-place - kind-place)) _ 0 k g
+      rw e (getD-append-add (le length-bytes (convertedSize s - length-bytes)) (part s kind-place (m-place - kind-place) ++ tail) k 0)
+      ∙ List·getD-append (part s kind-place (m-place - kind-place)) tail 0 k g
       ∙ part-at s kind-place (m-place - kind-place) k l
 
   pub converted-kind : kindField (converted s) ≡ kindField s
@@ -151,8 +156,7 @@ module _ (s : List ℕ) (h : HeaderPasses true s (length s)) where
       let e : 6 + i ≡ kind-place + (2 + i) = omega arith in
       rw e (head-byte (2 + i) (omega arith)))
 
-  -- What stands behind kind and n.
-  behind-n : (k at : ℕ) → numAt k (converted s) (length-bytes + (4 + at)) ≡ numAt k (le short-bytes left ++ (part s problem-header (from - problem-header) ++ (rowsLeft s (mField s) ++ questionRows s))) at
+  behind-n : (k at : ℕ) → numAt k (converted s) (length-bytes + (4 + at)) ≡ numAt k tail at
   unfolding converted
   behind-n k at =
       numAt-back k (le length-bytes (convertedSize s - length-bytes)) _ length-bytes (4 + at) (length-le length-bytes _)
@@ -169,7 +173,8 @@ module _ (s : List ℕ) (h : HeaderPasses true s (length s)) where
       ∙ numAt-back short-bytes (le short-bytes left) _ short-bytes 0 (length-le short-bytes left)
       ∙ numAt-same short-bytes _ s 0 problem-header (λ i l.
       let g : i < length (part s problem-header (from - problem-header)) = omega arith in
-      List·getD-append (part s problem-header (from - problem-header)) _ 0 i g
+      let here : 0 + i ≡ i = omega arith in
+      rw here (List·getD-append (part s problem-header (from - problem-header)) (rowsLeft s (mField s) ++ questionRows s) 0 i g)
       ∙ part-at s problem-header (from - problem-header) i (omega arith))
 
   pub converted-asked : questionsAsked (kindField (converted s)) (countField (converted s)) ≡ asked
@@ -203,22 +208,25 @@ module _ (s : List ℕ) (h : HeaderPasses true s (length s)) where
       let e : from + k ≡ length (headLeft s (convertedSize s - length-bytes) left) + k = rw (head-length (convertedSize s - length-bytes) left) refl in
       rw (converted-parts s, e) (getD-append-add (headLeft s (convertedSize s - length-bytes) left) (rowsLeft s (mField s) ++ questionRows s) k 0)
 
+  question-byte : (r o : ℕ) → r < asked → o < rowsSize (nField s) 1
+      → getD (converted s) (rowPlace from (nField s) (left + r) + o) 0 ≡ getD s (rowPlace from (nField s) (mField s + r) + o) 0
+  question-byte r o l b =
+      let at : ℕ = rowsSize (nField s) r + o in
+      let place : rowPlace from (nField s) (left + r) + o ≡ from + (rowsSize (nField s) left + (rowsSize (nField s) r + o)) = omega arith in
+      let inner : rowsSize (nField s) left + (rowsSize (nField s) r + o) ≡ length (rowsLeft s (mField s)) + (rowsSize (nField s) r + o) = rw (rows-length s h (mField s) (omega arith)) refl in
+      let to : rowPlace from (nField s) (mField s + r) + o ≡ rowPlace from (nField s) (mField s) + (rowsSize (nField s) r + o) = omega arith in
+      let small : rowsSize (nField s) r + o < rowsSize (nField s) asked = omega (arith, mul-le-mul-right {m = suc r} {n = asked} (suc (nField s)) l) in
+      rw (place, to)
+      (behind-head (rowsSize (nField s) left + (rowsSize (nField s) r + o))
+      ∙ rw inner (getD-append-add (rowsLeft s (mField s)) (questionRows s) (rowsSize (nField s) r + o) 0)
+      ∙ part-at s (rowPlace from (nField s) (mField s)) (rowsSize (nField s) asked) (rowsSize (nField s) r + o) small)
+
   pub row-byte : (i o : ℕ) → i < left + asked → o < rowsSize (nField s) 1
       → getD (converted s) (rowPlace from (nField s) i + o) 0 ≡ getD s (rowPlace from (nField s) (rowLeft i) + o) 0
   row-byte i o l b = ⊎-elim
       (λ (q : left ≤ i).
-      let r : ℕ = i - left in
       let e : i ≡ left + (i - left) = omega arith in
-      let place : rowPlace from (nField s) i + o ≡ from + (rowsSize (nField s) left + (rowsSize (nField s) (i - left) + o)) = omega arith in
-      let inner : rowsSize (nField s) left + (rowsSize (nField s) (i - left) + o) ≡ length (rowsLeft s (mField s)) + (rowsSize (nField s) (i - left) + o) = rw (rows-length s h (mField s) (omega arith)) refl in
-      let to : rowPlace from (nField s) (rowLeft i) + o ≡ rowPlace from (nField s) (mField s) + (rowsSize (nField s) (i - left) + o) =
-      rw e (rw (row-question (i - left)) (omega arith)) in
-      let small : rowsSize (nField s) (i - left) + o < rowsSize (nField s) asked =
-      omega (arith, mul-le-mul-right {m = suc (i - left)} {n = asked} (suc (nField s)) (omega arith)) in
-      rw (place, to)
-      (behind-head (rowsSize (nField s) left + (rowsSize (nField s) (i - left) + o))
-      ∙ rw inner (getD-append-add (rowsLeft s (mField s)) (questionRows s) (rowsSize (nField s) (i - left) + o) 0)
-      ∙ part-at s (rowPlace from (nField s) (mField s)) (rowsSize (nField s) asked) (rowsSize (nField s) (i - left) + o) small))
+      rw e (rw (row-question (i - left)) (question-byte (i - left) o (omega arith) b)))
       (λ (q : i < left).
       let place : rowPlace from (nField s) i + o ≡ from + (rowsSize (nField s) i + o) = omega arith in
       let inside : rowsSize (nField s) i + o < length (rowsLeft s (mField s)) =
@@ -287,7 +295,7 @@ module _ (s : List ℕ) (h : HeaderPasses true s (length s)) where
   unfolding leadsOf tropAt
   converted-leads fit =
       let every = all-numsAt (blank-or-within lead-limit) tropField signed-bytes (2 * (suc (nField s) * (mField s + asked))) s from .0 fit in
-      rw (converted-kind-asked, converted-n, converted-m)
+      rw (converted-asked, converted-kind, converted-n, converted-m)
       (all-numsAt (blank-or-within lead-limit) tropField signed-bytes (2 * (suc (nField s) * (left + asked))) (converted s) from .1 (λ k l.
       let c = divided (2 * suc (nField s)) k (left + asked) (omega arith) in
       let r = row-one (c .turns) (c .few) in
@@ -306,7 +314,7 @@ converted-within s f = record-fits true (converted s) .1 (record {
 -- Its bytes are bytes.
 rows-bytes : (s : List ℕ) → Bytes s → (k : ℕ) → Bytes (rowsLeft s k)
 unfolding rowsLeft
-rows-bytes s b zero = bytes-tested [] refl
+rows-bytes s b zero = bytes-take 0 b
 rows-bytes s b (suc k) = bytes-append (rows-bytes s b k) (go (blank-left s k))
   where
     go : (t : Bool) → Bytes (cond t [] (part s (rowPlace (leadsPlace (kindField s)) (nField s) k) (rowsSize (nField s) 1)))

@@ -3,3 +3,5 @@ pub mod Converted
 pub mod Once
 pub mod Same
 pub mod Keeps
+pub mod Steps
+pub mod Answers

@@ -36,8 +36,8 @@ module _ (s : List ℕ) where
 
   pub left-more : (k d : ℕ) → rulesLeft s k ≤ rulesLeft s (d + k)
   unfolding rulesLeft
-  left-more k zero = omega arith
-  left-more k (suc d) = omega (arith, left-more k d)
+  left-more k zero = let e : 0 + k ≡ k = omega arith in rw e (omega arith)
+  left-more k (suc d) = let e : suc d + k ≡ suc (d + k) = omega arith in rw e (omega (arith, left-more k d))
 
   pub left-grows : (k m : ℕ) → k ≤ m → rulesLeft s k ≤ rulesLeft s m
   left-grows k m h = let e : (m - k) + k ≡ m = omega arith in rw e at (left-more k (m - k))

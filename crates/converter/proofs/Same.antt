@@ -134,17 +134,28 @@ module _ (s : List ℕ) (h : HeaderPasses true s (length s)) (q : ℕ) (l : q < 
   rows-meet i g = ⊎-elim
       (λ (t : left ≤ i).
       let e : i ≡ left = omega arith in
-      let here : rowOf before (chosen s (mField s)) left i ≡ mField s = rw e (row-objective before (chosen s (mField s)) left ∙ a .m-is) in
-      (omega (arith, here),
-      asked-question (mField s) q _ here ∙ sym (row-question s h q) ∙ ap (rowLeft s h) (sym (asked-question left q i e)),
-      rw (asked-question left q i e) (omega arith)))
+      let here : rowOf before (chosen s (mField s)) left i ≡ mField s = rw e (row-objective before (chosen s (mField s)) left ∙ a .m-is) in (
+        omega (arith, here),
+        asked-question (mField s) q _ here ∙ sym (row-question s h q) ∙ ap (rowLeft s h) (sym (asked-question left q i e)),
+        rw (asked-question left q i e) (omega arith),
+      ))
       (λ (t : i < left).
       let here : rowOf before (chosen s (mField s)) left i ≡ chosen s (mField s) i = row-chosen before (chosen s (mField s)) left i t in
-      let inside = chosen-inside s (mField s) i t in
-      (omega (arith, here, inside),
-      rw (here, asked-rule (mField s) q (chosen s (mField s) i) inside, asked-rule left q i t) (sym (row-rule s h i t)),
-      rw (asked-rule left q i t) (omega arith)))
+      let inside = chosen-inside s (mField s) i t in (
+        omega (arith, here, inside),
+        rw (here, asked-rule (mField s) q (chosen s (mField s) i) inside, asked-rule left q i t) (sym (row-rule s h i t)),
+        rw (asked-rule left q i t) (omega arith),
+      ))
       (nat-le-or-lt left i)
+
+  -- Places of its leads in the converted record.
+  place : (i o : ℕ) → rowPlace (leadsPlace (kindField (converted s))) (nField (converted s)) (askedRow (mField (converted s)) q i) + o ≡ rowPlace (leadsPlace (kindField s)) (nField s) (askedRow left q i) + o
+  place i o = rw (converted-kind s h, converted-n s h, converted-m s h) refl
+
+  place-right : (i j : ℕ)
+      → rowPlace (leadsPlace (kindField (converted s))) (nField (converted s)) (askedRow (mField (converted s)) q i) + (signed-bytes * suc (nField (converted s)) + signed-bytes * j)
+      ≡ rowPlace (leadsPlace (kindField s)) (nField s) (askedRow left q i) + (signed-bytes * suc (nField s) + signed-bytes * j)
+  place-right i j = rw (converted-kind s h, converted-n s h, converted-m s h) refl
 
   agree : Agree (selected before (chosen s (mField s)) left) after
   unfolding tropAt
@@ -156,13 +167,13 @@ module _ (s : List ℕ) (h : HeaderPasses true s (length s)) (q : ℕ) (l : q < 
         let r = rows-meet i g in
         a .left-is (rowOf before (chosen s (mField s)) left i) j (r .0) column
         ∙ rw (r .1) (sym (ap tropField (row-lead s h (askedRow left q i) (signed-bytes * j) (r .2) (omega arith))))
-        ∙ sym (rw (converted-kind s h, converted-n s h, converted-m s h) at (b .left-is i j (rw (converted-m s h) g) (rw (converted-n s h) column)));
+        ∙ sym (b .left-is i j (rw (converted-m s h) g) (rw (converted-n s h) column) ∙ ap (tropAt (converted s)) (place i (signed-bytes * j)));
     right = λ i j g c.
         let column : j ≤ nField s = rw (a .n-is) at c in
         let r = rows-meet i g in
         a .right-is (rowOf before (chosen s (mField s)) left i) j (r .0) column
         ∙ rw (r .1) (sym (ap tropField (row-lead s h (askedRow left q i) (signed-bytes * suc (nField s) + signed-bytes * j) (r .2) (omega arith))))
-        ∙ sym (rw (converted-kind s h, converted-n s h, converted-m s h) at (b .right-is i j (rw (converted-m s h) g) (rw (converted-n s h) column)));
+        ∙ sym (b .right-is i j (rw (converted-m s h) g) (rw (converted-n s h) column) ∙ ap (tropAt (converted s)) (place-right i j));
   }
 
   pub same-class : SameClass before after

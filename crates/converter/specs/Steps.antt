@@ -1,11 +1,12 @@
 -- What the steps of converting ask and leave, and the converter's answer in the words of the definitions.
 use Prim.Native.Nat.{ℕ, suc, _+_, _*_, _-_, _≤_}
 use mathlib.Core.Path.{_≡_}
+use mathlib.Core.Bool.{true}
 use mathlib.Core.List.{List, _++_}
 use lib.ListN.{length}
 use Rattle.definitions.specs.Limits.{highest-n, highest-m, most-questions, length-bytes, short-bytes, signed-bytes, kind-place, m-place, problem-header, questions-header, questions-leads}
 use Rattle.definitions.specs.Bytes.{le, put, Outcome, refusal, gives}
-use Rattle.definitions.specs.ProblemRecord.{kindField, nField, mField, countField, leadsPlace, questionsAsked}
+use Rattle.definitions.specs.ProblemRecord.{kindField, nField, mField, countField, leadsPlace, questionsAsked, headerRefusal}
 use Rattle.definitions.specs.Questions.{part}
 use Rattle.records.specs.declared.problem.Layout.{Layout}
 use Rattle.converter.specs.declared.convert.Conversion.{Conversion}
@@ -22,6 +23,7 @@ conversionOf (Refused k) = refusal k
 
 -- The layout is the record's, within the limits, and the record has its size.
 pub record Stored (s : List ℕ) (l : Layout) : Type 0 where
+  pub none : headerRefusal true s (length s) ≡ 0
   pub n-is : l .n ≡ nField s
   pub m-is : l .m ≡ mField s
   pub leads-is : l .leads ≡ leadsPlace (kindField s)

@@ -23,6 +23,7 @@ use records::limits::PROBLEM_HEADER;
 use records::limits::REFUSED_ROOM;
 use records::problem::Header;
 use records::problem::Layout;
+use records::problem::lead_count;
 use records::problem::problem_refusal;
 
 // What converting answers: the size of the record written, or the number of the refusal.
@@ -58,8 +59,7 @@ fn size_left(layout: Layout, left: usize) -> usize
     requires { ⌜ (layout .n ≤ highest-n) × (layout .leads ≤ questions-header) × (left + layout .questions ≤ highest-m + most-questions) ⌝ }
     ensures { λ r. ⌜ (r ≡ layout .leads + 2 * signed-bytes * ((layout .n + 1) * (left + layout .questions))) × (r ≤ record-most) ⌝ }
 {
-    let rows = left + layout.questions;
-    layout.leads + 2 * LEAD_BYTES * ((layout.n + 1) * rows)
+    layout.leads + LEAD_BYTES * lead_count(layout.n, left + layout.questions)
 }
 
 // Puts `count` bytes from a place of the record at a place of the buffer, and gives the place after them.
@@ -78,7 +78,13 @@ fn put_head(bytes: &[u8], layout: Layout, left: usize, size: usize, out: &mut [u
     put_word(out, LENGTH_PLACE, (size - LENGTH_BYTES) as u64);
     put_part(bytes, KIND_PLACE, M_PLACE - KIND_PLACE, out, KIND_PLACE);
     put_short(out, M_PLACE, left as u64);
-    put_part(bytes, PROBLEM_HEADER, layout.leads - PROBLEM_HEADER, out, PROBLEM_HEADER);
+    put_part(
+        bytes,
+        PROBLEM_HEADER,
+        layout.leads - PROBLEM_HEADER,
+        out,
+        PROBLEM_HEADER,
+    );
 }
 
 // Puts the rows of the rules that stay from a place on, in their order, and gives the place after them. A row that does not stay has no
@@ -106,7 +112,13 @@ fn put_record(bytes: &[u8], layout: Layout, left: usize, size: usize, out: &mut 
     let row = 2 * LEAD_BYTES * (layout.n + 1);
     put_head(bytes, layout, left, size, out);
     let at = put_rows(bytes, layout, out, layout.leads);
-    put_part(bytes, layout.leads + row * layout.m, row * layout.questions, out, at);
+    put_part(
+        bytes,
+        layout.leads + row * layout.m,
+        row * layout.questions,
+        out,
+        at,
+    );
 }
 
 // A stored record converted: its size, with the record at the front of the buffer and every byte after it as it was; or the first of
