@@ -36,7 +36,7 @@ fn main() {
     let long = words.iter().any(|word| word == "--long");
     words.retain(|word| word != "--long");
     println!("tests from outside, on {TRIED}");
-    let all: [Suite; 14] = [
+    let all: [Suite; 15] = [
         ("examples", suites::examples::run),
         ("all-small", suites::small::every_small_problem),
         ("random-small", suites::small::random_problems),
@@ -51,6 +51,7 @@ fn main() {
         ("parts", suites::parts::run),
         ("marks", suites::marks::run),
         ("questions", suites::questions::run),
+        ("silent", suites::silent::run),
     ];
     let mut failures = 0;
     let mut run = 0;

@@ -29,10 +29,10 @@ pub(crate) fn four(bytes: &[u8], at: usize) -> i32 {
 /// Where the parts of a problem stand: rules, then questions, from a place on.
 #[derive(Clone, Copy)]
 pub struct Layout {
-    variables: usize,
-    rules: usize,
+    pub(crate) variables: usize,
+    pub(crate) rules: usize,
     pub questions: usize,
-    coefficients: usize,
+    pub(crate) coefficients: usize,
 }
 
 /// Refusals 1 to 5 and 15, which the header decides; else the layout. Kind 3 is known where several questions are taken.

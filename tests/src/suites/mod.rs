@@ -10,6 +10,7 @@ pub mod opening;
 pub mod parts;
 pub mod pipes;
 pub mod questions;
+pub mod silent;
 pub mod small;
 pub mod tables;
 pub mod unproved;
