@@ -52,6 +52,7 @@ fn main() {
         ("marks", suites::marks::run),
         ("questions", suites::questions::run),
         ("idle", suites::idle::run),
+        ("silent", suites::silent::run),
     ];
     let mut failures = 0;
     let mut run = 0;

@@ -208,6 +208,10 @@ refused-lead = 6
 abbrev pub refused-count : ℕ
 refused-count = 15
 
+-- Document 02, 2.6: a rule has an all-blank left list.
+abbrev pub refused-silent : ℕ
+refused-silent = 17
+
 -- The answer buffer is shorter than 206 bytes, in the engine than 206 for each question, whichever class is due.
 abbrev pub refused-room : ℕ
 refused-room = 7
