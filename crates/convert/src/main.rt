@@ -22,7 +22,8 @@ use records::limits::QUESTIONS_HEADER;
 use records::limits::STRIDE;
 
 // Room for what is put out: the largest record, or a line.
-const OUT_MOST: usize = QUESTIONS_HEADER + LEAD_BYTES * (2 * (STRIDE * (HIGHEST_M + MOST_QUESTIONS)));
+const OUT_MOST: usize = QUESTIONS_HEADER
+    + LEAD_BYTES * (2 * (STRIDE * (HIGHEST_M + MOST_QUESTIONS)));
 
 // Puts the record of this size at the front of the buffer for output, and gives its size.
 fn put_stored(out: &mut [u8], buffer: &[u8], size: usize) -> usize

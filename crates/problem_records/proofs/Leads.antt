@@ -94,36 +94,59 @@ module _ {s : List ℕ} {start count i at misfits : ℕ} (j : Judged s start cou
 
 -- ---- blank lists
 
--- i of `count` leads are blank: the run is blank exactly if the rest is.
-pub record Blank (s : List ℕ) (start count i at : ℕ) : Type 0 where
+-- 1 once a lead is not blank.
+pub seen-blank : (before : ℕ) {w : ℕ} → w ≡ signed-half → before ≡ cond (eqb signed-half w) before 1
+seen-blank before {w} e = rw (eq-eqb signed-half w (sym e))
+
+pub seen-given : (before : ℕ) {w : ℕ} → (w ≡ signed-half → ⊥) → 1 ≡ cond (eqb signed-half w) before 1
+seen-given before {w} e = rw (ne-eqb signed-half w (λ d. e (sym d)))
+
+-- i of `count` leads are looked at: where all are blank the run is blank exactly if the rest is, else it is not.
+pub record Blank (s : List ℕ) (start count i at given : ℕ) : Type 0 where
   pub inside : i ≤ count
   pub place : at ≡ start + 4 * i
-  pub rest : runBlank s (count - i) at ≡ runBlank s count start
+  pub rest : given ≡ 0 → runBlank s (count - i) at ≡ runBlank s count start
+  pub some : 0 < given → false ≡ runBlank s count start
 
-pub blank-none : (s : List ℕ) (start count : ℕ) → Blank s start count 0 start
-blank-none s start count = let e : count - 0 ≡ count = omega arith in record { inside = omega arith; place = omega arith; rest = rw e }
+pub blank-none : (s : List ℕ) (start count : ℕ) → Blank s start count 0 start 0
+blank-none s start count =
+    let e : count - 0 ≡ count = omega arith in
+    record { inside = omega arith; place = omega arith; rest = λ _. rw e; some = λ h. absurd (omega arith) }
 
-module _ {s : List ℕ} {start count i at : ℕ} (b : Blank s start count i at) where
-  blank-next : i < count → (eqb signed-half (numAt 4 s at) && runBlank s (count - (i + 1)) (at + 4)) ≡ runBlank s count start
+module _ {s : List ℕ} {start count i at given : ℕ} (b : Blank s start count i at given) where
+  blank-next : i < count → given ≡ 0 → (eqb signed-half (numAt 4 s at) && runBlank s (count - (i + 1)) (at + 4)) ≡ runBlank s count start
   unfolding numsAt all
-  blank-next h = let next : count - i ≡ suc (count - (i + 1)) = omega arith in rw next at (b .rest)
+  blank-next h z = let next : count - i ≡ suc (count - (i + 1)) = omega arith in rw next at (b .rest z)
 
-  -- One more is.
-  pub blank-more : {w : ℕ} → i < count → w ≡ numAt 4 s at → w ≡ signed-half → Blank s start count (i + 1) (at + 4)
-  blank-more {w} h e f = record {
-    inside = omega arith;
-    place = omega (arith, b .place);
-    rest = rw (eq-eqb signed-half (numAt 4 s at) (sym f ∙ e)) at (blank-next h);
-  }
-
-  -- One is not.
-  pub blank-not : {w : ℕ} → i < count → w ≡ numAt 4 s at → (w ≡ signed-half → ⊥) → false ≡ runBlank s count start
-  blank-not {w} h e f = rw (ne-eqb signed-half (numAt 4 s at) (λ g. f (e ∙ sym g))) at (blank-next h)
+  -- One lead more is looked at.
+  pub blank-more : {w r : ℕ} → i < count → w ≡ numAt 4 s at → r ≡ cond (eqb signed-half w) given 1 → Blank s start count (i + 1) (at + 4) r
+  blank-more {w} {r} h e f = go (eqb signed-half w) refl
+    where
+      go : (t : Bool) → eqb signed-half w ≡ t → Blank s start count (i + 1) (at + 4) r
+      go true t =
+          let same : r ≡ given = f ∙ rw t in
+          record {
+            inside = omega arith;
+            place = omega (arith, b .place);
+            rest = λ z. rw (← e, t) at (blank-next h (omega arith));
+            some = λ p. b .some (omega arith);
+          }
+      go false t =
+          let one : r ≡ 1 = f ∙ rw t in
+          record {
+            inside = omega arith;
+            place = omega (arith, b .place);
+            rest = λ z. absurd (omega arith);
+            some = λ p. ⊎-elim (λ z. rw (← e, t) at (blank-next h z)) (λ q. b .some q) (eq-zero-or-pos given);
+          }
 
   -- All are.
-  pub blank-end : count ≤ i → true ≡ runBlank s count start
+  pub blank-end : count ≤ i → eqb given 0 ≡ runBlank s count start
   unfolding numsAt all
-  blank-end h = let none : count - i ≡ 0 = omega arith in rw none at (b .rest)
+  blank-end h = ⊎-elim
+      (λ (z : given ≡ 0). let none : count - i ≡ 0 = omega arith in eq-eqb given 0 z ∙ rw none at (b .rest z))
+      (λ (q : 0 < given). ne-eqb given 0 (λ z. omega arith) ∙ b .some q)
+      (eq-zero-or-pos given)
 
 -- The first i rules have a left lead that is not blank.
 pub record Speaking (s : List ℕ) (start n m i at : ℕ) : Type 0 where

@@ -2,9 +2,10 @@
 ghost use mathlib.Core.Path.{_≡_};
 ghost use Prim.Native.Nat.{_+_, _*_, _-_, _<_, _≤_};
 ghost use mathlib.Core.Bool.{cond};
+ghost use lib.Dec.{eqb};
 ghost use lib.ListN.{length, getD};
 ghost use Rattle.base.specs.Filled.{FilledFrom};
-ghost use Rattle.definitions.specs.Limits.{lead-limit, signed-full, signed-bytes, highest-n, highest-m, most-questions, questions-header, questions-leads, questions-row, stride, table-size};
+ghost use Rattle.definitions.specs.Limits.{lead-limit, signed-half, signed-full, signed-bytes, highest-n, highest-m, most-questions, questions-header, questions-leads, questions-row, stride, table-size};
 ghost use Rattle.definitions.specs.Bytes.{tropField, some-below, blank-or-within};
 ghost use Rattle.definitions.specs.ProblemRecord.{rowPlace, leftPlace, runBlank, problemOutcome, meant};
 ghost use Rattle.definitions.specs.Questions.{alone};
@@ -72,19 +73,26 @@ fn leads_fit(bytes: &[u8], start: usize, count: usize) -> bool
     misfits == 0
 }
 
-// Each of `count` leads from a place of the bytes on is blank. Public for `converter::convert`.
+// 1 once a lead is not blank.
+fn seen(before: u32, w: u32) -> u32
+    ensures { λ r. ⌜ r ≡ cond (eqb signed-half w) before 1 ⌝ }
+{
+    if w == BLANK_32 { before } else { 1 }
+}
+
+// Each of `count` leads from a place of the bytes on is blank. All are looked at, so that the loop has no branch. Public for
+// `converter::convert`.
 pub fn all_blank(bytes: &[u8], start: usize, count: usize) -> bool
     requires { ⌜ start + signed-bytes * count ≤ length (now bytes) ⌝ }
     ensures { λ r. ⌜ r ≡ runBlank (now (bytes .entry)) count start ⌝ }
 {
     let mut at = start;
+    let mut given = 0u32;
     for _ in 0..count {
-        if word_in(bytes, at) != BLANK_32 {
-            return false;
-        }
+        given = seen(given, word_in(bytes, at));
         at += LEAD_BYTES;
     }
-    true
+    given == 0
 }
 
 // One of the m rules of a record whose leads start at a place has an all-blank left list: it says nothing.
