@@ -10,7 +10,9 @@ ghost use Rattle.converter.specs.Steps.{record-most};
 ghost use Rattle.convert.specs.Shown.{Shown, shownRecord};
 use converter::convert::Conversion;
 use converter::input::convert_input;
+use input::Input;
 use input::read_all;
+use libc::STDERR_FILENO;
 use libc::STDOUT_FILENO;
 use output::writer::write_record;
 use output::writer::write_refused;
@@ -62,8 +64,20 @@ fn answer(kept: &[u8; KEPT], size: u64, out: &mut [u8]) -> usize
 
 fn main() {
     let mut kept = [0u8; KEPT];
-    let size = read_all(&mut kept);
+    let input = read_all(&mut kept);
+    let Input::Ended(size) = input else {
+        io::write_all(
+            STDERR_FILENO,
+            b"convert: standard input cannot be read to its end\n",
+        );
+        return;
+    };
     let mut out = [0u8; OUT_MOST];
     let n = answer(&kept, size, &mut out);
-    io::write_all(STDOUT_FILENO, &out[..n]);
+    if !io::write_all(STDOUT_FILENO, &out[..n]) {
+        io::write_all(
+            STDERR_FILENO,
+            b"convert: standard output cannot be written\n",
+        );
+    }
 }

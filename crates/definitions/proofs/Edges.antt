@@ -14,6 +14,7 @@ use Rattle.definitions.specs.Bisection.{trials-infeasible, trials-unboun
 use Rattle.definitions.specs.Verdict.{Verdict, accepted, refused, checkRefusal}
 use Rattle.definitions.specs.Solved.{engineRefusal}
 use Rattle.definitions.specs.Programs.{verdictLine, classWords, refusedLine, decimal, digits, wholeDecimal, spanDecimal, text-refused, text-not-certified, text-accepted, text-least, text-bottomless, text-none}
+use Rattle.definitions.specs.Conversion.{convertRefusal, storedRefusal}
 use Rattle.definitions.specs.Examples.{example-A}
 use Rattle.definitions.specs.AnswerRecord.{Answer, stampCount, pickCount, highestPick, answerHeaderRefusal, answerHeaderJudged, answerRefusal, answerOf, writerRefusal, writerJudged, rightCounts, formRefusal, spanFits, stampsFit, picksFit, is-zero, is-blank}
 
@@ -220,6 +221,11 @@ questions-alone : map (alone two-questions) (0 ∷ 1 ∷ [])
     ∷ (14 ∷ 0 ∷ 0 ∷ 0 ∷ 1 ∷ 0 ∷ 0 ∷ 0 ∷ 0 ∷ 0 ∷ 7 ∷ 0 ∷ 0 ∷ 0 ∷ 4 ∷ 0 ∷ 0 ∷ 0 ∷ []) ∷ []
 unfolding alone headerBytes numAt le two-questions
 questions-alone = refl
+
+-- The converter does not take no bytes for the idle day.
+no-bytes-converted : convertRefusal [] 0 ≡ 1
+unfolding convertRefusal storedRefusal headerRefusal headerJudged numAt
+no-bytes-converted = refl
 
 -- ---- lines
 
