@@ -186,8 +186,11 @@ fn speaking(all: Questions) -> Result<Questions, u64> {
 }
 
 /// The converter (document 02, 2.6): 1 to 6 and 15 as the engine gives them, then 7 where the buffer is shorter than the record to
-/// be written; else the record without the rules that say nothing.
+/// be written; else the record without the rules that say nothing. No bytes are no idle day here: they get 1 (2.9).
 pub fn converted(bytes: &[u8], buffer: usize) -> Result<Vec<u8>, u64> {
+    if bytes.is_empty() {
+        return Err(1);
+    }
     let mut all = read_rows(bytes, &[1, 3])?;
     all.rules.retain(|rule| !rule.says_nothing());
     let record = if number(&bytes[4..6]) == 1 { all.alone(0).bytes() } else { all.bytes() };

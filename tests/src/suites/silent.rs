@@ -181,7 +181,8 @@ pub fn run(tally: &mut Tally) {
     large(tally, &mut random);
     orders(tally, &mut random);
     piped(tally, &mut random);
-    for what in ["converted 0", "converted 6", "converted 7", "with a rule that says nothing", "with none", "engine 17"] {
+    for what in ["converted 0", "converted 6", "converted 7", "with a rule that says nothing", "with none", "engine 17"]
+    {
         seen(tally, what);
     }
 }
