@@ -13,7 +13,8 @@ use Rattle.definitions.specs.AnswerRecord.{written}
 use Rattle.definitions.specs.Programs.{refusedLine}
 use Rattle.definitions.specs.Selection.{SameClass}
 
--- The first of refusals 1 to 6 and 15 that applies to a record, as the engine gives them, 0 where none does; never 17.
+-- The first of refusals 1 to 6 and 15 that applies to the bytes, as the engine gives them to a record, 0 where none does; never 17. No bytes
+-- are no idle day here and get 1 (2.9).
 unfoldable pub storedRefusal : List ℕ → ℕ
 storedRefusal s = or-else (headerRefusal true s (length s)) (first (record { applies = leadRefused s; number = refused-lead } ∷ []))
 
@@ -72,7 +73,7 @@ pub record ConvertedWell (s : List ℕ) : Type 0 where
   pub same-class : (q : ℕ) → q < questionsAsked (kindField s) (countField s) → SameClass (problemOf (asking s q)) (problemOf (asking (converted s) q))
   pub once : converted (converted s) ≡ converted s
 
--- It holds of every record that is not refused; and one that the engine takes stays as it is.
+-- It holds of every record that is not refused; and one that the engine takes, of at least ten bytes, stays as it is.
 pub record ConversionKeeps : Type 0 where
   pub well : (s : List ℕ) → Bytes s → storedRefusal s ≡ 0 → ConvertedWell s
   pub stays : (s : List ℕ) → Bytes s → WithinLayouts s → converted s ≡ s
