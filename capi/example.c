@@ -4,7 +4,7 @@
  *
  * prints
  *
- *     accepted: class 1, span 3, after 22 trials; pick of the anchor 1
+ *     accepted: class 1, span 3, after 23 trials; pick of the anchor 1
  *     on the sheet: 0:03; 7:05 is 425 minutes
  */
 #include <stdio.h>

@@ -21,10 +21,12 @@
  * neither blank nor within 20,160 of 0; 7 the answer buffer is shorter than 206 bytes a question; 8 the answer has fewer
  * than 14 bytes; 9 its length field is not its size - 4; 10 its kind is not 2 or its class not 1 to 3; 11 its n is not the
  * problem's, or its size does not fit its class; 12 its span or a stamp is outside the form of its class; 13 a pick is above
- * its highest value; 14 not certified; 15 the count of questions is 0 or above 8; 18 (hours and minutes) the text is not of
+ * its highest value; 14 not certified; 15 the count of questions is 0 or above 8; 17 a rule, not the question, has an
+ * all-blank left list (span_convert drops such rules); 18 (hours and minutes) the text is not of
  * this form, a value is beyond 6,000,000 of 0, or the writer's buffer is shorter than 10 bytes; 19 a week list or a minute to
  * be looked up is not of its form (span_first_open). The first that applies is returned, in this order, but 15 is looked at
- * after 4 and before 5; a record of kind 3 that ends before its count gets 5. A refusal writes nothing.
+ * after 4 and before 5, and 17 after 6 and before 7; a record of kind 3 that ends before its count gets 5. A refusal writes
+ * nothing.
  */
 #ifndef SPAN_H
 #define SPAN_H
@@ -50,6 +52,7 @@ extern "C" {
 #define SPAN_NONE 3
 #define SPAN_NOT_CERTIFIED 14
 #define SPAN_WRONG_COUNT 15       /* span_solve only: the count of questions is 0 or above SPAN_QUESTIONS */
+#define SPAN_SILENT_RULE 17       /* span_solve, span_check only: a rule has an all-blank left list */
 #define SPAN_NO_TEXT 18           /* span_hours_read, span_hours_write only */
 #define SPAN_TOO_FEW_PLACES 255   /* span_read, span_marks_differ only */
 
@@ -61,12 +64,12 @@ extern "C" {
 /* Answers a problem of kind 1 or 3: writes the answer record of its question, or of each of its questions one after another,
  * at the start of `answers`. Each record starts where the one before ended, which span_record_end tells, and is the answer to
  * the problem of kind 1 with that question alone. The bytes after the last stay. Lend SPAN_ANSWER_SIZE bytes a question.
- * Result: 256 * trials + refusal. Answered: refusal 0, trials 1 to 24 a question, summed. Refused: 1 to 7 or 15, trials 0. */
+ * Result: 256 * trials + refusal. Answered: refusal 0, trials 1 to 24 a question, summed. Refused: 1 to 7, 15 or 17, trials 0. */
 uint64_t span_solve(const uint8_t *problem, size_t problem_size, uint8_t *answers, size_t answers_size);
 
 /* Judges an answer to a problem of kind 1.
  * Result: accepted: 256 * class + 4294967296 * the span's offset number (0 where blank), so the low byte is 0;
- * else the refusal, 1 to 6 or 8 to 14, where 14 is 'not certified'. */
+ * else the refusal, 1 to 6, 8 to 14 or 17, where 14 is 'not certified'. */
 uint64_t span_check(const uint8_t *problem, size_t problem_size, const uint8_t *answer, size_t answer_size);
 
 /* Reads an answer record for a problem of n and m. Lend at least 32 stamps and 64 picks.
@@ -84,6 +87,14 @@ uint64_t span_read(const uint8_t *record, size_t record_size, uint64_t n, uint64
 uint64_t span_write(uint64_t class_number, uint64_t span, const uint64_t *stamps, size_t stamps_count,
                     const uint64_t *picks, size_t picks_count, uint64_t n, uint64_t m,
                     uint8_t *buffer, size_t buffer_size);
+
+/* Converts a stored problem of kind 1 or 3: writes it at the start of `buffer` without the rules whose left list is all blank, and
+ * with the numbers closed up. Kind, n, the other rows and their order stay; a question may have a blank first list. The class and
+ * the least span of each question are the same before and after. The bytes after the record stay. Lend as many bytes as the
+ * stored record has, SPAN_QUESTIONS_SIZE at most.
+ * Result: converted: 256 * the record's size. Else the refusal: 1 to 6 or 15 as span_solve gives them, then 7 where the buffer is
+ * shorter than the record to be written. */
+uint64_t span_convert(const uint8_t *stored, size_t stored_size, uint8_t *buffer, size_t buffer_size);
 
 /* Reads a span or stamp in hours and minutes: an optional minus, hours without leading zeros, a colon, two digits of minutes
  * below 60, as in 7:05, -0:05 or 0:00; two hyphens are blank. There is one text for each value within 6,000,000 of 0, and for
@@ -127,7 +138,7 @@ static inline size_t span_record_end(const uint8_t *records, size_t at) {
 static inline unsigned span_refusal(uint64_t result) { return (unsigned)(result & 255); }
 static inline unsigned span_trials(uint64_t result) { return (unsigned)(result >> 8); }           /* span_solve */
 static inline unsigned span_class(uint64_t result) { return (unsigned)((result >> 8) & 255); }    /* span_check, span_read */
-static inline size_t span_size(uint64_t result) { return (size_t)(result >> 8); }                 /* span_write, span_hours_write */
+static inline size_t span_size(uint64_t result) { return (size_t)(result >> 8); }                 /* span_write, span_convert, span_hours_write */
 static inline int span_blank(uint64_t result) { return (result >> 32) == 0; }                     /* span_hours_read, where the low byte is 0 */
 static inline int32_t span_minutes(uint64_t result) {                            /* class 1; span_first_open; span_hours_read, where not blank */
     return (int32_t)((int64_t)(result >> 32) - 2147483648LL);

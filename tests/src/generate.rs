@@ -26,9 +26,18 @@ fn row(random: &mut Random, shape: Shape) -> Row {
     Row { left: list(random, shape), right: list(random, shape) }
 }
 
-/// Leads drawn one by one.
+/// A row that says something: where all its left leads were drawn blank, one is set.
+fn rule(random: &mut Random, shape: Shape) -> Row {
+    let mut rule = row(random, shape);
+    if rule.says_nothing() {
+        rule.left[random.below(shape.n + 1)] = Some(random.within(-shape.w, shape.w));
+    }
+    rule
+}
+
+/// Leads drawn one by one; every rule says something.
 pub fn free(random: &mut Random, shape: Shape) -> Problem {
-    let rules = (0..shape.m).map(|_| row(random, shape)).collect();
+    let rules = (0..shape.m).map(|_| rule(random, shape)).collect();
     Problem { rules, question: row(random, shape) }
 }
 

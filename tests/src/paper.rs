@@ -1,4 +1,4 @@
-//! Document 01, and 2.1 of document 02, in Rust, as plainly as it can be said: problems, plans, spans, records, refusals, trials.
+//! Document 01, and 2.1 and 2.6 of document 02, in Rust, as plainly as it can be said: problems, plans, spans, records, refusals, trials.
 
 /// A lead, stamp or whole minute; `None` is blank.
 pub type Minute = Option<i64>;
@@ -7,6 +7,13 @@ pub type Minute = Option<i64>;
 pub struct Row {
     pub left: Vec<Minute>,
     pub right: Vec<Minute>,
+}
+
+impl Row {
+    /// As a rule it says nothing: its left list is all blank (document 02, 2.6).
+    pub fn says_nothing(&self) -> bool {
+        self.left.iter().all(|lead| lead.is_none())
+    }
 }
 
 /// Rules 1 to m, then the question. Each list has n + 1 leads.
@@ -159,14 +166,39 @@ fn within(minute: Minute, limit: i64) -> bool {
     minute.is_none_or(|value| -limit <= value && value <= limit)
 }
 
-/// Refusals 1 to 6 of the checker, which takes kind 1 alone; else the problem.
+/// Refusals 1 to 6 and 17 of the checker, which takes kind 1 alone; else the problem.
 pub fn read_problem(bytes: &[u8]) -> Result<Problem, u64> {
-    read_rows(bytes, &[1]).map(|all| all.alone(0))
+    speaking(read_rows(bytes, &[1])?).map(|all| all.alone(0))
 }
 
-/// Refusals 1 to 6 and 15 of the engine, which takes kinds 1 and 3; else the rules and the questions.
+/// Refusals 1 to 6, 15 and 17 of the engine, which takes kinds 1 and 3; else the rules and the questions.
 pub fn read_questions(bytes: &[u8]) -> Result<Questions, u64> {
-    read_rows(bytes, &[1, 3])
+    speaking(read_rows(bytes, &[1, 3])?)
+}
+
+/// Refusal 17: a rule has an all-blank left list.
+fn speaking(all: Questions) -> Result<Questions, u64> {
+    if all.rules.iter().any(Row::says_nothing) {
+        Err(17)
+    } else {
+        Ok(all)
+    }
+}
+
+/// The converter (document 02, 2.6): 1 to 6 and 15 as the engine gives them, then 7 where the buffer is shorter than the record to
+/// be written; else the record without the rules that say nothing. No bytes are no idle day here: they get 1 (2.9).
+pub fn converted(bytes: &[u8], buffer: usize) -> Result<Vec<u8>, u64> {
+    if bytes.is_empty() {
+        return Err(1);
+    }
+    let mut all = read_rows(bytes, &[1, 3])?;
+    all.rules.retain(|rule| !rule.says_nothing());
+    let record = if number(&bytes[4..6]) == 1 { all.alone(0).bytes() } else { all.bytes() };
+    if buffer < record.len() {
+        Err(7)
+    } else {
+        Ok(record)
+    }
 }
 
 fn read_rows(bytes: &[u8], kinds: &[u64]) -> Result<Questions, u64> {

@@ -1,5 +1,5 @@
-//! The two programs, run on standard input. SPAN_PROGRAM and VERDICT_PROGRAM name them; else they are
-//! target/bin/span and target/bin/verdict of the repository. On the stand-in this test program acts as both. Places are
+//! The programs, run on standard input. SPAN_PROGRAM, VERDICT_PROGRAM and CONVERT_PROGRAM name them; else they are
+//! target/bin/span, target/bin/verdict and target/bin/convert of the repository. On the stand-in this test program acts as each. Places are
 //! looked up when it runs: a copied tree is tried with its own programs.
 
 use std::io::{Read, Write};
@@ -11,7 +11,7 @@ pub fn repository() -> PathBuf {
     std::env::var_os("CARGO_MANIFEST_DIR").map_or_else(|| ".".into(), |package| PathBuf::from(package).join(".."))
 }
 
-/// The command of a program: its name is `span` or `verdict`.
+/// The command of a program: its name is `span`, `verdict` or `convert`.
 fn command(name: &str, variable: &str) -> Command {
     if let Some(path) = std::env::var_os(variable) {
         return Command::new(path);
@@ -74,17 +74,23 @@ pub fn verdict(input: &[u8]) -> Result<Vec<u8>, String> {
     run(command("verdict", "VERDICT_PROGRAM"), input)
 }
 
+pub fn convert(input: &[u8]) -> Result<Vec<u8>, String> {
+    run(command("convert", "CONVERT_PROGRAM"), input)
+}
+
 /// Acts as one of the programs where the words say so and the stand-in is built in; true where it did.
 #[cfg(feature = "stand-in")]
 pub fn acted_as_a_program(words: &[String]) -> bool {
     let name = words.first().map_or("", |word| word.as_str());
-    if name != "act-as-span" && name != "act-as-verdict" {
-        return false;
-    }
+    let program: fn(&[u8]) -> Vec<u8> = match name {
+        "act-as-span" => unproved::programs::span,
+        "act-as-verdict" => unproved::programs::verdict,
+        "act-as-convert" => unproved::programs::convert,
+        _ => return false,
+    };
     let mut input = Vec::new();
     std::io::stdin().read_to_end(&mut input).expect("standard input");
-    let output =
-        if name == "act-as-span" { unproved::programs::span(&input) } else { unproved::programs::verdict(&input) };
+    let output = program(&input);
     let mut pipe = std::io::stdout();
     pipe.write_all(&output).and_then(|()| pipe.flush()).expect("standard output");
     true

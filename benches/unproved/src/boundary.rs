@@ -2,6 +2,7 @@
 //! tests/ is over them.
 
 use crate::checker;
+use crate::converter;
 use crate::engine::solve_all;
 use crate::hours;
 use crate::record::{self, Answer, BLANK, BUFFER};
@@ -18,6 +19,14 @@ fn class_and_span(class: u16, span: i32) -> u64 {
 pub fn solve(problem: &[u8], answers: &mut [u8]) -> u64 {
     match solve_all(problem, answers) {
         Ok(all) => all.iter().map(|answered| 256 * answered.trials as u64).sum(),
+        Err(number) => number as u64,
+    }
+}
+
+/// The refusal, or 256 × the size of the converted record.
+pub fn convert(stored: &[u8], buffer: &mut [u8]) -> u64 {
+    match converter::convert(stored, buffer) {
+        Ok(size) => 256 * size as u64,
         Err(number) => number as u64,
     }
 }

@@ -24,7 +24,7 @@ const HEAVIEST: i32 = (VARIABLES as i32 - 1) * (SCALE * (2 * LARGEST + TOP) + 1)
 /// The weight of an arc that is not there: below zero also with the longest walk added.
 const NO_ARC: i32 = -2_000_000_000;
 
-/// Judges an answer; refusals 1 to 6 and 8 to 14.
+/// Judges an answer; refusals 1 to 6, 8 to 14 and 17.
 pub fn check(problem: &[u8], answer: &[u8]) -> Result<Accepted, u8> {
     let mut table = Problem::new();
     record::read(record::meant(problem), &mut table)?;

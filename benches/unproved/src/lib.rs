@@ -12,6 +12,7 @@
 
 pub mod boundary;
 pub mod checker;
+pub mod converter;
 mod dense;
 mod engine;
 mod hours;

@@ -1,6 +1,7 @@
-//! What the span and the verdict program write for an input, without proofs.
+//! What the span, the verdict and the convert program write for an input, without proofs.
 
 use crate::checker;
+use crate::converter;
 use crate::engine::solve_all;
 use crate::record::BUFFER;
 use crate::QUESTIONS;
@@ -10,6 +11,15 @@ pub fn span(input: &[u8]) -> Vec<u8> {
     let mut buffer = [0; BUFFER * QUESTIONS];
     match solve_all(input, &mut buffer) {
         Ok(all) => buffer[..all.iter().map(|answered| answered.size).sum()].to_vec(),
+        Err(number) => format!("refused {number}\n").into_bytes(),
+    }
+}
+
+/// The converted record, or a line with the refusal.
+pub fn convert(input: &[u8]) -> Vec<u8> {
+    let mut buffer = vec![0; input.len()];
+    match converter::convert(input, &mut buffer) {
+        Ok(size) => buffer[..size].to_vec(),
         Err(number) => format!("refused {number}\n").into_bytes(),
     }
 }

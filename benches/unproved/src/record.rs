@@ -18,25 +18,25 @@ pub struct Problem {
     pub right: [i32; ROWS * VARIABLES],
 }
 
-fn two(bytes: &[u8], at: usize) -> usize {
+pub(crate) fn two(bytes: &[u8], at: usize) -> usize {
     u16::from_le_bytes([bytes[at], bytes[at + 1]]) as usize
 }
 
-fn four(bytes: &[u8], at: usize) -> i32 {
+pub(crate) fn four(bytes: &[u8], at: usize) -> i32 {
     i32::from_le_bytes([bytes[at], bytes[at + 1], bytes[at + 2], bytes[at + 3]])
 }
 
 /// Where the parts of a problem stand: rules, then questions, from a place on.
 #[derive(Clone, Copy)]
 pub struct Layout {
-    variables: usize,
-    rules: usize,
+    pub(crate) variables: usize,
+    pub(crate) rules: usize,
     pub questions: usize,
-    coefficients: usize,
+    pub(crate) coefficients: usize,
 }
 
 /// Refusals 1 to 5 and 15, which the header decides; else the layout. Kind 3 is known where several questions are taken.
-fn header(bytes: &[u8], several: bool) -> Result<Layout, u8> {
+pub(crate) fn header(bytes: &[u8], several: bool) -> Result<Layout, u8> {
     if bytes.len() < 10 {
         return Err(1);
     }
@@ -118,17 +118,18 @@ pub fn meant(bytes: &[u8]) -> &[u8] {
     }
 }
 
-/// Reads a problem of kind 1 into room that is blank; refusals 1 to 6.
+/// Reads a problem of kind 1 into room that is blank; refusals 1 to 6 and 17.
 pub fn read(bytes: &[u8], problem: &mut Problem) -> Result<(), u8> {
     fill(bytes, header(bytes, false)?, problem).map(|_| ())
 }
 
-/// Reads the rules of a problem of kind 1 or 3 into room that is blank, and judges the questions; refusals 1 to 6 and 15.
+/// Reads the rules of a problem of kind 1 or 3 into room that is blank, and judges the questions; refusals 1 to 6, 15
+/// and 17.
 pub fn read_rules(bytes: &[u8], problem: &mut Problem) -> Result<Layout, u8> {
     fill(bytes, header(bytes, true)?, problem)
 }
 
-/// The rules go to their rows, and each question in turn to the objective's; refusal 6.
+/// The rules go to their rows, and each question in turn to the objective's; refusals 6 and 17.
 fn fill(bytes: &[u8], layout: Layout, problem: &mut Problem) -> Result<Layout, u8> {
     problem.variables = layout.variables;
     problem.rows = layout.rules + 1;
@@ -136,11 +137,14 @@ fn fill(bytes: &[u8], layout: Layout, problem: &mut Problem) -> Result<Layout, u
     for (row, part) in bytes[layout.coefficients..].chunks_exact(8 * layout.variables).enumerate() {
         good &= layout.copy(part, row.min(layout.rules), problem);
     }
-    if good {
-        Ok(layout)
-    } else {
-        Err(6)
+    if !good {
+        return Err(6);
     }
+    let silent = |row: usize| problem.left[row * VARIABLES..][..layout.variables].iter().all(|&left| left == BLANK);
+    if (0..layout.rules).any(silent) {
+        return Err(17);
+    }
+    Ok(layout)
 }
 
 /// The fields of an answer of class 1 to 3. Only the first places are used: as many as the class has.

@@ -34,6 +34,7 @@ mod archive {
             buffer: *mut u8,
             buffer_size: usize,
         ) -> u64;
+        pub fn span_convert(stored: *const u8, stored_size: usize, buffer: *mut u8, buffer_size: usize) -> u64;
         pub fn span_first_open(week: *const u64, week_count: usize, minute: u64) -> u64;
         pub fn span_hours_read(text: *const u8, text_size: usize) -> u64;
         pub fn span_hours_write(value: u64, buffer: *mut u8, buffer_size: usize) -> u64;
@@ -94,6 +95,12 @@ pub fn write(class: u64, span: u64, stamps: &[u64], picks: &[u64], n: u64, m: u6
             buffer.len(),
         )
     }
+}
+
+/// Converts a stored problem: the refusal, or 256 × the size of the record written.
+pub fn convert(stored: &[u8], buffer: &mut [u8]) -> u64 {
+    // SAFETY: both parts are valid for their lengths, and a `&mut` overlaps nothing.
+    unsafe { archive::span_convert(stored.as_ptr(), stored.len(), buffer.as_mut_ptr(), buffer.len()) }
 }
 
 /// The first open minute of a week list: the refusal, 0 for never, or 2³² × the minute's offset number.

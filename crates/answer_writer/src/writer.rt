@@ -135,8 +135,8 @@ fn judge_writing(
     judge_fields(class, span, stamps, picks, n, m)
 }
 
-// A number of 2 bytes put at a place.
-fn put_short(buffer: &mut [u8], at: usize, x: u64)
+// A number of 2 bytes put at a place. Public for `converter::convert`, as is the next.
+pub fn put_short(buffer: &mut [u8], at: usize, x: u64)
     requires { ⌜ at + short-bytes ≤ length (now buffer) ⌝ }
     ensures { λ _. ⌜ now (buffer .exit) ≡ put (now (buffer .entry)) at (le short-bytes x) ⌝ }
 {
@@ -147,7 +147,7 @@ fn put_short(buffer: &mut [u8], at: usize, x: u64)
 }
 
 // A number of 4 bytes put at a place.
-fn put_word(buffer: &mut [u8], at: usize, x: u64)
+pub fn put_word(buffer: &mut [u8], at: usize, x: u64)
     requires { ⌜ at + signed-bytes ≤ length (now buffer) ⌝ }
     ensures { λ _. ⌜ now (buffer .exit) ≡ put (now (buffer .entry)) at (le signed-bytes x) ⌝ }
 {

@@ -3,3 +3,4 @@ pub mod Lent
 pub mod FirstOpen
 pub mod Hours
 pub mod Compared
+pub mod Converting

@@ -2,3 +2,4 @@ pub mod Numbers
 pub mod Opening
 pub mod HoursNumbers
 pub mod Marks
+pub mod Converted

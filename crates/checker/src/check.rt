@@ -1,4 +1,4 @@
-// The verdict on bytes: refusals 1 to 6 and 8 to 13 first, in order; then what document 01 lists for the answer's class.
+// The verdict on bytes: refusals 1 to 6, 17 and 8 to 13 first, in order; then what document 01 lists for the answer's class.
 ghost use mathlib.Core.Path.{_≡_};
 ghost use Prim.Native.Nat.{ℕ, suc, _+_, _≤_, _<_};
 ghost use lib.IntN.{ℤ};

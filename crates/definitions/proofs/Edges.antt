@@ -7,13 +7,14 @@ use mathlib.Core.List.{List, [], _∷_, map}
 use lib.IntN.{ℤ, pos, negsuc}
 use Rattle.definitions.specs.Limits.{kept-bytes, top-trial, lowest-trial, problem-most, answer-most}
 use Rattle.definitions.specs.Tropical.{Trop, bot, fin}
-use Rattle.definitions.specs.Bytes.{numAt, numsAt, le, signed, tropField, tropAt, all, blank-or-within, whole-within}
+use Rattle.definitions.specs.Bytes.{numAt, numsAt, le, signed, tropField, tropAt, all, some-below, blank-or-within, whole-within}
 use Rattle.definitions.specs.ProblemRecord.{headerRefusal, headerJudged, problemRefusal, leadsOf, refusalFor, headerBytes}
 use Rattle.definitions.specs.Questions.{alone}
 use Rattle.definitions.specs.Bisection.{trials-infeasible, trials-unbounded}
 use Rattle.definitions.specs.Verdict.{Verdict, accepted, refused, checkRefusal}
 use Rattle.definitions.specs.Solved.{engineRefusal}
 use Rattle.definitions.specs.Programs.{verdictLine, classWords, refusedLine, decimal, digits, wholeDecimal, spanDecimal, text-refused, text-not-certified, text-accepted, text-least, text-bottomless, text-none}
+use Rattle.definitions.specs.Conversion.{convertRefusal, storedRefusal}
 use Rattle.definitions.specs.Examples.{example-A}
 use Rattle.definitions.specs.AnswerRecord.{Answer, stampCount, pickCount, highestPick, answerHeaderRefusal, answerHeaderJudged, answerRefusal, answerOf, writerRefusal, writerJudged, rightCounts, formRefusal, spanFits, stampsFit, picksFit, is-zero, is-blank}
 
@@ -50,10 +51,18 @@ problems =
     record { number = 6; bytes = (14 ∷ 0 ∷ 0 ∷ 0 ∷ 1 ∷ 0 ∷ 0 ∷ 0 ∷ 0 ∷ 0 ∷ 5 ∷ 0 ∷ 0 ∷ 0 ∷ 63 ∷ 177 ∷ 255 ∷ 255 ∷ []) } ∷
     -- leads ±20,160
     record { number = 0; bytes = (14 ∷ 0 ∷ 0 ∷ 0 ∷ 1 ∷ 0 ∷ 0 ∷ 0 ∷ 0 ∷ 0 ∷ 192 ∷ 78 ∷ 0 ∷ 0 ∷ 64 ∷ 177 ∷ 255 ∷ 255 ∷ []) } ∷
+    -- a rule with a blank left list
+    record { number = 17; bytes = (22 ∷ 0 ∷ 0 ∷ 0 ∷ 1 ∷ 0 ∷ 0 ∷ 0 ∷ 1 ∷ 0 ∷ 0 ∷ 0 ∷ 0 ∷ 128 ∷ 2 ∷ 0 ∷ 0 ∷ 0 ∷ 5 ∷ 0 ∷ 0 ∷ 0 ∷ 2 ∷ 0 ∷ 0 ∷ 0 ∷ []) } ∷
+    -- such a rule, and a lead of the question wrong
+    record { number = 6; bytes = (22 ∷ 0 ∷ 0 ∷ 0 ∷ 1 ∷ 0 ∷ 0 ∷ 0 ∷ 1 ∷ 0 ∷ 0 ∷ 0 ∷ 0 ∷ 128 ∷ 2 ∷ 0 ∷ 0 ∷ 0 ∷ 193 ∷ 78 ∷ 0 ∷ 0 ∷ 2 ∷ 0 ∷ 0 ∷ 0 ∷ []) } ∷
+    -- blank are the rule's right list and the question's first
+    record { number = 0; bytes = (22 ∷ 0 ∷ 0 ∷ 0 ∷ 1 ∷ 0 ∷ 0 ∷ 0 ∷ 1 ∷ 0 ∷ 2 ∷ 0 ∷ 0 ∷ 0 ∷ 0 ∷ 0 ∷ 0 ∷ 128 ∷ 0 ∷ 0 ∷ 0 ∷ 128 ∷ 2 ∷ 0 ∷ 0 ∷ 0 ∷ []) } ∷
+    -- one left lead of two is blank in rule 1, both in rule 2
+    record { number = 17; bytes = (54 ∷ 0 ∷ 0 ∷ 0 ∷ 1 ∷ 0 ∷ 1 ∷ 0 ∷ 2 ∷ 0 ∷ 0 ∷ 0 ∷ 0 ∷ 128 ∷ 5 ∷ 0 ∷ 0 ∷ 0 ∷ 0 ∷ 0 ∷ 0 ∷ 128 ∷ 0 ∷ 0 ∷ 0 ∷ 128 ∷ 0 ∷ 0 ∷ 0 ∷ 128 ∷ 0 ∷ 0 ∷ 0 ∷ 128 ∷ 3 ∷ 0 ∷ 0 ∷ 0 ∷ 0 ∷ 0 ∷ 0 ∷ 128 ∷ 0 ∷ 0 ∷ 0 ∷ 0 ∷ 0 ∷ 0 ∷ 0 ∷ 0 ∷ 0 ∷ 0 ∷ 0 ∷ 0 ∷ 0 ∷ 0 ∷ 0 ∷ 0 ∷ []) } ∷
     []
 
 problems-refused : map (λ d. problemRefusal (d .bytes)) problems ≡ map (λ d. d .number) problems
-unfolding problems refusalFor headerRefusal headerJudged leadsOf numAt numsAt all blank-or-within tropField signed
+unfolding problems refusalFor headerRefusal headerJudged leadsOf numAt numsAt all some-below blank-or-within tropField signed
 problems-refused = refl
 
 -- A problem's first bytes, its size, and the refusal of its header.
@@ -194,7 +203,7 @@ check-order = refl
 
 -- A's problem with a buffer of 205 bytes, and with one of 206.
 engine-room : map (engineRefusal (example-A .problem)) (205 ∷ 206 ∷ []) ≡ 7 ∷ 0 ∷ []
-unfolding engineRefusal refusalFor headerRefusal headerJudged leadsOf numAt numsAt all blank-or-within tropField signed example-A
+unfolding engineRefusal refusalFor headerRefusal headerJudged leadsOf numAt numsAt all some-below blank-or-within tropField signed example-A
 engine-room = refl
 
 -- Two questions over no rules, 5 − 2 and 7 − 4, with buffers of 206, 411 and 412 bytes.
@@ -203,7 +212,7 @@ two-questions =
     24 ∷ 0 ∷ 0 ∷ 0 ∷ 3 ∷ 0 ∷ 0 ∷ 0 ∷ 0 ∷ 0 ∷ 2 ∷ 0 ∷ 5 ∷ 0 ∷ 0 ∷ 0 ∷ 2 ∷ 0 ∷ 0 ∷ 0 ∷ 7 ∷ 0 ∷ 0 ∷ 0 ∷ 4 ∷ 0 ∷ 0 ∷ 0 ∷ []
 
 questions-room : map (engineRefusal two-questions) (206 ∷ 411 ∷ 412 ∷ []) ≡ 7 ∷ 7 ∷ 0 ∷ []
-unfolding engineRefusal refusalFor headerRefusal headerJudged leadsOf numAt numsAt all blank-or-within tropField signed two-questions
+unfolding engineRefusal refusalFor headerRefusal headerJudged leadsOf numAt numsAt all some-below blank-or-within tropField signed two-questions
 questions-room = refl
 
 -- Each of them alone, as a problem of kind 1.
@@ -212,6 +221,11 @@ questions-alone : map (alone two-questions) (0 ∷ 1 ∷ [])
     ∷ (14 ∷ 0 ∷ 0 ∷ 0 ∷ 1 ∷ 0 ∷ 0 ∷ 0 ∷ 0 ∷ 0 ∷ 7 ∷ 0 ∷ 0 ∷ 0 ∷ 4 ∷ 0 ∷ 0 ∷ 0 ∷ []) ∷ []
 unfolding alone headerBytes numAt le two-questions
 questions-alone = refl
+
+-- The converter does not take no bytes for the idle day.
+no-bytes-converted : convertRefusal [] 0 ≡ 1
+unfolding convertRefusal storedRefusal headerRefusal headerJudged numAt
+no-bytes-converted = refl
 
 -- ---- lines
 

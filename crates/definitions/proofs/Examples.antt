@@ -13,7 +13,7 @@ use Rattle.definitions.specs.Tropical.{Trop, bot, fin, blank-least, whol
 use Rattle.definitions.specs.Problem.{Problem, Point, Keeps, Feasible, value, side, minus, minus-infinity, plus-infinity}
 use Rattle.definitions.specs.Problem as Problems
 use Rattle.definitions.specs.Certificate.{Strategy, Arc, ArcBy, Walk, step, stop, Uses, Distinct, Cycle, Reachable, start, onward, Anchor, Leads, HasPick, BelowZero, AcceptedInfeasible, raise}
-use Rattle.definitions.specs.Bytes.{numAt, numsAt, le, fields, signed, tropField, fieldOf, tropAt, all, blank-or-within, whole-within}
+use Rattle.definitions.specs.Bytes.{numAt, numsAt, le, fields, signed, tropField, fieldOf, tropAt, all, some-below, blank-or-within, whole-within}
 use Rattle.definitions.specs.ProblemRecord.{headerRefusal, headerJudged, problemRefusal, leadsOf, problemOf, problemBytes, headerBytes, rowBytes, rowsBytes, listOf, refusalFor}
 use Rattle.definitions.specs.AnswerRecord.{Answer, answerHeaderRefusal, answerHeaderJudged, answerRefusal, answerOf, formRefusal, spanFits, stampsFit, picksFit, is-zero, is-blank}
 use Rattle.definitions.specs.Verdict.{checkRefusal, Accepted, optimal, unbounded, infeasible, pointOf, strategyOf}
@@ -39,7 +39,7 @@ table = example-M ∷ examples
 
 -- No problem and no answer of the table is refused.
 pub no-refusals : map (λ e. checkRefusal (e .problem) (e .answer)) table ≡ map (λ e. 0) table
-unfolding table examples example-A example-B example-C example-D example-E example-F example-G example-H example-I example-J example-K example-M checkRefusal refusalFor headerRefusal headerJudged leadsOf numAt numsAt all blank-or-within tropField signed tropAt answerRefusal answerHeaderRefusal answerHeaderJudged answerOf formRefusal spanFits stampsFit picksFit is-zero is-blank whole-within
+unfolding table examples example-A example-B example-C example-D example-E example-F example-G example-H example-I example-J example-K example-M checkRefusal refusalFor headerRefusal headerJudged leadsOf numAt numsAt all some-below blank-or-within tropField signed tropAt answerRefusal answerHeaderRefusal answerHeaderJudged answerOf formRefusal spanFits stampsFit picksFit is-zero is-blank whole-within
 no-refusals = refl
 
 -- The bytes of every problem mean the words, and the bytes of every answer the class and span.

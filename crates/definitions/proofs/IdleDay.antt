@@ -11,7 +11,7 @@ use borrow.Author.Tests.{lt-ltb}
 use Rattle.definitions.specs.Limits.{problem-kind, questions-kind, problem-header}
 use Rattle.definitions.specs.Tropical.{fin, plus, larger, largest}
 use Rattle.definitions.specs.Problem.{Optimal, value, side, minus, between}
-use Rattle.definitions.specs.Bytes.{Bytes, numAt, numsAt, le, fields, signed, tropField, fieldOf, tropAt, all, blank-or-within}
+use Rattle.definitions.specs.Bytes.{some-below, Bytes, numAt, numsAt, le, fields, signed, tropField, fieldOf, tropAt, all, blank-or-within}
 use Rattle.definitions.specs.ProblemRecord.{WithinLayout, WithinLayouts, idle, meant, problemOf, problemBytes, headerBytes, rowBytes, rowsBytes, listOf, refusalFor, headerRefusal, headerJudged, leadsOf, kindField, nField, mField}
 use Rattle.definitions.specs.AnswerRecord.{answerRefusal, answerHeaderRefusal, answerHeaderJudged}
 use Rattle.definitions.specs.Verdict.{checkRefusal}
@@ -43,11 +43,11 @@ meant-bytes (x ∷ p) b = b
 -- ---- it is within the layout
 
 pub idle-within : WithinLayout (meant [])
-unfolding refusalFor headerRefusal headerJudged leadsOf numAt numsAt all blank-or-within tropField signed
+unfolding refusalFor headerRefusal headerJudged leadsOf numAt numsAt all blank-or-within tropField signed some-below
 idle-within = rw idle-bytes refl
 
 pub idle-within-both : WithinLayouts (meant [])
-unfolding refusalFor headerRefusal headerJudged leadsOf numAt numsAt all blank-or-within tropField signed
+unfolding refusalFor headerRefusal headerJudged leadsOf numAt numsAt all blank-or-within tropField signed some-below
 idle-within-both = rw idle-bytes refl
 
 -- ---- no bytes read as it already, since bytes past the end read as 0

@@ -8,6 +8,7 @@ pub mod Offset
 pub mod Outcomes
 pub mod Refusals
 pub mod IdleDay
+pub mod Silent
 pub mod RoundTrip
 pub mod Solved
 pub mod Bisection

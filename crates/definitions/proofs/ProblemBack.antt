@@ -1,7 +1,7 @@
 -- A problem written by `problemBytes` is within the layout and reads back as itself.
 use Prim.Native.Nat.{ℕ, zero, suc, _+_, _*_, _-_, _^_, _≤_, _<_}
 use mathlib.Core.Path.{_≡_, refl, ap, ap₂, sym, subst, _∙_}
-use mathlib.Core.Bool.{Bool, true, and-eq-true-iff, _&&_}
+use mathlib.Core.Bool.{Bool, true, false, and-eq-true-iff, _&&_}
 use mathlib.Core.List.{List, [], _∷_, _++_, map, append-assoc, append-nil, map-append}
 use mathlib.Core.Logic.{⊎-elim}
 use native.Mathlib.Omega.{arith}
@@ -13,9 +13,10 @@ use Rattle.definitions.specs.Limits.{highest-n, highest-m, lead-limit, l
 use Rattle.definitions.specs.Tropical.{Trop, bot}
 use Rattle.definitions.specs.Problem.{Problem}
 use Rattle.definitions.specs.Bytes.{numAt, numsAt, le, fields, tropField, fieldOf, tropAt, all, blank-or-within}
-use Rattle.definitions.specs.ProblemRecord.{WithinLayout, problemOf, problemSize, headerBytes, problemBytes, rowBytes, rowsBytes, leadsOf, listOf, nField, mField, lengthField, kindField, leftPlace, rightPlace}
+use Rattle.definitions.specs.ProblemRecord.{WithinLayout, problemOf, problemSize, headerBytes, problemBytes, rowBytes, rowsBytes, leadsOf, listOf, nField, mField, lengthField, kindField, leadsPlace, rowPlace, blank-left, leftPlace, rightPlace, silentRefused}
 use Rattle.definitions.proofs.Bytes.{length-le, length-fields, fields-append, nums-fields, Below, getD-numsAt, all-true}
 use Rattle.definitions.proofs.Refusals.{problem-fits, leads-one}
+use Rattle.definitions.proofs.Silent.{none-below, run-speaks}
 use Rattle.definitions.proofs.RoundTrip.{trops-back, trops-below, num-here, num-past}
 
 -- ---- a function as a list
@@ -39,6 +40,12 @@ listed-at f d (suc k) i h = ⊎-elim
 pub record SmallLeads (p : Problem) : Type 0 where
   pub left : (i j : ℕ) → i ≤ p .m → j ≤ p .n → blank-or-within lead-limit (p .left i j) ≡ true
   pub right : (i j : ℕ) → i ≤ p .m → j ≤ p .n → blank-or-within lead-limit (p .right i j) ≡ true
+
+-- Every rule has a left lead that is not blank.
+pub record RulesSpeak (p : Problem) : Type 0 where
+  pub column : ℕ → ℕ
+  pub inside : (i : ℕ) → i < p .m → column i ≤ p .n
+  pub given : (i : ℕ) → i < p .m → p .left i (column i) ≡ bot → ⊥
 
 all-append : (test : Trop → Bool) (xs ys : List Trop) → all test xs ≡ true → all test ys ≡ true → all test (xs ++ ys) ≡ true
 unfolding all
@@ -219,10 +226,23 @@ module _ (p : Problem) (n-most : p .n ≤ highest-n) (m-most : p .m ≤ highest-
   size-is : length (problemBytes p) ≡ problemSize (p .n) (p .m)
   size-is = rw record-is (length-whole (p .n) (p .m) fields-of ∙ rw many (omega arith))
 
--- A problem within the limits, written, reads back as itself.
-pub problem-back : (p : Problem) → p .n ≤ highest-n → p .m ≤ highest-m → SmallLeads p → ReadsAsItself p
+-- No rule of the record says nothing.
+rules-back : (p : Problem) (n-most : p .n ≤ highest-n) (m-most : p .m ≤ highest-m) (l : SmallLeads p) → RulesSpeak p → silentRefused (problemBytes p) ≡ false
+rules-back p n-most m-most l speak =
+    let back = read-back p n-most m-most l in
+    let start : leadsPlace (kindField (problemBytes p)) ≡ problem-header = rw (kind-back p n-most m-most l) refl in
+    none-below (blank-left (problemBytes p)) (mField (problemBytes p)) .1 (λ i b.
+    let h : i < p .m = rw (back .1) at b in
+    rw (start, back .0) (run-speaks (problemBytes p) (suc (p .n)) (rowPlace problem-header (p .n) i) (speak .column i) (omega (arith, speak .inside i h)) (λ e.
+    let place : rowPlace problem-header (p .n) i + signed-bytes * speak .column i ≡ problem-header + signed-bytes * (2 * (i * suc (p .n)) + speak .column i) = omega arith in
+    speak .given i h
+    (sym (row-left p (tropField 0) i (speak .column i) (speak .inside i h)) ∙ sym (lead-is p n-most m-most l i (speak .column i) (omega arith) (omega (arith, speak .inside i h)))
+    ∙ rw place at e))))
+
+-- A problem within the limits whose rules all say something, written, reads back as itself.
+pub problem-back : (p : Problem) → p .n ≤ highest-n → p .m ≤ highest-m → SmallLeads p → RulesSpeak p → ReadsAsItself p
 unfolding problemOf whole
-problem-back p n-most m-most l =
+problem-back p n-most m-most l speak =
     let back = read-back p n-most m-most l in
     let size = size-is p n-most m-most l in
     let most = size-most p n-most m-most l in
@@ -238,6 +258,7 @@ problem-back p n-most m-most l =
         m-most = omega (arith, back .1);
         size-is = rw (back .0, back .1) size;
         leads-fit = rw (leads-back p n-most m-most l) (fit p n-most m-most l);
+        rules-speak = rules-back p n-most m-most l speak;
       });
       n-is = back .0;
       m-is = back .1;

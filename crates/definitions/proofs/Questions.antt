@@ -12,11 +12,12 @@ use lib.Seq.{getD-append-add, getD-take, getD-drop, length-take-le}
 use Rattle.definitions.specs.Limits.{highest-n, highest-m, lead-limit, length-bytes, short-bytes, signed-bytes, signed-full, problem-kind, questions-kind, most-questions, problem-header, questions-header}
 use Rattle.definitions.specs.Tropical.{Trop}
 use Rattle.definitions.specs.Bytes.{Bytes, numAt, tropField, tropAt, all, blank-or-within}
-use Rattle.definitions.specs.ProblemRecord.{nField, mField, lengthField, kindField, countField, problemSize, leadsOf, leadsPlace, questionsAsked, headerRefusal, WithinLayout, WithinLayouts, rowPlace, headerBytes}
+use Rattle.definitions.specs.ProblemRecord.{nField, mField, lengthField, kindField, countField, problemSize, leadsOf, leadsPlace, questionsAsked, headerRefusal, WithinLayout, WithinLayouts, rowPlace, headerBytes, blank-left, silentRefused}
 use Rattle.definitions.specs.Questions.{part, rowsSize, alone, asking, askedRow}
 use Rattle.base.proofs.Numbers.{nat-le-or-lt}
 use Rattle.definitions.proofs.Bytes.{numAt-same, all-numsAt, bytes-append, bytes-le, bytes-take, bytes-drop}
 use Rattle.definitions.proofs.Refusals.{header-passes, few-questions, record-fits, problem-fits, leads-one}
+use Rattle.definitions.proofs.Silent.{some-same, run-same}
 use Rattle.definitions.proofs.ProblemBack.{length-header, read-length, read-kind, read-n, read-m}
 
 -- ---- parts of a string
@@ -233,6 +234,20 @@ module _ (fits : Trop → Bool) (s : List ℕ) (v : Several s) where
           rw e (rw (question-lead s (v .asks) (c .turns) (c .few) (c .rest) (c .small))
           at (alone-leads fits s v (c .turns) (c .few) .0 (w (c .turns) (c .few)) (2 * (mField s * suc (nField s)) + c .rest) (omega (arith, c .small))))
 
+-- A rule of one question's record says nothing exactly when it does in the record of all.
+pub alone-blank : (s : List ℕ) (v : Several s) (q : ℕ) → q < countField s → (i : ℕ) → i < mField s → blank-left (alone s q) i ≡ blank-left s i
+alone-blank s v q h i g =
+    let from : leadsPlace (kindField (alone s q)) ≡ problem-header = rw (alone-kind s (v .asks) q h) refl in
+    let to : leadsPlace (kindField s) ≡ questions-header = rw (v .kind-is) refl in
+    let asked : askedRow (mField s) q i ≡ i = rw (ne-eqb i (mField s) (λ e. omega arith)) in
+    rw (from, to, alone-n s (v .asks) q h)
+    (run-same (alone s q) s (suc (nField s)) (rowPlace problem-header (nField s) i) (rowPlace questions-header (nField s) i) (λ j l.
+    rw asked at (alone-lead s (v .asks) q h i (signed-bytes * j) (omega arith) (omega arith))))
+
+-- So 17 applies to both or to neither.
+pub alone-silent : (s : List ℕ) (v : Several s) (q : ℕ) → q < countField s → silentRefused (alone s q) ≡ silentRefused s
+alone-silent s v q h = rw (alone-m s (v .asks) q h) (some-same (blank-left (alone s q)) (blank-left s) (mField s) (alone-blank s v q h))
+
 -- A question's record is within the layout if the record is.
 pub alone-within : (s : List ℕ) → kindField s ≡ questions-kind → WithinLayouts s → (q : ℕ) → q < countField s → WithinLayout (alone s q)
 alone-within s k w q h =
@@ -249,6 +264,7 @@ alone-within s k w q h =
       m-most = rw m-is (r .header .m-most);
       size-is = rw (n-is, m-is) size;
       leads-fit = leads-alone (blank-or-within lead-limit) s v (r .leads-fit) q h;
+      rules-speak = alone-silent s v q h ∙ r .rules-speak;
     })
 
 -- A problem of one question is its own record.

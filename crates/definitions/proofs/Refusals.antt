@@ -13,7 +13,7 @@ use borrow.Author.Tests.{ltb-false, eqb-true, not-false, le-ltb, le-leb, eq-eqb}
 use Rattle.definitions.specs.Limits.{highest-n, highest-m, lead-limit, length-bytes, signed-bytes, problem-kind, questions-kind, most-questions, answer-kind, problem-header, questions-header, answer-header, answer-most}
 use Rattle.definitions.specs.Tropical.{fin}
 use Rattle.definitions.specs.Bytes.{numsAt, tropField, tropAt, all, blank-or-within, or-else}
-use Rattle.definitions.specs.ProblemRecord.{problemSize, recordSize, lengthField, kindField, nField, mField, countField, leadsPlace, questionsAsked, leadsOf, known-kind, above-limits, wrong-count, headerRefusal, headerJudged, refusalFor, WithinLayout, problemOf, leftPlace, rightPlace, problemRefusal, recordRefusal}
+use Rattle.definitions.specs.ProblemRecord.{problemSize, recordSize, lengthField, kindField, nField, mField, countField, leadsPlace, questionsAsked, leadsOf, known-kind, above-limits, wrong-count, headerRefusal, headerJudged, refusalFor, silentRefused, WithinLayout, problemOf, leftPlace, rightPlace, problemRefusal, recordRefusal}
 use Rattle.definitions.specs.AnswerRecord.{Answer, known-class, stampCount, pickCount, highestPick, answerSize, spanFits, stampsFit, picksFit, formRefusal, rightCounts, classField, answerOf, answerHeaderRefusal, answerHeaderJudged, answerRefusal, writerRefusal, writerJudged}
 use Rattle.definitions.proofs.Bytes.{all-numsAt}
 use Rattle.definitions.proofs.Offset.{within-size}
@@ -125,10 +125,11 @@ header-passes several s size = (passes, none)
           ),
         )
 
--- A record that nothing refuses: its header, and its leads.
+-- A record that nothing refuses: its header, its leads, and no rule that says nothing.
 pub record RecordFits (several : Bool) (s : List ℕ) : Type 0 where
   pub header : HeaderPasses several s (length s)
   pub leads-fit : all (blank-or-within lead-limit) (leadsOf s) ≡ true
+  pub rules-speak : silentRefused s ≡ false
 
 pub record-fits : (several : Bool) (s : List ℕ) → (refusalFor several s ≡ 0) ↔ RecordFits several s
 unfolding refusalFor
@@ -138,8 +139,13 @@ record-fits several s = (
       record {
         header = header-passes several s (length s) .0 (h .0);
         leads-fit = passes-clause (all (blank-or-within lead-limit) (leadsOf s)) _ _ .0 (h .1) .0;
+        rules-speak = fails-clause (silentRefused s) _ _ .0 (passes-clause (all (blank-or-within lead-limit) (leadsOf s)) _ _ .0 (h .1) .1) .0;
       },
-  λ f. or-else-none (headerRefusal several s (length s)) _ .1 (header-passes several s (length s) .1 (f .header), passes-clause _ _ _ .1 (f .leads-fit, refl)),
+  λ f.
+      or-else-none (headerRefusal several s (length s)) _ .1 (
+        header-passes several s (length s) .1 (f .header),
+        passes-clause _ _ _ .1 (f .leads-fit, fails-clause _ _ _ .1 (f .rules-speak, refl)),
+      ),
 )
 
 -- ---- kinds
@@ -204,6 +210,7 @@ pub record ProblemFits (s : List ℕ) : Type 0 where
   pub m-most : mField s ≤ highest-m
   pub size-is : length s ≡ problemSize (nField s) (mField s)
   pub leads-fit : all (blank-or-within lead-limit) (leadsOf s) ≡ true
+  pub rules-speak : silentRefused s ≡ false
 
 -- They are those of a record.
 pub fit-record : (several : Bool) (s : List ℕ) → ProblemFits s → RecordFits several s
@@ -218,6 +225,7 @@ fit-record several s f = record {
     size-is = f .size-is ∙ sym (size-one (kindField s) (nField s) (mField s) (countField s) (f .kind-is));
   };
   leads-fit = f .leads-fit;
+  rules-speak = f .rules-speak;
 }
 
 -- Nothing refuses a problem exactly when these hold, whether the entry takes several questions too or not.
@@ -236,6 +244,7 @@ problem-fits s = (fits, λ f. record-fits false s .1 (fit-record false s f))
           m-most = r .header .m-most;
           size-is = r .header .size-is ∙ size-one (kindField s) (nField s) (mField s) (countField s) k;
           leads-fit = r .leads-fit;
+          rules-speak = r .rules-speak;
         }
 
 -- ---- leads

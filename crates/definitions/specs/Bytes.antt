@@ -1,7 +1,7 @@
 -- Lists of bytes, and fields in them. All fields are little-endian. Document 01, "Records".
 use Prim.Native.Nat.{ℕ, zero, suc, _+_, _*_, _-_, _/_, _%_, _<_}
 use mathlib.Core.Path.{_≡_}
-use mathlib.Core.Bool.{Bool, true, false, cond, _&&_}
+use mathlib.Core.Bool.{Bool, true, false, cond, _&&_, _||_}
 use mathlib.Core.List.{List, [], _∷_, _++_}
 use lib.Dec.{eqb, ltb, leb}
 use lib.ListN.{length, getD, take, drop}
@@ -59,6 +59,11 @@ tropAt s at = tropField (numAt signed-bytes s at)
 unfoldable pub all {ℓ} : {A : Type ℓ} → (A → Bool) → List A → Bool
 all test [] = true
 all test (x ∷ xs) = test x && all test xs
+
+-- The test passes for some number below k.
+unfoldable pub some-below : (ℕ → Bool) → ℕ → Bool
+some-below test zero = false
+some-below test (suc k) = some-below test k || test k
 
 -- Whole and within ±limit.
 unfoldable pub whole-within : ℕ → Trop → Bool

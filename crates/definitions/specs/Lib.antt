@@ -17,4 +17,5 @@ pub mod Examples
 pub mod Week
 pub mod Scaling
 pub mod Selection
+pub mod Conversion
 pub mod Marks

@@ -180,7 +180,7 @@ minute-limit = 6000000
 
 -- ---- refusals, as document 01 counts them under "What is turned away" and document 02 goes on
 
--- The problem has fewer than 10 bytes.
+-- The problem has fewer than 10 bytes; of no bytes only where they do not mean the idle day (2.9).
 abbrev pub refused-short : ℕ
 refused-short = 1
 
@@ -208,7 +208,12 @@ refused-lead = 6
 abbrev pub refused-count : ℕ
 refused-count = 15
 
--- The answer buffer is shorter than 206 bytes, in the engine than 206 for each question, whichever class is due.
+-- Document 02, 2.6: a rule has an all-blank left list.
+abbrev pub refused-silent : ℕ
+refused-silent = 17
+
+-- The answer buffer is shorter than 206 bytes, in the engine than 206 for each question, whichever class is due; in the converter the
+-- buffer is shorter than the record to be written.
 abbrev pub refused-room : ℕ
 refused-room = 7
 

@@ -1,5 +1,5 @@
 -- The problem record: its size, its refusals, what its bytes mean, and a problem as bytes. Document 01, "Records"
--- and "What is turned away", 1 to 6; document 02, 2.1 and 2.9.
+-- and "What is turned away", 1 to 6; document 02, 2.1, 2.6 and 2.9.
 use Prim.Native.Nat.{ℕ, zero, suc, _+_, _*_, _-_}
 use mathlib.Core.Path.{_≡_}
 use mathlib.Core.Bool.{Bool, true, false, not, cond, _&&_, _||_}
@@ -7,10 +7,10 @@ use mathlib.Core.List.{List, [], _∷_, _++_, map}
 use lib.Dec.{eqb, ltb, leb}
 use lib.ListN.{length}
 use lib.IntN.{pos}
-use Rattle.definitions.specs.Limits.{highest-n, highest-m, lead-limit, length-bytes, short-bytes, signed-bytes, kind-place, n-place, m-place, count-place, problem-kind, questions-kind, most-questions, problem-header, questions-header, refused-short, refused-length, refused-kind, refused-limits, refused-count, refused-size, refused-lead}
+use Rattle.definitions.specs.Limits.{highest-n, highest-m, lead-limit, length-bytes, short-bytes, signed-bytes, kind-place, n-place, m-place, count-place, problem-kind, questions-kind, most-questions, problem-header, questions-header, refused-short, refused-length, refused-kind, refused-limits, refused-count, refused-size, refused-lead, refused-silent, signed-half}
 use Rattle.definitions.specs.Tropical.{Trop, fin}
 use Rattle.definitions.specs.Problem.{Problem}
-use Rattle.definitions.specs.Bytes.{numAt, numsAt, le, fields, tropField, fieldOf, tropAt, all, blank-or-within, Clause, first, or-else, Outcome, outcome}
+use Rattle.definitions.specs.Bytes.{numAt, numsAt, le, fields, tropField, fieldOf, tropAt, all, some-below, blank-or-within, Clause, first, or-else, Outcome, outcome}
 
 -- Size of a problem record of one question: 10 + 8 × (n + 1) × (m + 1).
 abbrev pub problemSize : ℕ → ℕ → ℕ
@@ -53,6 +53,10 @@ leadsOf s =
     map tropField
     (numsAt signed-bytes (2 * (suc (nField s) * (mField s + questionsAsked (kindField s) (countField s)))) s (leadsPlace (kindField s)))
 
+-- The place of a row, in a record of n + 1 variables whose leads start at `start`.
+abbrev pub rowPlace : ℕ → ℕ → ℕ → ℕ
+rowPlace start n i = start + 2 * signed-bytes * (i * suc n)
+
 -- The kinds that an entry knows: kind 1, and kind 3 if it takes several questions.
 abbrev pub known-kind : Bool → ℕ → Bool
 known-kind several kind = eqb kind problem-kind || (several && eqb kind questions-kind)
@@ -94,9 +98,23 @@ headerRefusal several s size = headerJudged several size (lengthField s) (kindFi
 abbrev pub leadRefused : List ℕ → Bool
 leadRefused s = not (all (blank-or-within lead-limit) (leadsOf s))
 
--- The first of refusals 1 to 6 and 15 that applies to a problem, 0 where none does, in an entry that takes several questions or one.
+-- Each of `count` leads from a place on is blank, −2,147,483,648.
+abbrev pub runBlank : List ℕ → ℕ → ℕ → Bool
+runBlank s count at = all (eqb signed-half) (numsAt signed-bytes count s at)
+
+-- Row i, counted from 0, has an all-blank left list.
+abbrev pub blank-left : List ℕ → ℕ → Bool
+blank-left s i = runBlank s (suc (nField s)) (rowPlace (leadsPlace (kindField s)) (nField s) i)
+
+-- Refusal 17: a rule has an all-blank left list. (A question may have one.)
+abbrev pub silentRefused : List ℕ → Bool
+silentRefused s = some-below (blank-left s) (mField s)
+
+-- The first of refusals 1 to 6, 15 and 17 that applies to a problem, 0 where none does, in an entry that takes several questions or one.
 unfoldable pub refusalFor : Bool → List ℕ → ℕ
-refusalFor several s = or-else (headerRefusal several s (length s)) (first (record { applies = leadRefused s; number = refused-lead } ∷ []))
+refusalFor several s =
+    or-else (headerRefusal several s (length s))
+    (first (record { applies = leadRefused s; number = refused-lead } ∷ record { applies = silentRefused s; number = refused-silent } ∷ []))
 
 -- Where one question is asked for, and where several may be.
 abbrev pub problemRefusal : List ℕ → ℕ
@@ -134,13 +152,9 @@ layoutOf s = record {
 unfoldable pub headerOutcome : Bool → List ℕ → ℕ → Outcome Layout
 headerOutcome several s size = outcome (headerRefusal several s size) (layoutOf s)
 
--- What a whole problem gives: its layout, or the first of refusals 1 to 6 and 15.
+-- What a whole problem gives: its layout, or the first of refusals 1 to 6, 15 and 17.
 unfoldable pub problemOutcome : Bool → List ℕ → Outcome Layout
 problemOutcome several s = outcome (refusalFor several s) (layoutOf s)
-
--- The place of a row, in a record of n + 1 variables whose leads start at `start`.
-abbrev pub rowPlace : ℕ → ℕ → ℕ → ℕ
-rowPlace start n i = start + 2 * signed-bytes * (i * suc n)
 
 -- Places of the leads: row i has its left leads first, then its right leads, anchor first.
 abbrev pub leftPlace : ℕ → ℕ → ℕ → ℕ

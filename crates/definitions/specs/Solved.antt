@@ -21,7 +21,7 @@ use Rattle.definitions.specs.Verdict.{Accepted, strategyOf}
 abbrev pub answersRefused : ℕ → ℕ → Clause
 answersRefused questions room = record { applies = ltb room (questions * answer-most); number = refused-room }
 
--- The first of refusals 1 to 6 and 15 for a problem of one question or several, then 7 for a buffer of `room` bytes; 0 where none
+-- The first of refusals 1 to 6, 15 and 17 for a problem of one question or several, then 7 for a buffer of `room` bytes; 0 where none
 -- applies.
 unfoldable pub engineRefusal : List ℕ → ℕ → ℕ
 engineRefusal p room = or-else (recordRefusal p) (first (answersRefused (questionsAsked (kindField p) (countField p)) room ∷ []))

@@ -11,7 +11,7 @@ use lib.IntN.{ℤ, pos, negsuc, natAbs}
 use borrow.Author.Tests.{leb-true, le-leb}
 use Rattle.definitions.specs.Limits.{lead-limit, span-limit, top-trial, lowest-trial}
 use Rattle.definitions.specs.Tropical.{Trop, bot, fin}
-use Rattle.definitions.specs.Bytes.{numAt, numsAt, signed, tropField, all, blank-or-within}
+use Rattle.definitions.specs.Bytes.{some-below, numAt, numsAt, signed, tropField, all, blank-or-within}
 use Rattle.definitions.specs.Problem.{Problem, Attainable, Infeasible}
 use Rattle.definitions.specs.ProblemRecord.{leadsOf, headerRefusal, headerJudged, refusalFor, WithinLayout, problemOf}
 use Rattle.definitions.specs.Questions.{alone}
@@ -105,12 +105,12 @@ refusal-now several s = refl
 
 -- Example A was within the older layout, and so were leads of ±10,080. A lead of 10,081 was refused by 6, and is not now.
 older-A : refusalBefore older-lead-limit false (example-A .problem) ≡ 0
-unfolding refusalBefore headerRefusal headerJudged leadsOf numAt numsAt all blank-or-within tropField signed example-A
+unfolding refusalBefore headerRefusal headerJudged leadsOf numAt numsAt all blank-or-within tropField signed example-A some-below
 older-A = refl
 
 lead-bytes : ℕ → List ℕ
 lead-bytes low = 14 ∷ 0 ∷ 0 ∷ 0 ∷ 1 ∷ 0 ∷ 0 ∷ 0 ∷ 0 ∷ 0 ∷ low ∷ 39 ∷ 0 ∷ 0 ∷ 160 ∷ 216 ∷ 255 ∷ 255 ∷ []
 
 older-edge : (refusalBefore older-lead-limit false (lead-bytes 96) ≡ 0) × (refusalBefore older-lead-limit false (lead-bytes 97) ≡ 6) × (refusalFor false (lead-bytes 97) ≡ 0)
-unfolding lead-bytes refusalBefore refusalFor headerRefusal headerJudged leadsOf numAt numsAt all blank-or-within tropField signed
+unfolding lead-bytes refusalBefore refusalFor headerRefusal headerJudged leadsOf numAt numsAt all blank-or-within tropField signed some-below
 older-edge = (refl, refl, refl)

@@ -8,10 +8,10 @@ use mathlib.Core.List.{List, [], _∷_}
 use mathlib.Core.Logic.{_↔_}
 use lib.ListN.{length}
 use lib.IntN.{ℤ, pos, negsuc, natAbs}
-use Rattle.definitions.specs.Limits.{questions-kind, stride, top-trial, lowest-trial, refused-lead}
+use Rattle.definitions.specs.Limits.{questions-kind, stride, top-trial, lowest-trial, refused-lead, refused-silent}
 use Rattle.definitions.specs.Bytes.{all, blank-or-within, first, or-else}
 use Rattle.definitions.specs.Problem.{Problem, Attainable, Optimal, Unbounded, Infeasible}
-use Rattle.definitions.specs.ProblemRecord.{kindField, countField, leadsOf, headerRefusal, refusalFor, WithinLayout, problemOf}
+use Rattle.definitions.specs.ProblemRecord.{kindField, countField, leadsOf, silentRefused, headerRefusal, refusalFor, WithinLayout, problemOf}
 use Rattle.definitions.specs.Questions.{alone}
 
 -- The limit of leads before: ±10,080.
@@ -25,7 +25,8 @@ LeadsWithin limit s = all (blank-or-within limit) (leadsOf s) ≡ true
 -- The first refusal that applied to a record in a layout with this limit of leads, 0 where none did.
 unfoldable pub refusalBefore : ℕ → Bool → List ℕ → ℕ
 refusalBefore limit several s =
-    or-else (headerRefusal several s (length s)) (first (record { applies = not (all (blank-or-within limit) (leadsOf s)); number = refused-lead } ∷ []))
+    or-else (headerRefusal several s (length s))
+    (first (record { applies = not (all (blank-or-within limit) (leadsOf s)); number = refused-lead } ∷ record { applies = silentRefused s; number = refused-silent } ∷ []))
 
 -- The limit of spans by a limit of leads, and the two outer trials: 645,120 and −645,121 before.
 abbrev pub spans-by : ℕ → ℕ

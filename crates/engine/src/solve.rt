@@ -1,4 +1,4 @@
-// The engine on bytes: refusals 1 to 7 and 15 first, in order; then the answer, or those to several questions one after another, written
+// The engine on bytes: refusals 1 to 7, 15 and 17 first, in order; then the answer, or those to several questions one after another, written
 // into the lent buffer.
 ghost use mathlib.Core.Path.{_≡_};
 ghost use Prim.Native.Nat.{ℕ, _*_, _≤_};

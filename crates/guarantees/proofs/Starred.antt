@@ -8,7 +8,7 @@ use native.Mathlib.Omega.{arith}
 use lib.IntN.{ℤ, pos}
 use Rattle.definitions.specs.Limits.{class-optimal, span-limit}
 use Rattle.definitions.specs.Tropical.{Trop, bot, fin, plus, larger, largest}
-use Rattle.definitions.specs.Bytes.{all, blank-or-within, numAt, numsAt, signed, tropField, tropAt}
+use Rattle.definitions.specs.Bytes.{all, some-below, blank-or-within, numAt, numsAt, signed, tropField, tropAt}
 use Rattle.definitions.specs.Problem.{Problem, Optimal, side, value, minus}
 use Rattle.definitions.specs.Certificate.{raise}
 use Rattle.definitions.specs.ProblemRecord.{problemOf, problemRefusal, headerRefusal, headerJudged, leadsOf, nField, mField, refusalFor}
@@ -119,7 +119,7 @@ optimal-E = least-of (fifth starred) (pos 30) refl refl
 
 -- So every checker that judges accepts E's plan with some table: what demand 3 says of plans that fit, of this one.
 pub accepted-E : (check : Checker) → CheckerJudges check → SomeTable check (example-E .problem) class-optimal (leastAnswer (nField (example-E .problem)) (pos 30) plan-E)
-unfolding example-E all numAt refusalFor headerRefusal headerJudged leadsOf numsAt blank-or-within tropField signed
+unfolding example-E all some-below numAt refusalFor headerRefusal headerJudged leadsOf numsAt blank-or-within tropField signed
 accepted-E check judges =
     least-exactly check judges (example-E .problem) (record { bytes = all-bytes (example-E .problem) .0 refl; size = omega arith }) refl plan-E (pos 30) fits-E feasible-E value-E .1 (optimal-E .least)
 

@@ -16,7 +16,7 @@ use Rattle.definitions.specs.Limits.{class-optimal, class-unbounded, class-infe
 use Rattle.definitions.specs.Tropical.{Trop, bot, fin, plus, larger, largest, Finite, _⊑_}
 use Rattle.definitions.specs.Problem.{Problem, Point, Feasible, Value, side, value, minus, minus-infinity, plus-infinity, Optimal, _≼_, lowest, between, highest}
 use Rattle.definitions.specs.Problem as Problems
-use Rattle.definitions.specs.Bytes.{Outcome, gives, put, numAt, numsAt, signed, tropField, tropAt, all, blank-or-within, whole-within}
+use Rattle.definitions.specs.Bytes.{Outcome, gives, put, numAt, numsAt, signed, tropField, tropAt, all, some-below, blank-or-within, whole-within}
 use Rattle.definitions.specs.ProblemRecord.{WithinLayout, problemOf, nField, mField, problemRefusal, headerRefusal, headerJudged, leadsOf, refusalFor}
 use Rattle.definitions.specs.AnswerRecord.{Answer, known-class, answerBytes, answerSize, pickCount, highestPick, written, writerRefusal, writerJudged, answerRefusal, answerHeaderRefusal, answerHeaderJudged, answerOf, formRefusal, spanFits, stampsFit, picksFit, is-zero, is-blank}
 use Rattle.definitions.specs.Certificate.{Strategy, Reachable, start, onward, Anchor, Leads, RowLeads}
@@ -45,7 +45,7 @@ unfolding example-A all
 slice-A = record { bytes = bytes-tested (example-A .problem) refl; size = omega arith }
 
 within-A : WithinLayout (example-A .problem)
-unfolding example-A refusalFor headerRefusal headerJudged leadsOf numAt numsAt all blank-or-within tropField signed
+unfolding example-A refusalFor headerRefusal headerJudged leadsOf numAt numsAt all some-below blank-or-within tropField signed
 within-A = refl
 
 slice-B : Slice (example-B .problem)
@@ -53,7 +53,7 @@ unfolding example-B all
 slice-B = record { bytes = bytes-tested (example-B .problem) refl; size = omega arith }
 
 within-B : WithinLayout (example-B .problem)
-unfolding example-B refusalFor headerRefusal headerJudged leadsOf numAt numsAt all blank-or-within tropField signed
+unfolding example-B refusalFor headerRefusal headerJudged leadsOf numAt numsAt all some-below blank-or-within tropField signed
 within-B = refl
 
 slices-M : Slice (example-M .problem) × Slice (example-M .answer)
@@ -64,7 +64,7 @@ slices-M = (
 )
 
 within-M : WithinLayout (example-M .problem)
-unfolding example-M refusalFor headerRefusal headerJudged leadsOf numAt numsAt all blank-or-within tropField signed
+unfolding example-M refusalFor headerRefusal headerJudged leadsOf numAt numsAt all some-below blank-or-within tropField signed
 within-M = refl
 
 zeros : List ℕ
@@ -259,7 +259,7 @@ unfolding problem-idle all
 slice-idle = record { bytes = bytes-tested problem-idle refl; size = omega arith }
 
 within-idle : WithinLayout problem-idle
-unfolding problem-idle refusalFor headerRefusal headerJudged leadsOf numAt numsAt all blank-or-within tropField signed
+unfolding problem-idle refusalFor headerRefusal headerJudged leadsOf numAt numsAt all some-below blank-or-within tropField signed
 within-idle = refl
 
 counts-idle : (nField problem-idle ≡ 1) × (mField problem-idle ≡ 0)

@@ -1,4 +1,4 @@
-// Standard input for both programs: the first 20,000 bytes are kept, all of them are counted.
+// Standard input for the programs: the first 20,000 bytes are kept, all of them are counted.
 ghost use mathlib.Core.Path.{_≡_};
 ghost use Prim.Native.Nat.{_≤_, _-_};
 ghost use lib.ListN.{length, take};

@@ -1,27 +1,28 @@
 -- What judging and reading a problem answer: refused by its header, refused by a lead, within the layout.
-use Prim.Native.Nat.{ℕ, suc, _+_, _*_, _-_, _≤_, _<_}
+use Prim.Native.Nat.{ℕ, zero, suc, _+_, _*_, _-_, _≤_, _<_}
 use mathlib.Core.Path.{_≡_, refl, ap, sym, _∙_}
-use mathlib.Core.Bool.{Bool, true, false}
+use mathlib.Core.Bool.{Bool, true, false, cond}
 use mathlib.Core.Logic.{_⊎_, ⊎-elim}
 use mathlib.Core.List.{List}
 use native.Mathlib.Omega.{arith}
 use native.Mathlib.Nat.{mul-le-mul-left, mul-le-mul-right}
 use lib.ListN.{length, getD, drop, length-drop, List·getD-eq-default}
 use Rattle.base.proofs.Numbers.{nat-le-or-lt}
-use Rattle.definitions.specs.Limits.{problem-kind, questions-kind, problem-header, questions-header, questions-leads, signed-bytes}
-use Rattle.definitions.specs.Bytes.{Bytes, outcome}
+use Rattle.definitions.specs.Limits.{highest-n, problem-kind, questions-kind, problem-header, questions-header, questions-leads, signed-bytes}
+use Rattle.definitions.specs.Bytes.{Bytes, some-below, or-else, outcome}
 use Rattle.definitions.specs.ProblemRecord as Problems
-use Rattle.definitions.specs.ProblemRecord.{kindField, nField, mField, countField, leadsPlace, questionsAsked, layoutOf, rowPlace, leftPlace, rightPlace, leadsOf, headerRefusal, headerOutcome, refusalFor, problemRefusal, problemOutcome, WithinLayout, problemSize}
+use Rattle.definitions.specs.ProblemRecord.{kindField, nField, mField, countField, leadsPlace, questionsAsked, layoutOf, rowPlace, leftPlace, rightPlace, leadsOf, headerRefusal, headerOutcome, leadRefused, blank-left, silentRefused, refusalFor, problemRefusal, problemOutcome, WithinLayout, problemSize}
 use Rattle.definitions.specs.Questions.{alone, asking}
 use Rattle.definitions.proofs.Inputs.{header-none}
-use Rattle.definitions.proofs.Refusals.{or-else-suc, problem-fits, header-passes, kind-known}
+use Rattle.definitions.proofs.Refusals.{or-else-suc, or-else-none, problem-fits, header-passes, kind-known}
+use Rattle.definitions.proofs.Silent.{some-same}
 use Rattle.definitions.proofs.Questions.{several-passes}
 use Rattle.records.specs.declared.problem.Header.{Header}
 use Rattle.records.specs.declared.problem.Header.the-variants.{Told, Refused}
 use Rattle.records.specs.declared.problem.Layout.{Layout}
 use Rattle.records.specs.ProblemHeader.{layoutIn, headerOf}
 use Rattle.records.proofs.ProblemHeader.{HeaderFits, fits-of, header-refuses, header-told, answer-told, answer-refused}
-use Rattle.problem_records.specs.Tables.{runFits, cell, leftTable, rightTable, Laid, ProblemRead}
+use Rattle.problem_records.specs.Tables.{runFits, rowBlank, leadsRefusal, leadsOutcome, cell, leftTable, rightTable, Laid, ProblemRead}
 use Rattle.problem_records.specs.Filling.{Framed, Tabled}
 use Rattle.problem_records.proofs.Tables.{is-listOf, cell-row, cell-past}
 use Rattle.problem_records.proofs.QuestionTables.{AskedTable, asked-left, asked-right}
@@ -29,11 +30,11 @@ use Rattle.problem_records.proofs.QuestionTables.{AskedTable, asked-lef
 -- ---- judging
 
 -- The header is refused.
-pub refused-header : (several : Bool) (s : List ℕ) {r : Header} {k : ℕ} → headerOf r ≡ headerOutcome several s (length s) → r ≡ Refused k → headerOf r ≡ problemOutcome several s
-unfolding refusalFor headerOutcome problemOutcome
+pub refused-header : (several : Bool) (s : List ℕ) {r : Header} {k : ℕ} → headerOf r ≡ headerOutcome several s (length s) → r ≡ Refused k → headerOf r ≡ leadsOutcome several s
+unfolding leadsRefusal headerOutcome leadsOutcome
 refused-header several s e f =
     let g = header-refuses several s (length s) e f in
-    let same : refusalFor several s ≡ headerRefusal several s (length s) = or-else-suc (headerRefusal several s (length s)) _ (omega arith) in
+    let same : leadsRefusal several s ≡ headerRefusal several s (length s) = or-else-suc (headerRefusal several s (length s)) _ (omega arith) in
     rw same e
 
 module _ (several : Bool) (s : List ℕ) {l : Layout} {count : ℕ} (h : HeaderFits several s (length s) l) (c : count ≡ 2 * ((l .n + 1) * (l .m + l .questions))) where
@@ -44,16 +45,16 @@ module _ (several : Bool) (s : List ℕ) {l : Layout} {count : ℕ} (h : HeaderF
       rw (all-leads, h .n-is, h .m-is, h .leads-is, h .questions-is)
 
   -- A lead does not fit: refusal 6.
-  pub refused-lead : false ≡ runFits s count (l .leads) → headerOf (Refused 6) ≡ problemOutcome several s
-  unfolding problemOutcome refusalFor leadsOf outcome headerOf
+  pub refused-lead : false ≡ runFits s count (l .leads) → headerOf (Refused 6) ≡ leadsOutcome several s
+  unfolding leadsOutcome leadsRefusal leadsOf outcome headerOf
   refused-lead e = rw (h .none, ← run-leads, ← e)
 
   -- Every lead fits: no refusal.
-  pub judged-told : true ≡ runFits s count (l .leads) → headerOf (Told l) ≡ problemOutcome several s
-  unfolding problemOutcome refusalFor leadsOf
+  pub judged-told : true ≡ runFits s count (l .leads) → headerOf (Told l) ≡ leadsOutcome several s
+  unfolding leadsOutcome leadsRefusal leadsOf
   judged-told e =
-      let none : refusalFor several s ≡ 0 = rw (h .none, ← run-leads, ← e) in
-      rw (← h .layout-is) (header-told (refusalFor several s) l none)
+      let none : leadsRefusal several s ≡ 0 = rw (h .none, ← run-leads, ← e) in
+      rw (← h .layout-is) (header-told (leadsRefusal several s) l none)
 
   -- They are few, and lie inside.
   pub leads-inside : (l .leads ≤ questions-header) × (count ≤ questions-leads) × (l .leads + 4 * count ≤ length s)
@@ -66,6 +67,64 @@ module _ (several : Bool) (s : List ℕ) {l : Layout} {count : ℕ} (h : HeaderF
         omega (arith, h .m-most, h .questions-most),
         omega (arith, h .size-is),
       )
+
+-- ---- rules that say nothing
+
+-- 17 is looked at after the others.
+silent-last : (h : ℕ) (lead silent : Bool) → or-else h (cond lead 6 (cond silent 17 0)) ≡ or-else (or-else h (cond lead 6 0)) (cond silent 17 0)
+silent-last zero true silent = refl
+silent-last zero false silent = refl
+silent-last (suc h) lead silent = refl
+
+refusal-is : (several : Bool) (s : List ℕ) → refusalFor several s ≡ or-else (leadsRefusal several s) (cond (silentRefused s) 17 0)
+unfolding refusalFor leadsRefusal
+refusal-is several s = silent-last (headerRefusal several s (length s)) (leadRefused s) (silentRefused s)
+
+-- A record is refused by another refusal.
+pub refused-leads : (several : Bool) (s : List ℕ) {r : Header} {k : ℕ} → headerOf r ≡ leadsOutcome several s → r ≡ Refused k → headerOf r ≡ problemOutcome several s
+unfolding leadsOutcome problemOutcome
+refused-leads several s e f =
+    let g = answer-refused (leadsRefusal several s) (layoutOf s) e f in
+    let same : refusalFor several s ≡ leadsRefusal several s = refusal-is several s ∙ or-else-suc (leadsRefusal several s) _ (omega arith) in
+    rw same e
+
+-- What a record tells whose leads fit.
+pub record Leads-told (several : Bool) (s : List ℕ) (l : Layout) : Type 0 where
+  pub none : leadsRefusal several s ≡ 0
+  pub fits : HeaderFits several s (length s) l
+
+leads-header : (several : Bool) (s : List ℕ) → leadsRefusal several s ≡ 0 → headerRefusal several s (length s) ≡ 0
+unfolding leadsRefusal
+leads-header several s e = or-else-none (headerRefusal several s (length s)) _ .0 e .0
+
+pub leads-told : (several : Bool) {s : List ℕ} {r : Header} {l : Layout} → headerOf r ≡ leadsOutcome several s → r ≡ Told l → Leads-told several s l
+unfolding leadsOutcome
+leads-told several {s} e f =
+    let g = answer-told (leadsRefusal several s) (layoutOf s) e f in
+    record { none = g .0; fits = fits-of several s (length s) (leads-header several s (g .0)) (g .1) }
+
+module _ {several : Bool} {s : List ℕ} {l : Layout} (t : Leads-told several s l) where
+  -- The rules are looked at where they stand.
+  silent-is : some-below (rowBlank s (l .leads) (l .n)) (l .m) ≡ silentRefused s
+  silent-is =
+      let wide : l .n + 1 ≡ suc (l .n) = omega arith in
+      rw (t .fits .m-is) (some-same (rowBlank s (l .leads) (l .n)) (blank-left s) (mField s) (λ i h. rw (wide, t .fits .n-is, t .fits .leads-is)))
+
+  -- A rule says nothing: 17.
+  pub refused-silent : true ≡ some-below (rowBlank s (l .leads) (l .n)) (l .m) → headerOf (Refused 17) ≡ problemOutcome several s
+  unfolding problemOutcome outcome headerOf
+  refused-silent e = let seventeen : refusalFor several s ≡ 17 = refusal-is several s ∙ rw (t .none, ← silent-is, ← e) in rw seventeen refl
+
+  -- None does: no refusal.
+  pub speaking-told : false ≡ some-below (rowBlank s (l .leads) (l .n)) (l .m) → headerOf (Told l) ≡ problemOutcome several s
+  unfolding problemOutcome
+  speaking-told e =
+      let none : refusalFor several s ≡ 0 = refusal-is several s ∙ rw (t .none, ← silent-is, ← e) in
+      rw (← t .fits .layout-is) (header-told (refusalFor several s) l none)
+
+  -- Their rows lie inside.
+  pub rules-inside : (l .n ≤ highest-n) × (rowPlace (l .leads) (l .n) (l .m) ≤ length s)
+  rules-inside = (t .fits .n-most, omega (arith, t .fits .size-is, mul-le-mul-right {m = l .m} {n = l .m + l .questions} (suc (l .n)) (omega arith)))
 
 -- A layout is the answer for a problem within the layout.
 pub laid : {s : List ℕ} {r : Header} {l : Layout} → Bytes s → headerOf r ≡ problemOutcome false s → r ≡ Told l → Laid s (l .n) (l .m)

@@ -1,15 +1,15 @@
 -- The lent tables of leads, as offset numbers: 64 rows of 32 columns, row after row. Every place is determined: past n, past
 -- m there is 0, which is blank.
-use Prim.Native.Nat.{ℕ, _/_, _%_, _≤_, _<_}
+use Prim.Native.Nat.{ℕ, _+_, _/_, _%_, _≤_, _<_}
 use mathlib.Core.Path.{_≡_}
 use mathlib.Core.Bool.{Bool, cond, _&&_}
-use mathlib.Core.List.{List, map}
+use mathlib.Core.List.{List, [], _∷_, map}
 use lib.Dec.{leb}
 use lib.ListN.{length}
-use Rattle.definitions.specs.Limits.{highest-n, highest-m, lead-limit, signed-bytes, stride, table-size}
-use Rattle.definitions.specs.Bytes.{Bytes, numAt, numsAt, tropField, all, blank-or-within}
+use Rattle.definitions.specs.Limits.{highest-n, highest-m, lead-limit, signed-bytes, stride, table-size, refused-lead}
+use Rattle.definitions.specs.Bytes.{Bytes, numAt, numsAt, tropField, all, blank-or-within, first, or-else, Outcome, outcome}
 use Rattle.definitions.specs.Offset.{off}
-use Rattle.definitions.specs.ProblemRecord.{problemSize, nField, mField, leftPlace, rightPlace, listOf, refusalFor, problemOutcome, WithinLayout}
+use Rattle.definitions.specs.ProblemRecord.{problemSize, nField, mField, leftPlace, rightPlace, listOf, rowPlace, runBlank, headerRefusal, leadRefused, refusalFor, Layout, layoutOf, problemOutcome, WithinLayout}
 use Rattle.definitions.specs.Questions.{asking}
 use Rattle.records.specs.declared.problem.Header.{Header}
 use Rattle.records.specs.ProblemHeader.{headerOf}
@@ -17,6 +17,17 @@ use Rattle.records.specs.ProblemHeader.{headerOf}
 -- Each of `count` leads from a place on is blank or within the limit.
 abbrev pub runFits : List ℕ → ℕ → ℕ → Bool
 runFits s count at = all (blank-or-within lead-limit) (map tropField (numsAt signed-bytes count s at))
+
+-- The first of refusals 1 to 6 and 15, and what a record gives where none of them applies: its layout.
+unfoldable pub leadsRefusal : Bool → List ℕ → ℕ
+leadsRefusal several s = or-else (headerRefusal several s (length s)) (first (record { applies = leadRefused s; number = refused-lead } ∷ []))
+
+unfoldable pub leadsOutcome : Bool → List ℕ → Outcome Layout
+leadsOutcome several s = outcome (leadsRefusal several s) (layoutOf s)
+
+-- Row i of n + 1 variables, of leads that start at a place, has an all-blank left list.
+abbrev pub rowBlank : List ℕ → ℕ → ℕ → ℕ → Bool
+rowBlank s start n i = runBlank s (n + 1) (rowPlace start n i)
 
 -- The offset number of the lead at a place.
 abbrev pub leadAt : List ℕ → ℕ → ℕ

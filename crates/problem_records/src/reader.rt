@@ -2,14 +2,15 @@
 ghost use mathlib.Core.Path.{_≡_};
 ghost use Prim.Native.Nat.{_+_, _*_, _-_, _<_, _≤_};
 ghost use mathlib.Core.Bool.{cond};
+ghost use lib.Dec.{eqb};
 ghost use lib.ListN.{length, getD};
 ghost use Rattle.base.specs.Filled.{FilledFrom};
-ghost use Rattle.definitions.specs.Limits.{lead-limit, signed-full, signed-bytes, highest-n, highest-m, most-questions, questions-header, questions-leads, questions-row, stride, table-size};
-ghost use Rattle.definitions.specs.Bytes.{tropField, blank-or-within};
-ghost use Rattle.definitions.specs.ProblemRecord.{leftPlace, problemOutcome, meant};
+ghost use Rattle.definitions.specs.Limits.{lead-limit, signed-half, signed-full, signed-bytes, highest-n, highest-m, most-questions, questions-header, questions-leads, questions-row, stride, table-size};
+ghost use Rattle.definitions.specs.Bytes.{tropField, some-below, blank-or-within};
+ghost use Rattle.definitions.specs.ProblemRecord.{rowPlace, leftPlace, runBlank, problemOutcome, meant};
 ghost use Rattle.definitions.specs.Questions.{alone};
 ghost use Rattle.records.specs.ProblemHeader.{headerOf};
-ghost use Rattle.problem_records.specs.Tables.{runFits, leadAt, leftTable, rightTable, ProblemRead};
+ghost use Rattle.problem_records.specs.Tables.{runFits, rowBlank, leadsOutcome, leadAt, leftTable, rightTable, ProblemRead};
 ghost use Rattle.problem_records.specs.Filling.{rowCell, RowOf, Framed, QuestionHeld, Tabled};
 use records::bytes::word_in;
 use records::idle::idle_day;
@@ -20,6 +21,7 @@ use records::limits::OFFSET_32;
 use records::limits::PROBLEM_HEADER;
 use records::limits::QUESTIONS_HEADER;
 use records::limits::REFUSED_LEAD;
+use records::limits::REFUSED_SILENT;
 use records::limits::STRIDE;
 use records::limits::TABLE;
 use records::offset::offset_32;
@@ -29,6 +31,9 @@ use records::problem::read_header;
 
 // The limit of leads in 32 bits.
 const LEAD_LIMIT_32: u32 = LEAD_LIMIT as u32;
+
+// The field of a blank lead, −2³¹, as an unsigned number.
+const BLANK_32: u32 = OFFSET_32;
 
 // A 4-byte field holds a lead: blank, or within the limit.
 fn lead_fits(w: u32) -> bool
@@ -66,6 +71,44 @@ fn leads_fit(bytes: &[u8], start: usize, count: usize) -> bool
         at += LEAD_BYTES;
     }
     misfits == 0
+}
+
+// 1 once a lead is not blank.
+fn seen(before: u32, w: u32) -> u32
+    ensures { λ r. ⌜ r ≡ cond (eqb signed-half w) before 1 ⌝ }
+{
+    if w == BLANK_32 { before } else { 1 }
+}
+
+// Each of `count` leads from a place of the bytes on is blank. All are looked at, so that the loop has no branch. Public for
+// `converter::convert`.
+pub fn all_blank(bytes: &[u8], start: usize, count: usize) -> bool
+    requires { ⌜ start + signed-bytes * count ≤ length (now bytes) ⌝ }
+    ensures { λ r. ⌜ r ≡ runBlank (now (bytes .entry)) count start ⌝ }
+{
+    let mut at = start;
+    let mut given = 0u32;
+    for _ in 0..count {
+        given = seen(given, word_in(bytes, at));
+        at += LEAD_BYTES;
+    }
+    given == 0
+}
+
+// One of the m rules of a record whose leads start at a place has an all-blank left list: it says nothing.
+fn some_silent(bytes: &[u8], start: usize, n: usize, m: usize) -> bool
+    requires { ⌜ (n ≤ highest-n) × (rowPlace start n m ≤ length (now bytes)) ⌝ }
+    ensures { λ r. ⌜ r ≡ some-below (rowBlank (now (bytes .entry)) start n) m ⌝ }
+{
+    let step = 2 * LEAD_BYTES * (n + 1);
+    let mut at = start;
+    for _ in 0..m {
+        if all_blank(bytes, at, n + 1) {
+            return true;
+        }
+        at += step;
+    }
+    false
 }
 
 // The lead at a place of the bytes, as an offset number. Public for `closed_walks::arcs`, `strategy_tests::certify`.
@@ -185,10 +228,10 @@ pub fn read_question(
     read_row(bytes, at + LEAD_BYTES * (n + 1), n, right, STRIDE * m);
 }
 
-// The header of a problem within the layout, of several questions or one: where things stand in it, or the first of refusals 1 to 6
-// and 15 that applies. Public for the checker's `check` and `input`.
-pub fn judge_problem(bytes: &[u8], several: bool) -> Header
-    ensures { λ r. ⌜ headerOf r ≡ problemOutcome several (now (bytes .entry)) ⌝ }
+// The header of a record whose leads fit, of several questions or one: where things stand in it, or the first of refusals 1 to 6 and 15
+// that applies. Public for `converter::convert`.
+pub fn judge_leads(bytes: &[u8], several: bool) -> Header
+    ensures { λ r. ⌜ headerOf r ≡ leadsOutcome several (now (bytes .entry)) ⌝ }
 {
     let header = read_header(bytes, bytes.len(), several);
     let Header::Told(layout) = header else {
@@ -204,8 +247,23 @@ pub fn judge_problem(bytes: &[u8], several: bool) -> Header
     header
 }
 
+// The header of a problem within the layout, of several questions or one: where things stand in it, or the first of refusals 1 to 6,
+// 15 and 17 that applies. Public for the checker's `check` and `input`.
+pub fn judge_problem(bytes: &[u8], several: bool) -> Header
+    ensures { λ r. ⌜ headerOf r ≡ problemOutcome several (now (bytes .entry)) ⌝ }
+{
+    let header = judge_leads(bytes, several);
+    let Header::Told(layout) = header else {
+        return header;
+    };
+    if some_silent(bytes, layout.leads, layout.n, layout.m) {
+        return Header::Refused(REFUSED_SILENT);
+    }
+    header
+}
+
 // A problem record, into two lent tables: its layout, with the leads of its rules and of its first question as offset numbers
-// in rows of 32, or the first of refusals 1 to 6 and 15 that applies, where several questions may be asked or one. A refused problem leaves both tables as they are.
+// in rows of 32, or the first of refusals 1 to 6, 15 and 17 that applies, where several questions may be asked or one. A refused problem leaves both tables as they are.
 fn read_record(
     bytes: &[u8],
     several: bool,

@@ -131,6 +131,9 @@ pub const REFUSED_LEAD: usize = 6;
 // Of a problem of several questions: none, or too many.
 pub const REFUSED_COUNT: usize = 15;
 
+// Of a problem with a rule that says nothing: its left list is all blank.
+pub const REFUSED_SILENT: usize = 17;
+
 // Of an answer buffer: too few bytes.
 pub const REFUSED_ROOM: usize = 7;
 

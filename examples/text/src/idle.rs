@@ -50,8 +50,6 @@ mod tests {
     #[test]
     fn rules_that_say_nothing() {
         for rule in [
-            "nothing <= a",
-            "nothing <= nothing",
             "a <= a",
             "a <= later of a + 1, b",
             "later of a, b <= later of a, b, c",
@@ -83,7 +81,6 @@ mod tests {
         assert_eq!(frees("a <= b"), [3]);
         assert_eq!(frees("a <= c"), [0; 0]);
         assert_eq!(frees("c <= nothing"), [0; 0]);
-        assert_eq!(frees("nothing <= c"), [3]);
         assert_eq!(frees("c <= c + 5"), [3]);
     }
 

@@ -88,6 +88,9 @@ impl Draft {
     fn rule(&mut self, number: usize, line: &str) -> Result<(), String> {
         let mut tokens = Tokens::of(line);
         let left = sides::read(&self.moments, &mut tokens)?;
+        if left.iter().all(|lead| lead.is_none()) {
+            return Err("a rule with nothing on its left says nothing, and is refused".into());
+        }
         tokens.expect("<=")?;
         let right = sides::read(&self.moments, &mut tokens)?;
         tokens.end()?;
@@ -207,6 +210,7 @@ mod tests {
         for (text, part) in [
             ("moments: a\na <= b\n", "text:2: no moment is called 'b'"),
             ("moments: a\na < a\n", "text:2: '<=' is expected, not '<'"),
+            ("moments: a\nnothing <= a\n", "text:2: a rule with nothing on its left says nothing"),
             ("moments: a\na <= a, a\n", "text:2: ',' is too much"),
             ("moments: a\na#1 <= a\n", "text:2: '#' stands inside 'a#1'"),
             ("moments: a\n", "text: there is no line 'span: from .. to ..'"),

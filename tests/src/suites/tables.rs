@@ -5,7 +5,7 @@
 use super::small::every_problem;
 use super::{checked, expected_check};
 use crate::exhaustive::{every_plan, reach, solve};
-use crate::paper::{counts, highest_pick, Answer, Minute, Outcome, Problem, Span};
+use crate::paper::{counts, highest_pick, Answer, Minute, Outcome, Problem, Row, Span};
 use crate::tally::Tally;
 
 /// Hands over every pick table of a class.
@@ -52,14 +52,16 @@ pub fn run(tally: &mut Tally) {
             tally.count("problems");
             let bytes = problem.bytes();
             let outcome = solve(problem, w);
+            // Demand 3 speaks of problems without a rule that says nothing; no table is accepted for the others.
+            let speaks = !problem.rules.iter().any(Row::says_nothing);
             let none = accepted_with_some(tally, problem, &bytes, 3, None, &[]);
-            tally.same("some table for none", none, outcome == Outcome::None, &bytes, &[]);
+            tally.same("some table for none", none, speaks && outcome == Outcome::None, &bytes, &[]);
             let bottomless = accepted_with_some(tally, problem, &bytes, 2, None, &[]);
-            tally.same("some table for bottomless", bottomless, outcome == Outcome::Bottomless, &bytes, &[]);
+            tally.same("some table for bottomless", bottomless, speaks && outcome == Outcome::Bottomless, &bytes, &[]);
             every_plan(n, reach(n, w), |plan| {
                 let Span::Whole(span) = problem.span(plan) else { return };
                 let accepted = accepted_with_some(tally, problem, &bytes, 1, Some(span), plan);
-                let best = problem.keeps_the_rules(plan) && outcome == Outcome::Least(span);
+                let best = speaks && problem.keeps_the_rules(plan) && outcome == Outcome::Least(span);
                 tally.same("some table for a plan", accepted, best, &bytes, &[]);
                 tally.count("plans");
             });

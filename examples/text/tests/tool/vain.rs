@@ -25,7 +25,7 @@ fn a_moment_that_nothing_speaks_of_is_free() {
 /// A rule that every plan keeps says nothing, and neither of the moments that only it has.
 #[test]
 fn a_rule_that_says_nothing_is_warned_of() {
-    for rule in ["nothing <= nurse", "nurse <= nurse + 5", "nurse <= later of bed, nurse"] {
+    for rule in ["nurse <= nurse + 5", "nurse <= later of bed, nurse"] {
         let contents = format!("moments: bed, nurse\nanchor + 30 <= bed\n{rule}\n{}", span("anchor", "bed"));
         let told = run("run", &contents);
         assert_eq!(told.status, Some(0), "{told:?}");
@@ -36,6 +36,14 @@ fn a_rule_that_says_nothing_is_warned_of() {
         assert!(told.err.contains("ward.txt:1: warning: 'nurse' is free"), "{told:?}");
         assert!(told.out.contains("  nurse   free: "), "{told:?}");
     }
+}
+
+/// One with an empty left side is refused by the engine (17), so the text has a mistake there.
+#[test]
+fn a_rule_with_an_empty_left_side_is_a_mistake() {
+    let told = run("run", &format!("moments: bed, nurse\nnothing <= nurse\n{}", span("anchor", "bed")));
+    assert_eq!(told.status, Some(1), "{told:?}");
+    assert!(told.err.contains("ward.txt:2: a rule with nothing on its left says nothing, and is refused"), "{told:?}");
 }
 
 #[test]

@@ -35,6 +35,9 @@ fn every_problem(tally: &mut Tally, random: &mut Random, (n, m, w, count): (usiz
     let rows = every_row(n, w);
     every_choice(rows.len(), m, |choice| {
         let rules: Vec<Row> = choice.iter().map(|&number| rows[number].clone()).collect();
+        if rules.iter().any(Row::says_nothing) {
+            return; // refused by 17, see the suite `silent`
+        }
         let mut answers = Vec::new();
         for question in &rows {
             let problem = Problem { rules: rules.clone(), question: question.clone() };

@@ -8,7 +8,7 @@ mod refused;
 use super::bytes::{checker, seen};
 use super::outcome_of;
 use crate::generate::{self, Shape};
-use crate::paper::{self, Outcome, Problem, Questions};
+use crate::paper::{self, Outcome, Problem, Questions, LONGEST_LEAD};
 use crate::tally::Tally;
 use random::Random;
 
@@ -100,7 +100,7 @@ fn good(tally: &mut Tally, random: &mut Random, all: &Questions) {
 
 /// Eight questions at n = 31, m = 63.
 fn largest(random: &mut Random) -> Questions {
-    let shape = Shape { n: 31, m: 63, w: [60, 10_080][random.below(2)], filled: [1, 4, 10][random.below(3)] };
+    let shape = Shape { n: 31, m: 63, w: [60, LONGEST_LEAD][random.below(2)], filled: [1, 4, 10][random.below(3)] };
     let problem = match random.below(3) {
         0 => generate::free(random, shape),
         1 => generate::kept(random, shape),

@@ -8,10 +8,10 @@ use crate::tally::Tally;
 use random::Random;
 
 /// The order in which the engine looks at refusals after 1.
-const ORDER: [u64; 7] = [2, 3, 4, 15, 5, 6, 7];
+const ORDER: [u64; 8] = [2, 3, 4, 15, 5, 6, 17, 7];
 
 /// A lead outside its form.
-const FAR: [i32; 4] = [10_081, -10_081, i32::MAX, i32::MIN + 1];
+const FAR: [i32; 4] = [20_161, -20_161, i32::MAX, i32::MIN + 1];
 
 /// A problem to which exactly these refusals apply, and the length of a buffer.
 fn refused_by(random: &mut Random, applies: impl Fn(u64) -> bool) -> (Vec<u8>, usize) {
@@ -22,8 +22,12 @@ fn refused_by(random: &mut Random, applies: impl Fn(u64) -> bool) -> (Vec<u8>, u
     let count = if applies(15) { [0, 9][random.below(2)] } else { 1 + random.below(8) };
     let row = 8 * (n + 1);
     let mut bytes = vec![0, 0, 0, 0, 3, 0, n as u8, 0, m as u8, 0, count as u8, 0];
-    for _ in 0..row * (m + count) / 4 {
-        let lead = if random.chance(1, 3) { i32::MIN } else { random.lead(-10_080, 10_080) };
+    for place in 0..row * (m + count) / 4 {
+        let (of, at) = (place / (row / 4), place % (row / 4));
+        // The anchor's left lead of a rule is there; where 17 applies, the first rule's left list is blank.
+        let silent = applies(17) && of == 0 && at <= n;
+        let blank = silent || (random.chance(1, 3) && (of >= m || at > 0));
+        let lead = if blank { i32::MIN } else { random.lead(-20_160, 20_160) };
         bytes.extend(lead.to_le_bytes());
     }
     if applies(5) {
@@ -139,13 +143,22 @@ fn leads(tally: &mut Tally, random: &mut Random) {
         let problem = generate::kept(random, Shape { n: 2, m, w: 60, filled: 5 });
         let bytes = generate::questions(random, problem, count).bytes();
         for place in (12..bytes.len()).step_by(4) {
-            for lead in FAR.into_iter().chain([10_080, -10_080, i32::MIN]) {
+            for lead in FAR.into_iter().chain([20_160, -20_160, i32::MIN]) {
                 let mut other = bytes.clone();
                 other[place..place + 4].copy_from_slice(&lead.to_le_bytes());
                 engine(tally, random, &other, 206 * count);
                 match paper::read_questions(&other) {
                     Ok(all) => good(tally, random, &all),
-                    Err(refusal) => tally.same("a lead beyond its limit", refusal, 6, &other, &[]),
+                    Err(refusal) => {
+                        let expected = if lead == i32::MIN { 17 } else { 6 };
+                        tally.same(
+                            "a lead beyond its limit, or a left list without one",
+                            refusal,
+                            expected,
+                            &other,
+                            &[],
+                        );
+                    }
                 }
                 tally.count("leads at their limits");
             }

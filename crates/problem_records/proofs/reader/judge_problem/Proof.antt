@@ -1,8 +1,6 @@
-use Rattle.problem_records.proofs.ReadProblem.{refused-header, refused-lead, judged-told, leads-inside}
-use Rattle.records.proofs.ProblemHeader.{HeaderFits, header-fits}
-use mathlib.Core.Path.{sym, _∙_}
-use borrow.Author.Tests.{not-true, not-false}
-use native.Mathlib.Omega.{arith}
+use Rattle.problem_records.proofs.ReadProblem.{refused-leads, leads-told, refused-silent, speaking-told, rules-inside}
+use mathlib.Core.Path.{sym, ap, _∙_}
+use Rattle.records.specs.ProblemHeader.{headerOf}
 use borrow.Author.Needs.{needs}
 use Rattle.problem_records.proofs.reader.judge_problem.Statement.{statement}
 use Rattle.problem_records.proofs.reader.judge_problem.Tie as tie
@@ -14,11 +12,7 @@ judge-problem-spec =
     (λ c κs. search needs)
     (λ c. search needs)
     (λ c. search needs)
-    (λ c. refused-header _ _ (c .before .before .read-header .ensures) (c .enum-told .given .1))
-    (λ c. let h = header-fits _ _ _ (c .before .before .before .before .read-header .ensures) (c .before .before .header .given .1) in omega (arith, h .m-most, h .questions-most))
-    (λ c κs. let h = header-fits _ _ _ (c .before .before .before .before .read-header .ensures) (c .before .before .header .given .1) in (h .n-most, omega (arith, h .m-most, h .questions-most)))
-    (λ c κs. leads-inside _ _ (header-fits _ _ _ (c .before .before .before .before .before .read-header .ensures) (c .before .before .before .header .given .1)) (c .lead-count .ensures .0))
-    (λ c. refused-lead _ _ (header-fits _ _ _ (c .before .before .before .before .before .before .before .read-header .ensures) (c .before .before .before .before .before .header .given .1)) (c .before .before .lead-count .ensures .0)
-    (sym (not-true _ (c .if1 .taken)) ∙ c .before .leads-fit .ensures))
-    (λ c. judged-told _ _ (header-fits _ _ _ (c .before .before .before .before .before .before .before .read-header .ensures) (c .before .before .before .before .before .header .given .1)) (c .before .before .lead-count .ensures .0)
-    (sym (not-false _ (c .if1 .left)) ∙ c .before .leads-fit .ensures)))
+    (λ c. refused-leads _ _ (c .before .before .judge-leads .ensures) (c .enum-told .given .1))
+    (λ c κs. rules-inside (leads-told _ (c .before .before .before .judge-leads .ensures) (c .before .header .given .1)))
+    (λ c. refused-silent (leads-told _ (c .before .before .before .before .before .judge-leads .ensures) (c .before .before .before .header .given .1)) (sym (c .if1 .taken) ∙ c .before .some-silent .ensures))
+    (λ c. speaking-told (leads-told _ (c .before .before .before .before .before .judge-leads .ensures) (c .before .before .before .header .given .1)) (sym (c .if1 .left) ∙ c .before .some-silent .ensures)))
