@@ -56,9 +56,9 @@ minus (fin a) (fin b) = whole (a -ℤ b)
 unfoldable pub value : Problem → Point → Value
 value p x = minus (side (p .n) (p .left (p .m)) x) (side (p .n) (p .right (p .m)) x)
 
--- Document 02, 2.4: a plan counts only if its second list is not blank, so that the second side is a whole number.
-abbrev pub Counts : Problem → Point → Type 0
-Counts p x = Finite (side (p .n) (p .right (p .m)) x)
+-- Document 02, 2.4: a plan counts only if its second list is not blank: the question's right side is a whole number.
+pub record Counts (p : Problem) (x : Point) : Type 0 where
+  pub second : Finite (side (p .n) (p .right (p .m)) x)
 
 -- Attainable within t (a span t is possible): some feasible point that counts has a value of at most t.
 pub record Attainable (p : Problem) (t : ℤ) : Type 0 where
