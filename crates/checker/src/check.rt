@@ -9,7 +9,7 @@ ghost use Rattle.definitions.specs.Tropical.{fin};
 ghost use Rattle.definitions.specs.Offset.{tropOf};
 ghost use Rattle.definitions.specs.ProblemRecord.{problemOf, meant};
 ghost use Rattle.definitions.specs.AnswerRecord.{Answer, highestPick};
-ghost use Rattle.definitions.specs.Certificate.{Second, AnchorAnd, AcceptedOptimal, AcceptedUnbounded};
+ghost use Rattle.definitions.specs.Certificate.{Second, startOf, AnchorAnd, AcceptedOptimal, AcceptedUnbounded};
 ghost use Rattle.definitions.specs.Verdict.{Accepted, Judged, strategyOf};
 ghost use Rattle.records.specs.Stamps.{Stamped, stampsPoint};
 ghost use Rattle.problem_records.specs.Tables.{Laid};
@@ -49,7 +49,7 @@ pub enum Verdict {
 }
 
 // Class 1, least: the point keeps the rules, its value is the span, and the picks show that none is smaller: judged at
-// the span less 1, from a start.
+// the span less 1, from what the start means.
 fn certify_optimal(
     problem: &[u8],
     n: usize,
@@ -57,10 +57,10 @@ fn certify_optimal(
     stamps: &[u64; STRIDE],
     picks: &[u64; ROWS],
     span: u64,
-    start: [u8; STRIDE],
+    start: u64,
 ) -> bool
-    requires { ⌜ Laid (now problem) n m × Stamped (now stamps) × (getD (now stamps) 0 0 ≡ signed-half) × Picked (now picks) (m + 1) × Span span × Flags start ⌝ }
-    ensures { λ r. ⌜ ((z : ℤ) → tropOf span ≡ fin z → Decides (AcceptedOptimal (Begins start (n + 1)) (problemOf (now (problem .entry))) z (stampsPoint (now (stamps .entry))) (strategyOf (now (picks .entry)))) r) ⌝ }
+    requires { ⌜ Laid (now problem) n m × Stamped (now stamps) × (getD (now stamps) 0 0 ≡ signed-half) × Picked (now picks) (m + 1) × Span span ⌝ }
+    ensures { λ r. ⌜ ((z : ℤ) → tropOf span ≡ fin z → Decides (AcceptedOptimal (startOf (problemOf (now (problem .entry))) start) (problemOf (now (problem .entry))) z (stampsPoint (now (stamps .entry))) (strategyOf (now (picks .entry)))) r) ⌝ }
 {
     let x = lower_point(stamps, n + 1);
     if !keeps_rules(problem, n, m, &x) {
@@ -69,7 +69,14 @@ fn certify_optimal(
     if !value_is(problem, n, m, &x, span) {
         return false;
     }
-    certify_variables(problem, n, m, picks, span - 1, start)
+    certify_variables(
+        problem,
+        n,
+        m,
+        picks,
+        span - 1,
+        start_marks(problem, n, m, start),
+    )
 }
 
 // Class 2, bottomless: judged at the lowest trial from a start, on tables: a cycle that uses the objective then weighs below zero.
@@ -115,15 +122,7 @@ fn certify(
 {
     let class = head.class;
     match class {
-        OPTIMAL => certify_optimal(
-            problem,
-            n,
-            m,
-            stamps,
-            picks,
-            head.span,
-            start_marks(problem, n, m, head.start),
-        ),
+        OPTIMAL => certify_optimal(problem, n, m, stamps, picks, head.span, head.start),
         UNBOUNDED => certify_named(problem, n, m, picks, head.start as usize - 1),
         INFEASIBLE => certify_variables(
             problem,
