@@ -1,11 +1,12 @@
-//! Demand 3 on small problems, word for word: every plan of a box with every pick table, and every table of the other
-//! two classes. What is accepted must agree with the second checker, and some table must be accepted exactly when the
-//! plan is best, when there is none, and when spans are bottomless.
+//! Demand 3 on small problems, word for word, with the starts of document 02, 2.4: every plan of a box with every start and every pick
+//! table, and every start with every table of the other two classes. What is accepted must agree with the second checker, and some start
+//! with some table must be accepted exactly when the plan is best among those that count, when there is none, and when spans are
+//! bottomless.
 
 use super::small::every_problem;
 use super::{checked, expected_check};
 use crate::exhaustive::{every_plan, reach, solve};
-use crate::paper::{counts, highest_pick, Answer, Minute, Outcome, Problem, Row, Span};
+use crate::paper::{counts, highest_pick, starts, Answer, Minute, Outcome, Problem, Row, Span};
 use crate::tally::Tally;
 
 /// Hands over every pick table of a class.
@@ -20,7 +21,8 @@ fn every_table(n: usize, m: usize, class: u64, mut visit: impl FnMut(&[u64])) {
     }
 }
 
-/// Whether the checker accepts an answer of this class, with this plan, with some table.
+/// Whether the checker accepts an answer of this class, with this plan, with some start and some table. Starts go from 0 to n + 3:
+/// those that the class does not have are refused.
 fn accepted_with_some(
     tally: &mut Tally,
     problem: &Problem,
@@ -29,14 +31,24 @@ fn accepted_with_some(
     span: Minute,
     plan: &[Minute],
 ) -> bool {
+    let n = problem.n();
     let mut some = false;
-    every_table(problem.n(), problem.m(), class, |picks| {
-        let answer = Answer { class, span, stamps: plan.to_vec(), picks: picks.to_vec() };
-        let record = answer.bytes(problem.n());
-        let found = checked(bytes, &record);
-        tally.same("the checker", found, expected_check(bytes, &record), bytes, &record);
-        tally.count(if found.is_ok() { "accepted" } else { "not accepted" });
-        some |= found.is_ok();
+    let mut answer = Answer { class, span, start: 0, stamps: plan.to_vec(), picks: Vec::new() };
+    every_table(n, problem.m(), class, |picks| {
+        answer.picks = picks.to_vec();
+        let last = if picks.iter().all(|&pick| pick == 0) { n as u64 + 3 } else { *starts(class, n).end() };
+        for start in 0..=last {
+            answer.start = start;
+            let record = answer.bytes(n);
+            let found = checked(bytes, &record);
+            tally.same("the checker", found, expected_check(bytes, &record), bytes, &record);
+            tally.count(match found {
+                Ok(_) => "accepted",
+                Err(10) => "no such start",
+                Err(_) => "not accepted",
+            });
+            some |= found.is_ok();
+        }
     });
     some
 }
