@@ -6,8 +6,10 @@
 use super::small::every_problem;
 use super::{checked, expected_check};
 use crate::exhaustive::{every_plan, reach, solve};
+use crate::generate::{self, Shape};
 use crate::paper::{counts, highest_pick, starts, Answer, Minute, Outcome, Problem, Row, Span};
 use crate::tally::Tally;
+use random::Random;
 
 /// Hands over every pick table of a class.
 fn every_table(n: usize, m: usize, class: u64, mut visit: impl FnMut(&[u64])) {
@@ -53,30 +55,43 @@ fn accepted_with_some(
     some
 }
 
+/// Demand 3 on one problem whose leads are within ±w.
+fn demand_3(tally: &mut Tally, problem: &Problem, w: i64) {
+    tally.count("problems");
+    let n = problem.n();
+    let bytes = problem.bytes();
+    let outcome = solve(problem, w);
+    // Demand 3 speaks of problems without a rule that says nothing; no table is accepted for the others.
+    let speaks = !problem.rules.iter().any(Row::says_nothing);
+    let none = accepted_with_some(tally, problem, &bytes, 3, None, &[]);
+    tally.same("some table for none", none, speaks && outcome == Outcome::None, &bytes, &[]);
+    let bottomless = accepted_with_some(tally, problem, &bytes, 2, None, &[]);
+    tally.same("some table for bottomless", bottomless, speaks && outcome == Outcome::Bottomless, &bytes, &[]);
+    every_plan(n, reach(n, w), |plan| {
+        let Span::Whole(span) = problem.span(plan) else { return };
+        let accepted = accepted_with_some(tally, problem, &bytes, 1, Some(span), plan);
+        let best = speaks && problem.keeps_the_rules(plan) && outcome == Outcome::Least(span);
+        tally.same("some table for a plan", accepted, best, &bytes, &[]);
+        tally.count("plans");
+    });
+}
+
 pub fn run(tally: &mut Tally) {
-    for (n, m, w, every) in [(0, 0, 3, 1), (0, 1, 1, 1), (1, 0, 1, 1), (1, 1, 1, 3)] {
+    // n, m, the width of leads; of the largest ones every so many in the gate.
+    for (n, m, w, every) in [(0, 0, 3, 1), (0, 1, 1, 1), (1, 0, 1, 1), (1, 1, 1, 7), (0, 2, 1, 5)] {
         let mut number = 0;
         every_problem(n, m, w, |problem| {
             number += 1;
-            if number % every != 0 {
-                return;
+            if tally.long || number % every == 0 {
+                demand_3(tally, problem, w);
             }
-            tally.count("problems");
-            let bytes = problem.bytes();
-            let outcome = solve(problem, w);
-            // Demand 3 speaks of problems without a rule that says nothing; no table is accepted for the others.
-            let speaks = !problem.rules.iter().any(Row::says_nothing);
-            let none = accepted_with_some(tally, problem, &bytes, 3, None, &[]);
-            tally.same("some table for none", none, speaks && outcome == Outcome::None, &bytes, &[]);
-            let bottomless = accepted_with_some(tally, problem, &bytes, 2, None, &[]);
-            tally.same("some table for bottomless", bottomless, speaks && outcome == Outcome::Bottomless, &bytes, &[]);
-            every_plan(n, reach(n, w), |plan| {
-                let Span::Whole(span) = problem.span(plan) else { return };
-                let accepted = accepted_with_some(tally, problem, &bytes, 1, Some(span), plan);
-                let best = speaks && problem.keeps_the_rules(plan) && outcome == Outcome::Least(span);
-                tally.same("some table for a plan", accepted, best, &bytes, &[]);
-                tally.count("plans");
-            });
         });
+    }
+    const SEED: u64 = 40;
+    tally.seed(SEED);
+    let mut random = Random::new(SEED);
+    for round in 0..if tally.long { 3_000 } else { 12 } {
+        let shape = Shape { n: 2, m: 1 + round % 2, w: 1, filled: [3, 5, 7][random.below(3)] };
+        demand_3(tally, &generate::sparse(&mut random, shape), 1);
     }
 }
