@@ -76,7 +76,16 @@ impl<'a> Rows<'a> for Lists<'a> {
         let pairs = &entries[starts[last] as usize..];
         let objective = pairs.iter().map(|pair: &[Entry; 2]| [pair[0].coefficient, pair[1].coefficient]).collect();
         let second = problem.second();
-        Lists { variables: problem.variables, rows: problem.rows, entries, starts, objective, problem, second, raised: 0 }
+        Lists {
+            variables: problem.variables,
+            rows: problem.rows,
+            entries,
+            starts,
+            objective,
+            problem,
+            second,
+            raised: 0,
+        }
     }
 
     fn variables(&self) -> usize {
