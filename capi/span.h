@@ -23,15 +23,14 @@
  * Refusals: 1 the problem has 1 to 9 bytes; 2 its length field is not its size - 4; 3 its kind is not 1, nor, in
  * span_solve, 3; 4 n is above 31 or m above 63; 5 its size does not fit n and m, and for kind 3 the count; 6 a lead is
  * neither blank nor within 20,160 of 0; 7 the answer buffer is shorter than 208 bytes a question; 8 the answer has fewer
- * than 16 bytes; 9 its length field is not its size - 4; 10 its kind is not 4, its class not 1 to 3, or its start above 1,
- * in class 2 its start 0 or above the problem's n + 1; 11 its n is not the
- * problem's, or its size does not fit its class; 12 its span or a stamp is outside the form of its class; 13 a pick is above
- * its highest value; 14 not certified; 15 the count of questions is 0 or above 8; 17 a rule, not the question, has an
- * all-blank left list (span_convert drops such rules); 18 (hours and minutes) the text is not of
- * this form, a value is beyond 6,000,000 of 0, or the writer's buffer is shorter than 10 bytes; 19 a week list or a minute to
- * be looked up is not of its form (span_first_open). The first that applies is returned, in this order, but 15 is looked at
- * after 4 and before 5, and 17 after 6 and before 7; a record of kind 3 that ends before its count gets 5. A refusal writes
- * nothing.
+ * than 16 bytes; 9 its length field is not its size - 4; 10 its kind is not 4, its class not 1 to 3, or its start above 1
+ * (in class 2: 0, or above the problem's n + 1); 11 its n is not the problem's, or its size does not fit its class; 12 its
+ * span or a stamp is outside the form of its class; 13 a pick is above its highest value; 14 not certified; 15 the count of
+ * questions is 0 or above 8; 17 a rule, not the question, has an all-blank left list (span_convert drops such rules); 18
+ * (hours and minutes) the text is not of this form, a value is beyond 6,000,000 of 0, or the writer's buffer is shorter
+ * than 10 bytes; 19 a week list or a minute to be looked up is not of its form (span_first_open). The first that applies is
+ * returned, in this order, but 15 is looked at after 4 and before 5, and 17 after 6 and before 7; a record of kind 3 that
+ * ends before its count gets 5. A refusal writes nothing.
  */
 #ifndef SPAN_H
 #define SPAN_H

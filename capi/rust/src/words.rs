@@ -152,7 +152,7 @@ impl Refusal {
             7 => "The answer buffer is shorter than 208 bytes a question, whichever class is due.",
             8 => "The answer has fewer than 16 bytes.",
             9 => "Its length field is not its size − 4.",
-            10 => "Its kind is not 4, its class not 1 to 3, or its start above 1, or for bottomless 0 or above n + 1.",
+            10 => "Its kind is not 4, its class not 1 to 3, or its start above 1 (for bottomless: 0, or above the problem's n + 1).",
             11 => "Its n is not the problem's, or its size does not fit its class.",
             12 => "Its span or a stamp is outside the form of its class.",
             13 => "A pick is above its highest value.",

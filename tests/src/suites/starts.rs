@@ -234,7 +234,7 @@ pub fn run(tally: &mut Tally) {
     of_j(tally);
     of_d_and_e(tally);
     apart(tally, &mut random);
-    for (n, m, w, every) in [(0, 0, 2, 1), (0, 1, 1, 1), (1, 0, 1, 1), (1, 1, 1, 17)] {
+    for (n, m, w, every) in [(0, 0, 2, 1), (0, 1, 1, 1), (1, 0, 1, 1), (1, 1, 1, 5)] {
         let mut number = 0;
         every_problem(n, m, w, |problem| {
             number += 1;

@@ -78,7 +78,7 @@ fn demand_3(tally: &mut Tally, problem: &Problem, w: i64) {
 
 pub fn run(tally: &mut Tally) {
     // n, m, the width of leads; of the largest ones every so many in the gate.
-    for (n, m, w, every) in [(0, 0, 3, 1), (0, 1, 1, 1), (1, 0, 1, 1), (1, 1, 1, 7), (0, 2, 1, 5)] {
+    for (n, m, w, every) in [(0, 0, 3, 1), (0, 1, 1, 1), (1, 0, 1, 1), (1, 1, 1, 3), (0, 2, 1, 3)] {
         let mut number = 0;
         every_problem(n, m, w, |problem| {
             number += 1;
@@ -90,7 +90,7 @@ pub fn run(tally: &mut Tally) {
     const SEED: u64 = 40;
     tally.seed(SEED);
     let mut random = Random::new(SEED);
-    for round in 0..if tally.long { 3_000 } else { 12 } {
+    for round in 0..if tally.long { 1_000 } else { 12 } {
         let shape = Shape { n: 2, m: 1 + round % 2, w: 1, filled: [3, 5, 7][random.below(3)] };
         demand_3(tally, &generate::sparse(&mut random, shape), 1);
     }
