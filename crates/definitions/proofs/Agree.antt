@@ -3,8 +3,8 @@ use Prim.Native.Nat.{ℕ, suc, _≤_, _<_}
 use mathlib.Core.Path.{_≡_, ap, ap₂, sym, subst, _∙_}
 use native.Mathlib.Omega.{arith}
 use lib.IntN.{ℤ}
-use Rattle.definitions.specs.Tropical.{Trop, plus, largest}
-use Rattle.definitions.specs.Problem.{Problem, Point, side, Feasible, Value, minus, value, whole, plus-infinity, _≼_, Attainable, Optimal, Unbounded, Infeasible}
+use Rattle.definitions.specs.Tropical.{Trop, plus, largest, Finite}
+use Rattle.definitions.specs.Problem.{Problem, Point, side, Feasible, Counts, Value, minus, value, whole, plus-infinity, _≼_, Attainable, Optimal, Unbounded, Infeasible}
 use Rattle.definitions.proofs.Tropical.{⊑-of-eq, ⊑-trans, largest-ext}
 
 -- The same n and m, and the same coefficients in rows 0 to m and variables 0 to n.
@@ -42,6 +42,16 @@ agree-feasible {p} {q} {x} a f =
           ⊑-trans (⊑-of-eq (sym left)) (⊑-trans (f .keeps i h) (⊑-of-eq right));
     }
 
+-- count,
+pub agree-counts : {p q : Problem} {x : Point} → Agree p q → Counts p x → Counts q x
+agree-counts {p} {q} {x} a c =
+    record {
+      second =
+          subst Finite
+          (agree-side (p .right (p .m)) (q .right (q .m)) x (a .same-n) (λ j k. a .right (p .m) j (omega arith) k ∙ ap (λ (i : ℕ). q .right i j) (a .same-m)))
+          (c .second);
+    }
+
 -- and have the same spans.
 pub agree-value : {p q : Problem} (x : Point) → Agree p q → value p x ≡ value q x
 unfolding value
@@ -56,8 +66,9 @@ agree-optimal {p} {q} {s} a o =
     record {
       point = o .point;
       feasible = agree-feasible a (o .feasible);
+      counts = agree-counts a (o .counts);
       value-is = sym (agree-value (o .point) a) ∙ o .value-is;
-      least = λ y f. subst (λ (v : Value). whole s ≼ v) (agree-value y a) (o .least y (agree-feasible (agree-sym a) f));
+      least = λ y f c. subst (λ (v : Value). whole s ≼ v) (agree-value y a) (o .least y (agree-feasible (agree-sym a) f) (agree-counts (agree-sym a) c));
     }
 
 pub agree-unbounded : {p q : Problem} → Agree p q → Unbounded p → Unbounded q
@@ -66,8 +77,10 @@ agree-unbounded {p} {q} a u t =
     record {
       point = r .point;
       feasible = agree-feasible a (r .feasible);
+      counts = agree-counts a (r .counts);
       within = subst (λ (v : Value). v ≼ whole t) (agree-value (r .point) a) (r .within);
     }
 
 pub agree-infeasible : {p q : Problem} → Agree p q → Infeasible p → Infeasible q
-agree-infeasible a i x f = subst (λ (v : Value). plus-infinity ≼ v) (agree-value x a) (i x (agree-feasible (agree-sym a) f))
+agree-infeasible a i x f c =
+    subst (λ (v : Value). plus-infinity ≼ v) (agree-value x a) (i x (agree-feasible (agree-sym a) f) (agree-counts (agree-sym a) c))

@@ -100,54 +100,72 @@ answers =
     record { number = 4; n = 32; m = 0; bytes = [] } ∷
     -- m 64
     record { number = 4; n = 0; m = 64; bytes = [] } ∷
-    -- thirteen bytes
-    record { number = 8; n = 0; m = 0; bytes = (16 ∷ 0 ∷ 0 ∷ 0 ∷ 2 ∷ 0 ∷ 0 ∷ 0 ∷ 1 ∷ 0 ∷ 3 ∷ 0 ∷ 0 ∷ []) } ∷
+    -- fifteen bytes
+    record { number = 8; n = 0; m = 0; bytes = (18 ∷ 0 ∷ 0 ∷ 0 ∷ 4 ∷ 0 ∷ 0 ∷ 0 ∷ 1 ∷ 0 ∷ 3 ∷ 0 ∷ 0 ∷ 0 ∷ 0 ∷ []) } ∷
     -- length one long
-    record { number = 9; n = 0; m = 0; bytes = (17 ∷ 0 ∷ 0 ∷ 0 ∷ 2 ∷ 0 ∷ 0 ∷ 0 ∷ 1 ∷ 0 ∷ 3 ∷ 0 ∷ 0 ∷ 0 ∷ 0 ∷ 0 ∷ 0 ∷ 0 ∷ 1 ∷ 0 ∷ []) } ∷
+    record { number = 9; n = 0; m = 0; bytes = (19 ∷ 0 ∷ 0 ∷ 0 ∷ 4 ∷ 0 ∷ 0 ∷ 0 ∷ 1 ∷ 0 ∷ 3 ∷ 0 ∷ 0 ∷ 0 ∷ 0 ∷ 0 ∷ 0 ∷ 0 ∷ 0 ∷ 0 ∷ 1 ∷ 0 ∷ []) } ∷
     -- length and kind wrong
-    record { number = 9; n = 0; m = 0; bytes = (17 ∷ 0 ∷ 0 ∷ 0 ∷ 1 ∷ 0 ∷ 0 ∷ 0 ∷ 1 ∷ 0 ∷ 3 ∷ 0 ∷ 0 ∷ 0 ∷ 0 ∷ 0 ∷ 0 ∷ 0 ∷ 1 ∷ 0 ∷ []) } ∷
+    record { number = 9; n = 0; m = 0; bytes = (19 ∷ 0 ∷ 0 ∷ 0 ∷ 1 ∷ 0 ∷ 0 ∷ 0 ∷ 1 ∷ 0 ∷ 3 ∷ 0 ∷ 0 ∷ 0 ∷ 0 ∷ 0 ∷ 0 ∷ 0 ∷ 0 ∷ 0 ∷ 1 ∷ 0 ∷ []) } ∷
     -- kind 1
-    record { number = 10; n = 0; m = 0; bytes = (16 ∷ 0 ∷ 0 ∷ 0 ∷ 1 ∷ 0 ∷ 0 ∷ 0 ∷ 1 ∷ 0 ∷ 3 ∷ 0 ∷ 0 ∷ 0 ∷ 0 ∷ 0 ∷ 0 ∷ 0 ∷ 1 ∷ 0 ∷ []) } ∷
+    record { number = 10; n = 0; m = 0; bytes = (18 ∷ 0 ∷ 0 ∷ 0 ∷ 1 ∷ 0 ∷ 0 ∷ 0 ∷ 1 ∷ 0 ∷ 3 ∷ 0 ∷ 0 ∷ 0 ∷ 0 ∷ 0 ∷ 0 ∷ 0 ∷ 0 ∷ 0 ∷ 1 ∷ 0 ∷ []) } ∷
     -- class 0
-    record { number = 10; n = 0; m = 0; bytes = (16 ∷ 0 ∷ 0 ∷ 0 ∷ 2 ∷ 0 ∷ 0 ∷ 0 ∷ 0 ∷ 0 ∷ 3 ∷ 0 ∷ 0 ∷ 0 ∷ 0 ∷ 0 ∷ 0 ∷ 0 ∷ 1 ∷ 0 ∷ []) } ∷
+    record { number = 10; n = 0; m = 0; bytes = (18 ∷ 0 ∷ 0 ∷ 0 ∷ 4 ∷ 0 ∷ 0 ∷ 0 ∷ 0 ∷ 0 ∷ 3 ∷ 0 ∷ 0 ∷ 0 ∷ 0 ∷ 0 ∷ 0 ∷ 0 ∷ 0 ∷ 0 ∷ 1 ∷ 0 ∷ []) } ∷
     -- class 4 and n 1
-    record { number = 10; n = 0; m = 0; bytes = (16 ∷ 0 ∷ 0 ∷ 0 ∷ 2 ∷ 0 ∷ 1 ∷ 0 ∷ 4 ∷ 0 ∷ 3 ∷ 0 ∷ 0 ∷ 0 ∷ 0 ∷ 0 ∷ 0 ∷ 0 ∷ 1 ∷ 0 ∷ []) } ∷
+    record { number = 10; n = 0; m = 0; bytes = (18 ∷ 0 ∷ 0 ∷ 0 ∷ 4 ∷ 0 ∷ 1 ∷ 0 ∷ 4 ∷ 0 ∷ 3 ∷ 0 ∷ 0 ∷ 0 ∷ 0 ∷ 0 ∷ 0 ∷ 0 ∷ 0 ∷ 0 ∷ 1 ∷ 0 ∷ []) } ∷
+    -- kind 2
+    record { number = 10; n = 0; m = 0; bytes = (18 ∷ 0 ∷ 0 ∷ 0 ∷ 2 ∷ 0 ∷ 0 ∷ 0 ∷ 1 ∷ 0 ∷ 3 ∷ 0 ∷ 0 ∷ 0 ∷ 0 ∷ 0 ∷ 0 ∷ 0 ∷ 0 ∷ 0 ∷ 1 ∷ 0 ∷ []) } ∷
+    -- start 2 for least, and n 1
+    record { number = 10; n = 0; m = 0; bytes = (18 ∷ 0 ∷ 0 ∷ 0 ∷ 4 ∷ 0 ∷ 1 ∷ 0 ∷ 1 ∷ 0 ∷ 3 ∷ 0 ∷ 0 ∷ 0 ∷ 2 ∷ 0 ∷ 0 ∷ 0 ∷ 0 ∷ 0 ∷ 1 ∷ 0 ∷ []) } ∷
+    -- start 2 for none
+    record { number = 10; n = 0; m = 0; bytes = (14 ∷ 0 ∷ 0 ∷ 0 ∷ 4 ∷ 0 ∷ 0 ∷ 0 ∷ 3 ∷ 0 ∷ 0 ∷ 0 ∷ 0 ∷ 128 ∷ 2 ∷ 0 ∷ 1 ∷ 0 ∷ []) } ∷
+    -- start 0 for bottomless, and a pick too many
+    record { number = 10; n = 0; m = 0; bytes = (16 ∷ 0 ∷ 0 ∷ 0 ∷ 4 ∷ 0 ∷ 0 ∷ 0 ∷ 2 ∷ 0 ∷ 0 ∷ 0 ∷ 0 ∷ 128 ∷ 0 ∷ 0 ∷ 0 ∷ 0 ∷ 0 ∷ 0 ∷ []) } ∷
+    -- start n + 2 for bottomless, where the record's own n is 1
+    record { number = 10; n = 0; m = 0; bytes = (14 ∷ 0 ∷ 0 ∷ 0 ∷ 4 ∷ 0 ∷ 1 ∷ 0 ∷ 2 ∷ 0 ∷ 0 ∷ 0 ∷ 0 ∷ 128 ∷ 2 ∷ 0 ∷ 0 ∷ 0 ∷ []) } ∷
+    -- start n + 1 for bottomless, where the record's own n is 0
+    record { number = 11; n = 1; m = 0; bytes = (14 ∷ 0 ∷ 0 ∷ 0 ∷ 4 ∷ 0 ∷ 0 ∷ 0 ∷ 2 ∷ 0 ∷ 0 ∷ 0 ∷ 0 ∷ 128 ∷ 2 ∷ 0 ∷ 0 ∷ 0 ∷ []) } ∷
+    -- start 1 for least
+    record { number = 0; n = 0; m = 0; bytes = (18 ∷ 0 ∷ 0 ∷ 0 ∷ 4 ∷ 0 ∷ 0 ∷ 0 ∷ 1 ∷ 0 ∷ 3 ∷ 0 ∷ 0 ∷ 0 ∷ 1 ∷ 0 ∷ 0 ∷ 0 ∷ 0 ∷ 0 ∷ 1 ∷ 0 ∷ []) } ∷
+    -- start 1 for none
+    record { number = 0; n = 0; m = 0; bytes = (14 ∷ 0 ∷ 0 ∷ 0 ∷ 4 ∷ 0 ∷ 0 ∷ 0 ∷ 3 ∷ 0 ∷ 0 ∷ 0 ∷ 0 ∷ 128 ∷ 1 ∷ 0 ∷ 0 ∷ 0 ∷ []) } ∷
+    -- start n + 1 for bottomless
+    record { number = 0; n = 1; m = 0; bytes = (14 ∷ 0 ∷ 0 ∷ 0 ∷ 4 ∷ 0 ∷ 1 ∷ 0 ∷ 2 ∷ 0 ∷ 0 ∷ 0 ∷ 0 ∷ 128 ∷ 2 ∷ 0 ∷ 0 ∷ 0 ∷ []) } ∷
     -- n 1 for a problem with n 0
-    record { number = 11; n = 0; m = 0; bytes = (16 ∷ 0 ∷ 0 ∷ 0 ∷ 2 ∷ 0 ∷ 1 ∷ 0 ∷ 1 ∷ 0 ∷ 3 ∷ 0 ∷ 0 ∷ 0 ∷ 0 ∷ 0 ∷ 0 ∷ 0 ∷ 1 ∷ 0 ∷ []) } ∷
+    record { number = 11; n = 0; m = 0; bytes = (18 ∷ 0 ∷ 0 ∷ 0 ∷ 4 ∷ 0 ∷ 1 ∷ 0 ∷ 1 ∷ 0 ∷ 3 ∷ 0 ∷ 0 ∷ 0 ∷ 0 ∷ 0 ∷ 0 ∷ 0 ∷ 0 ∷ 0 ∷ 1 ∷ 0 ∷ []) } ∷
     -- a pick too many, a span too large
-    record { number = 11; n = 0; m = 0; bytes = (18 ∷ 0 ∷ 0 ∷ 0 ∷ 2 ∷ 0 ∷ 0 ∷ 0 ∷ 1 ∷ 0 ∷ 1 ∷ 176 ∷ 19 ∷ 0 ∷ 0 ∷ 0 ∷ 0 ∷ 0 ∷ 1 ∷ 0 ∷ 1 ∷ 0 ∷ []) } ∷
+    record { number = 11; n = 0; m = 0; bytes = (20 ∷ 0 ∷ 0 ∷ 0 ∷ 4 ∷ 0 ∷ 0 ∷ 0 ∷ 1 ∷ 0 ∷ 1 ∷ 176 ∷ 19 ∷ 0 ∷ 0 ∷ 0 ∷ 0 ∷ 0 ∷ 0 ∷ 0 ∷ 1 ∷ 0 ∷ 1 ∷ 0 ∷ []) } ∷
     -- span 1,290,241
-    record { number = 12; n = 0; m = 0; bytes = (16 ∷ 0 ∷ 0 ∷ 0 ∷ 2 ∷ 0 ∷ 0 ∷ 0 ∷ 1 ∷ 0 ∷ 1 ∷ 176 ∷ 19 ∷ 0 ∷ 0 ∷ 0 ∷ 0 ∷ 0 ∷ 1 ∷ 0 ∷ []) } ∷
+    record { number = 12; n = 0; m = 0; bytes = (18 ∷ 0 ∷ 0 ∷ 0 ∷ 4 ∷ 0 ∷ 0 ∷ 0 ∷ 1 ∷ 0 ∷ 1 ∷ 176 ∷ 19 ∷ 0 ∷ 0 ∷ 0 ∷ 0 ∷ 0 ∷ 0 ∷ 0 ∷ 1 ∷ 0 ∷ []) } ∷
     -- span −1,290,241
-    record { number = 12; n = 0; m = 0; bytes = (16 ∷ 0 ∷ 0 ∷ 0 ∷ 2 ∷ 0 ∷ 0 ∷ 0 ∷ 1 ∷ 0 ∷ 255 ∷ 79 ∷ 236 ∷ 255 ∷ 0 ∷ 0 ∷ 0 ∷ 0 ∷ 1 ∷ 0 ∷ []) } ∷
+    record { number = 12; n = 0; m = 0; bytes = (18 ∷ 0 ∷ 0 ∷ 0 ∷ 4 ∷ 0 ∷ 0 ∷ 0 ∷ 1 ∷ 0 ∷ 255 ∷ 79 ∷ 236 ∷ 255 ∷ 0 ∷ 0 ∷ 0 ∷ 0 ∷ 0 ∷ 0 ∷ 1 ∷ 0 ∷ []) } ∷
     -- blank span for least
-    record { number = 12; n = 0; m = 0; bytes = (16 ∷ 0 ∷ 0 ∷ 0 ∷ 2 ∷ 0 ∷ 0 ∷ 0 ∷ 1 ∷ 0 ∷ 0 ∷ 0 ∷ 0 ∷ 128 ∷ 0 ∷ 0 ∷ 0 ∷ 0 ∷ 1 ∷ 0 ∷ []) } ∷
+    record { number = 12; n = 0; m = 0; bytes = (18 ∷ 0 ∷ 0 ∷ 0 ∷ 4 ∷ 0 ∷ 0 ∷ 0 ∷ 1 ∷ 0 ∷ 0 ∷ 0 ∷ 0 ∷ 128 ∷ 0 ∷ 0 ∷ 0 ∷ 0 ∷ 0 ∷ 0 ∷ 1 ∷ 0 ∷ []) } ∷
     -- stamp 0 is 1
-    record { number = 12; n = 0; m = 0; bytes = (16 ∷ 0 ∷ 0 ∷ 0 ∷ 2 ∷ 0 ∷ 0 ∷ 0 ∷ 1 ∷ 0 ∷ 3 ∷ 0 ∷ 0 ∷ 0 ∷ 1 ∷ 0 ∷ 0 ∷ 0 ∷ 1 ∷ 0 ∷ []) } ∷
+    record { number = 12; n = 0; m = 0; bytes = (18 ∷ 0 ∷ 0 ∷ 0 ∷ 4 ∷ 0 ∷ 0 ∷ 0 ∷ 1 ∷ 0 ∷ 3 ∷ 0 ∷ 0 ∷ 0 ∷ 0 ∷ 0 ∷ 1 ∷ 0 ∷ 0 ∷ 0 ∷ 1 ∷ 0 ∷ []) } ∷
     -- stamp 0 blank
-    record { number = 12; n = 0; m = 0; bytes = (16 ∷ 0 ∷ 0 ∷ 0 ∷ 2 ∷ 0 ∷ 0 ∷ 0 ∷ 1 ∷ 0 ∷ 3 ∷ 0 ∷ 0 ∷ 0 ∷ 0 ∷ 0 ∷ 0 ∷ 128 ∷ 1 ∷ 0 ∷ []) } ∷
-    -- stamp 3,000,001, and a pick too high
-    record { number = 12; n = 1; m = 0; bytes = (22 ∷ 0 ∷ 0 ∷ 0 ∷ 2 ∷ 0 ∷ 1 ∷ 0 ∷ 1 ∷ 0 ∷ 3 ∷ 0 ∷ 0 ∷ 0 ∷ 0 ∷ 0 ∷ 0 ∷ 0 ∷ 193 ∷ 198 ∷ 45 ∷ 0 ∷ 1 ∷ 0 ∷ 9 ∷ 0 ∷ []) } ∷
-    -- stamp −3,000,001
-    record { number = 12; n = 1; m = 0; bytes = (22 ∷ 0 ∷ 0 ∷ 0 ∷ 2 ∷ 0 ∷ 1 ∷ 0 ∷ 1 ∷ 0 ∷ 3 ∷ 0 ∷ 0 ∷ 0 ∷ 0 ∷ 0 ∷ 0 ∷ 0 ∷ 63 ∷ 57 ∷ 210 ∷ 255 ∷ 1 ∷ 0 ∷ 1 ∷ 0 ∷ []) } ∷
+    record { number = 12; n = 0; m = 0; bytes = (18 ∷ 0 ∷ 0 ∷ 0 ∷ 4 ∷ 0 ∷ 0 ∷ 0 ∷ 1 ∷ 0 ∷ 3 ∷ 0 ∷ 0 ∷ 0 ∷ 0 ∷ 0 ∷ 0 ∷ 0 ∷ 0 ∷ 128 ∷ 1 ∷ 0 ∷ []) } ∷
+    -- stamp 6,000,001, and a pick too high
+    record { number = 12; n = 1; m = 0; bytes = (24 ∷ 0 ∷ 0 ∷ 0 ∷ 4 ∷ 0 ∷ 1 ∷ 0 ∷ 1 ∷ 0 ∷ 3 ∷ 0 ∷ 0 ∷ 0 ∷ 0 ∷ 0 ∷ 0 ∷ 0 ∷ 0 ∷ 0 ∷ 129 ∷ 141 ∷ 91 ∷ 0 ∷ 1 ∷ 0 ∷ 9 ∷ 0 ∷ []) } ∷
+    -- stamp −6,000,001
+    record { number = 12; n = 1; m = 0; bytes = (24 ∷ 0 ∷ 0 ∷ 0 ∷ 4 ∷ 0 ∷ 1 ∷ 0 ∷ 1 ∷ 0 ∷ 3 ∷ 0 ∷ 0 ∷ 0 ∷ 0 ∷ 0 ∷ 0 ∷ 0 ∷ 0 ∷ 0 ∷ 127 ∷ 114 ∷ 164 ∷ 255 ∷ 1 ∷ 0 ∷ 1 ∷ 0 ∷ []) } ∷
     -- whole span for bottomless
-    record { number = 12; n = 0; m = 0; bytes = (12 ∷ 0 ∷ 0 ∷ 0 ∷ 2 ∷ 0 ∷ 0 ∷ 0 ∷ 2 ∷ 0 ∷ 0 ∷ 0 ∷ 0 ∷ 0 ∷ 0 ∷ 0 ∷ []) } ∷
+    record { number = 12; n = 0; m = 0; bytes = (14 ∷ 0 ∷ 0 ∷ 0 ∷ 4 ∷ 0 ∷ 0 ∷ 0 ∷ 2 ∷ 0 ∷ 0 ∷ 0 ∷ 0 ∷ 0 ∷ 1 ∷ 0 ∷ 0 ∷ 0 ∷ []) } ∷
     -- whole span for none
-    record { number = 12; n = 0; m = 0; bytes = (12 ∷ 0 ∷ 0 ∷ 0 ∷ 2 ∷ 0 ∷ 0 ∷ 0 ∷ 3 ∷ 0 ∷ 0 ∷ 0 ∷ 0 ∷ 0 ∷ 0 ∷ 0 ∷ []) } ∷
+    record { number = 12; n = 0; m = 0; bytes = (14 ∷ 0 ∷ 0 ∷ 0 ∷ 4 ∷ 0 ∷ 0 ∷ 0 ∷ 3 ∷ 0 ∷ 0 ∷ 0 ∷ 0 ∷ 0 ∷ 0 ∷ 0 ∷ 0 ∷ 0 ∷ []) } ∷
     -- pick m + 2
-    record { number = 13; n = 0; m = 0; bytes = (16 ∷ 0 ∷ 0 ∷ 0 ∷ 2 ∷ 0 ∷ 0 ∷ 0 ∷ 1 ∷ 0 ∷ 3 ∷ 0 ∷ 0 ∷ 0 ∷ 0 ∷ 0 ∷ 0 ∷ 0 ∷ 2 ∷ 0 ∷ []) } ∷
+    record { number = 13; n = 0; m = 0; bytes = (18 ∷ 0 ∷ 0 ∷ 0 ∷ 4 ∷ 0 ∷ 0 ∷ 0 ∷ 1 ∷ 0 ∷ 3 ∷ 0 ∷ 0 ∷ 0 ∷ 0 ∷ 0 ∷ 0 ∷ 0 ∷ 0 ∷ 0 ∷ 2 ∷ 0 ∷ []) } ∷
     -- pick n + 2 for bottomless
-    record { number = 13; n = 0; m = 1; bytes = (14 ∷ 0 ∷ 0 ∷ 0 ∷ 2 ∷ 0 ∷ 0 ∷ 0 ∷ 2 ∷ 0 ∷ 0 ∷ 0 ∷ 0 ∷ 128 ∷ 0 ∷ 0 ∷ 2 ∷ 0 ∷ []) } ∷
+    record { number = 13; n = 0; m = 1; bytes = (16 ∷ 0 ∷ 0 ∷ 0 ∷ 4 ∷ 0 ∷ 0 ∷ 0 ∷ 2 ∷ 0 ∷ 0 ∷ 0 ∷ 0 ∷ 128 ∷ 1 ∷ 0 ∷ 0 ∷ 0 ∷ 2 ∷ 0 ∷ []) } ∷
     -- pick m + 2 for none
-    record { number = 13; n = 1; m = 0; bytes = (14 ∷ 0 ∷ 0 ∷ 0 ∷ 2 ∷ 0 ∷ 1 ∷ 0 ∷ 3 ∷ 0 ∷ 0 ∷ 0 ∷ 0 ∷ 128 ∷ 0 ∷ 0 ∷ 2 ∷ 0 ∷ []) } ∷
+    record { number = 13; n = 1; m = 0; bytes = (16 ∷ 0 ∷ 0 ∷ 0 ∷ 4 ∷ 0 ∷ 1 ∷ 0 ∷ 3 ∷ 0 ∷ 0 ∷ 0 ∷ 0 ∷ 128 ∷ 0 ∷ 0 ∷ 0 ∷ 0 ∷ 2 ∷ 0 ∷ []) } ∷
     -- span and stamp at their limits
-    record { number = 0; n = 1; m = 0; bytes = (22 ∷ 0 ∷ 0 ∷ 0 ∷ 2 ∷ 0 ∷ 1 ∷ 0 ∷ 1 ∷ 0 ∷ 0 ∷ 176 ∷ 19 ∷ 0 ∷ 0 ∷ 0 ∷ 0 ∷ 0 ∷ 64 ∷ 57 ∷ 210 ∷ 255 ∷ 1 ∷ 0 ∷ 1 ∷ 0 ∷ []) } ∷
+    record { number = 0; n = 1; m = 0; bytes = (24 ∷ 0 ∷ 0 ∷ 0 ∷ 4 ∷ 0 ∷ 1 ∷ 0 ∷ 1 ∷ 0 ∷ 0 ∷ 176 ∷ 19 ∷ 0 ∷ 0 ∷ 0 ∷ 0 ∷ 0 ∷ 0 ∷ 0 ∷ 128 ∷ 114 ∷ 164 ∷ 255 ∷ 1 ∷ 0 ∷ 1 ∷ 0 ∷ []) } ∷
     -- span −1,290,240, a blank stamp
-    record { number = 0; n = 1; m = 0; bytes = (22 ∷ 0 ∷ 0 ∷ 0 ∷ 2 ∷ 0 ∷ 1 ∷ 0 ∷ 1 ∷ 0 ∷ 0 ∷ 80 ∷ 236 ∷ 255 ∷ 0 ∷ 0 ∷ 0 ∷ 0 ∷ 0 ∷ 0 ∷ 0 ∷ 128 ∷ 0 ∷ 0 ∷ 1 ∷ 0 ∷ []) } ∷
+    record { number = 0; n = 1; m = 0; bytes = (24 ∷ 0 ∷ 0 ∷ 0 ∷ 4 ∷ 0 ∷ 1 ∷ 0 ∷ 1 ∷ 0 ∷ 0 ∷ 80 ∷ 236 ∷ 255 ∷ 0 ∷ 0 ∷ 0 ∷ 0 ∷ 0 ∷ 0 ∷ 0 ∷ 0 ∷ 0 ∷ 128 ∷ 0 ∷ 0 ∷ 1 ∷ 0 ∷ []) } ∷
     -- pick n + 1 for bottomless
-    record { number = 0; n = 0; m = 1; bytes = (14 ∷ 0 ∷ 0 ∷ 0 ∷ 2 ∷ 0 ∷ 0 ∷ 0 ∷ 2 ∷ 0 ∷ 0 ∷ 0 ∷ 0 ∷ 128 ∷ 0 ∷ 0 ∷ 1 ∷ 0 ∷ []) } ∷
+    record { number = 0; n = 0; m = 1; bytes = (16 ∷ 0 ∷ 0 ∷ 0 ∷ 4 ∷ 0 ∷ 0 ∷ 0 ∷ 2 ∷ 0 ∷ 0 ∷ 0 ∷ 0 ∷ 128 ∷ 1 ∷ 0 ∷ 0 ∷ 0 ∷ 1 ∷ 0 ∷ []) } ∷
     -- pick m + 1 for none
-    record { number = 0; n = 0; m = 1; bytes = (12 ∷ 0 ∷ 0 ∷ 0 ∷ 2 ∷ 0 ∷ 0 ∷ 0 ∷ 3 ∷ 0 ∷ 0 ∷ 0 ∷ 0 ∷ 128 ∷ 2 ∷ 0 ∷ []) } ∷
+    record { number = 0; n = 0; m = 1; bytes = (14 ∷ 0 ∷ 0 ∷ 0 ∷ 4 ∷ 0 ∷ 0 ∷ 0 ∷ 3 ∷ 0 ∷ 0 ∷ 0 ∷ 0 ∷ 128 ∷ 0 ∷ 0 ∷ 2 ∷ 0 ∷ []) } ∷
     []
 
 answers-refused : map (λ d. answerRefusal (d .bytes) (d .n) (d .m)) answers ≡ map (λ d. d .number) answers
@@ -164,28 +182,33 @@ record Unfit : Type 0 where
 
 handed : List Unfit
 handed =
-    record { number = 4; n = 32; m = 0; room = 205; answer = record { class = 0; span = bot; stamps = []; picks = [] } } ∷
-    record { number = 4; n = 0; m = 64; room = 206; answer = record { class = 1; span = fin (pos 3); stamps = fin (pos 0) ∷ []; picks = 1 ∷ [] } } ∷
-    record { number = 7; n = 0; m = 0; room = 205; answer = record { class = 0; span = bot; stamps = []; picks = [] } } ∷
-    record { number = 10; n = 0; m = 0; room = 206; answer = record { class = 0; span = bot; stamps = []; picks = [] } } ∷
-    record { number = 10; n = 0; m = 0; room = 206; answer = record { class = 4; span = bot; stamps = []; picks = [] } } ∷
-    record { number = 10; n = 0; m = 0; room = 206; answer = record { class = 65537; span = fin (pos 3); stamps = fin (pos 0) ∷ []; picks = 1 ∷ [] } } ∷
-    record { number = 11; n = 0; m = 0; room = 206; answer = record { class = 1; span = bot; stamps = []; picks = 1 ∷ [] } } ∷
-    record { number = 11; n = 0; m = 0; room = 206; answer = record { class = 1; span = fin (pos 3); stamps = fin (pos 0) ∷ []; picks = 1 ∷ 1 ∷ [] } } ∷
-    record { number = 11; n = 0; m = 0; room = 206; answer = record { class = 2; span = bot; stamps = fin (pos 0) ∷ []; picks = 0 ∷ [] } } ∷
-    record { number = 11; n = 0; m = 1; room = 206; answer = record { class = 2; span = bot; stamps = []; picks = 0 ∷ [] } } ∷
-    record { number = 11; n = 1; m = 0; room = 206; answer = record { class = 3; span = fin (pos 0); stamps = []; picks = 0 ∷ [] } } ∷
-    record { number = 12; n = 0; m = 0; room = 206; answer = record { class = 1; span = fin (pos 1290241); stamps = fin (pos 0) ∷ []; picks = 9 ∷ [] } } ∷
-    record { number = 12; n = 0; m = 0; room = 206; answer = record { class = 1; span = fin (pos 4294967299); stamps = fin (pos 0) ∷ []; picks = 1 ∷ [] } } ∷
-    record { number = 12; n = 0; m = 0; room = 206; answer = record { class = 1; span = fin (pos 3); stamps = fin (pos 1) ∷ []; picks = 1 ∷ [] } } ∷
-    record { number = 12; n = 1; m = 0; room = 206; answer = record { class = 1; span = fin (pos 3); stamps = fin (pos 0) ∷ fin (pos 3000001) ∷ []; picks = 1 ∷ 1 ∷ [] } } ∷
-    record { number = 12; n = 0; m = 0; room = 206; answer = record { class = 2; span = fin (pos 0); stamps = []; picks = 0 ∷ [] } } ∷
-    record { number = 13; n = 0; m = 0; room = 206; answer = record { class = 1; span = fin (pos 3); stamps = fin (pos 0) ∷ []; picks = 2 ∷ [] } } ∷
-    record { number = 13; n = 0; m = 0; room = 206; answer = record { class = 3; span = bot; stamps = []; picks = 65537 ∷ [] } } ∷
-    record { number = 13; n = 0; m = 1; room = 206; answer = record { class = 2; span = bot; stamps = []; picks = 0 ∷ 2 ∷ [] } } ∷
-    record { number = 0; n = 0; m = 0; room = 206; answer = record { class = 1; span = fin (pos 3); stamps = fin (pos 0) ∷ []; picks = 1 ∷ [] } } ∷
-    record { number = 0; n = 0; m = 1; room = 206; answer = record { class = 2; span = bot; stamps = []; picks = 0 ∷ 1 ∷ [] } } ∷
-    record { number = 0; n = 1; m = 0; room = 207; answer = record { class = 3; span = bot; stamps = []; picks = 0 ∷ 1 ∷ [] } } ∷
+    record { number = 4; n = 32; m = 0; room = 207; answer = record { class = 0; span = bot; start = 0; stamps = []; picks = [] } } ∷
+    record { number = 4; n = 0; m = 64; room = 208; answer = record { class = 1; span = fin (pos 3); start = 0; stamps = fin (pos 0) ∷ []; picks = 1 ∷ [] } } ∷
+    record { number = 7; n = 0; m = 0; room = 207; answer = record { class = 0; span = bot; start = 0; stamps = []; picks = [] } } ∷
+    record { number = 10; n = 0; m = 0; room = 208; answer = record { class = 0; span = bot; start = 0; stamps = []; picks = [] } } ∷
+    record { number = 10; n = 0; m = 0; room = 208; answer = record { class = 4; span = bot; start = 0; stamps = []; picks = [] } } ∷
+    record { number = 10; n = 0; m = 0; room = 208; answer = record { class = 65537; span = fin (pos 3); start = 0; stamps = fin (pos 0) ∷ []; picks = 1 ∷ [] } } ∷
+    record { number = 10; n = 0; m = 0; room = 208; answer = record { class = 1; span = fin (pos 3); start = 2; stamps = []; picks = 1 ∷ [] } } ∷
+    record { number = 10; n = 0; m = 0; room = 208; answer = record { class = 2; span = bot; start = 0; stamps = []; picks = 0 ∷ [] } } ∷
+    record { number = 10; n = 1; m = 0; room = 208; answer = record { class = 2; span = bot; start = 3; stamps = []; picks = 0 ∷ [] } } ∷
+    record { number = 10; n = 0; m = 0; room = 208; answer = record { class = 3; span = bot; start = 65537; stamps = []; picks = 0 ∷ [] } } ∷
+    record { number = 0; n = 1; m = 0; room = 208; answer = record { class = 2; span = bot; start = 2; stamps = []; picks = 0 ∷ [] } } ∷
+    record { number = 11; n = 0; m = 0; room = 208; answer = record { class = 1; span = bot; start = 0; stamps = []; picks = 1 ∷ [] } } ∷
+    record { number = 11; n = 0; m = 0; room = 208; answer = record { class = 1; span = fin (pos 3); start = 0; stamps = fin (pos 0) ∷ []; picks = 1 ∷ 1 ∷ [] } } ∷
+    record { number = 11; n = 0; m = 0; room = 208; answer = record { class = 2; span = bot; start = 1; stamps = fin (pos 0) ∷ []; picks = 0 ∷ [] } } ∷
+    record { number = 11; n = 0; m = 1; room = 208; answer = record { class = 2; span = bot; start = 1; stamps = []; picks = 0 ∷ [] } } ∷
+    record { number = 11; n = 1; m = 0; room = 208; answer = record { class = 3; span = fin (pos 0); start = 0; stamps = []; picks = 0 ∷ [] } } ∷
+    record { number = 12; n = 0; m = 0; room = 208; answer = record { class = 1; span = fin (pos 1290241); start = 0; stamps = fin (pos 0) ∷ []; picks = 9 ∷ [] } } ∷
+    record { number = 12; n = 0; m = 0; room = 208; answer = record { class = 1; span = fin (pos 4294967299); start = 0; stamps = fin (pos 0) ∷ []; picks = 1 ∷ [] } } ∷
+    record { number = 12; n = 0; m = 0; room = 208; answer = record { class = 1; span = fin (pos 3); start = 0; stamps = fin (pos 1) ∷ []; picks = 1 ∷ [] } } ∷
+    record { number = 12; n = 1; m = 0; room = 208; answer = record { class = 1; span = fin (pos 3); start = 0; stamps = fin (pos 0) ∷ fin (pos 6000001) ∷ []; picks = 1 ∷ 1 ∷ [] } } ∷
+    record { number = 12; n = 0; m = 0; room = 208; answer = record { class = 2; span = fin (pos 0); start = 1; stamps = []; picks = 0 ∷ [] } } ∷
+    record { number = 13; n = 0; m = 0; room = 208; answer = record { class = 1; span = fin (pos 3); start = 0; stamps = fin (pos 0) ∷ []; picks = 2 ∷ [] } } ∷
+    record { number = 13; n = 0; m = 0; room = 208; answer = record { class = 3; span = bot; start = 0; stamps = []; picks = 65537 ∷ [] } } ∷
+    record { number = 13; n = 0; m = 1; room = 208; answer = record { class = 2; span = bot; start = 1; stamps = []; picks = 0 ∷ 2 ∷ [] } } ∷
+    record { number = 0; n = 0; m = 0; room = 208; answer = record { class = 1; span = fin (pos 3); start = 0; stamps = fin (pos 0) ∷ []; picks = 1 ∷ [] } } ∷
+    record { number = 0; n = 0; m = 1; room = 208; answer = record { class = 2; span = bot; start = 1; stamps = []; picks = 0 ∷ 1 ∷ [] } } ∷
+    record { number = 0; n = 1; m = 0; room = 209; answer = record { class = 3; span = bot; start = 0; stamps = []; picks = 0 ∷ 1 ∷ [] } } ∷
     []
 
 handed-refused : map (λ d. writerRefusal (d .answer) (d .n) (d .m) (d .room)) handed ≡ map (λ d. d .number) handed
@@ -201,17 +224,17 @@ check-order : checkRefusal [] [] ≡ 1
 unfolding checkRefusal refusalFor headerRefusal headerJudged numAt
 check-order = refl
 
--- A's problem with a buffer of 205 bytes, and with one of 206.
-engine-room : map (engineRefusal (example-A .problem)) (205 ∷ 206 ∷ []) ≡ 7 ∷ 0 ∷ []
+-- A's problem with a buffer of 207 bytes, and with one of 208.
+engine-room : map (engineRefusal (example-A .problem)) (207 ∷ 208 ∷ []) ≡ 7 ∷ 0 ∷ []
 unfolding engineRefusal refusalFor headerRefusal headerJudged leadsOf numAt numsAt all some-below blank-or-within tropField signed example-A
 engine-room = refl
 
--- Two questions over no rules, 5 − 2 and 7 − 4, with buffers of 206, 411 and 412 bytes.
+-- Two questions over no rules, 5 − 2 and 7 − 4, with buffers of 208, 415 and 416 bytes.
 two-questions : List ℕ
 two-questions =
     24 ∷ 0 ∷ 0 ∷ 0 ∷ 3 ∷ 0 ∷ 0 ∷ 0 ∷ 0 ∷ 0 ∷ 2 ∷ 0 ∷ 5 ∷ 0 ∷ 0 ∷ 0 ∷ 2 ∷ 0 ∷ 0 ∷ 0 ∷ 7 ∷ 0 ∷ 0 ∷ 0 ∷ 4 ∷ 0 ∷ 0 ∷ 0 ∷ []
 
-questions-room : map (engineRefusal two-questions) (206 ∷ 411 ∷ 412 ∷ []) ≡ 7 ∷ 7 ∷ 0 ∷ []
+questions-room : map (engineRefusal two-questions) (208 ∷ 415 ∷ 416 ∷ []) ≡ 7 ∷ 7 ∷ 0 ∷ []
 unfolding engineRefusal refusalFor headerRefusal headerJudged leadsOf numAt numsAt all some-below blank-or-within tropField signed two-questions
 questions-room = refl
 
@@ -269,7 +292,7 @@ outer-counts : (trials-infeasible ≡ 1) × (trials-unbounded ≡ 2)
 outer-counts = (refl, refl)
 
 -- The largest problem and the largest answer.
-largest-records : (problem-most ≡ 16394) × (answer-most ≡ 206)
+largest-records : (problem-most ≡ 16394) × (answer-most ≡ 208)
 largest-records = (refl, refl)
 
 -- A number that is no class has no stamps and no picks, fits no span, and has no words.

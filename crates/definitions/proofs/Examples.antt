@@ -10,9 +10,9 @@ use lib.Dec.{eqb}
 use lib.IntN.{ℤ, pos, negsuc, _+ℤ_, _-ℤ_}
 use lib.Signed.{_<ℤ_, <ℤ-irrefl}
 use Rattle.definitions.specs.Tropical.{Trop, bot, fin, blank-least, whole-least, plus, larger, largest, Finite}
-use Rattle.definitions.specs.Problem.{Problem, Point, Keeps, Feasible, value, side, minus, minus-infinity, plus-infinity}
+use Rattle.definitions.specs.Problem.{Problem, Point, Keeps, Feasible, Counts, value, side, minus, minus-infinity, plus-infinity}
 use Rattle.definitions.specs.Problem as Problems
-use Rattle.definitions.specs.Certificate.{Strategy, Arc, ArcBy, Walk, step, stop, Uses, Distinct, Cycle, Reachable, start, onward, Anchor, Leads, HasPick, BelowZero, AcceptedInfeasible, raise}
+use Rattle.definitions.specs.Certificate.{Strategy, Arc, ArcBy, Walk, step, stop, Uses, Distinct, Cycle, Reachable, start, onward, Anchor, startOf, Leads, HasPick, BelowZero, AcceptedInfeasible, raise}
 use Rattle.definitions.specs.Bytes.{numAt, numsAt, le, fields, signed, tropField, fieldOf, tropAt, all, some-below, blank-or-within, whole-within}
 use Rattle.definitions.specs.ProblemRecord.{headerRefusal, headerJudged, problemRefusal, leadsOf, problemOf, problemBytes, headerBytes, rowBytes, rowsBytes, listOf, refusalFor}
 use Rattle.definitions.specs.AnswerRecord.{Answer, answerHeaderRefusal, answerHeaderJudged, answerRefusal, answerOf, formRefusal, spanFits, stampsFit, picksFit, is-zero, is-blank}
@@ -20,7 +20,7 @@ use Rattle.definitions.specs.Verdict.{checkRefusal, Accepted, optimal, u
 use Rattle.definitions.specs.Examples.{Row, Example, examples, example-A, example-B, example-C, example-D, example-E, example-F, example-G, example-H, example-I, example-J, example-K, example-M}
 use Rattle.definitions.specs.Demands.{Fits}
 use Rattle.definitions.proofs.Whole.{up, down, whole, lt-show, eq-read, plus-read}
-use Rattle.definitions.proofs.Tropical.{fin-injective}
+use Rattle.definitions.proofs.Tropical.{fin-injective, not-finite-bot}
 
 -- The rows of a problem in the table's form.
 unfoldable pub rowsOf : Problem → List Row
@@ -78,6 +78,19 @@ blanks-feasible = record { anchored = refl; keeps = keeps }
 pub blanks-value : value (problemOf (example-J .problem)) anchor-only ≡ minus-infinity
 unfolding value minus side largest larger plus problemOf tropAt tropField numAt signed example-J
 blanks-value = refl
+
+-- It does not count, as its second list is blank, and neither does D's; a plan of J with moment 2 in it does.
+pub blanks-do-not-count : Counts (problemOf (example-J .problem)) anchor-only → ⊥
+unfolding side largest larger plus problemOf tropAt tropField numAt signed example-J
+blanks-do-not-count c = not-finite-bot (c .second)
+
+pub no-plan-of-D-counts : (x : Point) → Counts (problemOf (example-D .problem)) x → ⊥
+unfolding side largest larger plus problemOf tropAt tropField numAt signed example-D
+no-plan-of-D-counts x c = not-finite-bot (c .second)
+
+pub moment-2-counts : Counts (problemOf (example-J .problem)) (pointOf (fin (pos 0) ∷ bot ∷ fin (pos 7) ∷ []))
+unfolding side largest larger plus problemOf tropAt tropField numAt signed pointOf example-J
+moment-2-counts = record { second = record { whole = pos 7; is = refl } }
 
 -- ---- the later of two
 
@@ -148,7 +161,7 @@ reached-A (onward r c) = omega (arith, c .inside)
 
 -- A's answer is accepted.
 pub accepted-A : Accepted (problemOf (example-A .problem)) (answerOf (example-A .answer) 0 0)
-unfolding problem-A picks-A problemOf example-A answerOf tropAt tropField numAt numsAt signed pointOf strategyOf value minus side largest larger plus
+unfolding problem-A picks-A problemOf example-A answerOf tropAt tropField numAt numsAt signed pointOf strategyOf startOf value minus side largest larger plus
 accepted-A = optimal refl refl (record {
   feasible = record { anchored = refl; keeps = λ i h. absurd (omega arith) };
   value-is = refl;
@@ -169,12 +182,12 @@ cycle-M t = record {
 }
 
 pub not-accepted-M : Accepted (problemOf (example-M .problem)) (answerOf (example-M .answer) 1 1) → ⊥
-unfolding example-M answerOf tropAt tropField numAt numsAt signed
+unfolding example-M answerOf tropAt tropField numAt numsAt signed startOf
 not-accepted-M (optimal {s = s} c e h) =
     let s-is : pos 31 ≡ s = fin-injective e in
     let b : BelowZero Anchor (problemOf (example-M .problem)) (strategyOf (1 ∷ 2 ∷ [])) (pos 30) = subst (λ (z : ℤ). BelowZero Anchor (problemOf (example-M .problem)) (strategyOf (1 ∷ 2 ∷ [])) (z -ℤ pos 1)) (sym s-is) (h .below-zero) in
     <ℤ-irrefl (b (pos 0) (cycle-M (pos 30)))
-not-accepted-M (unbounded c h) = absurd (omega (arith, c))
+not-accepted-M (unbounded c e b h) = absurd (omega (arith, c))
 not-accepted-M (infeasible c h) = absurd (omega (arith, c))
 
 -- Nor does class 3 accept its picks: the cycle uses the question, on its way back.

@@ -92,8 +92,9 @@ unfolding problemOf tropAt tropField signed numAt side value minus largest large
 idle-least = rw idle-bytes (record {
   point = λ j. fin (pos 0);
   feasible = record { anchored = refl; keeps = λ i h. absurd (omega arith) };
+  counts = record { second = record { whole = pos 0; is = refl } };
   value-is = refl;
-  least = λ y f. rw (f .anchored) (between (≤ℤ-refl (pos 0)));
+  least = λ y f c. rw (f .anchored) (between (≤ℤ-refl (pos 0)));
 })
 
 -- ---- the verdict program on no input

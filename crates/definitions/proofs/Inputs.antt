@@ -133,7 +133,7 @@ pub answer-agrees : (s t : List ℕ) → ((i : ℕ) → i < answer-header → ge
 unfolding answerHeaderRefusal answerHeaderJudged
 answer-agrees s t same size n m =
     let at = fields-agree answer-header s t same in
-    rw (at 4 0 (omega arith), at 2 4 (omega arith), at 2 6 (omega arith), at 2 8 (omega arith))
+    rw (at 4 0 (omega arith), at 2 4 (omega arith), at 2 6 (omega arith), at 2 8 (omega arith), at 2 14 (omega arith))
 
 -- Fewer than 10 bytes: refusal 1, whatever they are.
 pub header-short : (several : Bool) (s : List ℕ) (size : ℕ) → size < problem-header → headerRefusal several s size ≡ 1

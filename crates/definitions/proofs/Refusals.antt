@@ -14,7 +14,7 @@ use Rattle.definitions.specs.Limits.{highest-n, highest-m, lead-limit, l
 use Rattle.definitions.specs.Tropical.{fin}
 use Rattle.definitions.specs.Bytes.{numsAt, tropField, tropAt, all, blank-or-within, or-else}
 use Rattle.definitions.specs.ProblemRecord.{problemSize, recordSize, lengthField, kindField, nField, mField, countField, leadsPlace, questionsAsked, leadsOf, known-kind, above-limits, wrong-count, headerRefusal, headerJudged, refusalFor, silentRefused, WithinLayout, problemOf, leftPlace, rightPlace, problemRefusal, recordRefusal}
-use Rattle.definitions.specs.AnswerRecord.{Answer, known-class, stampCount, pickCount, highestPick, answerSize, spanFits, stampsFit, picksFit, formRefusal, rightCounts, classField, answerOf, answerHeaderRefusal, answerHeaderJudged, answerRefusal, writerRefusal, writerJudged}
+use Rattle.definitions.specs.AnswerRecord.{Answer, known-class, startFits, stampCount, pickCount, highestPick, answerSize, spanFits, stampsFit, picksFit, formRefusal, rightCounts, classField, startField, answerOf, answerHeaderRefusal, answerHeaderJudged, answerRefusal, writerRefusal, writerJudged}
 use Rattle.definitions.proofs.Bytes.{all-numsAt}
 use Rattle.definitions.proofs.Offset.{within-size}
 
@@ -335,6 +335,7 @@ pub record AnswerFits (s : List ℕ) (n m : ℕ) : Type 0 where
   pub length-is : lengthField s + length-bytes ≡ length s
   pub kind-is : kindField s ≡ answer-kind
   pub class-known : known-class (classField s) ≡ true
+  pub start-fits : startFits (classField s) (startField s) n ≡ true
   pub n-is : nField s ≡ n
   pub size-is : length s ≡ answerSize (classField s) n m
   pub form : FormFits (answerOf s n m) n m
@@ -350,7 +351,8 @@ answer-fits s n m = (fits, within)
         let a = limits-clause n m _ _ .0 (h .0) in
         let b = enough-clause (length s) answer-header _ _ .0 (a .1) in
         let c = equal-clause (lengthField s + length-bytes) (length s) _ _ .0 (b .1) in
-        let d = both-clause (eqb (kindField s) answer-kind) (known-class (classField s)) _ _ .0 (c .1) in
+        let d = both-clause (eqb (kindField s) answer-kind) (known-class (classField s) && startFits (classField s) (startField s) n) _ _ .0 (c .1) in
+        let class = and-eq-true-iff (known-class (classField s)) (startFits (classField s) (startField s) n) .0 (d .0 .1) in
         let g = both-clause (eqb (nField s) n) (eqb (length s) (answerSize (classField s) n m)) _ _ .0 (d .1) in
         record {
           n-most = a .0 .0;
@@ -358,7 +360,8 @@ answer-fits s n m = (fits, within)
           size-enough = b .0;
           length-is = c .0;
           kind-is = eqb-true (kindField s) answer-kind (d .0 .0);
-          class-known = d .0 .1;
+          class-known = class .0;
+          start-fits = class .1;
           n-is = eqb-true (nField s) n (g .0 .0);
           size-is = eqb-true (length s) (answerSize (classField s) n m) (g .0 .1);
           form = form-fits (answerOf s n m) n m .0 (h .1);
@@ -374,7 +377,7 @@ answer-fits s n m = (fits, within)
               equal-clause _ _ _ _ .1 (
                 f .length-is,
                 both-clause _ _ _ _ .1 (
-                  (eq-eqb _ _ (f .kind-is), f .class-known),
+                  (eq-eqb _ _ (f .kind-is), and-eq-true-iff _ _ .1 (f .class-known, f .start-fits)),
                   both-clause _ _ _ _ .1 ((eq-eqb _ _ (f .n-is), eq-eqb _ _ (f .size-is)), refl),
                 ),
               ),
@@ -389,6 +392,7 @@ pub record WriterFits (a : Answer) (n m room : ℕ) : Type 0 where
   pub m-most : m ≤ highest-m
   pub room-enough : answer-most ≤ room
   pub class-known : known-class (a .class) ≡ true
+  pub start-fits : startFits (a .class) (a .start) n ≡ true
   pub stamps-count : length (a .stamps) ≡ stampCount (a .class) n
   pub picks-count : length (a .picks) ≡ pickCount (a .class) n m
   pub form : FormFits a n m
@@ -403,13 +407,15 @@ writer-fits a n m room = (fits, within)
         let h = or-else-none _ (formRefusal a n m) .0 e in
         let b = limits-clause n m _ _ .0 (h .0) in
         let c = enough-clause room answer-most _ _ .0 (b .1) in
-        let d = passes-clause (known-class (a .class)) _ _ .0 (c .1) in
+        let d = passes-clause (known-class (a .class) && startFits (a .class) (a .start) n) _ _ .0 (c .1) in
+        let class = and-eq-true-iff (known-class (a .class)) (startFits (a .class) (a .start) n) .0 (d .0) in
         let g = both-clause (eqb (length (a .stamps)) (stampCount (a .class) n)) (eqb (length (a .picks)) (pickCount (a .class) n m)) _ _ .0 (d .1) in
         record {
           n-most = b .0 .0;
           m-most = b .0 .1;
           room-enough = c .0;
-          class-known = d .0;
+          class-known = class .0;
+          start-fits = class .1;
           stamps-count = eqb-true (length (a .stamps)) (stampCount (a .class) n) (g .0 .0);
           picks-count = eqb-true (length (a .picks)) (pickCount (a .class) n m) (g .0 .1);
           form = form-fits a n m .0 (h .1);
@@ -423,7 +429,7 @@ writer-fits a n m room = (fits, within)
             enough-clause _ _ _ _ .1 (
               f .room-enough,
               passes-clause _ _ _ .1 (
-                f .class-known,
+                and-eq-true-iff _ _ .1 (f .class-known, f .start-fits),
                 both-clause _ _ _ _ .1 ((eq-eqb _ _ (f .stamps-count), eq-eqb _ _ (f .picks-count)), refl),
               ),
             ),

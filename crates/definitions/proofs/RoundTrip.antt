@@ -4,7 +4,7 @@ use mathlib.Core.Path.{_≡_, refl, ap, ap₂, sym, subst, _∙_}
 use mathlib.Core.Bool.{Bool, true, false, cond, _||_, and-eq-true-iff, false≢true}
 use mathlib.Core.List.{List, [], _∷_, _++_, map, append-assoc, append-nil}
 use native.Mathlib.Omega.{arith}
-use lib.Dec.{eqb, leb}
+use lib.Dec.{eqb, ltb, leb}
 use lib.ListN.{length, getD, drop, length-append, length-map, take-append-drop, drop-of-length-le}
 use lib.IntN.{natAbs}
 use lib.Seq.{drop-drop}
@@ -13,7 +13,7 @@ use Rattle.definitions.specs.Limits.{span-limit, stamp-limit, length-byt
 use Rattle.definitions.specs.Tropical.{Trop, bot, fin}
 use Rattle.definitions.specs.Bytes.{Bytes, numAt, numsAt, le, fields, tropField, fieldOf, tropAt, all, whole-within, blank-or-within}
 use Rattle.definitions.specs.ProblemRecord.{lengthField, kindField, nField}
-use Rattle.definitions.specs.AnswerRecord.{Answer, known-class, by-class, stampCount, pickCount, highestPick, answerSize, is-zero, is-blank, spanFits, stampsFit, picksFit, classField, spanField, answerOf, answerBytes, answerRefusal, writerRefusal}
+use Rattle.definitions.specs.AnswerRecord.{Answer, known-class, by-class, startFits, stampCount, pickCount, highestPick, answerSize, is-zero, is-blank, spanFits, stampsFit, picksFit, classField, spanField, startField, answerOf, answerBytes, answerRefusal, writerRefusal}
 use Rattle.definitions.proofs.Bytes.{length-le, length-fields, length-numsAt, numAt-back, num-le, numAt-bound, le-num, Below, numsAt-below, nums-fields, fields-nums, all-true, bytes-append, bytes-le, bytes-fields}
 use Rattle.definitions.proofs.Offset.{FitsField, within-fits, fieldOf-bound, tropField-fieldOf, fieldOf-tropField}
 use Rattle.definitions.proofs.Refusals.{WriterFits, answer-fits, writer-fits}
@@ -95,7 +95,16 @@ class-most class e = go (eqb class 1) (eqb class 2) (eqb class 3) refl refl refl
     go false false true a b c e = omega (arith, eqb-true class 3 c)
     go false false false a b c e = absurd (false≢true e)
 
--- An answer has at most 206 bytes.
+-- A start of a class is at most n + 1.
+pub start-most : (class start n : ℕ) → startFits class start n ≡ true → start ≤ suc n
+start-most class start n =
+    by-class-each (λ (t : Bool). t ≡ true → start ≤ suc n) class
+    (λ e. omega (arith, leb-true start 1 e))
+    (λ e. leb-true start (suc n) (and-eq-true-iff (ltb 0 start) (leb start (suc n)) .0 e .1))
+    (λ e. omega (arith, leb-true start 1 e))
+    (λ e. absurd (false≢true e))
+
+-- An answer has at most 208 bytes.
 pub size-most : (class n m : ℕ) → n ≤ highest-n → m ≤ highest-m → answerSize class n m ≤ answer-most
 size-most class n m h k = go (eqb class class-optimal) (eqb class class-unbounded) (eqb class class-infeasible)
   where
@@ -120,47 +129,55 @@ num-here k x q h = num-le k x [] q 0 refl h
 pub num-past : (k j x : ℕ) (q : List ℕ) (at : ℕ) → numAt k (le j x ++ q) (j + at) ≡ numAt k q at
 num-past k j x q at = numAt-back k (le j x) q j at (length-le j x)
 
--- The first fourteen bytes of an answer as fields one after the other.
-front : ℕ → ℕ → ℕ → ℕ → ℕ → List ℕ
-front size kind n class span =
-    le length-bytes size ++ (le short-bytes kind ++ (le short-bytes n ++ (le short-bytes class ++ le signed-bytes span)))
+-- The first sixteen bytes of an answer as fields one after the other.
+front : ℕ → ℕ → ℕ → ℕ → ℕ → ℕ → List ℕ
+front size kind n class span start =
+    le length-bytes size ++ (le short-bytes kind ++ (le short-bytes n ++ (le short-bytes class ++ (le signed-bytes span ++ le short-bytes start))))
 
-module _ (size kind n class span : ℕ) where
-  -- They are fourteen.
-  length-front : length (front size kind n class span) ≡ answer-header
+module _ (size kind n class span start : ℕ) where
+  -- They are sixteen.
+  length-front : length (front size kind n class span start) ≡ answer-header
   unfolding front
   length-front = simp (length-append, length-le)
 
   module _ (rest : List ℕ) where
     -- The length field is read.
-    read-size : size < signed-full → numAt length-bytes (front size kind n class span ++ rest) 0 ≡ size
+    read-size : size < signed-full → numAt length-bytes (front size kind n class span start ++ rest) 0 ≡ size
     unfolding front
     read-size h = simp append-assoc (num-here length-bytes size _ h)
 
     -- The kind is read.
-    read-kind : kind < 65536 → numAt short-bytes (front size kind n class span ++ rest) 4 ≡ kind
+    read-kind : kind < 65536 → numAt short-bytes (front size kind n class span start ++ rest) 4 ≡ kind
     unfolding front
     read-kind h = simp append-assoc (num-past short-bytes length-bytes size _ 0 ∙ num-here short-bytes kind _ h)
 
     -- The n is read.
-    read-n : n < 65536 → numAt short-bytes (front size kind n class span ++ rest) 6 ≡ n
+    read-n : n < 65536 → numAt short-bytes (front size kind n class span start ++ rest) 6 ≡ n
     unfolding front
     read-n h = simp append-assoc (num-past short-bytes length-bytes size _ 2 ∙ num-past short-bytes short-bytes kind _ 0 ∙ num-here short-bytes n _ h)
 
     -- The class is read.
-    read-class : class < 65536 → numAt short-bytes (front size kind n class span ++ rest) 8 ≡ class
+    read-class : class < 65536 → numAt short-bytes (front size kind n class span start ++ rest) 8 ≡ class
     unfolding front
     read-class h = simp append-assoc
         (num-past short-bytes length-bytes size _ 4 ∙ num-past short-bytes short-bytes kind _ 2 ∙ num-past short-bytes short-bytes n _ 0
         ∙ num-here short-bytes class _ h)
 
     -- The span's field is read.
-    read-span : span < signed-full → numAt signed-bytes (front size kind n class span ++ rest) 10 ≡ span
+    read-span : span < signed-full → numAt signed-bytes (front size kind n class span start ++ rest) 10 ≡ span
     unfolding front
     read-span h = simp append-assoc
         (num-past signed-bytes length-bytes size _ 6 ∙ num-past signed-bytes short-bytes kind _ 4 ∙ num-past signed-bytes short-bytes n _ 2
         ∙ num-past signed-bytes short-bytes class _ 0
         ∙ num-here signed-bytes span _ h)
+
+    -- The start is read.
+    read-start : start < 65536 → numAt short-bytes (front size kind n class span start ++ rest) 14 ≡ start
+    unfolding front
+    read-start h = simp append-assoc
+        (num-past short-bytes length-bytes size _ 10 ∙ num-past short-bytes short-bytes kind _ 8 ∙ num-past short-bytes short-bytes n _ 6
+        ∙ num-past short-bytes short-bytes class _ 4 ∙ num-past short-bytes signed-bytes span _ 0
+        ∙ num-here short-bytes start _ h)
 
 -- An answer's record is a string of bytes.
 pub answer-bytes : (n : ℕ) (a : Answer) → Bytes (answerBytes n a)
@@ -173,7 +190,7 @@ module _ (a : Answer) (n m room : ℕ) (f : WriterFits a n m room) where
   unfolding answerBytes
   answer-length = simp (length-append, length-le, length-fields, length-map, f .stamps-count, f .picks-count) (omega arith)
 
-  -- It has at most 206 bytes.
+  -- It has at most 208 bytes.
   pub answer-length-most : length (answerBytes n a) ≤ answer-most
   answer-length-most = rw answer-length (size-most (a .class) n m (f .n-most) (f .m-most))
 
@@ -187,29 +204,34 @@ module _ (a : Answer) (n m room : ℕ) (f : WriterFits a n m room) where
   length-back =
       let small = answer-length-most in
       let same = length-written in
-      omega (arith, read-size (answer-header + signed-bytes * length (a .stamps) + short-bytes * length (a .picks) - length-bytes) answer-kind n (a .class) (fieldOf (a .span)) (fields signed-bytes (map fieldOf (a .stamps)) ++ fields short-bytes (a .picks)) (omega arith))
+      omega (arith, read-size (answer-header + signed-bytes * length (a .stamps) + short-bytes * length (a .picks) - length-bytes) answer-kind n (a .class) (fieldOf (a .span)) (a .start) (fields signed-bytes (map fieldOf (a .stamps)) ++ fields short-bytes (a .picks)) (omega arith))
 
   -- The kind is that of an answer.
   kind-back : kindField (answerBytes n a) ≡ answer-kind
   unfolding answerBytes front
-  kind-back = read-kind _ _ _ _ _ _ (omega arith)
+  kind-back = read-kind _ _ _ _ _ _ _ (omega arith)
 
   -- The n is the one given.
   n-back : nField (answerBytes n a) ≡ n
   unfolding answerBytes front
-  n-back = read-n _ _ _ _ _ _ (omega (arith, f .n-most))
+  n-back = read-n _ _ _ _ _ _ _ (omega (arith, f .n-most))
 
   -- The class is the answer's.
   class-back : classField (answerBytes n a) ≡ a .class
   unfolding answerBytes front
-  class-back = read-class _ _ _ _ _ _ (omega (arith, class-most (a .class) (f .class-known)))
+  class-back = read-class _ _ _ _ _ _ _ (omega (arith, class-most (a .class) (f .class-known)))
 
   -- The span is the answer's.
   span-back : spanField (answerBytes n a) ≡ a .span
   unfolding answerBytes front tropAt
   span-back =
       let fit : FitsField (a .span) = within-fits span-limit (omega arith) (span-within (a .class) (a .span) (f .form .span-fits)) in
-      ap tropField (read-span _ _ _ _ _ _ (fieldOf-bound (a .span) fit)) ∙ tropField-fieldOf (a .span) fit
+      ap tropField (read-span _ _ _ _ _ _ _ (fieldOf-bound (a .span) fit)) ∙ tropField-fieldOf (a .span) fit
+
+  -- The start is the answer's.
+  start-back : startField (answerBytes n a) ≡ a .start
+  unfolding answerBytes front
+  start-back = read-start _ _ _ _ _ _ _ (omega (arith, f .n-most, start-most (a .class) (a .start) n (f .start-fits)))
 
   -- The stamps are the answer's.
   stamps-back : map tropField (numsAt signed-bytes (stampCount (classField (answerBytes n a)) n) (answerBytes n a) answer-header) ≡ a .stamps
@@ -218,7 +240,7 @@ module _ (a : Answer) (n m room : ℕ) (f : WriterFits a n m room) where
       let inside = stamps-within (a .stamps) (f .form .stamps-fit) in
       let count : stampCount (classField (answerBytes n a)) n ≡ length (map fieldOf (a .stamps)) = rw (class-back, length-map, f .stamps-count) in
       ap (λ (k : ℕ). map tropField (numsAt signed-bytes k (answerBytes n a) answer-header)) count
-      ∙ ap (map tropField) (nums-fields signed-bytes (map fieldOf (a .stamps)) (front _ _ _ _ _) (fields short-bytes (a .picks)) answer-header (length-front _ _ _ _ _) (trops-below stamp-limit (omega arith) (a .stamps) inside))
+      ∙ ap (map tropField) (nums-fields signed-bytes (map fieldOf (a .stamps)) (front _ _ _ _ _ _) (fields short-bytes (a .picks)) answer-header (length-front _ _ _ _ _ _) (trops-below stamp-limit (omega arith) (a .stamps) inside))
       ∙ trops-back stamp-limit (omega arith) (a .stamps) inside
 
   -- The picks stand behind the stamps.
@@ -226,7 +248,7 @@ module _ (a : Answer) (n m room : ℕ) (f : WriterFits a n m room) where
   unfolding answerBytes front
   picks-read =
       let head : List ℕ =
-      front (answer-header + signed-bytes * length (a .stamps) + short-bytes * length (a .picks) - length-bytes) answer-kind n (a .class) (fieldOf (a .span))
+      front (answer-header + signed-bytes * length (a .stamps) + short-bytes * length (a .picks) - length-bytes) answer-kind n (a .class) (fieldOf (a .span)) (a .start)
       ++ fields signed-bytes (map fieldOf (a .stamps)) in
       let ends : answerBytes n a ≡ head ++ (fields short-bytes (a .picks) ++ []) = simp (append-assoc, append-nil) in
       let place : length head ≡ answer-header + signed-bytes * length (a .stamps) = simp (length-append, length-le, length-fields, length-map) in
@@ -242,7 +264,7 @@ module _ (a : Answer) (n m room : ℕ) (f : WriterFits a n m room) where
   -- What the writer takes is read back from its bytes.
   pub answer-back : answerOf (answerBytes n a) n m ≡ a
   unfolding answerOf
-  answer-back = λ i. record { class = class-back i; span = span-back i; stamps = stamps-back i; picks = picks-back i }
+  answer-back = λ i. record { class = class-back i; span = span-back i; start = start-back i; stamps = stamps-back i; picks = picks-back i }
 
   -- Nothing refuses these bytes.
   pub answer-accepted : answerRefusal (answerBytes n a) n m ≡ 0
@@ -255,6 +277,7 @@ module _ (a : Answer) (n m room : ℕ) (f : WriterFits a n m room) where
         length-is = length-back;
         kind-is = kind-back;
         class-known = rw class-back (f .class-known);
+        start-fits = rw (class-back, start-back) (f .start-fits);
         n-is = n-back;
         size-is = rw (answer-length, class-back);
         form = rw answer-back (f .form);
@@ -271,10 +294,10 @@ module _ {s : List ℕ} (bytes : Bytes s) where
   fields-then : (k count at : ℕ) → at + k * count ≤ length s → fields k (numsAt k count s at) ++ drop (at + k * count) s ≡ drop at s
   fields-then k count at h = rw (fields-nums k count at bytes h, ← drop-drop (k * count) at s) (take-append-drop (k * count) (drop at s))
 
-  -- The first fourteen bytes.
-  front-then : answer-header ≤ length s → front (lengthField s) (kindField s) (nField s) (classField s) (numAt signed-bytes s 10) ++ drop answer-header s ≡ s
+  -- The first sixteen bytes.
+  front-then : answer-header ≤ length s → front (lengthField s) (kindField s) (nField s) (classField s) (numAt signed-bytes s 10) (startField s) ++ drop answer-header s ≡ s
   unfolding front
-  front-then h = simp append-assoc (rw (le-then 4 10 (omega arith), le-then 2 8 (omega arith), le-then 2 6 (omega arith), le-then 2 4 (omega arith)) (le-then 4 0 (omega arith)))
+  front-then h = simp append-assoc (rw (le-then 2 14 (omega arith), le-then 4 10 (omega arith), le-then 2 8 (omega arith), le-then 2 6 (omega arith), le-then 2 4 (omega arith)) (le-then 4 0 (omega arith)))
 
   -- Two runs that end with the bytes.
   runs-then : (k j p q at : ℕ) → length s ≡ at + k * p + j * q → fields k (numsAt k p s at) ++ fields j (numsAt j q s (at + k * p)) ≡ drop at s
@@ -308,6 +331,7 @@ writer-accepts s n m room accepted h =
       m-most = f .m-most;
       room-enough = h;
       class-known = f .class-known;
+      start-fits = f .start-fits;
       stamps-count = rw (length-map, length-numsAt);
       picks-count = length-numsAt _ _ _ _;
       form = f .form;

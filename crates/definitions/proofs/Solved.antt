@@ -38,6 +38,7 @@ answers-taken {p} {a = a} room h g long ans =
       m-most = g;
       room-enough = long;
       class-known = subst (λ (c : ℕ). known-class c ≡ true) (sym (ans .class-is)) (found-known (ans .found));
+      start-fits = ans .start-fits;
       stamps-count = eqb-true _ _ (counts .0);
       picks-count = eqb-true _ _ (counts .1);
       form = form-fits a (p .n) (p .m) .0 (ans .form);

@@ -1,5 +1,5 @@
 -- What the checker judges: a strategy (pick table) and the cycles that it leaves. Document 01, "The checker".
--- Each class's conditions are stated from any start, a set of variables; document 01's is the anchor alone.
+-- Each class's conditions are stated from any start, a set of variables; document 02, 2.4, says which set an answer's start means.
 -- A pick is 0 for none; else it is 1 + the number of a row (classes 1 and 3) or of a variable (class 2). Variables are document
 -- 01's moments, coefficients its leads, inequalities its rules; the objective, row m, is its question.
 use Prim.Native.Nat.{ℕ, zero, suc, _+_, _≤_}
@@ -24,6 +24,20 @@ pub data Reachable (Start : ℕ → Type 0) (Leads : ℕ → ℕ → Type 0) : �
 -- Document 01's start: variable 0, the anchor.
 abbrev pub Anchor : ℕ → Type 0
 Anchor j = j ≡ 0
+
+-- Document 02, 2.4: all variables with a non-blank coefficient in the objective's second list.
+pub record Second (p : Problem) (j : ℕ) : Type 0 where
+  pub inside : j ≤ p .n
+  pub right : Finite (p .right (p .m) j)
+
+-- What the start of an answer of class 1 or 3 means: 0 the anchor, 1 all variables of the second list. (Others are refused by 10.)
+unfoldable pub startOf : Problem → ℕ → ℕ → Type 0
+startOf p zero = Anchor
+startOf p (suc k) = Second p
+
+-- In class 2, where the start is 1 + the number k of one variable: that one and the anchor.
+abbrev pub AnchorAnd : ℕ → ℕ → Type 0
+AnchorAnd k j = Anchor j ⊎ (j ≡ k)
 
 -- A walk along arcs `Arc from to weight`, with its ends, its number of arcs and its weight.
 pub data Walk (Arc : ℕ → ℕ → ℤ → Type 0) : ℕ → ℕ → ℕ → ℤ → Type 0 where

@@ -11,12 +11,12 @@ use lib.ListN.{length, getD, take, drop}
 use lib.IntN.{ℤ}
 use Rattle.definitions.specs.Limits.{questions-kind, most-trials, class-optimal, class-unbounded, class-infeasible, answer-most, kept-bytes, word-values}
 use Rattle.definitions.specs.Tropical.{Trop, bot, fin}
-use Rattle.definitions.specs.Problem.{Problem, Point, Feasible, value, whole, plus-infinity, _≼_, Attainable}
+use Rattle.definitions.specs.Problem.{Problem, Point, Feasible, Counts, value, whole, plus-infinity, _≼_, Attainable}
 use Rattle.definitions.specs.Bytes.{Bytes, Outcome, refusal, gives}
 use Rattle.definitions.specs.Offset.{tropOf}
 use Rattle.definitions.specs.ProblemRecord.{recordRefusal, WithinLayout, WithinLayouts, meant, problemOf, kindField, nField, mField, countField, listOf}
 use Rattle.definitions.specs.Questions.{part, alone, asking}
-use Rattle.definitions.specs.AnswerRecord.{Answer, answerRefusal, writerRefusal, answerOf, answerBytes, answerSize, pickCount, highestPick, picksFit, spanFits, stampsFit, written}
+use Rattle.definitions.specs.AnswerRecord.{Answer, answerRefusal, writerRefusal, answerOf, answerBytes, answerSize, startFits, pickCount, highestPick, picksFit, spanFits, stampsFit, written}
 use Rattle.definitions.specs.Verdict.{Verdict, accepted, refused, accepts, checkRefusal, Accepted, answerFor, pointOf, Judged}
 use Rattle.definitions.specs.Solved.{Solved, answered, all-answered, Found, engineRefusal, Solves}
 use Rattle.definitions.specs.Programs.{VerdictOutput, SpanOutput, ReadFrom}
@@ -43,10 +43,11 @@ pub record Numbered (x : Trop) : Type 0 where
   pub fits : Word number
   pub means : tropOf number ≡ x
 
--- An answer that can be handed to a writer: class and picks are numbers of 64 bits, span and stamps have such offset numbers.
+-- An answer that can be handed to a writer: class, start and picks are numbers of 64 bits, span and stamps have such offset numbers.
 pub record Handed (a : Answer) : Type 0 where
   pub class : Word (a .class)
   pub span : Numbered (a .span)
+  pub start : Word (a .start)
   pub stamps : (i : ℕ) → Numbered (getD (a .stamps) i bot)
   pub stamps-size : Word (length (a .stamps))
   pub picks : Words (a .picks)
@@ -234,45 +235,48 @@ abbrev pub NeverBroken : Checker → Type 0
 NeverBroken check =
     (p a : List ℕ) → Slice p → Slice a → Accepts check p a → answerFor (meant p) a .class ≡ class-optimal → PlanHolds (meant p) a
 
--- A pick table has as many picks as an answer of its class, none above the highest value there. Some table makes the
--- checker accept the answer that holds it.
-pub record SomeTable (check : Checker) (p : List ℕ) (class : ℕ) (answerWith : List ℕ → Answer) : Type 0 where
+-- A pick table has as many picks as an answer of its class, none above the highest value there. Some start with a table (document 02, 2.4)
+-- makes the checker accept the answer that holds them.
+pub record SomeTable (check : Checker) (p : List ℕ) (class : ℕ) (answerWith : ℕ → List ℕ → Answer) : Type 0 where
+  pub start : ℕ
+  pub start-fits : startFits class start (nField (meant p)) ≡ true
   pub picks : List ℕ
   pub count : length picks ≡ pickCount class (nField (meant p)) (mField (meant p))
   pub none-above : picksFit (highestPick class (nField (meant p)) (mField (meant p))) picks ≡ true
-  pub accepted-with : Accepts check p (answerBytes (nField (meant p)) (answerWith picks))
+  pub accepted-with : Accepts check p (answerBytes (nField (meant p)) (answerWith start picks))
 
 -- A plan fits the answer record if its span and stamps have the form of class 1.
 pub record Fits (n : ℕ) (s : ℤ) (x : Point) : Type 0 where
   pub span : spanFits class-optimal (fin s) ≡ true
   pub stamps : stampsFit (listOf x (suc n)) ≡ true
 
--- The answers of each class with a pick table; class 1 with a plan's own span and its stamps.
-abbrev pub leastAnswer : ℕ → ℤ → Point → List ℕ → Answer
-leastAnswer n s x picks = record { class = class-optimal; span = fin s; stamps = listOf x (suc n); picks = picks }
+-- The answers of each class with a start and a pick table; class 1 with a plan's own span and its stamps.
+abbrev pub leastAnswer : ℕ → ℤ → Point → ℕ → List ℕ → Answer
+leastAnswer n s x start picks = record { class = class-optimal; span = fin s; start = start; stamps = listOf x (suc n); picks = picks }
 
-abbrev pub blankAnswer : ℕ → List ℕ → Answer
-blankAnswer class picks = record { class = class; span = bot; stamps = []; picks = picks }
+abbrev pub blankAnswer : ℕ → ℕ → List ℕ → Answer
+blankAnswer class start picks = record { class = class; span = bot; start = start; stamps = []; picks = picks }
 
--- Let a plan fit the answer record, keep every rule and have a whole span. The checker accepts this plan with some pick
--- table exactly when every other plan that keeps the rules, in blanks or whole minutes without limit, has at least as
+-- Let a plan fit the answer record, keep every rule and have a whole span. The checker accepts this plan with some start and
+-- pick table exactly when every other plan that keeps the rules and counts, in blanks or whole minutes without limit, has at least as
 -- great a span.
 abbrev pub LeastExactly : Checker → Type 0
 LeastExactly check =
     (p : List ℕ) → Slice p → WithinLayout (meant p) → (x : Point) (s : ℤ) → Fits (nField (meant p)) s x → Feasible (problemOf (meant p)) x
     → value (problemOf (meant p)) x ≡ whole s
     → SomeTable check p class-optimal (leastAnswer (nField (meant p)) s x)
-    ↔ ((y : Point) → Feasible (problemOf (meant p)) y → whole s ≼ value (problemOf (meant p)) y)
+    ↔ ((y : Point) → Feasible (problemOf (meant p)) y → Counts (problemOf (meant p)) y → whole s ≼ value (problemOf (meant p)) y)
 
--- The checker accepts some pick table for none exactly when no plan that keeps the rules has a span below plus infinity.
+-- The checker accepts some start with a pick table for none exactly when no plan that keeps the rules and counts has a span below plus
+-- infinity.
 abbrev pub NoneExactly : Checker → Type 0
 NoneExactly check =
     (p : List ℕ) → Slice p → WithinLayout (meant p)
     → SomeTable check p class-infeasible (blankAnswer class-infeasible)
-    ↔ ((y : Point) → Feasible (problemOf (meant p)) y → plus-infinity ≼ value (problemOf (meant p)) y)
+    ↔ ((y : Point) → Feasible (problemOf (meant p)) y → Counts (problemOf (meant p)) y → plus-infinity ≼ value (problemOf (meant p)) y)
 
--- It accepts some pick table for bottomless exactly when for every whole number some plan that keeps the rules has a
--- span at or under it.
+-- It accepts some start with a pick table for bottomless exactly when for every whole number some plan that keeps the rules and counts has
+-- a span at or under it.
 abbrev pub BottomlessExactly : Checker → Type 0
 BottomlessExactly check =
     (p : List ℕ) → Slice p → WithinLayout (meant p)
@@ -319,7 +323,7 @@ pub data QuestionsAnswered (check : Checker) (read : Reader) (p buffer : List �
       {q at size trials own : ℕ} → QuestionsAnswered check read p buffer q at trials → QuestionAnswered check read p buffer q at size own
       → QuestionsAnswered check read p buffer (suc q) (at + size) (trials + own)
 
--- Where several questions are asked, and the buffer has 206 bytes for each, all of them are answered; bytes after the last answer stay.
+-- Where several questions are asked, and the buffer has 208 bytes for each, all of them are answered; bytes after the last answer stay.
 pub record AllAnswered (engine : Engine) (check : Checker) (read : Reader) (p buffer : List ℕ) : Type 0 where
   pub trials : ℕ
   pub size : ℕ

@@ -18,9 +18,9 @@ lead-limit = 20160
 abbrev pub span-limit : ℕ
 span-limit = 2 * suc highest-n * lead-limit
 
--- A stamp is blank or within this of 0.
+-- Document 02, 2.4: a stamp is blank or within this of 0.
 abbrev pub stamp-limit : ℕ
-stamp-limit = 3000000
+stamp-limit = 6000000
 
 -- The two outer trials: 1,290,240 and −1,290,241.
 abbrev pub top-trial : ℤ
@@ -57,7 +57,7 @@ signed-half = 2147483648
 abbrev pub signed-full : ℕ
 signed-full = 2 * signed-half
 
--- Places in a record's header: the length, the kind, n; then m of a problem, or class and span of an answer.
+-- Places in a record's header: the length, the kind, n; then m of a problem, or class, span and start (document 02, 2.4) of an answer.
 abbrev pub kind-place : ℕ
 kind-place = length-bytes
 
@@ -73,12 +73,15 @@ class-place = n-place + short-bytes
 abbrev pub span-place : ℕ
 span-place = class-place + short-bytes
 
--- Kinds of records.
+abbrev pub start-place : ℕ
+start-place = span-place + signed-bytes
+
+-- Kinds of records: problems of one question, and answers (document 02, 2.4).
 abbrev pub problem-kind : ℕ
 problem-kind = 1
 
 abbrev pub answer-kind : ℕ
-answer-kind = 2
+answer-kind = 4
 
 -- Document 02, 2.1: a problem of several questions, and the most of them.
 abbrev pub questions-kind : ℕ
@@ -97,12 +100,12 @@ class-unbounded = 2
 abbrev pub class-infeasible : ℕ
 class-infeasible = 3
 
--- The bytes of a problem of kind 1 before its leads, 10, and of an answer before its stamps and picks, 14.
+-- The bytes of a problem of kind 1 before its leads, 10, and of an answer before its stamps and picks, 16.
 abbrev pub problem-header : ℕ
 problem-header = m-place + short-bytes
 
 abbrev pub answer-header : ℕ
-answer-header = span-place + signed-bytes
+answer-header = start-place + short-bytes
 
 -- Document 02, 2.1: a problem of kind 3 has the count of its questions after m, so that its leads start at 12.
 abbrev pub count-place : ℕ
@@ -111,7 +114,7 @@ count-place = m-place + short-bytes
 abbrev pub questions-header : ℕ
 questions-header = count-place + short-bytes
 
--- The largest answer record, 206 bytes: n = 31, class 1. An answer buffer shorter than that for each question is refused, whichever class is due.
+-- The largest answer record, 208 bytes: n = 31, class 1. An answer buffer shorter than that for each question is refused, whichever class is due.
 abbrev pub answer-most : ℕ
 answer-most = answer-header + (signed-bytes + short-bytes) * suc highest-n
 
@@ -212,12 +215,12 @@ refused-count = 15
 abbrev pub refused-silent : ℕ
 refused-silent = 17
 
--- The answer buffer is shorter than 206 bytes, in the engine than 206 for each question, whichever class is due; in the converter the
+-- The answer buffer is shorter than 208 bytes, in the engine than 208 for each question, whichever class is due; in the converter the
 -- buffer is shorter than the record to be written.
 abbrev pub refused-room : ℕ
 refused-room = 7
 
--- The answer has fewer than 14 bytes.
+-- The answer has fewer than 16 bytes.
 abbrev pub refused-answer-short : ℕ
 refused-answer-short = 8
 
@@ -225,7 +228,7 @@ refused-answer-short = 8
 abbrev pub refused-answer-length : ℕ
 refused-answer-length = 9
 
--- Its kind is not 2 or its class not 1 to 3.
+-- Its kind is not 4, its class not 1 to 3, or its start none of its class.
 abbrev pub refused-answer-class : ℕ
 refused-answer-class = 10
 

@@ -4,7 +4,7 @@ use Prim.Native.Nat.{ℕ, zero, suc, _+_, _<_}
 use mathlib.Core.Path.{_≡_}
 use lib.IntN.{ℤ, pos, _-ℤ_}
 use lib.Signed.{_≤ℤ_}
-use Rattle.definitions.specs.Tropical.{Trop, bot, fin, plus, largest, _⊑_}
+use Rattle.definitions.specs.Tropical.{Trop, bot, fin, plus, largest, _⊑_, Finite}
 
 -- A problem: variables (moments) 0 to n, inequalities (rules) in rows 0 to m − 1, the objective (question) in row m.
 -- `left i j` is row i's left coefficient (lead) of variable j, `right i j` its right one; of the objective's row the
@@ -45,7 +45,8 @@ pub data _≼_ : Value → Value → Type 0 where
   between : {a b : ℤ} → a ≤ℤ b → whole a ≼ whole b
   highest : {v : Value} → v ≼ plus-infinity
 
--- First minus second (formula 22). First blank: minus infinity, also when both are. Only the second blank: plus infinity.
+-- First minus second (formula 22). First blank: minus infinity, also when both are. Only the second blank: plus infinity. (Plans whose
+-- second list is blank, so those with both lists blank too, no longer count: document 02, 2.4.)
 unfoldable pub minus : Trop → Trop → Value
 minus bot second = minus-infinity
 minus (fin a) bot = plus-infinity
@@ -55,23 +56,30 @@ minus (fin a) (fin b) = whole (a -ℤ b)
 unfoldable pub value : Problem → Point → Value
 value p x = minus (side (p .n) (p .left (p .m)) x) (side (p .n) (p .right (p .m)) x)
 
--- Attainable within t (a span t is possible): some feasible point has a value of at most t.
+-- Document 02, 2.4: a plan counts only if its second list is not blank: the question's right side is a whole number.
+pub record Counts (p : Problem) (x : Point) : Type 0 where
+  pub second : Finite (side (p .n) (p .right (p .m)) x)
+
+-- Attainable within t (a span t is possible): some feasible point that counts has a value of at most t.
 pub record Attainable (p : Problem) (t : ℤ) : Type 0 where
   pub point : Point
   pub feasible : Feasible p point
+  pub counts : Counts p point
   pub within : value p point ≼ whole t
 
--- Optimal s (least): some feasible point has value s, and every feasible point has at least that.
+-- Optimal s (least): some feasible point that counts has value s, and every feasible point that counts has at least that.
 pub record Optimal (p : Problem) (s : ℤ) : Type 0 where
   pub point : Point
   pub feasible : Feasible p point
+  pub counts : Counts p point
   pub value-is : value p point ≡ whole s
-  pub least : (y : Point) → Feasible p y → whole s ≼ value p y
+  pub least : (y : Point) → Feasible p y → Counts p y → whole s ≼ value p y
 
--- Unbounded (bottomless): for every whole number some feasible point has a value at or under it.
+-- Unbounded (bottomless): for every whole number some feasible point that counts has a value at or under it.
 abbrev pub Unbounded : Problem → Type 0
 Unbounded p = (t : ℤ) → Attainable p t
 
--- Infeasible (none): no feasible point has a value below plus infinity. (Points that keep the rules may be there.)
+-- Infeasible (none): no feasible point that counts has a value below plus infinity. (Points that keep the rules may be there; where
+-- one counts, its value is below plus infinity, so none counts.)
 abbrev pub Infeasible : Problem → Type 0
-Infeasible p = (x : Point) → Feasible p x → plus-infinity ≼ value p x
+Infeasible p = (x : Point) → Feasible p x → Counts p x → plus-infinity ≼ value p x

@@ -1,4 +1,4 @@
--- What the engine says of a problem's bytes, and what it writes. Document 01, "The engine"; document 02, 2.1.
+-- What the engine says of a problem's bytes, and what it writes. Document 01, "The engine"; document 02, 2.1 and 2.4.
 use Prim.Native.Nat.{ℕ, zero, suc, _+_, _*_}
 use mathlib.Core.Path.{_≡_}
 use mathlib.Core.Bool.{true}
@@ -9,15 +9,15 @@ use lib.IntN.{ℤ}
 use Rattle.definitions.specs.Limits.{problem-kind, questions-kind, answer-most, refused-room, class-optimal, class-unbounded, class-infeasible}
 use Rattle.definitions.specs.Tropical.{Trop, bot, fin, Finite}
 use Rattle.definitions.specs.Problem.{Problem, Optimal, Unbounded, Infeasible}
-use Rattle.definitions.specs.Certificate.{Strategy, Reachable, Anchor, Leads, RowLeads}
+use Rattle.definitions.specs.Certificate.{Strategy, Reachable, startOf, AnchorAnd, Leads, RowLeads}
 use Rattle.definitions.specs.Bytes.{Clause, first, or-else}
 use Rattle.definitions.specs.ProblemRecord.{recordRefusal, problemOf, kindField, nField, mField, countField, questionsAsked}
 use Rattle.definitions.specs.Questions.{alone}
-use Rattle.definitions.specs.AnswerRecord.{Answer, rightCounts, formRefusal, answerSize, answerBytes, written}
+use Rattle.definitions.specs.AnswerRecord.{Answer, rightCounts, startFits, formRefusal, answerSize, answerBytes, written}
 use Rattle.definitions.specs.Bisection.{trials-optimal, trials-unbounded, trials-infeasible}
 use Rattle.definitions.specs.Verdict.{Accepted, strategyOf}
 
--- Refusal 7 in the engine: a buffer of `room` bytes is shorter than 206 bytes a question.
+-- Refusal 7 in the engine: a buffer of `room` bytes is shorter than 208 bytes a question.
 abbrev pub answersRefused : ℕ → ℕ → Clause
 answersRefused questions room = record { applies = ltb room (questions * answer-most); number = refused-room }
 
@@ -26,7 +26,7 @@ answersRefused questions room = record { applies = ltb room (questions * answer-
 unfoldable pub engineRefusal : List ℕ → ℕ → ℕ
 engineRefusal p room = or-else (recordRefusal p) (first (answersRefused (questionsAsked (kindField p) (countField p)) room ∷ []))
 
--- The class, span and trials of a problem: least s, bottomless or none, by its plans alone. The count is document 01's for
+-- The class, span and trials of a problem: least s, bottomless or none, by its plans that count alone. The count is document 01's for
 -- that class and span; how many trials a run makes is not said here.
 pub data Found (p : Problem) : ℕ → Trop → ℕ → Type 0 where
   optimal : {s : ℤ} → Optimal p s → Found p class-optimal (fin s) (trials-optimal s)
@@ -42,16 +42,17 @@ abbrev pub IdleRows : (ℕ → Type 0) → Problem → Strategy → Type 0
 IdleRows Start p picks =
     (i : ℕ) → ((j : ℕ) → Reachable Start (RowLeads p picks) j → Finite (p .left i j) → ⊥) → picks i ≡ 0
 
--- An answer that the engine may give, of this class, span and trials. Stamps and picks that play a part are free,
+-- An answer that the engine may give, of this class, span and trials. Its start, stamps and picks that play a part are free,
 -- provided that the answer is accepted.
 pub record Answers (p : Problem) (class : ℕ) (span : Trop) (trials : ℕ) (a : Answer) : Type 0 where
   pub found : Found p class span trials
   pub class-is : a .class ≡ class
   pub span-is : a .span ≡ span
   pub counts : rightCounts a (p .n) (p .m) ≡ true
+  pub start-fits : startFits (a .class) (a .start) (p .n) ≡ true
   pub form : formRefusal a (p .n) (p .m) ≡ 0
-  pub idle-variables : (class ≡ class-unbounded → ⊥) → IdleVariables Anchor p (strategyOf (a .picks))
-  pub idle-rows : class ≡ class-unbounded → IdleRows Anchor p (strategyOf (a .picks))
+  pub idle-variables : (class ≡ class-unbounded → ⊥) → IdleVariables (startOf p (a .start)) p (strategyOf (a .picks))
+  pub idle-rows : class ≡ class-unbounded → (k : ℕ) → a .start ≡ suc k → IdleRows (AnchorAnd k) p (strategyOf (a .picks))
   pub accepted : Accepted p a
 
 -- The answers to the first questions of a record of several, one after another: their bytes, and the sum of their trials. Each is one

@@ -8,7 +8,7 @@ use lib.IntN.{ℤ}
 use Rattle.definitions.specs.Limits.{class-optimal, class-unbounded, class-infeasible}
 use Rattle.definitions.specs.Tropical.{Trop, bot, fin}
 use Rattle.definitions.specs.Problem.{Problem, Point}
-use Rattle.definitions.specs.Certificate.{Strategy, Anchor, AcceptedOptimal, AcceptedUnbounded, AcceptedInfeasible}
+use Rattle.definitions.specs.Certificate.{Strategy, Second, startOf, AnchorAnd, AcceptedOptimal, AcceptedUnbounded, AcceptedInfeasible}
 use Rattle.definitions.specs.Bytes.{or-else}
 use Rattle.definitions.specs.ProblemRecord.{problemRefusal, problemOf, nField, mField}
 use Rattle.definitions.specs.AnswerRecord.{Answer, answerRefusal, answerOf}
@@ -20,13 +20,17 @@ pointOf stamps j = getD stamps j bot
 unfoldable pub strategyOf : List ℕ → Strategy
 strategyOf picks j = getD picks j 0
 
--- All that document 01 lists under 'Accepted' for the answer's class holds.
+-- All that document 01 lists under 'Accepted' for the answer's class holds, reached from the answer's start (document 02, 2.4). In class 2
+-- the start names a moment of the second list.
 pub data Accepted (p : Problem) (a : Answer) : Type 0 where
   optimal :
-      {s : ℤ} → a .class ≡ class-optimal → a .span ≡ fin s → AcceptedOptimal Anchor p s (pointOf (a .stamps)) (strategyOf (a .picks))
+      {s : ℤ} → a .class ≡ class-optimal → a .span ≡ fin s
+      → AcceptedOptimal (startOf p (a .start)) p s (pointOf (a .stamps)) (strategyOf (a .picks)) → Accepted p a
+  unbounded :
+      {k : ℕ} → a .class ≡ class-unbounded → a .start ≡ suc k → Second p k → AcceptedUnbounded (AnchorAnd k) p (strategyOf (a .picks))
       → Accepted p a
-  unbounded : a .class ≡ class-unbounded → AcceptedUnbounded Anchor p (strategyOf (a .picks)) → Accepted p a
-  infeasible : a .class ≡ class-infeasible → AcceptedInfeasible Anchor p (strategyOf (a .picks)) → Accepted p a
+  infeasible :
+      a .class ≡ class-infeasible → AcceptedInfeasible (startOf p (a .start)) p (strategyOf (a .picks)) → Accepted p a
 
 -- The first of refusals 1 to 6 and 17 for the problem, then 8 to 13 for the answer, that applies; 0 where none does.
 unfoldable pub checkRefusal : List ℕ → List ℕ → ℕ
