@@ -27,3 +27,4 @@ pub mod Agree
 pub mod Scaling
 pub mod Selection
 pub mod Marks
+pub mod Merging

@@ -4,7 +4,7 @@ use Prim.Native.Nat.{ℕ, zero, suc, _+_, _<_}
 use mathlib.Core.Path.{_≡_}
 use lib.IntN.{ℤ, pos, _-ℤ_}
 use lib.Signed.{_≤ℤ_}
-use Rattle.definitions.specs.Tropical.{Trop, bot, fin, plus, largest, _⊑_}
+use Rattle.definitions.specs.Tropical.{Trop, bot, fin, plus, largest, _⊑_, Finite}
 
 -- A problem: variables (moments) 0 to n, inequalities (rules) in rows 0 to m − 1, the objective (question) in row m.
 -- `left i j` is row i's left coefficient (lead) of variable j, `right i j` its right one; of the objective's row the
@@ -54,6 +54,10 @@ minus (fin a) (fin b) = whole (a -ℤ b)
 -- The objective value of a point (the span of a plan).
 unfoldable pub value : Problem → Point → Value
 value p x = minus (side (p .n) (p .left (p .m)) x) (side (p .n) (p .right (p .m)) x)
+
+-- A point counts (a plan counts) if its second side is not blank. Document 02, 2.4 and 2.13.
+abbrev pub Counts : Problem → Point → Type 0
+Counts p x = Finite (side (p .n) (p .right (p .m)) x)
 
 -- Attainable within t (a span t is possible): some feasible point has a value of at most t.
 pub record Attainable (p : Problem) (t : ℤ) : Type 0 where
