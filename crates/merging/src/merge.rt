@@ -3,10 +3,10 @@ ghost use mathlib.Core.Path.{_≡_};
 ghost use mathlib.Core.List.{List};
 ghost use Prim.Native.Nat.{ℕ, _≤_};
 ghost use lib.ListN.{length};
-ghost use Rattle.definitions.specs.Limits.{highest-n, word-half};
+ghost use Rattle.definitions.specs.Limits.{highest-n};
 ghost use Rattle.definitions.specs.ProblemRecord.{meant};
 ghost use Rattle.definitions.specs.Merging.{shiftOf, Merges};
-ghost use Rattle.merging.specs.Plans.{backBy, plansJudged};
+ghost use Rattle.merging.specs.Plans.{plansJudged};
 ghost use Rattle.merging.specs.Outcome.{mergedOf, Read, Posed, Kept, Wrote};
 use crate::plan::plan_fits;
 use crate::plan::stamps_in;
@@ -61,7 +61,7 @@ fn merge_back(
     out: &mut [u8],
 ) -> Merged
     requires { ⌜ Kept n back (now first) (now second) (length (now out)) ⌝ }
-    ensures { λ r. ⌜ Wrote n back (now (first .entry)) (now (second .entry)) (mergedOf r) (now (out .entry)) (now (out .exit)) ⌝ }
+    ensures { λ r. ⌜ Wrote n back (now (first .entry)) (now (second .entry)) (now (out .entry)) (mergedOf r) (now (out .exit)) ⌝ }
 {
     let count = n + 1;
     if some_early(first, second, back, count) {
@@ -113,14 +113,5 @@ pub fn merge(problem: &[u8], first: &[u8], second: &[u8], shift: u64, out: &mut 
     if refusal != 0 {
         return Merged::Refused(refusal);
     }
-    merge_plans(
-        &left,
-        &right,
-        layout.n,
-        layout.m,
-        first,
-        second,
-        shift,
-        out,
-    )
+    merge_plans(&left, &right, layout.n, layout.m, first, second, shift, out)
 }

@@ -1,8 +1,8 @@
 // Two plans at the rules of a problem that stands in two tables.
 ghost use mathlib.Core.Path.{_≡_};
-ghost use Prim.Native.Nat.{_+_};
+ghost use Prim.Native.Nat.{_+_, _≤_};
 ghost use Rattle.base.specs.Decides.{Decides};
-ghost use Rattle.definitions.specs.Limits.{stamp-limit};
+ghost use Rattle.definitions.specs.Limits.{stamp-limit, stride};
 ghost use Rattle.definitions.specs.Problem.{Problem};
 ghost use Rattle.definitions.specs.Merging.{KeepsRules};
 ghost use Rattle.records.specs.Decoded.{Near};

@@ -4,12 +4,12 @@ ghost use mathlib.Core.Bool.{false};
 ghost use Prim.Native.Nat.{ℕ, _≤_, _<_};
 ghost use Rattle.base.specs.Filled.{Filled};
 ghost use Rattle.definitions.specs.Limits.{stamp-limit, word-half, signed-full, stride};
-ghost use Rattle.definitions.specs.Bytes.{some-below};
 ghost use Rattle.definitions.specs.Offset.{tropOf};
-ghost use Rattle.definitions.specs.Merging.{shiftOf, above-zero, merged, early};
+ghost use Rattle.definitions.specs.Merging.{shiftOf, above-zero, early};
 ghost use Rattle.records.specs.Decoded.{Near};
-ghost use Rattle.records.specs.Stamps.{Stamped, stampsPoint};
+ghost use Rattle.records.specs.Stamps.{Stamped};
 ghost use Rattle.merging.specs.Plans.{backBy, laterOf};
+ghost use Rattle.merging.specs.Outcome.{joined, joinedEarly};
 use records::limits::LAST_WORD;
 use records::limits::OFFSET;
 use records::limits::STAMP_LIMIT;
@@ -64,14 +64,9 @@ fn later_of(first: u64, second: u64, back: u64) -> u64
 }
 
 // One of the first `count` stamps of the merged plan is below the least stamp.
-pub fn some_early(
-    first: &[u64; STRIDE],
-    second: &[u64; STRIDE],
-    back: u64,
-    count: usize,
-) -> bool
+pub fn some_early(first: &[u64; STRIDE], second: &[u64; STRIDE], back: u64, count: usize) -> bool
     requires { ⌜ Stamped (now first) × Stamped (now second) × (back ≤ word-half) × (count ≤ stride) ⌝ }
-    ensures { λ r. ⌜ r ≡ some-below (λ j. early (merged (backBy back) (stampsPoint (now (first .entry))) (stampsPoint (now (second .entry))) j)) count ⌝ }
+    ensures { λ r. ⌜ r ≡ joinedEarly back (now (first .entry)) (now (second .entry)) count ⌝ }
 {
     let mut j: usize = 0;
     while j < count {
@@ -90,8 +85,8 @@ pub fn merged_stamps(
     back: u64,
     count: usize,
 ) -> [u64; STRIDE]
-    requires { ⌜ Stamped (now first) × Stamped (now second) × (back ≤ word-half) × (count ≤ stride) × (some-below (λ j. early (merged (backBy back) (stampsPoint (now first)) (stampsPoint (now second)) j)) count ≡ false) ⌝ }
-    ensures { λ r. ⌜ Filled (λ j v. (tropOf v ≡ merged (backBy back) (stampsPoint (now (first .entry))) (stampsPoint (now (second .entry))) j) × (v < signed-full)) stride count r ⌝ }
+    requires { ⌜ Stamped (now first) × Stamped (now second) × (back ≤ word-half) × (count ≤ stride) × (joinedEarly back (now first) (now second) count ≡ false) ⌝ }
+    ensures { λ r. ⌜ Filled (λ j v. (tropOf v ≡ joined back (now (first .entry)) (now (second .entry)) j) × (v < signed-full)) stride count r ⌝ }
 {
     let mut out = [0u64; STRIDE];
     let mut j: usize = 0;
