@@ -86,7 +86,7 @@ shift-last false true true x = refl
 shift-last false true false x = refl
 shift-last false false b x = refl
 
-merge-refusal : (p a b : List ℕ) (t : ℤ) (room : ℕ)
+pub merge-refusal : (p a b : List ℕ) (t : ℤ) (room : ℕ)
     → mergeRefusal p a b t room ≡ or-else (problemRefusal p) (or-else (plansJudged (nField p) a b room) (cond (above-zero t) 24 0))
 unfolding mergeRefusal plansJudged
 merge-refusal p a b t room = ap (or-else (problemRefusal p)) (shift-last (ltb room merged-most) (planFits (nField p) a) (planFits (nField p) b) (cond (above-zero t) 24 0))
