@@ -7,7 +7,7 @@ pub const BLANK: i32 = i32::MIN;
 /// The size that an answer buffer must have, for each question.
 pub const BUFFER: usize = 206;
 /// The largest size of a stamp.
-const STAMP: i32 = 3_000_000;
+pub const STAMP: i32 = 3_000_000;
 
 /// A problem's coefficients: row i's left ones from `i * VARIABLES` on, so that every row starts at a fixed place.
 /// Places beyond the problem's own hold blank.

@@ -3,5 +3,6 @@ pub mod calls;
 pub mod conversion;
 pub mod fields;
 pub mod marks;
+pub mod merging;
 pub mod opening;
 pub mod sheet;

@@ -40,7 +40,7 @@ use Rattle.problem_records.proofs.ReadProblem.{told-of}
 use Rattle.answer_reader.specs.Fields.{Padded}
 use Rattle.answer_reader.proofs.Passing.{map-at}
 use Rattle.trials.specs.Tables.{raised-limit, Table, Tables}
-use Rattle.merging.specs.Plans.{numbersIn, plansJudged, backBy, InTables}
+use Rattle.merging.specs.Plans.{numbersIn, plansJudged, pairJudged, backBy, InTables}
 use Rattle.merging.specs.Outcome.{mergedOf, Read, Posed, Kept, Wrote, below, above, joined, joinedEarly}
 use Rattle.merging.specs.declared.merge.Merged.the-variants as Results
 use Rattle.merging.proofs.Plans.{PlanFits, plan-of-form, plan-point, plan-stamped}
@@ -78,6 +78,25 @@ module _ (n : ℕ) (a b : List ℕ) (room : ℕ) where
       let f = passes-clause (planFits n a) 11 _ .0 (r .1) in
       let g = passes-clause (planFits n b) 11 _ .0 (f .1) in
       record { room-enough = r .0; first-fits = f .0; second-fits = g .0 }
+
+-- ---- refusals 24 and 25
+
+pub pair-forward : (k : Bool) {f : Bool} → f ≡ true → 24 ≡ pairJudged f k
+pair-forward k e = rw e refl
+
+pub pair-broken : {f k : Bool} → f ≡ false → k ≡ false → 25 ≡ pairJudged f k
+pair-broken e g = rw (e, g) refl
+
+pub pair-none : {f k : Bool} → f ≡ false → k ≡ true → 0 ≡ pairJudged f k
+pair-none e g = rw (e, g) refl
+
+-- What no refusal says.
+pub none-pair : (f k : Bool) → pairJudged f k ≡ 0 → (f ≡ false) × (k ≡ true)
+none-pair true k e = absurd (omega arith)
+none-pair false true e = (refl, refl)
+none-pair false false e = absurd (omega arith)
+
+-- ---- all of them
 
 -- The shift is looked at last.
 shift-last : (r a b : Bool) (x : ℕ) → cond r 7 (cond (not a) 12 (cond (not b) 12 x)) ≡ or-else (cond r 7 (cond (not a) 12 (cond (not b) 12 0))) x
@@ -231,7 +250,7 @@ module _ {n : ℕ} {a b x y : List ℕ} (held : Held n a b x y) where
     unfolding plansJudged
     only-shift = merge-refusal p a b (shiftOf w) (length before) ∙ rw (read .within, read .n-is, le-ltb (length before) merged-most room, held .a-fits, held .b-fits) refl
 
-    pub refused-forward : {r : Bool} → r ≡ above-zero (shiftOf w) → r ≡ true → Merges p a b (shiftOf w) before (mergedOf (Results.Refused 24)) before
+    refused-forward : {r : Bool} → r ≡ above-zero (shiftOf w) → r ≡ true → Merges p a b (shiftOf w) before (mergedOf (Results.Refused 24)) before
     refused-forward e f = turned 24 (omega arith) (only-shift ∙ rw (← e, f) refl)
 
     module _ {r : Bool} (e : r ≡ above-zero (shiftOf w)) (f : r ≡ false) where
@@ -247,7 +266,7 @@ module _ {n : ℕ} {a b x y : List ℕ} (held : Held n a b x y) where
           (keeps-as (problemOf p) (planOf n a) (stampsPoint x) (λ j. sym (first-point j)) (q .0), keeps-as (problemOf p) (planOf n b) (stampsPoint y) (λ j. sym (second-point j)) (q .1))
 
       module _ {d : Bool} (decides : Decides (KeepsRules (problemOf p) (stampsPoint x) × KeepsRules (problemOf p) (stampsPoint y)) d) where
-        pub refused-broken : d ≡ false → Merges p a b (shiftOf w) before (mergedOf (Results.Refused 25)) before
+        refused-broken : d ≡ false → Merges p a b (shiftOf w) before (mergedOf (Results.Refused 25)) before
         unfolding mergedOf
         refused-broken g = Merging.rule-broken none (λ k. decides .no g (to-stamps k))
 
@@ -269,3 +288,13 @@ module _ {n : ℕ} {a b x y : List ℕ} (held : Held n a b x y) where
           pub wrote-merges : {r : Outcome ℕ} {after : List ℕ} → d ≡ true → Wrote n back x y before r after → Merges p a b (shiftOf w) before r after
           wrote-merges g (below k) = Merging.too-early none (to-plans (decides .yes g)) (sym early-same ∙ k)
           wrote-merges g (above k) = rw (bytes-same, size-same) (Merging.stamps none (to-plans (decides .yes g)) (sym early-same ∙ k))
+
+    -- 24 or 25 applies.
+    pub refused-pair : {f d : Bool} {r : ℕ} → f ≡ above-zero (shiftOf w) → Decides (KeepsRules (problemOf p) (stampsPoint x) × KeepsRules (problemOf p) (stampsPoint y)) d
+        → r ≡ pairJudged f d → (r ≡ 0 → ⊥) → Merges p a b (shiftOf w) before (mergedOf (Results.Refused r)) before
+    refused-pair {f} {d} {r} e decides q z = go f d refl refl
+      where
+        go : (g k : Bool) → f ≡ g → d ≡ k → Merges p a b (shiftOf w) before (mergedOf (Results.Refused r)) before
+        go true k h l = let n : r ≡ 24 = q ∙ sym (pair-forward d h) in rw n (refused-forward e h)
+        go false false h l = let n : r ≡ 25 = q ∙ sym (pair-broken h l) in rw n (refused-broken e h decides l)
+        go false true h l = absurd (z (q ∙ sym (pair-none h l)))

@@ -1,13 +1,13 @@
 -- Plans as the code holds them: stamps as offset numbers in an array of 32, blank behind the last; the shift as minutes back.
 use Prim.Native.Nat.{ℕ}
 use mathlib.Core.Path.{_≡_}
-use mathlib.Core.Bool.{not}
+use mathlib.Core.Bool.{Bool, not}
 use mathlib.Core.List.{List, [], _∷_, map}
 use lib.Dec.{ltb}
 use lib.ListN.{getD}
 use lib.IntN.{ℤ, pos, negℤ}
 use Rattle.base.specs.Filled.{Filled}
-use Rattle.definitions.specs.Limits.{signed-bytes, stride, merged-most, refused-room, refused-form}
+use Rattle.definitions.specs.Limits.{signed-bytes, stride, merged-most, refused-room, refused-form, refused-shift, refused-rule}
 use Rattle.definitions.specs.Tropical.{Trop, fin, plus, larger}
 use Rattle.definitions.specs.Problem.{Problem}
 use Rattle.definitions.specs.Bytes.{numsAt, first}
@@ -28,6 +28,10 @@ plansJudged n a b room =
     ∷ record { applies = not (planFits n a); number = refused-form }
     ∷ record { applies = not (planFits n b); number = refused-form }
     ∷ [])
+
+-- The first of refusals 24 and 25 that applies, 0 where none does.
+abbrev pub pairJudged : Bool → Bool → ℕ
+pairJudged forward keep = first (record { applies = forward; number = refused-shift } ∷ record { applies = not keep; number = refused-rule } ∷ [])
 
 -- The shift that moves a plan so many minutes back.
 abbrev pub backBy : ℕ → ℤ

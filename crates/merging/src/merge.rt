@@ -6,7 +6,7 @@ ghost use lib.ListN.{length};
 ghost use Rattle.definitions.specs.Limits.{highest-n};
 ghost use Rattle.definitions.specs.ProblemRecord.{meant};
 ghost use Rattle.definitions.specs.Merging.{shiftOf, Merges};
-ghost use Rattle.merging.specs.Plans.{plansJudged};
+ghost use Rattle.merging.specs.Plans.{plansJudged, pairJudged};
 ghost use Rattle.merging.specs.Outcome.{mergedOf, Read, Posed, Kept, Wrote};
 use crate::plan::plan_fits;
 use crate::plan::stamps_in;
@@ -52,6 +52,19 @@ fn judge_plans(first: &[u8], second: &[u8], n: usize, room: usize) -> usize
     0
 }
 
+// The first of refusals 24 and 25 that applies, 0 where none does: the shift is above 0, the plans do not both keep the rules.
+fn judge_pair(forward: bool, keep: bool) -> usize
+    ensures { λ r. ⌜ r ≡ pairJudged forward keep ⌝ }
+{
+    if forward {
+        return REFUSED_SHIFT;
+    }
+    if !keep {
+        return REFUSED_RULE;
+    }
+    0
+}
+
 // The merged stamps put at the start of the buffer, or 26: of two plans that keep the rules, the second moved back.
 fn merge_back(
     first: &[u64; STRIDE],
@@ -88,11 +101,9 @@ fn merge_plans(
 {
     let x = stamps_in(first, n + 1);
     let y = stamps_in(second, n + 1);
-    if is_forward(shift) {
-        return Merged::Refused(REFUSED_SHIFT);
-    }
-    if !both_keep(left, right, n, m, &x, &y) {
-        return Merged::Refused(REFUSED_RULE);
+    let refusal = judge_pair(is_forward(shift), both_keep(left, right, n, m, &x, &y));
+    if refusal != 0 {
+        return Merged::Refused(refusal);
     }
     merge_back(&x, &y, minutes_back(shift), n, out)
 }
