@@ -3,6 +3,6 @@ pub mod calls;
 pub mod conversion;
 pub mod fields;
 pub mod marks;
-pub mod merging;
 pub mod opening;
+pub mod plans;
 pub mod sheet;

@@ -1,8 +1,8 @@
 use borrow.Author.Needs.{needs}
 use native.Mathlib.Omega.{arith}
 use Rattle.capi.proofs.Merging.{stamps-number, unmerged-number}
-use Rattle.capi.proofs.merging.merged_number.Statement.{statement}
-use Rattle.capi.proofs.merging.merged_number.Tie as tie
+use Rattle.capi.proofs.plans.merged_number.Statement.{statement}
+use Rattle.capi.proofs.plans.merged_number.Tie as tie
 
 pub merged-number-spec : {M : Type 1} → statement M
 merged-number-spec =

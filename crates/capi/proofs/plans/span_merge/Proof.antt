@@ -1,7 +1,7 @@
 use borrow.Author.Needs.{needs}
 use Rattle.capi.proofs.Merging.{small-merged}
-use Rattle.capi.proofs.merging.span_merge.Statement.{statement}
-use Rattle.capi.proofs.merging.span_merge.Tie as tie
+use Rattle.capi.proofs.plans.span_merge.Statement.{statement}
+use Rattle.capi.proofs.plans.span_merge.Tie as tie
 
 pub span-merge-spec : {M : Type 1} → statement M
 span-merge-spec =
