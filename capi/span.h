@@ -28,9 +28,9 @@
  * span or a stamp is outside the form of its class; 13 a pick is above its highest value; 14 not certified; 15 the count of
  * questions is 0 or above 8; 17 a rule, not the question, has an all-blank left list (span_convert drops such rules); 18
  * (hours and minutes) the text is not of this form, a value is beyond 6,000,000 of 0, or the writer's buffer is shorter
- * than 10 bytes; 19 a week list or a minute to be looked up is not of its form (span_first_open). The first that applies is
- * returned, in this order, but 15 is looked at after 4 and before 5, and 17 after 6 and before 7; a record of kind 3 that
- * ends before its count gets 5. A refusal writes nothing.
+ * than 10 bytes; 19 a week list or a minute to be looked up is not of its form (span_first_open); 24 to 26 two plans cannot
+ * be merged (span_merge). The first that applies is returned, in this order, but 15 is looked at after 4 and before 5, and
+ * 17 after 6 and before 7; a record of kind 3 that ends before its count gets 5. A refusal writes nothing.
  */
 #ifndef SPAN_H
 #define SPAN_H
@@ -62,6 +62,11 @@ extern "C" {
 
 #define SPAN_WINDOWS 14           /* the most windows of a week list, with two minutes each */
 #define SPAN_NEVER 0              /* span_first_open only: the week list is empty */
+
+#define SPAN_PLAN_SIZE 128        /* a buffer of this many bytes is long enough for the stamps of every plan */
+#define SPAN_FORWARD 24           /* span_merge only: the shift is above 0 */
+#define SPAN_RULE_BROKEN 25       /* span_merge only: a plan breaks a rule */
+#define SPAN_TOO_EARLY 26         /* span_merge only: a merged stamp would be below its limit */
 
 #define SPAN_DIFFER 256           /* span_marks_differ only */
 
@@ -99,6 +104,17 @@ uint64_t span_write(uint64_t class_number, uint64_t span, uint64_t start, const 
  * Result: converted: 256 * the record's size. Else the refusal: 1 to 6 or 15 as span_solve gives them, then 7 where the buffer is
  * shorter than the record to be written. */
 uint64_t span_convert(const uint8_t *stored, size_t stored_size, uint8_t *buffer, size_t buffer_size);
+
+/* Merges two plans of a problem of kind 1, or of an idle day: each moment is the later of the first plan's and the second plan's plus
+ * `shift`, which is 0 or less. A plan is n + 1 stamps of 4 bytes, as in an answer record: -2147483648 is blank, the anchor's is 0, and
+ * the others lie within the limit of stamps. The merged stamps are written the same way at the start of `buffer`; the bytes after them
+ * stay. They keep the rules, and where both plans have a second list that is not blank, so has the merged one, and its span is at most
+ * the greater of the two. Lend SPAN_PLAN_SIZE bytes, whatever n is.
+ * Result: merged: 256 * the bytes written, 4 * (n + 1). Else the refusal: 1 to 6 or 17 as span_check gives them; 7 the buffer is shorter
+ * than 128 bytes; 12 a plan is not n + 1 such stamps; 24 the shift is above 0; 25 a plan breaks a rule; 26 a merged stamp would be
+ * below the limit of stamps. Nothing is then written. */
+uint64_t span_merge(const uint8_t *problem, size_t problem_size, const uint8_t *first, size_t first_size,
+                    const uint8_t *second, size_t second_size, int64_t shift, uint8_t *buffer, size_t buffer_size);
 
 /* Reads a span or stamp in hours and minutes: an optional minus, hours without leading zeros, a colon, two digits of minutes
  * below 60, as in 7:05, -0:05 or 0:00; two hyphens are blank. There is one text for each value within 6,000,000 of 0, and for
@@ -143,7 +159,7 @@ static inline unsigned span_refusal(uint64_t result) { return (unsigned)(result 
 static inline unsigned span_trials(uint64_t result) { return (unsigned)(result >> 8); }           /* span_solve */
 static inline unsigned span_class(uint64_t result) { return (unsigned)((result >> 8) & 255); }    /* span_check, span_read */
 static inline unsigned span_start(uint64_t result) { return (unsigned)((result >> 16) & 65535); } /* span_read */
-static inline size_t span_size(uint64_t result) { return (size_t)(result >> 8); }                 /* span_write, span_convert, span_hours_write */
+static inline size_t span_size(uint64_t result) { return (size_t)(result >> 8); }                 /* span_write, span_convert, span_merge, span_hours_write */
 static inline int span_blank(uint64_t result) { return (result >> 32) == 0; }                     /* span_hours_read, where the low byte is 0 */
 static inline int32_t span_minutes(uint64_t result) {                            /* class 1; span_first_open; span_hours_read, where not blank */
     return (int32_t)((int64_t)(result >> 32) - 2147483648LL);

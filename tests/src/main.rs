@@ -54,6 +54,7 @@ fn main() {
         ("questions", suites::questions::run),
         ("idle", suites::idle::run),
         ("silent", suites::silent::run),
+        ("merging", suites::merging::run),
     ];
     let mut failures = 0;
     let mut run = 0;

@@ -5,6 +5,7 @@ use crate::checker;
 use crate::converter;
 use crate::engine::solve_all;
 use crate::hours;
+use crate::merger;
 use crate::record::{self, Answer, BLANK, BUFFER};
 use crate::{ROWS, VARIABLES};
 
@@ -26,6 +27,14 @@ pub fn solve(problem: &[u8], answers: &mut [u8]) -> u64 {
 /// The refusal, or 256 × the size of the converted record.
 pub fn convert(stored: &[u8], buffer: &mut [u8]) -> u64 {
     match converter::convert(stored, buffer) {
+        Ok(size) => 256 * size as u64,
+        Err(number) => number as u64,
+    }
+}
+
+/// The refusal, or 256 × the bytes of the merged stamps.
+pub fn merge(problem: &[u8], first: &[u8], second: &[u8], shift: i64, buffer: &mut [u8]) -> u64 {
+    match merger::merge(problem, first, second, shift, buffer) {
         Ok(size) => 256 * size as u64,
         Err(number) => number as u64,
     }

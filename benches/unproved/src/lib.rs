@@ -17,6 +17,7 @@ mod dense;
 mod engine;
 mod hours;
 mod lists;
+mod merger;
 mod number;
 mod policy;
 pub mod programs;

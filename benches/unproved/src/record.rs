@@ -7,7 +7,7 @@ pub const BLANK: i32 = i32::MIN;
 /// The size that an answer buffer must have, for each question.
 pub const BUFFER: usize = 208;
 /// The largest size of a stamp.
-const STAMP: i32 = 6_000_000;
+pub const STAMP: i32 = 6_000_000;
 /// The kind of an answer, and the size of its header.
 const KIND: u16 = 4;
 const HEADER: usize = 16;

@@ -36,6 +36,17 @@ mod archive {
             buffer_size: usize,
         ) -> u64;
         pub fn span_convert(stored: *const u8, stored_size: usize, buffer: *mut u8, buffer_size: usize) -> u64;
+        pub fn span_merge(
+            problem: *const u8,
+            problem_size: usize,
+            first: *const u8,
+            first_size: usize,
+            second: *const u8,
+            second_size: usize,
+            shift: i64,
+            buffer: *mut u8,
+            buffer_size: usize,
+        ) -> u64;
         pub fn span_first_open(week: *const u64, week_count: usize, minute: u64) -> u64;
         pub fn span_hours_read(text: *const u8, text_size: usize) -> u64;
         pub fn span_hours_write(value: u64, buffer: *mut u8, buffer_size: usize) -> u64;
@@ -113,6 +124,24 @@ pub fn write(
 pub fn convert(stored: &[u8], buffer: &mut [u8]) -> u64 {
     // SAFETY: both parts are valid for their lengths, and a `&mut` overlaps nothing.
     unsafe { archive::span_convert(stored.as_ptr(), stored.len(), buffer.as_mut_ptr(), buffer.len()) }
+}
+
+/// Merges two plans, the second with a shift: the refusal, or 256 × the bytes of the merged stamps.
+pub fn merge(problem: &[u8], first: &[u8], second: &[u8], shift: i64, buffer: &mut [u8]) -> u64 {
+    // SAFETY: all parts are valid for their lengths, and the `&mut` overlaps nothing.
+    unsafe {
+        archive::span_merge(
+            problem.as_ptr(),
+            problem.len(),
+            first.as_ptr(),
+            first.len(),
+            second.as_ptr(),
+            second.len(),
+            shift,
+            buffer.as_mut_ptr(),
+            buffer.len(),
+        )
+    }
 }
 
 /// The first open minute of a week list: the refusal, 0 for never, or 2³² × the minute's offset number.

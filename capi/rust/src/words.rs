@@ -135,7 +135,7 @@ impl fmt::Display for Certified {
 /// A refusal of document 01, "What is turned away", or of document 02.
 #[derive(Clone, Copy, Debug, PartialEq, Eq)]
 pub struct Refusal {
-    /// Its number, 1 to 15, 18 or 19.
+    /// Its number, 1 to 15, 17 to 19 or 24 to 26.
     pub number: u8,
 }
 
@@ -158,11 +158,15 @@ impl Refusal {
             13 => "A pick is above its highest value.",
             14 => "The form is right and the answer is not accepted: not certified.",
             15 => "The count of questions is 0 or above 8.",
+            17 => "A rule has an all-blank left list.",
             18 => {
                 "The text is not of this form, a value read or to be written is beyond ±6,000,000, or the writer's \
                  buffer is shorter than 10 bytes."
             }
             19 => "More than 14 windows, a closing not after its opening, an opening or closing outside its range, a window that starts before the last one closes, or a minute to be looked up beyond ±6,000,000.",
+            24 => "The shift is above 0.",
+            25 => "A plan breaks a rule.",
+            26 => "A merged stamp would be below −6,000,000.",
             _ => "No refusal of documents 01 and 02.",
         }
     }

@@ -4,4 +4,5 @@ pub mod conversion;
 pub mod fields;
 pub mod marks;
 pub mod opening;
+pub mod plans;
 pub mod sheet;

@@ -158,6 +158,11 @@ kept-bytes = 20000
 abbrev pub word-values : ℕ
 word-values = 18446744073709551616
 
+-- 2⁶³: a signed number of 64 bits, handed over as the unsigned one with the same bits, stands for itself below it, from there on for
+-- itself less 2⁶⁴.
+abbrev pub word-half : ℕ
+word-half = 9223372036854775808
+
 -- Document 02, 2.7: a span or stamp has a text if it is blank or within this of 0, ±6,000,000.
 abbrev pub text-limit : ℕ
 text-limit = 6000000
@@ -180,6 +185,10 @@ most-windows = 14
 -- Document 02, 2.8: "a minute to be looked up beyond ±6,000,000".
 abbrev pub minute-limit : ℕ
 minute-limit = 6000000
+
+-- Document 02, 2.13: a buffer of fewer bytes than the stamps of 32 moments, 128, is refused, whatever n is.
+abbrev pub merged-most : ℕ
+merged-most = signed-bytes * stride
 
 -- ---- refusals, as document 01 counts them under "What is turned away" and document 02 goes on
 
@@ -243,3 +252,15 @@ refused-form = 12
 -- A pick is above its highest value.
 abbrev pub refused-pick : ℕ
 refused-pick = 13
+
+-- Document 02, 2.13: the shift is above 0.
+abbrev pub refused-shift : ℕ
+refused-shift = 24
+
+-- A plan breaks a rule.
+abbrev pub refused-rule : ℕ
+refused-rule = 25
+
+-- A merged stamp would be below −6,000,000.
+abbrev pub refused-early : ℕ
+refused-early = 26

@@ -7,6 +7,7 @@ pub mod fields;
 pub mod hours;
 pub mod idle;
 pub mod marks;
+pub mod merging;
 pub mod opening;
 pub mod parts;
 pub mod pipes;

@@ -10,6 +10,8 @@ mod conversion;
 mod hours;
 #[path = "../../../capi/rust/src/marks.rs"]
 mod marks;
+#[path = "../../../capi/rust/src/merging.rs"]
+mod merging;
 #[path = "../../../capi/rust/src/opening.rs"]
 mod opening;
 pub mod raw;
@@ -20,5 +22,6 @@ pub use calls::{check, read, solve, solve_all, write, ANSWER_SIZE, PROBLEM_SIZE,
 pub use conversion::convert;
 pub use hours::{read_hours, write_hours, TEXT_SIZE};
 pub use marks::marks_differ;
+pub use merging::{merge, PLAN_SIZE};
 pub use opening::{first_open, Window};
 pub use words::{Answer, AnswerAt, Certified, Class, Outcome, Refusal, Solved, SolvedAll};
