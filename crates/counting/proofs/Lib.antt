@@ -1,0 +1,5 @@
+pub mod Counting
+pub mod Totals
+pub mod Leads
+pub mod Problems
+pub mod Tallies

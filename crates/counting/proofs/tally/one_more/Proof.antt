@@ -1,0 +1,18 @@
+use mathlib.Core.Path.{refl}
+use borrow.Author.Needs.{needs}
+use Rattle.counting.proofs.Tallies.{more-least, more-bottomless, more-none, more-silent}
+use Rattle.counting.proofs.tally.one_more.Statement.{statement}
+use Rattle.counting.proofs.tally.one_more.Tie as tie
+
+pub one-more-spec : {M : Type 1} → statement M
+one-more-spec =
+    tie.close
+    (tie.spec
+    (λ c. search needs)
+    (λ c. search needs)
+    (λ c. search needs)
+    (λ c. search needs)
+    (λ c. more-least (c .before .match .keys1) refl refl refl refl)
+    (λ c. more-bottomless (c .before .match .keys2) refl refl refl refl)
+    (λ c. more-none (c .before .match .keys3) refl refl refl refl)
+    (λ c. ?))
