@@ -2,4 +2,5 @@ pub mod Counting
 pub mod Totals
 pub mod Leads
 pub mod Problems
+pub mod Posing
 pub mod Tallies

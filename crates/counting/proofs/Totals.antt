@@ -1,6 +1,6 @@
 -- The total of a census as a power, multiplied as far as it is at most 65,536; and refusal 27.
 use Prim.Native.Nat.{ℕ, zero, suc, _+_, _*_, _^_, _≤_, _<_}
-use mathlib.Core.Path.{_≡_, refl, ap, sym, _∙_}
+use mathlib.Core.Path.{_≡_, refl, ap, sym, subst, _∙_}
 use mathlib.Core.Bool.{Bool, true, false, cond}
 use mathlib.Core.Logic.{_↔_, _⊎_, inl, inr, ⊎-elim}
 use lib.Dec.{eqb, ltb}
@@ -93,3 +93,6 @@ leads-few n m w f = ⊎-elim
     let long = pow-le-pow-right {n = leadsUpTo w} (omega arith) {i = 9} {j = leadCount n m} h in
     absurd (omega (arith, wide, long, f .total-most)))
     (nat-le-or-lt (leadCount n m) few-leads)
+
+pub power-of : {b k r : ℕ} (n m : ℕ) → PowerUpTo b k r → k ≡ 2 * ((n + 1) * (m + 1)) → PowerUpTo b (leadCount n m) r
+power-of {b} {k} {r} n m p e = let same : k ≡ leadCount n m = omega arith in subst (λ (j : ℕ). PowerUpTo b j r) same p

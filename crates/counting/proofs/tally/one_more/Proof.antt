@@ -1,4 +1,6 @@
 use mathlib.Core.Path.{refl}
+use mathlib.Core.Logic.{⊎-elim}
+use native.Mathlib.Omega.{arith}
 use borrow.Author.Needs.{needs}
 use Rattle.counting.proofs.Tallies.{more-least, more-bottomless, more-none, more-silent}
 use Rattle.counting.proofs.tally.one_more.Statement.{statement}
@@ -15,4 +17,4 @@ one-more-spec =
     (λ c. more-least (c .before .match .keys1) refl refl refl refl)
     (λ c. more-bottomless (c .before .match .keys2) refl refl refl refl)
     (λ c. more-none (c .before .match .keys3) refl refl refl refl)
-    (λ c. ?))
+    (λ c. ⊎-elim (λ k. more-silent (c .before .before .pre .1) (omega (arith, k .keys4)) (omega (arith, k .keys4)) (omega (arith, k .keys4)) refl refl refl refl) (λ k. more-silent (c .before .before .pre .1) (k .rest .0 .0 .0 .1) (k .rest .0 .0 .1) (k .rest .0 .1) refl refl refl refl) (c .before .match .came)))
