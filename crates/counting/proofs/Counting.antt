@@ -5,7 +5,7 @@ use mathlib.Core.Logic.{_↔_, ⊎-elim}
 use mathlib.Core.List.{List, [], _∷_, _++_, map}
 use native.Mathlib.Omega.{arith}
 use native.Mathlib.Nat.{zero-add}
-use Rattle.counting.specs.Census.{Counted, nothing, holds, holds-not, OneNumber}
+use Rattle.definitions.specs.Census.{Counted, nothing, holds, holds-not, OneNumber}
 
 -- There is one such number.
 pub counted-unique : {A : Type 0} {P : A → Type 0} {xs : List A} {j k : ℕ} → Counted P xs j → Counted P xs k → j ≡ k

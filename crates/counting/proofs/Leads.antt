@@ -15,7 +15,7 @@ use Rattle.definitions.proofs.Bytes.{length-le}
 use Rattle.definitions.proofs.Put.{put-nil, put-put, length-put}
 use Rattle.definitions.proofs.Offset.{off-off, off-fieldOf, fieldOf-bound, within-fits}
 use Rattle.definitions.proofs.Whole.{up, down, whole, subℕ-read, abs-read, abs-show}
-use Rattle.counting.specs.Census.{censusLead, leadsUpTo}
+use Rattle.definitions.specs.Census.{censusLead, leadsUpTo}
 use Rattle.counting.specs.Steps.{leadsAt}
 
 -- A lead of the census is blank or within w.

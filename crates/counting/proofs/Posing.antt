@@ -29,7 +29,7 @@ use Rattle.answer_writer.proofs.Writing.{trail-start, trail-put}
 use Rattle.engine.specs.Outcome.{solvedOf}
 use Rattle.engine.specs.declared.solve.Solved as declared
 use Rattle.engine.specs.declared.solve.Solved.the-variants.{Refused, Answered, AllAnswered}
-use Rattle.counting.specs.Census.{CountsAs, least, bottomless, none, silent, Small, leadsUpTo, leadsRecord, leadCount}
+use Rattle.definitions.specs.Census.{CountsAs, least, bottomless, none, silent, Small, leadsUpTo, leadsRecord, leadCount}
 use Rattle.counting.specs.Steps.{small-most, few-leads, Posed, CensusFits, Headed, leadsAt, recordAt}
 use Rattle.counting.proofs.Leads.{lead-small}
 use Rattle.counting.proofs.Totals.{leads-few}

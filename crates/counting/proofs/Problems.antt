@@ -9,7 +9,7 @@ use lib.ListN.{length}
 use Rattle.definitions.specs.Tropical.{Trop}
 use Rattle.definitions.specs.ProblemRecord.{listOf}
 use Rattle.definitions.proofs.ProblemBack.{listed-length}
-use Rattle.counting.specs.Census.{fronted, lists, censusLead, censusLeads, leadsUpTo, leadsRecord, leadCount, problems, censusTotal}
+use Rattle.definitions.specs.Census.{fronted, lists, censusLead, censusLeads, leadsUpTo, leadsRecord, leadCount, problems, censusTotal}
 use Rattle.counting.specs.Steps.{leadsAt, recordAt}
 
 -- ---- functions as lists

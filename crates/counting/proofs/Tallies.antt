@@ -11,8 +11,8 @@ use Rattle.definitions.specs.Limits.{class-optimal, class-unbounded, class-infe
 use Rattle.definitions.specs.ProblemRecord.{problemOf, listOf}
 use Rattle.base.proofs.Numbers.{same-or-not}
 use Rattle.duality.proofs.Classes.{infeasible-not-unbounded, infeasible-not-optimal, unbounded-not-optimal}
-use Rattle.counting.specs.Census.{Counted, nothing, holds, holds-not, CountsAs, Counts, problems, censusTotal}
-use Rattle.counting.specs.Census as Papers
+use Rattle.definitions.specs.Census.{Counted, nothing, holds, holds-not, CountsAs, Counts, problems, censusTotal}
+use Rattle.definitions.specs.Census as Papers
 use Rattle.counting.specs.Steps.{hit, CountsClass, OneMore, Tallied, recordAt}
 use Rattle.counting.specs.Steps as Steps
 use Rattle.counting.specs.declared.tally.Tally.{Tally}

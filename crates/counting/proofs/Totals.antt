@@ -9,11 +9,11 @@ use native.Mathlib.Omega.{arith}
 use native.Mathlib.Numerals.{add-one}
 use native.Mathlib.Nat.{pow-suc, pow-zero, pow-le-pow-left, pow-le-pow-right, mul-le-mul-left, mul-le-mul-right}
 use Rattle.base.proofs.Numbers.{nat-le-or-lt}
-use Rattle.definitions.specs.Limits.{highest-n, highest-m, lead-limit}
+use Rattle.definitions.specs.Limits.{highest-n, highest-m, lead-limit, census-most, refused-census}
 use Rattle.definitions.specs.Bytes.{outcome}
 use Rattle.definitions.specs.ProblemRecord.{above-limits}
 use Rattle.definitions.proofs.Refusals.{fails-clause, limits-clause, enough-clause}
-use Rattle.counting.specs.Census.{census-most, leadsUpTo, leadCount, censusTotal, censusRefusal, refused-census}
+use Rattle.definitions.specs.Census.{leadsUpTo, leadCount, censusTotal, censusRefusal}
 use Rattle.counting.specs.Steps.{PowerUpTo, CensusFits, few-leads, totalOf}
 use Rattle.counting.specs.declared.total.Total.the-variants.{Problems, Refused as Untaken}
 

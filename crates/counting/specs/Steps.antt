@@ -5,12 +5,12 @@ use mathlib.Core.Bool.{cond}
 use mathlib.Core.List.{List, [], _∷_}
 use lib.Dec.{eqb}
 use lib.ListN.{length, take}
-use Rattle.definitions.specs.Limits.{highest-n, highest-m, lead-limit, problem-header, signed-bytes, problem-kind, class-optimal, class-unbounded, class-infeasible, refused-silent}
+use Rattle.definitions.specs.Limits.{highest-n, highest-m, lead-limit, problem-header, signed-bytes, problem-kind, class-optimal, class-unbounded, class-infeasible, refused-silent, census-most}
 use Rattle.definitions.specs.Tropical.{Trop}
 use Rattle.definitions.specs.Bytes.{Outcome, refusal, gives}
 use Rattle.definitions.specs.ProblemRecord.{problemRefusal, silentRefused, kindField, headerBytes, listOf}
-use Rattle.counting.specs.Census as Papers
-use Rattle.counting.specs.Census.{Counted, CountsAs, censusLead, leadsUpTo, leadsRecord, leadCount, censusTotal, census-most}
+use Rattle.definitions.specs.Census as Papers
+use Rattle.definitions.specs.Census.{Counted, CountsAs, censusLead, leadsUpTo, leadsRecord, leadCount, censusTotal}
 use Rattle.counting.specs.declared.census.Census.{Census}
 use Rattle.counting.specs.declared.census.Census.the-variants.{Refused, Counted as Told}
 use Rattle.counting.specs.declared.total.Total.{Total}

@@ -1,6 +1,6 @@
 // The census: each problem made by its number, solved, and counted.
 ghost use mathlib.Core.Path.{_≡_};
-ghost use Rattle.counting.specs.Census.{censusTotal, Counts, Censuses};
+ghost use Rattle.definitions.specs.Census.{censusTotal, Counts, Censuses};
 ghost use Rattle.counting.specs.Steps.{CensusFits, censusOf};
 use crate::small::counted_as;
 use crate::small::put_head;

@@ -6,7 +6,7 @@ ghost use lib.ListN.{length};
 ghost use Rattle.definitions.specs.Limits.{lead-limit, signed-bytes, problem-header};
 ghost use Rattle.definitions.specs.Bytes.{put, fields, fieldOf};
 ghost use Rattle.definitions.specs.ProblemRecord.{headerBytes};
-ghost use Rattle.counting.specs.Census.{leadsUpTo, leadCount, censusLead, CountsAs};
+ghost use Rattle.definitions.specs.Census.{leadsUpTo, leadCount, censusLead, CountsAs};
 ghost use Rattle.counting.specs.Steps.{few-leads, leadsAt, Posed};
 use answer_writer::writer::put_short;
 use answer_writer::writer::put_word;

@@ -1,7 +1,7 @@
 // The four counts of a census.
 ghost use mathlib.Core.Path.{_≡_};
 ghost use Prim.Native.Nat.{_+_, _<_};
-ghost use Rattle.counting.specs.Census.{census-most};
+ghost use Rattle.definitions.specs.Limits.{census-most};
 ghost use Rattle.counting.specs.Steps.{CountsClass, OneMore};
 use records::limits::INFEASIBLE;
 use records::limits::OPTIMAL;

@@ -3,16 +3,14 @@ ghost use mathlib.Core.Path.{_≡_};
 ghost use Prim.Native.Nat.{_+_, _*_, _^_, _≤_, _<_};
 ghost use Rattle.definitions.specs.Limits.{highest-n, highest-m, lead-limit};
 ghost use Rattle.definitions.specs.Bytes.{outcome};
-ghost use Rattle.counting.specs.Census.{leadsUpTo, leadCount, censusTotal, censusRefusal};
+ghost use Rattle.definitions.specs.Census.{leadsUpTo, leadCount, censusTotal, censusRefusal};
 ghost use Rattle.counting.specs.Steps.{PowerUpTo, totalOf};
+use records::limits::CENSUS_MOST;
 use records::limits::HIGHEST_M;
 use records::limits::HIGHEST_N;
 use records::limits::LEAD_LIMIT;
+use records::limits::REFUSED_CENSUS;
 use records::problem::lead_count;
-
-pub const CENSUS_MOST: u64 = 65536;
-
-pub const REFUSED_CENSUS: usize = 27;
 
 // The power, or, where it is above 65,536, the first power that is: nothing overflows.
 fn power_up_to(base: u64, places: usize) -> u64

@@ -240,3 +240,13 @@ refused-form = 12
 -- A pick is above its highest value.
 abbrev pub refused-pick : ℕ
 refused-pick = 13
+
+-- ---- a census (document 02, 2.14)
+
+-- The most problems that a census counts.
+abbrev pub census-most : ℕ
+census-most = 65536
+
+-- Its refusal: "w is 0 or above 20,160, n or m is beyond its limit, or the total is above 65,536".
+abbrev pub refused-census : ℕ
+refused-census = 27

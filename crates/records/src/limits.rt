@@ -157,3 +157,8 @@ pub const NOT_CERTIFIED: usize = 14;
 pub const NO_TEXT: usize = 18;
 
 pub const WEEK_REFUSAL: usize = 19;
+
+// Document 02, 2.14: the most problems that a census counts, and its refusal.
+pub const CENSUS_MOST: u64 = 65536;
+
+pub const REFUSED_CENSUS: usize = 27;

@@ -2,7 +2,7 @@ use Prim.Native.Nat.{_^_, _-_, _≤_}
 use mathlib.Core.Path.{_≡_, sym}
 use native.Mathlib.Omega.{arith}
 use native.Mathlib.Nat.{pow-zero}
-use Rattle.counting.specs.Census.{census-most}
+use Rattle.definitions.specs.Limits.{census-most}
 use Rattle.counting.proofs.Totals.{product-fits, power-more, power-above, power-exact}
 use borrow.Author.Needs.{needs}
 use Rattle.counting.proofs.total.power_up_to.Statement.{statement}

@@ -1,23 +1,18 @@
 -- A census of small problems: how often each class occurs. Document 02, 2.14. "For given n, m and w, all kind 1 problems whose leads are
 -- blank or −w to w are counted by class, with those under refusal 17 as a fourth count."
-use Prim.Native.Nat.{ℕ, zero, suc, _+_, _*_, _^_, _≤_}
+use Prim.Native.Nat.{ℕ, zero, suc, _+_, _-_, _*_, _^_, _≤_}
 use mathlib.Core.Path.{_≡_}
-use mathlib.Core.Bool.{Bool, true}
+use mathlib.Core.Bool.{Bool, true, false, _&&_}
 use mathlib.Core.List.{List, [], _∷_, _++_, map}
-use lib.Dec.{eqb, ltb}
+use lib.Dec.{eqb, ltb, leb}
 use lib.ListN.{length}
 use lib.IntN.{ℤ, subℕ}
-use Rattle.definitions.specs.Limits.{highest-n, highest-m, lead-limit, length-bytes, signed-bytes, problem-kind, class-optimal, class-unbounded, class-infeasible, refused-silent}
+use Rattle.definitions.specs.Limits.{highest-n, highest-m, lead-limit, length-bytes, signed-bytes, problem-kind, class-optimal, class-unbounded, class-infeasible, refused-silent, census-most, refused-census}
 use Rattle.definitions.specs.Tropical.{Trop, bot, fin}
 use Rattle.definitions.specs.Problem.{Optimal, Unbounded, Infeasible}
 use Rattle.definitions.specs.Bytes.{Bytes, fields, fieldOf, all, blank-or-within, first}
+use Rattle.definitions.specs.Programs.{decimal, newline, refusedLine}
 use Rattle.definitions.specs.ProblemRecord.{problemSize, headerBytes, problemRefusal, WithinLayout, problemOf, lengthField, kindField, nField, mField, leadsOf, listOf, above-limits}
-
-abbrev pub census-most : ℕ
-census-most = 65536
-
-abbrev pub refused-census : ℕ
-refused-census = 27
 
 -- ---- counting
 
@@ -103,6 +98,50 @@ pub data Census : Type 0 where
 pub data Censuses (n m w : ℕ) : Census → Type 0 where
   turned-away : {k : ℕ} → censusRefusal n m w ≡ suc k → Censuses n m w (refused (suc k))
   counts : {a b c d : ℕ} → censusRefusal n m w ≡ 0 → Counts n m w a b c d → Censuses n m w (counted a b c d)
+
+-- ---- what the program puts out
+
+-- Numbers in decimal with a space between two, as a line.
+unfoldable pub numbersLine : List ℕ → List ℕ
+numbersLine [] = newline
+numbersLine (x ∷ []) = decimal x ++ newline
+numbersLine (x ∷ y ∷ ys) = decimal x ++ (32 ∷ numbersLine (y ∷ ys))
+
+-- The line of a census: the counts of least, bottomless, none and refused, or `refused 27`.
+unfoldable pub censusLine : Census → List ℕ
+censusLine (refused k) = refusedLine k
+censusLine (counted a b c d) = numbersLine (a ∷ b ∷ c ∷ d ∷ [])
+
+-- Its line in the handbook's table: n, m and w before the counts; where the census is refused there is none.
+unfoldable pub tableLine : ℕ → ℕ → ℕ → Census → List ℕ
+tableLine n m w (refused k) = []
+tableLine n m w (counted a b c d) = numbersLine (n ∷ m ∷ w ∷ a ∷ b ∷ c ∷ d ∷ [])
+
+-- A word that is a number: one digit or more; and the number, with `before` for the digits before these.
+unfoldable pub is-digit : ℕ → Bool
+is-digit d = leb 48 d && leb d 57
+
+unfoldable pub is-number : List ℕ → Bool
+is-number [] = false
+is-number (d ∷ ds) = all is-digit (d ∷ ds)
+
+unfoldable pub numberFrom : ℕ → List ℕ → ℕ
+numberFrom before [] = before
+numberFrom before (d ∷ ds) = numberFrom (10 * before + (d - 48)) ds
+
+abbrev pub numberOf : List ℕ → ℕ
+numberOf word = numberFrom 0 word
+
+-- What the program puts out for n, m and w: the line of the census; and in the handbook's table.
+pub record CensusOutput (n m w : ℕ) (output : List ℕ) : Type 0 where
+  pub census : Census
+  pub is : Censuses n m w census
+  pub line : output ≡ censusLine census
+
+pub record TableOutput (n m w : ℕ) (output : List ℕ) : Type 0 where
+  pub census : Census
+  pub is : Censuses n m w census
+  pub line : output ≡ tableLine n m w census
 
 -- ---- what is promised
 
