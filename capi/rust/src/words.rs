@@ -134,7 +134,7 @@ impl fmt::Display for Certified {
 /// A refusal of document 01, "What is turned away", or of document 02.
 #[derive(Clone, Copy, Debug, PartialEq, Eq)]
 pub struct Refusal {
-    /// Its number, 1 to 15, 18 or 19.
+    /// Its number, 1 to 15, 17 to 19 or 27.
     pub number: u8,
 }
 
@@ -162,6 +162,7 @@ impl Refusal {
                  buffer is shorter than 10 bytes."
             }
             19 => "More than 14 windows, a closing not after its opening, an opening or closing outside its range, a window that starts before the last one closes, or a minute to be looked up beyond ±6,000,000.",
+            27 => "w is 0 or above 20,160, n or m is beyond its limit, or the total is above 65,536.",
             _ => "No refusal of documents 01 and 02.",
         }
     }

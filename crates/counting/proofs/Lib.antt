@@ -4,3 +4,5 @@ pub mod Leads
 pub mod Problems
 pub mod Posing
 pub mod Tallies
+pub mod Answers
+pub mod Once
