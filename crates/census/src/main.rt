@@ -43,7 +43,10 @@ fn answer(first: &[u8], second: &[u8], third: &[u8], line: &mut [u8]) -> usize
 
 // Says on standard error that a write failed.
 fn not_written() {
-    io::write_all(STDERR_FILENO, b"census: standard output cannot be written\n");
+    io::write_all(
+        STDERR_FILENO,
+        b"census: standard output cannot be written\n",
+    );
 }
 
 // The lines of n and m, w by w up to the first that is refused; false where one cannot be written.

@@ -29,7 +29,11 @@ fn longer(value: u64, byte: u8) -> u64
     ensures { λ r. ⌜ (r ≡ upTo (10 * value + (byte - 48))) × (r ≤ census-most) ⌝ }
 {
     let next = 10 * value + (byte - b'0') as u64;
-    if CENSUS_MOST < next { CENSUS_MOST } else { next }
+    if CENSUS_MOST < next {
+        CENSUS_MOST
+    } else {
+        next
+    }
 }
 
 // The number that a word is.

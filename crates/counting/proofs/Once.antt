@@ -90,10 +90,11 @@ cons-same e = (λ f. ap₂ _∷_ f e, λ f. cc)
 fronted-once : {A : Type 0} {x : A} {xs : List A} {l : List A} {ls : List (List A)} {j : ℕ} → Counted (λ y. y ≡ x) xs 1 → Counted (λ k. k ≡ l) ls j → Counted (λ k. k ≡ x ∷ l) (fronted xs ls) j
 unfolding fronted
 fronted-once c nothing = nothing
-fronted-once {x = x} {xs = xs} {l = l} c (holds {x = k} {k = j} e d) =
-    counted-append {j = 1} {k = j} (counted-map (λ y. y ∷ k) (each-all (λ y. cons-same e) xs) c) (fronted-once c d)
-fronted-once {x = x} {xs = xs} {l = l} {j = j} c (holds-not {x = k} e d) =
-    counted-append {j = 0} {k = j} (counted-none (each-map {P = λ _. ⊤} (λ y. y ∷ k) (λ y u f. e cc) (each-all (λ _. tt) xs))) (fronted-once c d)
+fronted-once {xs = xs} c (holds {x = k} {k = j} e d) =
+    let one : 1 + j ≡ suc j = omega arith in
+    subst (Counted _ _) one (counted-append {j = 1} {k = j} (counted-map (λ y. y ∷ k) (each-all (λ y. cons-same e) xs) c) (fronted-once c d))
+fronted-once {xs = xs} {j = j} c (holds-not {x = k} e d) =
+    subst (Counted _ _) (zero-add j) (counted-append {j = 0} {k = j} (counted-none (each-map {P = λ _. Unit {0}} (λ y. y ∷ k) (λ y u f. e cc) (each-all (λ _. tt) xs))) (fronted-once c d))
 
 lists-once : (w : ℕ) (l : List Trop) → all (blank-or-within w) l ≡ true → Counted (λ k. k ≡ l) (lists (censusLeads w) (length l)) 1
 unfolding lists all
@@ -129,12 +130,16 @@ unfolding leadsRecord headerBytes
 record-back {n} {m} {w} {s} f =
     let long : problemSize n m - length-bytes ≡ lengthField s = omega (arith, f .length-is, f .size-is) in
     let leads : map fieldOf (leadsOf s) ≡ numsAt signed-bytes (leadCount n m) s problem-header =
-    ap (map fieldOf) (leads-one s (f .kind-is) ∙ rw (f .n-is, f .m-is) refl) ∙ fields-back _ (numsAt-below signed-bytes (leadCount n m) problem-header (f .bytes)) in
+    ap (map fieldOf) (rw (f .n-is, f .m-is) at (leads-one s (f .kind-is))) ∙ fields-back _ (numsAt-below signed-bytes (leadCount n m) problem-header (f .bytes)) in
     let none : drop (problem-header + signed-bytes * leadCount n m) s ≡ [] = drop-of-length-le s {i = problem-header + signed-bytes * leadCount n m} (omega (arith, f .size-is)) in
     let ends : fields signed-bytes (numsAt signed-bytes (leadCount n m) s problem-header) ≡ drop problem-header s =
     rw (none, append-nil) at (fields-then (f .bytes) signed-bytes (leadCount n m) problem-header (omega (arith, f .size-is))) in
-    let front : (le length-bytes (lengthField s) ++ le short-bytes (kindField s)) ++ (le short-bytes (nField s) ++ le short-bytes (mField s)) ++ drop problem-header s ≡ s = ? in
-    ?
+    let front : ((le length-bytes (lengthField s) ++ le short-bytes (kindField s)) ++ (le short-bytes (nField s) ++ le short-bytes (mField s))) ++ drop problem-header s ≡ s =
+    simp append-assoc (rw (le-then (f .bytes) 2 8 (omega (arith, f .size-is)), le-then (f .bytes) 2 6 (omega (arith, f .size-is)), le-then (f .bytes) 2 4 (omega (arith, f .size-is))) (le-then (f .bytes) 4 0 (omega (arith, f .size-is)))) in
+    let same : ((le length-bytes (problemSize n m - length-bytes) ++ le short-bytes problem-kind) ++ (le short-bytes n ++ le short-bytes m)) ++ fields signed-bytes (map fieldOf (leadsOf s))
+    ≡ ((le length-bytes (lengthField s) ++ le short-bytes (kindField s)) ++ (le short-bytes (nField s) ++ le short-bytes (mField s))) ++ drop problem-header s =
+    rw (leads, ends, ← long, f .kind-is, f .n-is, f .m-is) refl in
+    same ∙ front
 
 module _ (n m w : ℕ) (n-most : n ≤ highest-n) (m-most : m ≤ highest-m) (w-most : w ≤ lead-limit) where
   problems-small : Each (Small n m w) (problems n m w)

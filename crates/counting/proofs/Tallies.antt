@@ -1,4 +1,4 @@
--- A tally with one problem more.
+-- Problems counted one after another: a tally with one problem more, and with all.
 use Prim.Native.Nat.{ℕ, zero, suc, _+_, _<_}
 use mathlib.Core.Path.{_≡_, refl, sym, subst, _∙_}
 use mathlib.Core.Logic.{⊎-elim}
@@ -13,33 +13,10 @@ use Rattle.base.proofs.Numbers.{same-or-not}
 use Rattle.duality.proofs.Classes.{infeasible-not-unbounded, infeasible-not-optimal, unbounded-not-optimal}
 use Rattle.definitions.specs.Census.{Counted, nothing, holds, holds-not, CountsAs, Counts, problems, censusTotal}
 use Rattle.definitions.specs.Census as Papers
-use Rattle.counting.specs.Steps.{hit, CountsClass, OneMore, Tallied, recordAt}
-use Rattle.counting.specs.Steps as Steps
+use Rattle.counting.specs.Steps.{hit, OneMore, Tallied, recordAt}
 use Rattle.counting.specs.declared.tally.Tally.{Tally}
 use Rattle.counting.proofs.Counting.{counted-append}
 use Rattle.counting.proofs.Problems.{problems-listed}
-
-pub more-least : {t u : Tally} {r : ℕ} → r ≡ class-optimal → u .least ≡ t .least + 1 → u .bottomless ≡ t .bottomless → u .none ≡ t .none → u .silent ≡ t .silent → OneMore t r u
-more-least e a b c d = rw e (record { least-is = a; bottomless-is = omega arith; none-is = omega arith; silent-is = omega arith })
-
-pub more-bottomless : {t u : Tally} {r : ℕ} → r ≡ class-unbounded → u .least ≡ t .least → u .bottomless ≡ t .bottomless + 1 → u .none ≡ t .none → u .silent ≡ t .silent → OneMore t r u
-more-bottomless e a b c d = rw e (record { least-is = omega arith; bottomless-is = b; none-is = omega arith; silent-is = omega arith })
-
-pub more-none : {t u : Tally} {r : ℕ} → r ≡ class-infeasible → u .least ≡ t .least → u .bottomless ≡ t .bottomless → u .none ≡ t .none + 1 → u .silent ≡ t .silent → OneMore t r u
-more-none e a b c d = rw e (record { least-is = omega arith; bottomless-is = omega arith; none-is = c; silent-is = omega arith })
-
--- What is no class is 17.
-no-class : {r : ℕ} → CountsClass r → (r ≡ class-optimal → ⊥) → (r ≡ class-unbounded → ⊥) → (r ≡ class-infeasible → ⊥) → r ≡ refused-silent
-no-class Steps.least a b c = absurd (a refl)
-no-class Steps.bottomless a b c = absurd (b refl)
-no-class Steps.none a b c = absurd (c refl)
-no-class Steps.silent a b c = refl
-
-pub more-silent : {t u : Tally} {r : ℕ} → CountsClass r → (r ≡ class-optimal → ⊥) → (r ≡ class-unbounded → ⊥) → (r ≡ class-infeasible → ⊥)
-    → u .least ≡ t .least → u .bottomless ≡ t .bottomless → u .none ≡ t .none → u .silent ≡ t .silent + 1 → OneMore t r u
-more-silent k x y z a b c d = rw (no-class k x y z) (record { least-is = omega arith; bottomless-is = omega arith; none-is = omega arith; silent-is = d })
-
--- ---- problems counted one after another
 
 -- A problem counts as one thing alone.
 pub counts-one : {s : List ℕ} {r q : ℕ} → CountsAs s r → CountsAs s q → r ≡ q
@@ -60,13 +37,6 @@ counts-one (Papers.silent e) (Papers.bottomless w u) = absurd (let z : _≡_ {A 
 counts-one (Papers.silent e) (Papers.none w n) = absurd (let z : _≡_ {A = ℕ} 0 17 = sym w ∙ e in omega arith)
 counts-one (Papers.silent e) (Papers.silent f) = refl
 
--- It is a class, or 17.
-pub counts-class : {s : List ℕ} {r : ℕ} → CountsAs s r → CountsClass r
-counts-class (Papers.least w o) = Steps.least
-counts-class (Papers.bottomless w u) = Steps.bottomless
-counts-class (Papers.none w n) = Steps.none
-counts-class (Papers.silent e) = Steps.silent
-
 -- One problem more behind the others: one more of what it counts as, and of nothing else.
 counted-hit : {s : List ℕ} {r : ℕ} (i : ℕ) {xs : List (List ℕ)} {k : ℕ} → CountsAs s r → Counted (λ t. CountsAs t i) xs k → Counted (λ t. CountsAs t i) (xs ++ (s ∷ [])) (k + hit r i)
 counted-hit {s} {r} i c d = ⊎-elim
@@ -85,12 +55,12 @@ tallied-none n m w a b c d =
       sum-is = omega arith;
     }
 
--- The four of a class or 17 add up to one.
-hits-one : {r : ℕ} → CountsClass r → hit r class-optimal + hit r class-unbounded + hit r class-infeasible + hit r refused-silent ≡ 1
-hits-one Steps.least = refl
-hits-one Steps.bottomless = refl
-hits-one Steps.none = refl
-hits-one Steps.silent = refl
+-- The four hits add up to one.
+hits-one : {s : List ℕ} {r : ℕ} → CountsAs s r → hit r class-optimal + hit r class-unbounded + hit r class-infeasible + hit r refused-silent ≡ 1
+hits-one (Papers.least w o) = refl
+hits-one (Papers.bottomless w u) = refl
+hits-one (Papers.none w n) = refl
+hits-one (Papers.silent e) = refl
 
 pub tallied-more : {n m w c r : ℕ} {t u : Tally} → Tallied n m w c t → CountsAs (recordAt n m w c) r → OneMore t r u → Tallied n m w (c + 1) u
 unfolding listOf
@@ -100,7 +70,7 @@ tallied-more {n} {m} {w} {c} {r} d s o = rw (add-one c)
       bottomless-is = rw (o .bottomless-is) (counted-hit class-unbounded s (d .bottomless-is));
       none-is = rw (o .none-is) (counted-hit class-infeasible s (d .none-is));
       silent-is = rw (o .silent-is) (counted-hit refused-silent s (d .silent-is));
-      sum-is = omega (arith, hits-one (counts-class s), o .least-is, o .bottomless-is, o .none-is, o .silent-is, d .sum-is);
+      sum-is = omega (arith, hits-one s, o .least-is, o .bottomless-is, o .none-is, o .silent-is, d .sum-is);
     })
 
 -- All of them.

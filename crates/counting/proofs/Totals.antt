@@ -1,5 +1,5 @@
 -- The total of a census as a power, multiplied as far as it is at most 65,536; and refusal 27.
-use Prim.Native.Nat.{ℕ, zero, suc, _+_, _*_, _^_, _≤_, _<_}
+use Prim.Native.Nat.{ℕ, zero, suc, _+_, _*_, _^_, _≤_, _<_, min}
 use mathlib.Core.Path.{_≡_, refl, ap, sym, subst, _∙_}
 use mathlib.Core.Bool.{Bool, true, false, cond}
 use mathlib.Core.Logic.{_↔_, _⊎_, inl, inr, ⊎-elim}
@@ -13,7 +13,7 @@ use Rattle.definitions.specs.Limits.{highest-n, highest-m, lead-limit, census-m
 use Rattle.definitions.specs.Bytes.{outcome}
 use Rattle.definitions.specs.ProblemRecord.{above-limits}
 use Rattle.definitions.proofs.Refusals.{fails-clause, limits-clause, enough-clause}
-use Rattle.definitions.specs.Census.{leadsUpTo, leadCount, censusTotal, censusRefusal}
+use Rattle.definitions.specs.Census.{leadsUpTo, leadCount, censusTotal, censusRefusal, Census, Censuses, turned-away, counts}
 use Rattle.counting.specs.Steps.{PowerUpTo, CensusFits, few-leads, totalOf}
 use Rattle.counting.specs.declared.total.Total.the-variants.{Problems, Refused as Untaken}
 
@@ -96,3 +96,24 @@ leads-few n m w f = ⊎-elim
 
 pub power-of : {b k r : ℕ} (n m : ℕ) → PowerUpTo b k r → k ≡ 2 * ((n + 1) * (m + 1)) → PowerUpTo b (leadCount n m) r
 power-of {b} {k} {r} n m p e = let same : k ≡ leadCount n m = omega arith in subst (λ (j : ℕ). PowerUpTo b j r) same p
+
+-- ---- numbers as far as 65,536
+
+-- A census of numbers that were cut there is that of the numbers: all limits are below.
+pub census-capped : (n m w : ℕ) {r : Census} → Censuses (min n census-most) (min m census-most) (min w census-most) r → Censuses n m w r
+census-capped n m w (turned-away {k = k} e) =
+    let no : CensusFits n m w → ⊥ = λ f.
+    let a : min n census-most ≡ n = omega (arith, f .n-most) in
+    let b : min m census-most ≡ m = omega (arith, f .m-most) in
+    let c : min w census-most ≡ w = omega (arith, f .w-most) in
+    let none = census-fits n m w .1 f in
+    let same : censusRefusal (min n census-most) (min m census-most) (min w census-most) ≡ 0 = rw (a, b, c) none in
+    absurd (omega (arith, e, same)) in
+    let capped : CensusFits (min n census-most) (min m census-most) (min w census-most) → ⊥ = λ f. let none = census-fits _ _ _ .1 f in absurd (omega (arith, e, none)) in
+    turned-away (census-refused n m w no ∙ sym (census-refused _ _ _ capped) ∙ e)
+census-capped n m w {r} (counts e k) =
+    let f = census-fits _ _ _ .0 e in
+    let a : min n census-most ≡ n = omega (arith, f .n-most) in
+    let b : min m census-most ≡ m = omega (arith, f .m-most) in
+    let c : min w census-most ≡ w = omega (arith, f .w-most) in
+    rw (a, b, c) at (counts e k)

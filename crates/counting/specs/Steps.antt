@@ -66,13 +66,6 @@ pub record Posed (s : List ℕ) : Type 0 where
 abbrev pub hit : ℕ → ℕ → ℕ
 hit r class = cond (eqb r class) 1 0
 
--- The number of a class, or 17.
-pub data CountsClass : ℕ → Type 0 where
-  least : CountsClass class-optimal
-  bottomless : CountsClass class-unbounded
-  none : CountsClass class-infeasible
-  silent : CountsClass refused-silent
-
 -- A tally with one problem more, which counts as r: its class, or 17.
 pub record OneMore (t : Tally) (r : ℕ) (after : Tally) : Type 0 where
   pub least-is : after .least ≡ t .least + hit r class-optimal

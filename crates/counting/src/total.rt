@@ -17,14 +17,14 @@ fn power_up_to(base: u64, places: usize) -> u64
     requires { ⌜ (0 < base) × (base ≤ leadsUpTo lead-limit) ⌝ }
     ensures { λ r. ⌜ PowerUpTo base places r ⌝ }
 {
-    let mut total: u64 = 1;
+    let mut power: u64 = 1;
     for _ in 0..places {
-        total *= base;
-        if CENSUS_MOST < total {
-            return total;
+        power *= base;
+        if CENSUS_MOST < power {
+            return power;
         }
     }
-    total
+    power
 }
 
 // How many problems there are, or some number above 65,536 where there are more.

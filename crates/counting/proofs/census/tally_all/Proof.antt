@@ -6,7 +6,7 @@ use borrow.Author.Needs.{needs}
 use Rattle.counting.specs.Steps.{Headed, Tallied}
 use Rattle.counting.proofs.Totals.{leads-few}
 use Rattle.counting.proofs.Posing.{headed-start, made}
-use Rattle.counting.proofs.Tallies.{counts-class, tallied-none, tallied-more, tallied-all}
+use Rattle.counting.proofs.Tallies.{tallied-none, tallied-more, tallied-all}
 use Rattle.counting.proofs.census.tally_all.Statement.{statement}
 use Rattle.counting.proofs.census.tally_all.Tie as tie
 
@@ -34,7 +34,7 @@ tally-all-spec =
     (λ c. let d = made (c .before .before .before .before .loop .number) (c .before .before .before .before .before .before .before .before .before .pre .0) (c .before .before .before .before .before .before .before .before .lead-count .ensures .0) (c .before .before .before .before .loop .inv .1) (c .before .put-leads .ensures) in omega (arith, d .few, d .headed .size-is))
     (λ c. let d = made (c .before .before .before .before .before .loop .number) (c .before .before .before .before .before .before .before .before .before .before .pre .0) (c .before .before .before .before .before .before .before .before .before .lead-count .ensures .0) (c .before .before .before .before .before .loop .inv .1) (c .before .before .put-leads .ensures) in sym (length-take-le _ _ (omega (arith, d .few, d .headed .size-is))))
     (λ c κs. let d = made (c .before .before .before .before .before .loop .number) (c .before .before .before .before .before .before .before .before .before .before .pre .0) (c .before .before .before .before .before .before .before .before .before .lead-count .ensures .0) (c .before .before .before .before .before .loop .inv .1) (c .before .before .put-leads .ensures) in rw (d .here) (d .posed))
-    (λ c κs. (omega (arith, c .before .before .before .before .before .before .loop .inv .2 .sum-is, c .before .before .before .before .before .before .before .before .before .before .before .pre .0 .total-most), counts-class (c .counted-as .ensures)))
+    (λ c κs. omega (arith, c .before .before .before .before .before .before .loop .inv .2 .sum-is, c .before .before .before .before .before .before .before .before .before .before .before .pre .0 .total-most))
     (λ c. search needs)
     (λ c. search needs)
     (λ c.
