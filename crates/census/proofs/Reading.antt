@@ -15,7 +15,9 @@ use Rattle.definitions.specs.Bytes.{all}
 use Rattle.definitions.specs.Census.{is-digit, is-number, numberFrom, numberOf, CensusOutput, Censuses}
 use Rattle.definitions.proofs.Bytes.{all-true}
 use Rattle.counting.proofs.Totals.{census-capped}
-use Rattle.census.specs.Words.{upTo, wordRead, Answered, numbers, others}
+use Rattle.census.specs.declared.words.Word.{Word}
+use Rattle.census.specs.declared.words.Word.the-variants.{Number, Other}
+use Rattle.census.specs.Words.{upTo, WordRead, number, other, Answered, numbers, others}
 
 -- ---- digits
 
@@ -57,7 +59,7 @@ pub read-more : {word : List ℕ} {i value after : ℕ} → ReadSo word i value 
     → after ≡ upTo (10 * value + (getD word i 0 - 48)) → ReadSo word (i + 1) after
 read-more {word} {i} {value} r h d e =
     let next : numberOf (take (i + 1) word) ≡ 10 * numberOf (take i word) + (getD word i 0 - 48) =
-    rw (add-one i, take-suc i word 0 h) (number-more 0 (take i word) (getD word i 0)) in
+    rw (add-one i, take-suc word i 0 h) (number-more 0 (take i word) (getD word i 0)) in
     record {
       digits = one-more i (r .digits) d;
       value-is = e ∙ rw (r .value-is, up-to-more (numberOf (take i word)) (getD word i 0 - 48), next) refl;
@@ -69,9 +71,10 @@ unfolding is-number
 is-number-all [] h = absurd (omega arith)
 is-number-all (d ∷ ds) h = refl
 
-pub read-number : {word : List ℕ} {i value : ℕ} → ReadSo word i value → 0 < length word → length word ≤ i → i ≤ length word → (is-number word ≡ true) × (value ≡ upTo (numberOf word))
-read-number {word} {i} r h g b =
-    (is-number-all word h ∙ all-true is-digit 0 word .1 (λ j l. r .digits j (omega arith)), r .value-is ∙ rw (take-all i word g) refl)
+pub read-number : {word : List ℕ} {i value : ℕ} → ReadSo word i value → 0 < length word → length word ≤ i → i ≤ length word → WordRead word (Number value)
+read-number {word} {i} {value} r h g b =
+    let is : value ≡ upTo (numberOf word) = r .value-is ∙ ap (λ (s : List ℕ). upTo (numberOf s)) (take-all i word g) in
+    rw is (number (is-number-all word h ∙ all-true is-digit 0 word .1 (λ j l. r .digits j (omega arith))))
 
 -- One is not.
 pub read-other : (word : List ℕ) (i : ℕ) → i < length word → is-digit (getD word i 0) ≡ false → is-number word ≡ false
@@ -87,6 +90,14 @@ read-empty [] h = refl
 read-empty (d ∷ ds) h = absurd (omega arith)
 
 -- ---- three words
+
+pub told-number : {word : List ℕ} {r : Word} {k : ℕ} → WordRead word r → r ≡ Number k → (is-number word ≡ true) × (k ≡ upTo (numberOf word))
+told-number (number h) e = (h, cc)
+told-number (other h) e = absurd (let z : _≡_ {A = ℕ} 0 1 = cc in omega arith)
+
+pub told-other : {word : List ℕ} {r : Word} → WordRead word r → r ≡ Other → is-number word ≡ false
+told-other (number h) e = absurd (let z : _≡_ {A = ℕ} 0 1 = cc in omega arith)
+told-other (other h) e = h
 
 pub three-numbers : {first second third : List ℕ} {a b c : ℕ} {output : List ℕ} → (is-number first ≡ true) × (a ≡ upTo (numberOf first)) → (is-number second ≡ true) × (b ≡ upTo (numberOf second))
     → (is-number third ≡ true) × (c ≡ upTo (numberOf third)) → CensusOutput a b c output → Answered first second third output

@@ -17,9 +17,9 @@ abbrev pub upTo : ℕ → ℕ
 upTo k = min k census-most
 
 -- What a word is: the number as far as that, or none.
-abbrev pub wordRead : List ℕ → Word → Type 0
-wordRead word (Number k) = (is-number word ≡ true) × (k ≡ upTo (numberOf word))
-wordRead word Other = is-number word ≡ false
+pub data WordRead (word : List ℕ) : Word → Type 0 where
+  number : is-number word ≡ true → WordRead word (Number (upTo (numberOf word)))
+  other : is-number word ≡ false → WordRead word Other
 
 -- Three numbers show the line of their census; other words nothing.
 pub data Answered (first second third : List ℕ) : List ℕ → Type 0 where

@@ -4,7 +4,7 @@ ghost use Prim.Native.Nat.{_+_, _*_, _-_, _≤_, _<_};
 ghost use lib.ListN.{length};
 ghost use Rattle.definitions.specs.Limits.{census-most};
 ghost use Rattle.definitions.specs.Census.{is-digit};
-ghost use Rattle.census.specs.Words.{upTo, wordRead};
+ghost use Rattle.census.specs.Words.{upTo, WordRead};
 use records::limits::CENSUS_MOST;
 
 // What a word is: a number, or something else. A number above 65,536 is told as 65,536, which is beyond every limit of a census too.
@@ -38,7 +38,7 @@ fn longer(value: u64, byte: u8) -> u64
 
 // The number that a word is.
 pub fn read_number(word: &[u8]) -> Word
-    ensures { λ r. ⌜ wordRead (now (word .entry)) r ⌝ }
+    ensures { λ r. ⌜ WordRead (now (word .entry)) r ⌝ }
 {
     if word.len() == 0 {
         return Word::Other;
