@@ -4,4 +4,4 @@ pub mod FirstOpen
 pub mod Hours
 pub mod Compared
 pub mod Converting
-pub mod Census
+pub mod Counted
