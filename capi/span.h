@@ -29,8 +29,9 @@
  * questions is 0 or above 8; 17 a rule, not the question, has an all-blank left list (span_convert drops such rules); 18
  * (hours and minutes) the text is not of this form, a value is beyond 6,000,000 of 0, or the writer's buffer is shorter
  * than 10 bytes; 19 a week list or a minute to be looked up is not of its form (span_first_open); 24 to 26 two plans cannot
- * be merged (span_merge). The first that applies is returned, in this order, but 15 is looked at after 4 and before 5, and
- * 17 after 6 and before 7; a record of kind 3 that ends before its count gets 5. A refusal writes nothing.
+ * be merged (span_merge); 27 (span_census) w is 0 or above 20,160, n is above 31 or m above 63, or there are more than
+ * 65,536 problems. The first that applies is returned, in this order, but 15 is looked at after 4 and before 5, and 17 after
+ * 6 and before 7; a record of kind 3 that ends before its count gets 5. A refusal writes nothing.
  */
 #ifndef SPAN_H
 #define SPAN_H
@@ -58,7 +59,7 @@ extern "C" {
 #define SPAN_WRONG_COUNT 15       /* span_solve only: the count of questions is 0 or above SPAN_QUESTIONS */
 #define SPAN_SILENT_RULE 17       /* span_solve, span_check only: a rule has an all-blank left list */
 #define SPAN_NO_TEXT 18           /* span_hours_read, span_hours_write only */
-#define SPAN_TOO_FEW_PLACES 255   /* span_read, span_marks_differ only */
+#define SPAN_TOO_FEW_PLACES 255   /* span_read, span_marks_differ, span_census only */
 
 #define SPAN_WINDOWS 14           /* the most windows of a week list, with two minutes each */
 #define SPAN_NEVER 0              /* span_first_open only: the week list is empty */
@@ -67,6 +68,9 @@ extern "C" {
 #define SPAN_FORWARD 24           /* span_merge only: the shift is above 0 */
 #define SPAN_RULE_BROKEN 25       /* span_merge only: a plan breaks a rule */
 #define SPAN_TOO_EARLY 26         /* span_merge only: a merged stamp would be below its limit */
+
+#define SPAN_COUNTS 4             /* places to lend to span_census */
+#define SPAN_NO_CENSUS 27         /* span_census only */
 
 #define SPAN_DIFFER 256           /* span_marks_differ only */
 
@@ -142,6 +146,12 @@ uint64_t span_first_open(const uint64_t *week, size_t week_count, uint64_t minut
  * Result: SPAN_DIFFER, or 0 where they are the same; SPAN_TOO_FEW_PLACES where a list has fewer than `count` bytes. */
 uint64_t span_marks_differ(const uint8_t *before, size_t before_size, const uint8_t *after, size_t after_size,
                            uint64_t count);
+
+/* Counts by class all problems of kind 1 with this n and m whose leads are blank or -w to w: the first four places of `counts` become the
+ * numbers of problems that are least, bottomless, none, and under refusal 17. They add up to (2w + 2) to the power 2 (n + 1)(m + 1).
+ * Result: counted: 0. Else the refusal 27 (SPAN_NO_CENSUS); or, where it does not apply, SPAN_TOO_FEW_PLACES for fewer than SPAN_COUNTS
+ * places. Nothing is then written. The longest census, 65,536 problems, takes a fifth of a second. */
+uint64_t span_census(uint64_t n, uint64_t m, uint64_t w, uint64_t *counts, size_t counts_count);
 
 /* The size of a problem record of kind 1 or 3, with that many rules and questions (kind 1 has one); 0 for another kind. */
 static inline size_t span_record_size(unsigned kind, size_t n, size_t m, size_t count) {

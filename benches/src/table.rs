@@ -3,6 +3,7 @@
 use std::hint::black_box;
 
 use crate::agree;
+use crate::census;
 use crate::engines::{library, library_accepts, unproved_accepts, Solve, UNPROVED};
 use crate::families::{Family, FAMILIES};
 use crate::questions;
@@ -68,6 +69,7 @@ pub fn print(effort: Effort) {
     let solve_times = solving(effort, &sets);
     checking(effort, &sets, &solve_times);
     questions::print(effort);
+    census::print(effort);
     growth(effort);
 }
 

@@ -4,7 +4,8 @@
 //! right (`paper`, `exhaustive`, `second`) was written from documents 01 and 02 alone, in their words, plainly and slowly.
 //!
 //! `cargo run --release --offline --manifest-path tests/Cargo.toml` runs all of it; a word after `--` runs one suite, and
-//! `--long` has a suite that knows it try more than there is time for in the gate.
+//! `--long` has a suite that knows it try more than there is time for in the gate; `census-table` prints the handbook's table by
+//! definition.
 //! A disagreement prints the bytes it was found on, and the status is then not 0.
 
 mod exhaustive;
@@ -33,10 +34,13 @@ fn main() {
     if programs::acted_as_a_program(&words) {
         return;
     }
+    if words == ["census-table"] {
+        return suites::census::print_table();
+    }
     let long = words.iter().any(|word| word == "--long");
     words.retain(|word| word != "--long");
     println!("tests from outside, on {TRIED}");
-    let all: [Suite; 17] = [
+    let all: [Suite; 19] = [
         ("examples", suites::examples::run),
         ("all-small", suites::small::every_small_problem),
         ("random-small", suites::small::random_problems),
@@ -55,6 +59,7 @@ fn main() {
         ("idle", suites::idle::run),
         ("silent", suites::silent::run),
         ("merging", suites::merging::run),
+        ("census", suites::census::run),
     ];
     let mut failures = 0;
     let mut run = 0;

@@ -1,6 +1,7 @@
 //! The functions of `capi/span.h` over slices, answered by the unproved engine and checker. The package `stand-in` of
 //! tests/ is over them.
 
+use crate::census;
 use crate::checker;
 use crate::converter;
 use crate::engine::solve_all;
@@ -37,6 +38,18 @@ pub fn merge(problem: &[u8], first: &[u8], second: &[u8], shift: i64, buffer: &m
     match merger::merge(problem, first, second, shift, buffer) {
         Ok(size) => 256 * size as u64,
         Err(number) => number as u64,
+    }
+}
+
+/// The refusal, 255 where fewer than four places are lent, or 0 with the counts in the first four.
+pub fn census(n: u64, m: u64, w: u64, counts: &mut [u64]) -> u64 {
+    match census::census(n, m, w) {
+        Err(number) => number as u64,
+        Ok(_) if counts.len() < 4 => 255,
+        Ok(found) => {
+            counts[..4].copy_from_slice(&found);
+            0
+        }
     }
 }
 

@@ -11,6 +11,7 @@
 #![allow(clippy::needless_range_loop)]
 
 pub mod boundary;
+pub mod census;
 pub mod checker;
 pub mod converter;
 mod dense;

@@ -7,6 +7,8 @@
 pub const STAMPS: usize = 32;
 /// Places that the reader is lent for picks.
 pub const PICKS: usize = 64;
+/// Places that a census is lent for its counts.
+pub const COUNTS: usize = 4;
 
 mod archive {
     extern "C" {
@@ -57,6 +59,7 @@ mod archive {
             after_size: usize,
             count: u64,
         ) -> u64;
+        pub fn span_census(n: u64, m: u64, w: u64, counts: *mut u64, counts_count: usize) -> u64;
     }
 }
 
@@ -166,4 +169,11 @@ pub fn hours_write(value: u64, buffer: &mut [u8]) -> u64 {
 pub fn marks_differ(before: &[u8], after: &[u8], count: u64) -> u64 {
     // SAFETY: both parts are valid for their lengths and are only read.
     unsafe { archive::span_marks_differ(before.as_ptr(), before.len(), after.as_ptr(), after.len(), count) }
+}
+
+/// A census of small problems: the refusal, 255 where fewer than [`COUNTS`] places are lent, or 0, with the counts of least, bottomless,
+/// none and refused in the first places.
+pub fn census(n: u64, m: u64, w: u64, counts: &mut [u64]) -> u64 {
+    // SAFETY: the part is valid for its length, and a `&mut` overlaps nothing.
+    unsafe { archive::span_census(n, m, w, counts.as_mut_ptr(), counts.len()) }
 }

@@ -135,7 +135,7 @@ impl fmt::Display for Certified {
 /// A refusal of document 01, "What is turned away", or of document 02.
 #[derive(Clone, Copy, Debug, PartialEq, Eq)]
 pub struct Refusal {
-    /// Its number, 1 to 15, 17 to 19 or 24 to 26.
+    /// Its number, 1 to 15, 17 to 19 or 24 to 27.
     pub number: u8,
 }
 
@@ -167,6 +167,7 @@ impl Refusal {
             24 => "The shift is above 0.",
             25 => "A plan breaks a rule.",
             26 => "A merged stamp would be below −6,000,000.",
+            27 => "w is 0 or above 20,160, n or m is beyond its limit, or the total is above 65,536.",
             _ => "No refusal of documents 01 and 02.",
         }
     }

@@ -5,3 +5,4 @@ pub mod Hours
 pub mod Compared
 pub mod Converting
 pub mod Merging
+pub mod Counted

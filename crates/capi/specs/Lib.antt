@@ -4,3 +4,4 @@ pub mod HoursNumbers
 pub mod Marks
 pub mod Converted
 pub mod Merged
+pub mod Census

@@ -61,8 +61,8 @@ pub extern "C" fn span_write(
     written_number(written)
 }
 
-// Copies numbers to the first of the lent places.
-fn copy(from: &[u64], to: &mut [u64])
+// Copies numbers to the first of the lent places. Public for `census`.
+pub fn copy(from: &[u64], to: &mut [u64])
     requires { ⌜ length (now from) ≤ length (now to) ⌝ }
     ensures { λ _. ⌜ now (to .exit) ≡ put (now (to .entry)) 0 (now (from .entry)) ⌝ }
 {

@@ -1,5 +1,6 @@
 // The boundary to C and Rust: functions on bytes and numbers. capi/span.h says the same in C's words.
 pub mod calls;
+pub mod census;
 pub mod conversion;
 pub mod fields;
 pub mod marks;

@@ -20,3 +20,4 @@ pub mod Selection
 pub mod Conversion
 pub mod Marks
 pub mod Merging
+pub mod Census

@@ -1,4 +1,4 @@
--- The numbers of documents 01 and 02, each once; those that follow from others are derived. (Refusals 14, 18 and 19 are named in
+-- The numbers of documents 01 and 02, each once for what it limits; those that follow from others are derived. (Refusals 14, 18 and 19 are named in
 -- Verdict, Hours and Week, and the two outer trials are counted in Bisection.)
 use Prim.Native.Nat.{ℕ, suc, _+_, _*_}
 use lib.IntN.{ℤ, pos, negsuc}
@@ -264,3 +264,13 @@ refused-rule = 25
 -- A merged stamp would be below −6,000,000.
 abbrev pub refused-early : ℕ
 refused-early = 26
+
+-- ---- a census (document 02, 2.14)
+
+-- The most problems that a census counts.
+abbrev pub census-most : ℕ
+census-most = 65536
+
+-- Its refusal: "w is 0 or above 20,160, n or m is beyond its limit, or the total is above 65,536".
+abbrev pub refused-census : ℕ
+refused-census = 27

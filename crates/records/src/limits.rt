@@ -173,3 +173,8 @@ pub const REFUSED_SHIFT: usize = 24;
 pub const REFUSED_RULE: usize = 25;
 
 pub const REFUSED_EARLY: usize = 26;
+
+// Document 02, 2.14: the most problems that a census counts, and its refusal.
+pub const CENSUS_MOST: u64 = 65536;
+
+pub const REFUSED_CENSUS: usize = 27;

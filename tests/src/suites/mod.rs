@@ -1,6 +1,7 @@
 //! The suites, each against one part of what the papers promise.
 
 pub mod bytes;
+pub mod census;
 pub mod checker;
 pub mod examples;
 pub mod fields;

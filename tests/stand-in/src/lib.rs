@@ -4,6 +4,8 @@
 
 #[path = "../../../capi/rust/src/calls.rs"]
 mod calls;
+#[path = "../../../capi/rust/src/census.rs"]
+mod census;
 #[path = "../../../capi/rust/src/conversion.rs"]
 mod conversion;
 #[path = "../../../capi/rust/src/hours.rs"]
@@ -19,6 +21,7 @@ pub mod raw;
 mod words;
 
 pub use calls::{check, read, solve, solve_all, write, ANSWER_SIZE, PROBLEM_SIZE, QUESTIONS, QUESTIONS_SIZE};
+pub use census::{census, Census};
 pub use conversion::convert;
 pub use hours::{read_hours, write_hours, TEXT_SIZE};
 pub use marks::marks_differ;
