@@ -1,0 +1,323 @@
+//! Reports as a sheet: one page of HTML that needs nothing beside it, for a screen or for paper.
+
+use std::fmt::Write;
+
+use ward_reader::Sheet;
+
+use crate::answer::{Body, Placed, Report, Span, Verdict};
+use crate::archive::hours;
+use crate::opening::Door;
+use crate::scale::{bar, drawn, Scale};
+use crate::terminal;
+use crate::told;
+
+const STYLE: &str = include_str!("sheet.css");
+
+/// A timeline's measures, in pixels: what stands above its rows, and a row.
+const HEAD: usize = 26;
+const ROW: usize = 30;
+
+/// Words that cannot be taken for marks of the page.
+fn safe(words: &str) -> String {
+    let mut text = String::new();
+    for c in ward_reader::remark::clean(words).chars() {
+        match c {
+            '&' => text.push_str("&amp;"),
+            '<' => text.push_str("&lt;"),
+            '>' => text.push_str("&gt;"),
+            '"' => text.push_str("&quot;"),
+            c => text.push(c),
+        }
+    }
+    text
+}
+
+/// The page of all reports.
+pub fn all(reports: &[Report]) -> String {
+    let title = match reports {
+        [only] => name(only),
+        several => format!("{} texts", several.len()),
+    };
+    let texts: String = reports.iter().map(text).collect();
+    format!(
+        "<!DOCTYPE html>\n<html lang=\"en\">\n<head>\n<meta charset=\"utf-8\">\n\
+         <meta name=\"viewport\" content=\"width=device-width, initial-scale=1\">\n\
+         <meta http-equiv=\"Content-Security-Policy\" content=\"default-src 'none'; style-src 'unsafe-inline'\">\n\
+         <title>{}</title>\n<style>\n{STYLE}</style>\n</head>\n<body>\n<main>\n{texts}</main>\n<footer>\n\
+         <p>Made by ward {}. Each answer was found by the proved engine and judged by the proved checker; that this page says \
+         what their records hold is not part of the proofs.</p>\n</footer>\n</body>\n</html>\n",
+        safe(&title),
+        env!("CARGO_PKG_VERSION")
+    )
+}
+
+/// What a text is called: its title, or its file.
+fn name(report: &Report) -> String {
+    let title = report.sheet.as_ref().and_then(|sheet| sheet.title.clone());
+    title.unwrap_or_else(|| report.file.clone())
+}
+
+fn text(report: &Report) -> String {
+    let mut page = format!("<section class=\"text\">\n<header>\n<h1>{}</h1>\n", safe(&name(report)));
+    let anchor = report.sheet.as_ref().filter(|sheet| sheet.anchor.is_some()).map(|sheet| told::time(sheet, 0));
+    let anchor = anchor.map_or(String::new(), |time| format!(" · anchor at {time}"));
+    let _ = writeln!(page, "<p class=\"about\">{}{}</p>\n</header>", safe(&report.file), safe(&anchor));
+    let remarks = terminal::remarks(report);
+    if !remarks.is_empty() {
+        let _ = writeln!(page, "<pre>{}</pre>", remarks.lines().map(safe).collect::<Vec<_>>().join("\n"));
+    }
+    if let Some(sheet) = report.sheet.as_ref().filter(|_| report.fault.is_none()) {
+        for (number, span) in report.spans.iter().enumerate() {
+            page += &article(sheet, number, report.spans.len(), span);
+        }
+        page += &rules(sheet);
+    }
+    page + "</section>\n"
+}
+
+fn article(sheet: &Sheet, number: usize, count: usize, span: &Span) -> String {
+    let heading = if count == 1 { "Span".to_string() } else { format!("Span {} of {count}", number + 1) };
+    let mut page = format!("<article>\n<h2>{heading}</h2>\n");
+    let _ = writeln!(
+        page,
+        "<dl class=\"groups\"><dt>from</dt><dd>{}</dd><dt>to</dt><dd>{}</dd></dl>",
+        safe(&span.from),
+        safe(&span.to)
+    );
+    page += &result(span);
+    let (class, sign) = match span.verdict {
+        Verdict::Accepted(_) => ("verdict", "✓"),
+        Verdict::NotAccepted(_) => ("verdict no", "✗"),
+    };
+    let _ = writeln!(
+        page,
+        "<p class=\"{class}\"><span aria-hidden=\"true\">{sign}</span> {}</p>",
+        safe(&told::verdict(span))
+    );
+    if let Some(expected) = span.expected {
+        let _ =
+            writeln!(page, "<p class=\"warn\">The text expects another answer: {}</p>", safe(&expected.to_string()));
+    }
+    match &span.body {
+        Body::Least { plan, start, minutes, .. } => {
+            page += "<h3>Plan</h3>\n";
+            page += &table(sheet, plan);
+            page += "<h3>Timeline</h3>\n";
+            page += &timeline(sheet, plan, *start, *minutes);
+        }
+        Body::Claim(_, plan) if !plan.is_empty() => {
+            page += "<h3>The plan that it claims</h3>\n";
+            page += &table(sheet, plan);
+        }
+        _ => {}
+    }
+    page += &explained(sheet, span);
+    page + "</article>\n"
+}
+
+/// The main thing, large.
+fn result(span: &Span) -> String {
+    let (class, large, words) = match &span.body {
+        Body::Least { minutes, .. } => {
+            let long = minutes.abs() >= 60;
+            let words = if long { format!("{} h, least span. ", hours(*minutes)) } else { "least span. ".into() };
+            ("result", format!("{minutes} min"), format!("{words}No plan that keeps the rules has a smaller one."))
+        }
+        Body::Bottomless(_) => (
+            "result none",
+            "Bottomless".into(),
+            "Whatever span you name, some plan that keeps the rules has a smaller one.".into(),
+        ),
+        Body::None(_) => ("result none", "None".into(), "No plan that keeps the rules has a span.".into()),
+        Body::Claim(words, _) => ("result none", "Not accepted".into(), words.clone()),
+    };
+    format!("<p class=\"{class}\"><strong>{}</strong> <span>{}</span></p>\n", safe(&large), safe(&words))
+}
+
+fn table(sheet: &Sheet, plan: &[Placed]) -> String {
+    let timed = plan.iter().any(|placed| placed.times.is_some());
+    let noted = plan.iter().any(|placed| !told::note(sheet, placed).is_empty());
+    let clocked = sheet.anchor.is_some();
+    let mut heads = vec![if clocked { "Time" } else { "After the anchor" }, "Moment"];
+    heads.extend(clocked.then_some("After the anchor"));
+    heads.extend(timed.then_some(["Earliest", "Latest"]).into_iter().flatten());
+    heads.extend(noted.then_some("Note"));
+    let caption = if timed {
+        "Each moment alone can be anywhere between its earliest and its latest time, and the span stays the least."
+    } else {
+        "In the order of time."
+    };
+    let mut page = format!("<table>\n<caption>{caption}</caption>\n<thead><tr>");
+    heads.iter().for_each(|head| page += &format!("<th scope=\"col\">{head}</th>"));
+    page += "</tr></thead>\n<tbody>\n";
+    for placed in plan {
+        page += &line(sheet, placed, clocked, timed, noted);
+    }
+    page + "</tbody>\n</table>\n"
+}
+
+fn line(sheet: &Sheet, placed: &Placed, clocked: bool, timed: bool, noted: bool) -> String {
+    let shown = placed.stamp.filter(|_| !placed.free);
+    let time = shown.map_or("--".into(), |stamp| told::time(sheet, stamp));
+    let mut page = format!(
+        "<tr><td class=\"time\">{}</td><th scope=\"row\" class=\"name\">{}</th>",
+        safe(&time),
+        safe(&placed.name)
+    );
+    let mut at = |head: &str, words: String| {
+        let _ = write!(page, "<td class=\"at\" data-head=\"{head}\">{}</td>", safe(&words));
+    };
+    if clocked {
+        at("after the anchor", shown.map_or(String::new(), hours));
+    }
+    if timed {
+        let times = placed.times.filter(|_| placed.moment != 0 && !placed.free);
+        at("earliest", times.map_or(String::new(), |times| told::earliest(sheet, times.earliest)));
+        at("latest", times.map_or(String::new(), |times| told::latest(sheet, times.latest)));
+    }
+    if noted {
+        let shut = if matches!(placed.door, Some(Door::Shut { .. })) { " shut" } else { "" };
+        let _ = write!(page, "<td class=\"note{shut}\">{}</td>", safe(&told::note(sheet, placed)));
+    }
+    page + "</tr>\n"
+}
+
+/// A place on the timeline, in percent; dots at the ends are not cut off.
+fn percent(place: f64) -> f64 {
+    2.0 + 96.0 * place
+}
+
+fn timeline(sheet: &Sheet, plan: &[Placed], start: i32, minutes: i32) -> String {
+    let scale = Scale::of(sheet, plan, 6);
+    let at = |minute: i64| percent(scale.place(minute));
+    let rows = drawn(plan).count() + 1;
+    let height = HEAD + rows * ROW;
+    let mut names = String::new();
+    drawn(plan).for_each(|(placed, _)| names += &format!("<li>{}</li>", safe(&placed.name)));
+    let mut drawing = String::new();
+    let (from, to) = (i64::from(start), i64::from(start) + i64::from(minutes));
+    let (left, right) = (at(from.min(to)), at(from.max(to)));
+    let _ = writeln!(
+        drawing,
+        "<rect class=\"band\" x=\"{left:.2}%\" y=\"{HEAD}\" width=\"{:.2}%\" height=\"{}\"/>",
+        right - left,
+        rows * ROW
+    );
+    for (number, &mark) in scale.marks.iter().enumerate() {
+        let (place, odd) = (at(mark.into()), if number % 2 == 1 { " class=\"odd\"" } else { "" });
+        let _ = writeln!(
+            drawing,
+            "<line class=\"grid\" x1=\"{place:.2}%\" x2=\"{place:.2}%\" y1=\"{}\" y2=\"{height}\"/>",
+            HEAD - 6
+        );
+        let _ = writeln!(
+            drawing,
+            "<text{odd} x=\"{place:.2}%\" y=\"14\" text-anchor=\"middle\">{}</text>",
+            safe(&told::time(sheet, mark))
+        );
+    }
+    for edge in [left, right] {
+        let _ = writeln!(
+            drawing,
+            "<line class=\"edge\" x1=\"{edge:.2}%\" x2=\"{edge:.2}%\" y1=\"{HEAD}\" y2=\"{height}\"/>"
+        );
+    }
+    for (number, (placed, stamp)) in drawn(plan).enumerate() {
+        drawing += &moment(&scale, placed, stamp, HEAD + number * ROW + ROW / 2);
+    }
+    let middle = height - ROW / 2;
+    let _ = writeln!(
+        drawing,
+        "<rect class=\"length\" x=\"{left:.2}%\" y=\"{}\" width=\"{:.2}%\" height=\"4\"/>",
+        middle - 2,
+        (right - left).max(0.3)
+    );
+    let round = plan.iter().any(|placed| placed.round);
+    format!(
+        "<figure>\n<div class=\"chart\">\n<ol class=\"names\" aria-hidden=\"true\">{names}<li class=\"span\">span</li></ol>\n\
+         <svg width=\"100%\" height=\"{height}\" role=\"img\" aria-label=\"Timeline of the plan; the table above has its times\">\n{drawing}</svg>\n\
+         </div>\n<figcaption class=\"legend\">{}</figcaption>\n</figure>\n",
+        legend(round, plan.iter().any(|placed| placed.times.is_some()))
+    )
+}
+
+/// A row of the timeline: the bar of where it can be, and the mark of where it is.
+fn moment(scale: &Scale, placed: &Placed, stamp: i32, y: usize) -> String {
+    let bar = bar(scale, placed, stamp);
+    let at = |minute: i64| percent(scale.place(minute));
+    let left = if bar.before { 0.0 } else { at(bar.from) };
+    let right = if bar.after { 100.0 } else { at(bar.to) };
+    let mut drawing = format!("<line class=\"row\" x1=\"0\" x2=\"100%\" y1=\"{y}\" y2=\"{y}\"/>\n");
+    if right > left {
+        let _ = writeln!(
+            drawing,
+            "<rect class=\"slack\" x=\"{left:.2}%\" y=\"{}\" width=\"{:.2}%\" height=\"14\" rx=\"3\"/>",
+            y - 7,
+            right - left
+        );
+    }
+    for (open, place, points) in [(bar.before, "0%", "0,-11 -9,0 0,11"), (bar.after, "100%", "0,-11 9,0 0,11")] {
+        if open {
+            let _ =
+                writeln!(drawing, "<svg x=\"{place}\" y=\"{y}\"><polygon class=\"slack\" points=\"{points}\"/></svg>");
+        }
+    }
+    let place = at(stamp.into());
+    match placed.round {
+        true => drawing + &format!("<circle class=\"ring\" cx=\"{place:.2}%\" cy=\"{y}\" r=\"6\"/>\n"),
+        false => drawing + &format!("<circle class=\"dot\" cx=\"{place:.2}%\" cy=\"{y}\" r=\"6.5\"/>\n"),
+    }
+}
+
+fn legend(round: bool, slack: bool) -> String {
+    let item = |drawing: &str, words: &str| {
+        format!("<span><svg width=\"22\" height=\"14\" aria-hidden=\"true\">{drawing}</svg>{words}</span>")
+    };
+    let mut legend = item("<circle class=\"dot\" cx=\"11\" cy=\"7\" r=\"6\"/>", "planned");
+    if round {
+        legend += &item(
+            "<circle class=\"ring\" cx=\"11\" cy=\"7\" r=\"5\"/>",
+            "planned, and of the round that binds the span",
+        );
+    }
+    if slack {
+        legend += &item("<rect class=\"slack\" width=\"22\" height=\"14\" rx=\"3\"/>", "where it can be at this span");
+    }
+    legend + &item("<rect class=\"length\" y=\"5\" width=\"22\" height=\"4\"/>", "the span")
+}
+
+fn explained(sheet: &Sheet, span: &Span) -> String {
+    let mut page = String::new();
+    for (words, rules) in told::explained(sheet, span) {
+        let _ = writeln!(page, "<p>{}</p>", safe(&words));
+        if !rules.is_empty() {
+            page += "<ul class=\"rules\">\n";
+            rules.iter().for_each(|&place| page += &format!("<li>{}</li>\n", rule(sheet, place)));
+            page += "</ul>\n";
+        }
+    }
+    page
+}
+
+fn rule(sheet: &Sheet, place: usize) -> String {
+    let rule = &sheet.rules[place];
+    format!("{} <span class=\"line\">rule {}, line {}</span>", safe(&rule.text), place + 1, rule.place.line)
+}
+
+/// All rules, at the end.
+fn rules(sheet: &Sheet) -> String {
+    if sheet.rules.is_empty() {
+        return String::new();
+    }
+    let mut page = String::from("<h3>Rules</h3>\n<ol class=\"rules\">\n");
+    for row in &sheet.rules {
+        let words = match row.in_force {
+            true => safe(&row.text),
+            false => {
+                format!("<span class=\"suspended\">{}</span> <span class=\"line\">suspended</span>", safe(&row.text))
+            }
+        };
+        let _ = writeln!(page, "<li>{words}</li>");
+    }
+    page + "</ol>\n"
+}
