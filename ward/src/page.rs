@@ -14,8 +14,11 @@ use crate::told;
 const STYLE: &str = include_str!("sheet.css");
 
 /// A timeline's measures, in pixels: what stands above its rows, and a row.
-const HEAD: usize = 26;
-const ROW: usize = 30;
+const HEAD: usize = 24;
+const ROW: usize = 27;
+
+/// The most moments of a plan that one printed page holds with its timeline.
+const SHORT: usize = 11;
 
 /// Words that cannot be taken for marks of the page.
 fn safe(words: &str) -> String {
@@ -77,7 +80,11 @@ fn text(report: &Report) -> String {
 
 fn article(sheet: &Sheet, number: usize, count: usize, span: &Span) -> String {
     let heading = if count == 1 { "Span".to_string() } else { format!("Span {} of {count}", number + 1) };
-    let mut page = format!("<article>\n<h2>{heading}</h2>\n");
+    let short = match &span.body {
+        Body::Least { plan, .. } if plan.len() > SHORT => "",
+        _ => " class=\"short\"",
+    };
+    let mut page = format!("<article{short}>\n<h2>{heading}</h2>\n");
     let _ = writeln!(
         page,
         "<dl class=\"groups\"><dt>from</dt><dd>{}</dd><dt>to</dt><dd>{}</dd></dl>",
@@ -120,7 +127,8 @@ fn result(span: &Span) -> String {
     let (class, large, words) = match &span.body {
         Body::Least { minutes, .. } => {
             let long = minutes.abs() >= 60;
-            let words = if long { format!("{} h, least span. ", hours(*minutes)) } else { "least span. ".into() };
+            let words =
+                if long { format!("({}) is the least span. ", hours(*minutes)) } else { "is the least span. ".into() };
             ("result", format!("{minutes} min"), format!("{words}No plan that keeps the rules has a smaller one."))
         }
         Body::Bottomless(_) => (
@@ -143,12 +151,14 @@ fn table(sheet: &Sheet, plan: &[Placed]) -> String {
     heads.extend(timed.then_some(["Earliest", "Latest"]).into_iter().flatten());
     heads.extend(noted.then_some("Note"));
     let caption = if timed {
-        "Each moment alone can be anywhere between its earliest and its latest time, and the span stays the least."
+        "Each moment alone can be anywhere from its earliest to its latest time; the span stays the least."
     } else {
         "In the order of time."
     };
     let mut page = format!("<table>\n<caption>{caption}</caption>\n<thead><tr>");
-    heads.iter().for_each(|head| page += &format!("<th scope=\"col\">{head}</th>"));
+    heads.iter().for_each(|head| {
+        page += &format!("<th scope=\"col\"{}>{head}</th>", if *head == heads[0] { " class=\"time\"" } else { "" })
+    });
     page += "</tr></thead>\n<tbody>\n";
     for placed in plan {
         page += &line(sheet, placed, clocked, timed, noted);
@@ -164,11 +174,11 @@ fn line(sheet: &Sheet, placed: &Placed, clocked: bool, timed: bool, noted: bool)
         safe(&time),
         safe(&placed.name)
     );
-    let mut at = |head: &str, words: String| {
-        let _ = write!(page, "<td class=\"at\" data-head=\"{head}\">{}</td>", safe(&words));
+    let mut at = |class: &str, words: String| {
+        let _ = write!(page, "<td class=\"at {class}\" data-head=\"{class}\">{}</td>", safe(&words));
     };
     if clocked {
-        at("after the anchor", shown.map_or(String::new(), hours));
+        at("after", shown.map_or(String::new(), hours));
     }
     if timed {
         let times = placed.times.filter(|_| placed.moment != 0 && !placed.free);
@@ -184,69 +194,67 @@ fn line(sheet: &Sheet, placed: &Placed, clocked: bool, timed: bool, noted: bool)
 
 /// A place on the timeline, in percent; dots at the ends are not cut off.
 fn percent(place: f64) -> f64 {
-    2.0 + 96.0 * place
+    3.0 + 94.0 * place
 }
 
+/// The plan along a line of time, with the span from its start on.
 fn timeline(sheet: &Sheet, plan: &[Placed], start: i32, minutes: i32) -> String {
     let scale = Scale::of(sheet, plan, 6);
-    let at = |minute: i64| percent(scale.place(minute));
     let rows = drawn(plan).count() + 1;
     let height = HEAD + rows * ROW;
-    let mut names = String::new();
-    drawn(plan).for_each(|(placed, _)| names += &format!("<li>{}</li>", safe(&placed.name)));
-    let mut drawing = String::new();
+    let names: String = drawn(plan).map(|(placed, _)| format!("<li>{}</li>", safe(&placed.name))).collect();
     let (from, to) = (i64::from(start), i64::from(start) + i64::from(minutes));
-    let (left, right) = (at(from.min(to)), at(from.max(to)));
-    let _ = writeln!(
-        drawing,
-        "<rect class=\"band\" x=\"{left:.2}%\" y=\"{HEAD}\" width=\"{:.2}%\" height=\"{}\"/>",
-        right - left,
-        rows * ROW
-    );
-    for (number, &mark) in scale.marks.iter().enumerate() {
-        let (place, odd) = (at(mark.into()), if number % 2 == 1 { " class=\"odd\"" } else { "" });
-        let _ = writeln!(
-            drawing,
-            "<line class=\"grid\" x1=\"{place:.2}%\" x2=\"{place:.2}%\" y1=\"{}\" y2=\"{height}\"/>",
-            HEAD - 6
-        );
-        let _ = writeln!(
-            drawing,
-            "<text{odd} x=\"{place:.2}%\" y=\"14\" text-anchor=\"middle\">{}</text>",
-            safe(&told::time(sheet, mark))
-        );
-    }
+    let [left, right] = [from.min(to), from.max(to)].map(|minute| percent(scale.place(minute)));
+    let mut drawing = band(left, right, height) + &grid(sheet, &scale, height);
     for edge in [left, right] {
-        let _ = writeln!(
-            drawing,
-            "<line class=\"edge\" x1=\"{edge:.2}%\" x2=\"{edge:.2}%\" y1=\"{HEAD}\" y2=\"{height}\"/>"
-        );
+        drawing += &upright("edge", edge, HEAD, height);
     }
     for (number, (placed, stamp)) in drawn(plan).enumerate() {
         drawing += &moment(&scale, placed, stamp, HEAD + number * ROW + ROW / 2);
     }
-    let middle = height - ROW / 2;
-    let _ = writeln!(
-        drawing,
-        "<rect class=\"length\" x=\"{left:.2}%\" y=\"{}\" width=\"{:.2}%\" height=\"4\"/>",
-        middle - 2,
-        (right - left).max(0.3)
-    );
+    let length = (right - left).max(0.3);
+    let y = height - ROW / 2 - 2;
+    drawing += &format!("<rect class=\"length\" x=\"{left:.2}%\" y=\"{y}\" width=\"{length:.2}%\" height=\"4\"/>\n");
     let round = plan.iter().any(|placed| placed.round);
+    let slack = plan.iter().any(|placed| placed.times.is_some());
     format!(
         "<figure>\n<div class=\"chart\">\n<ol class=\"names\" aria-hidden=\"true\">{names}<li class=\"span\">span</li></ol>\n\
          <svg width=\"100%\" height=\"{height}\" role=\"img\" aria-label=\"Timeline of the plan; the table above has its times\">\n{drawing}</svg>\n\
          </div>\n<figcaption class=\"legend\">{}</figcaption>\n</figure>\n",
-        legend(round, plan.iter().any(|placed| placed.times.is_some()))
+        legend(round, slack)
     )
+}
+
+/// The part of the timeline that the span takes.
+fn band(left: f64, right: f64, height: usize) -> String {
+    let (width, rows) = (right - left, height - HEAD);
+    format!("<rect class=\"band\" x=\"{left:.2}%\" y=\"{HEAD}\" width=\"{width:.2}%\" height=\"{rows}\"/>\n")
+}
+
+fn upright(class: &str, place: f64, from: usize, to: usize) -> String {
+    format!("<line class=\"{class}\" x1=\"{place:.2}%\" x2=\"{place:.2}%\" y1=\"{from}\" y2=\"{to}\"/>\n")
+}
+
+/// The times above, and a line down from each. A time at the right end stays inside.
+fn grid(sheet: &Sheet, scale: &Scale, height: usize) -> String {
+    let mut drawing = String::new();
+    for (number, &mark) in scale.marks.iter().enumerate() {
+        let place = percent(scale.place(mark.into()));
+        let odd = if number % 2 == 1 { " class=\"odd\"" } else { "" };
+        let (x, anchor) = if place > 92.0 { (100.0, "end") } else { (place, "middle") };
+        let time = safe(&told::time(sheet, mark));
+        drawing += &upright("grid", place, HEAD - 6, height);
+        drawing += &format!("<text{odd} x=\"{x:.2}%\" y=\"14\" text-anchor=\"{anchor}\">{time}</text>\n");
+    }
+    drawing
 }
 
 /// A row of the timeline: the bar of where it can be, and the mark of where it is.
 fn moment(scale: &Scale, placed: &Placed, stamp: i32, y: usize) -> String {
     let bar = bar(scale, placed, stamp);
     let at = |minute: i64| percent(scale.place(minute));
-    let left = if bar.before { 0.0 } else { at(bar.from) };
-    let right = if bar.after { 100.0 } else { at(bar.to) };
+    let left = if bar.before { 2.0 } else { at(bar.from) };
+    let right = if bar.after { 98.0 } else { at(bar.to) };
     let mut drawing = format!("<line class=\"row\" x1=\"0\" x2=\"100%\" y1=\"{y}\" y2=\"{y}\"/>\n");
     if right > left {
         let _ = writeln!(
@@ -256,7 +264,7 @@ fn moment(scale: &Scale, placed: &Placed, stamp: i32, y: usize) -> String {
             right - left
         );
     }
-    for (open, place, points) in [(bar.before, "0%", "0,-11 -9,0 0,11"), (bar.after, "100%", "0,-11 9,0 0,11")] {
+    for (open, place, points) in [(bar.before, "2%", "1,-11 -8,0 1,11"), (bar.after, "98%", "-1,-11 8,0 -1,11")] {
         if open {
             let _ =
                 writeln!(drawing, "<svg x=\"{place}\" y=\"{y}\"><polygon class=\"slack\" points=\"{points}\"/></svg>");

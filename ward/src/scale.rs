@@ -38,6 +38,12 @@ impl Scale {
         let earliest = times().filter_map(|times| bound(times.earliest)).min().unwrap_or(first);
         let latest = times().filter_map(|times| bound(times.latest)).max().unwrap_or(last);
         let (low, high) = (earliest.clamp(first - room, first), latest.clamp(last, last + room));
+        // A bar that goes on beyond an end is seen to do so.
+        let beyond = ((high - low) / 12).max(1);
+        let outside = |bound: Bound| bound != Bound::Never && !within(bound, low, high);
+        let (before, after) =
+            (times().any(|times| outside(times.earliest)), times().any(|times| outside(times.latest)));
+        let (low, high) = (low - if before { beyond } else { 0 }, high + if after { beyond } else { 0 });
         let high = high.max(low + 1);
         let origin = sheet.anchor.map_or(0, |anchor| i64::from(anchor.minute));
         let step = STEPS.into_iter().find(|step| (high - low) / step < marks as i64).unwrap_or(i64::from(DAY) * 7_000);
@@ -51,6 +57,11 @@ impl Scale {
     pub fn place(&self, minute: i64) -> f64 {
         (minute.clamp(self.low, self.high) - self.low) as f64 / (self.high - self.low) as f64
     }
+}
+
+/// Whether a time is one of the minutes shown.
+fn within(bound: Bound, low: i64, high: i64) -> bool {
+    matches!(bound, Bound::At(minute) if (low..=high).contains(&i64::from(minute)))
 }
 
 /// From where to where a moment can move: both ends, and whether it goes on beyond what is shown.
