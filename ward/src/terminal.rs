@@ -214,18 +214,24 @@ fn timeline(sheet: &Sheet, plan: &[Placed], span: Option<(i32, i32)>, look: Look
         }
         let _ = writeln!(text, "  {}  {}", padded("span", label), line.into_iter().collect::<String>());
     }
-    let round = if plan.iter().any(|placed| placed.round) {
-        format!(", {} one of the round", signs.round)
-    } else {
-        String::new()
-    };
-    let slack = if plan.iter().any(|placed| placed.times.is_some()) {
-        format!(", {} where it can be at this span", signs.slack)
-    } else {
-        String::new()
-    };
-    let _ = writeln!(text, "  {}  {} a moment{round}{slack}", padded("", label), signs.moment);
-    text
+    text + &legend(plan, signs, label, look.width)
+}
+
+/// What the signs mean, on a line or on several.
+fn legend(plan: &[Placed], signs: &Signs, label: usize, width: usize) -> String {
+    let mut items = vec![format!("{} planned", signs.moment)];
+    if plan.iter().any(|placed| placed.round) {
+        items.push(format!("{} planned, and of the round", signs.round));
+    }
+    if plan.iter().any(|placed| placed.times.is_some()) {
+        items.push(format!("{} where it can be", signs.slack));
+    }
+    let margin = format!("  {}  ", padded("", label));
+    let line = format!("{margin}{}\n", items.join("   "));
+    match line.chars().count() > width {
+        true => items.iter().map(|item| format!("{margin}{item}\n")).collect(),
+        false => line,
+    }
 }
 
 /// A name in a column; a long one is cut.

@@ -6,7 +6,7 @@ use ward_reader::sheet::Row;
 use ward_reader::Sheet;
 
 use crate::archive;
-use crate::times::{earliest, latest};
+use crate::times::{earliest, latest, row};
 
 /// Why spans are bottomless.
 #[derive(Clone, Debug, PartialEq, Eq)]
@@ -61,7 +61,8 @@ pub fn blocked(sheet: &Sheet, question: usize) -> Result<Blocked, String> {
     let any = earliest(0, sheet.moments.len());
     match is_none(&rules, &any)? {
         true => narrowed(rules, &any).map(Blocked::Contradiction),
-        false => narrowed(rules, question).map(Blocked::StartLeftOut),
+        // The span from the start to the anchor, which is always planned, tells of the start alone.
+        false => narrowed(rules, &row(any.left, question.right.clone())).map(Blocked::StartLeftOut),
     }
 }
 

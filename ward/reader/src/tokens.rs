@@ -71,7 +71,7 @@ pub fn tokens(line: &str, from: usize, to: usize) -> Result<Vec<Token<'_>>, Faul
             c if SIGNS.contains(c) => (Kind::Sign, 1),
             c if RELATIONS.contains(c) => (Kind::Relation, run(&|c| !RELATIONS.contains(c))),
             c if DASHES.contains(c) || QUOTES.contains(c) => return Err(looks_like(at, c)),
-            _ => (Kind::Word, run(&ends_word)),
+            c => (Kind::Word, run(&ends_word).max(c.len_utf8())),
         };
         let (inner_from, inner_to) = if kind == Kind::Quoted { (at + 1, at + length - 1) } else { (at, at + length) };
         let text = &line[inner_from..inner_to];
@@ -168,6 +168,8 @@ mod tests {
             ("\"bed <= a", "the quote before 'bed <= a' is not closed"),
             ("a\u{200B} <= b", "U+200B"),
             ("a <= \u{7}b", "U+0007"),
+            ("a <= b\rc", "U+000D"),
+            ("a <=\u{85} b", "U+0085"),
         ] {
             let fault = tokens(line, 0, line.len()).expect_err(line);
             assert!(fault.message.contains(part), "{fault:?}");
