@@ -1,15 +1,17 @@
 //! Reading a text.
 //!
-//!     # a comment starts at the line's start or after a space; on the first line it is the title
-//!     moments: ready, "bed 4", ambulance
-//!     anchor: Monday 8:00
-//!     open: Monday to Friday 7:00-18:00
-//!     admits: ready
-//!     anchor + 30 <= later of ready, ambulance + 1:15
-//!     later of ready, "bed 4" <= anchor + 62
-//!     suspended: ambulance <= anchor + 50
-//!     span: from "bed 4" to later of ready, ambulance
-//!     expect: least -47
+//! ```text
+//! # a comment starts at the line's start or after a space; on the first line it is the title
+//! moments: ready, "bed 4", ambulance
+//! anchor: Monday 8:00
+//! open: Monday to Friday 7:00-18:00
+//! admits: ready
+//! anchor + 30 <= later of ready, ambulance + 1:15
+//! later of ready, "bed 4" <= anchor + 62
+//! suspended: ambulance <= anchor + 50
+//! span: from "bed 4" to later of ready, ambulance
+//! expect: least -47
+//! ```
 //!
 //! Each line is read for itself, and what is wrong with one keeps no other from being read.
 

@@ -53,16 +53,27 @@ fn the_texts_of_the_documents_are_answered() {
     }
 }
 
-/// What README shows of its first command is what that command prints.
+/// What README shows of its first command is what that command prints, up to the times of the plan, which are the engine's to
+/// choose; and every moment has its row in the plan and in the timeline.
 #[test]
 fn readme_shows_what_its_first_command_prints() {
     let readme = fs::read_to_string(repository().join("README.md")).expect("README");
     let told = ward(&["examples/problems/bed-transfer.txt"], "");
     let shown: Vec<&str> = readme.lines().filter_map(|line| line.strip_prefix("    ")).collect();
-    let printed: Vec<&str> = told.out.lines().filter(|line| !line.is_empty()).collect();
-    let first = shown.iter().position(|line| *line == printed[0]).expect("the first line that it prints");
-    let mut rest = shown[first..].iter().filter(|line| !line.is_empty());
-    for line in printed {
-        assert_eq!(rest.next().map(|shown| shown.trim_end()), Some(line));
+    let first = shown.iter().position(|line| told.out.starts_with(line)).expect("the first line that it prints");
+    for (line, printed) in
+        shown[first..].iter().filter(|line| !line.is_empty()).zip(told.out.lines().filter(|line| !line.is_empty()))
+    {
+        assert!(*line == printed || line.starts_with("  "), "{line}\n{printed}");
+    }
+    let (readme, out) = (shown[first..].join("\n"), told.out);
+    for name in ["ready", "vacated", "cleaned", "ambulance", "departure", "arrival", "handover", "nurse", "escort"] {
+        assert!(
+            readme.matches(&format!(" {name} ")).count() >= 2 && out.matches(&format!(" {name} ")).count() >= 2,
+            "{name}"
+        );
+    }
+    for part in ["says: accepted least 13", "● planned", "├"] {
+        assert!(readme.contains(part) && out.contains(part), "{part}");
     }
 }
