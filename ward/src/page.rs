@@ -2,13 +2,12 @@
 
 use std::fmt::Write;
 
-use ward_reader::Sheet;
+use ward_reader::{Remark, Sheet, Weight};
 
 use crate::answer::{Body, Placed, Report, Span, Verdict};
 use crate::archive::hours;
 use crate::opening::Door;
 use crate::scale::{bar, drawn, Scale};
-use crate::terminal;
 use crate::told;
 
 const STYLE: &str = include_str!("sheet.css");
@@ -54,10 +53,37 @@ pub fn all(reports: &[Report]) -> String {
     )
 }
 
-/// What a text is called: its title, or its file.
+/// What a text is called: its title, which a text with mistakes has too, or its file.
 fn name(report: &Report) -> String {
-    let title = report.sheet.as_ref().and_then(|sheet| sheet.title.clone());
-    title.unwrap_or_else(|| report.file.clone())
+    let title = report.lines.first().and_then(|line| ward_reader::title(line));
+    let file = || report.file.rsplit('/').next().unwrap_or(&report.file).to_string();
+    title.unwrap_or_else(file)
+}
+
+/// Mistakes and warnings, each with its line and the part that is meant.
+fn remarks(report: &Report) -> String {
+    let mut items: Vec<String> = report.fault.iter().map(|fault| format!("<li>{}</li>\n", safe(fault))).collect();
+    for Remark { weight, place, message, hint } in &report.remarks {
+        let word = if *weight == Weight::Mistake { "mistake" } else { "warning" };
+        let line: Vec<char> = report.lines.get(place.line - 1).map_or(Vec::new(), |line| line.chars().collect());
+        let part =
+            |from: usize, to: usize| safe(&line[from.min(line.len())..to.min(line.len())].iter().collect::<String>());
+        let (from, to) = (place.column - 1, place.column - 1 + place.width);
+        let hint = hint.as_ref().map_or(String::new(), |hint| format!("<span class=\"hint\">{}</span>", safe(hint)));
+        items.push(format!(
+            "<li><strong>Line {}, column {}, {word}:</strong> {}<code>{}<mark>{}</mark>{}</code>{hint}</li>\n",
+            place.line,
+            place.column,
+            safe(message),
+            part(0, from),
+            part(from, to),
+            part(to, line.len())
+        ));
+    }
+    match items.is_empty() {
+        true => String::new(),
+        false => format!("<ul class=\"remarks\">\n{}</ul>\n", items.concat()),
+    }
 }
 
 fn text(report: &Report) -> String {
@@ -65,10 +91,7 @@ fn text(report: &Report) -> String {
     let anchor = report.sheet.as_ref().filter(|sheet| sheet.anchor.is_some()).map(|sheet| told::time(sheet, 0));
     let anchor = anchor.map_or(String::new(), |time| format!(" · anchor at {time}"));
     let _ = writeln!(page, "<p class=\"about\">{}{}</p>\n</header>", safe(&report.file), safe(&anchor));
-    let remarks = terminal::remarks(report);
-    if !remarks.is_empty() {
-        let _ = writeln!(page, "<pre>{}</pre>", remarks.lines().map(safe).collect::<Vec<_>>().join("\n"));
-    }
+    page += &remarks(report);
     if let Some(sheet) = report.sheet.as_ref().filter(|_| report.fault.is_none()) {
         for (number, span) in report.spans.iter().enumerate() {
             page += &article(sheet, number, report.spans.len(), span);
@@ -155,7 +178,9 @@ fn table(sheet: &Sheet, plan: &[Placed]) -> String {
     } else {
         "In the order of time."
     };
-    let mut page = format!("<table>\n<caption>{caption}</caption>\n<thead><tr>");
+    let times = plan.iter().filter_map(|placed| placed.stamp).map(|stamp| told::time(sheet, stamp).chars().count());
+    let width = times.max().unwrap_or(4);
+    let mut page = format!("<table style=\"--time: {width}ch\">\n<caption>{caption}</caption>\n<thead><tr>");
     heads.iter().for_each(|head| {
         page += &format!("<th scope=\"col\"{}>{head}</th>", if *head == heads[0] { " class=\"time\"" } else { "" })
     });

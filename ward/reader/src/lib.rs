@@ -20,6 +20,6 @@ mod tokens;
 pub mod vain;
 
 pub use clock::Clock;
-pub use parse::{read, Read};
+pub use parse::{read, title, Read};
 pub use remark::{Remark, Weight};
 pub use sheet::{Lead, Sheet};

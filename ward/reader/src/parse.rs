@@ -54,7 +54,7 @@ pub fn read(bytes: &[u8], clock: &Clock) -> Read {
     if bytes.is_empty() {
         draft.sheet = Sheet::idle();
     } else if source.readable {
-        draft.title(&source.lines);
+        draft.sheet.title = source.lines.first().and_then(|line| title(line));
         draft.all(&source.lines, |key| key == Key::Moments);
         draft.all(&source.lines, |key| key != Key::Moments);
         draft.whole(&source.lines);
@@ -71,6 +71,12 @@ pub fn read(bytes: &[u8], clock: &Clock) -> Read {
     }
     remarks.sort_by_key(|remark| remark.place);
     Read { sheet: good.then_some(sheet), remarks, lines: source.lines }
+}
+
+/// The title that a text's first line has, if it is a comment.
+pub fn title(line: &str) -> Option<String> {
+    let title = line.trim().strip_prefix('#')?.trim();
+    (!title.is_empty()).then(|| title.into())
 }
 
 /// What was read so far.
@@ -93,11 +99,6 @@ fn place(number: usize, line: &str, from: usize, to: usize) -> Place {
 }
 
 impl Draft<'_> {
-    fn title(&mut self, lines: &[String]) {
-        let comment = lines.first().and_then(|line| line.trim().strip_prefix('#')).map(|title| title.trim());
-        self.sheet.title = comment.filter(|title| !title.is_empty()).map(String::from);
-    }
-
     fn wrong(&mut self, number: usize, line: &str, fault: Fault) {
         let place = place(number, line, fault.from, fault.to);
         self.remarks.push(Remark { weight: Weight::Mistake, place, message: fault.message, hint: fault.hint });
@@ -339,7 +340,7 @@ impl Draft<'_> {
         }
         let mut right = self.side(&mut second);
         if right.is_ok() && second.peek(0).is_some() {
-            right = Err(self.too_much(&second, from, middle));
+            right = Err(self.too_much(&second, cursor.line[from..relation.from].trim(), relation, middle));
         }
         let wrong = (relation.text != "<=").then(|| {
             hints::relation(
@@ -405,11 +406,13 @@ impl Draft<'_> {
     }
 
     /// What is too much behind a rule's right side.
-    fn too_much(&self, cursor: &Cursor, from: usize, middle: usize) -> Fault {
+    fn too_much(&self, cursor: &Cursor, left: &str, relation: Token, middle: usize) -> Fault {
         let token = cursor.peek(0).expect("a token is left");
         let shown = &cursor.line[token.from..token.to];
         let fault = Fault::new(token.from, token.to, format!("'{shown}' is too much"));
-        let left = cursor.line[from..middle].trim().trim_end_matches("<=").trim_end();
+        if relation.text != "<=" {
+            return fault;
+        }
         let right = cursor.line[middle..token.from].trim();
         match token.text {
             "and" | "&" => {
