@@ -181,6 +181,7 @@ impl Report {
             (Some(_), _) => "not answered".into(),
             (_, 1) => "1 mistake".into(),
             (_, 2..) => format!("{mistakes} mistakes"),
+            _ if self.spans.is_empty() => "no mistake".into(),
             _ => self.spans.iter().map(|span| span.verdict.words()).collect::<Vec<_>>().join(", "),
         }
     }

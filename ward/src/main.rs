@@ -136,53 +136,45 @@ fn status(ending: Ending) -> u8 {
     }
 }
 
+/// Reads or answers the texts. What goes to a terminal is put out text by text, all else in the end.
 fn answer_all(words: &Words) -> io::Result<u8> {
-    let wishes = Wishes { times: !words.quick };
     let count = words.files.len();
     let alone = io::stderr().is_terminal() && (!io::stdout().is_terminal() || words.output.is_some());
     let progress = !words.quiet && (words.progress || count > 1 && alone);
     let streamed = words.form == Form::Table && words.output.is_none();
     let mut reports = Vec::new();
     let mut ending = Ending::Accepted;
-    let mut table = String::new();
     for (number, path) in words.files.iter().enumerate() {
         let mut report = text(path);
         if words.command == Command::Answer {
-            report.answer(wishes);
+            report.answer(Wishes { times: !words.quick });
         }
         tell_remarks(&mut report, words);
         ending = ending.max(report.ending());
         if progress {
-            let brief = if words.command == Command::Check && report.brief().is_empty() {
-                "no mistake".into()
-            } else {
-                report.brief()
-            };
-            tell(&format!("[{}/{count}] {}: {brief}\n", number + 1, report.file));
+            tell(&format!("[{}/{count}] {}: {}\n", number + 1, report.file, report.brief()));
         }
-        if words.form == Form::Table {
-            let gap = if table.is_empty() && (number == 0 || !streamed) { "" } else { "\n\n" };
-            let part = if words.command == Command::Check {
-                terminal::checked(&report)
-            } else {
-                terminal::report(&report, look(words))
-            };
-            let gap = if words.command == Command::Check || part.is_empty() { "" } else { gap };
-            table += &format!("{gap}{part}");
-        } else {
-            reports.push(report);
-        }
-        if streamed && !table.is_empty() {
-            put(words, table.as_bytes())?;
-            table.clear();
+        match streamed {
+            true => put(words, table(words, &report, number > 0).as_bytes())?,
+            false => reports.push(report),
         }
     }
-    match words.form {
-        Form::Table if streamed => {}
-        Form::Table => put(words, table.as_bytes())?,
-        _ => put(words, shaped(words, &reports).as_bytes())?,
+    if !streamed {
+        put(words, shaped(words, &reports).as_bytes())?;
     }
     Ok(status(ending))
+}
+
+/// A report for the terminal, with a gap to the one before it.
+fn table(words: &Words, report: &Report, gap: bool) -> String {
+    if words.command == Command::Check {
+        return terminal::checked(report);
+    }
+    let table = terminal::report(report, look(words));
+    match gap && !table.is_empty() {
+        true => format!("\n\n{table}"),
+        false => table,
+    }
 }
 
 fn shaped(words: &Words, reports: &[Report]) -> String {
@@ -190,7 +182,7 @@ fn shaped(words: &Words, reports: &[Report]) -> String {
         Form::Json => json::all(reports),
         Form::Csv => csv::all(reports),
         Form::Html => page::all(reports),
-        Form::Table => reports.iter().map(|report| terminal::report(report, look(words))).collect(),
+        Form::Table => reports.iter().enumerate().map(|(number, report)| table(words, report, number > 0)).collect(),
     }
 }
 

@@ -115,19 +115,7 @@ fn article(sheet: &Sheet, number: usize, count: usize, span: &Span) -> String {
         safe(&span.to)
     );
     page += &result(span);
-    let (class, sign) = match span.verdict {
-        Verdict::Accepted(_) => ("verdict", "✓"),
-        Verdict::NotAccepted(_) => ("verdict no", "✗"),
-    };
-    let _ = writeln!(
-        page,
-        "<p class=\"{class}\"><span aria-hidden=\"true\">{sign}</span> {}</p>",
-        safe(&told::verdict(span))
-    );
-    if let Some(expected) = span.expected {
-        let _ =
-            writeln!(page, "<p class=\"warn\">The text expects another answer: {}</p>", safe(&expected.to_string()));
-    }
+    page += &verdict(span);
     match &span.body {
         Body::Least { plan, start, minutes, .. } => {
             page += "<h3>Plan</h3>\n";
@@ -143,6 +131,25 @@ fn article(sheet: &Sheet, number: usize, count: usize, span: &Span) -> String {
     }
     page += &explained(sheet, span);
     page + "</article>\n"
+}
+
+/// What the checker says, and what the text expects where it is something else.
+fn verdict(span: &Span) -> String {
+    let mut page = String::new();
+    let (class, sign) = match span.verdict {
+        Verdict::Accepted(_) => ("verdict", "✓"),
+        Verdict::NotAccepted(_) => ("verdict no", "✗"),
+    };
+    let _ = writeln!(
+        page,
+        "<p class=\"{class}\"><span aria-hidden=\"true\">{sign}</span> {}</p>",
+        safe(&told::verdict(span))
+    );
+    if let Some(expected) = span.expected {
+        let _ =
+            writeln!(page, "<p class=\"warn\">The text expects another answer: {}</p>", safe(&expected.to_string()));
+    }
+    page
 }
 
 /// The main thing, large.

@@ -6,12 +6,14 @@
 
 pub mod clock;
 mod hints;
+mod hours;
 pub mod limits;
 mod lines;
 pub mod outcome;
 mod parse;
 pub mod record;
 pub mod remark;
+mod rows;
 pub mod sheet;
 pub mod shown;
 mod sides;

@@ -17,14 +17,13 @@
 
 use std::collections::BTreeMap;
 
-use crate::clock::{self, Anchor, Clock, Window, DAY};
+use crate::clock::Clock;
 use crate::hints;
 use crate::limits;
 use crate::lines::{headed, without_colon, Key};
 use crate::outcome::Expected;
 use crate::remark::{Place, Remark, Weight};
-use crate::sheet::{Lead, Moment, Question, Row, Sheet};
-use crate::shown;
+use crate::sheet::{Moment, Sheet};
 use crate::sides::{self, Cursor};
 use crate::source;
 use crate::tokens::{self, Fault, Kind, Token};
@@ -80,9 +79,9 @@ pub fn title(line: &str) -> Option<String> {
 }
 
 /// What was read so far.
-struct Draft<'c> {
-    clock: &'c Clock,
-    sheet: Sheet,
+pub(crate) struct Draft<'c> {
+    pub(crate) clock: &'c Clock,
+    pub(crate) sheet: Sheet,
     remarks: Vec<Remark>,
     /// Lines `span:` so far, those with a mistake too.
     spans: usize,
@@ -93,13 +92,13 @@ struct Draft<'c> {
 }
 
 /// A part of a line as a place. Places of a line count bytes there, and characters here.
-fn place(number: usize, line: &str, from: usize, to: usize) -> Place {
+pub(crate) fn place(number: usize, line: &str, from: usize, to: usize) -> Place {
     let column = line[..from].chars().count() + 1;
     Place { line: number, column, width: line[from..to.max(from)].chars().count().max(1) }
 }
 
 impl Draft<'_> {
-    fn wrong(&mut self, number: usize, line: &str, fault: Fault) {
+    pub(crate) fn wrong(&mut self, number: usize, line: &str, fault: Fault) {
         let place = place(number, line, fault.from, fault.to);
         self.remarks.push(Remark { weight: Weight::Mistake, place, message: fault.message, hint: fault.hint });
     }
@@ -222,292 +221,6 @@ impl Draft<'_> {
         })
     }
 
-    /// `8:00`, or `Monday 8:00`.
-    fn anchor(&mut self, cursor: &mut Cursor) -> Result<(), Fault> {
-        let from = cursor.place();
-        let day = cursor.peek(0).and_then(|token| clock::day(token.text));
-        if day.is_some() {
-            cursor.take();
-        }
-        let minute = self.time(cursor, DAY - 1, "8:00 or Monday 8:00")?;
-        if cursor.peek(0).is_some() {
-            return Err(cursor.fault("nothing more is expected").hint("write 'anchor: 8:00' or 'anchor: Monday 8:00'"));
-        }
-        if self.sheet.anchor.is_some() {
-            return Err(Fault::new(from, cursor.place(), "the anchor has a time already"));
-        }
-        self.sheet.anchor = Some(Anchor { day, minute });
-        Ok(())
-    }
-
-    /// A time of day.
-    fn time(&self, cursor: &mut Cursor, latest: i32, form: &str) -> Result<i32, Fault> {
-        let Some(token) = cursor.peek(0).filter(|token| token.kind == Kind::Word) else {
-            return Err(cursor.fault("a time of day is expected").hint(format!("write it like {form}")));
-        };
-        let minute = if sides::is_hours(token.text) { (self.clock.read)(token.text) } else { None };
-        match minute.filter(|minute| (0..=latest).contains(minute)) {
-            Some(minute) => {
-                cursor.take();
-                Ok(minute)
-            }
-            None => {
-                let written = token.text.trim_start_matches('0');
-                let message = format!("'{}' is no time of day", token.text);
-                let fault = Fault::new(token.from, token.to, message);
-                let zero = sides::is_hours(token.text) && token.text.len() > written.len() && !written.starts_with(':');
-                Err(match zero {
-                    true => fault.hint(format!("hours have no leading zero: write {written}")),
-                    false => fault.hint(format!("write it like {form}")),
-                })
-            }
-        }
-    }
-
-    /// `Monday to Friday 7:00-18:00, Saturday 9:00-12:00`.
-    fn open(&mut self, number: usize, cursor: &mut Cursor) -> Result<(), Fault> {
-        loop {
-            let from = cursor.place();
-            let first = self.day(cursor)?;
-            let last = if cursor.takes("-") || cursor.takes("to") { self.day(cursor)? } else { first };
-            let opening = self.time(cursor, DAY, "7:00-18:00")?;
-            if !cursor.takes("-") {
-                cursor.expect("to").map_err(|fault| fault.hint("write the hours like 7:00-18:00"))?;
-            }
-            let to = cursor.peek(0).map_or(from, |token| token.to);
-            let closing = self.time(cursor, DAY, "7:00-18:00")?;
-            let place = place(number, cursor.line, from, to);
-            let count = (last + 7 - first) % 7 + 1;
-            for day in (0..count).map(|step| (first + step) % 7 * DAY as usize) {
-                let [opening, closing] = [opening, closing].map(|time| (day as i32 + time) as u32);
-                self.sheet.week.push(Window { opening, closing, place });
-            }
-            if !cursor.takes(",") {
-                break;
-            }
-        }
-        self.sheet.week.sort_by_key(|window| window.opening);
-        match cursor.peek(0) {
-            None => Ok(()),
-            Some(_) => Err(cursor
-                .fault("a comma is expected")
-                .hint("write 'open: Monday to Friday 7:00-18:00, Saturday 9:00-12:00'")),
-        }
-    }
-
-    fn day(&self, cursor: &mut Cursor) -> Result<usize, Fault> {
-        let day = cursor.peek(0).and_then(|token| clock::day(token.text));
-        let fault = || cursor.fault("a day is expected").hint("days are Monday to Sunday, or Mon to Sun");
-        let day = day.ok_or_else(fault)?;
-        cursor.take();
-        Ok(day)
-    }
-
-    /// Names of moments at which the ward must be open.
-    fn admits(&mut self, cursor: &mut Cursor) -> Result<(), Fault> {
-        loop {
-            let Some(token) = cursor.take() else { return Err(cursor.fault("a moment's name is expected")) };
-            match self.sheet.moments.iter().position(|known| known.name == token.text) {
-                Some(moment) if !self.sheet.admits.contains(&moment) => self.sheet.admits.push(moment),
-                Some(_) => {}
-                None => cursor.unknown.push(sides::Unknown { name: token.text.into(), from: token.from, to: token.to }),
-            }
-            if !cursor.takes(",") {
-                break;
-            }
-        }
-        match cursor.peek(0) {
-            None => Ok(()),
-            Some(_) => Err(cursor.fault("a comma is expected")),
-        }
-    }
-
-    fn side(&self, cursor: &mut Cursor) -> Result<Vec<Lead>, Fault> {
-        sides::read(cursor, &self.sheet.moments, self.clock)
-    }
-
-    /// A rule: a side, `<=`, a side. Both sides are read, whatever is wrong between them.
-    fn rule(&mut self, number: usize, cursor: &mut Cursor, in_force: bool) -> Result<(), Fault> {
-        let (from, text) = (cursor.place(), cursor.rest());
-        let Some((mut first, relation, mut second)) = cursor.split(|token| token.kind == Kind::Relation) else {
-            self.side(cursor)?;
-            return Err(self.left_over(cursor, from));
-        };
-        let middle = second.place();
-        let mut left = self.side(&mut first);
-        if left.is_ok() && first.peek(0).is_some() {
-            left = Err(self.left_over(&first, from));
-        }
-        let mut right = self.side(&mut second);
-        if right.is_ok() && second.peek(0).is_some() {
-            right = Err(self.too_much(&second, cursor.line[from..relation.from].trim(), relation, middle));
-        }
-        let wrong = (relation.text != "<=").then(|| {
-            hints::relation(
-                &relation,
-                cursor.line[from..relation.from].trim(),
-                cursor.line[relation.to..from + text.len()].trim(),
-            )
-        });
-        // A name that is not declared leaves its side short: it is told, and nothing else of this rule.
-        let unknown = !first.unknown.is_empty() || !second.unknown.is_empty();
-        cursor.unknown.extend(first.unknown.into_iter().chain(second.unknown));
-        if let (Ok(left), Ok(right), None, false) = (&left, &right, &wrong, unknown) {
-            let (left, right) = (left.clone(), right.clone());
-            let rule = Row { left, right, ..self.row(number, cursor.line, from, text, in_force) };
-            return self.keep(from, text, rule);
-        }
-        for fault in [left.err(), wrong, right.err()].into_iter().flatten() {
-            self.wrong(number, cursor.line, fault);
-        }
-        Ok(())
-    }
-
-    /// A row of a line's part, with no leads yet.
-    fn row(&self, number: usize, line: &str, from: usize, text: &str, in_force: bool) -> Row {
-        Row {
-            place: place(number, line, from, from + text.len()),
-            text: text.into(),
-            left: Vec::new(),
-            right: Vec::new(),
-            in_force,
-        }
-    }
-
-    fn keep(&mut self, from: usize, text: &str, rule: Row) -> Result<(), Fault> {
-        if rule.left.iter().all(Option::is_none) {
-            return Err(Fault::new(
-                from,
-                from + text.len(),
-                "a rule with nothing on its left says nothing, and is refused (17)",
-            )
-            .hint("was the line left half filled? Fill it in or delete it"));
-        }
-        self.sheet.rules.push(rule);
-        Ok(())
-    }
-
-    /// What stands between a rule's left side and its `<=`, or where that is missing.
-    fn left_over(&self, cursor: &Cursor, from: usize) -> Fault {
-        let fault = cursor.fault("'<=' is expected");
-        let Some(token) = cursor.peek(0) else {
-            return fault.hint("a rule is written 'ready + 10 <= departure'");
-        };
-        let written = cursor.line[from..token.from].trim();
-        match token.text {
-            "," if decimal(cursor, token) => fault.hint("minutes are whole, and commas stand between moments"),
-            "and" | "&" | "," => fault
-                .hint(format!("where all of them must be early enough, write 'later of {}'", joined(written, cursor))),
-            "or" => {
-                fault.hint("a rule cannot say 'one of these is early enough'; 'later of' on the left means all of them")
-            }
-            _ => self.more(cursor, fault),
-        }
-    }
-
-    /// What is too much behind a rule's right side.
-    fn too_much(&self, cursor: &Cursor, left: &str, relation: Token, middle: usize) -> Fault {
-        let token = cursor.peek(0).expect("a token is left");
-        let shown = &cursor.line[token.from..token.to];
-        let fault = Fault::new(token.from, token.to, format!("'{shown}' is too much"));
-        if relation.text != "<=" {
-            return fault;
-        }
-        let right = cursor.line[middle..token.from].trim();
-        match token.text {
-            "and" | "&" => {
-                let next = cursor.line[token.to..].split_whitespace().next().unwrap_or("..");
-                fault.hint(format!("write two rules, each on its line: '{left} <= {right}' and '{left} <= {next} ..'"))
-            }
-            "," if decimal(cursor, token) => fault.hint("minutes are whole, and commas stand between moments"),
-            "or" | "," => {
-                fault.hint(format!("where one of them must be late enough, write 'later of {}'", joined(right, cursor)))
-            }
-            _ if token.kind == Kind::Relation => fault.hint(format!(
-                "one '<=' a rule: '{left} <= {right}' ends here; go on with '{right}' on a line of its own"
-            )),
-            _ => self.more(cursor, fault),
-        }
-    }
-
-    /// Hints for a word behind a side.
-    fn more(&self, cursor: &Cursor, fault: Fault) -> Fault {
-        let Some(token) = cursor.peek(0) else { return fault };
-        let word = token.text.to_lowercase();
-        let digits = token.text.starts_with(|c: char| c.is_ascii_digit());
-        if ["min", "mins", "minute", "minutes", "m", "h", "hour", "hours"].contains(&word.as_str()) {
-            return fault.hint("leave it out: numbers are minutes, and 1:30 is an hour and a half");
-        }
-        if digits {
-            return fault.hint(format!("a sign is missing: '+ {}' or '- {}'", token.text, token.text));
-        }
-        if token.kind == Kind::Word && !word.is_empty() {
-            return fault
-                .hint("a name with spaces goes into quotes, as in \"bed 4\"; several moments are 'later of a, b'");
-        }
-        fault
-    }
-
-    /// A span's line. The span is its end less its start, so the end is the record's first list.
-    fn ask(&mut self, number: usize, cursor: &mut Cursor) -> Result<(), Fault> {
-        let (from, text) = (cursor.place(), cursor.rest());
-        if !cursor.takes("from") {
-            return Err(self.no_from(cursor, from, text));
-        }
-        let Some((mut first, _, mut second)) = cursor.split(|token| token.kind == Kind::Word && token.text == "to")
-        else {
-            self.side(cursor)?;
-            return Err(self.group_over(cursor, "'to' is expected"));
-        };
-        let mut start = self.side(&mut first);
-        if start.is_ok() && first.peek(0).is_some() {
-            start = Err(self.group_over(&first, "'to' is expected"));
-        }
-        let mut end = self.side(&mut second);
-        if end.is_ok() && second.peek(0).is_some() {
-            end = Err(self.group_over(&second, "the end of the line is expected"));
-        }
-        cursor.unknown.extend(first.unknown.into_iter().chain(second.unknown));
-        let (Ok(start), Ok(end)) = (&start, &end) else {
-            for fault in [start.err(), end.err()].into_iter().flatten() {
-                self.wrong(number, cursor.line, fault);
-            }
-            return Ok(());
-        };
-        let row = Row { left: end.clone(), right: start.clone(), ..self.row(number, cursor.line, from, text, true) };
-        self.sheet.questions.push(Question { row, expected: None });
-        Ok(())
-    }
-
-    /// What is too much behind a group of a span.
-    fn group_over(&self, cursor: &Cursor, expected: &str) -> Fault {
-        let fault = cursor.fault(expected);
-        match cursor.peek(0).map(|token| token.text) {
-            Some("and" | "or" | "&" | ",") => fault.hint("a group of several moments is written 'later of a, b'"),
-            Some(_) => self.more(cursor, fault),
-            None => fault.hint("a span is written 'span: from .. to ..'"),
-        }
-    }
-
-    /// How a span that does not begin with `from` is written.
-    fn no_from(&self, cursor: &mut Cursor, from: usize, text: &str) -> Fault {
-        let fault = |message: &str| Fault::new(from, from + text.len(), message);
-        let Some((end, start)) = sides::difference(cursor, &self.sheet.moments, self.clock) else {
-            return fault("a span is written 'span: from .. to ..'")
-                .hint("as in 'span: from later of ready, cleaned to arrival + 5'");
-        };
-        let shown = |leads: &[Lead]| shown::side(&self.sheet.moments, leads, self.clock);
-        let (last, first) = (shown(&end), shown(&start));
-        let better = format!("write 'span: from {first} to {last}' for ({last}) - ({first})");
-        // A single moment less minutes: a reader may take the minutes off the span, not off the moment.
-        let other: Vec<Lead> = start.iter().map(|lead| lead.map(|lead| -lead)).collect();
-        if start.iter().flatten().count() == 1 && other != start {
-            let hint = format!("{better}, or 'span: from {} to {last}' for the sum from left to right", shown(&other));
-            return fault("this difference can be read in two ways").hint(hint);
-        }
-        fault("a difference can be misread").hint(better)
-    }
-
     /// What is expected of the span above, or of the first where none stands above.
     fn expect(&mut self, number: usize, cursor: &mut Cursor) -> Result<(), Fault> {
         let (from, text) = (cursor.place(), cursor.rest());
@@ -548,59 +261,45 @@ impl Draft<'_> {
     /// What is wrong with the text as a whole.
     fn whole(&mut self, lines: &[String]) {
         self.unknown_names();
-        let ranks = [
-            (
-                self.sheet.moments.len() - 1,
-                limits::MOMENTS,
-                "moments beside the anchor",
-                self.sheet.moments.get(limits::MOMENTS + 1).map(|moment| moment.place),
-            ),
-            (
-                self.sheet.rules.len(),
-                limits::RULES,
-                "rules",
-                self.sheet.rules.get(limits::RULES).map(|rule| rule.place),
-            ),
-            (
-                self.sheet.questions.len(),
-                limits::QUESTIONS,
-                "spans",
-                self.sheet.questions.get(limits::QUESTIONS).map(|question| question.row.place),
-            ),
-        ];
-        for (count, most, what, place) in ranks {
-            if let Some(place) = place {
-                let message = format!("there are {count} {what}, and {most} is the most; here is number {}", most + 1);
-                self.remarks.push(Remark { weight: Weight::Mistake, place, message, hint: None });
-            }
-        }
-        let last =
-            Place { line: lines.len(), column: lines.last().map_or(0, |line| line.chars().count()) + 1, width: 1 };
-        let mut missing = |place: Place, message: &str, hint: &str| {
-            self.remarks.push(Remark {
-                weight: Weight::Mistake,
-                place,
-                message: message.into(),
-                hint: Some(hint.into()),
-            })
-        };
+        let Sheet { moments, rules, questions, .. } = &self.sheet;
+        let moment = moments.get(limits::MOMENTS + 1).map(|moment| moment.place);
+        let rule = rules.get(limits::RULES).map(|rule| rule.place);
+        let question = questions.get(limits::QUESTIONS).map(|question| question.row.place);
+        let counts = [moments.len() - 1, rules.len(), questions.len()];
+        self.too_many(moment, counts[0], limits::MOMENTS, "moments beside the anchor");
+        self.too_many(rule, counts[1], limits::RULES, "rules");
+        self.too_many(question, counts[2], limits::QUESTIONS, "spans");
+        let column = lines.last().map_or(0, |line| line.chars().count()) + 1;
+        let end = Place { line: lines.len(), column, width: 1 };
         if self.spans == 0 {
-            missing(
-                last,
-                "there is no line 'span: from .. to ..'",
-                "say what is asked for, as in 'span: from anchor to ready'",
-            );
+            let hint = "say what is asked for, as in 'span: from anchor to ready'";
+            self.missing(end, "there is no line 'span: from .. to ..'", hint);
         }
-        if let (Some(window), None) = (self.sheet.week.first(), self.sheet.anchor.and_then(|anchor| anchor.day)) {
-            missing(window.place, "opening hours need the day of the anchor", "write 'anchor: Monday 8:00'");
+        let day = self.sheet.anchor.and_then(|anchor| anchor.day);
+        if let (Some(place), None) = (self.sheet.week.first().map(|window| window.place), day) {
+            self.missing(place, "opening hours need the day of the anchor", "write 'anchor: Monday 8:00'");
         }
         if let (Some(&moment), true) = (self.sheet.admits.first(), self.sheet.week.is_empty()) {
-            missing(
-                self.sheet.moments[moment].place,
+            let place = self.sheet.moments[moment].place;
+            self.missing(
+                place,
                 "there are no opening hours for 'admits:'",
                 "write 'open: Monday to Friday 7:00-18:00'",
             );
         }
+    }
+
+    /// Tells the place of the first that is too many.
+    fn too_many(&mut self, place: Option<Place>, count: usize, most: usize, what: &str) {
+        if let Some(place) = place {
+            let message = format!("there are {count} {what}, and {most} is the most; here is number {}", most + 1);
+            self.remarks.push(Remark { weight: Weight::Mistake, place, message, hint: None });
+        }
+    }
+
+    fn missing(&mut self, place: Place, message: &str, hint: &str) {
+        let (message, hint) = (message.into(), Some(hint.into()));
+        self.remarks.push(Remark { weight: Weight::Mistake, place, message, hint });
     }
 
     /// A name that is not declared is told once, with the other lines that have it.
@@ -628,21 +327,4 @@ impl Draft<'_> {
             self.remarks.push(Remark { weight: Weight::Mistake, place: places[0], message, hint: Some(hint) });
         }
     }
-}
-
-/// A side, and what follows it with `and`, as the list of a `later of`.
-fn joined(written: &str, cursor: &Cursor) -> String {
-    let rest = cursor.rest();
-    let rest = rest.split("<=").next().unwrap_or(rest);
-    let more = rest.replace(" and ", ", ").replace(" or ", ", ");
-    let more = ["and", "or", "&", ","]
-        .iter()
-        .fold(more.trim(), |more, word| more.strip_prefix(word).unwrap_or(more).trim_start());
-    format!("{written}, {more}")
-}
-
-/// Whether a comma stands inside a number.
-fn decimal(cursor: &Cursor, comma: Token) -> bool {
-    let digit = |c: Option<char>| c.is_some_and(|c| c.is_ascii_digit());
-    digit(cursor.line[..comma.from].chars().next_back()) && digit(cursor.line[comma.to..].chars().next())
 }

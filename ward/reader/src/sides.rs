@@ -256,11 +256,11 @@ fn no_minutes(cursor: &Cursor, moment: Token, sign: Token, token: Token) -> Faul
 
 /// Two groups with a minus between them, where a span is written as a difference: its first and second group.
 pub fn difference(cursor: &mut Cursor, moments: &[Moment], clock: &Clock) -> Option<(Vec<Lead>, Vec<Lead>)> {
-    let split = (0..cursor.tokens.len()).filter(|&place| {
+    let mut split = (0..cursor.tokens.len()).filter(|&place| {
         let next = cursor.tokens.get(place + 1);
         cursor.tokens[place].text == "-" && next.is_some_and(|next| !is_number(next.text) && !is_hours(next.text))
     });
-    let place = split.last()?;
+    let place = split.next_back()?;
     let part = |tokens: &[Token]| {
         let end = tokens.last().map_or(0, |token| token.to);
         let tokens: Vec<Token> = tokens.iter().map(|token| Token { ..*token }).collect();

@@ -170,7 +170,7 @@ fn well_formed(page: &str) {
         let tag = part.split('>').next().expect("a tag");
         let name = tag.trim_start_matches('/').split_whitespace().next().expect("a name").trim_end_matches('/');
         match (tag.starts_with('/'), tag.ends_with('/')) {
-            (true, _) => assert_eq!(open.pop(), Some(name).filter(|name| *name != "head"), "{tag}").to_owned(),
+            (true, _) => assert_eq!(open.pop(), Some(name), "{tag}"),
             (_, true) => {}
             _ => open.push(name),
         }

@@ -144,12 +144,12 @@ fn random_texts_go_there_and_back() {
         let mistakes: Vec<_> = read.remarks.iter().filter(|remark| remark.weight == Weight::Mistake).collect();
         assert!(mistakes.is_empty(), "{mistakes:?}\n{text}");
         let sheet = read.sheet.expect("a good text");
-        assert_eq!(record::sent(&sheet), [meant.clone()], "{text}");
+        assert_eq!(record::sent(&sheet), std::slice::from_ref(&meant), "{text}");
         let same = shown::text(&sheet, &clock());
         let again = shown::text(&record::sheet(&meant).expect("a record"), &clock());
         for text in [same, again] {
             let read = ward_reader::read(text.as_bytes(), &clock()).sheet.unwrap_or_else(|| panic!("{text}"));
-            assert_eq!(record::sent(&read), [meant.clone()], "{text}");
+            assert_eq!(record::sent(&read), std::slice::from_ref(&meant), "{text}");
         }
         // The archive takes what the tool makes of a text.
         assert_eq!(span::solve_all(&meant, &mut []).map_err(|refusal| refusal.number), Err(7), "{text}");
