@@ -185,7 +185,8 @@ fn cells(sheet: &Sheet, placed: &Placed, clocked: bool, timed: bool) -> Vec<Stri
 /// The plan along a line of time. `span` is its start in the plan, and its minutes.
 fn timeline(sheet: &Sheet, plan: &[Placed], span: Option<(i32, i32)>, look: Look) -> String {
     let signs = if look.signs { &FULL } else { &PLAIN };
-    let label = drawn(plan).map(|(placed, _)| placed.name.chars().count()).max().unwrap_or(0).clamp(4, 24);
+    let label =
+        drawn(plan).map(|(placed, _)| placed.name.chars().count()).max().unwrap_or(0).clamp(4, 24.min(look.width / 3));
     let width = look.width.saturating_sub(label + 6).max(20);
     let scale = Scale::of(sheet, plan, width / 10);
     let column = |minute: i64| (scale.place(minute) * (width - 1) as f64).round() as usize;

@@ -157,6 +157,7 @@ impl Refusal {
             13 => "A pick is above its highest value.",
             14 => "The form is right and the answer is not accepted: not certified.",
             15 => "The count of questions is 0 or above 8.",
+            17 => "A rule has an all-blank left list.",
             18 => {
                 "The text is not of this form, a value read or to be written is beyond ±6,000,000, or the writer's \
                  buffer is shorter than 10 bytes."

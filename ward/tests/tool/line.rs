@@ -114,9 +114,10 @@ fn records_become_texts() {
         ("0E000000 0100", 1),
         ("0F000000 0100 0000 0000 05000000 02000000", 2),
         ("0E000000 0900 0000 0000 05000000 02000000", 3),
+        ("16000000 0100 0000 0100 00000080 07000000 05000000 02000000", 17),
     ] {
         let told = ward(&["text", "-"], record);
         assert_eq!((told.status, told.out.as_str()), (Some(1), ""), "{told:?}");
-        assert!(told.err.contains(&format!("refused {number}")), "{told:?}");
+        assert!(told.err.contains(&format!("refused {number}")) && !told.err.contains("No refusal"), "{told:?}");
     }
 }
