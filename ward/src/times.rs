@@ -101,7 +101,8 @@ fn at_most(question: &Row, span: i32) -> Option<Row> {
     Some(row(moved(&question.left, -off), moved(&question.right, i64::from(span) - off)))
 }
 
-/// The times of every moment in the plans that have this span.
+/// The times of every moment in the plans that have this span. A plan with neither group of the span keeps the rule too, and does
+/// not count (document 02, 2.4); merged with one that counts and lies early enough (2.13) it counts, so that no time is another.
 pub fn at_span(sheet: &Sheet, question: usize, span: i32) -> Result<Slack, String> {
     let mut rules: Vec<&Row> = sheet.in_force().collect();
     if rules.len() == limits::RULES {

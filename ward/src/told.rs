@@ -152,7 +152,9 @@ fn loose_words(sheet: &Sheet, loose: &Loose) -> Vec<String> {
 
 fn blocked_words(blocked: &Blocked) -> (String, Vec<usize>) {
     match blocked {
-        Blocked::FromNothing => ("The span starts from nothing, so that no plan has one.".into(), Vec::new()),
+        Blocked::FromNothing => {
+            ("The group that the span starts from is empty: no plan counts, whatever the rules.".into(), Vec::new())
+        }
         Blocked::Contradiction(rules) if rules.len() == 1 => ("No plan can keep this rule:".into(), rules.clone()),
         Blocked::Contradiction(rules) => (
             "These rules contradict each other; without any one of them there is a plan that keeps the others:".into(),

@@ -8,7 +8,7 @@ use ward_reader::Sheet;
 use crate::archive;
 use crate::times::{earliest, latest, row};
 
-/// Why spans are bottomless.
+/// Why spans are bottomless. Both lists are empty where the span runs to nothing.
 #[derive(Clone, Debug, PartialEq, Eq)]
 pub struct Loose {
     /// Moments that the span starts from, and that can be as late as one likes.
@@ -20,7 +20,7 @@ pub struct Loose {
 /// Why there is no span.
 #[derive(Clone, Debug, PartialEq, Eq)]
 pub enum Blocked {
-    /// The span starts from nothing.
+    /// The span starts from nothing, so that no plan counts (document 02, 2.4).
     FromNothing,
     /// No plan keeps these rules together; without any one of them some plan keeps the others.
     Contradiction(Vec<usize>),
@@ -36,6 +36,9 @@ fn moments(leads: &[ward_reader::Lead]) -> Vec<usize> {
 pub fn loose(sheet: &Sheet, question: usize) -> Result<Loose, String> {
     let rules: Vec<&Row> = sheet.in_force().collect();
     let Row { left, right, .. } = &sheet.questions[question].row;
+    if left.iter().all(Option::is_none) {
+        return Ok(Loose { late: Vec::new(), early: Vec::new() });
+    }
     let (ends, starts, count) = (moments(left), moments(right), sheet.moments.len());
     let mut questions: Vec<Row> = starts.iter().map(|&moment| latest(moment, count)).collect();
     questions.extend(ends.iter().map(|&moment| earliest(moment, count)));

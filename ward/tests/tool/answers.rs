@@ -50,11 +50,44 @@ fn a_bottomless_span_is_told_with_the_moments_that_nothing_holds() {
     let out = answered("moments: a, b\na <= anchor + 5\nb <= a\nspan: from anchor to later of a, b\n");
     assert!(out.contains("Nothing says how early a and b may be.\n"), "{out}");
     let out = answered("moments: a\nanchor <= a\nspan: from a to nothing\n");
+    assert!(out.contains("accepted bottomless\n") && out.contains("The span runs to nothing.\n"), "{out}");
+    assert!(!out.contains("A rule is probably missing"), "{out}");
+}
+
+/// A span is about somebody (document 02, 2.4): a plan without the group that the span starts from does not count.
+#[test]
+fn plans_without_the_span_s_start_do_not_count() {
+    let out = answered("moments: one, two\ntwo - 10 <= one\nspan: from two to one\nexpect: least -10\n");
+    assert!(out.contains("says: accepted least -10\n") && out.contains("The least span is -10 minutes."), "{out}");
+    let out = answered("moments: one, two\nanchor + 5 <= one\nspan: from two to one\n");
+    assert!(out.contains("accepted bottomless\n") && out.contains("Nothing says how late two may be.\n"), "{out}");
+    assert!(!out.contains("how early"), "{out}");
+    let out = answered("moments: one, two\none <= two\nspan: from two to one\n");
+    assert!(out.contains("how late two may be.\nNothing says how early one may be.\n"), "{out}");
+    // Every plan leaves out both groups: there is none, where a plan without the end alone is bottomless.
+    let out = answered("moments: one, two\none <= two\ntwo <= nothing\nspan: from two to one\n");
     assert!(
-        out.contains("accepted bottomless")
-            && out.contains("A rule is probably missing") | out.contains("runs to nothing"),
+        out.contains("accepted none\n")
+            && out.contains("starts from, because of:\n  rule 2 (line 3): two <= nothing\n"),
         "{out}"
     );
+    let out = answered("moments: one, two\none <= nothing\nspan: from two to one\n");
+    assert!(out.contains("accepted bottomless\n"), "{out}");
+}
+
+/// Nobody is in an empty group, whatever the span runs to; document 01's example D runs to nothing too.
+#[test]
+fn no_plan_counts_where_the_span_starts_from_nothing() {
+    for end in ["one", "anchor", "nothing"] {
+        let text = format!("moments: one, two\ntwo - 10 <= one\nspan: from nothing to {end}\nexpect: none\n");
+        let out = answered(&text);
+        assert!(out.contains("says: accepted none\n"), "{out}");
+        assert!(
+            out.contains("The group that the span starts from is empty: no plan counts, whatever the rules.\n"),
+            "{out}"
+        );
+        assert!(ward(&["--json", "-"], &text).out.contains("\"why\": \"from nothing\""));
+    }
 }
 
 #[test]
@@ -85,8 +118,6 @@ fn no_span_is_told_where_its_start_is_always_left_out() {
         out.contains("leaves out all that the span starts from, because of:\n  rule 2 (line 3): a <= nothing\n"),
         "{out}"
     );
-    let out = answered("moments: b\nanchor + 5 <= b\nspan: from nothing to b\n");
-    assert!(out.contains("The span starts from nothing"), "{out}");
 }
 
 #[test]

@@ -1,5 +1,6 @@
 //! `examples/run`: it reads the text before anything is built, uses what is built, and runs the tool of its own tree.
 
+use std::path::{Path, PathBuf};
 use std::process::Command;
 
 use crate::scratch::Scratch;
@@ -15,13 +16,24 @@ fn tree(name: &str) -> Scratch {
     scratch
         .program("bin/rt", "echo \"rt $*\" >> \"$CALLS\"; mkdir -p target/staticlib; : > target/staticlib/libcapi.a");
     // The reader is the real one; the tool only says that it was called.
-    let reader = std::path::Path::new(env!("CARGO_BIN_EXE_ward")).with_file_name("ward-reader");
+    let reader = reader();
     let lines = format!(
         "echo \"cargo $*\" >> \"$CALLS\"\ncase \"$*\" in *ward-reader*) for last; do :; done; exec {} \"$last\" ;; esac",
         reader.display()
     );
     scratch.program("bin/cargo", &lines);
     scratch
+}
+
+/// The program of the reader's package, which cargo does not build for the tests of this one.
+fn reader() -> PathBuf {
+    let folder = Path::new(env!("CARGO_BIN_EXE_ward")).parent().expect("the folder of programs");
+    let mut build = Command::new(env!("CARGO"));
+    build.args(["build", "--offline", "--quiet", "-p", "ward-reader", "--manifest-path", "Cargo.toml", "--target-dir"]);
+    build.arg(folder.parent().expect("cargo's folder")).args(folder.ends_with("release").then_some("--release"));
+    let built = told(&mut build);
+    assert_eq!(built.status, Some(0), "{built:?}");
+    folder.join("ward-reader")
 }
 
 fn run(scratch: &Scratch, words: &[&str]) -> (Told, Vec<String>) {

@@ -36,11 +36,26 @@ fn plans(most: i32) -> Vec<[Option<i32>; 3]> {
 /// end goes beyond.
 #[test]
 fn times_are_those_of_every_plan_with_the_least_span() {
-    let mut random = Random::new(35);
-    let plans = plans(20);
-    let mut least = 0;
-    for _ in 0..120 {
-        let text = small(&mut random);
+    let (least, _) = compared(35, 120, "anchor <= a + 3\nanchor <= b + 3\n");
+    assert!(least >= 30, "{least}");
+}
+
+/// Where nothing holds the moments, plans may leave both groups out. Those do not count (document 02, 2.4), and the times are
+/// those of the plans that do.
+#[test]
+fn times_are_those_of_plans_that_count() {
+    let (least, uncounted) = compared(24, 240, "");
+    assert!(least >= 30 && uncounted >= 10, "{least} {uncounted}");
+}
+
+/// Compares the times of random texts with so many plans; how many had a least span, and in how many of these a plan that
+/// keeps the rules has neither group.
+fn compared(seed: u64, count: usize, held: &str) -> (usize, usize) {
+    let mut random = Random::new(seed);
+    let plans = plans(30);
+    let (mut least, mut uncounted) = (0, 0);
+    for _ in 0..count {
+        let text = small(&mut random, held);
         let told = ward(&["--json", "-"], &text);
         assert_eq!(told.status, Some(0), "{text}{told:?}");
         if !told.out.contains("\"class\": \"least\"") {
@@ -59,6 +74,9 @@ fn times_are_those_of_every_plan_with_the_least_span() {
             .iter()
             .filter(|plan| keeps(&sheet, *plan) && span(&sheet.questions[0].row, *plan) == Some(minutes))
             .collect();
+        let Row { left, right, .. } = &sheet.questions[0].row;
+        let neither = |plan: &[Option<i32>]| side(left, plan).is_none() && side(right, plan).is_none();
+        uncounted += plans.iter().any(|plan| keeps(&sheet, plan) && neither(plan)) as usize;
         for (moment, name) in [(1, "a"), (2, "b")] {
             let blank = good.iter().any(|plan| plan[moment].is_none());
             let stamps = || good.iter().filter_map(|plan| plan[moment]);
@@ -75,11 +93,11 @@ fn times_are_those_of_every_plan_with_the_least_span() {
             assert_eq!(field(&told.out, name, "latest"), latest, "{name}\n{text}{}", told.out);
         }
     }
-    assert!(least >= 30, "{least}");
+    (least, uncounted)
 }
 
-/// Up to five rules over two moments.
-fn small(random: &mut Random) -> String {
+/// Up to three rules over two moments beside those that hold them.
+fn small(random: &mut Random, held: &str) -> String {
     let side = |random: &mut Random| {
         let mut names = vec!["anchor", "a", "b"];
         let count = 1 + random.below(2);
@@ -98,7 +116,7 @@ fn small(random: &mut Random) -> String {
             format!("later of {}", terms.join(", "))
         }
     };
-    let mut text = String::from("moments: a, b\nanchor <= a + 3\nanchor <= b + 3\n");
+    let mut text = format!("moments: a, b\n{held}");
     for _ in 0..random.below(4) {
         text += &format!("{} <= {}\n", side(random), side(random));
     }
