@@ -1,6 +1,7 @@
 pub mod Whole
 pub mod Tropical
 pub mod Values
+pub mod Counts
 pub mod Raise
 pub mod Bytes
 pub mod Put

@@ -1,19 +1,21 @@
--- Attainable at t, in the words of the system at t: some feasible point has a value of at most t exactly when the system
--- at t has a solution that is finite at variable 0. Such a solution is moved so that variable 0 stands at 0.
+-- Attainable at t, in the words of the system at t: some feasible point that counts has a value of at most t exactly when the system
+-- at t has a solution that is finite at variable 0 and at a variable of the second list. Such a solution is moved so that variable 0
+-- stands at 0.
 use Prim.Native.Nat.{ℕ, suc, _<_}
 use mathlib.Core.Path.{_≡_, refl, sym, ap, _∙_}
 use native.Mathlib.Omega.{arith}
 use native.Mathlib.Decide.{ℕ-discrete}
-use lib.IntN.{ℤ, pos, negℤ, +ℤ-invr}
+use lib.IntN.{ℤ, pos, negℤ, _+ℤ_, +ℤ-invr}
 use lib.Signed.{_≤ℤ_}
-use Rattle.definitions.specs.Tropical.{Trop, fin, plus, largest, _⊑_}
+use Rattle.definitions.specs.Tropical.{Trop, fin, plus, largest, _⊑_, Finite}
 use Rattle.definitions.specs.Problem as Problems
-use Rattle.definitions.specs.Problem.{Problem, Point, side, Keeps, Feasible, value, Attainable, _≼_, between}
-use Rattle.definitions.specs.Certificate.{Anchor, raise}
+use Rattle.definitions.specs.Problem.{Problem, Point, side, Keeps, Feasible, Counts, value, Attainable, _≼_, between}
+use Rattle.definitions.specs.Certificate.{Anchor, Second, raise}
 use Rattle.definitions.proofs.Tropical.{plus-comm, plus-assoc, plus-zero, plus-is, largest-ext, largest-plus}
 use Rattle.definitions.proofs.Values.{≼-trans, minus-raised, raised-minus}
+use Rattle.definitions.proofs.Counts.{counts-met, met-counts}
 use Rattle.definitions.proofs.Raise.{raised, unraised}
-use Rattle.duality.specs.System.{System, Solves, Solution, systemAt}
+use Rattle.duality.specs.System.{System, Solves, Meets, Joint, systemAt}
 use Rattle.duality.proofs.Solutions.{solves-moved}
 
 -- ---- raising
@@ -66,16 +68,16 @@ attains-solves p t x f v = keeps-solves p t x (λ i r. go i r (ℕ-discrete i (p
 -- ---- attainable
 
 -- Attainable at t, solved at t.
-pub attainable-solution : (p : Problem) (t : ℤ) → Attainable p t → Solution (systemAt p t) Anchor
+pub attainable-joint : (p : Problem) (t : ℤ) → Attainable p t → Joint (systemAt p t) Anchor (Second p)
 unfolding systemAt
-attainable-solution p t a = record {
-  point = a .point;
-  solves = attains-solves p t (a .point) (a .feasible) (a .within);
-  at = 0;
-  inside = omega arith;
-  started = refl;
-  finite = record { whole = pos 0; is = a .feasible .anchored };
-}
+attainable-joint p t a =
+    let m = counts-met (a .counts) in
+    record {
+      point = a .point;
+      solves = attains-solves p t (a .point) (a .feasible) (a .within);
+      first = record { at = 0; inside = omega arith; started = refl; finite = record { whole = pos 0; is = a .feasible .anchored } };
+      second = record { at = m .at; inside = omega (arith, m .second .inside); started = m .second; finite = m .finite };
+    }
 
 -- A point moved down by u.
 unfoldable pub moved : Point → ℤ → Point
@@ -91,18 +93,24 @@ pub moved-solves : (s : System) (x : Point) (u : ℤ) → Solves s x → Solves 
 unfolding moved
 moved-solves s x u h = solves-moved s x (fin (negℤ u)) h
 
+-- It counts where the point is finite at a variable of the second list.
+pub moved-counts : (p : Problem) (x : Point) (u : ℤ) {k : ℕ} → Second p k → Finite (x k) → Counts p (moved x u)
+unfolding moved
+moved-counts p x u {k} s f = met-counts s (record { whole = f .whole +ℤ negℤ u; is = plus-is (f .is) refl })
+
 -- Solved at t, attainable at t: by the solution moved.
-pub solution-attainable : (p : Problem) (t : ℤ) → Solution (systemAt p t) Anchor → Attainable p t
-solution-attainable p t v =
-    let x = moved (v .point) (v .finite .whole) in
-    let d : v .point 0 ≡ fin (v .finite .whole) = cc in
-    let h = moved-solves (systemAt p t) (v .point) (v .finite .whole) (v .solves) in
+pub joint-attainable : (p : Problem) (t : ℤ) → Joint (systemAt p t) Anchor (Second p) → Attainable p t
+joint-attainable p t v =
+    let u = v .first .finite .whole in
+    let d : v .point 0 ≡ fin u = rw (v .first .started) at (v .first .finite .is) in
+    let h = moved-solves (systemAt p t) (v .point) u (v .solves) in
     record {
-      point = x;
-      feasible = solves-feasible p t x (moved-anchored (v .point) (v .finite .whole) d) h;
-      within = solves-within p t x h;
+      point = moved (v .point) u;
+      feasible = solves-feasible p t (moved (v .point) u) (moved-anchored (v .point) u d) h;
+      counts = moved-counts p (v .point) u (v .second .started) (v .second .finite);
+      within = solves-within p t (moved (v .point) u) h;
     }
 
 -- Attainable at t, attainable above t.
 pub attainable-above : (p : Problem) {t u : ℤ} → t ≤ℤ u → Attainable p t → Attainable p u
-attainable-above p h a = record { point = a .point; feasible = a .feasible; within = ≼-trans (a .within) (between h) }
+attainable-above p h a = record { point = a .point; feasible = a .feasible; counts = a .counts; within = ≼-trans (a .within) (between h) }

@@ -1,30 +1,33 @@
 -- The three classes, in the words of the definitions. Optimal s is attainable at s and not at s − 1; infeasible is
 -- attainable at no t, which the trial at T decides; unbounded is attainable at every t, which the trial at −T − 1
--- decides. Exactly one of the three holds, and each is shown by some picks that the checker's list accepts. What the lists of
--- classes 2 and 3 show is proved from any start; the classes themselves are about the anchor.
+-- decides. Exactly one of the three holds, and each is shown by some start with picks that the checker's list accepts. What the
+-- lists of classes 2 and 3 show is proved from any start; the classes themselves are about the anchor and the second list.
 use Prim.Native.Nat.{ℕ, zero, suc, _+_, _*_, _≤_}
-use mathlib.Core.Path.{_≡_}
+use mathlib.Core.Path.{_≡_, refl}
 use mathlib.Core.Logic.{_⊎_, inl, inr, ⊎-elim, _↔_, Iff·trans}
 use native.Mathlib.Omega.{arith}
 use native.Mathlib.Nat.{le-refl}
 use lib.IntN.{ℤ, pos, negsuc, natAbs, _-ℤ_}
 use lib.Signed.{_≤ℤ_, _<ℤ_}
 use Rattle.definitions.specs.Problem as Problems
-use Rattle.definitions.specs.Problem.{Problem, Point, Feasible, value, _≼_, Attainable, Optimal, Unbounded, Infeasible}
-use Rattle.definitions.specs.Certificate.{Anchor, PicksCount, BelowZero, AcceptedOptimal, AcceptedInfeasible, RowPicksCount, AtLeastZero, AcceptedUnbounded}
+use Rattle.definitions.specs.Problem.{Problem, Point, Feasible, Counts, value, _≼_, Attainable, Optimal, Unbounded, Infeasible}
+use Rattle.definitions.specs.Certificate.{Anchor, Second, startOf, AnchorAnd, PicksCount, BelowZero, AcceptedOptimal, AcceptedInfeasible, RowPicksCount, AtLeastZero, AcceptedUnbounded}
 use Rattle.definitions.proofs.Whole.{whole, minus-read, abs-show, le-or-lt}
-use Rattle.definitions.proofs.Values.{≼-refl, ≼-trans, ≼-antisym, infinite-not-below, least-or-below, not-least-and-below, infinite-or-bounded, whole-below}
-use Rattle.duality.specs.Starts.{StartBelow}
+use Rattle.definitions.proofs.Values.{≼-refl, ≼-antisym, least-or-below, not-least-and-below, whole-below}
+use Rattle.definitions.proofs.Counts.{whole-counts, counts-bounded, none-counts}
+use Rattle.duality.specs.Starts.{Only, StartBelow}
 use Rattle.duality.specs.System.{Solution, AllSolved, systemAt}
-use Rattle.duality.specs.Picks.{picksFrom, SomePicks, strategyOf}
+use Rattle.duality.specs.Picks.{picksFrom, SomePicks, SomeStart, SomeSecond, strategyOf}
 use Rattle.duality.specs.Within.{Within, Enough, upper, lower}
 use Rattle.duality.specs.Classes.{HasOptimal}
-use Rattle.duality.proofs.Starts.{anchor-below}
+use Rattle.duality.proofs.Starts.{anchor-below, second-below, start-below, anchor-and-below}
+use Rattle.duality.proofs.Ends.{started-solution}
 use Rattle.duality.proofs.Strong.{bound}
+use Rattle.duality.proofs.Solutions.{joint-exactly}
 use Rattle.duality.proofs.Picks.{picks-joined, picks-none-above, block-picks, save-picks, blocks-exactly, saves-exactly}
 use Rattle.duality.proofs.Numbers.{infeasible-below, below-infeasible, unbounded-above, above-unbounded, within-some}
-use Rattle.duality.proofs.Rows.{saved-exactly, blocked-exactly, solution-decided, only-solved}
-use Rattle.duality.proofs.Attain.{attainable-solution, solution-attainable, attainable-above}
+use Rattle.duality.proofs.Rows.{saved-exactly, blocked-exactly, solution-decided, either-solved, only-solved}
+use Rattle.duality.proofs.Attain.{attainable-joint, joint-attainable, attainable-above}
 
 -- ---- from a start, decided by picks
 
@@ -76,85 +79,158 @@ module _ (Start : ℕ → Type 0) (p : Problem) (starts : StartBelow (suc (p .n)
       solve c = saved-exactly (systemAt p t) Start (starts-at p t starts .inside) .1
           (record { strategy = strategyOf (c .picks) (suc (p .n)); saves = saves-exactly Start p t (c .picks) (c .none-above) .0 (c .accepted) })
 
--- ---- attainable, decided by picks from the anchor
+-- ---- attainable, decided by picks from a start
 
--- Attainable at t exactly when a solution at t is finite at the anchor.
-pub attainable-exactly : (p : Problem) (t : ℤ) → Attainable p t ↔ Solution (systemAt p t) Anchor
-attainable-exactly p t = (attainable-solution p t, solution-attainable p t)
+-- Attainable at t exactly when a solution at t is finite at the anchor and one at a variable of the second list.
+pub attainable-exactly : (p : Problem) (t : ℤ) → Attainable p t ↔ (Solution (systemAt p t) Anchor × Solution (systemAt p t) (Second p))
+attainable-exactly p t = Iff·trans (attainable-joint p t, joint-attainable p t) (joint-exactly (systemAt p t) Anchor (Second p))
+
+-- Whether a variable of a start is finite in some solution is decided.
+start-solved : {Start : ℕ → Type 0} (p : Problem) (t : ℤ) → StartBelow (suc (p .n)) Start → Solution (systemAt p t) Start ⊎ (Solution (systemAt p t) Start → ⊥)
+start-solved {Start} p t starts = solution-decided (systemAt p t) Start (starts-at p t starts)
+
+-- Without a solution for what some start of classes 1 and 3 means.
+pub record Unsolved (p : Problem) (t : ℤ) : Type 0 where
+  pub start : ℕ
+  pub fits : start ≤ 1
+  pub none : Solution (systemAt p t) (startOf p start) → ⊥
+
+-- Attainable, or without a solution for one of the two starts.
+pub attainable-or-unsolved : (p : Problem) (t : ℤ) → Attainable p t ⊎ Unsolved p t
+unfolding startOf
+attainable-or-unsolved p t = go (start-solved p t (anchor-below p)) (start-solved p t (second-below p))
+  where
+    go : Solution (systemAt p t) Anchor ⊎ (Solution (systemAt p t) Anchor → ⊥)
+        → Solution (systemAt p t) (Second p) ⊎ (Solution (systemAt p t) (Second p) → ⊥) → Attainable p t ⊎ Unsolved p t
+    go (inr d) r = inr (record { start = 0; fits = omega arith; none = d })
+    go (inl a) (inr d) = inr (record { start = 1; fits = omega arith; none = d })
+    go (inl a) (inl b) = inl (attainable-exactly p t .1 (a, b))
+
+-- Not both.
+pub unsolved-unattainable : (p : Problem) (t : ℤ) (start : ℕ) → (Solution (systemAt p t) (startOf p start) → ⊥) → Attainable p t → ⊥
+unfolding startOf
+unsolved-unattainable p t zero d a = d (attainable-exactly p t .0 a .0)
+unsolved-unattainable p t (suc k) d a = d (attainable-exactly p t .0 a .1)
 
 -- Whether a value of at most t is attainable is decided.
 pub attainable-decided : (p : Problem) (t : ℤ) → Attainable p t ⊎ (Attainable p t → ⊥)
-attainable-decided p t = ⊎-elim (λ v. inl (solution-attainable p t v)) (λ d. inr (λ a. d (attainable-solution p t a)))
-    (solution-decided (systemAt p t) Anchor (starts-at p t (anchor-below p)))
+attainable-decided p t = ⊎-elim inl (λ u. inr (unsolved-unattainable p t (u .start) (u .none))) (attainable-or-unsolved p t)
 
--- Not attainable at t exactly when some picks count and leave cycles below zero at t.
+-- Not attainable at t exactly when from some start some picks count and leave cycles below zero at t.
 pub unattainable-exactly : (p : Problem) (t : ℤ)
-    → (Attainable p t → ⊥) ↔ SomePicks (suc (p .m)) (suc (p .n)) (λ picks. PicksCount Anchor p picks × BelowZero Anchor p picks t)
-unattainable-exactly p t = Iff·trans
-    (λ d v. d (solution-attainable p t v), λ d a. d (attainable-solution p t a))
-    (unsolved-exactly Anchor p (anchor-below p) t)
+    → (Attainable p t → ⊥) ↔ SomeStart p (λ Start picks. PicksCount Start p picks × BelowZero Start p picks t)
+unattainable-exactly p t = (
+  λ d. ⊎-elim
+      (λ a. absurd (d a))
+      (λ u. record { start = u .start; fits = u .fits; table = unsolved-exactly (startOf p (u .start)) p (start-below p (u .start)) t .0 (u .none) })
+      (attainable-or-unsolved p t),
+  λ c. unsolved-unattainable p t (c .start) (unsolved-exactly (startOf p (c .start)) p (start-below p (c .start)) t .1 (c .table)),
+)
 
--- Attainable at t exactly when the rows in use have picks that leave cycles at zero or more at t.
+-- A variable of the second list that is finite in some solution at t, as the anchor is.
+record BothSolved (p : Problem) (t : ℤ) : Type 0 where
+  at : ℕ
+  second : Second p at
+  all : AllSolved (systemAt p t) (AnchorAnd at)
+
+attained-second : (p : Problem) (t : ℤ) → Attainable p t → BothSolved p t
+attained-second p t a =
+    let v = attainable-exactly p t .0 a in
+    let k = v .1 .at in
+    let h : Solution (systemAt p t) (Only k) = started-solution (systemAt p t) (Only k) (v .1 .point) (v .1 .solves) k (v .1 .inside) refl (v .1 .finite) in
+    record {
+      at = k;
+      second = v .1 .started;
+      all = either-solved (systemAt p t) Anchor (Only k) .1 (only-solved (systemAt p t) 0 .0 (v .0), only-solved (systemAt p t) k .0 h);
+    }
+
+pub second-attained : (p : Problem) (t : ℤ) {k : ℕ} → Second p k → AllSolved (systemAt p t) (AnchorAnd k) → Attainable p t
+second-attained p t {k} s all =
+    let v = all k (inr refl) in
+    attainable-exactly p t .1 (
+      all 0 (inl refl),
+      started-solution (systemAt p t) (Second p) (v .point) (v .solves) (v .at) (v .inside) (rw (v .started) s) (v .finite),
+    )
+
+-- Attainable at t exactly when the rows in use from the anchor and some variable of the second list have picks that leave cycles at
+-- zero or more at t.
 pub attainable-by-rows : (p : Problem) (t : ℤ)
-    → Attainable p t ↔ SomePicks (suc (p .n)) (suc (p .m)) (λ picks. RowPicksCount Anchor p picks × AtLeastZero Anchor p picks t)
-attainable-by-rows p t = Iff·trans (attainable-exactly p t) (Iff·trans (only-solved (systemAt p t) 0) (solved-by-rows Anchor p (anchor-below p) t))
+    → Attainable p t ↔ SomeSecond p (λ Start picks. RowPicksCount Start p picks × AtLeastZero Start p picks t)
+attainable-by-rows p t = (
+  λ a. let b = attained-second p t a in
+      record { at = b .at; second = b .second; table = solved-by-rows (AnchorAnd (b .at)) p (anchor-and-below p (b .at) (b .second)) t .0 (b .all) },
+  λ c. second-attained p t (c .second) (solved-by-rows (AnchorAnd (c .at)) p (anchor-and-below p (c .at) (c .second)) t .1 (c .table)),
+)
 
 -- ---- class 1
 
--- Every feasible point has a value of at least s exactly when s − 1 is not attainable.
-pub least-exactly : (p : Problem) (s : ℤ)
-    → ((y : Point) → Feasible p y → Problems.whole s ≼ value p y) ↔ (Attainable p (s -ℤ pos 1) → ⊥)
+-- Every feasible point that counts has a value of at least s.
+abbrev pub Least : Problem → ℤ → Type 0
+Least p s = (y : Point) → Feasible p y → Counts p y → Problems.whole s ≼ value p y
+
+-- Exactly when s − 1 is not attainable.
+pub least-exactly : (p : Problem) (s : ℤ) → Least p s ↔ (Attainable p (s -ℤ pos 1) → ⊥)
 least-exactly p s = (
-  λ least a. not-least-and-below s (least (a .point) (a .feasible)) (a .within),
-  λ d y f. ⊎-elim (λ h. h) (λ h. absurd (d (record { point = y; feasible = f; within = h }))) (least-or-below s (value p y)),
+  λ least a. not-least-and-below s (least (a .point) (a .feasible) (a .counts)) (a .within),
+  λ d y f c. ⊎-elim (λ h. h) (λ h. absurd (d (record { point = y; feasible = f; counts = c; within = h }))) (least-or-below s (value p y)),
 )
 
--- A feasible point with a value of at most s, where s − 1 is not attainable, has value s.
-pub value-exactly : (p : Problem) (s : ℤ) (x : Point) → Feasible p x → value p x ≼ Problems.whole s
+-- A feasible point that counts with a value of at most s, where s − 1 is not attainable, has value s.
+pub value-exactly : (p : Problem) (s : ℤ) (x : Point) → Feasible p x → Counts p x → value p x ≼ Problems.whole s
     → (Attainable p (s -ℤ pos 1) → ⊥) → value p x ≡ Problems.whole s
-value-exactly p s x f v d = ≼-antisym v (least-exactly p s .1 d x f)
+value-exactly p s x f c v d = ≼-antisym v (least-exactly p s .1 d x f c)
 
 -- Optimal s exactly when s is attainable and s − 1 is not.
 pub optimal-exactly : (p : Problem) (s : ℤ) → Optimal p s ↔ (Attainable p s × (Attainable p (s -ℤ pos 1) → ⊥))
 optimal-exactly p s = (
   λ o. (
-    record { point = o .point; feasible = o .feasible; within = rw (o .value-is) (≼-refl (Problems.whole s)) },
+    record { point = o .point; feasible = o .feasible; counts = o .counts; within = rw (o .value-is) (≼-refl (Problems.whole s)) },
     least-exactly p s .0 (o .least),
   ),
   λ c. record {
     point = c .0 .point;
     feasible = c .0 .feasible;
-    value-is = value-exactly p s (c .0 .point) (c .0 .feasible) (c .0 .within) (c .1);
+    counts = c .0 .counts;
+    value-is = value-exactly p s (c .0 .point) (c .0 .feasible) (c .0 .counts) (c .0 .within) (c .1);
     least = least-exactly p s .1 (c .1);
   },
 )
 
--- Every feasible point has a value of at least s exactly when some picks count and leave cycles below zero at s − 1.
-pub least-by-picks : (p : Problem) (s : ℤ) → ((y : Point) → Feasible p y → Problems.whole s ≼ value p y)
-    ↔ SomePicks (suc (p .m)) (suc (p .n)) (λ picks. PicksCount Anchor p picks × BelowZero Anchor p picks (s -ℤ pos 1))
+-- It is least exactly when from some start some picks count and leave cycles below zero at s − 1.
+pub least-by-picks : (p : Problem) (s : ℤ) → Least p s ↔ SomeStart p (λ Start picks. PicksCount Start p picks × BelowZero Start p picks (s -ℤ pos 1))
 least-by-picks p s = Iff·trans (least-exactly p s) (unattainable-exactly p (s -ℤ pos 1))
 
--- A feasible point of value s is least exactly when some picks make the list of class 1.
+-- A feasible point of value s is least exactly when some start with some picks makes the list of class 1.
 pub optimal-accepted : (p : Problem) (s : ℤ) (x : Point) → Feasible p x → value p x ≡ Problems.whole s
-    → ((y : Point) → Feasible p y → Problems.whole s ≼ value p y) ↔ SomePicks (suc (p .m)) (suc (p .n)) (AcceptedOptimal Anchor p s x)
+    → Least p s ↔ SomeStart p (λ Start. AcceptedOptimal Start p s x)
 optimal-accepted p s x f v = (
   λ least. let c = least-by-picks p s .0 least in record {
-    picks = c .picks;
-    none-above = c .none-above;
-    accepted = record { feasible = f; value-is = v; picks-count = c .accepted .0; below-zero = c .accepted .1 };
+    start = c .start;
+    fits = c .fits;
+    table = record {
+      picks = c .table .picks;
+      none-above = c .table .none-above;
+      accepted = record { feasible = f; value-is = v; picks-count = c .table .accepted .0; below-zero = c .table .accepted .1 };
+    };
   },
-  λ c. least-by-picks p s .1 (record
-      { picks = c .picks; none-above = c .none-above; accepted = (c .accepted .picks-count, c .accepted .below-zero) }),
+  λ c. least-by-picks p s .1 (record {
+    start = c .start;
+    fits = c .fits;
+    table = record { picks = c .table .picks; none-above = c .table .none-above; accepted = (c .table .accepted .picks-count, c .table .accepted .below-zero) };
+  }),
 )
 
 -- Where class 1 accepts, s is optimal.
-pub accepted-optimal : (p : Problem) (s : ℤ) (x : Point) → SomePicks (suc (p .m)) (suc (p .n)) (AcceptedOptimal Anchor p s x) → Optimal p s
-accepted-optimal p s x c = record {
-  point = x;
-  feasible = c .accepted .feasible;
-  value-is = c .accepted .value-is;
-  least = optimal-accepted p s x (c .accepted .feasible) (c .accepted .value-is) .1 c;
-}
+pub accepted-optimal : (p : Problem) (s : ℤ) (x : Point) → SomeStart p (λ Start. AcceptedOptimal Start p s x) → Optimal p s
+accepted-optimal p s x c =
+    let a = c .table .accepted in
+    record {
+      point = x;
+      feasible = a .feasible;
+      counts = whole-counts (a .value-is);
+      value-is = a .value-is;
+      least = optimal-accepted p s x (a .feasible) (a .value-is) .1 c;
+    }
 
 -- Attainable at t and not at t − k: some value between is optimal.
 descend : (p : Problem) (k : ℕ) (t : ℤ) → Attainable p t → (Attainable p (t -ℤ pos k) → ⊥) → HasOptimal p
@@ -172,20 +248,8 @@ descend p (suc k) t a d = ⊎-elim
 -- Infeasible exactly when nothing is attainable.
 pub infeasible-never : (p : Problem) → Infeasible p ↔ ((t : ℤ) → Attainable p t → ⊥)
 infeasible-never p = (
-  λ h t a. infinite-not-below (≼-trans (h (a .point) (a .feasible)) (a .within)),
-  λ d x f. ⊎-elim (λ h. h) (λ b. absurd (d (b .bound) (record { point = x; feasible = f; within = b .below })))
-      (infinite-or-bounded (value p x)),
-)
-
--- Infeasible exactly when no solution at any t is finite at the anchor,
-never-exactly : (p : Problem) → Infeasible p ↔ ((t : ℤ) → Solution (systemAt p t) Anchor → ⊥)
-never-exactly p = Iff·trans (infeasible-never p) (λ d t v. d t (solution-attainable p t v), λ d t a. d t (attainable-solution p t a))
-
--- and unbounded exactly when at every t some solution is.
-always-exactly : (p : Problem) → Unbounded p ↔ ((t : ℤ) → AllSolved (systemAt p t) Anchor)
-always-exactly p = (
-  λ u t. only-solved (systemAt p t) 0 .0 (attainable-solution p t (u t)),
-  λ all t. solution-attainable p t (only-solved (systemAt p t) 0 .1 (all t)),
+  λ h t a. none-counts h (a .feasible) (a .counts),
+  λ d x f c. absurd (d (counts-bounded c .bound) (record { point = x; feasible = f; counts = c; within = counts-bounded c .below })),
 )
 
 -- ---- from a start, at every t
@@ -237,40 +301,48 @@ module _ (Start : ℕ → Type 0) (p : Problem) (starts : StartBelow (suc (p .n)
   pub solved-always : ((t : ℤ) → AllSolved (systemAt p t) Start) ↔ SomePicks (suc (p .n)) (suc (p .m)) (AcceptedUnbounded Start p)
   solved-always = (λ all. solved-accepted _ _ (within-some p) (le-refl _) (all _), accepted-solved)
 
--- ---- from the anchor
-
--- Infeasible exactly when class 3 accepts some picks.
-pub infeasible-accepted : (p : Problem) → Infeasible p ↔ SomePicks (suc (p .m)) (suc (p .n)) (AcceptedInfeasible Anchor p)
-infeasible-accepted p = Iff·trans (never-exactly p) (unsolved-never Anchor p (anchor-below p))
-
--- Unbounded exactly when class 2 accepts some row picks.
-pub unbounded-accepted : (p : Problem) → Unbounded p ↔ SomePicks (suc (p .n)) (suc (p .m)) (AcceptedUnbounded Anchor p)
-unbounded-accepted p = Iff·trans (always-exactly p) (solved-always Anchor p (anchor-below p))
+-- ---- from the starts of answers
 
 -- Where class 3 accepts, nothing is attainable.
-pub accepted-infeasible : (p : Problem) → SomePicks (suc (p .m)) (suc (p .n)) (AcceptedInfeasible Anchor p) → Infeasible p
-accepted-infeasible p = infeasible-accepted p .1
+pub accepted-infeasible : (p : Problem) → SomeStart p (λ Start. AcceptedInfeasible Start p) → Infeasible p
+accepted-infeasible p c = infeasible-never p .1
+    (λ t. unsolved-unattainable p t (c .start) (accepted-unsolved (startOf p (c .start)) p (start-below p (c .start)) (c .table) t))
 
 -- Where class 2 accepts, everything is attainable.
-pub accepted-unbounded : (p : Problem) → SomePicks (suc (p .n)) (suc (p .m)) (AcceptedUnbounded Anchor p) → Unbounded p
-accepted-unbounded p = unbounded-accepted p .1
+pub accepted-unbounded : (p : Problem) → SomeSecond p (λ Start. AcceptedUnbounded Start p) → Unbounded p
+accepted-unbounded p c t = second-attained p t (c .second) (accepted-solved (AnchorAnd (c .at)) p (anchor-and-below p (c .at) (c .second)) (c .table) t)
 
 -- ---- the numbers that decide
 
 module _ (p : Problem) (L T : ℕ) (within : Within p L) (enough : Enough (p .n) L T) where
+  -- Where T is not attainable, class 3 accepts some start with picks,
+  unattainable-accepted : (Attainable p (upper T) → ⊥) → SomeStart p (λ Start. AcceptedInfeasible Start p)
+  unattainable-accepted d = ⊎-elim
+      (λ a. absurd (d a))
+      (λ u. record {
+        start = u .start;
+        fits = u .fits;
+        table = unsolved-accepted (startOf p (u .start)) p (start-below p (u .start)) L T within enough (u .none);
+      })
+      (attainable-or-unsolved p (upper T))
+
+  -- and where −T − 1 is, class 2 some variable of the second list with row picks.
+  attainable-accepted : Attainable p (lower T) → SomeSecond p (λ Start. AcceptedUnbounded Start p)
+  attainable-accepted a =
+      let b = attained-second p (lower T) a in
+      record {
+        at = b .at;
+        second = b .second;
+        table = solved-accepted (AnchorAnd (b .at)) p (anchor-and-below p (b .at) (b .second)) L T within enough (b .all);
+      }
+
   -- Infeasible exactly when T is not attainable.
   pub infeasible-exactly : Infeasible p ↔ (Attainable p (upper T) → ⊥)
-  infeasible-exactly = (
-    λ h. infeasible-never p .0 h (upper T),
-    λ d. accepted-infeasible p (unsolved-accepted Anchor p (anchor-below p) L T within enough (λ v. d (solution-attainable p (upper T) v))),
-  )
+  infeasible-exactly = (λ h. infeasible-never p .0 h (upper T), λ d. accepted-infeasible p (unattainable-accepted d))
 
   -- Unbounded exactly when −T − 1 is attainable.
   pub unbounded-exactly : Unbounded p ↔ Attainable p (lower T)
-  unbounded-exactly = (
-    λ h. h (lower T),
-    λ a. accepted-unbounded p (solved-accepted Anchor p (anchor-below p) L T within enough (only-solved (systemAt p (lower T)) 0 .0 (attainable-solution p (lower T) a))),
-  )
+  unbounded-exactly = (λ h. h (lower T), λ a. accepted-unbounded p (attainable-accepted a))
 
   -- An optimal value is at most T, and at least −T.
   optimal-not-above : (s : ℤ) → Optimal p s → upper T <ℤ s → ⊥
@@ -293,6 +365,14 @@ module _ (p : Problem) (L T : ℕ) (within : Within p L) (enough : Enough (p .n)
       (le-or-lt s (lower T)))
       (λ (h : upper T <ℤ s). absurd (optimal-not-above s o h))
       (le-or-lt s (upper T))
+
+-- For every problem, whatever its limit: infeasible exactly when class 3 accepts some start with picks,
+pub infeasible-accepted : (p : Problem) → Infeasible p ↔ SomeStart p (λ Start. AcceptedInfeasible Start p)
+infeasible-accepted p = (λ h. unattainable-accepted p _ _ (within-some p) (le-refl _) (infeasible-never p .0 h _), accepted-infeasible p)
+
+-- and unbounded exactly when class 2 accepts some variable of the second list with row picks.
+pub unbounded-accepted : (p : Problem) → Unbounded p ↔ SomeSecond p (λ Start. AcceptedUnbounded Start p)
+unbounded-accepted p = (λ u. attainable-accepted p _ _ (within-some p) (le-refl _) (u _), accepted-unbounded p)
 
 -- ---- one class holds
 
@@ -331,6 +411,6 @@ unbounded-not-optimal p u o = optimal-exactly p (o .at) .0 (o .optimal) .1 (u (o
 -- There is at most one optimal value.
 pub optimal-unique : (p : Problem) (s t : ℤ) → Optimal p s → Optimal p t → s ≡ t
 optimal-unique p s t a b =
-    let h : s ≤ℤ t = whole-below (rw (b .value-is) at (a .least (b .point) (b .feasible))) in
-    let k : t ≤ℤ s = whole-below (rw (a .value-is) at (b .least (a .point) (a .feasible))) in
+    let h : s ≤ℤ t = whole-below (rw (b .value-is) at (a .least (b .point) (b .feasible) (b .counts))) in
+    let k : t ≤ℤ s = whole-below (rw (a .value-is) at (b .least (a .point) (a .feasible) (a .counts))) in
     omega whole

@@ -1,13 +1,14 @@
--- Starts: the anchor, one variable, two starts as one. What holds from a start holds from each part of it, from which no more is
+-- Starts: the anchor, one variable, two starts as one, the variables of the second list, and what an answer's start means. What holds from a start holds from each part of it, from which no more is
 -- reached.
-use Prim.Native.Nat.{ℕ, suc, _≤_, _<_}
+use Prim.Native.Nat.{ℕ, zero, suc, _≤_, _<_}
 use mathlib.Core.Path.{_≡_}
 use mathlib.Core.Logic.{_⊎_, inl, inr, ⊎-elim}
 use native.Mathlib.Omega.{arith}
 use native.Mathlib.Decide.{ℕ-discrete}
 use lib.IntN.{ℤ}
 use Rattle.definitions.specs.Problem.{Problem, Point}
-use Rattle.definitions.specs.Certificate.{Strategy, Anchor, Cycle, PicksCount, BelowZero, ObjectiveUnused, AcceptedOptimal, AcceptedInfeasible, RowPicksCount, AtLeastZero, ObjectiveUnusedByRows, AcceptedUnbounded}
+use Rattle.definitions.specs.Certificate.{Strategy, Anchor, Second, startOf, AnchorAnd, Cycle, PicksCount, BelowZero, ObjectiveUnused, AcceptedOptimal, AcceptedInfeasible, RowPicksCount, AtLeastZero, ObjectiveUnusedByRows, AcceptedUnbounded}
+use Rattle.definitions.proofs.Counts.{second-decided}
 use Rattle.duality.specs.Starts.{Only, Either, StartBelow}
 use Rattle.duality.specs.System.{System, Blocks, Saves}
 use Rattle.duality.proofs.Reach.{reach-map, circuit-map}
@@ -37,6 +38,20 @@ anchor-below p = only-below 0 (omega arith)
 
 pub anchor-inside : (p : Problem) (j : ℕ) → Anchor j → j ≤ p .n
 anchor-inside p j e = omega arith
+
+-- So are the variables of the second list,
+pub second-below : (p : Problem) → StartBelow (suc (p .n)) (Second p)
+second-below p = record { decided = second-decided p; inside = λ j s. omega (arith, s .inside) }
+
+-- whatever an answer's start means,
+pub start-below : (p : Problem) (start : ℕ) → StartBelow (suc (p .n)) (startOf p start)
+unfolding startOf
+start-below p zero = anchor-below p
+start-below p (suc k) = second-below p
+
+-- and the anchor with one of the second list.
+pub anchor-and-below : (p : Problem) (k : ℕ) → Second p k → StartBelow (suc (p .n)) (AnchorAnd k)
+anchor-and-below p k s = either-below (anchor-below p) (only-below k (second-below p .inside k s))
 
 -- ---- from a part of the start
 

@@ -6,7 +6,7 @@ use mathlib.Core.Bool.{cond}
 use lib.Dec.{ltb}
 use Rattle.definitions.specs.Tropical.{Finite}
 use Rattle.definitions.specs.Problem.{Problem}
-use Rattle.definitions.specs.Certificate.{Strategy, Reachable, Leads, RowLeads}
+use Rattle.definitions.specs.Certificate.{Strategy, Second, startOf, AnchorAnd, Reachable, Leads, RowLeads}
 
 -- One pick of the records as one of the theory; `none` stands for no pick.
 unfoldable pub unpick : ℕ → ℕ → ℕ
@@ -35,6 +35,18 @@ pub record SomePicks (many width : ℕ) (Accepted : Strategy → Type 0) : Type 
   pub picks : Strategy
   pub none-above : NoneAbove many width picks
   pub accepted : Accepted picks
+
+-- Classes 1 and 3: some start, 0 or 1, with picks that are accepted from what it means (document 02, 2.4).
+pub record SomeStart (p : Problem) (Accepted : (ℕ → Type 0) → Strategy → Type 0) : Type 0 where
+  pub start : ℕ
+  pub fits : start ≤ 1
+  pub table : SomePicks (suc (p .m)) (suc (p .n)) (Accepted (startOf p start))
+
+-- Class 2: some variable of the second list with row picks that are accepted from it and the anchor.
+pub record SomeSecond (p : Problem) (Accepted : (ℕ → Type 0) → Strategy → Type 0) : Type 0 where
+  pub at : ℕ
+  pub second : Second p at
+  pub table : SomePicks (suc (p .n)) (suc (p .m)) (Accepted (AnchorAnd at))
 
 -- Two strategies of variables agree at every variable that the first reaches from the start.
 abbrev pub AgreeReached : (ℕ → Type 0) → Problem → Strategy → Strategy → Type 0
