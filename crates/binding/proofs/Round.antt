@@ -169,7 +169,7 @@ module _ {p : Problem} {s : ℤ} {x : Point} {picks : Strategy} (turn : ℕ → 
     twice : (i k : ℕ) (h : i ≤ last) (g : k ≤ last) → back ≤ i → i < k → steps i h .row ≡ p .m → steps k g .row ≡ p .m → ⊥
     twice i k h g b l e f =
         let q : turn (suc i) ≡ turn (suc k) =
-            row-yields-one (subst (λ (r : ℕ). RowYields p x r (turn (suc i))) e (yields i h)) (subst (λ (r : ℕ). RowYields p x r (turn (suc k))) f (yields k g)) in
+        row-yields-one (subst (λ (r : ℕ). RowYields p x r (turn (suc i))) e (yields i h)) (subst (λ (r : ℕ). RowYields p x r (turn (suc k))) f (yields k g)) in
         ⊎-elim
         (λ (d : last ≤ k). let z : k ≡ last = omega arith in new back (suc i) (omega arith) (omega arith) (sym (q ∙ rw z again)))
         (λ (d : k < last). new (suc i) (suc k) (omega arith) (omega arith) q)

@@ -93,7 +93,7 @@ module _ {Start : ℕ → Type 0} {p : Problem} {s : ℤ} {x : Point} {picks : S
       let z : fin (raise p s i) ≡ fin (raise p s i) = refl in
       let q = plus-is (plus-is (g .0 .is) (g .1 .is)) z in
       let r : plus (side (p .n) (p .right i) x) (fin (raise p s i)) ≡ fin ((g .0 .whole +ℤ g .1 .whole) +ℤ raise p s i) =
-          subst (λ (z : Trop). plus z (fin (raise p s i)) ≡ fin ((g .0 .whole +ℤ g .1 .whole) +ℤ raise p s i)) (y .row-yields .latest) q in
+      subst (λ (z : Trop). plus z (fin (raise p s i)) ≡ fin ((g .0 .whole +ℤ g .1 .whole) +ℤ raise p s i)) (y .row-yields .latest) q in
       record {
         row = i;
         picked = y .picked;
