@@ -1,0 +1,5 @@
+pub mod Tables
+pub mod Latest
+pub mod Reached
+pub mod Rules
+pub mod Turns

@@ -1,0 +1,5 @@
+// The rules behind an accepted answer, and the binding round of a least span. Document 02, 2.5.
+pub mod latest;
+pub mod reached;
+pub mod rules;
+pub mod turns;
