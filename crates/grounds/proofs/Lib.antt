@@ -1,2 +1,4 @@
 pub mod Sums
 pub mod Picking
+pub mod Reaching
+pub mod Turning

@@ -61,7 +61,7 @@ module _ {coefficient : ℕ → ℕ} {stamps : List ℕ} where
       → best < sum → FirstLatest coefficient stamps (k + 1) k
   latest-moves {k} {r} best sum f e d h =
       let more : sumAt coefficient stamps r ⊑ sumAt coefficient stamps k =
-          subst (λ (x : Trop). x ⊑ sumAt coefficient stamps k) e (subst (λ (x : Trop). tropOf best ⊑ x) d (trop-order best sum .1 (omega arith))) in
+      subst (λ (x : Trop). x ⊑ sumAt coefficient stamps k) e (subst (λ (x : Trop). tropOf best ⊑ x) d (trop-order best sum .1 (omega arith))) in
       record {
         inside = omega arith;
         latest = λ l b. ⊎-elim
@@ -70,7 +70,7 @@ module _ {coefficient : ℕ → ℕ} {stamps : List ℕ} where
             (below-or-last l k b);
         first = λ l b q.
             let back : tropOf sum ⊑ tropOf best =
-                subst (λ (x : Trop). x ⊑ tropOf best) (sym d) (subst (λ (x : Trop). sumAt coefficient stamps k ⊑ x) (sym e) (⊑-trans q (f .latest l b))) in
+            subst (λ (x : Trop). x ⊑ tropOf best) (sym d) (subst (λ (x : Trop). sumAt coefficient stamps k ⊑ x) (sym e) (⊑-trans q (f .latest l b))) in
             omega (arith, trop-order sum best .0 back);
       }
 

@@ -1,3 +1,5 @@
+use native.Mathlib.Omega.{arith}
+use Rattle.grounds.proofs.Reaching.{picks-reached}
 use borrow.Author.Needs.{needs}
 use Rattle.grounds.proofs.reached.reached_moments.Statement.{statement}
 use Rattle.grounds.proofs.reached.reached_moments.Tie as tie
@@ -9,7 +11,7 @@ use Rattle.reach.proofs.reach.Reads as reach-reads
 
 -- src/reached.rt:68:16
 pick-arcs-requires : tie.Need-pick-arcs-requires
-pick-arcs-requires c κs = search needs
+pick-arcs-requires c κs = record { length-is = c .pre .2 .length-is; none-above = λ k. omega (arith, c .pre .2 .none-above k) }
 
 -- src/reached.rt:69:9
 start-marks-requires : tie.Need-start-marks-requires
@@ -25,7 +27,9 @@ reach-requires c κs = search needs
 
 -- src/reached.rt:58:1
 returns : tie.Need-returns
-returns c = search needs
+returns c =
+    let start = c .before .before .before .before in
+    λ p held. picks-reached (start .pre .0) (start .pre .1) held (start .pre .2) (c .before .before .before .pick-arcs .ensures) (c .before .before .start-marks .ensures .1 p _ (start .pre .0) held) (c .reach .ensures)
 
 pub reached-moments-spec : {M : Type 1} → statement M
 reached-moments-spec =

@@ -1,3 +1,4 @@
+use Rattle.grounds.proofs.Reaching.{starts-anchor, starts-second}
 use borrow.Author.Needs.{needs}
 use Rattle.grounds.proofs.reached.start_marks.Statement.{statement}
 use Rattle.grounds.proofs.reached.start_marks.Tie as tie
@@ -13,7 +14,7 @@ anchor-requires c κs = search needs
 
 -- src/reached.rt:51:9
 returns : tie.Need-returns
-returns c = search needs
+returns c = starts-anchor _ (c .before .if1 .taken) (c .anchor .ensures)
 
 -- src/reached.rt:53:18
 row-at-requires : tie.Need-row-at-requires
@@ -21,11 +22,11 @@ row-at-requires c κs = search needs
 
 -- src/reached.rt:54:5
 marks-of-requires : tie.Need-marks-of-requires
-marks-of-requires c κs = search needs
+marks-of-requires c κs = c .before .row-at .ensures .size-is
 
 -- src/reached.rt:46:1
 returns-2 : tie.Need-returns-2
-returns-2 c = search needs
+returns-2 c = starts-second _ (c .before .before .before .if1 .left) (c .before .before .row-at .ensures) (c .marks-of .ensures)
 
 pub start-marks-spec : {M : Type 1} → statement M
 start-marks-spec =

@@ -1,3 +1,8 @@
+use native.Mathlib.Omega.{arith}
+use Prim.Native.Nat.{ℕ, _+_, _-_, _*_, _≤_, _<_}
+use mathlib.Core.Logic.{⊎-elim}
+use Rattle.grounds.specs.Rules.{PickedListed}
+use Rattle.grounds.proofs.Picking.{picked-none, picked-with, picked-without, picked-end}
 use borrow.Author.Needs.{needs}
 use Rattle.grounds.proofs.rules.picked_rules.Statement.{statement}
 use Rattle.grounds.proofs.rules.picked_rules.Tie as tie
@@ -6,14 +11,14 @@ use Rattle.grounds.proofs.rules.picked_rules.Lts as lts
 use Rattle.grounds.proofs.rules.is_picked.Reads as is-picked-reads
 
 abbrev Inv-loop : tie.InvT-loop
-Inv-loop marks picks width m numbers₀ count₀ i₀ numbers count i = ?
+Inv-loop marks picks width m numbers₀ count₀ i₀ numbers count i = (i ≤ m) × PickedListed marks picks width i numbers count
 
 abbrev μ-loop : tie.MeasureT-loop
-μ-loop marks picks width m numbers₀ count₀ i₀ numbers count i = ?
+μ-loop marks picks width m numbers₀ count₀ i₀ numbers count i = m - i
 
 -- src/rules.rt:37:5
 loop-holds : tie.Need-loop-holds Inv-loop μ-loop
-loop-holds c = search needs
+loop-holds c = (omega arith, picked-none)
 
 -- src/rules.rt:38:43
 add-is-picked : tie.Need-add-is-picked Inv-loop μ-loop
@@ -49,11 +54,18 @@ loop-less c = search needs
 
 -- src/rules.rt:37:5
 loop-again : tie.Need-loop-again Inv-loop μ-loop
-loop-again c = search needs
+loop-again c =
+    let turn = c .before .before .before .loop in (
+      omega arith,
+      ⊎-elim
+          (λ w. rw (w .1, w .2) (picked-with (turn .inv .1) (omega arith) (c .before .is-picked .ensures .yes (w .0 .taken))))
+          (λ w. rw (w .1, w .2) (picked-without (turn .inv .1) (c .before .is-picked .ensures .no (w .0 .left))))
+          (c .if1 .came),
+    )
 
 -- src/rules.rt:31:1
 returns : tie.Need-returns Inv-loop μ-loop
-returns c = search needs
+returns c = picked-end (c .before .loop .inv .1) (omega arith) (omega arith)
 
 pub picked-rules-spec : {M : Type 1} → statement M
 picked-rules-spec =
