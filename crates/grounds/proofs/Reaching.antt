@@ -26,10 +26,10 @@ use Rattle.grounds.specs.Tables.{rowIn, Held}
 use Rattle.grounds.specs.Reached.{pickArc, arcCell}
 
 -- A number in the table is not blank exactly when the coefficient is a number.
-offset-finite : {k : ℕ} {x : Trop} → tropOf k ≡ x → 0 < k → Finite x
+pub offset-finite : {k : ℕ} {x : Trop} → tropOf k ≡ x → 0 < k → Finite x
 offset-finite {k} e h = subst Finite e (record { whole = _; is = trop-fin k h })
 
-finite-offset : {k : ℕ} {x : Trop} → tropOf k ≡ x → Finite x → 0 < k
+pub finite-offset : {k : ℕ} {x : Trop} → tropOf k ≡ x → Finite x → 0 < k
 finite-offset {k} e f = trop-read k (e ∙ f .is) .0
 
 -- ---- arcs

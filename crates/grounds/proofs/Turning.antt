@@ -23,11 +23,11 @@ use Rattle.grounds.proofs.Sums.{latest-as}
 
 -- ---- the first to come
 
-first-of-none : (moments : List ℕ) (count j : ℕ) → count ≡ 0 → firstOf moments count j ≡ j
+pub first-of-none : (moments : List ℕ) (count j : ℕ) → count ≡ 0 → firstOf moments count j ≡ j
 unfolding firstOf
 first-of-none moments count j e = rw e refl
 
-first-of-some : (moments : List ℕ) (count j : ℕ) → 0 < count → firstOf moments count j ≡ getD moments 0 0
+pub first-of-some : (moments : List ℕ) (count j : ℕ) → 0 < count → firstOf moments count j ≡ getD moments 0 0
 unfolding firstOf
 first-of-some moments count j h = go (eqb count 0) refl
   where

@@ -3,3 +3,4 @@ pub mod Latest
 pub mod Reached
 pub mod Rules
 pub mod Turns
+pub mod Rounds

@@ -1,5 +1,6 @@
 // The rules behind an accepted answer, and the binding round of a least span. Document 02, 2.5.
 pub mod latest;
 pub mod reached;
+pub mod round;
 pub mod rules;
 pub mod turns;
