@@ -4,3 +4,4 @@ pub mod Reached
 pub mod Rules
 pub mod Turns
 pub mod Rounds
+pub mod Outcome
