@@ -76,7 +76,7 @@ module _ {p : Problem} {right : List ℕ} (stamps : List ℕ) {n m : ℕ} (held 
     offset-finite refl (w .1),
   )
 
-  second-met : {k : ℕ} → Second p k → Finite (stampsPoint stamps k) → (k ≤ n) × MetAt (rowIn right m) stamps k
+  pub second-met : {k : ℕ} → Second p k → Finite (stampsPoint stamps k) → (k ≤ n) × MetAt (rowIn right m) stamps k
   unfolding stampsPoint
   second-met {k} s f =
       let h : k ≤ n = omega (arith, s .inside, held .n-is) in

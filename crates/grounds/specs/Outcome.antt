@@ -4,7 +4,7 @@ use mathlib.Core.Path.{_≡_}
 use mathlib.Core.List.{List}
 use mathlib.Core.Logic.{_⊎_}
 use lib.ListN.{getD, take}
-use Rattle.definitions.specs.Limits.{highest-n, highest-m, lead-limit, class-optimal, class-infeasible}
+use Rattle.definitions.specs.Limits.{highest-n, highest-m, lead-limit, stride, class-optimal, class-infeasible}
 use Rattle.definitions.specs.Problem.{Problem}
 use Rattle.definitions.specs.AnswerRecord.{Answer}
 use Rattle.definitions.specs.ProblemRecord.{problemOf}
@@ -30,6 +30,12 @@ toldOf (Least count turns) rules round = of-least (take count rules) (take turns
 
 abbrev pub reasonsOf : Reasons → Definitions.Reasons
 reasonsOf r = toldOf (r .told) (r .rules) (r .round)
+
+-- No more rules and moments are told than there can be.
+unfoldable pub countsFit : Told → Type 0
+countsFit (Refused k) = Unit
+countsFit (None count) = count ≤ highest-m
+countsFit (Least count turns) = (count ≤ highest-m) × (turns ≤ stride)
 
 -- The number with which the checker refused, 0 where it accepted.
 unfoldable pub refusedBy : Verdict → ℕ

@@ -1,4 +1,5 @@
 // The rules behind an accepted answer, and the binding round of a least span. Document 02, 2.5.
+pub mod input;
 pub mod latest;
 pub mod reached;
 pub mod reasons;

@@ -6,7 +6,7 @@ ghost use Rattle.definitions.specs.Problem.{Problem};
 ghost use Rattle.definitions.specs.AnswerRecord.{Answer};
 ghost use Rattle.definitions.specs.ProblemRecord.{meant};
 ghost use Rattle.definitions.specs.Reasons.{Reasoned, refused as turned};
-ghost use Rattle.grounds.specs.Outcome.{reasonsOf, refusedBy, Passed, Founded, Certifies, Certified, Tells};
+ghost use Rattle.grounds.specs.Outcome.{reasonsOf, countsFit, refusedBy, Passed, Founded, Certifies, Certified, Tells};
 use crate::reached::reached_moments;
 use crate::round::binding_round;
 use crate::rules::picked_rules;
@@ -42,7 +42,7 @@ pub struct Reasons {
 
 // A refusal. Public for `input`.
 pub fn refused(number: usize) -> Reasons
-    ensures { λ r. ⌜ reasonsOf r ≡ turned number ⌝ }
+    ensures { λ r. ⌜ (reasonsOf r ≡ turned number) × countsFit (r .told) ⌝ }
 {
     let told = Told::Refused(number);
     let rules = [0usize; ROWS];
@@ -71,7 +71,7 @@ fn tell(
     head: Head,
 ) -> Reasons
     requires { ⌜ Certified (now right) (now stamps) (now picks) n m head ⌝ }
-    ensures { λ r. ⌜ ((p : Problem) → (a : Answer) → Certifies p a (now (right .entry)) (now (stamps .entry)) (now (picks .entry)) n m head → Tells p a (reasonsOf r)) ⌝ }
+    ensures { λ r. ⌜ ((p : Problem) → (a : Answer) → Certifies p a (now (right .entry)) (now (stamps .entry)) (now (picks .entry)) n m head → Tells p a (reasonsOf r)) × countsFit (r .told) ⌝ }
 {
     let marks = reached_moments(right, picks, n, m, head.start);
     let behind = picked_rules(&marks, picks, n + 1, m);
@@ -90,7 +90,7 @@ fn tell(
 // The reasons for an accepted answer of class 1 or 3: both records are read, which the checker has not refused.
 fn read_reasons(problem: &[u8], answer: &[u8]) -> Reasons
     requires { ⌜ Founded (meant (now problem)) (now answer) ⌝ }
-    ensures { λ r. ⌜ Reasoned (meant (now (problem .entry))) (now (answer .entry)) (reasonsOf r) ⌝ }
+    ensures { λ r. ⌜ Reasoned (meant (now (problem .entry))) (now (answer .entry)) (reasonsOf r) × countsFit (r .told) ⌝ }
 {
     let mut left = [0u32; TABLE];
     let mut right = [0u32; TABLE];
@@ -110,7 +110,7 @@ fn read_reasons(problem: &[u8], answer: &[u8]) -> Reasons
 // The reasons for an accepted answer of any class: 16 for bottomless. Public for `input`.
 pub fn accepted_reasons(problem: &[u8], answer: &[u8], class: u64) -> Reasons
     requires { ⌜ Passed (meant (now problem)) (now answer) class ⌝ }
-    ensures { λ r. ⌜ Reasoned (meant (now (problem .entry))) (now (answer .entry)) (reasonsOf r) ⌝ }
+    ensures { λ r. ⌜ Reasoned (meant (now (problem .entry))) (now (answer .entry)) (reasonsOf r) × countsFit (r .told) ⌝ }
 {
     if class == UNBOUNDED {
         return refused(REFUSED_BOTTOMLESS);
@@ -120,7 +120,7 @@ pub fn accepted_reasons(problem: &[u8], answer: &[u8], class: u64) -> Reasons
 
 // The reasons for the bytes of a problem and of an answer; no bytes mean the idle day.
 pub fn reasons(problem: &[u8], answer: &[u8]) -> Reasons
-    ensures { λ r. ⌜ Reasoned (meant (now (problem .entry))) (now (answer .entry)) (reasonsOf r) ⌝ }
+    ensures { λ r. ⌜ Reasoned (meant (now (problem .entry))) (now (answer .entry)) (reasonsOf r) × countsFit (r .told) ⌝ }
 {
     let verdict = check(problem, answer);
     let Verdict::Accepted(class, _) = verdict else {

@@ -77,7 +77,7 @@ pub fn binding_round(
     start: u64,
 ) -> Round
     requires { ⌜ Binding (now right) (now stamps) (now picks) n m start ⌝ }
-    ensures { λ r. ⌜ ((p : Problem) → Held p (now (right .entry)) n m → start ≤ 1 → BindingRound p (stampsPoint (now (stamps .entry))) (strategyOf (now (picks .entry))) start (take (r .count) (r .moments))) ⌝ }
+    ensures { λ r. ⌜ ((p : Problem) → Held p (now (right .entry)) n m → start ≤ 1 → BindingRound p (stampsPoint (now (stamps .entry))) (strategyOf (now (picks .entry))) start (take (r .count) (r .moments))) × (r .count ≤ stride) ⌝ }
 {
     let j = beginning(right, stamps, n, m, start);
     round_of(moment_turn(right, stamps, picks, n, [0usize; STRIDE], j, n + 1))

@@ -27,7 +27,10 @@ round-of-requires c κs = let m = c .moment-turn .ensures in (omega (arith, m .m
 
 -- src/round.rt:71:1
 returns : tie.Need-returns
-returns c = binding-is (c .before .before .before .pre) (c .before .before .beginning .ensures) (c .before .moment-turn .ensures) (c .round-of .ensures)
+returns c = (
+  binding-is (c .before .before .before .pre) (c .before .before .beginning .ensures) (c .before .moment-turn .ensures) (c .round-of .ensures),
+  omega (arith, c .round-of .ensures .count-is, c .before .moment-turn .ensures .most, c .before .before .before .pre .going .n-most),
+)
 
 pub binding-round-spec : {M : Type 1} → statement M
 binding-round-spec =
