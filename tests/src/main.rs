@@ -36,11 +36,12 @@ fn main() {
     let long = words.iter().any(|word| word == "--long");
     words.retain(|word| word != "--long");
     println!("tests from outside, on {TRIED}");
-    let all: [Suite; 16] = [
+    let all: [Suite; 17] = [
         ("examples", suites::examples::run),
         ("all-small", suites::small::every_small_problem),
         ("random-small", suites::small::random_problems),
         ("all-tables", suites::tables::run),
+        ("starts", suites::starts::run),
         ("checker", suites::checker::run),
         ("bytes", suites::bytes::run),
         ("fields", suites::fields::run),

@@ -25,6 +25,7 @@ mod archive {
         pub fn span_write(
             class: u64,
             span: u64,
+            start: u64,
             stamps: *const u64,
             stamps_count: usize,
             picks: *const u64,
@@ -61,7 +62,7 @@ pub fn check(problem: &[u8], answer: &[u8]) -> u64 {
 }
 
 /// Reads an answer record: the refusal, 255 where fewer than [`STAMPS`] and [`PICKS`] places are lent, or
-/// 256 × class + 2³² × the span's offset number.
+/// 256 × class + 2¹⁶ × start + 2³² × the span's offset number.
 pub fn read(record: &[u8], n: u64, m: u64, stamps: &mut [u64], picks: &mut [u64]) -> u64 {
     // SAFETY: all parts are valid for their lengths, and each `&mut` overlaps nothing.
     unsafe {
@@ -79,12 +80,23 @@ pub fn read(record: &[u8], n: u64, m: u64, stamps: &mut [u64], picks: &mut [u64]
 }
 
 /// Writes an answer record: the refusal, or 256 × the record's size.
-pub fn write(class: u64, span: u64, stamps: &[u64], picks: &[u64], n: u64, m: u64, buffer: &mut [u8]) -> u64 {
+#[allow(clippy::too_many_arguments)]
+pub fn write(
+    class: u64,
+    span: u64,
+    start: u64,
+    stamps: &[u64],
+    picks: &[u64],
+    n: u64,
+    m: u64,
+    buffer: &mut [u8],
+) -> u64 {
     // SAFETY: all parts are valid for their lengths, and the `&mut` overlaps nothing.
     unsafe {
         archive::span_write(
             class,
             span,
+            start,
             stamps.as_ptr(),
             stamps.len(),
             picks.as_ptr(),
