@@ -25,6 +25,13 @@ use Rattle.checker.proofs.LongInputs.{read-small}
 use Rattle.grounds.specs.Outcome.{refusedBy}
 use Rattle.grounds.proofs.Reading.{reasoned-refused}
 
+-- The parts of an input, cut where the definition cuts.
+pub reasoned-parts :
+    (s : List ℕ) {cut : ℕ} {r : Definitions.Reasons} → cut ≡ cutPlace s → Reasoned (meant (take cut s)) (drop cut s) r
+    → Reasoned (meant (problemPart s)) (answerPart s) r
+unfolding problemPart answerPart
+reasoned-parts s e d = rw (← e) d
+
 -- The two parts of an input make up all of it.
 parts-long : (input : List ℕ) → length input ≤ length (problemPart input) + length (answerPart input)
 unfolding problemPart answerPart

@@ -30,11 +30,13 @@ use Rattle.answer_reader.specs.declared.answer.AnswerHead.{AnswerHead}
 use Rattle.answer_reader.specs.declared.answer.AnswerHead.the-variants as Heads
 use Rattle.answer_reader.specs.AnswerReading.{headOf, AnswerRead}
 use Rattle.answer_reader.proofs.Heads.{refused-by}
-use Rattle.checker.specs.Outcome.{Meant}
+use Rattle.checker.specs.Outcome.{Meant, verdictOf}
+use Rattle.checker.specs.declared.check.Verdict.{Verdict}
+use Rattle.checker.specs.declared.check.Verdict.the-variants as Codes
 use Rattle.checker.proofs.Answers.{head-read, read-means, read-formed}
 use Rattle.grounds.specs.Tables.{Held}
 use Rattle.grounds.specs.Outcome as Outcome
-use Rattle.grounds.specs.Outcome.{Passed, Founded, Certifies, Tells}
+use Rattle.grounds.specs.Outcome.{refusedBy, Passed, Founded, Certifies, Tells}
 
 -- ---- verdicts
 
@@ -46,9 +48,22 @@ passed (uncertified e d) q = let z : _≡_ {A = ℕ} 0 1 = cc in absurd (omega a
 
 -- and one that refuses: the tool refuses with the same number.
 pub reasoned-refused : {p a : List ℕ} {v : Verdicts.Verdict} {k : ℕ} → Judged p a v → v ≡ Verdicts.refused k → Reasoned p a (Definitions.refused k)
-reasoned-refused (turned-away {k = j} e) q = let z : suc j ≡ _ = cc in rw (← z) (Definitions.turned-away e)
-reasoned-refused (certified e h) q = let z : _≡_ {A = ℕ} 0 1 = cc in absurd (omega arith)
-reasoned-refused (uncertified e d) q = let z : 14 ≡ _ = cc in rw (← z) (Definitions.uncertified e d)
+reasoned-refused {k = k} (turned-away {k = j} e) q = let z : suc j ≡ k = cc in rw (← z) (Definitions.turned-away e)
+reasoned-refused {k = k} (certified e h) q = let z : _≡_ {A = ℕ} 0 1 = cc in absurd (omega arith)
+reasoned-refused {k = k} (uncertified e d) q = let z : 14 ≡ k = cc in rw (← z) (Definitions.uncertified e d)
+
+-- The same of the checker's answer in code.
+pub accepted-verdict : {p a : List ℕ} (v : Verdict) {class span : ℕ} → Judged p a (verdictOf v) → v ≡ Codes.Accepted class span → Passed p a class
+unfolding verdictOf
+accepted-verdict v j e = passed j (ap verdictOf e)
+
+pub refused-verdict :
+    {p a : List ℕ} (v : Verdict) {k number : ℕ} {r : Definitions.Reasons} → Judged p a (verdictOf v) → v ≡ Codes.Refused k → number ≡ refusedBy v
+    → r ≡ Definitions.refused number → Reasoned p a r
+unfolding verdictOf refusedBy
+refused-verdict v {k} {number} j e f g =
+    let d : number ≡ k = f ∙ ap refusedBy e in
+    rw (g, d) (reasoned-refused j (ap verdictOf e))
 
 -- An accepted answer is bottomless, or least or none.
 pub reasoned-bottomless : {p a : List ℕ} {class : ℕ} → Passed p a class → class ≡ class-unbounded → Reasoned p a (Definitions.refused Definitions.bottomless-refused)

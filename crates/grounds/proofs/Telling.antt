@@ -67,7 +67,7 @@ parts-live n stamps marks j b h k = go (ltb n j) refl (eqb (getD stamps j 0) 0) 
   where
     go : (b : Bool) → ltb n j ≡ b → (d : Bool) → eqb (getD stamps j 0) 0 ≡ d → 0 < cond b 0 (cond d 0 (getD marks j 0))
     go true e d f = absurd (omega (arith, ltb-true n j e))
-    go false e true f = absurd (omega (arith, eqb-true _ 0 f))
+    go false e true f = absurd (omega (arith, eqb-true (getD stamps j 0) 0 f))
     go false e false f = k
 
 -- ---- an accepted answer of class 1 or 3
@@ -102,7 +102,8 @@ module _ {p : Problem} {a : Answer} {right stamps picks : List ℕ} {n m : ℕ} 
     -- The rules that marked variables pick are those behind the answer.
     pub rules-behind : {numbers : List ℕ} {count : ℕ} → PickedListed marks picks (n + 1) m numbers count → RulesBehind p a (take count numbers)
     unfolding strategyOf
-    rules-behind l = rw (c .held .m-is) (listed-as on back (l .listed))
+    rules-behind {numbers} {count} l =
+        subst (λ (k : ℕ). Listed (Behind p a) k (take count numbers)) (sym (c .held .m-is)) (listed-as on back (l .listed))
       where
         on : (v : ℕ) → PickedBy marks picks (n + 1) v → Behind p a v
         on v b =
@@ -196,7 +197,7 @@ module _ {p : Problem} {a : Answer} {right stamps picks : List ℕ} {n m : ℕ} 
         → ((p : Problem) → Held p right n m → head .start ≤ 1 → Round p (stampsPoint stamps) (strategyOf picks) (head .start) round)
         → Tells p a (Definitions.of-least (take count numbers) round)
     tells-least {round = round} d l r =
-        Tells.least
+        Tells.least {round = round}
         (⊎-elim (λ e. c .meant .class-is ∙ e) (λ e. absurd (d e)) (c .some))
         (rules-behind l)
         (rw (c .meant .start-is, points, strategies) (r p (c .held) start-most))

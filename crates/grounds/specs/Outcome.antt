@@ -19,7 +19,7 @@ use Rattle.checker.specs.declared.check.Verdict.the-variants as Verdicts
 use Rattle.grounds.specs.Tables.{Held}
 use Rattle.grounds.specs.declared.reasons.Told.{Told}
 use Rattle.grounds.specs.declared.reasons.Told.the-variants.{Refused, None, Least}
-use Rattle.grounds.specs.declared.reasons.Reasons.{Reasons}
+use Rattle.grounds.specs.declared.reasons.Grounds.{Grounds}
 
 -- Document 02's answer for each case: refused with the number; the rules behind none; the rules and the round behind least. The counts say
 -- how many of each are told.
@@ -28,7 +28,7 @@ toldOf (Refused k) rules round = Definitions.refused k
 toldOf (None count) rules round = of-none (take count rules)
 toldOf (Least count turns) rules round = of-least (take count rules) (take turns round)
 
-abbrev pub reasonsOf : Reasons → Definitions.Reasons
+abbrev pub reasonsOf : Grounds → Definitions.Reasons
 reasonsOf r = toldOf (r .told) (r .rules) (r .round)
 
 -- No more rules and moments are told than there can be.

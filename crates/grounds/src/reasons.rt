@@ -34,20 +34,20 @@ pub enum Told {
 }
 
 // What is told, the numbers of the rules, and the moments of the round in turn; the counts say how many of each are told.
-pub struct Reasons {
+pub struct Grounds {
     pub told: Told,
     pub rules: [usize; ROWS],
     pub round: [usize; STRIDE],
 }
 
 // A refusal. Public for `input`.
-pub fn refused(number: usize) -> Reasons
+pub fn refused(number: usize) -> Grounds
     ensures { λ r. ⌜ (reasonsOf r ≡ turned number) × countsFit (r .told) ⌝ }
 {
     let told = Told::Refused(number);
     let rules = [0usize; ROWS];
     let round = [0usize; STRIDE];
-    Reasons { told, rules, round }
+    Grounds { told, rules, round }
 }
 
 // The number with which the checker refused, 0 where it accepted. Public for `input`.
@@ -69,7 +69,7 @@ fn tell(
     n: usize,
     m: usize,
     head: Head,
-) -> Reasons
+) -> Grounds
     requires { ⌜ Certified (now right) (now stamps) (now picks) n m head ⌝ }
     ensures { λ r. ⌜ ((p : Problem) → (a : Answer) → Certifies p a (now (right .entry)) (now (stamps .entry)) (now (picks .entry)) n m head → Tells p a (reasonsOf r)) × countsFit (r .told) ⌝ }
 {
@@ -79,16 +79,16 @@ fn tell(
     if head.class == INFEASIBLE {
         let told = Told::None(behind.count);
         let round = [0usize; STRIDE];
-        return Reasons { told, rules, round };
+        return Grounds { told, rules, round };
     }
     let binding = binding_round(right, stamps, picks, n, m, head.start);
     let told = Told::Least(behind.count, binding.count);
     let round = binding.moments;
-    Reasons { told, rules, round }
+    Grounds { told, rules, round }
 }
 
 // The reasons for an accepted answer of class 1 or 3: both records are read, which the checker has not refused.
-fn read_reasons(problem: &[u8], answer: &[u8]) -> Reasons
+fn read_reasons(problem: &[u8], answer: &[u8]) -> Grounds
     requires { ⌜ Founded (meant (now problem)) (now answer) ⌝ }
     ensures { λ r. ⌜ Reasoned (meant (now (problem .entry))) (now (answer .entry)) (reasonsOf r) × countsFit (r .told) ⌝ }
 {
@@ -108,7 +108,7 @@ fn read_reasons(problem: &[u8], answer: &[u8]) -> Reasons
 }
 
 // The reasons for an accepted answer of any class: 16 for bottomless. Public for `input`.
-pub fn accepted_reasons(problem: &[u8], answer: &[u8], class: u64) -> Reasons
+pub fn accepted_reasons(problem: &[u8], answer: &[u8], class: u64) -> Grounds
     requires { ⌜ Passed (meant (now problem)) (now answer) class ⌝ }
     ensures { λ r. ⌜ Reasoned (meant (now (problem .entry))) (now (answer .entry)) (reasonsOf r) × countsFit (r .told) ⌝ }
 {
@@ -119,7 +119,7 @@ pub fn accepted_reasons(problem: &[u8], answer: &[u8], class: u64) -> Reasons
 }
 
 // The reasons for the bytes of a problem and of an answer; no bytes mean the idle day.
-pub fn reasons(problem: &[u8], answer: &[u8]) -> Reasons
+pub fn reasons(problem: &[u8], answer: &[u8]) -> Grounds
     ensures { λ r. ⌜ Reasoned (meant (now (problem .entry))) (now (answer .entry)) (reasonsOf r) × countsFit (r .told) ⌝ }
 {
     let verdict = check(problem, answer);

@@ -9,7 +9,7 @@ ghost use Rattle.definitions.specs.Reasons.{spaced, text-rules, text-round, rea
 ghost use Rattle.printing.specs.Text.{Putting};
 ghost use Rattle.grounds.specs.Outcome.{reasonsOf, countsFit};
 ghost use Rattle.reasons.specs.Lines.{number-most, lines-most};
-use grounds::reasons::Reasons;
+use grounds::reasons::Grounds;
 use grounds::reasons::Told;
 use output::writer::write_verdict;
 use printing::text::copy;
@@ -58,7 +58,7 @@ fn put_round(lines: &mut [u8], at: usize, round: &[usize; STRIDE], count: usize)
 }
 
 // Puts the lines of the reasons at the front of a buffer, and gives their size.
-pub fn put_lines(lines: &mut [u8], reasons: Reasons) -> usize
+pub fn put_lines(lines: &mut [u8], reasons: Grounds) -> usize
     requires { ⌜ (length (now lines) ≡ lines-most) × countsFit (reasons .told) ⌝ }
     ensures { λ r. ⌜ (r ≤ lines-most) × ((reasonsOf reasons ≡ refused 0 → ⊥) → take r (now (lines .exit)) ≡ reasonsLines (reasonsOf reasons)) ⌝ }
 {
