@@ -81,8 +81,7 @@ tell-requires c κs =
 returns-3 : tie.Need-returns-3
 returns-3 c =
     let problem : Bytes (c .before .before .before .before .before .before .before .before .before .before .before .before .before .before .before .before .before .before .args .problem .now) = record { byte = λ i. c .before .before .before .before .before .before .before .before .before .before .before .before .before .before .before .before .before .shared-slice-known .given i .fits } in
-    let answer : Bytes (c .before .before .before .before .before .before .before .before .before .before .before .before .before .before .before .before .before .before .args .answer .now) = record { byte = λ i. c .before .before .before .before .before .before .before .before .before .before .before .before .before .before .before .before .shared-slice-known2 .given i .fits } in
-    (
+    let answer : Bytes (c .before .before .before .before .before .before .before .before .before .before .before .before .before .before .before .before .before .before .args .answer .now) = record { byte = λ i. c .before .before .before .before .before .before .before .before .before .before .before .before .before .before .before .before .shared-slice-known2 .given i .fits } in (
       reasoned-told (c .before .before .before .before .before .before .before .before .before .before .before .before .before .before .before .before .before .before .pre) (c .tell .ensures .0 _ _ (certifies (c .before .before .before .before .before .before .before .before .before .before .before .before .before .before .before .before .before .before .pre) (meant-bytes _ problem) (c .before .before .before .before .before .before .before .before .before .before .before .before .before .read-problem .ensures) (c .before .before .before .before .before .before .before .before .before .before .before .header .given .1) answer (c .before .before .before .before .before .before .before .read-answer .ensures) (c .before .before .before .before .before .read .given .1))),
       c .tell .ensures .1,
     )
