@@ -56,8 +56,8 @@ fn write_found(found: Answer, n: usize, m: usize, answer: &mut [u8]) -> usize
     };
     let stamps = found.stamps;
     let picks = found.picks;
-    let s = stamp_count(head.class, n);
-    let p = pick_count(head.class, n, m);
+    let s = stamp_count(found.class, n);
+    let p = pick_count(found.class, n, m);
     let written = write_answer(head, &stamps[..s], &picks[..p], n, m, answer);
     let Written::Record(size) = written else {
         return 0;
