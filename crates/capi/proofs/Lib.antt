@@ -4,3 +4,4 @@ pub mod FirstOpen
 pub mod Hours
 pub mod Compared
 pub mod Converting
+pub mod Grounds

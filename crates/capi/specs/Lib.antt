@@ -3,3 +3,4 @@ pub mod Opening
 pub mod HoursNumbers
 pub mod Marks
 pub mod Converted
+pub mod Behind
