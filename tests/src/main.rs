@@ -36,7 +36,7 @@ fn main() {
     let long = words.iter().any(|word| word == "--long");
     words.retain(|word| word != "--long");
     println!("tests from outside, on {TRIED}");
-    let all: [Suite; 17] = [
+    let all: [Suite; 18] = [
         ("examples", suites::examples::run),
         ("all-small", suites::small::every_small_problem),
         ("random-small", suites::small::random_problems),
@@ -54,6 +54,7 @@ fn main() {
         ("questions", suites::questions::run),
         ("idle", suites::idle::run),
         ("silent", suites::silent::run),
+        ("reasons", suites::reasons::run),
     ];
     let mut failures = 0;
     let mut run = 0;

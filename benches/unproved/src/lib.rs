@@ -20,6 +20,7 @@ mod lists;
 mod number;
 mod policy;
 pub mod programs;
+pub mod reasons;
 pub mod record;
 mod saver;
 pub mod week;

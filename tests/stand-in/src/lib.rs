@@ -13,6 +13,8 @@ mod marks;
 #[path = "../../../capi/rust/src/opening.rs"]
 mod opening;
 pub mod raw;
+#[path = "../../../capi/rust/src/reasons.rs"]
+mod reasons;
 #[path = "../../../capi/rust/src/words.rs"]
 mod words;
 
@@ -21,4 +23,5 @@ pub use conversion::convert;
 pub use hours::{read_hours, write_hours, TEXT_SIZE};
 pub use marks::marks_differ;
 pub use opening::{first_open, Window};
+pub use reasons::{reasons, Reasons};
 pub use words::{Answer, AnswerAt, Certified, Class, Outcome, Refusal, Solved, SolvedAll};
