@@ -2,3 +2,4 @@ pub mod Listing
 pub mod Turns
 pub mod Round
 pub mod Reasons
+pub mod Unique
