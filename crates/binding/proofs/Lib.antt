@@ -1,0 +1,5 @@
+pub mod Listing
+pub mod Turns
+pub mod Round
+pub mod Reasons
+pub mod Unique
