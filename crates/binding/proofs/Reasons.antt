@@ -1,30 +1,29 @@
 -- What holds of the rules behind an accepted answer and of its binding round, for the bytes of a problem and of an answer: document 02,
 -- 2.5. The problem with only these rules and the question has the same class and span; the round binds.
-use Prim.Native.Nat.{ℕ, zero, suc, _+_, _-_, _≤_, _<_}
-use mathlib.Core.Path.{_≡_, refl, sym, subst, _∙_}
+use Prim.Native.Nat.{ℕ, suc, _-_, _≤_, _<_}
+use mathlib.Core.Path.{_≡_, subst, _∙_}
 use mathlib.Core.Bool.{true}
 use mathlib.Core.Logic.{_⊎_, inl, inr, ⊎-elim}
 use mathlib.Core.List.{List}
 use native.Mathlib.Omega.{arith}
-use lib.Dec.{leb}
 use lib.ListN.{length, getD, List·getD-eq-default}
 use borrow.Author.Tests.{leb-true}
 use Rattle.base.proofs.Numbers.{nat-le-or-lt}
 use Rattle.definitions.specs.Limits.{class-optimal, class-infeasible}
 use Rattle.definitions.specs.Problem.{Problem}
 use Rattle.definitions.specs.Certificate.{startOf}
-use Rattle.definitions.specs.Selection.{selected, Choice, SameClass, rowOf}
+use Rattle.definitions.specs.Selection.{Choice}
 use Rattle.definitions.specs.ProblemRecord.{problemOf, nField, mField, problemRefusal}
-use Rattle.definitions.specs.AnswerRecord.{Answer, startFits, highestPick, picksFit, answerOf, answerRefusal, classField, startField}
+use Rattle.definitions.specs.AnswerRecord.{Answer, highestPick, picksFit, answerOf, answerRefusal, classField, startField}
 use Rattle.definitions.specs.Verdict.{Accepted, optimal, unbounded, infeasible, checkRefusal, strategyOf, answerFor}
 use Rattle.definitions.specs.Reasons as Reasons
-use Rattle.definitions.specs.Reasons.{Behind, RulesBehind, Reasoned, onlyThese, Hold}
-use Rattle.definitions.proofs.Refusals.{or-else-none, AnswerFits, answer-fits}
+use Rattle.definitions.specs.Reasons.{RulesBehind, Reasoned, Hold}
+use Rattle.definitions.proofs.Refusals.{or-else-none, answer-fits}
 use Rattle.definitions.proofs.RoundTrip.{picks-below}
 use Rattle.definitions.proofs.Selection.{row-chosen, row-objective}
 use Rattle.duality.specs.Picks.{NoneAbove}
 use Rattle.duality.proofs.Starts.{start-below}
-use Rattle.selection.specs.Chosen.{Chosen, PicksChosen}
+use Rattle.selection.specs.Chosen.{PicksChosen}
 use Rattle.selection.proofs.Certificates.{reached-inside}
 use Rattle.selection.proofs.Requests.{least-behind, none-behind}
 use Rattle.binding.proofs.Listing.{listed-stands, listed-found}

@@ -11,15 +11,15 @@ use native.Mathlib.Omega.{arith}
 use lib.Dec.{eqb}
 use lib.IntN.{ℤ, pos, _+ℤ_, _-ℤ_}
 use lib.Signed.{_≤ℤ_, _<ℤ_}
-use borrow.Author.Tests.{eqb-true, eqb-false}
-use Rattle.base.proofs.Numbers.{nat-le-or-lt, same-or-not}
+use borrow.Author.Tests.{eqb-true}
+use Rattle.base.proofs.Numbers.{nat-le-or-lt}
 use Rattle.definitions.specs.Tropical.{fin}
 use Rattle.definitions.specs.Problem.{Problem, Point}
 use Rattle.definitions.specs.Certificate.{Strategy, Reachable, Walk, stop, step, Uses, Distinct, Cycle, Leads, Arc, raise, startOf, AcceptedOptimal}
 use Rattle.definitions.specs.ProblemRecord.{listOf}
 use Rattle.definitions.specs.AnswerRecord.{Answer}
 use Rattle.definitions.specs.Verdict.{pointOf, strategyOf}
-use Rattle.definitions.specs.Reasons.{RowYields, Yields, Round, Binds, visited, byQuestion}
+use Rattle.definitions.specs.Reasons.{RowYields, Round, Binds, visited, byQuestion}
 use Rattle.definitions.proofs.Tropical.{fin-injective}
 use Rattle.definitions.proofs.Whole.{whole, plus-read, minus-read}
 use Rattle.duality.specs.Picks.{NoneAbove}

@@ -1,22 +1,20 @@
 -- One turn of the yielding of document 02's request 2.5, for an accepted answer of class 1. A variable that is reached and has a number
 -- yields to one that is and has; the arc between them weighs at least the first number less the second, at the least span.
 use Prim.Native.Nat.{ℕ, suc, _+_, _≤_, _<_}
-use mathlib.Core.Path.{_≡_, refl, sym, subst, _∙_}
-use mathlib.Core.Logic.{_⊎_, inl, inr, ⊎-elim}
+use mathlib.Core.Path.{_≡_, refl, sym, subst}
+use mathlib.Core.Logic.{_⊎_, ⊎-elim}
 use native.Mathlib.Omega.{arith}
-use lib.IntN.{ℤ, pos, _+ℤ_, _-ℤ_}
-use lib.Signed.{_≤ℤ_}
+use lib.IntN.{ℤ, pos, _+ℤ_}
 use Rattle.base.proofs.Numbers.{nat-le-or-lt, same-or-not}
-use Rattle.definitions.specs.Tropical.{Trop, bot, fin, plus, _⊑_, Finite}
-use Rattle.definitions.specs.Problem as Problems
-use Rattle.definitions.specs.Problem.{Problem, Point, side, Feasible, value}
-use Rattle.definitions.specs.Certificate.{Strategy, Reachable, onward, Leads, Arc, HasPick, raise, startOf, AcceptedOptimal}
+use Rattle.definitions.specs.Tropical.{Trop, fin, plus, _⊑_, Finite}
+use Rattle.definitions.specs.Problem.{Problem, Point, side, value}
+use Rattle.definitions.specs.Certificate.{Strategy, onward, Arc, HasPick, raise, startOf, AcceptedOptimal}
 use Rattle.definitions.specs.Certificate as Certificates
 use Rattle.definitions.specs.Reasons.{RowYields, Yields, Begins, at-anchor, at-second}
-use Rattle.definitions.proofs.Tropical.{fin-injective, fin-below, finite-above, ⊑-trans, ⊑-of-eq, plus-is, plus-parts, plus-zero, largest-above}
+use Rattle.definitions.proofs.Tropical.{fin-below, finite-above, ⊑-trans, ⊑-of-eq, plus-is, plus-parts, plus-zero, largest-above}
 use Rattle.definitions.proofs.Raise.{raised, unraised}
 use Rattle.definitions.proofs.Values.{≼-refl, minus-raised}
-use Rattle.definitions.proofs.Whole.{whole, plus-read, minus-read}
+use Rattle.definitions.proofs.Whole.{whole}
 use Rattle.duality.specs.Picks.{NoneAbove}
 use Rattle.selection.proofs.Certificates.{reached-inside}
 use Rattle.binding.specs.Turns.{Live, Turn, turnWeight}

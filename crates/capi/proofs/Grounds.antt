@@ -1,18 +1,17 @@
 -- What the tool tells, in the lent places.
-use Prim.Native.Nat.{ℕ, zero, suc, _+_, _*_, _≤_, _<_}
-use mathlib.Core.Path.{_≡_, refl, sym, ap, subst, _∙_}
-use mathlib.Core.List.{List, [], _∷_}
+use Prim.Native.Nat.{ℕ, _≤_}
+use mathlib.Core.Path.{_≡_, sym, subst}
+use mathlib.Core.List.{List, []}
 use native.Mathlib.Omega.{arith}
 use lib.ListN.{length, take}
 use Rattle.definitions.specs.Limits.{highest-m, stride}
 use Rattle.definitions.specs.Bytes.{put}
-use Rattle.definitions.specs.Reasons as Reasons
-use Rattle.definitions.specs.Reasons.{Reasoned, of-none, of-least}
+use Rattle.definitions.specs.Reasons.{Reasoned}
 use Rattle.definitions.proofs.Put.{put-nil}
 use Rattle.grounds.specs.Outcome.{toldOf, countsFit}
 use Rattle.grounds.specs.declared.reasons.Told.{Told}
 use Rattle.grounds.specs.declared.reasons.Told.the-variants.{Refused, None, Least}
-use Rattle.capi.specs.Numbers.{PlacesAs, stamp-places, pick-places}
+use Rattle.capi.specs.Numbers.{PlacesAs}
 use Rattle.capi.specs.Behind as Behind
 use Rattle.capi.specs.Behind.{ReasonsAs, countsNumber}
 

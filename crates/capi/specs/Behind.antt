@@ -1,6 +1,6 @@
 -- The rules behind an answer and the binding round, in lent places, with their counts as one number: the low byte is the refusal, 0 where
 -- there is none, 255 where too few places are lent.
-use Prim.Native.Nat.{ℕ, suc, _+_, _*_, _≤_, _<_}
+use Prim.Native.Nat.{ℕ, _+_, _*_, _≤_, _<_}
 use mathlib.Core.Path.{_≡_}
 use mathlib.Core.List.{List}
 use mathlib.Core.Logic.{_⊎_}

@@ -1,20 +1,19 @@
 -- Small facts that pin the rules behind an answer and the binding round: of examples A and E, and the words of the lines. Document 02, 2.5.
-use Prim.Native.Nat.{ℕ, zero, suc, _+_, _≤_, _<_}
+use Prim.Native.Nat.{ℕ, zero, suc, _≤_, _<_}
 use mathlib.Core.Path.{_≡_, refl}
-use mathlib.Core.List.{List, [], _∷_}
+use mathlib.Core.List.{[], _∷_}
 use native.Mathlib.Omega.{arith}
-use lib.IntN.{pos}
 use Rattle.definitions.specs.Bytes.{numAt, numsAt, tropField, tropAt, signed}
-use Rattle.definitions.specs.Tropical.{Trop, bot, fin, plus, larger, largest}
-use Rattle.definitions.specs.Problem.{Problem, Point, side}
+use Rattle.definitions.specs.Tropical.{plus, larger, largest}
+use Rattle.definitions.specs.Problem.{Problem, side}
 use Rattle.definitions.specs.Certificate as Certificates
-use Rattle.definitions.specs.Certificate.{Strategy, startOf}
+use Rattle.definitions.specs.Certificate.{startOf}
 use Rattle.definitions.specs.ProblemRecord.{problemOf, listOf}
 use Rattle.definitions.specs.AnswerRecord.{Answer, answerOf}
 use Rattle.definitions.specs.Verdict.{pointOf, strategyOf, answerFor}
 use Rattle.definitions.specs.Programs.{decimal, digits, verdictLine, refusedLine, text-refused}
 use Rattle.definitions.specs.Examples.{example-A, example-E}
-use Rattle.definitions.specs.Reasons.{Behind, Listed, no-number, with-it, RulesBehind, RowYields, Yields, at-anchor, Round, refused, of-none, of-least, spaced, text-rules, text-round, reasonsLines, bottomless-refused}
+use Rattle.definitions.specs.Reasons.{no-number, with-it, RulesBehind, Yields, at-anchor, Round, refused, of-none, of-least, spaced, text-rules, text-round, reasonsLines, bottomless-refused}
 use Rattle.definitions.proofs.Tropical.{bot-not-fin}
 
 -- ---- A: no rule is picked, and the round is the anchor

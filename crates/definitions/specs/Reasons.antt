@@ -1,5 +1,5 @@
 -- The rules behind an accepted answer, and the binding round of a least span. Document 02, 2.5.
-use Prim.Native.Nat.{ℕ, zero, suc, _+_, _-_, _≤_, _<_}
+use Prim.Native.Nat.{ℕ, suc, _+_, _-_, _≤_, _<_}
 use mathlib.Core.Path.{_≡_}
 use mathlib.Core.Bool.{cond}
 use mathlib.Core.List.{List, [], _∷_, _++_}
@@ -7,9 +7,9 @@ use lib.Dec.{eqb}
 use lib.ListN.{length, getD}
 use lib.IntN.{ℤ, pos}
 use Rattle.definitions.specs.Limits.{class-optimal, class-unbounded, class-infeasible}
-use Rattle.definitions.specs.Tropical.{Trop, fin, plus, Finite}
+use Rattle.definitions.specs.Tropical.{fin, plus, Finite}
 use Rattle.definitions.specs.Problem.{Problem, Point, side}
-use Rattle.definitions.specs.Certificate.{Strategy, Reachable, Walk, stop, step, Cycle, Anchor, Second, startOf, Leads, Arc}
+use Rattle.definitions.specs.Certificate.{Strategy, Reachable, Walk, stop, step, Cycle, Second, startOf, Leads, Arc}
 use Rattle.definitions.specs.ProblemRecord.{problemOf, meant, listOf}
 use Rattle.definitions.specs.AnswerRecord.{Answer}
 use Rattle.definitions.specs.Verdict.{Accepted, checkRefusal, not-certified, pointOf, strategyOf, answerFor}

@@ -1,19 +1,18 @@
 -- From lists to the problem: the turns over lists are the yielding of the definition, and what came back is its round.
-use Prim.Native.Nat.{ℕ, zero, suc, _+_, _-_, _*_, _≤_, _<_}
-use mathlib.Core.Path.{_≡_, refl, sym, ap, subst, _∙_}
+use Prim.Native.Nat.{ℕ, zero, suc, _+_, _-_, _≤_, _<_}
+use mathlib.Core.Path.{_≡_, refl, sym, ap, _∙_}
 use mathlib.Core.Bool.{Bool, true, false, cond}
 use mathlib.Core.List.{List}
-use mathlib.Core.Logic.{_⊎_, inl, inr, ⊎-elim}
+use mathlib.Core.Logic.{_⊎_, ⊎-elim}
 use native.Mathlib.Omega.{arith}
 use lib.Dec.{ltb}
 use lib.ListN.{length, getD, take, replicate, length-take, length-replicate}
 use lib.Seq.{ext-getD, getD-take}
 use borrow.Author.Tests.{ltb-true, ltb-false}
-use Rattle.base.specs.Filled.{Filled}
-use Rattle.base.proofs.Numbers.{nat-le-or-lt, below-or-last}
+use Rattle.base.proofs.Numbers.{below-or-last}
 use Rattle.definitions.specs.Limits.{stride}
-use Rattle.definitions.specs.Tropical.{Trop, fin, plus, largest, _⊑_, Finite}
-use Rattle.definitions.specs.Problem.{Problem, Point, side}
+use Rattle.definitions.specs.Tropical.{Trop, plus, largest, _⊑_, Finite}
+use Rattle.definitions.specs.Problem.{Problem, side}
 use Rattle.definitions.specs.Certificate.{Second}
 use Rattle.definitions.specs.Offset.{tropOf}
 use Rattle.definitions.specs.ProblemRecord.{listOf}
@@ -26,7 +25,7 @@ use Rattle.records.specs.Stamps.{stampsPoint}
 use Rattle.closed_walks.specs.Tables.{Picked}
 use Rattle.grounds.specs.Tables.{rowIn, Held}
 use Rattle.grounds.specs.Latest.{sumAt, FirstLatest}
-use Rattle.grounds.specs.Turns.{Next, Came, MomentTurn, CameBack, firstOf}
+use Rattle.grounds.specs.Turns.{Next, MomentTurn, CameBack, firstOf}
 use Rattle.grounds.specs.Rounds.{MetAt, FirstMet, Beginning, Binding, RoundPart}
 use Rattle.grounds.specs.declared.turns.Turns.{Turns}
 use Rattle.grounds.specs.declared.round.Round.{Round}

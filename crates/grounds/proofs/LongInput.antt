@@ -1,26 +1,23 @@
 -- An input that is longer than what is kept is not accepted: its two records are not as long.
-use Prim.Native.Nat.{ℕ, suc, _+_, _≤_, _<_}
-use mathlib.Core.Path.{_≡_, refl, sym, ap, _∙_}
-use mathlib.Core.List.{List, [], _∷_}
-use mathlib.Core.Logic.{⊎-elim}
+use Prim.Native.Nat.{ℕ, _+_, _≤_, _<_}
+use mathlib.Core.Path.{_≡_, refl}
+use mathlib.Core.List.{List}
 use native.Mathlib.Omega.{arith}
-use native.Mathlib.Nat.{mul-le-mul}
 use lib.ListN.{length, take, drop, length-take, length-drop}
-use Rattle.definitions.specs.Limits.{highest-n, highest-m, kept-bytes, answer-most, problem-most}
-use Rattle.definitions.specs.ProblemRecord.{problemRefusal, meant, nField, mField, problemSize}
-use Rattle.definitions.specs.AnswerRecord.{answerRefusal, answerSize, classField}
+use Rattle.definitions.specs.Limits.{kept-bytes}
+use Rattle.definitions.specs.ProblemRecord.{meant, nField, mField}
+use Rattle.definitions.specs.AnswerRecord.{classField}
 use Rattle.definitions.specs.Verdict as Verdicts
 use Rattle.definitions.specs.Verdict.{checkRefusal, Judged, turned-away, certified, uncertified}
 use Rattle.definitions.specs.Programs.{cutPlace, problemPart, answerPart}
 use Rattle.definitions.specs.Reasons as Definitions
 use Rattle.definitions.specs.Reasons.{Reasoned}
-use Rattle.definitions.proofs.Refusals.{or-else-none, problem-fits, answer-fits}
+use Rattle.definitions.proofs.Refusals.{or-else-none, answer-fits}
 use Rattle.definitions.proofs.RoundTrip.{size-most}
 use Rattle.definitions.proofs.Inputs.{part-meant}
 use Rattle.checker.specs.Outcome.{verdictOf}
 use Rattle.checker.specs.declared.check.Verdict.{Verdict}
 use Rattle.checker.specs.declared.check.Verdict.the-variants.{Accepted, Refused}
-use Rattle.checker.proofs.Verdicts.{HeaderRead}
 use Rattle.checker.proofs.LongInputs.{read-small}
 use Rattle.grounds.specs.Outcome.{refusedBy}
 use Rattle.grounds.proofs.Reading.{reasoned-refused}

@@ -1,13 +1,13 @@
 -- The listing of the rules that marked variables pick, one number at a time.
-use Prim.Native.Nat.{ℕ, zero, suc, _+_, _≤_, _<_}
-use mathlib.Core.Path.{_≡_, refl, sym, subst, _∙_}
+use Prim.Native.Nat.{ℕ, suc, _+_, _≤_, _<_}
+use mathlib.Core.Path.{_≡_, subst, _∙_}
 use mathlib.Core.List.{List, [], _∷_, _++_}
 use native.Mathlib.Omega.{arith}
 use native.Mathlib.Numerals.{add-one}
-use lib.ListN.{length, getD, take, set, replicate, length-set, length-replicate}
+use lib.ListN.{take, set, replicate, length-set, length-replicate}
 use lib.Seq.{take-suc-set}
 use Rattle.definitions.specs.Limits.{highest-m}
-use Rattle.definitions.specs.Reasons.{Listed, no-number, with-it, without}
+use Rattle.definitions.specs.Reasons.{no-number, with-it, without}
 use Rattle.grounds.specs.Rules.{PickedBy, PickedListed}
 
 module _ {marks picks : List ℕ} {width : ℕ} where

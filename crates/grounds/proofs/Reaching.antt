@@ -1,23 +1,22 @@
 -- Reach along the picks of an answer: the table's arcs are those of the definition, and so are the marks of the start.
 use Prim.Native.Nat.{ℕ, zero, suc, _+_, _-_, _*_, _/_, _%_, _≤_, _<_}
-use mathlib.Core.Path.{_≡_, refl, sym, subst, _∙_}
+use mathlib.Core.Path.{_≡_, refl, subst, _∙_}
 use mathlib.Core.Bool.{Bool, true, false, cond}
 use mathlib.Core.List.{List}
-use mathlib.Core.Logic.{_⊎_, inl, inr, ⊎-elim}
 use native.Mathlib.Omega.{arith}
 use lib.Dec.{eqb}
-use lib.ListN.{length, getD}
+use lib.ListN.{getD}
 use borrow.Author.Tests.{eqb-true, eqb-false}
 use Rattle.base.specs.Filled.{Filled}
 use Rattle.base.proofs.Numbers.{positive}
-use Rattle.definitions.specs.Limits.{highest-n, highest-m, stride, arcs-size, table-rows}
-use Rattle.definitions.specs.Tropical.{Trop, fin, Finite}
+use Rattle.definitions.specs.Limits.{highest-n, highest-m, stride, arcs-size}
+use Rattle.definitions.specs.Tropical.{Trop, Finite}
 use Rattle.definitions.specs.Problem.{Problem}
-use Rattle.definitions.specs.Certificate.{Strategy, Reachable, Anchor, Second, startOf, Leads}
+use Rattle.definitions.specs.Certificate.{Reachable, Second, startOf, Leads}
 use Rattle.definitions.specs.Offset.{tropOf}
 use Rattle.definitions.specs.Verdict.{strategyOf}
 use Rattle.definitions.proofs.Offset.{trop-fin, trop-read}
-use Rattle.reach.specs.Marks.{Marked, Led, Begins, Flags, StartMarked, Anchored, Reached, ReachedBy}
+use Rattle.reach.specs.Marks.{Led, Begins, Flags, StartMarked, Anchored, Reached, ReachedBy}
 use Rattle.reach.specs.Spreading.{MarksOf}
 use Rattle.reach.proofs.Marks.{anchored-marked, coefficients-marked, coefficients-flags}
 use Rattle.closed_walks.specs.Tables.{Picked}

@@ -1,16 +1,15 @@
 -- From bytes: what the checker's verdict and the readers give is what the reasons rest on, and what is told is the definition's.
-use Prim.Native.Nat.{ℕ, zero, suc, _+_, _≤_, _<_}
-use mathlib.Core.Path.{_≡_, refl, sym, ap, subst, _∙_}
+use Prim.Native.Nat.{ℕ, suc}
+use mathlib.Core.Path.{_≡_, sym, ap, _∙_}
 use mathlib.Core.Bool.{false}
 use mathlib.Core.List.{List}
 use mathlib.Core.Logic.{_⊎_, inl, inr, ⊎-elim}
 use native.Mathlib.Omega.{arith}
-use lib.ListN.{getD}
 use Rattle.definitions.specs.Limits.{class-optimal, class-unbounded, class-infeasible}
 use Rattle.definitions.specs.Tropical.{Trop}
 use Rattle.definitions.specs.Bytes.{Bytes}
 use Rattle.definitions.specs.ProblemRecord.{problemOf, problemRefusal, problemOutcome, layoutOf, nField, mField}
-use Rattle.definitions.specs.AnswerRecord.{Answer, answerRefusal, answerOutcome, answerOf, classField, spanField, startField}
+use Rattle.definitions.specs.AnswerRecord.{answerRefusal, answerOutcome, classField, spanField, startField}
 use Rattle.definitions.specs.Verdict as Verdicts
 use Rattle.definitions.specs.Verdict.{Accepted, optimal, unbounded, infeasible, checkRefusal, Judged, turned-away, certified, uncertified, answerFor}
 use Rattle.definitions.specs.Reasons as Definitions
@@ -22,7 +21,7 @@ use Rattle.records.specs.declared.problem.Layout.{Layout}
 use Rattle.records.specs.declared.problem.Header.the-variants as Headers
 use Rattle.records.specs.ProblemHeader.{headerOf}
 use Rattle.records.proofs.ProblemHeader.{answer-refused}
-use Rattle.problem_records.specs.Tables.{ProblemRead, Laid, leftTable, rightTable}
+use Rattle.problem_records.specs.Tables.{ProblemRead, Laid, rightTable}
 use Rattle.problem_records.proofs.ReadProblem.{laid}
 use Rattle.problem_records.proofs.LeadTables.{problem-decoded}
 use Rattle.answer_reader.specs.declared.answer.Head.{Head}
@@ -34,7 +33,6 @@ use Rattle.checker.specs.Outcome.{Meant, verdictOf}
 use Rattle.checker.specs.declared.check.Verdict.{Verdict}
 use Rattle.checker.specs.declared.check.Verdict.the-variants as Codes
 use Rattle.checker.proofs.Answers.{head-read, read-means, read-formed}
-use Rattle.grounds.specs.Tables.{Held}
 use Rattle.grounds.specs.Outcome as Outcome
 use Rattle.grounds.specs.Outcome.{refusedBy, Passed, Founded, Certifies, Tells}
 

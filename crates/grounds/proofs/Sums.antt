@@ -4,12 +4,11 @@ use mathlib.Core.Path.{_≡_, refl, sym, subst, _∙_}
 use mathlib.Core.List.{List}
 use mathlib.Core.Logic.{_⊎_, inl, inr, ⊎-elim}
 use native.Mathlib.Omega.{arith}
-use lib.ListN.{getD}
 use Rattle.base.proofs.Numbers.{positive, below-or-last}
 use Rattle.definitions.specs.Limits.{lead-limit, stamp-limit, signed-half}
 use Rattle.definitions.specs.Tropical.{Trop, plus, _⊑_}
 use Rattle.definitions.specs.Offset.{tropOf}
-use Rattle.definitions.proofs.Tropical.{⊑-refl, ⊑-trans, ⊑-of-eq}
+use Rattle.definitions.proofs.Tropical.{⊑-refl, ⊑-trans}
 use Rattle.definitions.proofs.Offset.{trop-zero, trop-order, plus-trop, plus-trop-zero}
 use Rattle.records.specs.Decoded.{Near}
 use Rattle.grounds.specs.Latest.{sumAt, FirstLatest}

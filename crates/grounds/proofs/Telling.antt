@@ -1,24 +1,22 @@
 -- From what the readers give to the definition: the rules behind the answer, what its round rests on, and what is told.
-use Prim.Native.Nat.{ℕ, zero, suc, _+_, _-_, _*_, _≤_, _<_}
-use mathlib.Core.Path.{_≡_, refl, sym, ap, subst, fun-ext, _∙_}
+use Prim.Native.Nat.{ℕ, suc, _+_, _-_, _≤_, _<_}
+use mathlib.Core.Path.{_≡_, refl, sym, subst, fun-ext, _∙_}
 use mathlib.Core.Bool.{Bool, true, false, cond}
 use mathlib.Core.List.{List}
-use mathlib.Core.Logic.{_⊎_, inl, inr, ⊎-elim}
+use mathlib.Core.Logic.{_⊎_, ⊎-elim}
 use native.Mathlib.Omega.{arith}
-use lib.Dec.{eqb, ltb, leb}
+use lib.Dec.{eqb, ltb}
 use lib.IntN.{ℤ}
-use lib.ListN.{length, getD, take}
+use lib.ListN.{getD, take}
 use borrow.Author.Tests.{eqb-true, eqb-false, ltb-true, ltb-false, leb-true}
 use Rattle.base.proofs.Numbers.{positive, nat-le-or-lt}
-use Rattle.definitions.specs.Limits.{stride, class-optimal, class-infeasible}
-use Rattle.definitions.specs.Tropical.{Finite}
-use Rattle.definitions.specs.Problem.{Problem, Point}
-use Rattle.definitions.specs.Certificate.{Strategy, Reachable, Second, startOf, Leads, AcceptedOptimal}
-use Rattle.definitions.specs.AnswerRecord.{Answer, startFits, highestPick}
-use Rattle.definitions.specs.Offset.{tropOf}
+use Rattle.definitions.specs.Limits.{class-optimal, class-infeasible}
+use Rattle.definitions.specs.Problem.{Problem}
+use Rattle.definitions.specs.Certificate.{startOf, Leads, AcceptedOptimal}
+use Rattle.definitions.specs.AnswerRecord.{Answer, highestPick}
 use Rattle.definitions.specs.Verdict.{Accepted, optimal, unbounded, infeasible, pointOf, strategyOf}
 use Rattle.definitions.specs.Reasons as Definitions
-use Rattle.definitions.specs.Reasons.{Behind, Listed, no-number, with-it, without, RulesBehind, Round, Begins}
+use Rattle.definitions.specs.Reasons.{Behind, Listed, no-number, with-it, without, RulesBehind, Round}
 use Rattle.definitions.proofs.Counts.{counts-met, whole-counts}
 use Rattle.duality.specs.Picks.{NoneAbove}
 use Rattle.duality.proofs.Starts.{start-below}
@@ -26,12 +24,12 @@ use Rattle.records.specs.Stamps.{stampsPoint}
 use Rattle.reach.specs.Marks.{Marked, ReachedBy}
 use Rattle.closed_walks.specs.Tables.{Picked}
 use Rattle.answer_reader.specs.declared.answer.Head.{Head}
-use Rattle.binding.specs.Turns.{Live, Turn}
+use Rattle.binding.specs.Turns.{Live}
 use Rattle.binding.proofs.Turns.{live-picks, turn, live-on, begins-live}
-use Rattle.grounds.specs.Tables.{rowIn, Held}
+use Rattle.grounds.specs.Tables.{Held}
 use Rattle.grounds.specs.Rules.{PickedBy, PickedListed}
-use Rattle.grounds.specs.Turns.{Next, Going}
-use Rattle.grounds.specs.Rounds.{MetAt, FirstMet, Beginning, Binding}
+use Rattle.grounds.specs.Turns.{Going}
+use Rattle.grounds.specs.Rounds.{Beginning, Binding}
 use Rattle.grounds.specs.Outcome as Tells
 use Rattle.grounds.specs.Outcome.{Certifies, Tells}
 use Rattle.grounds.proofs.Reaching.{offset-finite, finite-offset}

@@ -1,5 +1,5 @@
 -- The first latest variable of a row: the first with the largest coefficient plus stamp.
-use Prim.Native.Nat.{ℕ, _≤_, _<_}
+use Prim.Native.Nat.{ℕ, _<_}
 use mathlib.Core.List.{List}
 use lib.ListN.{getD}
 use Rattle.definitions.specs.Tropical.{Trop, plus, _⊑_}

@@ -1,15 +1,11 @@
 -- Reach along the picks of an answer of class 1 or 3: the table of arcs, and the marks of the start.
-use Prim.Native.Nat.{ℕ, _+_, _-_, _*_, _/_, _%_, _<_}
-use mathlib.Core.Path.{_≡_}
+use Prim.Native.Nat.{ℕ, _-_, _/_, _%_}
 use mathlib.Core.Bool.{cond}
 use mathlib.Core.List.{List}
 use lib.Dec.{eqb}
 use lib.ListN.{getD}
 use Rattle.definitions.specs.Limits.{stride}
-use Rattle.definitions.specs.Certificate.{startOf}
-use Rattle.definitions.specs.Problem.{Problem}
-use Rattle.reach.specs.Marks.{Flags, StartMarked}
-use Rattle.grounds.specs.Tables.{rowIn, Held}
+use Rattle.grounds.specs.Tables.{rowIn}
 
 -- Where variable j leads: to variable l where the row that it picks has a coefficient on the right; without a pick nowhere.
 unfoldable pub pickArc : List ℕ → ℕ → ℕ → ℕ

@@ -2,7 +2,7 @@
 use Prim.Native.Nat.{ℕ, _+_, _-_, _≤_, _<_}
 use mathlib.Core.Path.{_≡_}
 use mathlib.Core.List.{List}
-use lib.ListN.{length, getD}
+use lib.ListN.{getD}
 use Rattle.base.specs.Filled.{Filled}
 use Rattle.definitions.specs.Limits.{highest-m, stride}
 use Rattle.closed_walks.specs.Tables.{Picked}

@@ -1,6 +1,6 @@
 -- The turns of the binding round over lists: moments yield to their picks and rows to their first latest moments, until a moment comes
 -- again.
-use Prim.Native.Nat.{ℕ, suc, _+_, _-_, _≤_, _<_}
+use Prim.Native.Nat.{ℕ, _+_, _-_, _≤_, _<_}
 use mathlib.Core.Path.{_≡_}
 use mathlib.Core.Bool.{cond}
 use mathlib.Core.List.{List}

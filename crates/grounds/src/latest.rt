@@ -1,9 +1,9 @@
 // The first latest right moment of a row: the first with the largest right lead plus stamp.
 ghost use mathlib.Core.Path.{_≡_};
 ghost use Prim.Native.Nat.{ℕ, _+_, _*_, _≤_, _<_};
-ghost use lib.ListN.{length, getD};
+ghost use lib.ListN.{getD};
 ghost use Rattle.base.specs.Filled.{Filled};
-ghost use Rattle.definitions.specs.Limits.{lead-limit, stamp-limit, signed-full, stride, table-rows};
+ghost use Rattle.definitions.specs.Limits.{lead-limit, stamp-limit, stride, table-rows};
 ghost use Rattle.definitions.specs.Tropical.{plus};
 ghost use Rattle.definitions.specs.Offset.{tropOf};
 ghost use Rattle.records.specs.Decoded.{Near};

@@ -1,7 +1,6 @@
 // The tool on bytes: the checker's refusals in their order, 14 among them, then 16; then the rules behind the accepted answer, and for a
 // least span the binding round.
 ghost use mathlib.Core.Path.{_≡_};
-ghost use Prim.Native.Nat.{ℕ};
 ghost use Rattle.definitions.specs.Problem.{Problem};
 ghost use Rattle.definitions.specs.AnswerRecord.{Answer};
 ghost use Rattle.definitions.specs.ProblemRecord.{meant};

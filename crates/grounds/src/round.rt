@@ -1,7 +1,5 @@
 // The binding round of an accepted answer of class 1.
-ghost use mathlib.Core.Path.{_≡_};
-ghost use mathlib.Core.List.{List};
-ghost use Prim.Native.Nat.{ℕ, _+_, _≤_, _<_};
+ghost use Prim.Native.Nat.{_+_, _≤_, _<_};
 ghost use lib.ListN.{getD, take};
 ghost use Rattle.definitions.specs.Limits.{highest-n, highest-m, stride};
 ghost use Rattle.definitions.specs.Problem.{Problem};

@@ -1,5 +1,4 @@
 // The turns of the binding round: a moment yields to its pick, and a row to its first latest right moment, until a moment comes again.
-ghost use mathlib.Core.Path.{_≡_};
 ghost use Prim.Native.Nat.{_+_, _-_, _≤_};
 ghost use lib.ListN.{getD};
 ghost use Rattle.definitions.specs.Limits.{stride};

@@ -1,14 +1,13 @@
 -- The lines that the reasons program puts out are those of the reasons for its input.
-use Prim.Native.Nat.{ℕ, zero, suc, _+_, _≤_, _<_}
-use mathlib.Core.Path.{_≡_, refl, sym, ap, subst, _∙_}
-use mathlib.Core.List.{List, [], _∷_, _++_, append-assoc}
+use Prim.Native.Nat.{ℕ, suc, _+_, _≤_}
+use mathlib.Core.Path.{_≡_, refl, ap, _∙_}
+use mathlib.Core.List.{List, _++_, append-assoc}
 use native.Mathlib.Omega.{arith}
 use lib.ListN.{length, take}
 use borrow.Author.Tests.{ne-eqb}
 use Rattle.definitions.specs.Limits.{highest-m, stride}
 use Rattle.definitions.specs.ProblemRecord.{meant}
 use Rattle.definitions.specs.Programs.{verdictLine, newline, problemPart, answerPart}
-use Rattle.definitions.specs.Verdict as Verdicts
 use Rattle.definitions.specs.Reasons as Reasons
 use Rattle.definitions.specs.Reasons.{Reasoned, ReasonsOutput, spaced, text-rules, text-round, reasonsLines}
 use Rattle.printing.specs.Text.{Putting, Output, verdictBy}

@@ -1,15 +1,13 @@
 use mathlib.Core.Path.{refl}
 use Rattle.grounds.specs.Outcome.{toldOf, countsFit}
-use borrow.Author.Needs.{needs}
 use Rattle.grounds.proofs.reasons.refused.Statement.{statement}
 use Rattle.grounds.proofs.reasons.refused.Tie as tie
-use Rattle.grounds.proofs.reasons.refused.Reads as reads
-use Rattle.grounds.proofs.reasons.refused.Lts as lts
 
--- src/reasons.rt:44:1
 returns : tie.Need-returns
 unfolding toldOf countsFit
 returns c = (refl, tt)
 
+
 pub refused-spec : {M : Type 1} → statement M
-refused-spec = tie.close (tie.spec returns)
+refused-spec = tie.close (tie.spec
+    returns)

@@ -1,7 +1,9 @@
+-- The proof of the cycle of calls {moment_turn, row_turn}: a moment with so many turns left calls its row with one fewer, and a row calls its moment
+-- with as many, so that the measures are twice the turns left, and one more for a row.
 use native.Mathlib.Omega.{arith}
 use Rattle.grounds.proofs.Turning.{turn-back, turn-left, turn-row, turn-inside, turn-near, turn-moment, turn-first, turn-kept}
 use borrow.Author.Needs.{needs}
-use Prim.Native.Nat.{ℕ, _+_, _-_, _≤_, _<_}
+use Prim.Native.Nat.{ℕ, _+_, _-_, _<_}
 use borrow.Fn.Kinds.{In}
 use borrow.Fn.PlainCycle.{Measures, is, falls, and}
 use Rattle.grounds.proofs.turns.moment_turn.Reads as moment-turn
@@ -37,7 +39,6 @@ abbrev row-turn-below : ℕ → In 3 row-turn-kinds.ps
 row-turn-below t =
     and 3 row-turn-kinds.ps (falls 3 row-turn-kinds.ps _<_ μ-row-turn t) row-turn.Pre
 
--- src/turns.rt:48:17
 moment-turn-add-count : (t : ℕ) → moment-turn-lts.Need-add-count (
   place-of-reads.Asked,
   place-of-reads.Learnt,
@@ -46,7 +47,6 @@ moment-turn-add-count : (t : ℕ) → moment-turn-lts.Need-add-count (
 ) (moment-turn-at t) moment-turn.Post
 moment-turn-add-count t c = omega (arith, c .pre .1 .going .n-most)
 
--- src/turns.rt:48:17
 moment-turn-sub-count : (t : ℕ) → moment-turn-lts.Need-sub-count (
   place-of-reads.Asked,
   place-of-reads.Learnt,
@@ -55,7 +55,6 @@ moment-turn-sub-count : (t : ℕ) → moment-turn-lts.Need-sub-count (
 ) (moment-turn-at t) moment-turn.Post
 moment-turn-sub-count t c = omega (arith, c .pre .1 .turns-most)
 
--- src/turns.rt:49:9
 moment-turn-place-of-requires : (t : ℕ) → moment-turn-lts.Need-place-of-requires (
   place-of-reads.Asked,
   place-of-reads.Learnt,
@@ -64,7 +63,6 @@ moment-turn-place-of-requires : (t : ℕ) → moment-turn-lts.Need-place-of-requ
 ) (moment-turn-at t) moment-turn.Post
 moment-turn-place-of-requires t c κs = omega (arith, c .before .pre .1 .going .n-most)
 
--- src/turns.rt:51:9
 moment-turn-returns : (t : ℕ) → moment-turn-lts.Need-returns (
   place-of-reads.Asked,
   place-of-reads.Learnt,
@@ -73,7 +71,6 @@ moment-turn-returns : (t : ℕ) → moment-turn-lts.Need-returns (
 ) (moment-turn-at t) moment-turn.Post
 moment-turn-returns t c = turn-back (c .before .before .before .pre .1) (c .before .place-of .ensures) (c .if1 .taken)
 
--- src/turns.rt:58:5
 moment-turn-mul-came : (t : ℕ) → moment-turn-lts.Need-mul-came (
   place-of-reads.Asked,
   place-of-reads.Learnt,
@@ -82,7 +79,6 @@ moment-turn-mul-came : (t : ℕ) → moment-turn-lts.Need-mul-came (
 ) (moment-turn-at t) moment-turn.Post
 moment-turn-mul-came t c = search needs
 
--- src/turns.rt:58:5
 moment-turn-array-write-came : (t : ℕ) → moment-turn-lts.Need-array-write-came (
   place-of-reads.Asked,
   place-of-reads.Learnt,
@@ -91,7 +87,6 @@ moment-turn-array-write-came : (t : ℕ) → moment-turn-lts.Need-array-write-ca
 ) (moment-turn-at t) moment-turn.Post
 moment-turn-array-write-came t c = omega (arith, c .before .before .before .pre .1 .going .n-most, turn-left (c .before .before .before .pre .1) (c .before .place-of .ensures) (omega arith))
 
--- src/turns.rt:65:9
 moment-turn-mul-row-turn : (t : ℕ) → moment-turn-lts.Need-mul-row-turn (
   place-of-reads.Asked,
   place-of-reads.Learnt,
@@ -100,7 +95,6 @@ moment-turn-mul-row-turn : (t : ℕ) → moment-turn-lts.Need-mul-row-turn (
 ) (moment-turn-at t) moment-turn.Post
 moment-turn-mul-row-turn t c = let m = c .before .before .before .pre .1 in omega (arith, m .going .n-most, m .going .inside _ (m .alive))
 
--- src/turns.rt:65:9
 moment-turn-element-copy-out-row-turn : (t : ℕ) → moment-turn-lts.Need-element-copy-out-row-turn (
   place-of-reads.Asked,
   place-of-reads.Learnt,
@@ -109,7 +103,6 @@ moment-turn-element-copy-out-row-turn : (t : ℕ) → moment-turn-lts.Need-eleme
 ) (moment-turn-at t) moment-turn.Post
 moment-turn-element-copy-out-row-turn t c = let m = c .before .before .before .pre .1 in omega (arith, m .going .n-most, m .going .inside _ (m .alive))
 
--- src/turns.rt:65:9
 moment-turn-sub-row-turn : (t : ℕ) → moment-turn-lts.Need-sub-row-turn (
   place-of-reads.Asked,
   place-of-reads.Learnt,
@@ -118,7 +111,6 @@ moment-turn-sub-row-turn : (t : ℕ) → moment-turn-lts.Need-sub-row-turn (
 ) (moment-turn-at t) moment-turn.Post
 moment-turn-sub-row-turn t c = let m = c .before .before .before .before .pre .1 in omega (arith, m .going .picked _ (m .alive) .0)
 
--- src/turns.rt:66:9
 moment-turn-sub-row-turn-2 : (t : ℕ) → moment-turn-lts.Need-sub-row-turn-2 (
   place-of-reads.Asked,
   place-of-reads.Learnt,
@@ -127,7 +119,6 @@ moment-turn-sub-row-turn-2 : (t : ℕ) → moment-turn-lts.Need-sub-row-turn-2 (
 ) (moment-turn-at t) moment-turn.Post
 moment-turn-sub-row-turn-2 t c = turn-left (c .before .before .before .before .pre .1) (c .before .before .place-of .ensures) (omega arith)
 
--- src/turns.rt:59:5
 moment-turn-row-turn-requires : (t : ℕ) → moment-turn-lts.Need-row-turn-requires (
   place-of-reads.Asked,
   place-of-reads.Learnt,
@@ -140,7 +131,6 @@ moment-turn-row-turn-requires t c κs =
       turn-row (m .pre .1) (c .before .before .place-of .ensures) (omega arith),
     )
 
--- src/turns.rt:36:1
 moment-turn-returns-2 : (t : ℕ) → moment-turn-lts.Need-returns-2 (
   place-of-reads.Asked,
   place-of-reads.Learnt,
@@ -150,7 +140,6 @@ moment-turn-returns-2 : (t : ℕ) → moment-turn-lts.Need-returns-2 (
 moment-turn-returns-2 t c =
     turn-kept (c .before .before .before .before .before .pre .1) (c .before .before .before .place-of .ensures) (omega arith) (c .row-turn .ensures)
 
--- src/turns.rt:83:17
 row-turn-row-at-requires : (t : ℕ) → row-turn-lts.Need-row-at-requires (
   row-at-reads.Asked,
   row-at-reads.Learnt,
@@ -161,7 +150,6 @@ row-turn-row-at-requires : (t : ℕ) → row-turn-lts.Need-row-at-requires (
 ) (row-turn-at t) row-turn.Post
 row-turn-row-at-requires t c κs = turn-inside (c .pre .1)
 
--- src/turns.rt:90:38
 row-turn-add-first-latest : (t : ℕ) → row-turn-lts.Need-add-first-latest (
   row-at-reads.Asked,
   row-at-reads.Learnt,
@@ -172,7 +160,6 @@ row-turn-add-first-latest : (t : ℕ) → row-turn-lts.Need-add-first-latest (
 ) (row-turn-at t) row-turn.Post
 row-turn-add-first-latest t c = omega (arith, c .before .before .pre .1 .going .n-most)
 
--- src/turns.rt:90:9
 row-turn-first-latest-requires : (t : ℕ) → row-turn-lts.Need-first-latest-requires (
   row-at-reads.Asked,
   row-at-reads.Learnt,
@@ -185,7 +172,6 @@ row-turn-first-latest-requires t c κs =
     let m = c .before .before .pre .1 in
     (m .going .stamped, turn-near m (c .before .row-at .ensures), omega arith, omega (arith, m .going .n-most))
 
--- src/turns.rt:84:5
 row-turn-moment-turn-requires : (t : ℕ) → row-turn-lts.Need-moment-turn-requires (
   row-at-reads.Asked,
   row-at-reads.Learnt,
@@ -198,7 +184,6 @@ row-turn-moment-turn-requires t c κs =
     let m = c .before .before .before in
     (omega (arith, m .pre .0), turn-moment (m .pre .1) (c .before .before .row-at .ensures) (c .first-latest .ensures))
 
--- src/turns.rt:71:1
 row-turn-returns : (t : ℕ) → row-turn-lts.Need-returns (
   row-at-reads.Asked,
   row-at-reads.Learnt,
