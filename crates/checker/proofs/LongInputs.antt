@@ -46,7 +46,7 @@ header-small kept end {l = l} e f =
 -- A problem that is read is no longer than the longest.
 pub read-small : {s : List ℕ} {n m : ℕ} → HeaderRead s n m → (length s ≤ 16394) × (n ≤ highest-n) × (m ≤ highest-m)
 read-small {s} {n} {m} h =
-    let f = problem-fits s .0 (h .none) in
+    let f = problem-fits s (h .none) in
     (omega (arith, f .size-is, product-most (nField s) (mField s) (f .n-most) (f .m-most)), omega (arith, h .n-is, f .n-most), omega (arith, h .m-is, f .m-most))
 
 pub kept-small : (kept : List ℕ) (end : ℕ) {n m : ℕ} → HeaderRead (take end kept) n m → end ≤ length kept → (end ≤ 16394) × (n ≤ highest-n) × (m ≤ highest-m)

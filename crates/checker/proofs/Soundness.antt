@@ -28,7 +28,7 @@ module _ (p : List ℕ) (w : WithinLayout p) where
   pub least-fits : (x : Point) (s : ℤ) → Fits (nField p) s x → (picks : List ℕ) → length picks ≡ pickCount class-optimal (nField p) (mField p)
       → picksFit (highestPick class-optimal (nField p) (mField p)) picks ≡ true → WriterFits (leastAnswer (nField p) s x picks) (nField p) (mField p) answer-most
   least-fits x s f picks e h =
-      let g = problem-fits p .0 w in
+      let g = problem-fits p w in
       record {
         n-most = g .n-most;
         m-most = g .m-most;
@@ -45,7 +45,7 @@ module _ (p : List ℕ) (w : WithinLayout p) where
       → WriterFits (blankAnswer class-infeasible picks) (nField p) (mField p) answer-most
   unfolding spanFits is-blank stampsFit
   infeasible-fits picks e h =
-      let g = problem-fits p .0 w in
+      let g = problem-fits p w in
       record {
         n-most = g .n-most;
         m-most = g .m-most;
@@ -61,7 +61,7 @@ module _ (p : List ℕ) (w : WithinLayout p) where
       → WriterFits (blankAnswer class-unbounded picks) (nField p) (mField p) answer-most
   unfolding spanFits is-blank stampsFit
   unbounded-fits picks e h =
-      let g = problem-fits p .0 w in
+      let g = problem-fits p w in
       record {
         n-most = g .n-most;
         m-most = g .m-most;

@@ -26,4 +26,6 @@ pub mod WeekFacts
 pub mod Agree
 pub mod Scaling
 pub mod Selection
+pub mod Chosen
+pub mod Suspended
 pub mod Marks

@@ -18,4 +18,5 @@ pub mod Week
 pub mod Scaling
 pub mod Selection
 pub mod Conversion
+pub mod Suspended
 pub mod Marks

@@ -66,7 +66,7 @@ answered-by engine p buffer (solved a one e ans) k h r-is b-is = record { class 
 module _ (engine : Engine) (solves : EngineSolves engine) (p buffer : List ℕ) (b : Slice p) (c : Slice buffer) (w : WithinLayout (meant p)) (long : answer-most ≤ length buffer) where
   pub engine-answer : EngineAnswer engine p buffer
   engine-answer =
-      let k = problem-fits (meant p) .0 w .kind-is in
+      let k = problem-fits (meant p) w .kind-is in
       answered-by engine p buffer (solves p buffer b c) k (one-refused (meant p) (length buffer) k .1 (w, long)) refl refl
 
 pub least-spans : (engine : Engine) → EngineSolves engine → LeastSpans engine
@@ -158,7 +158,7 @@ own-answers engine solves check judges p buffer b c w long =
 
 -- A record within the layout has bytes, and means itself,
 pub within-itself : (p : List ℕ) → WithinLayout p → meant p ≡ p
-within-itself p w = meant-some p (omega (arith, problem-fits p .0 w .size-enough))
+within-itself p w = meant-some p (omega (arith, problem-fits p w .size-enough))
 
 -- so that a true checker accepts the bytes of an answer to it.
 accepts-record : (check : Checker) → CheckerJudges check → (p : List ℕ) → Slice p → WithinLayout p → {class : ℕ} {span : Trop} {trials : ℕ} (a : Answer)

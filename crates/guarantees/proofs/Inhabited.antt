@@ -125,7 +125,7 @@ answers-exist p k w zero h = record { bytes = []; trials = 0; turn = Results.no-
 answers-exist p k w (suc q) h =
     let first = answers-exist p k w q (omega arith) in
     let o = one-asked p k w q (omega arith) in
-    let s = answer-exists (problemOf (alone p q)) (problem-fits (alone p q) .0 (o .within) .n-most) (layout-within (alone p q) (o .within)) in
+    let s = answer-exists (problemOf (alone p q)) (problem-fits (alone p q) (o .within) .n-most) (layout-within (alone p q) (o .within)) in
     record { bytes = first .bytes ++ answerBytes (nField p) (s .answer); trials = first .trials + s .trials; turn = Results.one-more (s .answer) (first .turn) (s .answers) }
 
 -- The kind of a record that nothing refuses.
@@ -143,7 +143,7 @@ solution-exists p before = go (engineRefusal p (length before)) refl
         ⊎-elim
         (λ (k : kindField p ≡ problem-kind).
         let own : WithinLayout p = sym (one-question p k) ∙ w in
-        let s = answer-exists (problemOf p) (problem-fits p .0 own .n-most) (layout-within p own) in
+        let s = answer-exists (problemOf p) (problem-fits p own .n-most) (layout-within p own) in
         record {
           result = Solutions.Answered (s .class) (numberFor (s .span)) (s .trials) (answerSize (s .class) (nField p) (mField p));
           buffer = written before (answerBytes (nField p) (s .answer));
@@ -258,7 +258,7 @@ span-text input = go (recordRefusal input) refl
     go zero e = ⊎-elim
         (λ (k : kindField input ≡ problem-kind).
         let own : WithinLayout input = sym (one-question input k) ∙ e in
-        let s = answer-exists (problemOf input) (problem-fits input .0 own .n-most) (layout-within input own) in
+        let s = answer-exists (problemOf input) (problem-fits input own .n-most) (layout-within input own) in
         record { text = answerBytes (nField input) (s .answer); holds = Programs.answer (s .answer) k e (s .answers) })
         (λ (k : kindField input ≡ questions-kind).
         let s = answers-exist input k e (countField input) (omega arith) in record { text = s .bytes; holds = Programs.answers k e (s .turn) })

@@ -24,7 +24,7 @@ module _ (p rest : List ℕ) (w : WithinLayout p) where
   -- Its length field says where the problem ends.
   cut-behind : cutPlace (p ++ rest) ≡ length p
   cut-behind =
-      let fits = problem-fits p .0 w in
+      let fits = problem-fits p w in
       let enough = fits .size-enough in
       let ends = fits .length-is in
       let longer = length-append p rest in
@@ -43,8 +43,8 @@ module _ (p rest : List ℕ) (w : WithinLayout p) where
 
 pub span-then-verdict : (p out line : List ℕ) → WithinLayout p → SpanOutput p out → VerdictOutput (p ++ out) line → Piped p out line
 span-then-verdict p out line w (Programs.refusal e) v =
-    absurd (let z : suc _ ≡ 0 = sym e ∙ one-question p (problem-fits p .0 w .kind-is) ∙ w in omega arith)
-span-then-verdict p out line w (Programs.answers k e turn) v = absurd (omega (arith, problem-fits p .0 w .kind-is))
+    absurd (let z : suc _ ≡ 0 = sym e ∙ one-question p (problem-fits p w .kind-is) ∙ w in omega arith)
+span-then-verdict p out line w (Programs.answers k e turn) v = absurd (omega (arith, problem-fits p w .kind-is))
 span-then-verdict p out line w (Programs.answer a k e ans) v =
     record {
       within = w;

@@ -88,7 +88,7 @@ right-length s = length-listOf (cell (rightPlace (nField s)) s (nField s) (mFiel
 
 module _ (s : List ℕ) (b : Bytes s) (w : WithinLayout s) where
   fits : ProblemFits s
-  fits = problem-fits s .0 w
+  fits = problem-fits s w
 
   -- The elements of the tables stand for the problem's coefficients.
   pub left-means : (i j : ℕ) → i ≤ mField s → j ≤ nField s → tropOf (getD (leftTable s) (i * 32 + j) 0) ≡ problemOf s .left i j

@@ -133,7 +133,7 @@ laid {s} {l = l} b e f =
     let g = answer-told (problemRefusal s) (layoutOf s) e f in
     let n-is : nField s ≡ l .n = ap (λ (x : Problems.Layout). x .n) (sym (g .1)) in
     let m-is : mField s ≡ l .m = ap (λ (x : Problems.Layout). x .m) (sym (g .1)) in
-    let p = problem-fits s .0 (g .0) in
+    let p = problem-fits s (g .0) in
     record {
       bytes = b;
       within = g .0;
