@@ -278,6 +278,30 @@ problem-fits s e =
 pub within-asks : (s : List ℕ) → WithinLayout s → AsksOne s
 within-asks s w = one-asks (kindField s) (problem-fits s w .one-kind)
 
+-- A record of one question that any entry takes is within the layout.
+pub within-one : (kinds : Kinds) (s : List ℕ) → AsksOne s → refusalFor kinds s ≡ 0 → WithinLayout s
+within-one kinds s one w =
+    let r = record-fits kinds s .0 w in
+    record-fits checker-kinds s .1 (record {
+      header = record {
+        size-enough = r .header .size-enough;
+        length-is = r .header .length-is;
+        kind-known = known (kind-known kinds (kindField s) (r .header .kind-known));
+        n-most = r .header .n-most;
+        m-most = r .header .m-most;
+        count-right = r .header .count-right;
+        size-is = r .header .size-is;
+      };
+      states-fit = r .states-fit;
+      leads-fit = r .leads-fit;
+      rules-speak = r .rules-speak;
+    })
+  where
+    known : KnownKind (kindField s) → known-kind checker-kinds (kindField s) ≡ true
+    known (KnownKind.plain k) = rw k refl
+    known (KnownKind.several k) = absurd (false≢true (sym one ∙ eq-eqb (kindField s) questions-kind k))
+    known (KnownKind.stated k) = rw k refl
+
 -- The facts of a record of kind 1 that nothing refuses.
 pub record PlainFits (s : List ℕ) : Type 0 where
   pub size-enough : problem-header ≤ length s
