@@ -12,7 +12,7 @@ use Rattle.definitions.specs.Questions.{alone}
 use Rattle.definitions.specs.Solved.{Found, optimal, unbounded, infeasible, AnswersInTurn, no-question, one-more}
 use Rattle.definitions.proofs.Bisection.{few-trials}
 use Rattle.definitions.proofs.Offset.{within-size}
-use Rattle.definitions.proofs.Refusals.{problem-fits, left-limited, right-limited}
+use Rattle.definitions.proofs.Refusals.{problem-fits, within-asks, left-limited, right-limited}
 use Rattle.definitions.proofs.Solved.{one-asked}
 use Rattle.duality.specs.Within.{Within, Enough}
 use Rattle.duality.proofs.Classes.{optimal-range}
@@ -22,7 +22,7 @@ use Rattle.duality.proofs.Numbers.{top-enough}
 pub leads-within : (limit : ℕ) (p : List ℕ) → WithinLayout p → all (blank-or-within limit) (leadsOf p) ≡ true → Within (problemOf p) limit
 unfolding problemOf
 leads-within limit p w f =
-    let k = problem-fits p w .kind-is in
+    let k = within-asks p w in
     record {
       left = λ i j a h g e. within-size limit (left-limited limit p k f i j h g) e;
       right = λ i j a h g e. within-size limit (right-limited limit p k f i j h g) e;
