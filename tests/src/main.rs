@@ -36,7 +36,7 @@ fn main() {
     let long = words.iter().any(|word| word == "--long");
     words.retain(|word| word != "--long");
     println!("tests from outside, on {TRIED}");
-    let all: [Suite; 16] = [
+    let all: [Suite; 17] = [
         ("examples", suites::examples::run),
         ("all-small", suites::small::every_small_problem),
         ("random-small", suites::small::random_problems),
@@ -53,6 +53,7 @@ fn main() {
         ("questions", suites::questions::run),
         ("idle", suites::idle::run),
         ("silent", suites::silent::run),
+        ("suspended", suites::suspended::run),
     ];
     let mut failures = 0;
     let mut run = 0;

@@ -9,7 +9,7 @@ use crate::paper::{counts, highest_pick, Answer, Minute, Outcome, Problem, Row, 
 use crate::tally::Tally;
 
 /// Hands over every pick table of a class.
-fn every_table(n: usize, m: usize, class: u64, mut visit: impl FnMut(&[u64])) {
+pub fn every_table(n: usize, m: usize, class: u64, mut visit: impl FnMut(&[u64])) {
     let mut picks = vec![0; counts(class, n, m).1];
     let highest = highest_pick(class, n, m);
     loop {
