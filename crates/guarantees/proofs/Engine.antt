@@ -208,7 +208,7 @@ all-answered-by : (engine : Engine) (check : Checker) → CheckerJudges check �
     → AllAnswered engine check read p buffer
 unfolding written
 all-answered-by engine check judges read reads p buffer b (Results.turned-away e) k w h r-is b-is = absurd (let z : suc _ ≡ 0 = sym e ∙ h in omega arith)
-all-answered-by engine check judges read reads p buffer b (solved a one e ans) k w h r-is b-is = absurd (omega arith)
+all-answered-by engine check judges read reads p buffer b (solved a one e ans) k w h r-is b-is = absurd (false≢true (sym one ∙ eq-eqb (kindField p) questions-kind k))
 all-answered-by engine check judges read reads p buffer b (all-solved {bytes = bytes} {trials} three e turn) k w h r-is b-is = record {
   trials = trials;
   size = length bytes;

@@ -67,7 +67,7 @@ use Rattle.guarantees.proofs.Demands.{demands}
 -- The case of each enum that a refusal's number, 0 for none, and what is given have.
 headerBy : ℕ → List ℕ → Header
 headerBy zero s =
-    Headers.Told (record { kind = kindField s; n = nField s; m = mField s; leads = leadsPlace (kindField s); questions = questionsAsked (kindField s) (countField s) })
+    Headers.Told (record { kind = kindField s; n = nField s; m = mField s; leads = leadsPlace (kindField s) (mField s); questions = questionsAsked (kindField s) (countField s) })
 headerBy (suc k) s = Headers.Refused (suc k)
 
 header-by : (k : ℕ) (s : List ℕ) → headerOf (headerBy k s) ≡ outcome k (layoutOf s)
