@@ -38,7 +38,9 @@ mod opening;
 pub mod raw;
 mod words;
 
-pub use calls::{check, read, solve, solve_all, write, ANSWER_SIZE, PROBLEM_SIZE, QUESTIONS, QUESTIONS_SIZE};
+pub use calls::{
+    check, read, solve, solve_all, write, ANSWER_SIZE, PROBLEM_SIZE, QUESTIONS, QUESTIONS_SIZE, STATES_SIZE,
+};
 pub use conversion::convert;
 pub use hours::{read_hours, write_hours, TEXT_SIZE};
 pub use marks::marks_differ;

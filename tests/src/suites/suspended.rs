@@ -119,8 +119,18 @@ fn orders(tally: &mut Tally, random: &mut Random) {
                     let wrong = Stated { problem: problem.clone(), states: states.clone() };
                     refused(tally, random, &wrong.bytes(), 20);
                     // 20 before 6 and 17, after 5.
-                    refused(tally, random, &Stated { problem: lead.problem.clone(), states: states.clone() }.bytes(), 20);
-                    refused(tally, random, &Stated { problem: silent.problem.clone(), states: states.clone() }.bytes(), 20);
+                    refused(
+                        tally,
+                        random,
+                        &Stated { problem: lead.problem.clone(), states: states.clone() }.bytes(),
+                        20,
+                    );
+                    refused(
+                        tally,
+                        random,
+                        &Stated { problem: silent.problem.clone(), states: states.clone() }.bytes(),
+                        20,
+                    );
                     let mut long = wrong.bytes();
                     long.push(0);
                     mend_length(&mut long);
@@ -168,11 +178,13 @@ fn large(tally: &mut Tally, random: &mut Random) {
         let record = stated.bytes();
         let (found, answer) = solved(tally, random, &stated);
         if round % 4 == 1 {
-            tally.same("all in force", answered(tally, random, &stated.problem).0, found, &record, &[]);
+            let (plain, _) = answered(tally, random, &stated.problem);
+            tally.same("all in force", plain, found, &record, &[]);
         }
         let mut changed = answer.clone();
         let place = random.below(changed.picks.len());
-        changed.picks[place] = random.below(m + 2).min(paper::highest_pick(answer.class, stated.problem.n(), m) as usize) as u64;
+        changed.picks[place] =
+            random.below(m + 2).min(paper::highest_pick(answer.class, stated.problem.n(), m) as usize) as u64;
         judged(tally, &stated, &changed);
         let bad = harmed(random, &record);
         bytes::engine(tally, random, &bad, 8 * 206);
@@ -214,7 +226,17 @@ pub fn run(tally: &mut Tally) {
     small(tally, &mut random);
     orders(tally, &mut random);
     large(tally, &mut random);
-    for what in ["accepted", "not accepted", "least", "bottomless", "none", "refused 5", "refused 6", "refused 17", "refused 20"] {
+    for what in [
+        "accepted",
+        "not accepted",
+        "least",
+        "bottomless",
+        "none",
+        "refused 5",
+        "refused 6",
+        "refused 17",
+        "refused 20",
+    ] {
         seen(tally, what);
     }
 }
