@@ -135,7 +135,7 @@ impl fmt::Display for Certified {
 /// A refusal of document 01, "What is turned away", or of document 02.
 #[derive(Clone, Copy, Debug, PartialEq, Eq)]
 pub struct Refusal {
-    /// Its number, 1 to 19 or 24 to 27.
+    /// Its number, 1 to 20 or 24 to 27.
     pub number: u8,
 }
 
@@ -145,9 +145,9 @@ impl Refusal {
         match self.number {
             1 => "The problem has 1 to 9 bytes.",
             2 => "Its length field is not its size − 4.",
-            3 => "Its kind is not 1, nor, for the engine, 3.",
+            3 => "Its kind is not 1 or 5, nor, for the engine, 3.",
             4 => "n is above 31 or m above 63.",
-            5 => "Its size does not fit n and m, and for kind 3 the count of questions.",
+            5 => "Its size does not fit its kind, n and m, and for kind 3 the count of questions.",
             6 => "A lead is neither blank nor within ±20,160.",
             7 => "The answer buffer is shorter than 208 bytes a question, whichever class is due.",
             8 => "The answer has fewer than 16 bytes.",
@@ -161,6 +161,7 @@ impl Refusal {
             17 => "A rule has an all-blank left list.",
             16 => "The answer is bottomless.",
             17 => "A rule has an all-blank left list.",
+            17 => "A rule has an all-blank left list.",
             18 => {
                 "The text is not of this form, a value read or to be written is beyond ±6,000,000, or the writer's \
                  buffer is shorter than 10 bytes."
@@ -170,6 +171,7 @@ impl Refusal {
             25 => "A plan breaks a rule.",
             26 => "A merged stamp would be below −6,000,000.",
             27 => "w is 0 or above 20,160, n or m is beyond its limit, or the total is above 65,536.",
+            20 => "A state is neither 0 nor 1.",
             _ => "No refusal of documents 01 and 02.",
         }
     }

@@ -8,7 +8,7 @@ use native.Mathlib.Omega.{arith}
 use Rattle.definitions.specs.Limits.{class-optimal, class-unbounded, class-infeasible}
 use Rattle.definitions.specs.Tropical.{Trop}
 use Rattle.definitions.specs.Bytes.{Bytes}
-use Rattle.definitions.specs.ProblemRecord.{problemOf, problemRefusal, problemOutcome, layoutOf, nField, mField}
+use Rattle.definitions.specs.ProblemRecord.{checker-kinds, problemOf, problemRefusal, problemOutcome, layoutOf, nField, mField}
 use Rattle.definitions.specs.AnswerRecord.{answerRefusal, answerOutcome, classField, spanField, startField}
 use Rattle.definitions.specs.Verdict as Verdicts
 use Rattle.definitions.specs.Verdict.{Accepted, optimal, unbounded, infeasible, checkRefusal, Judged, turned-away, certified, uncertified, answerFor}
@@ -88,11 +88,11 @@ module _ {p a : List ℕ} (h : Founded p a) where
   parts = or-else-none (problemRefusal p) (answerRefusal a (nField p) (mField p)) .0 (h .none)
 
   -- Neither refuses.
-  pub header-stands : {header : Header} {k : ℕ} → headerOf header ≡ problemOutcome false p → header ≡ Headers.Refused k → ⊥
+  pub header-stands : {header : Header} {k : ℕ} → headerOf header ≡ problemOutcome checker-kinds p → header ≡ Headers.Refused k → ⊥
   unfolding problemOutcome
   header-stands e f = let r = answer-refused (problemRefusal p) (layoutOf p) e f in omega (arith, parts .0)
 
-  module _ {left right left′ right′ : List ℕ} {header : Header} {l : Layout} (bytes : Bytes p) (read : ProblemRead false p left right header left′ right′)
+  module _ {left right left′ right′ : List ℕ} {header : Header} {l : Layout} (bytes : Bytes p) (read : ProblemRead checker-kinds p left right header left′ right′)
       (told : header ≡ Headers.Told l) where
     lies : Laid p (l .n) (l .m)
     lies = laid bytes (read .result) told

@@ -1,0 +1,54 @@
+-- A problem of kind 5 is judged by its rules in force: the problem that these mean agrees with it, so that the same answers are accepted.
+use Prim.Native.Nat.{ℕ, suc, _≤_}
+use mathlib.Core.Path.{_≡_, sym, subst, _∙_}
+use mathlib.Core.List.{List}
+use native.Mathlib.Omega.{arith}
+use Rattle.definitions.specs.Problem.{Problem}
+use Rattle.definitions.specs.Bytes.{Bytes}
+use Rattle.definitions.specs.Certificate.{Anchor}
+use Rattle.definitions.specs.AnswerRecord.{Answer, highestPick, pickCount, answerRefusal, answerOf}
+use Rattle.definitions.specs.ProblemRecord.{problemOf}
+use Rattle.definitions.specs.Verdict.{Verdict, Accepted, optimal, unbounded, infeasible, strategyOf}
+use Rattle.definitions.proofs.Agree.{Agree, agree-sym}
+use Rattle.definitions.proofs.Bytes.{length-numsAt}
+use Rattle.definitions.proofs.Refusals.{answer-fits}
+use Rattle.duality.specs.Picks.{NoneAbove}
+use Rattle.duality.proofs.AgreeCertificates.{optimal-over, infeasible-over, unbounded-over}
+use Rattle.problem_records.specs.InForce.{StatesHeld, InForce}
+use Rattle.problem_records.proofs.InForce.{room-agrees}
+use Rattle.checker.specs.Outcome as Judging
+use Rattle.checker.specs.Outcome.{Answered}
+use Rattle.checker.proofs.Agreeing.{fit-above}
+
+-- No pick of an answer of the right form is above its highest value.
+module _ (a : List ℕ) (n m : ℕ) (none : answerRefusal a n m ≡ 0) where
+  above : (many width : ℕ) → highestPick (answerOf a n m .class) n m ≡ many → pickCount (answerOf a n m .class) n m ≡ width
+      → NoneAbove many width (strategyOf (answerOf a n m .picks))
+  unfolding answerOf
+  above many width e f = fit-above many (answerOf a n m .picks) width (length-numsAt _ _ _ _ ∙ f) (rw (← e) (answer-fits a n m .0 none .form .picks-fit))
+
+  -- So it is accepted for a problem that agrees, with this n and m.
+  accepted-over : {p q : Problem} → Agree p q → p .n ≡ n → p .m ≡ m → Accepted p (answerOf a n m) → Accepted q (answerOf a n m)
+  accepted-over {p} {q} g e f (optimal {s = s} c d h) = optimal c d (optimal-over g begins _ (rw (e, f) (above (suc m) (suc n) (rw c) (rw c))) h)
+    where
+      begins : (j : ℕ) → Anchor j → Anchor j × (j ≤ p .n)
+      begins j z = (z, omega arith)
+  accepted-over {p} {q} g e f (unbounded c h) = unbounded c (unbounded-over g begins _ (rw (e, f) (above (suc n) (suc m) (rw c) (rw c))) h)
+    where
+      begins : (j : ℕ) → Anchor j → Anchor j × (j ≤ p .n)
+      begins j z = (z, omega arith)
+  accepted-over {p} {q} g e f (infeasible c h) = infeasible c (infeasible-over g begins _ (rw (e, f) (above (suc m) (suc n) (rw c) (rw c))) h)
+    where
+      begins : (j : ℕ) → Anchor j → Anchor j × (j ≤ p .n)
+      begins j z = (z, omega arith)
+
+-- The verdict on the rules in force is the verdict on the record.
+answered-over : {p q : Problem} {n m : ℕ} {a : List ℕ} {v : Verdict} → Agree p q → p .n ≡ n → p .m ≡ m → Answered p n m a v → Answered q n m a v
+answered-over g e f (Judging.turned-away {k = k} r) = Judging.turned-away {k = k} r
+answered-over {n = n} {m} {a} g e f (Judging.certified r c) = Judging.certified r (accepted-over a n m r g e f c)
+answered-over {n = n} {m} {a} g e f (Judging.uncertified r c) =
+    Judging.uncertified r (λ h. c (accepted-over a n m r (agree-sym g) (sym (g .same-n) ∙ e) (sym (g .same-m) ∙ f) h))
+
+pub answered-in-force : {s room a : List ℕ} {n m : ℕ} {v : Verdict} → StatesHeld s n m → InForce s n m room → Answered (problemOf room) n m a v → Answered (problemOf s) n m a v
+unfolding problemOf
+answered-in-force held f d = let g = room-agrees held f in answered-over g (g .same-n ∙ sym (held .n-is)) (g .same-m ∙ sym (held .m-is)) d
