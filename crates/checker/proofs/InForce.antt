@@ -1,11 +1,13 @@
 -- A problem of kind 5 is judged by its rules in force: the problem that these mean agrees with it, so that the same answers are accepted.
-use Prim.Native.Nat.{ℕ, suc, _≤_}
+use Prim.Native.Nat.{ℕ, zero, suc, _≤_}
 use mathlib.Core.Path.{_≡_, sym, subst, _∙_}
 use mathlib.Core.List.{List}
+use mathlib.Core.Logic.{⊎-elim}
 use native.Mathlib.Omega.{arith}
+use Rattle.definitions.specs.Tropical.{Finite}
 use Rattle.definitions.specs.Problem.{Problem}
 use Rattle.definitions.specs.Bytes.{Bytes}
-use Rattle.definitions.specs.Certificate.{Anchor}
+use Rattle.definitions.specs.Certificate.{Anchor, Second, startOf, AnchorAnd}
 use Rattle.definitions.specs.AnswerRecord.{Answer, highestPick, pickCount, answerRefusal, answerOf}
 use Rattle.definitions.specs.ProblemRecord.{problemOf}
 use Rattle.definitions.specs.Verdict.{Verdict, Accepted, optimal, unbounded, infeasible, strategyOf}
@@ -20,6 +22,22 @@ use Rattle.checker.specs.Outcome as Judging
 use Rattle.checker.specs.Outcome.{Answered}
 use Rattle.checker.proofs.Agreeing.{fit-above}
 
+-- Where reach begins in one of two problems that agree, it begins in the other, at one of its variables.
+module _ {p q : Problem} (g : Agree p q) where
+  second-over : {k : ℕ} → Second p k → Second q k
+  second-over {k} r = record {
+    inside = rw (← g .same-n) (r .inside);
+    right = rw (← g .same-m) (subst Finite (g .right (p .m) k (omega arith) (r .inside)) (r .right));
+  }
+
+  both-over : (k : ℕ) → k ≤ p .n → (j : ℕ) → AnchorAnd k j → AnchorAnd k j × (j ≤ p .n)
+  both-over k h j b = (b, ⊎-elim (λ (z : Anchor j). omega arith) (λ (z : j ≡ k). omega arith) b)
+
+start-over : {p q : Problem} → Agree p q → (start j : ℕ) → startOf q start j → startOf p start j × (j ≤ p .n)
+unfolding startOf
+start-over g zero j z = (z, omega arith)
+start-over g (suc k) j r = let h = second-over (agree-sym g) r in (h, h .inside)
+
 -- No pick of an answer of the right form is above its highest value.
 module _ (a : List ℕ) (n m : ℕ) (none : answerRefusal a n m ≡ 0) where
   above : (many width : ℕ) → highestPick (answerOf a n m .class) n m ≡ many → pickCount (answerOf a n m .class) n m ≡ width
@@ -29,18 +47,12 @@ module _ (a : List ℕ) (n m : ℕ) (none : answerRefusal a n m ≡ 0) where
 
   -- So it is accepted for a problem that agrees, with this n and m.
   accepted-over : {p q : Problem} → Agree p q → p .n ≡ n → p .m ≡ m → Accepted p (answerOf a n m) → Accepted q (answerOf a n m)
-  accepted-over {p} {q} g e f (optimal {s = s} c d h) = optimal c d (optimal-over g begins _ (rw (e, f) (above (suc m) (suc n) (rw c) (rw c))) h)
-    where
-      begins : (j : ℕ) → Anchor j → Anchor j × (j ≤ p .n)
-      begins j z = (z, omega arith)
-  accepted-over {p} {q} g e f (unbounded c h) = unbounded c (unbounded-over g begins _ (rw (e, f) (above (suc n) (suc m) (rw c) (rw c))) h)
-    where
-      begins : (j : ℕ) → Anchor j → Anchor j × (j ≤ p .n)
-      begins j z = (z, omega arith)
-  accepted-over {p} {q} g e f (infeasible c h) = infeasible c (infeasible-over g begins _ (rw (e, f) (above (suc m) (suc n) (rw c) (rw c))) h)
-    where
-      begins : (j : ℕ) → Anchor j → Anchor j × (j ≤ p .n)
-      begins j z = (z, omega arith)
+  accepted-over g e f (optimal c d h) =
+      optimal c d (optimal-over g (start-over g (answerOf a n m .start)) _ (rw (e, f) (above (suc m) (suc n) (rw c) (rw c))) h)
+  accepted-over g e f (unbounded {k = k} c d r h) =
+      unbounded c d (second-over g r) (unbounded-over g (both-over g k (r .inside)) _ (rw (e, f) (above (suc n) (suc m) (rw c) (rw c))) h)
+  accepted-over g e f (infeasible c h) =
+      infeasible c (infeasible-over g (start-over g (answerOf a n m .start)) _ (rw (e, f) (above (suc m) (suc n) (rw c) (rw c))) h)
 
 -- The verdict on the rules in force is the verdict on the record.
 answered-over : {p q : Problem} {n m : ℕ} {a : List ℕ} {v : Verdict} → Agree p q → p .n ≡ n → p .m ≡ m → Answered p n m a v → Answered q n m a v
