@@ -25,7 +25,7 @@ fn expected(problem: &[u8], answer: &[u8]) -> Result<Reasons, u64> {
 }
 
 /// The tool on any bytes: through the package, and in lent places that held noise, of which only the first are written.
-fn told(tally: &mut Tally, random: &mut Random, problem: &[u8], answer: &[u8]) -> Result<Reasons, u64> {
+pub fn told(tally: &mut Tally, random: &mut Random, problem: &[u8], answer: &[u8]) -> Result<Reasons, u64> {
     let expected = expected(problem, answer);
     let found = match span::reasons(problem, answer) {
         Ok(found) => Ok(Reasons { rules: found.rules, round: found.round }),
@@ -179,7 +179,7 @@ fn any_answers(tally: &mut Tally, random: &mut Random, problem: &Problem) {
 }
 
 /// The program on an input.
-fn program(tally: &mut Tally, input: &[u8]) {
+pub fn program(tally: &mut Tally, input: &[u8]) {
     let (problem, answer) = cut(input);
     let due = paper::reasons_lines(&expected(problem, answer));
     let found = programs::reasons(input).map(|output| String::from_utf8_lossy(&output).into_owned());

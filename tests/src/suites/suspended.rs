@@ -3,10 +3,10 @@
 use super::bytes::{self, harmed, seen};
 use super::small::every_problem;
 use super::tables::every_table;
-use super::{answered, answered_as, checked, expected_check};
-use crate::exhaustive;
+use super::{answered, answered_as, checked, expected_check, merging, reasons};
+use crate::exhaustive::{self, every_plan};
 use crate::generate::any;
-use crate::paper::{self, mend_length, read_answer, Answer, Outcome, Problem, Row, Stated};
+use crate::paper::{self, mend_length, read_answer, starts, Answer, Minute, Outcome, Problem, Row, Stated, BUFFER};
 use crate::programs;
 use crate::tally::Tally;
 use random::Random;
@@ -63,7 +63,26 @@ fn solved(tally: &mut Tally, random: &mut Random, stated: &Stated) -> (Outcome, 
         tally.same("no pick of or by a suspended rule", none, true, &bytes, &record);
     }
     judged(tally, stated, &answer);
+    reasoned(tally, random, stated, &answer);
     (found, answer)
+}
+
+/// The rules behind an answer (document 02, 2.5): never a suspended one, and those behind the renumbered answer, with the same round.
+fn reasoned(tally: &mut Tally, random: &mut Random, stated: &Stated, answer: &Answer) {
+    let n = stated.problem.n();
+    let (problem, record) = (stated.bytes(), answer.bytes(n));
+    let found = reasons::told(tally, random, &problem, &record);
+    let mut other = reasons::told(tally, random, &stated.only_in_force().bytes(), &renumbered(stated, answer).bytes(n));
+    if let Ok(found) = &found {
+        let none = found.rules.iter().all(|rule| stated.states[rule - 1] == 1);
+        tally.same("no suspended rule behind an answer", none, true, &problem, &record);
+        tally.count("rules behind an answer");
+    }
+    if let Ok(other) = &mut other {
+        let in_force: Vec<usize> = (1..=stated.states.len()).filter(|rule| stated.states[rule - 1] == 1).collect();
+        other.rules = other.rules.iter().map(|rule| in_force[rule - 1]).collect();
+    }
+    tally.same("rules and round of the rules in force", found, other, &problem, &record);
 }
 
 /// Every small problem with every set of states, against every plan; every table against the renumbered one.
@@ -88,8 +107,12 @@ fn small(tally: &mut Tally, random: &mut Random) {
                         _ => (None, Vec::new()),
                     };
                     every_table(n, m, class, |picks| {
-                        let table = Answer { class, span, stamps: stamps.clone(), picks: picks.to_vec() };
-                        judged(tally, &stated, &table);
+                        for start in starts(class, n) {
+                            let table = Answer { class, span, start, stamps: stamps.clone(), picks: picks.to_vec() };
+                            if judged(tally, &stated, &table) {
+                                reasoned(tally, random, &stated, &table);
+                            }
+                        }
                     });
                 }
             }
@@ -151,8 +174,8 @@ fn orders(tally: &mut Tally, random: &mut Random) {
 /// The engine and the checker give this refusal; the converter gives kind 5 a 3.
 fn refused(tally: &mut Tally, random: &mut Random, record: &[u8], refusal: u64) {
     tally.same("the refusal", paper::read_problem(record), Err(refusal), record, &[]);
-    bytes::engine(tally, random, record, 206);
-    bytes::engine(tally, random, record, 205);
+    bytes::engine(tally, random, record, BUFFER);
+    bytes::engine(tally, random, record, BUFFER - 1);
     bytes::checker(tally, record, &[]);
     if record[4] == 5 {
         let mut buffer = vec![7; record.len()];
@@ -187,7 +210,7 @@ fn large(tally: &mut Tally, random: &mut Random) {
             random.below(m + 2).min(paper::highest_pick(answer.class, stated.problem.n(), m) as usize) as u64;
         judged(tally, &stated, &changed);
         let bad = harmed(random, &record);
-        bytes::engine(tally, random, &bad, 8 * 206);
+        bytes::engine(tally, random, &bad, 8 * BUFFER);
         bytes::checker(tally, &bad, &answer.bytes(stated.problem.n()));
         if round % 40 < 4 {
             programs_on(tally, &stated, &answer);
@@ -204,7 +227,7 @@ fn large(tally: &mut Tally, random: &mut Random) {
 /// The programs on a record of kind 5.
 fn programs_on(tally: &mut Tally, stated: &Stated, answer: &Answer) {
     let (problem, record) = (stated.bytes(), answer.bytes(stated.problem.n()));
-    let mut buffer = [0; 206];
+    let mut buffer = [0; BUFFER];
     span::raw::solve(&problem, &mut buffer);
     let size = bytes::next_record(&buffer, 0);
     tally.same("the span program", programs::span(&problem), Ok(buffer[..size].to_vec()), &problem, &record);
@@ -216,7 +239,39 @@ fn programs_on(tally: &mut Tally, stated: &Stated, answer: &Answer) {
     let both = [&problem[..], &record[..]].concat();
     tally.same("the verdict program", programs::verdict(&both), Ok(line.into_bytes()), &problem, &record);
     tally.same("the convert program", programs::convert(&problem), Ok(b"refused 3\n".to_vec()), &problem, &[]);
+    reasons::program(tally, &both);
     tally.count("through the programs");
+}
+
+/// Merging (document 02, 2.13): a suspended rule is kept by every plan, so that plans which break it are merged, as for the rules in
+/// force; with the rule in force they get 25.
+fn merged(tally: &mut Tally, random: &mut Random) {
+    let mut plans: Vec<Vec<Minute>> = Vec::new();
+    every_plan(1, 2, |plan| plans.push(plan.to_vec()));
+    let line = |lead: i64| Row { left: vec![Some(lead), None], right: vec![None, Some(0)] };
+    let question = Row { left: vec![None, Some(0)], right: vec![Some(0), None] };
+    let problem = Problem { rules: vec![line(1), line(-1), line(2)], question };
+    for states in every_states(3) {
+        let stated = Stated { problem: problem.clone(), states };
+        let (bytes, only) = (stated.bytes(), stated.only_in_force().bytes());
+        for first in plans.iter().map(|plan| merging::stamps(plan)) {
+            for second in plans.iter().map(|plan| merging::stamps(plan)) {
+                merging::merge(tally, random, &bytes, [&first, &second], -1, 128);
+                merging::merge(tally, random, &only, [&first, &second], -1, 128);
+                let said = |bytes: &[u8]| merging::plain(bytes, &first, &second, -1, 128);
+                tally.same("merged as for the rules in force", said(&bytes), said(&only), &bytes, &[]);
+                if said(&bytes).is_ok() && said(&problem.bytes()) == Err(25) {
+                    tally.count("merged where a suspended rule is broken");
+                }
+            }
+        }
+        // 20, before all that concerns the plans.
+        let mut wrong = bytes.clone();
+        wrong[14] = 2;
+        let plan = merging::stamps(&plans[0]);
+        tally.same("a wrong state", merging::plain(&wrong, &plan, &plan, 1, 127), Err(20), &wrong, &[]);
+        merging::merge(tally, random, &wrong, [&plan, &plan], 1, 127);
+    }
 }
 
 pub fn run(tally: &mut Tally) {
@@ -226,6 +281,7 @@ pub fn run(tally: &mut Tally) {
     small(tally, &mut random);
     orders(tally, &mut random);
     large(tally, &mut random);
+    merged(tally, &mut random);
     for what in [
         "accepted",
         "not accepted",
@@ -236,6 +292,9 @@ pub fn run(tally: &mut Tally) {
         "refused 6",
         "refused 17",
         "refused 20",
+        "rules behind an answer",
+        "through the reasons program",
+        "merged where a suspended rule is broken",
     ] {
         seen(tally, what);
     }
