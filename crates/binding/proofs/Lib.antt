@@ -3,3 +3,4 @@ pub mod Turns
 pub mod Round
 pub mod Reasons
 pub mod Unique
+pub mod Keeps

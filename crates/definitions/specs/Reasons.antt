@@ -151,3 +151,8 @@ pub data Hold (p : Problem) (a : Answer) : Reasons → Type 0 where
   none-holds : {rules : List ℕ} → SameClass p (onlyThese p rules) → Hold p a (of-none rules)
   least-holds :
       {rules round : List ℕ} {s : ℤ} → a .span ≡ fin s → SameClass p (onlyThese p rules) → Binds p a s round → Hold p a (of-least rules round)
+
+-- Request 2.5 whole: for the bytes of a problem and of an answer there is one answer of the tool, and what document 02 says of it holds.
+pub record ReasonsKeep : Type 0 where
+  pub one-answer : (p a : List ℕ) (r s : Reasons) → Reasoned p a r → Reasoned p a s → r ≡ s
+  pub hold : (p a : List ℕ) (r : Reasons) → Reasoned p a r → Hold (problemOf p) (answerFor p a) r

@@ -12,7 +12,6 @@ returns-2 : tie.Need-returns-2
 unfolding pickArc
 returns-2 c = search tests
 
-
 pub pick-arc-spec : {M : Type 1} → statement M
 pick-arc-spec =
     tie.close

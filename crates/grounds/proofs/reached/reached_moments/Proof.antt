@@ -9,7 +9,6 @@ returns c =
     let start = c .before .before .before .before in
     λ p held. picks-reached (start .pre .0) (start .pre .1) held (start .pre .2) (c .before .before .before .pick-arcs .ensures) (c .before .before .start-marks .ensures .1 p _ (start .pre .0) held) (c .reach .ensures)
 
-
 pub reached-moments-spec : {M : Type 1} → statement M
 reached-moments-spec =
     tie.close (tie.spec

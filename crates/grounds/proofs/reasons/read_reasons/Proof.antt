@@ -31,7 +31,6 @@ returns-3 c =
       c .tell .ensures .1,
     )
 
-
 pub read-reasons-spec : {M : Type 1} → statement M
 read-reasons-spec =
     tie.close

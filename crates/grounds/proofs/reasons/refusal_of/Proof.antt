@@ -12,7 +12,6 @@ returns-2 : tie.Need-returns-2
 unfolding refusedBy
 returns-2 c = rw (c .before .verdict .given .1) refl
 
-
 pub refusal-of-spec : {M : Type 1} → statement M
 refusal-of-spec = tie.close (tie.spec
     (λ c. search needs)

@@ -7,7 +7,6 @@ returns : tie.Need-returns
 unfolding toldOf countsFit
 returns c = (refl, tt)
 
-
 pub refused-spec : {M : Type 1} → statement M
 refused-spec = tie.close (tie.spec
     returns)

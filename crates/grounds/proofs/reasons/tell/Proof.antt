@@ -24,7 +24,6 @@ returns-2 c = (
   (omega (arith, c .before .before .before .before .before .picked-rules .ensures .most, c .before .before .before .before .before .before .before .before .pre .certifies .m-most), c .before .binding-round .ensures .1),
 )
 
-
 pub tell-spec : {M : Type 1} → statement M
 tell-spec =
     tie.close

@@ -13,7 +13,6 @@ returns-2 c =
       second = λ h. met-as (λ l b. c .before .before .row-at .ensures .each l (omega (arith, start .pre .0))) (c .first-planned .ensures);
     }
 
-
 pub beginning-spec : {M : Type 1} → statement M
 beginning-spec =
     tie.close (tie.spec

@@ -9,7 +9,6 @@ returns : tie.Need-returns
 unfolding text-round
 returns c = (line-at (c .before .before .before .before .before .before .before .before .before .before .before .before .copy .ensures) (c .before .before .before .before .before .before .before .put-numbers .ensures .0) (c .before .before .copy2 .ensures) (omega arith) (omega arith), omega arith)
 
-
 pub put-round-spec : {M : Type 1} → statement M
 put-round-spec =
     tie.close

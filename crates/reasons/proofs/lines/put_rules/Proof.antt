@@ -9,7 +9,6 @@ returns : tie.Need-returns
 unfolding text-rules
 returns c = (line-at (c .before .before .before .before .before .before .before .before .before .before .before .before .copy .ensures) (c .before .before .before .before .before .before .before .put-numbers .ensures .0) (c .before .before .copy2 .ensures) (omega arith) (omega arith), omega arith)
 
-
 pub put-rules-spec : {M : Type 1} → statement M
 put-rules-spec =
     tie.close
