@@ -14,8 +14,9 @@
  *
  * A problem of kind 1 has one question. One of kind 3 has up to eight over the same rules: after m a count of two bytes, then
  * the rules, then that many question rows. One of kind 5 has, after m, a state of two bytes a rule: 1 in force, 0 suspended; its
- * rules keep their numbers, and the suspended ones are kept by every plan. span_solve takes all three, span_check kinds 1 and 5. A
- * problem of 0 bytes is an idle day: n and m are 0, and so are both leads of the anchor; its answer is least 0.
+ * rules keep their numbers, and the suspended ones are kept by every plan. span_solve takes all three; span_check, span_reasons and
+ * span_merge kinds 1 and 5. A problem of 0 bytes is an idle day: n and m are 0, and so are both leads of the anchor; its answer is
+ * least 0.
  *
  * A plan counts only if its second list is not blank, and classes and spans are about the plans that count. An answer has kind 4
  * and a start, which says where reach begins: in classes 1 and 3, 0 is the anchor and 1 all moments with a non-blank lead in the

@@ -20,6 +20,7 @@ use Rattle.definitions.proofs.Suspended.{suspended-left, suspended-right, suspe
 use Rattle.duality.proofs.Unused.{unbounded-unused}
 use Rattle.selection.specs.Certificates.{SameCertificates}
 use Rattle.selection.specs.Suspended.{RulesInForce}
+use Rattle.selection.proofs.Plans.{second-selected, start-selected}
 use Rattle.selection.proofs.Requests.{suspended-out}
 
 -- ---- a suspended rule
@@ -79,4 +80,6 @@ module _ (s : List ℕ) where
     left-out = out-suspended;
     same-class = suspended-out choice {Start = λ j. ⊥} (λ j z. absurd z) (λ i o. suspended-blank s i (out-suspended i o)) .0;
     same-certificates = λ Start begins. suspended-out choice begins (λ i o. suspended-blank s i (out-suspended i o)) .1;
+    same-starts = λ start j. start-selected (problemOf s) (ruleInForce s) (rulesInForce s) start j;
+    same-second = λ j. second-selected (problemOf s) (ruleInForce s) (rulesInForce s);
   }

@@ -3,7 +3,9 @@
 use Prim.Native.Nat.{ℕ, _≤_}
 use mathlib.Core.Path.{_≡_}
 use mathlib.Core.Bool.{true}
+use mathlib.Core.Logic.{_↔_}
 use mathlib.Core.List.{List}
+use Rattle.definitions.specs.Certificate.{Second, startOf}
 use Rattle.definitions.specs.ProblemRecord.{nField, suspended, problemOf}
 use Rattle.definitions.specs.Selection.{Choice, Ascending, LeftOut, SameClass}
 use Rattle.definitions.specs.Suspended.{rulesInForce, ruleInForce, onlyInForce, Lifted}
@@ -22,3 +24,6 @@ pub record RulesInForce (s : List ℕ) : Type 1 where
   -- and 3, and class 2 drops the picks of their rows.
   pub same-certificates :
       (Start : ℕ → Type 0) → ((j : ℕ) → Start j → j ≤ nField s) → SameCertificates Start (problemOf s) (ruleInForce s) (rulesInForce s)
+  -- The starts of answers mean the same moments in both: 0 and 1 in classes 1 and 3, and those that class 2 may name.
+  pub same-starts : (start j : ℕ) → startOf (problemOf s) start j ↔ startOf (onlyInForce s) start j
+  pub same-second : (j : ℕ) → Second (problemOf s) j ↔ Second (onlyInForce s) j
