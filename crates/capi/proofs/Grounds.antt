@@ -4,7 +4,8 @@ use mathlib.Core.Path.{_≡_, sym, subst}
 use mathlib.Core.List.{List, []}
 use native.Mathlib.Omega.{arith}
 use lib.ListN.{length, take}
-use Rattle.definitions.specs.Limits.{highest-m, stride}
+use lib.Seq.{length-take-le}
+use Rattle.definitions.specs.Limits.{highest-m, stride, table-rows}
 use Rattle.definitions.specs.Bytes.{put}
 use Rattle.definitions.specs.Reasons.{Reasoned}
 use Rattle.definitions.proofs.Put.{put-nil}
@@ -14,6 +15,7 @@ use Rattle.grounds.specs.declared.reasons.Told.the-variants.{Refused, None, Lea
 use Rattle.capi.specs.Numbers.{PlacesAs}
 use Rattle.capi.specs.Behind as Behind
 use Rattle.capi.specs.Behind.{ReasonsAs, countsNumber}
+use Rattle.capi.proofs.Lent.{both-lent}
 
 -- The counts are those of the places that the tool has.
 pub none-fits : (t : Told) {count : ℕ} → countsFit t → t ≡ None count → count ≤ highest-m
@@ -23,6 +25,20 @@ none-fits t h e = rw e at h
 pub least-fits : (t : Told) {count turns : ℕ} → countsFit t → t ≡ Least count turns → (count ≤ highest-m) × (turns ≤ stride)
 unfolding countsFit
 least-fits t h e = rw e at h
+
+-- So many of each stand in the lent places, and the number says how many.
+pub numbers-lent :
+    (rules round rules-before round-before : List ℕ) {rules-after round-after : List ℕ} (count turns : ℕ) → count ≤ length rules → turns ≤ length round
+    → stride ≤ length round-before → table-rows ≤ length rules-before → round-after ≡ put round-before 0 (take turns round)
+    → rules-after ≡ put rules-before 0 (take count rules)
+    → PlacesAs (countsNumber (length (take count rules)) (length (take turns round))) (take turns round) (take count rules) round-before rules-before (countsNumber count turns) round-after rules-after
+numbers-lent rules round rules-before round-before {rules-after} {round-after} count turns h k f g d e =
+    let l = length-take-le count rules h in
+    let m = length-take-le turns round k in
+    subst
+    (λ (number : ℕ). PlacesAs (countsNumber (length (take count rules)) (length (take turns round))) (take turns round) (take count rules) round-before rules-before number round-after rules-after)
+    (omega arith)
+    (both-lent _ (take turns round) (take count rules) round-before rules-before f g d e)
 
 module _ {p a : List ℕ} (t : Told) (rules round : List ℕ) (reasoned : Reasoned p a (toldOf t rules round)) {rules-before round-before : List ℕ} where
   pub as-refused : {k : ℕ} → t ≡ Refused k → ReasonsAs p a rules-before round-before k rules-before round-before

@@ -1,8 +1,8 @@
 // The rules behind an answer and the binding round, in lent places, with their counts as one number.
 ghost use mathlib.Core.Path.{_≡_};
 ghost use Prim.Native.Nat.{_≤_};
-ghost use lib.ListN.{length};
-ghost use Rattle.definitions.specs.Limits.{stride, table-rows};
+ghost use lib.ListN.{length, take};
+ghost use Rattle.definitions.specs.Limits.{highest-m, stride, table-rows};
 ghost use Rattle.definitions.specs.Bytes.{put};
 ghost use Rattle.definitions.specs.ProblemRecord.{meant};
 ghost use Rattle.capi.specs.Numbers.{PlacesAs};
@@ -15,26 +15,27 @@ use records::limits::BYTE;
 use records::limits::ROWS;
 use records::limits::STRIDE;
 
-// Copies numbers to the first of the lent places.
-fn copy_numbers(from: &[usize], to: &mut [u64])
-    requires { ⌜ length (now from) ≤ length (now to) ⌝ }
-    ensures { λ _. ⌜ now (to .exit) ≡ put (now (to .entry)) 0 (now (from .entry)) ⌝ }
+// Copies so many numbers to the first of the lent places.
+fn copy_numbers(from: &[usize], count: usize, to: &mut [u64])
+    requires { ⌜ (count ≤ length (now from)) × (length (now from) ≤ length (now to)) ⌝ }
+    ensures { λ _. ⌜ now (to .exit) ≡ put (now (to .entry)) 0 (take count (now (from .entry))) ⌝ }
 {
-    let count = from.len();
     for i in 0..count {
         to[i] = from[i] as u64;
     }
 }
 
-// Both counts as a number, the rules and the round in the lent places, where there are enough.
+// Both counts as a number, so many rules and moments of the round in the lent places, where there are enough.
 fn lend_numbers(
-    rules: &[usize],
-    round: &[usize],
+    rules: &[usize; ROWS],
+    count: usize,
+    round: &[usize; STRIDE],
+    turns: usize,
     rules_out: &mut [u64],
     round_out: &mut [u64],
 ) -> u64
-    requires { ⌜ (length (now rules) ≤ table-rows) × (length (now round) ≤ stride) ⌝ }
-    ensures { λ r. ⌜ PlacesAs (countsNumber (length (now (rules .entry))) (length (now (round .entry)))) (now (round .entry)) (now (rules .entry)) (now («round_out» .entry)) (now («rules_out» .entry)) r (now («round_out» .exit)) (now («rules_out» .exit)) ⌝ }
+    requires { ⌜ (length (now rules) ≡ table-rows) × (length (now round) ≡ stride) × (count ≤ highest-m) × (turns ≤ stride) ⌝ }
+    ensures { λ r. ⌜ PlacesAs (countsNumber (length (take count (now (rules .entry)))) (length (take turns (now (round .entry))))) (take turns (now (round .entry))) (take count (now (rules .entry))) (now («round_out» .entry)) (now («rules_out» .entry)) r (now («round_out» .exit)) (now («rules_out» .exit)) ⌝ }
 {
     if round_out.len() < STRIDE {
         return TOO_FEW_PLACES;
@@ -42,9 +43,9 @@ fn lend_numbers(
     if rules_out.len() < ROWS {
         return TOO_FEW_PLACES;
     }
-    copy_numbers(round, round_out);
-    copy_numbers(rules, rules_out);
-    BYTE * rules.len() as u64 + QUARTER * round.len() as u64
+    copy_numbers(round, turns, round_out);
+    copy_numbers(rules, count, rules_out);
+    BYTE * count as u64 + QUARTER * turns as u64
 }
 
 // The rules behind an accepted answer to a problem, and the binding round of a least span; no bytes mean the idle day.
@@ -63,9 +64,9 @@ pub extern "C" fn span_reasons(
     let told = found.told;
     match told {
         Told::Refused(k) => k as u64,
-        Told::None(count) => lend_numbers(&numbers[..count], &moments[..0], rules, round),
+        Told::None(count) => lend_numbers(&numbers, count, &moments, 0, rules, round),
         Told::Least(count, turns) => {
-            lend_numbers(&numbers[..count], &moments[..turns], rules, round)
+            lend_numbers(&numbers, count, &moments, turns, rules, round)
         }
     }
 }
