@@ -158,20 +158,18 @@ impl Refusal {
             13 => "A pick is above its highest value.",
             14 => "The form is right and the answer is not accepted: not certified.",
             15 => "The count of questions is 0 or above 8.",
-            17 => "A rule has an all-blank left list.",
             16 => "The answer is bottomless.",
-            17 => "A rule has an all-blank left list.",
             17 => "A rule has an all-blank left list.",
             18 => {
                 "The text is not of this form, a value read or to be written is beyond ±6,000,000, or the writer's \
                  buffer is shorter than 10 bytes."
             }
             19 => "More than 14 windows, a closing not after its opening, an opening or closing outside its range, a window that starts before the last one closes, or a minute to be looked up beyond ±6,000,000.",
+            20 => "A state is neither 0 nor 1.",
             24 => "The shift is above 0.",
             25 => "A plan breaks a rule.",
             26 => "A merged stamp would be below −6,000,000.",
             27 => "w is 0 or above 20,160, n or m is beyond its limit, or the total is above 65,536.",
-            20 => "A state is neither 0 nor 1.",
             _ => "No refusal of documents 01 and 02.",
         }
     }
