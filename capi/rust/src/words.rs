@@ -158,7 +158,6 @@ impl Refusal {
             13 => "A pick is above its highest value.",
             14 => "The form is right and the answer is not accepted: not certified.",
             15 => "The count of questions is 0 or above 8.",
-            17 => "A rule has an all-blank left list.",
             16 => "The answer is bottomless.",
             17 => "A rule has an all-blank left list.",
             18 => {
