@@ -19,3 +19,4 @@ pub mod Scaling
 pub mod Selection
 pub mod Conversion
 pub mod Marks
+pub mod Desk
