@@ -36,9 +36,13 @@ emptyPlaces (suc k) = empty ∷ emptyPlaces k
 abbrev pub opened : Desk
 opened = record { given = 0; line = []; places = emptyPlaces desk-places }
 
--- The place with this number, and the places once another stands there.
+-- What stands at the place with this number, and the places once another stands there.
 abbrev pub placeAt : Desk → ℕ → Place
 placeAt d i = getD (d .places) i empty
+
+-- This stands at this place of the desk.
+pub record Stands (d : Desk) (i : ℕ) (p : Place) : Type 0 where
+  pub is : placeAt d i ≡ p
 
 unfoldable pub changed : List Place → ℕ → Place → List Place
 changed [] i p = []
@@ -122,13 +126,13 @@ pub data Steps (memory : ℕ) (d : Desk) : Stepped → Desk → Type 0 where
   idle : first (memoryRefused memory ∷ []) ≡ 0 → d .line ≡ [] → Steps memory d none-waits d
   one-more :
       {i number own class trials : ℕ} {span : Trop} {problem rest : List ℕ} → first (memoryRefused memory ∷ []) ≡ 0
-      → d .line ≡ i ∷ rest → placeAt d i ≡ waits number problem own
+      → d .line ≡ i ∷ rest → Stands d i (waits number problem own)
       → Found (problemOf problem) class span trials → suc own < trials
       → Steps memory d (goes-on number)
       (record { given = d .given; line = rest ++ (i ∷ []); places = changed (d .places) i (waits number problem (suc own)) })
   last-one :
       {i number own class trials : ℕ} {span : Trop} {problem rest : List ℕ} {a : Answer} → first (memoryRefused memory ∷ []) ≡ 0
-      → d .line ≡ i ∷ rest → placeAt d i ≡ waits number problem own
+      → d .line ≡ i ∷ rest → Stands d i (waits number problem own)
       → suc own ≡ trials → Answers (problemOf problem) class span trials a
       → Steps memory d (done number)
       (record { given = d .given; line = rest; places = changed (d .places) i (answered number problem class span trials a) })
@@ -152,15 +156,15 @@ pub data Collects (memory : ℕ) (d : Desk) (number : ℕ) (buffer : List ℕ) :
   no-such-ticket :
       first (memoryRefused memory ∷ []) ≡ 0 → NotHeld d number → Collects memory d number buffer (refused refused-ticket) d buffer
   waits-yet :
-      {i own : ℕ} {problem : List ℕ} → first (memoryRefused memory ∷ []) ≡ 0 → placeAt d i ≡ waits number problem own
+      {i own : ℕ} {problem : List ℕ} → first (memoryRefused memory ∷ []) ≡ 0 → Stands d i (waits number problem own)
       → Collects memory d number buffer still-waits d buffer
   short-buffer :
       {i class own : ℕ} {span : Trop} {problem : List ℕ} {a : Answer} → first (memoryRefused memory ∷ []) ≡ 0
-      → placeAt d i ≡ answered number problem class span own a → length buffer < answer-most
+      → Stands d i (answered number problem class span own a) → length buffer < answer-most
       → Collects memory d number buffer (refused refused-room) d buffer
   handed-over :
       {i class own : ℕ} {span : Trop} {problem : List ℕ} {a : Answer} → first (memoryRefused memory ∷ []) ≡ 0
-      → placeAt d i ≡ answered number problem class span own a → answer-most ≤ length buffer
+      → Stands d i (answered number problem class span own a) → answer-most ≤ length buffer
       → Collects memory d number buffer (collected class span own (answerSize class (nField problem) (mField problem)))
       (record { given = d .given; line = d .line; places = changed (d .places) i empty })
       (written buffer (answerBytes (nField problem) a))
@@ -189,17 +193,17 @@ pub record StillWaits (d : Desk) (number : ℕ) : Type 0 where
   pub place : ℕ
   pub problem : List ℕ
   pub own : ℕ
-  pub there : placeAt d place ≡ waits number problem own
+  pub there : Stands d place (waits number problem own)
 
 -- "a problem is answered within 24 trials of its own": whoever waits has made fewer than its problem takes, and that is at most 24.
 -- "at most 384 steps after it was taken in".
 pub record AnsweredInTime (most-own most-steps : ℕ) : Type 0 where
   pub own-trials :
-      {memory : ℕ} {d : Desk} → FromOpening memory d → {i number own : ℕ} {problem : List ℕ} → placeAt d i ≡ waits number problem own
+      {memory : ℕ} {d : Desk} → FromOpening memory d → {i number own : ℕ} {problem : List ℕ} → Stands d i (waits number problem own)
       → own < most-own
   pub trials-of-answered :
       {memory : ℕ} {d : Desk} → FromOpening memory d → {i number class own : ℕ} {span : Trop} {problem : List ℕ} {a : Answer}
-      → placeAt d i ≡ answered number problem class span own a → own ≤ most-own
+      → Stands d i (answered number problem class span own a) → own ≤ most-own
   pub steps-after :
       {memory : ℕ} {d e f : Desk} {p : List ℕ} {number k : ℕ} → FromOpening memory d → TakesIn memory d p (ticket number) e
       → Run memory e k f → most-steps ≤ k → StillWaits f number → ⊥
