@@ -4,11 +4,11 @@ use mathlib.Core.Path.{_≡_}
 use mathlib.Core.Bool.{cond}
 use mathlib.Core.List.{List, [], _∷_, _++_, map}
 use lib.Dec.{eqb, ltb, leb}
-use lib.ListN.{length, getD}
-use Rattle.definitions.specs.Limits.{desk-places, desk-memory, last-ticket, answer-most, refused-room, refused-full, refused-ticket, refused-memory}
+use lib.ListN.{length, getD, set, replicate}
+use Rattle.definitions.specs.Limits.{most-trials, desk-places, desk-memory, desk-steps, last-ticket, answer-most, refused-room, refused-full, refused-ticket, refused-memory}
 use Rattle.definitions.specs.Tropical.{Trop}
 use Rattle.definitions.specs.Bytes.{Clause, first, or-else}
-use Rattle.definitions.specs.ProblemRecord.{problemRefusal, problemOf, meant, nField, mField}
+use Rattle.definitions.specs.ProblemRecord.{problemRefusal, WithinLayout, problemOf, meant, nField, mField}
 use Rattle.definitions.specs.AnswerRecord.{Answer, answerSize, answerBytes, written}
 use Rattle.definitions.specs.Solved.{Found, Answers}
 
@@ -29,25 +29,16 @@ pub record Desk : Type 0 where
   pub places : List Place
 
 -- An opening: no ticket given, nobody waits, sixteen empty places.
-unfoldable pub emptyPlaces : ℕ → List Place
-emptyPlaces zero = []
-emptyPlaces (suc k) = empty ∷ emptyPlaces k
-
 abbrev pub opened : Desk
-opened = record { given = 0; line = []; places = emptyPlaces desk-places }
+opened = record { given = 0; line = []; places = replicate desk-places empty }
 
--- What stands at the place with this number, and the places once another stands there.
+-- What stands at the place with this number.
 abbrev pub placeAt : Desk → ℕ → Place
 placeAt d i = getD (d .places) i empty
 
 -- This stands at this place of the desk.
 pub record Stands (d : Desk) (i : ℕ) (p : Place) : Type 0 where
   pub is : placeAt d i ≡ p
-
-unfoldable pub changed : List Place → ℕ → Place → List Place
-changed [] i p = []
-changed (q ∷ places) zero p = p ∷ places
-changed (q ∷ places) (suc i) p = q ∷ changed places i p
 
 -- The ticket that a place holds, 0 where it is empty.
 unfoldable pub ticketOf : Place → ℕ
@@ -107,7 +98,7 @@ pub data TakesIn (memory : ℕ) (d : Desk) (p : List ℕ) : TakenIn → Desk →
   taken :
       {i : ℕ} → takeRefusal memory d p ≡ 0 → FirstEmpty d i
       → TakesIn memory d p (ticket (suc (d .given)))
-      (record { given = suc (d .given); line = d .line ++ (i ∷ []); places = changed (d .places) i (waits (suc (d .given)) (meant p) 0) })
+      (record { given = suc (d .given); line = d .line ++ (i ∷ []); places = set (d .places) i (waits (suc (d .given)) (meant p) 0) })
 
 -- ---- a step
 
@@ -129,13 +120,13 @@ pub data Steps (memory : ℕ) (d : Desk) : Stepped → Desk → Type 0 where
       → d .line ≡ i ∷ rest → Stands d i (waits number problem own)
       → Found (problemOf problem) class span trials → suc own < trials
       → Steps memory d (goes-on number)
-      (record { given = d .given; line = rest ++ (i ∷ []); places = changed (d .places) i (waits number problem (suc own)) })
+      (record { given = d .given; line = rest ++ (i ∷ []); places = set (d .places) i (waits number problem (suc own)) })
   last-one :
       {i number own class trials : ℕ} {span : Trop} {problem rest : List ℕ} {a : Answer} → first (memoryRefused memory ∷ []) ≡ 0
       → d .line ≡ i ∷ rest → Stands d i (waits number problem own)
       → suc own ≡ trials → Answers (problemOf problem) class span trials a
       → Steps memory d (done number)
-      (record { given = d .given; line = rest; places = changed (d .places) i (answered number problem class span trials a) })
+      (record { given = d .given; line = rest; places = set (d .places) i (answered number problem class span trials a) })
 
 -- ---- collecting
 
@@ -166,7 +157,7 @@ pub data Collects (memory : ℕ) (d : Desk) (number : ℕ) (buffer : List ℕ) :
       {i class own : ℕ} {span : Trop} {problem : List ℕ} {a : Answer} → first (memoryRefused memory ∷ []) ≡ 0
       → Stands d i (answered number problem class span own a) → answer-most ≤ length buffer
       → Collects memory d number buffer (collected class span own (answerSize class (nField problem) (mField problem)))
-      (record { given = d .given; line = d .line; places = changed (d .places) i empty })
+      (record { given = d .given; line = d .line; places = set (d .places) i empty })
       (written buffer (answerBytes (nField problem) a))
 
 -- ---- sequences
@@ -195,15 +186,28 @@ pub record StillWaits (d : Desk) (number : ℕ) : Type 0 where
   pub own : ℕ
   pub there : Stands d place (waits number problem own)
 
--- "a problem is answered within 24 trials of its own": whoever waits has made fewer than its problem takes, and that is at most 24.
--- "at most 384 steps after it was taken in".
-pub record AnsweredInTime (most-own most-steps : ℕ) : Type 0 where
+-- "For every sequence of takings-in, steps and collections from an opening on".
+pub record DeskHolds : Type 0 where
+  -- "a problem is answered within 24 trials of its own": one that waits has made fewer, one that is answered at most so many,
   pub own-trials :
       {memory : ℕ} {d : Desk} → FromOpening memory d → {i number own : ℕ} {problem : List ℕ} → Stands d i (waits number problem own)
-      → own < most-own
+      → own < most-trials
   pub trials-of-answered :
       {memory : ℕ} {d : Desk} → FromOpening memory d → {i number class own : ℕ} {span : Trop} {problem : List ℕ} {a : Answer}
-      → Stands d i (answered number problem class span own a) → own ≤ most-own
+      → Stands d i (answered number problem class span own a) → own ≤ most-trials
+  -- "and at most 384 steps after it was taken in";
   pub steps-after :
       {memory : ℕ} {d e f : Desk} {p : List ℕ} {number k : ℕ} → FromOpening memory d → TakesIn memory d p (ticket number) e
-      → Run memory e k f → most-steps ≤ k → StillWaits f number → ⊥
+      → Run memory e k f → desk-steps ≤ k → StillWaits f number → ⊥
+  -- the answer is one that the engine may give for that problem alone, which is within the layout;
+  pub answers-alone :
+      {memory : ℕ} {d : Desk} → FromOpening memory d → {i number class own : ℕ} {span : Trop} {problem : List ℕ} {a : Answer}
+      → Stands d i (answered number problem class span own a) → WithinLayout problem × Answers (problemOf problem) class span own a
+  -- "a problem's answer does not depend on the others": over two sequences the same problem has the same class, span and own trials;
+  pub independent :
+      {memory room : ℕ} {d e : Desk} → FromOpening memory d → FromOpening room e → {problem : List ℕ} {i k x y c z own trials : ℕ} {s t : Trop} {a b : Answer}
+      → Stands d i (answered x problem c s own a) → Stands e k (answered y problem z t trials b) → (c ≡ z) × (s ≡ t) × (own ≡ trials)
+  -- tickets "never come twice before the next" opening.
+  pub tickets-rise :
+      {memory : ℕ} {d e f g : Desk} {p q : List ℕ} {number later k : ℕ} → TakesIn memory d p (ticket number) e → Run memory e k f
+      → TakesIn memory f q (ticket later) g → number < later

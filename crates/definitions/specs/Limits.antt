@@ -181,7 +181,8 @@ most-windows = 14
 abbrev pub minute-limit : ℕ
 minute-limit = 6000000
 
--- Document 02, 2.11: the desk's places, the memory that it asks for (16 problems of 16,394 bytes), and the last ticket, 2⁶⁴ − 1.
+-- Document 02, 2.11: the desk's places, the memory that it asks for (16 problems of 16,394 bytes), the last ticket, 2⁶⁴ − 1, and
+-- the most steps after which a problem is answered, 384.
 abbrev pub desk-places : ℕ
 desk-places = 16
 
@@ -190,6 +191,9 @@ desk-memory = desk-places * problem-most
 
 abbrev pub last-ticket : ℕ
 last-ticket = word-values - 1
+
+abbrev pub desk-steps : ℕ
+desk-steps = desk-places * most-trials
 
 -- ---- refusals, as document 01 counts them under "What is turned away" and document 02 goes on
 
