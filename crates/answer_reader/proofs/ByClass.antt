@@ -1,35 +1,42 @@
 -- What the code's tests of a class say of the definitions by class, and the tests of form on offset numbers.
 use Prim.Native.Nat.{ℕ, zero, suc, _+_, _≤_, _<_}
 use mathlib.Core.Path.{_≡_, refl}
-use mathlib.Core.Bool.{true, false, _&&_}
+use mathlib.Core.Bool.{Bool, true, false, _&&_}
 use native.Mathlib.Omega.{arith}
-use lib.Dec.{eqb}
-use borrow.Author.Tests.{eq-eqb, ne-eqb}
+use lib.Dec.{eqb, ltb, leb}
+use native.Mathlib.Numerals.{add-one}
+use borrow.Author.Tests.{eq-eqb, ne-eqb, lt-ltb}
 use Rattle.definitions.specs.Limits.{signed-half, span-limit, stamp-limit, highest-n, highest-m, answer-kind, class-optimal, class-unbounded, class-infeasible, stride, table-rows}
 use Rattle.definitions.specs.Bytes.{whole-within, blank-or-within}
 use Rattle.definitions.specs.Offset.{tropOf}
-use Rattle.definitions.specs.AnswerRecord.{known-class, stampCount, pickCount, highestPick, spanFits}
+use Rattle.definitions.specs.AnswerRecord.{known-class, startFits, stampCount, pickCount, highestPick, spanFits}
 use Rattle.definitions.proofs.Offset.{blank-offset, zero-offset}
 use Rattle.definitions.proofs.RoundTrip.{by-class-each}
 use Rattle.answer_reader.specs.Fields.{stampFits}
 
--- ---- the known classes
+-- ---- the known classes and their starts
 
-module _ (c : ℕ) where
-  pub known-least : c ≡ class-optimal → true ≡ known-class c
-  known-least e = rw e
+pub names-none : (start n : ℕ) → start ≡ 0 → false ≡ (ltb 0 start && leb start (suc n))
+names-none start n e = rw e
 
-  pub known-bottomless : c ≡ class-unbounded → true ≡ known-class c
-  known-bottomless e = rw e
+pub names-some : (start n : ℕ) → (start ≡ 0 → ⊥) → leb start (n + 1) ≡ (ltb 0 start && leb start (suc n))
+names-some start n h = rw (lt-ltb 0 start (omega arith), add-one)
 
-  pub known-none : c ≡ class-infeasible → true ≡ known-class c
-  known-none e = rw e
+module _ (c start n : ℕ) where
+  pub start-least : c ≡ class-optimal → leb start 1 ≡ (known-class c && startFits c start n)
+  start-least e = rw e
 
-  pub known-zero : c ≡ 0 → false ≡ known-class c
-  known-zero e = rw e
+  pub start-bottomless : c ≡ class-unbounded → (ltb 0 start && leb start (suc n)) ≡ (known-class c && startFits c start n)
+  start-bottomless e = rw e
 
-  pub known-other : (c ≡ class-optimal → ⊥) → (c ≡ class-unbounded → ⊥) → (c ≡ class-infeasible → ⊥) → false ≡ known-class c
-  known-other x y z = rw (ne-eqb c class-optimal x, ne-eqb c class-unbounded y, ne-eqb c class-infeasible z)
+  pub start-none : c ≡ class-infeasible → leb start 1 ≡ (known-class c && startFits c start n)
+  start-none e = rw e
+
+  pub start-zero : c ≡ 0 → false ≡ (known-class c && startFits c start n)
+  start-zero e = rw e
+
+  pub start-other : (c ≡ class-optimal → ⊥) → (c ≡ class-unbounded → ⊥) → (c ≡ class-infeasible → ⊥) → false ≡ (known-class c && startFits c start n)
+  start-other x y z = rw (ne-eqb c class-optimal x, ne-eqb c class-unbounded y, ne-eqb c class-infeasible z)
 
 -- ---- counts
 
@@ -112,11 +119,11 @@ other-stamp i k e = rw (ne-eqb i 0 e)
 
 -- ---- kinds
 
-pub kind-answer : (kind class : ℕ) → kind ≡ answer-kind → known-class class ≡ (eqb kind answer-kind && known-class class)
-kind-answer kind class e = rw (eq-eqb kind answer-kind e)
+pub kind-answer : (kind : ℕ) (known : Bool) → kind ≡ answer-kind → known ≡ (eqb kind answer-kind && known)
+kind-answer kind known e = rw (eq-eqb kind answer-kind e)
 
-pub kind-other : (kind class : ℕ) → (kind ≡ answer-kind → ⊥) → false ≡ (eqb kind answer-kind && known-class class)
-kind-other kind class e = rw (ne-eqb kind answer-kind e)
+pub kind-other : (kind : ℕ) (known : Bool) → (kind ≡ answer-kind → ⊥) → false ≡ (eqb kind answer-kind && known)
+kind-other kind known e = rw (ne-eqb kind answer-kind e)
 
 -- ---- how many there are at most
 

@@ -1,7 +1,7 @@
 -- The cascade of refusals 12 and 13, and the answer whose body the reader judges.
 use Prim.Native.Nat.{ℕ, zero, suc, _+_, _≤_}
 use mathlib.Core.Path.{_≡_, refl, ap, ap₂, sym, _∙_}
-use mathlib.Core.Bool.{Bool, true, false}
+use mathlib.Core.Bool.{Bool, true, false, _&&_}
 use mathlib.Core.List.{List, [], _∷_, map}
 use native.Mathlib.Omega.{arith}
 use lib.Dec.{eqb}
@@ -11,15 +11,16 @@ use Rattle.definitions.specs.Limits.{highest-n, highest-m, length-bytes, signed
 use Rattle.definitions.specs.Bytes.{Bytes, numAt, tropField, tropAt, or-else}
 use Rattle.definitions.specs.Offset.{tropOf, off}
 use Rattle.definitions.specs.ProblemRecord.{lengthField, kindField, nField}
-use Rattle.definitions.specs.AnswerRecord.{Answer, known-class, answerSize, spanFits, stampsFit, picksFit, highestPick, formRefusal, stampCount, pickCount, classField, answerOf, spanField, answerHeaderRefusal, answerHeaderJudged, answerHeaderOutcome, answerRefusal, answerOutcome}
+use Rattle.definitions.specs.AnswerRecord.{Answer, known-class, startFits, answerSize, spanFits, stampsFit, picksFit, highestPick, formRefusal, stampCount, pickCount, classField, answerOf, spanField, startField, answerHeaderRefusal, answerHeaderJudged, answerHeaderOutcome, answerRefusal, answerOutcome}
 use Rattle.definitions.proofs.Bytes.{numAt-bound, Below, numsAt-below}
 use Rattle.definitions.proofs.Offset.{trop-off}
 use Rattle.definitions.proofs.Refusals.{limits-clause, enough-clause, equal-clause, both-clause}
 use Rattle.answer_reader.specs.Fields.{Padded, bodyOf, stampsAt, picksAt, stampsOf, picksOf}
-use Rattle.answer_reader.specs.AnswerReading.{spanNumber, headOf, AnswerRead}
+use Rattle.answer_reader.specs.AnswerReading.{spanNumber, headOf, HeadAt, AnswerRead}
+use Rattle.answer_reader.specs.declared.answer.Head.{Head}
 use Rattle.answer_reader.specs.declared.answer.AnswerHead.{AnswerHead}
 use Rattle.answer_reader.specs.declared.answer.AnswerHead.the-variants.{Fields, Refused}
-use Rattle.answer_reader.proofs.Heads.{fields-by, refused-by, head-fields, head-refused}
+use Rattle.answer_reader.proofs.Heads.{head-told, told-head, fields-by, refused-by, head-fields, head-refused}
 
 -- ---- refusals 12 and 13 in the code's order
 
@@ -61,9 +62,10 @@ module _ {s : List ℕ} (bytes : Bytes s) (n m : ℕ) where
   span-meant = trop-off (numAt signed-bytes s span-place) (numAt-bound signed-bytes span-place bytes)
 
   -- The body that the reader judges is the answer that the bytes mean.
-  pub body-meant : (class span : ℕ) → class ≡ classField s → tropOf span ≡ spanField s → bodyOf s class span n m ≡ answerOf s n m
+  pub body-meant : {head : Head} → HeadAt s head → bodyOf s head n m ≡ answerOf s n m
   unfolding answerOf stampsOf picksAt
-  body-meant class span c e = rw c (λ i. record { class = classField s; span = e i; stamps = stamps-meant i; picks = answerOf s n m .picks })
+  body-meant a =
+      rw (a .class-is) (λ i. record { class = classField s; span = a .span-is i; start = a .start-is i; stamps = stamps-meant i; picks = answerOf s n m .picks })
 
 -- The picks that the reader gives are the answer's.
 pub picks-meant : (s : List ℕ) (n m : ℕ) → picksOf s n m ≡ answerOf s n m .picks
@@ -72,41 +74,40 @@ picks-meant s n m = refl
 
 -- ---- the reader's outcomes
 
--- The header is right, and gave this class and span.
-pub record HeadRight (s : List ℕ) (n m class span : ℕ) : Type 0 where
+-- The header is right, and gave this class, span and start.
+pub record HeadRight (s : List ℕ) (n m : ℕ) (head : Head) : Type 0 where
   pub header : answerHeaderRefusal s (length s) n m ≡ 0
-  pub class-is : class ≡ classField s
-  pub span-is : tropOf span ≡ spanField s
+  pub is : HeadAt s head
   pub n-most : n ≤ highest-n
   pub m-most : m ≤ highest-m
-  pub size-is : length s ≡ answerSize class n m
+  pub size-is : length s ≡ answerSize (head .class) n m
 
-pub head-right : (s : List ℕ) (n m : ℕ) {head : AnswerHead} {class span : ℕ} → headOf head ≡ answerHeaderOutcome s (length s) n m → head ≡ Fields class span
-    → HeadRight s n m class span
+pub head-right : (s : List ℕ) (n m : ℕ) {read : AnswerHead} {head : Head} → headOf read ≡ answerHeaderOutcome s (length s) n m → read ≡ Fields head
+    → HeadRight s n m head
 unfolding answerHeaderOutcome answerHeaderRefusal answerHeaderJudged
 head-right s n m e f =
-    let h = fields-by (answerHeaderRefusal s (length s) n m) (classField s) (spanField s) e f in
+    let h = fields-by (answerHeaderRefusal s (length s) n m) (classField s, spanField s, startField s) e f in
     let a = limits-clause n m _ _ .0 (h .0) in
     let b = enough-clause (length s) answer-header _ _ .0 (a .1) in
     let c = equal-clause (lengthField s + length-bytes) (length s) _ _ .0 (b .1) in
-    let d = both-clause (eqb (kindField s) answer-kind) (known-class (classField s)) _ _ .0 (c .1) in
+    let d = both-clause (eqb (kindField s) answer-kind) (known-class (classField s) && startFits (classField s) (startField s) n) _ _ .0 (c .1) in
     let g = both-clause (eqb (nField s) n) (eqb (length s) (answerSize (classField s) n m)) _ _ .0 (d .1) in
+    let at = told-head (h .1) in
     record {
       header = h .0;
-      class-is = h .1;
-      span-is = h .2;
+      is = at;
       n-most = a .0 .0;
       m-most = a .0 .1;
-      size-is = rw (h .1) (eqb-true (length s) (answerSize (classField s) n m) (g .0 .1));
+      size-is = rw (at .class-is) (eqb-true (length s) (answerSize (classField s) n m) (g .0 .1));
     }
 
 -- The header is refused.
-pub read-turned-away : (s : List ℕ) (n m : ℕ) {head : AnswerHead} {k : ℕ} {stamps picks : List ℕ} → headOf head ≡ answerHeaderOutcome s (length s) n m → head ≡ Refused k
-    → AnswerRead s n m head stamps stamps picks picks
+pub read-turned-away : (s : List ℕ) (n m : ℕ) {read : AnswerHead} {k : ℕ} {stamps picks : List ℕ} → headOf read ≡ answerHeaderOutcome s (length s) n m → read ≡ Refused k
+    → AnswerRead s n m read stamps stamps picks picks
 unfolding answerHeaderOutcome answerOutcome answerRefusal
 read-turned-away s n m e f =
     let k : ℕ = answerHeaderRefusal s (length s) n m in
-    let none = refused-by (answerHeaderRefusal s (length s) n m) (classField s, spanField s) e f .1 in
+    let none = refused-by (answerHeaderRefusal s (length s) n m) (classField s, spanField s, startField s) e f .1 in
     let same : answerRefusal s n m ≡ answerHeaderRefusal s (length s) n m = first-counts (answerHeaderRefusal s (length s) n m) _ none in
     record {
       answered = rw same e;
@@ -119,36 +120,36 @@ read-turned-away s n m e f =
     first-counts zero b h = absurd (h refl)
     first-counts (suc a) b h = refl
 
-module _ {s : List ℕ} (bytes : Bytes s) {n m class span : ℕ} (right : HeadRight s n m class span) where
+module _ {s : List ℕ} (bytes : Bytes s) {n m : ℕ} {head : Head} (right : HeadRight s n m head) where
   -- Once the header is right, the body's refusal is the answer's.
-  body-judged : (k : ℕ) → k ≡ formRefusal (bodyOf s class span n m) n m → k ≡ answerRefusal s n m
+  body-judged : (k : ℕ) → k ≡ formRefusal (bodyOf s head n m) n m → k ≡ answerRefusal s n m
   unfolding answerRefusal
-  body-judged k e = rw (right .header) (rw (body-meant bytes n m class span (right .class-is) (right .span-is)) at e)
+  body-judged k e = rw (right .header) (rw (body-meant bytes n m (right .is)) at e)
 
   -- The body is refused.
-  pub read-refused : {k : ℕ} {stamps picks : List ℕ} → k ≡ formRefusal (bodyOf s class span n m) n m → (k ≡ 0 → ⊥)
+  pub read-refused : {k : ℕ} {stamps picks : List ℕ} → k ≡ formRefusal (bodyOf s head n m) n m → (k ≡ 0 → ⊥)
       → AnswerRead s n m (Refused k) stamps stamps picks picks
   unfolding answerOutcome
   read-refused {k} e h =
       let same : k ≡ answerRefusal s n m = body-judged k e in
       record {
-        answered = rw (← same) (head-refused k (classField s, spanField s) h);
+        answered = rw (← same) (head-refused k (classField s, spanField s, startField s) h);
         kept = λ r. (refl, refl);
         stamps-read = λ r. absurd (h (same ∙ r));
         picks-read = λ r. absurd (h (same ∙ r));
       }
 
   -- The answer is read.
-  pub read-done : {head : AnswerHead} {k : ℕ} {stamps picks stamps-before picks-before : List ℕ} → head ≡ Fields class span
-      → k ≡ formRefusal (bodyOf s class span n m) n m → k ≡ 0
-      → Padded 32 (stampsAt s (stampCount class n)) stamps → Padded 64 (picksAt s (stampCount class n) (pickCount class n m)) picks
-      → AnswerRead s n m head stamps-before stamps picks-before picks
+  pub read-done : {read : AnswerHead} {k : ℕ} {stamps picks stamps-before picks-before : List ℕ} → read ≡ Fields head
+      → k ≡ formRefusal (bodyOf s head n m) n m → k ≡ 0
+      → Padded 32 (stampsAt s (stampCount (head .class) n)) stamps → Padded 64 (picksAt s (stampCount (head .class) n) (pickCount (head .class) n m)) picks
+      → AnswerRead s n m read stamps-before stamps picks-before picks
   unfolding answerOutcome stampsOf picksOf
   read-done {k = k} f e z p q =
       let same : answerRefusal s n m ≡ 0 = sym (body-judged k e) ∙ z in
       record {
-        answered = ap headOf f ∙ head-fields (answerRefusal s n m) (classField s) (spanField s) span same (right .class-is) (right .span-is);
+        answered = ap headOf f ∙ head-fields (answerRefusal s n m) (classField s, spanField s, startField s) head same (head-told (right .is));
         kept = λ r. absurd (r same);
-        stamps-read = λ r. rw (right .class-is) at p;
-        picks-read = λ r. rw (right .class-is) at q;
+        stamps-read = λ r. rw (right .is .class-is) at p;
+        picks-read = λ r. rw (right .is .class-is) at q;
       }

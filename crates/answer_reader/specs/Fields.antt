@@ -1,4 +1,4 @@
--- An answer as the programs hold it: class and span as numbers, stamps as offset numbers, picks, and arrays padded with 0.
+-- An answer as the programs hold it: class, span and start as numbers, stamps as offset numbers, picks, and arrays padded with 0.
 use Prim.Native.Nat.{ℕ, _+_, _*_}
 use mathlib.Core.Path.{_≡_}
 use mathlib.Core.Bool.{Bool, cond}
@@ -10,10 +10,12 @@ use Rattle.definitions.specs.Tropical.{Trop}
 use Rattle.definitions.specs.Bytes.{numsAt, blank-or-within}
 use Rattle.definitions.specs.Offset.{tropOf, off}
 use Rattle.definitions.specs.AnswerRecord.{Answer, is-zero, stampCount, pickCount, classField}
+use Rattle.answer_reader.specs.declared.answer.Head.{Head}
 
--- The answer that class, span, stamps and picks give, span and stamps as offset numbers.
-abbrev pub fieldsOf : ℕ → ℕ → List ℕ → List ℕ → Answer
-fieldsOf class span stamps picks = record { class = class; span = tropOf span; stamps = map tropOf stamps; picks = picks }
+-- The answer that class, span and start, stamps and picks give, span and stamps as offset numbers.
+abbrev pub fieldsOf : Head → List ℕ → List ℕ → Answer
+fieldsOf head stamps picks =
+    record { class = head .class; span = tropOf (head .span); start = head .start; stamps = map tropOf stamps; picks = picks }
 
 -- The offset numbers in a run of 4-byte fields behind an answer's header.
 unfoldable pub stampsAt : List ℕ → ℕ → List ℕ
@@ -30,9 +32,10 @@ stampsOf s n = stampsAt s (stampCount (classField s) n)
 unfoldable pub picksOf : List ℕ → ℕ → ℕ → List ℕ
 picksOf s n m = picksAt s (stampCount (classField s) n) (pickCount (classField s) n m)
 
--- The answer in bytes whose header gave this class and span.
-abbrev pub bodyOf : List ℕ → ℕ → ℕ → ℕ → ℕ → Answer
-bodyOf s class span n m = fieldsOf class span (stampsAt s (stampCount class n)) (picksAt s (stampCount class n) (pickCount class n m))
+-- The answer in bytes whose header gave this class, span and start.
+abbrev pub bodyOf : List ℕ → Head → ℕ → ℕ → Answer
+bodyOf s head n m =
+    fieldsOf head (stampsAt s (stampCount (head .class) n)) (picksAt s (stampCount (head .class) n) (pickCount (head .class) n m))
 
 -- The form of stamp i: stamp 0 is 0, the others are blank or within their limit.
 unfoldable pub stampFits : ℕ → Trop → Bool

@@ -1,4 +1,5 @@
-// The answer reader: bytes to class, span, stamps and picks. Document 01, "Records" and "What is turned away", 4 and 8 to 13.
+// The answer reader: bytes to class, span, start, stamps and picks. Document 01, "Records" and "What is turned away", 4 and 8 to 13;
+// document 02, 2.4.
 use crate::class::answer_size;
 use crate::class::highest_pick;
 use crate::class::known_record;
@@ -30,6 +31,7 @@ use records::limits::ROWS;
 use records::limits::SHORT_BYTES;
 use records::limits::SPAN_PLACE;
 use records::limits::STAMP_LIMIT;
+use records::limits::START_PLACE;
 use records::limits::STRIDE;
 use records::offset::blank_or_within;
 use records::offset::offset;
@@ -43,11 +45,19 @@ ghost use Rattle.definitions.specs.Bytes.{numAt};
 ghost use Rattle.definitions.specs.Offset.{tropOf, off};
 ghost use Rattle.definitions.specs.AnswerRecord.{answerSize, stampsFit, picksFit, formRefusal, answerHeaderJudged, answerHeaderOutcome};
 ghost use Rattle.answer_reader.specs.Fields.{bodyOf, stampsAt, picksAt, stampFits, Padded};
-ghost use Rattle.answer_reader.specs.AnswerReading.{headOf, AnswerRead};
+ghost use Rattle.answer_reader.specs.AnswerReading.{HeadAt, headOf, AnswerRead};
 
-// What reading an answer answers: its class and its span's offset number, or the number of the refusal.
+// The class of an answer, its span's offset number and its start. Public for `answer_writer`, `checker` and `engine`, which hand
+// them on together.
+pub struct Head {
+    pub class: u64,
+    pub span: u64,
+    pub start: u64,
+}
+
+// What reading an answer answers: class, span and start, or the number of the refusal.
 pub enum AnswerHead {
-    Fields(u64, u64),
+    Fields(Head),
     Refused(usize),
 }
 
@@ -57,12 +67,12 @@ fn judge_header(
     length: u64,
     kind: u64,
     own: u64,
-    class: u64,
+    head: Head,
     n: usize,
     m: usize,
 ) -> usize
     requires { ⌜ length < signed-full ⌝ }
-    ensures { λ r. ⌜ r ≡ answerHeaderJudged size length kind own class n m ⌝ }
+    ensures { λ r. ⌜ r ≡ answerHeaderJudged size length kind own (head .class) (head .start) n m ⌝ }
 {
     if n > HIGHEST_N {
         return REFUSED_LIMITS;
@@ -76,31 +86,40 @@ fn judge_header(
     if length + LENGTH_BYTES as u64 != size as u64 {
         return REFUSED_ANSWER_LENGTH;
     }
-    if !known_record(kind, class) {
+    if !known_record(kind, head.class, head.start, n) {
         return REFUSED_ANSWER_CLASS;
     }
     if own != n as u64 {
         return REFUSED_ANSWER_SIZE;
     }
-    if size != answer_size(class, n, m) {
+    if size != answer_size(head.class, n, m) {
         return REFUSED_ANSWER_SIZE;
     }
     0
 }
 
-// The first bytes of an answer and its size: class and span, or the first of refusals 4 and 8 to 11. A byte past the
-// end counts as 0. Public for the checker's `input`.
+// Class, span and start in the first bytes of an answer. A byte past the end counts as 0, also in what follows.
+fn head_at(bytes: &[u8]) -> Head
+    ensures { λ r. ⌜ HeadAt (now (bytes .entry)) r ⌝ }
+{
+    Head {
+        class: short_at(bytes, CLASS_PLACE),
+        span: offset(word_at(bytes, SPAN_PLACE)),
+        start: short_at(bytes, START_PLACE),
+    }
+}
+
+// The first bytes of an answer and its size: class, span and start, or the first of refusals 4 and 8 to 11. Public for the
+// checker's `input`.
 pub fn read_answer_header(bytes: &[u8], size: usize, n: usize, m: usize) -> AnswerHead
     ensures { λ r. ⌜ headOf r ≡ answerHeaderOutcome (now (bytes .entry)) size n m ⌝ }
 {
     let length = word_at(bytes, LENGTH_PLACE);
     let kind = short_at(bytes, KIND_PLACE);
     let own = short_at(bytes, N_PLACE);
-    let class = short_at(bytes, CLASS_PLACE);
-    let span = word_at(bytes, SPAN_PLACE);
-    let refusal = judge_header(size, length, kind, own, class, n, m);
-    match refusal {
-        0 => AnswerHead::Fields(class, offset(span)),
+    let head = head_at(bytes);
+    match judge_header(size, length, kind, own, head, n, m) {
+        0 => AnswerHead::Fields(head),
         k => AnswerHead::Refused(k),
     }
 }
@@ -163,19 +182,19 @@ fn picks_fit_at(bytes: &[u8], stamps: usize, count: usize, highest: u64) -> bool
 }
 
 // The first of refusals 12 and 13 that applies to the body of an answer whose header is right, 0 where none does.
-fn judge_body(bytes: &[u8], class: u64, span: u64, n: usize, m: usize) -> usize
-    requires { ⌜ (n ≤ highest-n) × (m ≤ highest-m) × (length (now bytes) ≡ answerSize class n m) ⌝ }
-    ensures { λ r. ⌜ r ≡ formRefusal (bodyOf (now (bytes .entry)) class span n m) n m ⌝ }
+fn judge_body(bytes: &[u8], head: Head, n: usize, m: usize) -> usize
+    requires { ⌜ (n ≤ highest-n) × (m ≤ highest-m) × (length (now bytes) ≡ answerSize (head .class) n m) ⌝ }
+    ensures { λ r. ⌜ r ≡ formRefusal (bodyOf (now (bytes .entry)) head n m) n m ⌝ }
 {
-    if !span_fits(class, span) {
+    if !span_fits(head.class, head.span) {
         return REFUSED_FORM;
     }
-    let stamps = stamp_count(class, n);
+    let stamps = stamp_count(head.class, n);
     if !stamps_fit_at(bytes, stamps) {
         return REFUSED_FORM;
     }
-    let picks = pick_count(class, n, m);
-    if !picks_fit_at(bytes, stamps, picks, highest_pick(class, n, m)) {
+    let picks = pick_count(head.class, n, m);
+    if !picks_fit_at(bytes, stamps, picks, highest_pick(head.class, n, m)) {
         return REFUSED_PICK;
     }
     0
@@ -209,7 +228,7 @@ fn picks_from(bytes: &[u8], stamps: usize, count: usize) -> [u64; ROWS]
     out
 }
 
-// An answer read with the problem's n and m: its class and span, its stamps and picks in the two arrays with 0 behind
+// An answer read with the problem's n and m: its class, span and start, its stamps and picks in the two arrays with 0 behind
 // them; or the first of refusals 4 and 8 to 13, and the arrays as they were.
 pub fn read_answer(
     bytes: &[u8],
@@ -220,16 +239,16 @@ pub fn read_answer(
 ) -> AnswerHead
     ensures { λ r. ⌜ AnswerRead (now (bytes .entry)) n m r (now (stamps .entry)) (now (stamps .exit)) (now (picks .entry)) (now (picks .exit)) ⌝ }
 {
-    let head = read_answer_header(bytes, bytes.len(), n, m);
-    let AnswerHead::Fields(class, span) = head else {
-        return head;
+    let read = read_answer_header(bytes, bytes.len(), n, m);
+    let AnswerHead::Fields(head) = read else {
+        return read;
     };
-    let refusal = judge_body(bytes, class, span, n, m);
+    let refusal = judge_body(bytes, head, n, m);
     if refusal != 0 {
         return AnswerHead::Refused(refusal);
     }
-    let count = stamp_count(class, n);
+    let count = stamp_count(head.class, n);
     *stamps = stamps_from(bytes, count);
-    *picks = picks_from(bytes, count, pick_count(class, n, m));
-    head
+    *picks = picks_from(bytes, count, pick_count(head.class, n, m));
+    read
 }

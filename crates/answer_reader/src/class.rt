@@ -1,4 +1,4 @@
-// What depends on an answer's class: 1 least, 2 bottomless, 3 none. Document 01, "Records".
+// What depends on an answer's class: 1 least, 2 bottomless, 3 none. Document 01, "Records"; document 02, 2.4.
 use records::limits::ANSWER_HEADER;
 use records::limits::ANSWER_KIND;
 use records::limits::INFEASIBLE;
@@ -9,21 +9,34 @@ use records::limits::SPAN_LIMIT;
 use records::limits::UNBOUNDED;
 use records::offset::whole_within;
 ghost use mathlib.Core.Path.{_≡_};
-ghost use Prim.Native.Nat.{_≤_};
+ghost use Prim.Native.Nat.{suc, _≤_};
 ghost use mathlib.Core.Bool.{_&&_};
-ghost use lib.Dec.{eqb};
+ghost use lib.Dec.{eqb, ltb, leb};
 ghost use Rattle.definitions.specs.Limits.{highest-n, highest-m, answer-kind, answer-most, stride, table-rows};
 ghost use Rattle.definitions.specs.Offset.{tropOf};
-ghost use Rattle.definitions.specs.AnswerRecord.{known-class, stampCount, pickCount, highestPick, answerSize, spanFits};
+ghost use Rattle.definitions.specs.AnswerRecord.{known-class, startFits, stampCount, pickCount, highestPick, answerSize, spanFits};
 
-// The class is 1, 2 or 3. Public for `answer_writer::writer`.
-pub fn known_class(class: u64) -> bool
-    ensures { λ r. ⌜ r ≡ known-class class ⌝ }
+// A start of bottomless: 1 + the number of a moment.
+fn names_moment(start: u64, n: usize) -> bool
+    requires { ⌜ n ≤ highest-n ⌝ }
+    ensures { λ r. ⌜ r ≡ (ltb 0 start && leb start (suc n)) ⌝ }
+{
+    if start == 0 {
+        return false;
+    }
+    start <= n as u64 + 1
+}
+
+// The class is 1, 2 or 3, and the start is one of the class: 0 or 1 for least and none, for bottomless 1 + the number of a moment.
+// Public for `answer_writer::writer`.
+pub fn start_fits(class: u64, start: u64, n: usize) -> bool
+    requires { ⌜ n ≤ highest-n ⌝ }
+    ensures { λ r. ⌜ r ≡ (known-class class && startFits class start n) ⌝ }
 {
     match class {
-        OPTIMAL => true,
-        UNBOUNDED => true,
-        INFEASIBLE => true,
+        OPTIMAL => start <= 1,
+        UNBOUNDED => names_moment(start, n),
+        INFEASIBLE => start <= 1,
         0 | 4.. => false,
     }
 }
@@ -91,12 +104,13 @@ pub fn answer_size(class: u64, n: usize, m: usize) -> usize
     ANSWER_HEADER + LEAD_BYTES * stamp_count(class, n) + SHORT_BYTES * pick_count(class, n, m)
 }
 
-// The kind is an answer's, and the class is one that answers have. Public for `answer`.
-pub fn known_record(kind: u64, class: u64) -> bool
-    ensures { λ r. ⌜ r ≡ (eqb kind answer-kind && known-class class) ⌝ }
+// The kind is an answer's, the class is one that answers have, and the start is one of the class. Public for `answer`.
+pub fn known_record(kind: u64, class: u64, start: u64, n: usize) -> bool
+    requires { ⌜ n ≤ highest-n ⌝ }
+    ensures { λ r. ⌜ r ≡ (eqb kind answer-kind && (known-class class && startFits class start n)) ⌝ }
 {
     match kind {
-        ANSWER_KIND => known_class(class),
-        0 | 1 | 3.. => false,
+        ANSWER_KIND => start_fits(class, start, n),
+        0..=3 | 5.. => false,
     }
 }

@@ -61,12 +61,6 @@ pub record Bounded (v : Value) : Type 0 where
   pub bound : ℤ
   pub below : v ≼ Problems.whole bound
 
--- A value is plus infinity, or at most some whole number.
-pub infinite-or-bounded : (v : Value) → (plus-infinity ≼ v) ⊎ Bounded v
-infinite-or-bounded minus-infinity = inr (record { bound = pos 0; below = lowest })
-infinite-or-bounded (Problems.whole a) = inr (record { bound = a; below = ≼-refl (Problems.whole a) })
-infinite-or-bounded plus-infinity = inl highest
-
 -- Where a difference is at most t, the first number is at most the second raised by t.
 pub minus-raised : (t : ℤ) (x y : Trop) → minus x y ≼ Problems.whole t → x ⊑ plus y (fin t)
 unfolding minus plus

@@ -11,11 +11,11 @@ use lib.IntN.{ℤ, _+ℤ_}
 use lib.Signed.{_≤ℤ_, leZ}
 use Rattle.base.proofs.Numbers.{nat-le-or-lt}
 use Rattle.definitions.specs.Limits.{signed-half}
+use Rattle.definitions.specs.Certificate.{startOf}
 use Rattle.definitions.specs.Bisection.{Bracket, Brackets, opening, middle, next, width, Halved, counted, halved, trials-optimal}
 use Rattle.definitions.proofs.Whole.{whole, plus-read, subℕ-read}
 use Rattle.definitions.proofs.Bisection.{half-up-is, width-is, Inside, middle-inside, halved-stop, halved-on, following}
 use Rattle.duality.specs.System.{Blocks, systemAt}
-use Rattle.reach.specs.Marks.{Begins}
 use Rattle.trials.specs.Tables.{pickOf}
 use Rattle.trial_tables.specs.declared.frame.Frame.{Frame}
 use Rattle.trial_tables.specs.Frames.{wholeOf, top-offset, lowest-offset, Trialled, Reraised}
@@ -199,7 +199,7 @@ bracketed-end f left before after s₀ s low high trials r u₀ z b e = record {
   raised = r;
   least = λ p q. record {
     possible = subst (λ (t : ℕ). PointAt p t (s .point)) u (z .known p q .possible (omega (arith, b .high-least, b .highest)));
-    impossible = subst (λ (t : ℕ). Blocks (systemAt p (wholeOf t)) (Begins (s .start) (p .n + 1)) (pickOf (s .blocking))) v (z .known p q .impossible (b .settled));
+    impossible = subst (λ (t : ℕ). Blocks (systemAt p (wholeOf t)) (startOf p (s .start)) (pickOf (s .blocking))) v (z .known p q .impossible (b .settled));
   };
   span-trialled = record { lowest = omega (arith, b .lowest); highest = omega (arith, b .highest) };
   count = count;

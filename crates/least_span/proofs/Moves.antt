@@ -13,15 +13,15 @@ use Rattle.base.proofs.Filled.{zeros}
 use Rattle.definitions.specs.Limits.{signed-half, lead-limit, stamp-limit, most-trials}
 use Rattle.definitions.specs.Tropical.{Trop, bot, fin}
 use Rattle.definitions.specs.Problem.{Problem}
+use Rattle.definitions.specs.Certificate.{Second}
 use Rattle.definitions.specs.Bytes.{blank-or-within}
 use Rattle.definitions.specs.Offset.{tropOf}
 use Rattle.definitions.proofs.Whole.{whole, minus-read}
 use Rattle.definitions.proofs.Offset.{within-iff}
-use Rattle.duality.specs.System.{Solves, systemAt}
+use Rattle.duality.specs.System.{Solves, Meets, systemAt}
 use Rattle.duality.specs.Values.{Policy, difference}
 use Rattle.records.specs.Decoded.{Near}
 use Rattle.records.proofs.Near.{near-zero}
-use Rattle.reach.specs.Marks.{Begins, Anchored}
 use Rattle.trials.specs.Tables.{systemOf, pointOf, pickOf, value-limit, low-half, high, highs, Ranged}
 use Rattle.trials.specs.Steps.{Tried}
 use Rattle.trials.proofs.Low.{high-zero, high-whole, highs-at}
@@ -34,8 +34,8 @@ use Rattle.guesses.specs.Guess.{Stamped}
 use Rattle.guesses.proofs.Stamping.{stamped-lows}
 use Rattle.trial_tables.proofs.Raising.{agree-raised, raised-reraised, holds-before, holds-after, holds-within, reraised-refl, reraised-trans}
 use Rattle.least_span.specs.declared.state.Search.{Search}
-use Rattle.least_span.specs.State.{PointAt, Known, Budgeted, Searched, Affordable, reachedAt, blockedAt, MovedTo, TrialMade, Opened, Advanced, Fallen, Stepped, floorAt}
-use Rattle.least_span.proofs.Trials.{kept-none, kept-down, trial-found, trial-ranged, trial-anchored, anchored-blank, tried-blocks, tried-point}
+use Rattle.least_span.specs.State.{PointAt, Known, Budgeted, Searched, Affordable, Possible, reachedAt, blockedAt, MovedTo, TrialMade, Opened, Advanced, Fallen, Stepped, floorAt}
+use Rattle.least_span.proofs.Trials.{kept-none, kept-down, trial-found, trial-ranged, trial-anchored, tried-blocked, blocked-few, met-second, tried-point}
 use Rattle.least_span.proofs.Budget.{room-after, inside-trialled}
 
 -- ---- the opening
@@ -44,7 +44,7 @@ zeros-ranged : Ranged (replicate 32 0)
 zeros-ranged = record { size = length-replicate {A = ℕ} 32 0; near = λ k. rw (zeros 32 k) (near-zero value-limit) }
 
 -- Nothing is known at first.
-pub opening : (rows : ℕ) (begin : List ℕ) → Anchored begin → Opened rows (record {
+pub opening : (rows : ℕ) → Opened rows (record {
   reached = top-offset + 1;
   blocked = lowest-offset - 1;
   floor = lowest-offset;
@@ -53,9 +53,9 @@ pub opening : (rows : ℕ) (begin : List ℕ) → Anchored begin → Opened rows
   point = replicate 32 0;
   kept = replicate 32 rows;
   blocking = replicate 32 rows;
-  start = begin;
+  start = 0;
 })
-opening rows begin anchored = record {
+opening rows = record {
   searched = λ f left right e y. record {
     numbers = record {
       lowest = omega arith;
@@ -70,7 +70,7 @@ opening rows begin anchored = record {
       anchored = omega (arith, zeros 32 0);
       kept-size = length-replicate {A = ℕ} 32 rows;
       blocking-size = length-replicate {A = ℕ} 32 rows;
-      started = anchored;
+      started = omega arith;
     };
     known = λ p q. record {
       possible = λ h. absurd (omega arith);
@@ -99,7 +99,7 @@ module _ (f : Frame) (t : ℕ) (left right right′ x picks : List ℕ) (s : Sea
   found = trial-found f t left right right′ x picks y b r d
 
   -- A possible trial.
-  trial-reached : 0 < getD x 0 0 → TrialMade f left right right′ s t (reachedAt s t x picks)
+  trial-reached : Possible (f .objective) x (f .n + 1) → TrialMade f left right right′ s t (reachedAt s t x picks)
   trial-reached h = record {
     raised = again;
     searched = record {
@@ -119,7 +119,8 @@ module _ (f : Frame) (t : ℕ) (left right right′ x picks : List ℕ) (s : Sea
         started = z .numbers .started;
       };
       known = λ p q′. let q = holds-before again q′ in record {
-        possible = λ _. tried-point p t x picks (omega (arith, y .n-most, q .n-is)) (holds-within q y) b (found p q) h;
+        possible = λ _. tried-point p t x picks (omega (arith, y .n-most, q .n-is)) (holds-within q y) b (found p q) (h .anchored)
+            (met-second p (wholeOf t) f left right x (h .at) q (h .inside) (h .met));
         impossible = z .known p q .impossible;
         kept = λ u l. kept-down p u t picks l (found p q .policy);
         floored = z .known p q .floored;
@@ -132,7 +133,7 @@ module _ (f : Frame) (t : ℕ) (left right right′ x picks : List ℕ) (s : Sea
   }
 
   -- One that is not.
-  trial-blocked : getD x 0 0 ≡ 0 → TrialMade f left right right′ s t (blockedAt s t picks)
+  trial-blocked : (Possible (f .objective) x (f .n + 1) → ⊥) → TrialMade f left right right′ s t (blockedAt s t x picks)
   trial-blocked e = record {
     raised = again;
     searched = record {
@@ -149,11 +150,11 @@ module _ (f : Frame) (t : ℕ) (left right right′ x picks : List ℕ) (s : Sea
         anchored = z .numbers .anchored;
         kept-size = z .numbers .kept-size;
         blocking-size = d .size;
-        started = z .numbers .started;
+        started = blocked-few x;
       };
       known = λ p q′. let q = holds-before again q′ in record {
         possible = z .known p q .possible;
-        impossible = λ _. tried-blocks (Begins (s .start) (p .n + 1)) p (wholeOf t) x picks (found p q) (anchored-blank p x (z .numbers .started) e);
+        impossible = λ _. tried-blocked p (wholeOf t) f left right x picks q (found p q) e;
         kept = z .known p q .kept;
         floored = z .known p q .floored;
       };
@@ -165,11 +166,11 @@ module _ (f : Frame) (t : ℕ) (left right right′ x picks : List ℕ) (s : Sea
   }
 
   -- The search after a trial.
-  pub trial-made : (s′ : Search) → MovedTo s t x picks s′ → TrialMade f left right right′ s t s′
+  pub trial-made : (s′ : Search) → MovedTo s t (f .objective) (f .n + 1) x picks s′ → TrialMade f left right right′ s t s′
   trial-made s′ m = ⊎-elim
-      (λ (e : getD x 0 0 ≡ 0). subst (TrialMade f left right right′ s t) (sym (m .impossible e)) (trial-blocked e))
-      (λ (h : 0 < getD x 0 0). subst (TrialMade f left right right′ s t) (sym (m .possible h)) (trial-reached h))
-      (eq-zero-or-pos (getD x 0 0))
+      (λ h. subst (TrialMade f left right right′ s t) (sym (h .1)) (trial-reached (h .0)))
+      (λ h. subst (TrialMade f left right right′ s t) (sym (h .1)) (trial-blocked (h .0)))
+      (m .moved)
 
 -- ---- on the way
 
@@ -238,21 +239,26 @@ module _ (p : Problem) (t : ℕ) (x : List ℕ) (s : Stamped (p .n + 1) x) (h : 
   less-zero (fin v) e = let q : v -ℤ pos 0 ≡ v = omega (whole, minus-read v (pos 0)) in rw q e
 
   -- It shows t possible, where it solves the system at t.
-  pub stamped-point : Solves (systemAt p (wholeOf t)) (pointOf (highs x)) → PointAt p t (highs x)
-  stamped-point f = record {
+  pub stamped-point : Solves (systemAt p (wholeOf t)) (pointOf (highs x)) → Meets (systemAt p (wholeOf t)) (Second p) (pointOf (highs x)) → PointAt p t (highs x)
+  stamped-point f m = record {
+    second = m;
     finite = rw (highs-at x 0, high-whole (getD x 0 0) h) (omega arith);
     solves = f;
     stamps = λ k. rw anchor-is (less-zero (pointOf (highs x) k) (rw (highs-at x k) (near-fits stamp-limit (high (getD x k 0)) (omega arith) (stamp-near k))));
     rest = λ k b. highs-at x k ∙ ap high (s .stamps .rest k (omega arith)) ∙ high-zero;
   }
 
+-- What is not blank as an offset number is not as a low one.
+high-some : (x : List ℕ) (k : ℕ) → 0 < getD (highs x) k 0 → 0 < getD x k 0
+high-some x k h = ⊎-elim (λ (e : getD x k 0 ≡ 0). absurd (omega (arith, highs-at x k ∙ ap high e ∙ high-zero))) (λ l. l) (eq-zero-or-pos (getD x k 0))
+
 -- A point that stands in the raised tables solves the system at t of every problem that they hold.
 pub shown-point : (f : Frame) (t : ℕ) (left right right′ x : List ℕ) → Ready f left right → Trialled t → Raised right (f .objective) (f .m) t 32 right′
-    → Stamped (f .n + 1) x → 0 < getD x 0 0 → Solves (systemOf left right′ (f .n + 1) (f .m + 1)) (pointOf (highs x))
+    → Stamped (f .n + 1) x → Possible (f .objective) (highs x) (f .n + 1) → Solves (systemOf left right′ (f .n + 1) (f .m + 1)) (pointOf (highs x))
     → (p : Problem) → Holds p f left right′ → PointAt p t (highs x)
 shown-point f t left right right′ x y b r s h v p q′ =
     let q = holds-before (raised-reraised f t left right right′ y b r) q′ in
-    stamped-point p t x (rw (q .n-is) s) h (agree-solves (pointOf (highs x)) (agree-raised p f t left right right′ q y b r) v)
+    stamped-point p t x (rw (q .n-is) s) (high-some x 0 (h .anchored)) (agree-solves (pointOf (highs x)) (agree-raised p f t left right right′ q y b r) v) (met-second p (wholeOf t) f left right (highs x) (h .at) q (h .inside) (h .met))
 
 -- `reached` falls to a span that a point shows.
 pub fallen-to : {f : Frame} {left before after : List ℕ} (s : Search) (t : ℕ) (x : List ℕ) → Reraised f left before after → Searched f left before s

@@ -1,34 +1,36 @@
 -- Laws of one trial: what it asks of the tables, and what its two outcomes say of the problem that they hold.
 use Prim.Native.Nat.{ℕ, suc, _+_, _*_, _-_, _≤_, _<_}
 use mathlib.Core.Path.{_≡_, refl, sym, ap, subst, _∙_}
-use mathlib.Core.Bool.{true}
+use mathlib.Core.Bool.{Bool, true, false, cond}
 use mathlib.Core.Logic.{_⊎_, inl, inr, ⊎-elim, _↔_}
 use mathlib.Core.List.{List}
 use native.Mathlib.Omega.{arith}
+use native.Mathlib.Nat.{eq-zero-or-pos}
 use native.Mathlib.Numerals.{add-one}
+use lib.Dec.{eqb}
 use lib.ListN.{length, getD, replicate, length-replicate, getD-replicate}
 use lib.IntN.{ℤ, pos, natAbs, _-ℤ_}
 use lib.Signed.{_≤ℤ_}
-use borrow.Author.Tests.{le-leb}
+use borrow.Author.Tests.{le-leb, eq-eqb, ne-eqb}
 use Rattle.base.proofs.Numbers.{nat-le-or-lt}
 use Rattle.base.proofs.Filled.{filled-map, filled-end}
 use Rattle.definitions.specs.Limits.{signed-half, lead-limit, span-limit, stamp-limit}
 use Rattle.definitions.specs.Tropical.{Trop, bot, fin, plus, Finite}
 use Rattle.definitions.specs.Problem.{Problem, Point}
+use Rattle.definitions.specs.Certificate.{Anchor, Second, startOf}
 use Rattle.definitions.specs.Bytes.{blank-or-within}
 use Rattle.definitions.specs.Offset.{tropOf}
 use Rattle.definitions.proofs.Whole.{up, down, whole, minus-read, abs-show, subℕ-read}
 use Rattle.definitions.proofs.Tropical.{bot-not-fin}
 use Rattle.definitions.proofs.Offset.{trop-zero, trop-fin, trop-order}
 use Rattle.duality.specs.Starts.{Only}
-use Rattle.duality.specs.System.{System, Solution, Blocks, systemAt}
+use Rattle.duality.specs.System.{System, Solution, Meets, Blocks, systemAt}
 use Rattle.duality.specs.Values.{values, Policy, difference}
 use Rattle.duality.specs.Within.{Within}
 use Rattle.duality.proofs.Ends.{idle, empty-policy, started-solution, blank-blocks}
 use Rattle.duality.proofs.Solutions.{solved-finite}
 use Rattle.duality.proofs.Warm.{stays-down-at}
 use Rattle.duality.proofs.Stamps.{stamps-at-most-32}
-use Rattle.reach.specs.Marks.{Begins, Anchored}
 use Rattle.trials.specs.Tables.{systemOf, pointOf, pickOf, Ranged}
 use Rattle.trials.specs.Steps.{Tried}
 use Rattle.trials.proofs.Rounds.{zero-is}
@@ -37,7 +39,9 @@ use Rattle.trial_tables.specs.declared.frame.Frame.{Frame}
 use Rattle.trial_tables.specs.Frames.{wholeOf, zero-offset, Trialled, Raised, Holds, Ready}
 use Rattle.trial_tables.proofs.Agree.{Agree, agree-sym, agree-solves, agree-values, agree-policy}
 use Rattle.trial_tables.proofs.Raising.{raised-ready, agree-raised, problemIn, problem-in}
-use Rattle.least_span.specs.State.{PointAt}
+use Rattle.trial_tables.specs.SecondList.{MetAt}
+use Rattle.trial_tables.proofs.SecondList.{number-finite, second-held}
+use Rattle.least_span.specs.State.{PointAt, Possible, blockedFrom}
 
 -- ---- where a trial starts
 
@@ -104,10 +108,35 @@ unfolding systemAt
 tried-blocks Start p t x picks f blank = blank-blocks (systemAt p t) (pickOf picks) (f .policy) Start
     (λ j h. let b = blank j h in let i : j < suc (p .n) = omega (arith, b .0) in (i, sym (f .values-are .each j i) ∙ rw (b .1) trop-zero))
 
--- The anchor is such a start where variable 0 is blank.
-pub anchored-blank : (p : Problem) {begin : List ℕ} (x : List ℕ) → Anchored begin → getD x 0 0 ≡ 0
-    → (j : ℕ) → Begins begin (p .n + 1) j → (j ≤ p .n) × (getD x j 0 ≡ 0)
-anchored-blank p x a e j b = (omega (arith, b .inside), let d : j ≡ 0 = a .only j (b .marked) in rw d e)
+-- What a trial that is not possible blocks from: the anchor where variable 0 is blank, else the second list, whose variables are.
+pub tried-blocked : (p : Problem) (t : ℤ) (f : Frame) (left right x picks : List ℕ) → Holds p f left right → Tried (systemAt p t) x picks
+    → (Possible (f .objective) x (f .n + 1) → ⊥) → Blocks (systemAt p t) (startOf p (blockedFrom x)) (pickOf picks)
+unfolding blockedFrom startOf
+tried-blocked p t f left right x picks q tried d = ⊎-elim
+    (λ (e : getD x 0 0 ≡ 0). rw (eq-eqb (getD x 0 0) 0 e) (tried-blocks Anchor p t x picks tried (λ j b. (omega arith, rw b e))))
+    (λ (h : 0 < getD x 0 0). rw (ne-eqb (getD x 0 0) 0 (omega arith)) (tried-blocks (Second p) p t x picks tried (λ j s. (s .inside, blank h j s))))
+    (eq-zero-or-pos (getD x 0 0))
+  where
+    blank : 0 < getD x 0 0 → (j : ℕ) → Second p j → getD x j 0 ≡ 0
+    blank h j s = ⊎-elim
+        (λ (e : getD x j 0 ≡ 0). e)
+        (λ (l : 0 < getD x j 0). let c = second-held q j .0 s in absurd (d (record { anchored = h; at = j; inside = c .0; met = (c .1, l) })))
+        (eq-zero-or-pos (getD x j 0))
+
+pub blocked-few : (x : List ℕ) → blockedFrom x ≤ 1
+unfolding blockedFrom
+blocked-few x = go (eqb (getD x 0 0) 0)
+  where
+    go : (t : Bool) → cond t 0 1 ≤ 1
+    go true = omega arith
+    go false = omega arith
+
+-- A variable of the second list that has a value.
+pub met-second : (p : Problem) (t : ℤ) (f : Frame) (left right x : List ℕ) (k : ℕ) → Holds p f left right → k < f .n + 1 → MetAt (f .objective) x k
+    → Meets (systemAt p t) (Second p) (pointOf x)
+unfolding systemAt
+met-second p t f left right x k q h m =
+    record { at = k; inside = omega (arith, q .n-is); started = second-held q k .1 (h, m .0); finite = number-finite _ .1 (m .1) }
 
 -- Where variable 0 is not blank, the values are finite exactly at the variables that are finite in some solution.
 pub tried-finite : (p : Problem) (t : ℤ) (x picks : List ℕ) → Tried (systemAt p t) x picks → 0 < getD x 0 0
@@ -157,10 +186,11 @@ difference-within t u x k h e a b = rw e (go (x k) refl)
 
 -- Else the values are a point that shows t possible.
 pub tried-point : (p : Problem) (t : ℕ) (x picks : List ℕ) → p .n ≤ 31 → Within p lead-limit → Trialled t → Tried (systemAt p (wholeOf t)) x picks → 0 < getD x 0 0
-    → PointAt p t x
+    → Meets (systemAt p (wholeOf t)) (Second p) (pointOf x) → PointAt p t x
 unfolding systemAt
-tried-point p t x picks b w z f h = record {
+tried-point p t x picks b w z f h s = record {
   finite = h;
+  second = s;
   solves = f .solves h;
   stamps = λ k. difference-within (wholeOf t) _ (pointOf x) k (trialled-size t z) (trop-fin (getD x 0 0) h) (tried-low p (wholeOf t) x picks b w f k)
       (tried-low p (wholeOf t) x picks b w f 0 _ (trop-fin (getD x 0 0) h));

@@ -6,9 +6,9 @@ use lib.ListN.{length, getD}
 use lib.IntN.{ℤ}
 use Rattle.definitions.specs.Limits.{most-trials, stride}
 use Rattle.definitions.specs.Problem.{Problem}
+use Rattle.definitions.specs.Certificate.{startOf}
 use Rattle.definitions.specs.Bisection.{Bracket, Brackets, halved, trials-unbounded, trials-optimal}
 use Rattle.duality.specs.System.{Blocks, systemAt}
-use Rattle.reach.specs.Marks.{Begins, Anchored}
 use Rattle.trials.specs.Tables.{pickOf, Ranged}
 use Rattle.trial_tables.specs.declared.frame.Frame.{Frame}
 use Rattle.trial_tables.specs.Frames.{wholeOf, zero-offset, top-offset, lowest-offset, Trialled, Holds, Reraised}
@@ -41,7 +41,7 @@ pub record Bracketed (s : Search) (low high trials : ℕ) : Type 0 where
 -- The end of a search of a problem: the least span with a point, and a strategy that blocks one below it, from the start.
 pub record LeastOf (p : Problem) (r : Least) : Type 0 where
   pub possible : PointAt p (r .span) (r .point)
-  pub impossible : Blocks (systemAt p (wholeOf (r .span - 1))) (Begins (r .start) (p .n + 1)) (pickOf (r .blocking))
+  pub impossible : Blocks (systemAt p (wholeOf (r .span - 1))) (startOf p (r .start)) (pickOf (r .blocking))
 
 -- The same of the problem in the tables, and its numbers: the trials are those of the bisection; no trial of the search that it
 -- started from is forgotten, and few were made.
@@ -55,4 +55,4 @@ pub record LeastFound (f : Frame) (left before after : List ℕ) (s : Search) (r
   pub ranged : Ranged (r .point)
   pub anchored : getD (r .point) 0 0 ≤ zero-offset
   pub blocking-size : length (r .blocking) ≡ stride
-  pub started : Anchored (r .start)
+  pub started : r .start ≤ 1

@@ -1,28 +1,31 @@
 -- The state of a search: what is known of the problem, how many trials were made, and how many may still be.
 use Prim.Native.Nat.{ℕ, _+_, _-_, _^_, _/_, _≤_, _<_}
 use mathlib.Core.Path.{_≡_}
-use mathlib.Core.Bool.{Bool, true, false}
+use mathlib.Core.Bool.{Bool, true, false, cond}
 use mathlib.Core.Logic.{_⊎_}
 use mathlib.Core.List.{List}
+use lib.Dec.{eqb}
 use lib.ListN.{length, getD}
 use Rattle.definitions.specs.Limits.{stamp-limit, most-trials, stride}
 use Rattle.definitions.specs.Problem.{Problem}
+use Rattle.definitions.specs.Certificate.{Second, startOf}
 use Rattle.definitions.specs.Bytes.{blank-or-within}
-use Rattle.duality.specs.System.{Solves, Blocks, systemAt}
+use Rattle.duality.specs.System.{Solves, Meets, Blocks, systemAt}
 use Rattle.duality.specs.Values.{Policy, difference}
-use Rattle.reach.specs.Marks.{Begins, Anchored}
 use Rattle.trials.specs.Tables.{pointOf, pickOf, highs, Ranged}
 use Rattle.trial_tables.specs.declared.frame.Frame.{Frame}
 use Rattle.trial_tables.specs.Frames.{wholeOf, zero-offset, top-offset, lowest-offset, Holds, Ready, Reraised}
 use Rattle.trial_tables.specs.Floor.{Floored}
+use Rattle.trial_tables.specs.SecondList.{MetAt}
 use Rattle.least_span.specs.declared.state.Search.{Search}
 
 -- ---- what is known of the problem
 
--- A point that shows t possible: it solves the system at t, its stamps (each value less that of variable 0) have class 1's form,
--- and past the variables it is blank.
+-- A point that shows t possible: it is finite at variable 0 and at a variable of the second list, it solves the system at t, its stamps
+-- (each value less that of variable 0) have class 1's form, and past the variables it is blank.
 pub record PointAt (p : Problem) (t : ℕ) (x : List ℕ) : Type 0 where
   pub finite : 0 < getD x 0 0
+  pub second : Meets (systemAt p (wholeOf t)) (Second p) (pointOf x)
   pub solves : Solves (systemAt p (wholeOf t)) (pointOf x)
   pub stamps : (k : ℕ) → blank-or-within stamp-limit (difference (pointOf x k) (pointOf x 0)) ≡ true
   pub rest : (k : ℕ) → p .n < k → getD x k 0 ≡ 0
@@ -31,7 +34,7 @@ pub record PointAt (p : Problem) (t : ℕ) (x : List ℕ) : Type 0 where
 -- the floor; each trial up to `reached` may start from the strategy that was kept.
 pub record Known (p : Problem) (s : Search) : Type 0 where
   pub possible : s .reached ≤ top-offset → PointAt p (s .reached) (s .point)
-  pub impossible : s .floor ≤ s .blocked → Blocks (systemAt p (wholeOf (s .blocked))) (Begins (s .start) (p .n + 1)) (pickOf (s .blocking))
+  pub impossible : s .floor ≤ s .blocked → Blocks (systemAt p (wholeOf (s .blocked))) (startOf p (s .start)) (pickOf (s .blocking))
   pub kept : (t : ℕ) → t ≤ s .reached → Policy (systemAt p (wholeOf t)) (pickOf (s .kept))
   pub floored : Floored p (s .floor)
 
@@ -51,7 +54,7 @@ pub record Budgeted (s : Search) : Type 0 where
   pub anchored : getD (s .point) 0 0 ≤ zero-offset
   pub kept-size : length (s .kept) ≡ stride
   pub blocking-size : length (s .blocking) ≡ stride
-  pub started : Anchored (s .start)
+  pub started : s .start ≤ 1
 
 -- A search of the problem in the tables.
 pub record Searched (f : Frame) (left right : List ℕ) (s : Search) : Type 0 where
@@ -69,10 +72,16 @@ pub record Affordable (s : Search) (t : ℕ) : Type 0 where
 
 -- ---- one trial
 
--- A trial with these values is possible: variable 0 has a value.
-pub record PossibleIs (values : List ℕ) (r : Bool) : Type 0 where
-  pub yes : r ≡ true → 0 < getD values 0 0
-  pub no : r ≡ false → getD values 0 0 ≡ 0
+-- A trial with these values is possible: variable 0 has one, and so has a variable of the second list, the objective's.
+pub record Possible (objective values : List ℕ) (width : ℕ) : Type 0 where
+  pub anchored : 0 < getD values 0 0
+  pub at : ℕ
+  pub inside : at < width
+  pub met : MetAt objective values at
+
+-- Where it is not, its strategy blocks from the anchor, 0, where variable 0 has no value, else from the second list, 1.
+unfoldable pub blockedFrom : List ℕ → ℕ
+blockedFrom values = cond (eqb (getD values 0 0) 0) 0 1
 
 -- A possible trial at t: its values are the point, its strategy is kept.
 abbrev pub reachedAt : Search → ℕ → List ℕ → List ℕ → Search
@@ -89,8 +98,8 @@ reachedAt s t values picks = record {
 }
 
 -- One that is not: its strategy blocks.
-abbrev pub blockedAt : Search → ℕ → List ℕ → Search
-blockedAt s t picks = record {
+abbrev pub blockedAt : Search → ℕ → List ℕ → List ℕ → Search
+blockedAt s t values picks = record {
   reached = s .reached;
   blocked = t;
   floor = s .floor;
@@ -99,13 +108,12 @@ blockedAt s t picks = record {
   point = s .point;
   kept = s .kept;
   blocking = picks;
-  start = s .start;
+  start = blockedFrom values;
 }
 
 -- The search after a trial at t with these values and this strategy.
-pub record MovedTo (s : Search) (t : ℕ) (values picks : List ℕ) (r : Search) : Type 0 where
-  pub possible : 0 < getD values 0 0 → r ≡ reachedAt s t values picks
-  pub impossible : getD values 0 0 ≡ 0 → r ≡ blockedAt s t picks
+pub record MovedTo (s : Search) (t : ℕ) (objective : List ℕ) (width : ℕ) (values picks : List ℕ) (r : Search) : Type 0 where
+  pub moved : ((Possible objective values width) × (r ≡ reachedAt s t values picks)) ⊎ ((Possible objective values width → ⊥) × (r ≡ blockedAt s t values picks))
 
 -- A trial was made at t: the count of trials rose by one, and `reached` or `blocked` is now t.
 pub record TrialMade (f : Frame) (left before after : List ℕ) (s : Search) (t : ℕ) (r : Search) : Type 0 where

@@ -6,6 +6,7 @@ ghost use Rattle.trial_tables.specs.Frames.{top-offset, Ready, Trialled};
 ghost use Rattle.guesses.specs.Guess.{Guessed};
 ghost use Rattle.least_span.specs.State.{Searched, Budgeted, Affordable, Shows, Advanced, Fallen, Stepped, floorAt, SettledIs, SettledAt};
 use crate::state::Search;
+use crate::state::possible;
 use crate::state::try_at;
 use guesses::guess::Guess;
 use guesses::guess::guess_at;
@@ -66,21 +67,30 @@ fn next_trial(search: Search, span: u64) -> u64
     span - 1
 }
 
-// The point of a guess shows its span: variable 0 is not blank, and every row stands, the objective's raised by the span.
+// The point of a guess shows its span: variable 0 is not blank, nor is some variable of the second list, and every row stands, the
+// objective's raised by the span.
 fn shows(left: &[u32; TABLE], right: &mut [u32; TABLE], frame: Frame, found: Guess) -> bool
     requires { ⌜ Ready frame (now left) (now right) × Guessed (frame .n + 1) found × Trialled (found .span) ⌝ }
     ensures { λ r. ⌜ Shows frame (now (left .entry)) (now (right .entry)) (now (right .exit)) (found .span) (found .point) r ⌝ }
 {
     let point = found.point;
-    if point[0] == 0 {
+    let objective = frame.objective;
+    let values = highs_of(&point);
+    if !possible(&objective, &values, frame.n + 1) {
         return false;
     }
-    let rows = frame.m + 1;
-    let objective = frame.objective;
     let lefts = frame.lefts;
     let rights = frame.rights;
     raise(right, &objective, frame.m, found.span);
-    rows_stand(left, right, &lefts, &rights, &point, frame.n + 1, rows)
+    rows_stand(
+        left,
+        right,
+        &lefts,
+        &rights,
+        &point,
+        frame.n + 1,
+        frame.m + 1,
+    )
 }
 
 // `reached` falls to a guess whose point shows it.

@@ -21,7 +21,7 @@ pub struct Least {
     pub made: u64,
     pub point: [u64; STRIDE],
     pub blocking: [usize; STRIDE],
-    pub start: [u8; STRIDE],
+    pub start: u64,
 }
 
 // Halvings until the bracket is 1 wide; its high is the least span. A middle whose outcome is known is counted, for another
@@ -40,14 +40,13 @@ pub fn halve(left: &[u32; TABLE], right: &mut [u32; TABLE], frame: Frame, start:
         if bracket.high - bracket.low == 1 {
             let point = search.point;
             let blocking = search.blocking;
-            let begun = search.start;
             break 'halving Least {
                 span: bracket.high,
                 trials,
                 made: search.made,
                 point,
                 blocking,
-                start: begun,
+                start: search.start,
             };
         }
         let half = bracket.middle();

@@ -4,7 +4,7 @@ use Prim.Native.Nat.{ℕ, zero, suc, _+_, _*_, _-_, _≤_, _<_}
 use mathlib.Core.Path.{_≡_, refl, ap, subst, _∙_}
 use mathlib.Core.Bool.{Bool, true, false, cond}
 use mathlib.Core.List.{List, _∷_}
-use mathlib.Core.Logic.{_⊎_, inl, inr, ⊎-elim}
+use mathlib.Core.Logic.{_⊎_, inl, inr, ⊎-elim, _↔_}
 use native.Mathlib.Omega.{arith}
 use native.Mathlib.Nat.{eq-zero-or-pos}
 use lib.Dec.{eqb}
@@ -13,14 +13,14 @@ use lib.Seq.{getD-set-same, getD-set-other}
 use borrow.Author.Tests.{eqb-false, eq-eqb, ne-eqb}
 use Rattle.base.proofs.Numbers.{nat-le-or-lt, same-or-not}
 use Rattle.base.proofs.Filled.{zeros}
-use Rattle.definitions.specs.Certificate.{Reachable, Anchor, start, onward}
+use Rattle.definitions.specs.Certificate.{Reachable, Anchor, AnchorAnd, start, onward}
 use Rattle.definitions.specs.Marks.{DifferBelow}
 use Rattle.definitions.proofs.Marks.{differ-here}
 use Rattle.duality.specs.Starts.{StartBelow}
 use Rattle.duality.proofs.Height.{total-falls}
 use Rattle.duality.proofs.Reach.{reach-keep, reach-map}
-use Rattle.reach.specs.Marks.{Marked, Led, Begins, Flags, StartMarked, Anchored, Reached}
-use Rattle.reach.specs.Spreading.{markOf, RowMarked, Reaching, unmarked, Spreading}
+use Rattle.reach.specs.Marks.{Marked, Led, Begins, Flags, StartMarked, Anchored, AnchoredAnd, Reached}
+use Rattle.reach.specs.Spreading.{markOf, MarksOf, RowMarked, Reaching, unmarked, Spreading}
 
 -- ---- the start
 
@@ -37,6 +37,21 @@ anchor-marked = record { flags = record { length-is = refl; flag = flag }; ancho
     only : (j : ℕ) → 0 < getD (1 ∷ replicate 31 0) j 0 → j ≡ 0
     only zero h = refl
     only (suc j) h = absurd (omega (arith, zeros 31 j))
+
+-- Variable k marked too.
+pub anchor-and-marked : {begin : List ℕ} (k : ℕ) → k < 32 → Anchored begin → AnchoredAnd k (set begin k 1)
+anchor-and-marked {begin} k h a = record {
+  flags = record { length-is = length-set begin k 1 ∙ a .flags .length-is; flag = λ j. ⊎-elim (λ e. omega (arith, here j e)) (λ d. omega (arith, there j d, a .flags .flag j)) (same-or-not j k) };
+  anchor = ⊎-elim (λ e. omega (arith, here 0 e)) (λ d. omega (arith, there 0 d, a .anchor)) (same-or-not 0 k);
+  other = omega (arith, here k refl);
+  only = λ j m. ⊎-elim (λ e. inr e) (λ d. inl (a .only j (omega (arith, there j d)))) (same-or-not j k);
+}
+  where
+    here : (j : ℕ) → j ≡ k → getD (set begin k 1) j 0 ≡ 1
+    here j e = rw e (getD-set-same begin k 1 0 (omega (arith, a .flags .length-is)))
+
+    there : (j : ℕ) → (j ≡ k → ⊥) → getD (set begin k 1) j 0 ≡ getD begin j 0
+    there j d = getD-set-other begin k j 1 0 d
 
 -- ---- one mark
 
@@ -261,6 +276,37 @@ anchored-marked a w = record {
   flags = a .flags;
   marked = λ j e. record { inside = omega arith; marked = rw e (a .anchor) };
   only = λ j b. a .only j (b .marked);
+}
+
+-- Those of variable k and the anchor,
+pub anchored-and-marked : {width k : ℕ} {begin : List ℕ} → AnchoredAnd k begin → k < width → StartMarked (AnchorAnd k) width begin
+anchored-and-marked {k = k} a w = record {
+  flags = a .flags;
+  marked = λ j. ⊎-elim
+      (λ (e : j ≡ 0). record { inside = omega arith; marked = rw e (a .anchor) })
+      (λ (e : j ≡ k). record { inside = omega arith; marked = rw e (a .other) });
+  only = λ j b. a .only j (b .marked);
+}
+
+-- and those of coefficients that are not blank.
+pub coefficients-marked : {width : ℕ} (coefficients : List ℕ) {begin : List ℕ} → MarksOf coefficients 32 begin → width ≤ 32 → (j : ℕ)
+    → Begins begin width j ↔ ((j < width) × (0 < getD coefficients j 0))
+unfolding markOf
+coefficients-marked {width} coefficients {begin} m w j = (
+  λ b. (
+    b .inside,
+    ⊎-elim
+        (λ (e : getD coefficients j 0 ≡ 0). absurd (omega (arith, b .marked, m .each j (omega (arith, b .inside)) ∙ mark-same 0 _ e)))
+        (λ h. h)
+        (eq-zero-or-pos (getD coefficients j 0)),
+  ),
+  λ q. record { inside = q .0; marked = rw (m .each j (omega (arith, q .0))) (mark-arc 0 _ (q .1)) },
+)
+
+pub coefficients-flags : (coefficients : List ℕ) {begin : List ℕ} → MarksOf coefficients 32 begin → Flags begin
+coefficients-flags coefficients {begin} m = record {
+  length-is = m .size-is;
+  flag = λ j. ⊎-elim (λ (h : 32 ≤ j). omega (arith, m .rest j h)) (λ (h : j < 32). rw (m .each j h) (mark-flag 0 _ (omega arith))) (nat-le-or-lt 32 j);
 }
 
 -- Whether a variable is one of the start is decided by its mark.

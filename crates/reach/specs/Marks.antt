@@ -4,7 +4,7 @@ use mathlib.Core.Path.{_≡_}
 use mathlib.Core.List.{List}
 use lib.ListN.{length, getD}
 use Rattle.definitions.specs.Limits.{stride}
-use Rattle.definitions.specs.Certificate.{Reachable}
+use Rattle.definitions.specs.Certificate.{Reachable, AnchorAnd}
 
 -- Place j is marked.
 abbrev pub Marked : List ℕ → ℕ → Type 0
@@ -37,6 +37,13 @@ pub record Anchored (start : List ℕ) : Type 0 where
   pub flags : Flags start
   pub anchor : Marked start 0
   pub only : (j : ℕ) → Marked start j → j ≡ 0
+
+-- Only variable k and variable 0 are.
+pub record AnchoredAnd (k : ℕ) (start : List ℕ) : Type 0 where
+  pub flags : Flags start
+  pub anchor : Marked start 0
+  pub other : Marked start k
+  pub only : (j : ℕ) → Marked start j → AnchorAnd k j
 
 -- Of the first `width` places those are marked to which arcs lead from the start, and no others.
 pub record Reached (arcs : List ℕ) (width : ℕ) (start marks : List ℕ) : Type 0 where

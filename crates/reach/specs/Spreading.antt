@@ -1,10 +1,12 @@
--- Reach on the way: variables mark all to which they lead, each once; one that has is done.
+-- Reach on the way: marks of coefficients; variables mark all to which they lead, each once; one that has is done.
 use Prim.Native.Nat.{ℕ, _+_, _-_, _≤_, _<_}
 use mathlib.Core.Path.{_≡_}
 use mathlib.Core.Bool.{cond}
 use mathlib.Core.List.{List}
 use lib.Dec.{eqb}
 use lib.ListN.{length, getD}
+use Rattle.base.specs.Filled.{Filled}
+use Rattle.definitions.specs.Limits.{stride}
 use Rattle.definitions.specs.Certificate.{Reachable}
 use Rattle.duality.specs.Height.{total}
 use Rattle.reach.specs.Marks.{Marked, Led, Begins, Flags}
@@ -12,6 +14,10 @@ use Rattle.reach.specs.Marks.{Marked, Led, Begins, Flags}
 -- The mark of a place to which an arc leads, or not, from a marked one.
 unfoldable pub markOf : ℕ → ℕ → ℕ
 markOf mark arc = cond (eqb arc 0) mark 1
+
+-- Of the first n places those are marked whose coefficient is not blank; the others are not.
+abbrev pub MarksOf : List ℕ → ℕ → List ℕ → Type 0
+MarksOf coefficients n marks = Filled (λ l v. v ≡ markOf 0 (getD coefficients l 0)) stride n marks
 
 -- The first k places are marked by the arcs of a row; the others are as they were.
 pub record RowMarked (arcs : List ℕ) (base k : ℕ) (old new : List ℕ) : Type 0 where

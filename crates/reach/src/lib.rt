@@ -3,8 +3,8 @@ ghost use mathlib.Core.Path.{_≡_};
 ghost use Prim.Native.Nat.{_+_, _*_, _≤_, _<_};
 ghost use lib.ListN.{length};
 ghost use Rattle.definitions.specs.Limits.{stride, arcs-size};
-ghost use Rattle.reach.specs.Marks.{Flags, Anchored, Reached};
-ghost use Rattle.reach.specs.Spreading.{markOf, RowMarked, Spreading};
+ghost use Rattle.reach.specs.Marks.{Flags, Anchored, AnchoredAnd, Reached};
+ghost use Rattle.reach.specs.Spreading.{markOf, MarksOf, RowMarked, Spreading};
 
 pub mod compare;
 
@@ -19,6 +19,28 @@ pub fn anchor() -> [u8; STRIDE]
     let mut start = [0u8; STRIDE];
     start[0] = 1;
     start
+}
+
+// The start of class 2 (document 02, 2.4): variable k and the anchor. Public for `checker::check`, `class_answers`.
+pub fn anchor_and(k: usize) -> [u8; STRIDE]
+    requires { ⌜ k < stride ⌝ }
+    ensures { λ r. ⌜ AnchoredAnd k r ⌝ }
+{
+    let mut start = anchor();
+    start[k] = 1;
+    start
+}
+
+// The variables of a list of coefficients that are not blank. Public for `class_answers`.
+pub fn marks_of(coefficients: &[u32; STRIDE]) -> [u8; STRIDE]
+    requires { ⌜ length (now coefficients) ≡ stride ⌝ }
+    ensures { λ r. ⌜ MarksOf (now (coefficients .entry)) stride r ⌝ }
+{
+    let mut marks = [0u8; STRIDE];
+    for l in 0..STRIDE {
+        marks[l] = mark_of(0, coefficients[l]);
+    }
+    marks
 }
 
 // A place's mark once an arc leads there, or none does.

@@ -25,7 +25,7 @@ pub const LEAD_LIMIT: u64 = 20160;
 
 pub const SPAN_LIMIT: u64 = 2 * STRIDE_64 * LEAD_LIMIT;
 
-pub const STAMP_LIMIT: u64 = 3000000;
+pub const STAMP_LIMIT: u64 = 6000000;
 
 // The most trials that an answer takes.
 pub const MOST_TRIALS: u64 = 24;
@@ -52,7 +52,7 @@ pub const SHORT_BYTES: usize = 2;
 
 pub const LEAD_BYTES: usize = 4;
 
-// Places in a record's header: the length, the kind, n; then m of a problem, or class and span of an answer.
+// Places in a record's header: the length, the kind, n; then m of a problem, or class, span and start of an answer.
 pub const LENGTH_PLACE: usize = 0;
 
 pub const KIND_PLACE: usize = LENGTH_PLACE + LENGTH_BYTES;
@@ -65,6 +65,8 @@ pub const CLASS_PLACE: usize = N_PLACE + SHORT_BYTES;
 
 pub const SPAN_PLACE: usize = CLASS_PLACE + SHORT_BYTES;
 
+pub const START_PLACE: usize = SPAN_PLACE + LEAD_BYTES;
+
 // The sizes of a problem's header and of an answer's, and of the largest answer record.
 pub const PROBLEM_HEADER: usize = M_PLACE + SHORT_BYTES;
 
@@ -75,7 +77,7 @@ pub const QUESTIONS_HEADER: usize = COUNT_PLACE + SHORT_BYTES;
 
 pub const MOST_QUESTIONS: usize = 8;
 
-pub const ANSWER_HEADER: usize = SPAN_PLACE + LEAD_BYTES;
+pub const ANSWER_HEADER: usize = START_PLACE + SHORT_BYTES;
 
 pub const ANSWER_MOST: usize = ANSWER_HEADER + (LEAD_BYTES + SHORT_BYTES) * STRIDE;
 
@@ -84,7 +86,7 @@ pub const PROBLEM_KIND: u16 = 1;
 
 pub const QUESTIONS_KIND: u16 = 3;
 
-pub const ANSWER_KIND: u64 = 2;
+pub const ANSWER_KIND: u64 = 4;
 
 // Classes of answers: least, bottomless, none.
 pub const OPTIMAL: u64 = 1;
@@ -137,8 +139,8 @@ pub const REFUSED_SILENT: usize = 17;
 // Of an answer buffer: too few bytes.
 pub const REFUSED_ROOM: usize = 7;
 
-// Of an answer: fewer bytes than a header, another length, another kind or class, another n or size, a span or stamp outside
-// its form, a pick above its highest; the form is right and the answer is not accepted.
+// Of an answer: fewer bytes than a header, another length, another kind or class or a start that is none of its class, another n
+// or size, a span or stamp outside its form, a pick above its highest; the form is right and the answer is not accepted.
 pub const REFUSED_ANSWER_SHORT: usize = 8;
 
 pub const REFUSED_ANSWER_LENGTH: usize = 9;

@@ -1,17 +1,17 @@
 -- A plan in whole minutes is one in parts of a minute, with d times its span (`stretched-feasible`, `value-stretched`), and every
 -- plan in parts of a minute can be rounded to whole minutes without a greater span (`whole-minutes`).
 use Prim.Native.Nat.{ℕ, suc, _≤_, _<_}
-use mathlib.Core.Path.{_≡_, refl, ap, ap₂, sym, _∙_}
-use mathlib.Core.Logic.{_↔_}
+use mathlib.Core.Path.{_≡_, refl, ap, ap₂, sym, subst, _∙_}
+use mathlib.Core.Logic.{⊎-elim, _↔_}
 use native.Mathlib.Omega.{arith}
 use lib.IntN.{ℤ, pos, _+ℤ_, _-ℤ_, _*ℤ_}
 use lib.Signed.{_≤ℤ_}
-use Rattle.definitions.specs.Tropical.{Trop, bot, fin, plus}
+use Rattle.definitions.specs.Tropical.{Trop, bot, fin, plus, Finite}
 use Rattle.definitions.specs.Problem as Problems
-use Rattle.definitions.specs.Problem.{Problem, Point, side, Feasible, _≼_, lowest, between, highest, minus, value}
+use Rattle.definitions.specs.Problem.{Problem, Point, side, Feasible, Counts, _≼_, lowest, between, highest, minus, value}
 use Rattle.definitions.specs.Scaling.{times, scaled}
 use Rattle.definitions.proofs.Whole.{whole, plus-read, minus-read}
-use Rattle.definitions.proofs.Tropical.{largest-ext}
+use Rattle.definitions.proofs.Tropical.{not-finite-bot, blank-or-finite, largest-ext}
 use Rattle.scaling.specs.Floor.{floor, floored, rounded}
 use Rattle.scaling.specs.Plans.{stretchedPoint, roundedPoint, timesValue, WholeMinutes}
 use Rattle.scaling.proofs.Floor as Floors
@@ -46,6 +46,14 @@ pub rounded-blank :
     (d r n : ℕ) (c : ℕ → Trop) (y : Point) → 1 ≤ d
     → (side n c (roundedPoint d r y) ≡ bot) ↔ (side n (λ j. times d (c j)) y ≡ bot)
 rounded-blank d r n c y one = rw (side-rounded d r n c y one) (Floors.rounded-blank d r (side n (λ j. times d (c j)) y))
+
+-- What is blank only where another is, is finite where that is.
+finite-alike : {a b : Trop} → (a ≡ bot → b ≡ bot) → Finite b → Finite a
+finite-alike {a} h f = ⊎-elim (λ e. absurd (not-finite-bot (subst Finite (h e) f))) (λ g. g) (blank-or-finite a)
+
+-- A stretched plan counts where the plan does.
+pub stretched-counts : (d : ℕ) (p : Problem) {x : Point} → Counts p x → Counts (scaled d p) (stretchedPoint d x)
+stretched-counts d p {x} c = record { second = finite-alike (stretched-blank d (p .n) (p .right (p .m)) x .0) (c .second) }
 
 -- ---- plans that keep the rules
 
@@ -126,6 +134,7 @@ whole-minutes d p {y} one f =
     record {
       point = roundedPoint d (l .parts) y;
       feasible = rounded-feasible d (l .parts) p (l .few) f;
+      counts = λ c. record { second = finite-alike (rounded-blank d (l .parts) (p .n) (p .right (p .m)) y one .0) (c .second) };
       at-most =
           rw (side-rounded d (l .parts) (p .n) (p .left (p .m)) y one, side-rounded d (l .parts) (p .n) (p .right (p .m)) y one)
           (l .gains-nothing (side (p .n) (λ j. times d (p .left (p .m) j)) y));

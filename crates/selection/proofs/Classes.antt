@@ -2,48 +2,55 @@
 -- spans can only fall (`attainable-selected` and what follows), so that a class shown of both is shown to be the same.
 use Prim.Native.Nat.{ℕ}
 use mathlib.Core.Path.{_≡_, sym, subst, _∙_}
-use mathlib.Core.Logic.{_↔_}
 use lib.IntN.{ℤ}
 use Rattle.definitions.specs.Problem as Problems
-use Rattle.definitions.specs.Problem.{Problem, Point, Feasible, value, _≼_, Attainable, Optimal, Unbounded, Infeasible}
+use Rattle.definitions.specs.Problem.{Problem, Point, Feasible, Counts, value, Attainable, Optimal, Unbounded, Infeasible}
 use Rattle.definitions.specs.Selection.{selected, Choice, LeftOutKept, SameClass}
-use Rattle.duality.proofs.Classes.{optimal-unique, infeasible-not-unbounded, infeasible-not-optimal, unbounded-not-optimal}
-use Rattle.selection.proofs.Plans.{feasible-selected, feasible-all, value-selected}
+use Rattle.definitions.proofs.Counts.{whole-counts}
+use Rattle.duality.proofs.Classes.{Least, optimal-unique, infeasible-not-unbounded, infeasible-not-optimal, unbounded-not-optimal}
+use Rattle.selection.proofs.Plans.{feasible-selected, feasible-all, counted-selected, value-selected}
 
 -- ---- the same plans
 
--- Let each plan that keeps the rules of p keep those of q, and have the same span in both. What is attainable in p is attainable in q,
--- and what no plan of q is below, no plan of p is.
-module _ {p q : Problem} (plans : (x : Point) → Feasible p x → Feasible q x) (spans : (x : Point) → value q x ≡ value p x) where
+-- Let each plan that keeps the rules of p and counts keep those of q and count, and have the same span in both. What is attainable in p is
+-- attainable in q, and what no plan of q is below, no plan of p is.
+abbrev Plans : Problem → Problem → Type 0
+Plans p q = ((x : Point) → Feasible p x → Feasible q x) × ((x : Point) → Counts p x → Counts q x)
+
+module _ {p q : Problem} (plans : Plans p q) (spans : (x : Point) → value q x ≡ value p x) where
   pub attainable-more : {t : ℤ} → Attainable p t → Attainable q t
   attainable-more {t} a =
-      record { point = a .point; feasible = plans (a .point) (a .feasible); within = rw (spans (a .point)) (a .within) }
+      record {
+        point = a .point;
+        feasible = plans .0 (a .point) (a .feasible);
+        counts = plans .1 (a .point) (a .counts);
+        within = rw (spans (a .point)) (a .within);
+      }
 
   pub unbounded-more : Unbounded p → Unbounded q
   unbounded-more u t = attainable-more (u t)
 
   pub infeasible-fewer : Infeasible q → Infeasible p
-  infeasible-fewer i x h = rw (spans x) at (i x (plans x h))
+  infeasible-fewer i x h c = rw (spans x) at (i x (plans .0 x h) (plans .1 x c))
 
-  pub least-fewer : {s : ℤ} → ((y : Point) → Feasible q y → Problems.whole s ≼ value q y) → (y : Point) → Feasible p y → Problems.whole s ≼ value p y
-  least-fewer least y h = rw (spans y) at (least y (plans y h))
+  pub least-fewer : {s : ℤ} → Least q s → Least p s
+  least-fewer least y h c = rw (spans y) at (least y (plans .0 y h) (plans .1 y c))
 
 -- Exactly the same plans: the same class and least span.
-pub same-plans : {p q : Problem} → ((x : Point) → Feasible p x ↔ Feasible q x) → ((x : Point) → value q x ≡ value p x) → SameClass p q
-same-plans {p} {q} plans spans =
+pub same-plans : {p q : Problem} → Plans p q → Plans q p → ((x : Point) → value q x ≡ value p x) → SameClass p q
+same-plans {p} {q} on back spans =
     record {
-      least-exactly = λ s. (optimal (λ x. plans x .0) (λ x. plans x .1) spans, optimal (λ x. plans x .1) (λ x. plans x .0) (λ x. sym (spans x)));
-      bottomless-exactly = (unbounded-more (λ x. plans x .0) spans, unbounded-more (λ x. plans x .1) (λ x. sym (spans x)));
-      none-exactly = (infeasible-fewer (λ x. plans x .1) (λ x. sym (spans x)), infeasible-fewer (λ x. plans x .0) spans);
+      least-exactly = λ s. (optimal on back spans, optimal back on (λ x. sym (spans x)));
+      bottomless-exactly = (unbounded-more on spans, unbounded-more back (λ x. sym (spans x)));
+      none-exactly = (infeasible-fewer back (λ x. sym (spans x)), infeasible-fewer on spans);
     }
   where
-    optimal :
-        {a b : Problem} {s : ℤ} → ((x : Point) → Feasible a x → Feasible b x) → ((x : Point) → Feasible b x → Feasible a x)
-        → ((x : Point) → value b x ≡ value a x) → Optimal a s → Optimal b s
+    optimal : {a b : Problem} {s : ℤ} → Plans a b → Plans b a → ((x : Point) → value b x ≡ value a x) → Optimal a s → Optimal b s
     optimal on back spans o =
         record {
           point = o .point;
-          feasible = on (o .point) (o .feasible);
+          feasible = on .0 (o .point) (o .feasible);
+          counts = on .1 (o .point) (o .counts);
           value-is = spans (o .point) ∙ o .value-is;
           least = least-fewer back (λ x. sym (spans x)) (o .least);
         }
@@ -79,20 +86,23 @@ both-infeasible {p} {q} a b =
 
 -- Fewer rules: what is attainable stays so, and what no plan reaches with fewer rules none reaches with all.
 module _ {p : Problem} {f : ℕ → ℕ} {m′ : ℕ} (c : Choice p f m′) where
+  fewer : Plans p (selected p f m′)
+  fewer = (λ x. feasible-selected c, λ x. counted-selected p f m′ .0)
+
   pub attainable-selected : {t : ℤ} → Attainable p t → Attainable (selected p f m′) t
-  attainable-selected = attainable-more (λ x. feasible-selected c) (value-selected p f m′)
+  attainable-selected = attainable-more fewer (value-selected p f m′)
 
   pub unbounded-selected : Unbounded p → Unbounded (selected p f m′)
-  unbounded-selected = unbounded-more (λ x. feasible-selected c) (value-selected p f m′)
+  unbounded-selected = unbounded-more fewer (value-selected p f m′)
 
   pub infeasible-all : Infeasible (selected p f m′) → Infeasible p
-  infeasible-all = infeasible-fewer (λ x. feasible-selected c) (value-selected p f m′)
+  infeasible-all = infeasible-fewer fewer (value-selected p f m′)
 
   -- A plan that keeps all rules and has the least span of the selection shows it to be that of p.
   pub optimal-all : {s : ℤ} {x : Point} → Feasible p x → value p x ≡ Problems.whole s → Optimal (selected p f m′) s → Optimal p s
   optimal-all {s} {x} h v o =
-      record { point = x; feasible = h; value-is = v; least = least-fewer (λ y. feasible-selected c) (value-selected p f m′) (o .least) }
+      record { point = x; feasible = h; counts = whole-counts v; value-is = v; least = least-fewer fewer (value-selected p f m′) (o .least) }
 
   -- Where every plan keeps the rules left out, class and least span are the same.
   pub class-selected : LeftOutKept p f m′ → SameClass p (selected p f m′)
-  class-selected kept = same-plans (λ x. (feasible-selected c, feasible-all kept)) (value-selected p f m′)
+  class-selected kept = same-plans fewer (λ x. feasible-all kept, λ x. counted-selected p f m′ .1) (value-selected p f m′)

@@ -1,10 +1,12 @@
 -- Plans of a selection: with fewer rules no plan is lost (`feasible-selected`), where every plan keeps the rules left out none is won
--- (`feasible-all`), and spans stay (`value-selected`).
-use Prim.Native.Nat.{ℕ, _≤_, _<_}
+-- (`feasible-all`); the same plans count (`counted-selected`), and spans stay (`value-selected`). The starts of answers stay too.
+use Prim.Native.Nat.{ℕ, zero, suc, _≤_, _<_}
 use mathlib.Core.Path.{_≡_, ap, sym, subst}
-use mathlib.Core.Logic.{⊎-elim}
+use mathlib.Core.Logic.{⊎-elim, _↔_}
 use native.Mathlib.Omega.{arith}
-use Rattle.definitions.specs.Problem.{Problem, Point, side, Keeps, Feasible, minus, value}
+use Rattle.definitions.specs.Tropical.{Finite}
+use Rattle.definitions.specs.Problem.{Problem, Point, side, Keeps, Feasible, Counts, minus, value}
+use Rattle.definitions.specs.Certificate.{Second, startOf}
 use Rattle.definitions.specs.Selection.{rowOf, selected, Choice, LeftOut, LeftOutKept, BlankLeft, BlankRow}
 use Rattle.base.proofs.Numbers.{nat-le-or-lt}
 use Rattle.definitions.proofs.Selection.{row-chosen, row-objective, blank-left-kept}
@@ -36,6 +38,25 @@ feasible-all {p} {f} {m′} {x} kept h = record {
 pub value-selected : (p : Problem) (f : ℕ → ℕ) (m′ : ℕ) (x : Point) → value (selected p f m′) x ≡ value p x
 unfolding value
 value-selected p f m′ x = ap (λ (i : ℕ). minus (side (p .n) (p .left i) x) (side (p .n) (p .right i) x)) (row-objective p f m′)
+
+-- It counts in the one where it does in the other.
+pub counted-selected : (p : Problem) (f : ℕ → ℕ) (m′ : ℕ) {x : Point} → Counts p x ↔ Counts (selected p f m′) x
+counted-selected p f m′ {x} = (
+  λ c. record { second = subst (λ (i : ℕ). Finite (side (p .n) (p .right i) x)) (sym (row-objective p f m′)) (c .second) },
+  λ c. record { second = subst (λ (i : ℕ). Finite (side (p .n) (p .right i) x)) (row-objective p f m′) (c .second) },
+)
+
+-- What a start means stays.
+pub second-selected : (p : Problem) (f : ℕ → ℕ) (m′ : ℕ) {j : ℕ} → Second p j ↔ Second (selected p f m′) j
+second-selected p f m′ {j} = (
+  λ s. record { inside = s .inside; right = subst (λ (i : ℕ). Finite (p .right i j)) (sym (row-objective p f m′)) (s .right) },
+  λ s. record { inside = s .inside; right = subst (λ (i : ℕ). Finite (p .right i j)) (row-objective p f m′) (s .right) },
+)
+
+pub start-selected : (p : Problem) (f : ℕ → ℕ) (m′ start j : ℕ) → startOf p start j ↔ startOf (selected p f m′) start j
+unfolding startOf
+start-selected p f m′ zero j = (λ e. e, λ e. e)
+start-selected p f m′ (suc k) j = second-selected p f m′
 
 -- ---- rows left out that every plan keeps
 

@@ -2,40 +2,49 @@
 use Prim.Native.Nat.{ℕ, _≤_}
 use lib.IntN.{ℤ}
 use Rattle.definitions.specs.Problem.{Problem, Point, Optimal, Infeasible}
-use Rattle.definitions.specs.Certificate.{Strategy, Anchor, AcceptedOptimal, AcceptedInfeasible}
+use Rattle.definitions.specs.Certificate.{Strategy, startOf, AcceptedOptimal, AcceptedInfeasible}
 use Rattle.definitions.specs.Selection.{selected, Choice, LeftOut, BlankLeft, BlankRow, SameClass, renumbered}
+use Rattle.duality.proofs.Starts.{optimal-from, infeasible-from}
 use Rattle.duality.proofs.Classes.{accepted-optimal, accepted-infeasible}
 use Rattle.selection.specs.Chosen.{PicksChosen}
 use Rattle.selection.specs.Certificates.{SameCertificates}
 use Rattle.selection.proofs.Rows.{renumber-none-above}
-use Rattle.selection.proofs.Plans.{left-blank-kept, blank-kept}
+use Rattle.selection.proofs.Plans.{start-selected, left-blank-kept, blank-kept}
 use Rattle.selection.proofs.Classes.{both-optimal, both-infeasible, infeasible-all, optimal-all, class-selected}
 use Rattle.selection.proofs.Certificates.{optimal-accepted-selected, infeasible-accepted-selected, same-certificates}
 
 module _ {p : Problem} {f : ℕ → ℕ} {m′ : ℕ} (c : Choice p f m′) where
   -- ---- 2.5: the problem with only the rules picked by reached moments, and the question, has the same class and span
 
-  -- Class 1.
+  -- Class 1, from the answer's start.
   pub least-behind :
-      {s : ℤ} {x : Point} {picks : Strategy} → AcceptedOptimal Anchor p s x picks → PicksChosen Anchor p f m′ picks
-      → Optimal (selected p f m′) s × SameClass p (selected p f m′)
-  least-behind {s} {x} {picks} a chosen =
+      {s : ℤ} {x : Point} {start : ℕ} {picks : Strategy} → start ≤ 1 → AcceptedOptimal (startOf p start) p s x picks
+      → PicksChosen (startOf p start) p f m′ picks → Optimal (selected p f m′) s × SameClass p (selected p f m′)
+  least-behind {s} {x} {start} {picks} h a chosen =
       let o : Optimal (selected p f m′) s = accepted-optimal (selected p f m′) s x (record {
-        picks = renumbered p f m′ picks;
-        none-above = λ j h. renumber-none-above p f m′ (picks j);
-        accepted = optimal-accepted-selected c chosen a;
+        start = start;
+        fits = h;
+        table = record {
+          picks = renumbered p f m′ picks;
+          none-above = λ j h. renumber-none-above p f m′ (picks j);
+          accepted = optimal-from (λ j. start-selected p f m′ start j .1) (optimal-accepted-selected c chosen a);
+        };
       }) in
       (o, both-optimal (optimal-all c (a .feasible) (a .value-is) o) o)
 
   -- Class 3.
   pub none-behind :
-      {picks : Strategy} → AcceptedInfeasible Anchor p picks → PicksChosen Anchor p f m′ picks
+      {start : ℕ} {picks : Strategy} → start ≤ 1 → AcceptedInfeasible (startOf p start) p picks → PicksChosen (startOf p start) p f m′ picks
       → Infeasible (selected p f m′) × SameClass p (selected p f m′)
-  none-behind {picks} a chosen =
+  none-behind {start} {picks} h a chosen =
       let i : Infeasible (selected p f m′) = accepted-infeasible (selected p f m′) (record {
-        picks = renumbered p f m′ picks;
-        none-above = λ j h. renumber-none-above p f m′ (picks j);
-        accepted = infeasible-accepted-selected c chosen a;
+        start = start;
+        fits = h;
+        table = record {
+          picks = renumbered p f m′ picks;
+          none-above = λ j h. renumber-none-above p f m′ (picks j);
+          accepted = infeasible-from (λ j. start-selected p f m′ start j .1) (infeasible-accepted-selected c chosen a);
+        };
       }) in
       (i, both-infeasible (infeasible-all c i) i)
 

@@ -3,3 +3,4 @@ pub mod Ending
 pub mod Raising
 pub mod Framing
 pub mod Floors
+pub mod SecondList

@@ -2,3 +2,4 @@
 // before each trial.
 pub mod floor;
 pub mod frame;
+pub mod second;

@@ -31,8 +31,8 @@ judge-header-spec =
     (λ c. search needs)
     returns-4
     (λ c κs. search needs)
-    (λ c. judged-kind _ _ _ _ _ _ _ (c .before .before .before .before .before .if1 .left) (c .before .before .before .before .if2 .left) (c .before .before .before .if3 .left) (c .before .before .if4 .left) (c .before .known-record .ensures) (not-true _ (c .if5 .taken)))
-    (λ c. judged-n _ _ _ _ _ _ _ (c .before .before .before .before .before .before .if1 .left) (c .before .before .before .before .before .if2 .left) (c .before .before .before .before .if3 .left) (c .before .before .before .if4 .left) (c .before .before .known-record .ensures) (not-false _ (c .before .if5 .left)) (c .if6 .taken))
+    (λ c. judged-kind _ _ _ _ _ _ _ _ (c .before .before .before .before .before .if1 .left) (c .before .before .before .before .if2 .left) (c .before .before .before .if3 .left) (c .before .before .if4 .left) (c .before .known-record .ensures) (not-true _ (c .if5 .taken)))
+    (λ c. judged-n _ _ _ _ _ _ _ _ (c .before .before .before .before .before .before .if1 .left) (c .before .before .before .before .before .if2 .left) (c .before .before .before .before .if3 .left) (c .before .before .before .if4 .left) (c .before .before .known-record .ensures) (not-false _ (c .before .if5 .left)) (c .if6 .taken))
     (λ c κs. search needs)
-    (λ c. judged-size _ _ _ _ _ _ _ (c .before .before .before .before .before .before .before .before .if1 .left) (c .before .before .before .before .before .before .before .if2 .left) (c .before .before .before .before .before .before .if3 .left) (c .before .before .before .before .before .if4 .left) (c .before .before .before .before .known-record .ensures) (not-false _ (c .before .before .before .if5 .left)) (c .before .before .if6 .left) (c .before .answer-size .ensures .0) (c .if7 .taken))
-    (λ c. judged-none _ _ _ _ _ _ _ (c .before .before .before .before .before .before .before .before .if1 .left) (c .before .before .before .before .before .before .before .if2 .left) (c .before .before .before .before .before .before .if3 .left) (c .before .before .before .before .before .if4 .left) (c .before .before .before .before .known-record .ensures) (not-false _ (c .before .before .before .if5 .left)) (c .before .before .if6 .left) (c .before .answer-size .ensures .0) (c .if7 .left)))
+    (λ c. judged-size _ _ _ _ _ _ _ _ (c .before .before .before .before .before .before .before .before .if1 .left) (c .before .before .before .before .before .before .before .if2 .left) (c .before .before .before .before .before .before .if3 .left) (c .before .before .before .before .before .if4 .left) (c .before .before .before .before .known-record .ensures) (not-false _ (c .before .before .before .if5 .left)) (c .before .before .if6 .left) (c .before .answer-size .ensures .0) (c .if7 .taken))
+    (λ c. judged-none _ _ _ _ _ _ _ _ (c .before .before .before .before .before .before .before .before .if1 .left) (c .before .before .before .before .before .before .before .if2 .left) (c .before .before .before .before .before .before .if3 .left) (c .before .before .before .before .before .if4 .left) (c .before .before .before .before .known-record .ensures) (not-false _ (c .before .before .before .if5 .left)) (c .before .before .if6 .left) (c .before .answer-size .ensures .0) (c .if7 .left)))

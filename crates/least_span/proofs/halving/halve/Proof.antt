@@ -57,7 +57,7 @@ halving-again c = let turn = c .before .before .before .before .before .before .
 
 -- src/halving.rt:24:1
 returns : tie.Need-returns Inv-halving μ-halving
-returns c = let start = c .before .before .before .before .before .before in let a = start .args in let turn = c .before .before .before .before .before .halving in let v = turn .inv in bracketed-end (a .frame) (a .left .now) (a .right .now) (turn .right) (a .start) (turn .search) (turn .bracket .low) (turn .bracket .high) (turn .trials) (v .0) (v .3) (v .1) (v .2) (c .before .before .before .if1 .taken)
+returns c = let start = c .before .before .before .before .before in let a = start .args in let turn = c .before .before .before .before .halving in let v = turn .inv in bracketed-end (a .frame) (a .left .now) (a .right .now) (turn .right) (a .start) (turn .search) (turn .bracket .low) (turn .bracket .high) (turn .trials) (v .0) (v .3) (v .1) (v .2) (c .before .before .if1 .taken)
 
 pub halve-spec : {M : Type 1} → statement M
 halve-spec =

@@ -1,5 +1,5 @@
-use native.Mathlib.Omega.{arith}
 use mathlib.Core.Path.{refl}
+use mathlib.Core.Logic.{inl, inr}
 use borrow.Author.Needs.{needs}
 use Rattle.least_span.proofs.state.moved.Statement.{statement}
 use Rattle.least_span.proofs.state.moved.Tie as tie
@@ -8,5 +8,6 @@ pub moved-spec : {M : Type 1} → statement M
 moved-spec = tie.close (tie.spec
     (λ c. search needs)
     (λ c κs. search needs)
-    (λ c. let h = c .before .possible .ensures .yes (c .if1 .taken) in record { possible = λ _. refl; impossible = λ e. absurd (omega arith) })
-    (λ c. let h = c .before .possible .ensures .no (c .if1 .left) in record { possible = λ z. absurd (omega arith); impossible = λ e. refl }))
+    (λ c κs. search needs)
+    (λ c. record { moved = inl (c .before .possible .ensures .yes (c .if1 .taken), refl) })
+    (λ c. record { moved = inr (c .before .before .before .possible .ensures .no (c .before .before .if1 .left), rw (c .blocked-from .ensures)) }))

@@ -7,4 +7,4 @@ pub opened-spec : {M : Type 1} → statement M
 opened-spec = tie.close (tie.spec
     (λ c. search needs)
     (λ c. search needs)
-    (λ c. opening _ _ (c .pre .2)))
+    (λ c. opening _))
