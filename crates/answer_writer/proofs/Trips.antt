@@ -11,18 +11,19 @@ use Rattle.definitions.specs.Limits.{highest-n, highest-m, answer-most}
 use Rattle.definitions.specs.Tropical.{Trop}
 use Rattle.definitions.specs.Bytes.{Bytes, put, or-else, outcome}
 use Rattle.definitions.specs.Offset.{tropOf}
-use Rattle.definitions.specs.AnswerRecord.{Answer, stampCount, pickCount, answerSize, classField, spanField, answerOf, answerBytes, answerRefusal, answerOutcome, writerRefusal, writerJudged, writerOutcome, written}
+use Rattle.definitions.specs.AnswerRecord.{Answer, stampCount, pickCount, answerSize, classField, spanField, startField, answerOf, answerBytes, answerRefusal, answerOutcome, writerRefusal, writerJudged, writerOutcome, written}
 use Rattle.definitions.proofs.Put.{take-put, length-put}
 use Rattle.definitions.proofs.Outcomes.{outcome-some, outcome-gives, outcome-refusal}
 use Rattle.definitions.proofs.Offset.{tropOf-injective}
 use Rattle.definitions.proofs.Refusals.{answer-fits}
 use Rattle.definitions.proofs.RoundTrip.{answer-bytes, write-read, read-write}
-use Rattle.answer_reader.specs.Fields.{fieldsOf, stampsAt, picksAt, stampsOf, picksOf}
-use Rattle.answer_reader.specs.AnswerReading.{headOf, AnswerRead}
+use Rattle.answer_reader.specs.Fields.{fieldsOf, bodyOf, stampsAt, picksAt, stampsOf, picksOf}
+use Rattle.answer_reader.specs.AnswerReading.{toldBy, headOf, HeadAt, AnswerRead}
 use Rattle.answer_writer.specs.AnswerWriting.{writtenOf, unlessRefused, AnswerWritten}
 use Rattle.answer_writer.specs.RoundTrips.{fieldsRefusal, WrittenThenRead, backRefusal, ReadThenWritten}
+use Rattle.answer_reader.specs.declared.answer.Head.{Head}
 use Rattle.answer_reader.specs.declared.answer.AnswerHead.{AnswerHead}
-use Rattle.answer_reader.specs.declared.answer.AnswerHead.the-variants as head
+use Rattle.answer_reader.specs.declared.answer.AnswerHead.the-variants as read-as
 use Rattle.answer_writer.specs.declared.writer.Written.{Written}
 use Rattle.answer_writer.specs.declared.writer.Written.the-variants as result
 use Rattle.answer_reader.proofs.Passing.{stampsAt-length, picksAt-length}
@@ -30,7 +31,7 @@ use Rattle.answer_reader.proofs.Padding.{padded-take}
 use Rattle.answer_reader.proofs.Judging.{stamps-meant, picks-meant, body-meant}
 use Rattle.answer_writer.proofs.Writing.{roomy}
 use Rattle.answer_reader.proofs.ByClass.{stamps-most, picks-most}
-use Rattle.answer_reader.proofs.Heads.{fields-by, refused-by, head-refused}
+use Rattle.answer_reader.proofs.Heads.{told-head, fields-by, refused-by, head-refused}
 
 -- ---- what an outcome says of its refusal
 
@@ -66,48 +67,46 @@ trops-injective (x ∷ xs) [] e = let z : _≡_ {A = ℕ} 1 0 = ap length' e in 
     length' (x ∷ xs) = 1
 trops-injective (x ∷ xs) (y ∷ ys) e = ap₂ _∷_ (tropOf-injective x y (cc)) (trops-injective xs ys (cc))
 
-class-of : (s : List ℕ) (n m : ℕ) → classField s ≡ answerOf s n m .class
+told-of : (s : List ℕ) (n m : ℕ)
+    → _≡_ {A = ℕ × Trop × ℕ} (classField s, spanField s, startField s) (answerOf s n m .class, answerOf s n m .span, answerOf s n m .start)
 unfolding answerOf
-class-of s n m = refl
+told-of s n m = refl
 
-span-of : (s : List ℕ) (n m : ℕ) → spanField s ≡ answerOf s n m .span
-unfolding answerOf
-span-of s n m = refl
+abbrev answerTold : Answer → ℕ × Trop × ℕ
+answerTold a = (a .class, a .span, a .start)
 
 -- ---- written and read back
 
-module _ (class span : ℕ) (stamps picks : List ℕ) (n m : ℕ) where
+module _ (head : Head) (stamps picks : List ℕ) (n m : ℕ) where
   -- What is read from the record of an answer that nothing refuses.
   record Same (s : List ℕ) : Type 0 where
     accepted : answerRefusal s n m ≡ 0
-    class-is : classField s ≡ class
-    span-is : spanField s ≡ tropOf span
+    told : _≡_ {A = ℕ × Trop × ℕ} (classField s, spanField s, startField s) (toldBy head)
     stamps-are : stampsOf s n ≡ stamps
     picks-are : picksOf s n m ≡ picks
 
-  same : (room : ℕ) → fieldsRefusal class span stamps picks n m room ≡ 0 → Same (answerBytes n (fieldsOf class span stamps picks))
+  same : (room : ℕ) → fieldsRefusal head stamps picks n m room ≡ 0 → Same (answerBytes n (fieldsOf head stamps picks))
   same room z =
-      let a : Answer = fieldsOf class span stamps picks in
-      let s : List ℕ = answerBytes n (fieldsOf class span stamps picks) in
-      let w = write-read (fieldsOf class span stamps picks) n m room z in
-      let b : Bytes (answerBytes n (fieldsOf class span stamps picks)) = answer-bytes n (fieldsOf class span stamps picks) in
+      let a : Answer = fieldsOf head stamps picks in
+      let s : List ℕ = answerBytes n (fieldsOf head stamps picks) in
+      let w = write-read (fieldsOf head stamps picks) n m room z in
+      let b : Bytes (answerBytes n (fieldsOf head stamps picks)) = answer-bytes n (fieldsOf head stamps picks) in
       record {
         accepted = w .0;
-        class-is = class-of _ n m ∙ ap (λ (x : Answer). x .class) (w .1);
-        span-is = span-of _ n m ∙ ap (λ (x : Answer). x .span) (w .1);
+        told = told-of _ n m ∙ ap answerTold (w .1);
         stamps-are = trops-injective _ stamps (stamps-meant b n m ∙ ap (λ (x : Answer). x .stamps) (w .1));
         picks-are = picks-meant _ n m ∙ ap (λ (x : Answer). x .picks) (w .1);
       }
 
-  module _ {r : Written} {before after : List ℕ} (w : AnswerWritten (fieldsOf class span stamps picks) n m r before after) where
+  module _ {r : Written} {before after : List ℕ} (w : AnswerWritten (fieldsOf head stamps picks) n m r before after) where
     -- The writer refuses.
     pub back-refused : {k : ℕ} {stamps-back picks-back : List ℕ} → r ≡ result.Refused k
-        → WrittenThenRead class span stamps picks n m (head.Refused k) before after stamps-back stamps-back picks-back picks-back
+        → WrittenThenRead head stamps picks n m (read-as.Refused k) before after stamps-back stamps-back picks-back picks-back
     unfolding writerOutcome
     back-refused {k} e =
-        let h = refused-record (fieldsRefusal class span stamps picks n m (length before)) _ (w .answered) e in
+        let h = refused-record (fieldsRefusal head stamps picks n m (length before)) _ (w .answered) e in
         record {
-          answered = rw (h .0) (head-refused _ (class, tropOf span) (h .1));
+          answered = rw (h .0) (head-refused _ (toldBy head) (h .1));
           buffer = w .buffer;
           kept = λ x. (refl, refl);
           stamps-same = λ x. absurd (h .1 x);
@@ -116,36 +115,36 @@ module _ (class span : ℕ) (stamps picks : List ℕ) (n m : ℕ) where
 
     -- The writer writes: the record stands at the front of the buffer.
     pub record Front (size : ℕ) : Type 0 where
-      pub none : fieldsRefusal class span stamps picks n m (length before) ≡ 0
+      pub none : fieldsRefusal head stamps picks n m (length before) ≡ 0
       pub inside : size ≤ length after
-      pub bytes : take size after ≡ answerBytes n (fieldsOf class span stamps picks)
+      pub bytes : take size after ≡ answerBytes n (fieldsOf head stamps picks)
 
     pub front : {size : ℕ} → r ≡ result.Record size → Front size
     unfolding writerOutcome unlessRefused written
     front {size} e =
-        let h = record-by (fieldsRefusal class span stamps picks n m (length before)) _ (w .answered) e in
-        let s : List ℕ = answerBytes n (fieldsOf class span stamps picks) in
-        let room = roomy class span stamps picks n m (length before) (h .0) in
-        let long : length (answerBytes n (fieldsOf class span stamps picks)) ≡ answerSize class n m = write-read (fieldsOf class span stamps picks) n m (length before) (h .0) .2 in
-        let put-is : after ≡ put before 0 (answerBytes n (fieldsOf class span stamps picks)) = rw (h .0) at (w .buffer) in
-        let fits : 0 + length (answerBytes n (fieldsOf class span stamps picks)) ≤ length before = omega (arith, room .size-fits) in
-        let size-is : size ≡ 0 + length (answerBytes n (fieldsOf class span stamps picks)) = omega (arith, h .1) in
+        let h = record-by (fieldsRefusal head stamps picks n m (length before)) _ (w .answered) e in
+        let s : List ℕ = answerBytes n (fieldsOf head stamps picks) in
+        let room = roomy head stamps picks n m (length before) (h .0) in
+        let long : length (answerBytes n (fieldsOf head stamps picks)) ≡ answerSize (head .class) n m = write-read (fieldsOf head stamps picks) n m (length before) (h .0) .2 in
+        let put-is : after ≡ put before 0 (answerBytes n (fieldsOf head stamps picks)) = rw (h .0) at (w .buffer) in
+        let fits : 0 + length (answerBytes n (fieldsOf head stamps picks)) ≤ length before = omega (arith, room .size-fits) in
+        let size-is : size ≡ 0 + length (answerBytes n (fieldsOf head stamps picks)) = omega (arith, h .1) in
         record {
           none = h .0;
-          inside = rw (put-is, length-put before 0 (answerBytes n (fieldsOf class span stamps picks)) (omega arith) fits) (omega arith);
-          bytes = rw (put-is, size-is) (take-put before 0 (answerBytes n (fieldsOf class span stamps picks)) (omega arith));
+          inside = rw (put-is, length-put before 0 (answerBytes n (fieldsOf head stamps picks)) (omega arith) fits) (omega arith);
+          bytes = rw (put-is, size-is) (take-put before 0 (answerBytes n (fieldsOf head stamps picks)) (omega arith));
         }
 
     -- What is read back from there.
     pub back-read : {size : ℕ} {said : AnswerHead} {stamps-before stamps-back picks-before picks-back : List ℕ} → r ≡ result.Record size
         → AnswerRead (take size after) n m said stamps-before stamps-back picks-before picks-back
-        → WrittenThenRead class span stamps picks n m said before after stamps-before stamps-back picks-before picks-back
+        → WrittenThenRead head stamps picks n m said before after stamps-before stamps-back picks-before picks-back
     unfolding answerOutcome
     back-read {size} e q =
         let f = front e in
         let t : Same (take size after) = rw (f .bytes) (same (length before) (f .none)) in
         record {
-          answered = q .answered ∙ (rw (t .accepted, f .none, t .class-is, t .span-is) refl);
+          answered = q .answered ∙ (rw (t .accepted, f .none, t .told) refl);
           buffer = w .buffer;
           kept = λ x. absurd (x (f .none));
           stamps-same = λ x. rw (t .stamps-are) at (q .stamps-read (t .accepted));
@@ -185,7 +184,7 @@ again-short s n m r before after none room w =
 module _ {s : List ℕ} {n m : ℕ} {said : AnswerHead} {stamps-before stamps picks-before picks : List ℕ}
     (q : AnswerRead s n m said stamps-before stamps picks-before picks) where
   -- The reader refuses.
-  pub again-refused : {k : ℕ} (before : List ℕ) → said ≡ head.Refused k → ReadThenWritten s n m (result.Refused k) before before
+  pub again-refused : {k : ℕ} (before : List ℕ) → said ≡ read-as.Refused k → ReadThenWritten s n m (result.Refused k) before before
   unfolding answerOutcome backRefusal
   again-refused {k} before e =
       let h = refused-by (answerRefusal s n m) _ (q .answered) e in
@@ -199,12 +198,11 @@ module _ {s : List ℕ} {n m : ℕ} {said : AnswerHead} {stamps-before stamps pi
       first-counts zero b h = absurd (h refl)
       first-counts (suc a) b h = refl
 
-  module _ {class span : ℕ} (e : said ≡ head.Fields class span) where
+  module _ {head : Head} (e : said ≡ read-as.Fields head) where
     -- The reader reads: the numbers that the code goes by.
     pub record ReadRight : Type 0 where
       pub none : answerRefusal s n m ≡ 0
-      pub class-is : class ≡ classField s
-      pub span-is : tropOf span ≡ spanField s
+      pub is : HeadAt s head
       pub n-most : n ≤ highest-n
       pub m-most : m ≤ highest-m
       pub stamps-width : length stamps ≡ 32
@@ -213,12 +211,11 @@ module _ {s : List ℕ} {n m : ℕ} {said : AnswerHead} {stamps-before stamps pi
     pub read-right : ReadRight
     unfolding answerOutcome
     read-right =
-        let h = fields-by (answerRefusal s n m) _ _ (q .answered) e in
+        let h = fields-by (answerRefusal s n m) _ (q .answered) e in
         let f = answer-fits s n m .0 (h .0) in
         record {
           none = h .0;
-          class-is = h .1;
-          span-is = h .2;
+          is = told-head (h .1);
           n-most = f .n-most;
           m-most = f .m-most;
           stamps-width = q .stamps-read (h .0) .width-is;
@@ -226,7 +223,7 @@ module _ {s : List ℕ} {n m : ℕ} {said : AnswerHead} {stamps-before stamps pi
         }
 
     -- The first stamps and picks of the arrays are the answer that the bytes mean.
-    pub counted : Bytes s → fieldsOf class span (take (stampCount class n) stamps) (take (pickCount class n m) picks) ≡ answerOf s n m
+    pub counted : Bytes s → fieldsOf head (take (stampCount (head .class) n) stamps) (take (pickCount (head .class) n m) picks) ≡ answerOf s n m
     unfolding stampsOf picksOf
     counted b =
         let h = read-right in
@@ -234,11 +231,12 @@ module _ {s : List ℕ} {n m : ℕ} {said : AnswerHead} {stamps-before stamps pi
         rw stampsAt-length at (padded-take (q .stamps-read (h .none)) (rw stampsAt-length (stamps-most (classField s) n (h .n-most)))) in
         let y : take (pickCount (classField s) n m) picks ≡ picksAt s (stampCount (classField s) n) (pickCount (classField s) n m) =
         rw picksAt-length at (padded-take (q .picks-read (h .none)) (rw picksAt-length (picks-most (classField s) n m (h .n-most) (h .m-most)))) in
-        rw (h .class-is, x, y) (body-meant b n m (classField s) span refl (h .span-is))
+        let same : bodyOf s head n m ≡ answerOf s n m = body-meant b n m (h .is) in
+        rw (h .is .class-is, x, y) (rw (h .is .class-is) at same)
 
     -- What is written back.
     pub again-written : Bytes s → {r : Written} {before after : List ℕ}
-        → AnswerWritten (fieldsOf class span (take (stampCount class n) stamps) (take (pickCount class n m) picks)) n m r before after
+        → AnswerWritten (fieldsOf head (take (stampCount (head .class) n) stamps) (take (pickCount (head .class) n m) picks)) n m r before after
         → ReadThenWritten s n m r before after
     again-written b {r} {before} {after} w =
         ⊎-elim

@@ -5,7 +5,9 @@ use mathlib.Core.List.{List, _++_}
 use lib.ListN.{length, set}
 use Rattle.definitions.specs.Limits.{byte-values, length-bytes, short-bytes, signed-bytes, answer-kind}
 use Rattle.definitions.specs.Bytes.{le, fields, Outcome, refusal, gives}
+use Rattle.definitions.specs.Offset.{off}
 use Rattle.definitions.specs.AnswerRecord.{Answer, answerBytes, writerRefusal, writerOutcome, written}
+use Rattle.answer_reader.specs.declared.answer.Head.{Head}
 use Rattle.answer_writer.specs.declared.writer.Written.{Written}
 use Rattle.answer_writer.specs.declared.writer.Written.the-variants.{Record, Refused}
 
@@ -30,11 +32,12 @@ unfoldable pub stored : ℕ → List ℕ → ℕ → ℕ → List ℕ
 stored zero l at x = l
 stored (suc k) l at x = stored k (set l at (x % byte-values)) (at + 1) (x / byte-values)
 
--- The header's bytes: the length field, kind, n, class, and the span's field.
-unfoldable pub headerBytes : ℕ → ℕ → ℕ → ℕ → List ℕ
-headerBytes length n class span =
-    le length-bytes length ++ (le short-bytes answer-kind ++ (le short-bytes n ++ (le short-bytes class ++ le signed-bytes span)))
+-- The header's bytes: the length field, kind, n, class, the span's field, and the start.
+unfoldable pub headerBytes : ℕ → ℕ → Head → List ℕ
+headerBytes length n head =
+    le length-bytes length
+    ++ (le short-bytes answer-kind ++ (le short-bytes n ++ (le short-bytes (head .class) ++ (le signed-bytes (off (head .span)) ++ le short-bytes (head .start)))))
 
--- The record's bytes, span and stamps as 4-byte fields.
-unfoldable pub recordBytes : ℕ → ℕ → ℕ → ℕ → List ℕ → List ℕ → List ℕ
-recordBytes length n class span stamps picks = headerBytes length n class span ++ (fields signed-bytes stamps ++ fields short-bytes picks)
+-- The record's bytes, stamps as 4-byte fields.
+unfoldable pub recordBytes : ℕ → ℕ → Head → List ℕ → List ℕ → List ℕ
+recordBytes length n head stamps picks = headerBytes length n head ++ (fields signed-bytes stamps ++ fields short-bytes picks)

@@ -1,12 +1,13 @@
-// The answer writer: class, span, stamps and picks to bytes. Document 01, "Records" and "What is turned away", 4, 7 and
-// 10 to 13.
+// The answer writer: class, span, start, stamps and picks to bytes. Document 01, "Records" and "What is turned away", 4, 7 and
+// 10 to 13; document 02, 2.4.
+use answer_reader::answer::Head;
 use answer_reader::answer::stamp_fits;
 use answer_reader::class::answer_size;
 use answer_reader::class::highest_pick;
-use answer_reader::class::known_class;
 use answer_reader::class::pick_count;
 use answer_reader::class::span_fits;
 use answer_reader::class::stamp_count;
+use answer_reader::class::start_fits;
 use records::limits::ANSWER_HEADER;
 use records::limits::ANSWER_KIND;
 use records::limits::ANSWER_MOST;
@@ -27,6 +28,7 @@ use records::limits::REFUSED_PICK;
 use records::limits::REFUSED_ROOM;
 use records::limits::SHORT_BYTES;
 use records::limits::SPAN_PLACE;
+use records::limits::START_PLACE;
 use records::offset::offset;
 ghost use mathlib.Core.Path.{_≡_};
 ghost use mathlib.Core.List.{map};
@@ -46,8 +48,8 @@ pub enum Written {
 }
 
 // The first of refusals 4, 7, 10 and 11 that applies, 0 where none does.
-fn judge_counts(class: u64, stamps: usize, picks: usize, n: usize, m: usize, room: usize) -> usize
-    ensures { λ r. ⌜ r ≡ writerJudged class stamps picks n m room ⌝ }
+fn judge_counts(head: Head, stamps: usize, picks: usize, n: usize, m: usize, room: usize) -> usize
+    ensures { λ r. ⌜ r ≡ writerJudged (head .class) (head .start) stamps picks n m room ⌝ }
 {
     if n > HIGHEST_N {
         return REFUSED_LIMITS;
@@ -58,13 +60,13 @@ fn judge_counts(class: u64, stamps: usize, picks: usize, n: usize, m: usize, roo
     if room < ANSWER_MOST {
         return REFUSED_ROOM;
     }
-    if !known_class(class) {
+    if !start_fits(head.class, head.start, n) {
         return REFUSED_ANSWER_CLASS;
     }
-    if stamps != stamp_count(class, n) {
+    if stamps != stamp_count(head.class, n) {
         return REFUSED_ANSWER_SIZE;
     }
-    if picks != pick_count(class, n, m) {
+    if picks != pick_count(head.class, n, m) {
         return REFUSED_ANSWER_SIZE;
     }
     0
@@ -100,17 +102,17 @@ fn picks_fit(picks: &[u64], highest: u64) -> bool
 }
 
 // The first of refusals 12 and 13 that applies to the fields, 0 where none does.
-fn judge_fields(class: u64, span: u64, stamps: &[u64], picks: &[u64], n: usize, m: usize) -> usize
+fn judge_fields(head: Head, stamps: &[u64], picks: &[u64], n: usize, m: usize) -> usize
     requires { ⌜ (n ≤ highest-n) × (m ≤ highest-m) ⌝ }
-    ensures { λ r. ⌜ r ≡ formRefusal (fieldsOf class span (now (stamps .entry)) (now (picks .entry))) n m ⌝ }
+    ensures { λ r. ⌜ r ≡ formRefusal (fieldsOf head (now (stamps .entry)) (now (picks .entry))) n m ⌝ }
 {
-    if !span_fits(class, span) {
+    if !span_fits(head.class, head.span) {
         return REFUSED_FORM;
     }
     if !stamps_fit(stamps) {
         return REFUSED_FORM;
     }
-    if !picks_fit(picks, highest_pick(class, n, m)) {
+    if !picks_fit(picks, highest_pick(head.class, n, m)) {
         return REFUSED_PICK;
     }
     0
@@ -118,21 +120,20 @@ fn judge_fields(class: u64, span: u64, stamps: &[u64], picks: &[u64], n: usize, 
 
 // The first refusal that applies to the fields and a buffer of `room` bytes, 0 where none does.
 fn judge_writing(
-    class: u64,
-    span: u64,
+    head: Head,
     stamps: &[u64],
     picks: &[u64],
     n: usize,
     m: usize,
     room: usize,
 ) -> usize
-    ensures { λ r. ⌜ r ≡ writerRefusal (fieldsOf class span (now (stamps .entry)) (now (picks .entry))) n m room ⌝ }
+    ensures { λ r. ⌜ r ≡ writerRefusal (fieldsOf head (now (stamps .entry)) (now (picks .entry))) n m room ⌝ }
 {
-    let early = judge_counts(class, stamps.len(), picks.len(), n, m, room);
+    let early = judge_counts(head, stamps.len(), picks.len(), n, m, room);
     if early != 0 {
         return early;
     }
-    judge_fields(class, span, stamps, picks, n, m)
+    judge_fields(head, stamps, picks, n, m)
 }
 
 // A number of 2 bytes put at a place. Public for `converter::convert`, as is the next.
@@ -191,34 +192,27 @@ fn put_picks(picks: &[u64], buffer: &mut [u8], at: usize)
     }
 }
 
-// The header put at the front: the length field, the kind, n, class, and the span's field.
-fn put_header(buffer: &mut [u8], size: u64, n: u64, class: u64, span: u64)
+// The header put at the front: the length field, the kind, n, class, the span's field, and the start.
+fn put_header(buffer: &mut [u8], size: u64, n: u64, head: Head)
     requires { ⌜ answer-header ≤ length (now buffer) ⌝ }
-    ensures { λ _. ⌜ now (buffer .exit) ≡ put (now (buffer .entry)) 0 (headerBytes size n class span) ⌝ }
+    ensures { λ _. ⌜ now (buffer .exit) ≡ put (now (buffer .entry)) 0 (headerBytes size n head) ⌝ }
 {
     put_word(buffer, LENGTH_PLACE, size);
     put_short(buffer, KIND_PLACE, ANSWER_KIND);
     put_short(buffer, N_PLACE, n);
-    put_short(buffer, CLASS_PLACE, class);
-    put_word(buffer, SPAN_PLACE, span);
+    put_short(buffer, CLASS_PLACE, head.class);
+    put_word(buffer, SPAN_PLACE, offset(head.span));
+    put_short(buffer, START_PLACE, head.start);
 }
 
 // The whole record put at the front of the buffer.
-fn put_record(
-    size: usize,
-    class: u64,
-    span: u64,
-    stamps: &[u64],
-    picks: &[u64],
-    n: usize,
-    buffer: &mut [u8],
-)
+fn put_record(size: usize, head: Head, stamps: &[u64], picks: &[u64], n: usize, buffer: &mut [u8])
     requires { ⌜ (answer-header + signed-bytes * length (now stamps) + short-bytes * length (now picks) ≡ size) × (size ≤ length (now buffer)) ⌝ }
-    ensures { λ _. ⌜ now (buffer .exit) ≡ put (now (buffer .entry)) 0 (recordBytes (size - length-bytes) n class (off span) (map off (now (stamps .entry))) (now (picks .entry))) ⌝ }
+    ensures { λ _. ⌜ now (buffer .exit) ≡ put (now (buffer .entry)) 0 (recordBytes (size - length-bytes) n head (map off (now (stamps .entry))) (now (picks .entry))) ⌝ }
 {
     let at = ANSWER_HEADER + LEAD_BYTES * stamps.len();
     let length = (size - LENGTH_BYTES) as u64;
-    put_header(buffer, length, n as u64, class, offset(span));
+    put_header(buffer, length, n as u64, head);
     put_stamps(stamps, buffer, ANSWER_HEADER);
     put_picks(picks, buffer, at);
 }
@@ -227,21 +221,20 @@ fn put_record(
 // byte after it as it was; or the first of refusals 4, 7 and 10 to 13, and the buffer as it was. Span and stamps are
 // offset numbers.
 pub fn write_answer(
-    class: u64,
-    span: u64,
+    head: Head,
     stamps: &[u64],
     picks: &[u64],
     n: usize,
     m: usize,
     buffer: &mut [u8],
 ) -> Written
-    ensures { λ r. ⌜ AnswerWritten (fieldsOf class span (now (stamps .entry)) (now (picks .entry))) n m r (now (buffer .entry)) (now (buffer .exit)) ⌝ }
+    ensures { λ r. ⌜ AnswerWritten (fieldsOf head (now (stamps .entry)) (now (picks .entry))) n m r (now (buffer .entry)) (now (buffer .exit)) ⌝ }
 {
-    let refusal = judge_writing(class, span, stamps, picks, n, m, buffer.len());
+    let refusal = judge_writing(head, stamps, picks, n, m, buffer.len());
     if refusal != 0 {
         return Written::Refused(refusal);
     }
-    let size = answer_size(class, n, m);
-    put_record(size, class, span, stamps, picks, n, buffer);
+    let size = answer_size(head.class, n, m);
+    put_record(size, head, stamps, picks, n, buffer);
     Written::Record(size)
 }

@@ -1,25 +1,27 @@
 -- What the tests of each class say of an answer: all that document 01 lists for the class, or not.
 use Prim.Native.Nat.{ℕ, suc, _+_, _*_, _-_, _≤_, _<_}
-use mathlib.Core.Path.{_≡_, ap, sym, _∙_, fun-ext}
-use mathlib.Core.Bool.{Bool, true, false, false≢true}
+use mathlib.Core.Path.{_≡_, ap, sym, subst, _∙_, fun-ext}
+use mathlib.Core.Bool.{Bool, true, false, false≢true, and-eq-true-iff}
 use mathlib.Core.List.{List}
 use native.Mathlib.Omega.{arith}
 use lib.ListN.{getD}
 use lib.IntN.{ℤ, pos, negsuc, subℕ, natAbs, _-ℤ_}
-use borrow.Author.Tests.{ne-eqb}
+use lib.Dec.{ltb, leb}
+use borrow.Author.Tests.{ne-eqb, ltb-true, leb-true}
 use Rattle.base.specs.Decides.{Decides}
 use Rattle.base.proofs.Decides.{said-no, decides-as}
 use Rattle.definitions.specs.Limits.{signed-half, lead-limit, span-limit, class-optimal, class-unbounded, class-infeasible}
 use Rattle.definitions.specs.Tropical.{Trop, fin}
 use Rattle.definitions.specs.Offset.{tropOf}
 use Rattle.definitions.specs.Problem.{Problem, Point, Keeps, value, whole}
-use Rattle.definitions.specs.Certificate.{Strategy, Anchor, PicksCount, BelowZero, RowPicksCount, AtLeastZero, AcceptedOptimal, AcceptedUnbounded, AcceptedInfeasible}
+use Rattle.definitions.specs.Certificate.{Strategy, Second, startOf, AnchorAnd, PicksCount, BelowZero, RowPicksCount, AtLeastZero, AcceptedOptimal, AcceptedUnbounded, AcceptedInfeasible}
 use Rattle.definitions.specs.AnswerRecord.{Answer, known-class, highestPick}
 use Rattle.definitions.specs.Verdict.{Accepted, optimal, unbounded, infeasible, pointOf, strategyOf}
 use Rattle.definitions.proofs.Whole.{minus-read, abs-show}
 use Rattle.definitions.proofs.Tropical.{fin-injective}
 use Rattle.definitions.proofs.Offset.{trop-fin, trop-read, trop-show}
 use Rattle.duality.specs.Picks.{NoneAbove}
+use Rattle.duality.specs.Starts.{StartBelow}
 use Rattle.duality.specs.Within.{Within}
 use Rattle.duality.proofs.Starts.{optimal-from, infeasible-from, unbounded-from}
 use Rattle.duality.proofs.Numbers.{infeasible-below, below-infeasible, unbounded-above, above-unbounded, top-enough}
@@ -27,7 +29,8 @@ use Rattle.records.specs.Decoded.{Near}
 use Rattle.records.specs.Stamps.{stampsPoint}
 use Rattle.reach.specs.Marks.{Begins, StartMarked}
 use Rattle.closed_walks.specs.Tables.{DecodedAs, Picked, Trial}
-use Rattle.checker.specs.Outcome.{Span, Meant}
+use Rattle.answer_reader.specs.declared.answer.Head.{Head}
+use Rattle.checker.specs.Outcome.{Span, Formed, Meant}
 
 -- ---- problems in the tables are small
 
@@ -139,6 +142,10 @@ module _ {Start : ℕ → Type 0} {p : Problem} {left right : List ℕ} {n m : �
 pub begins-inside : {p : Problem} {left right start : List ℕ} {n m : ℕ} → DecodedAs p left right n m → (j : ℕ) → Begins start (n + 1) j → j ≤ p .n
 begins-inside holds j b = omega (arith, b .inside, holds .n-is)
 
+-- So does one below n + 1.
+pub start-inside : {Start : ℕ → Type 0} {n : ℕ} → StartBelow (suc n) Start → (j : ℕ) → Start j → j ≤ n
+start-inside s j h = omega (arith, s .inside j h)
+
 -- What is decided of the marks is decided of the start.
 module _ {Start : ℕ → Type 0} {width : ℕ} {start : List ℕ} (starts : StartMarked Start width start) {p : Problem} {picks : Strategy} {r : Bool} where
   pub optimal-started : {z : ℤ} {x : Point} → Decides (AcceptedOptimal (Begins start width) p z x picks) r → Decides (AcceptedOptimal Start p z x picks) r
@@ -152,45 +159,64 @@ module _ {Start : ℕ → Type 0} {width : ℕ} {start : List ℕ} (starts : Sta
 
 -- ---- by class
 
-point-same : {a : Answer} {class span : ℕ} {stamps picks : List ℕ} → Meant a class span stamps picks → stampsPoint stamps ≡ pointOf (a .stamps)
+point-same : {a : Answer} {head : Head} {stamps picks : List ℕ} → Meant a head stamps picks → stampsPoint stamps ≡ pointOf (a .stamps)
 unfolding stampsPoint
 point-same meant = fun-ext (meant .point-is)
 
-strategy-same : {a : Answer} {class span : ℕ} {stamps picks : List ℕ} → Meant a class span stamps picks → strategyOf picks ≡ strategyOf (a .picks)
+strategy-same : {a : Answer} {head : Head} {stamps picks : List ℕ} → Meant a head stamps picks → strategyOf picks ≡ strategyOf (a .picks)
 unfolding strategyOf
 strategy-same meant = fun-ext (meant .strategy-is)
 
-module _ {p : Problem} {a : Answer} {class span : ℕ} {stamps picks : List ℕ} (meant : Meant a class span stamps picks) {r : Bool} where
-  pub by-optimal : class ≡ 1 → Span span → ((z : ℤ) → tropOf span ≡ fin z → Decides (AcceptedOptimal Anchor p z (stampsPoint stamps) (strategyOf picks)) r) → Decides (Accepted p a) r
+module _ {p : Problem} {a : Answer} (head : Head) {stamps picks : List ℕ} (meant : Meant a head stamps picks) {r : Bool} where
+  pub by-optimal : head .class ≡ 1 → Span (head .span)
+      → ((z : ℤ) → tropOf (head .span) ≡ fin z → Decides (AcceptedOptimal (startOf p (head .start)) p z (stampsPoint stamps) (strategyOf picks)) r) → Decides (Accepted p a) r
   by-optimal e s d =
-      let is : tropOf span ≡ fin (subℕ span signed-half) = trop-fin span (s .some) in
+      let is : tropOf (head .span) ≡ fin (subℕ (head .span) signed-half) = trop-fin (head .span) (s .some) in
       decides-as
-      (λ h. optimal (meant .class-is ∙ e) (meant .span-is ∙ is) (rw (← point-same meant, ← strategy-same meant) h))
+      (λ h. optimal (meant .class-is ∙ e) (meant .span-is ∙ is) (rw (meant .start-is, ← point-same meant, ← strategy-same meant) h))
       (λ h. back is h)
-      (d (subℕ span signed-half) is)
+      (d (subℕ (head .span) signed-half) is)
     where
-      back : tropOf span ≡ fin (subℕ span signed-half) → Accepted p a → AcceptedOptimal Anchor p (subℕ span signed-half) (stampsPoint stamps) (strategyOf picks)
+      back : tropOf (head .span) ≡ fin (subℕ (head .span) signed-half) → Accepted p a
+          → AcceptedOptimal (startOf p (head .start)) p (subℕ (head .span) signed-half) (stampsPoint stamps) (strategyOf picks)
       back is (optimal {s = y} c f h) =
-          let q : y ≡ subℕ span signed-half = fin-injective (sym f ∙ meant .span-is ∙ is) in
-          rw (point-same meant, strategy-same meant, ← q) h
-      back is (unbounded c h) = absurd (omega (arith, meant .class-is))
+          let q : y ≡ subℕ (head .span) signed-half = fin-injective (sym f ∙ meant .span-is ∙ is) in
+          rw (← meant .start-is, point-same meant, strategy-same meant, ← q) h
+      back is (unbounded c i j h) = absurd (omega (arith, meant .class-is))
       back is (infeasible c h) = absurd (omega (arith, meant .class-is))
 
-  pub by-unbounded : class ≡ 2 → Decides (AcceptedUnbounded Anchor p (strategyOf picks)) r → Decides (Accepted p a) r
-  by-unbounded e d = decides-as (λ h. unbounded (meant .class-is ∙ e) (rw (← strategy-same meant) h)) back d
+  pub by-unbounded : (k : ℕ) → head .class ≡ 2 → head .start ≡ suc k → Decides (Second p k × AcceptedUnbounded (AnchorAnd k) p (strategyOf picks)) r → Decides (Accepted p a) r
+  by-unbounded k e f d = decides-as (λ h. unbounded (meant .class-is ∙ e) (meant .start-is ∙ f) (h .0) (rw (← strategy-same meant) (h .1))) back d
     where
-      back : Accepted p a → AcceptedUnbounded Anchor p (strategyOf picks)
-      back (optimal c f h) = absurd (omega (arith, meant .class-is))
-      back (unbounded c h) = rw (strategy-same meant) h
+      back : Accepted p a → Second p k × AcceptedUnbounded (AnchorAnd k) p (strategyOf picks)
+      back (optimal c g h) = absurd (omega (arith, meant .class-is))
+      back (unbounded {k = l} c i j h) =
+          let q : l ≡ k = omega (arith, i, meant .start-is) in
+          subst (λ (x : ℕ). Second p x × AcceptedUnbounded (AnchorAnd x) p (strategyOf picks)) q (j, rw (strategy-same meant) h)
       back (infeasible c h) = absurd (omega (arith, meant .class-is))
 
-  pub by-infeasible : class ≡ 3 → Decides (AcceptedInfeasible Anchor p (strategyOf picks)) r → Decides (Accepted p a) r
-  by-infeasible e d = decides-as (λ h. infeasible (meant .class-is ∙ e) (rw (← strategy-same meant) h)) back d
+  pub by-infeasible : head .class ≡ 3 → Decides (AcceptedInfeasible (startOf p (head .start)) p (strategyOf picks)) r → Decides (Accepted p a) r
+  by-infeasible e d = decides-as (λ h. infeasible (meant .class-is ∙ e) (rw (meant .start-is, ← strategy-same meant) h)) back d
     where
-      back : Accepted p a → AcceptedInfeasible Anchor p (strategyOf picks)
+      back : Accepted p a → AcceptedInfeasible (startOf p (head .start)) p (strategyOf picks)
       back (optimal c f h) = absurd (omega (arith, meant .class-is))
-      back (unbounded c h) = absurd (omega (arith, meant .class-is))
-      back (infeasible c h) = rw (strategy-same meant) h
+      back (unbounded c i j h) = absurd (omega (arith, meant .class-is))
+      back (infeasible c h) = rw (← meant .start-is, strategy-same meant) h
+
+-- Class 2 with its start: the variable that it names is of the second list, or not.
+pub named-not : {p : Problem} {picks : Strategy} {k : ℕ} {c : Bool} → Decides (Second p k) c → c ≡ false → Decides (Second p k × AcceptedUnbounded (AnchorAnd k) p picks) false
+named-not d e = said-no (λ h. d .no e (h .0))
+
+pub named-so : {p : Problem} {picks : Strategy} {k : ℕ} {c r : Bool} → Decides (Second p k) c → c ≡ true → Decides (AcceptedUnbounded (AnchorAnd k) p picks) r
+    → Decides (Second p k × AcceptedUnbounded (AnchorAnd k) p picks) r
+named-so d e = decides-as (λ h. (d .yes e, h)) (λ h. h .1)
+
+-- A start of class 2 is 1 + the number of a variable.
+pub start-names : {n m : ℕ} {head : Head} {stamps picks : List ℕ} → Formed n m head stamps picks → head .class ≡ class-unbounded
+    → (0 < head .start) × (head .start ≤ suc n)
+start-names {n} {head = head} f e =
+    let both = and-eq-true-iff (ltb 0 (head .start)) (leb (head .start) (suc n)) .0 (rw e at (f .start-fits)) in
+    (ltb-true 0 (head .start) (both .0), leb-true (head .start) (suc n) (both .1))
 
 -- The highest pick of each class.
 pub highest-optimal : (n m class : ℕ) → class ≡ class-optimal → highestPick class n m ≡ m + 1

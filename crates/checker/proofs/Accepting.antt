@@ -55,7 +55,7 @@ module _ (check : Checker) (judges : CheckerJudges check) where
     where
       go : Accepted (problemOf (meant p)) (answerFor (meant p) a) → PlanHolds (meant p) a
       go (optimal {s = s} d f h) = record { keeps-rules = h .feasible; s = s; span-is = f; value-is = h .value-is }
-      go (unbounded d h) = absurd (omega (arith, e, d))
+      go (unbounded d i j h) = absurd (omega (arith, e, d))
       go (infeasible d h) = absurd (omega (arith, e, d))
 
   -- ---- answers that were written

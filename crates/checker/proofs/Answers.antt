@@ -13,33 +13,33 @@ use Rattle.definitions.specs.Limits.{signed-half, stamp-limit, span-limit}
 use Rattle.definitions.specs.Tropical.{Trop, bot}
 use Rattle.definitions.specs.Bytes.{Bytes, all, blank-or-within, whole-within}
 use Rattle.definitions.specs.Offset.{tropOf}
-use Rattle.definitions.specs.AnswerRecord.{is-zero, stampsFit, picksFit, spanFits, stampCount, highestPick, classField, spanField, answerOf, answerRefusal, answerOutcome}
+use Rattle.definitions.specs.AnswerRecord.{is-zero, stampsFit, picksFit, spanFits, stampCount, highestPick, classField, spanField, startField, answerOf, answerRefusal, answerOutcome}
 use Rattle.definitions.specs.Verdict.{pointOf, strategyOf}
 use Rattle.definitions.proofs.Bytes.{all-true, length-numsAt}
 use Rattle.definitions.proofs.Offset.{zero-offset, whole-offset}
 use Rattle.definitions.proofs.Refusals.{AnswerFits, answer-fits}
 use Rattle.definitions.proofs.RoundTrip.{stamps-within}
+use Rattle.answer_reader.specs.declared.answer.Head.{Head}
 use Rattle.answer_reader.specs.declared.answer.AnswerHead.{AnswerHead}
 use Rattle.answer_reader.specs.declared.answer.AnswerHead.the-variants as Heads
 use Rattle.records.specs.Decoded.{Near}
-use Rattle.answer_reader.specs.AnswerReading.{headOf, AnswerRead}
+use Rattle.answer_reader.specs.AnswerReading.{headOf, HeadAt, AnswerRead}
 use Rattle.records.proofs.Near.{near-within}
-use Rattle.answer_reader.proofs.Heads.{fields-by}
+use Rattle.answer_reader.proofs.Heads.{told-head, fields-by}
 use Rattle.answer_reader.proofs.Meaning.{stamps-point, picks-strategy}
 use Rattle.checker.specs.Outcome.{Span, Meant, Formed}
 
 -- ---- what the reader answers
 
-pub record HeadRead (s : List ℕ) (n m class span : ℕ) : Type 0 where
+pub record HeadRead (s : List ℕ) (n m : ℕ) (head : Head) : Type 0 where
   pub none : answerRefusal s n m ≡ 0
-  pub class-is : class ≡ classField s
-  pub span-is : tropOf span ≡ spanField s
+  pub is : HeadAt s head
 
-pub head-read : (s : List ℕ) (n m : ℕ) {head : AnswerHead} {class span : ℕ} → headOf head ≡ answerOutcome s n m → head ≡ Heads.Fields class span → HeadRead s n m class span
+pub head-read : (s : List ℕ) (n m : ℕ) {read : AnswerHead} {head : Head} → headOf read ≡ answerOutcome s n m → read ≡ Heads.Fields head → HeadRead s n m head
 unfolding answerOutcome
 head-read s n m e f =
-    let r = fields-by (answerRefusal s n m) (classField s) (spanField s) e f in
-    record { none = r .0; class-is = r .1; span-is = r .2 }
+    let r = fields-by (answerRefusal s n m) (classField s, spanField s, startField s) e f in
+    record { none = r .0; is = told-head (r .1) }
 
 -- ---- stamps and picks
 
@@ -70,16 +70,17 @@ span-near k e =
     let hi : k ≤ signed-half + span-limit = leb-true _ _ (both .1) in
     record { some = omega arith; near = record { hi = hi; lo = λ _. lo } }
 
-module _ {s : List ℕ} {n m : ℕ} {head : AnswerHead} {stamps-before stamps picks-before picks : List ℕ} (bytes : Bytes s)
-    (read : AnswerRead s n m head stamps-before stamps picks-before picks) {class span : ℕ} (right : HeadRead s n m class span) where
+module _ {s : List ℕ} {n m : ℕ} {read-as : AnswerHead} {stamps-before stamps picks-before picks : List ℕ} (bytes : Bytes s)
+    (read : AnswerRead s n m read-as stamps-before stamps picks-before picks) {head : Head} (right : HeadRead s n m head) where
   fits : AnswerFits s n m
   fits = answer-fits s n m .0 (right .none)
 
-  pub read-means : Meant (answerOf s n m) class span stamps picks
+  pub read-means : Meant (answerOf s n m) head stamps picks
   unfolding answerOf
   read-means = record {
-    class-is = sym (right .class-is);
-    span-is = sym (right .span-is);
+    class-is = sym (right .is .class-is);
+    span-is = sym (right .is .span-is);
+    start-is = sym (right .is .start-is);
     point-is = stamps-point read (right .none) bytes;
     strategy-is = picks-strategy read (right .none);
   }
@@ -89,29 +90,30 @@ module _ {s : List ℕ} {n m : ℕ} {head : AnswerHead} {stamps-before stamps pi
   stamp-near j = near-within stamp-limit (getD stamps j 0) (omega arith)
       (rw (stamps-point read (right .none) bytes j) (within-at stamp-limit (answerOf s n m .stamps) (stamps-within (answerOf s n m .stamps) (fits .form .stamps-fit)) j))
 
-  first-stamp : class ≡ 1 → getD stamps 0 0 ≡ signed-half
+  first-stamp : head .class ≡ 1 → getD stamps 0 0 ≡ signed-half
   unfolding pointOf answerOf
   first-stamp e =
-      let c : classField s ≡ 1 = sym (right .class-is) ∙ e in
+      let c : classField s ≡ 1 = sym (right .is .class-is) ∙ e in
       let count : stampCount (classField s) n ≡ suc n = rw c in
       let some : 0 < length (answerOf s n m .stamps) = rw (length-map, length-numsAt, count) (omega arith) in
       let z : is-zero (tropOf (getD stamps 0 0)) ≡ true = rw (stamps-point read (right .none) bytes 0) (first-zero (answerOf s n m .stamps) some (fits .form .stamps-fit)) in
       eqb-true (getD stamps 0 0) signed-half (sym (zero-offset (getD stamps 0 0)) ∙ z)
 
-  whole-span : class ≡ 1 → Span span
+  whole-span : head .class ≡ 1 → Span (head .span)
   unfolding answerOf spanFits
   whole-span e =
-      let c : classField s ≡ 1 = sym (right .class-is) ∙ e in
-      span-near span (rw (right .span-is) (rw c at (fits .form .span-fits)))
+      let c : classField s ≡ 1 = sym (right .is .class-is) ∙ e in
+      span-near (head .span) (rw (right .is .span-is) (rw c at (fits .form .span-fits)))
 
-  pub read-formed : Formed n m class span stamps picks
+  pub read-formed : Formed n m head stamps picks
   unfolding strategyOf answerOf
   read-formed = record {
-    class-known = rw (right .class-is) (fits .class-known);
+    class-known = rw (right .is .class-is) (fits .class-known);
+    start-fits = rw (right .is .class-is, right .is .start-is) (fits .start-fits);
     stamped = record { length-is = read .stamps-read (right .none) .width-is; near = stamp-near };
     picked = record {
       length-is = read .picks-read (right .none) .width-is;
-      none-above = λ j. rw (picks-strategy read (right .none) j, right .class-is) (picks-at (highestPick (classField s) n m) (answerOf s n m .picks) (fits .form .picks-fit) j);
+      none-above = λ j. rw (picks-strategy read (right .none) j, right .is .class-is) (picks-at (highestPick (classField s) n m) (answerOf s n m .picks) (fits .form .picks-fit) j);
     };
     anchored = first-stamp;
     whole-span = whole-span;

@@ -20,29 +20,31 @@ use Rattle.definitions.specs.Bytes.{Bytes}
 use Rattle.definitions.specs.Offset.{tropOf}
 use Rattle.definitions.specs.Problem as Problems
 use Rattle.definitions.specs.Problem.{Problem, Point, Value, minus-infinity, plus-infinity, Keeps, value}
-use Rattle.definitions.specs.Certificate.{Anchor, PicksCount, BelowZero, RowPicksCount, AtLeastZero, AcceptedOptimal}
+use Rattle.definitions.specs.Certificate.{Second, startOf, AnchorAnd, PicksCount, BelowZero, RowPicksCount, AtLeastZero, AcceptedOptimal, AcceptedUnbounded}
 use Rattle.definitions.specs.ProblemRecord.{listOf, WithinLayout, problemOf, nField, mField}
-use Rattle.definitions.specs.AnswerRecord.{Answer, classField, spanField, answerOf, answerRefusal, answerOutcome}
+use Rattle.definitions.specs.AnswerRecord.{Answer, classField, spanField, startField, answerOf, answerRefusal, answerOutcome}
 use Rattle.definitions.specs.Verdict.{Accepted, strategyOf}
 use Rattle.definitions.proofs.Whole as Whole
 use Rattle.definitions.proofs.Whole.{le-or-lt}
 use Rattle.definitions.proofs.Tropical.{fin-injective, ⊑-or-above, finite-above}
 use Rattle.definitions.proofs.Offset.{trop-fin}
 use Rattle.definitions.proofs.Refusals.{answer-fits}
+use Rattle.definitions.proofs.Counts.{second-decided}
 use Rattle.duality.specs.Values.{valueAt}
-use Rattle.duality.proofs.Starts.{anchor-inside}
+use Rattle.duality.specs.Starts.{StartBelow}
+use Rattle.duality.proofs.Starts.{start-below, anchor-and-below}
 use Rattle.duality.proofs.Longest.{exit-value, stable-potential, still-stable, potential-closed}
 use Rattle.problem_records.specs.Tables.{leftTable, rightTable}
 use Rattle.answer_reader.specs.Fields.{Padded, stampsOf, picksOf}
+use Rattle.answer_reader.specs.declared.answer.Head.{Head}
 use Rattle.answer_reader.specs.declared.answer.AnswerHead.the-variants as Heads
-use Rattle.answer_reader.specs.AnswerReading.{spanNumber, AnswerRead}
-use Rattle.answer_reader.proofs.Heads.{head-fields}
+use Rattle.answer_reader.specs.AnswerReading.{headIn, HeadAt, AnswerRead}
+use Rattle.answer_reader.proofs.Heads.{head-told, head-fields}
 use Rattle.answer_reader.proofs.Judging.{span-meant}
 use Rattle.problem_records.proofs.Tables.{length-listOf, getD-listOf}
 use Rattle.answer_reader.proofs.Passing.{stampsAt-length, picksAt-length}
 use Rattle.answer_reader.proofs.ByClass.{stamps-most, picks-most}
-use Rattle.reach.specs.Marks.{StartMarked}
-use Rattle.reach.proofs.Marks.{anchor-marked, anchored-marked}
+use Rattle.reach.specs.Marks.{Begins, StartMarked}
 use Rattle.reach.proofs.Existence.{MarksOf, reach-exists}
 use Rattle.closed_walks.specs.Gains.{matrix, anywhere, Table, NoneGains, Tested}
 use Rattle.records.specs.Stamps.{stampsPoint}
@@ -53,7 +55,7 @@ use Rattle.checker.specs.Outcome.{Meant, Formed}
 use Rattle.closed_walks.proofs.ClosedWalks.{all-or-gain}
 use Rattle.strategy_tests.proofs.Variables.{variables-table, variables-not, variables-both}
 use Rattle.strategy_tests.proofs.RowStrategy.{rows-table, rows-not, rows-both}
-use Rattle.checker.proofs.Acceptance.{trial-below, optimal-broken, optimal-other, optimal-picks, trial-below-is, top-trial, top-trial-is, lowest-trial, lowest-trial-is, infeasible-at, unbounded-at, by-optimal, by-unbounded, by-infeasible, highest-optimal, highest-unbounded, highest-infeasible, class-other}
+use Rattle.checker.proofs.Acceptance.{trial-below, optimal-broken, optimal-other, optimal-picks, trial-below-is, top-trial, top-trial-is, lowest-trial, lowest-trial-is, infeasible-at, unbounded-at, start-inside, by-optimal, by-unbounded, by-infeasible, named-so, start-names, highest-optimal, highest-unbounded, highest-infeasible, class-other}
 use Rattle.checker.proofs.Answers.{HeadRead, read-means, read-formed}
 use Rattle.closed_walks.proofs.Holding.{holds-sized}
 use Rattle.problem_records.proofs.LeadTables.{problem-decoded}
@@ -169,6 +171,58 @@ row-cells left right n m t picks w = record {
   cells = λ j l h k. cell-at (heaviest left right m t picks (m + 1)) n j l w h k;
 }
 
+-- ---- starts
+
+-- A start as marks.
+pub record Begun (Start : ℕ → Type 0) (width : ℕ) : Type 0 where
+  pub begin : List ℕ
+  pub starts : StartMarked Start width begin
+
+-- A mark for what is so.
+flag : {P : Type 0} → P ⊎ (P → ⊥) → ℕ
+flag (inl h) = 1
+flag (inr d) = 0
+
+flag-most : {P : Type 0} (x : P ⊎ (P → ⊥)) → flag x ≤ 1
+unfolding flag
+flag-most (inl h) = omega arith
+flag-most (inr d) = omega arith
+
+flag-yes : {P : Type 0} (x : P ⊎ (P → ⊥)) → P → 0 < flag x
+unfolding flag
+flag-yes (inl h) p = omega arith
+flag-yes (inr d) p = absurd (d p)
+
+flag-only : {P : Type 0} (x : P ⊎ (P → ⊥)) → 0 < flag x → P
+unfolding flag
+flag-only (inl h) l = h
+flag-only (inr d) l = absurd (omega arith)
+
+-- Whoever knows which variables a start has can mark them.
+pub start-begun : {Start : ℕ → Type 0} {width : ℕ} → width ≤ 32 → StartBelow width Start → Begun Start width
+start-begun {Start} {width} w s = record { begin = marks; starts = record { flags = record { length-is = length-listOf mark 32; flag = most }; marked = marked; only = only } }
+  where
+    mark : ℕ → ℕ
+    mark j = flag (s .decided j)
+
+    marks : List ℕ
+    marks = listOf mark 32
+
+    at : (j : ℕ) → j < 32 → getD marks j 0 ≡ flag (s .decided j)
+    at j h = getD-listOf mark 32 j h
+
+    most : (j : ℕ) → getD marks j 0 ≤ 1
+    most j = ⊎-elim
+        (λ (h : 32 ≤ j). let long : length (listOf mark 32) ≤ j = rw length-listOf h in omega (arith, List·getD-eq-default (listOf mark 32) 0 long))
+        (λ (h : j < 32). rw (at j h) (flag-most (s .decided j)))
+        (nat-le-or-lt 32 j)
+
+    marked : (j : ℕ) → Start j → Begins marks width j
+    marked j h = record { inside = s .inside j h; marked = rw (at j (omega (arith, s .inside j h))) (flag-yes (s .decided j) h) }
+
+    only : (j : ℕ) → Begins marks width j → Start j
+    only j b = flag-only (s .decided j) (rw (at j (omega (arith, b .inside))) at (b .marked))
+
 -- From any start, as marks.
 module _ {Start : ℕ → Type 0} {p : Problem} {left right begin : List ℕ} {n m : ℕ} (t : ℕ) {picks : List ℕ} {z : ℤ} (holds : DecodedAs p left right n m) (trial : Trial t)
     (trial-is : tropOf t ≡ fin z) (starts : StartMarked Start (n + 1) begin) where
@@ -237,9 +291,19 @@ value-decided (Problems.whole y) z = ⊎-elim
 
 -- ---- answers
 
-module _ {p : Problem} {left right : List ℕ} {n m class span : ℕ} {stamps picks : List ℕ} (holds : DecodedAs p left right n m)
-    (formed : Formed n m class span stamps picks) where
-  pub optimal-decided : class ≡ 1 → {z : ℤ} → tropOf span ≡ fin z → Decided (AcceptedOptimal Anchor p z (stampsPoint stamps) (strategyOf picks))
+module _ {p : Problem} {left right : List ℕ} {n m : ℕ} (head : Head) {stamps picks : List ℕ} (holds : DecodedAs p left right n m)
+    (formed : Formed n m head stamps picks) where
+  -- Any start below n + 1 as marks.
+  begun : {Start : ℕ → Type 0} → StartBelow (suc (p .n)) Start → Begun Start (n + 1)
+  begun {Start} s =
+      let e : suc (p .n) ≡ n + 1 = omega (arith, holds .n-is) in
+      start-begun (omega (arith, holds .n-is, holds .decoded .n-most)) (subst (λ (k : ℕ). StartBelow k Start) e s)
+
+  -- What the answer's start means in classes 1 and 3.
+  starts : Begun (startOf p (head .start)) (n + 1)
+  starts = begun (start-below p (head .start))
+
+  pub optimal-decided : head .class ≡ 1 → {z : ℤ} → tropOf (head .span) ≡ fin z → Decided (AcceptedOptimal (startOf p (head .start)) p z (stampsPoint stamps) (strategyOf picks))
   optimal-decided e {z} f = go (rules .answer) refl (is .answer) refl
     where
       rules : Decided ((i : ℕ) → i < m → Keeps p (stampsPoint stamps) i)
@@ -248,41 +312,51 @@ module _ {p : Problem} {left right : List ℕ} {n m class span : ℕ} {stamps pi
       is : Decided (value p (stampsPoint stamps) ≡ Problems.whole z)
       is = value-decided (value p (stampsPoint stamps)) z
 
-      walks : Decided (PicksCount Anchor p (strategyOf picks) × BelowZero Anchor p (strategyOf picks) (z -ℤ pos 1))
-      walks = strategy-decided (span - 1) holds (trial-below (formed .whole-span e)) (trial-below-is span (formed .whole-span e) f) (anchored-marked anchor-marked (omega arith))
-          (rw (highest-optimal n m class e) at (formed .picked))
+      walks : Decided (PicksCount (startOf p (head .start)) p (strategyOf picks) × BelowZero (startOf p (head .start)) p (strategyOf picks) (z -ℤ pos 1))
+      walks = strategy-decided (head .span - 1) holds (trial-below (formed .whole-span e)) (trial-below-is (head .span) (formed .whole-span e) f) (starts .starts)
+          (rw (highest-optimal n m (head .class) e) at (formed .picked))
 
-      go : (a : Bool) → rules .answer ≡ a → (b : Bool) → is .answer ≡ b → Decided (AcceptedOptimal Anchor p z (stampsPoint stamps) (strategyOf picks))
+      go : (a : Bool) → rules .answer ≡ a → (b : Bool) → is .answer ≡ b → Decided (AcceptedOptimal (startOf p (head .start)) p z (stampsPoint stamps) (strategyOf picks))
       go false a b c = record { answer = false; decides = optimal-broken holds stamps (rules .decides) a }
       go true a false c = record { answer = false; decides = optimal-other holds stamps (is .decides) c }
       go true a true c = record { answer = walks .answer; decides = optimal-picks holds stamps (formed .anchored e) (rules .decides) a (is .decides) c (walks .decides) }
 
+  -- Class 2 with the variable that its start names.
+  named-decided : head .class ≡ 2 → (k : ℕ) → Decided (Second p k × AcceptedUnbounded (AnchorAnd k) p (strategyOf picks))
+  named-decided e k = ⊎-elim
+      (λ h.
+      let picked = rw (highest-unbounded n m (head .class) e) at (formed .picked) in
+      let s = anchor-and-below p k h in
+      let d = row-strategy-decided (signed-half - span-limit - 1) holds lowest-trial lowest-trial-is (begun s .starts) picked in
+      record { answer = d .answer; decides = named-so (said-yes h) refl (unbounded-at holds (start-inside s) picked (d .decides)) })
+      (λ d. no (λ h. d (h .0)))
+      (second-decided p k)
+
   -- Whether the answer that these mean is accepted.
-  pub accepted-decided : {a : Answer} → Meant a class span stamps picks → Decided (Accepted p a)
-  accepted-decided {a} meant = by-class (eqb class 1) refl (eqb class 2) refl (eqb class 3) refl
+  pub accepted-decided : {a : Answer} → Meant a head stamps picks → Decided (Accepted p a)
+  accepted-decided {a} meant = by-class (eqb (head .class) 1) refl (eqb (head .class) 2) refl (eqb (head .class) 3) refl
     where
-      by-class : (b : Bool) → eqb class 1 ≡ b → (c : Bool) → eqb class 2 ≡ c → (d : Bool) → eqb class 3 ≡ d → Decided (Accepted p a)
+      by-class : (b : Bool) → eqb (head .class) 1 ≡ b → (c : Bool) → eqb (head .class) 2 ≡ c → (d : Bool) → eqb (head .class) 3 ≡ d → Decided (Accepted p a)
       by-class true e c f d g =
-          let one : class ≡ 1 = eqb-true class 1 e in
+          let one : head .class ≡ 1 = eqb-true (head .class) 1 e in
           let whole-span = formed .whole-span one in
-          let is : tropOf span ≡ fin (subℕ span signed-half) = trop-fin span (whole-span .some) in
+          let is : tropOf (head .span) ≡ fin (subℕ (head .span) signed-half) = trop-fin (head .span) (whole-span .some) in
           let d = optimal-decided one is in
           record {
             answer = d .answer;
-            decides = by-optimal meant one whole-span
-                (λ z h. subst (λ (y : ℤ). Decides (AcceptedOptimal Anchor p y (stampsPoint stamps) (strategyOf picks)) (d .answer)) (fin-injective (sym is ∙ h)) (d .decides));
+            decides = by-optimal head meant one whole-span
+                (λ z h. subst (λ (y : ℤ). Decides (AcceptedOptimal (startOf p (head .start)) p y (stampsPoint stamps) (strategyOf picks)) (d .answer)) (fin-injective (sym is ∙ h)) (d .decides));
           }
       by-class false e true f d g =
-          let two : class ≡ 2 = eqb-true class 2 f in
-          let picked = rw (highest-unbounded n m class two) at (formed .picked) in
-          let d = row-strategy-decided (signed-half - span-limit - 1) holds lowest-trial lowest-trial-is (anchored-marked anchor-marked (omega arith)) picked in
-          record { answer = d .answer; decides = by-unbounded meant two (unbounded-at holds (anchor-inside p) picked (d .decides)) }
+          let two : head .class ≡ 2 = eqb-true (head .class) 2 f in
+          let d = named-decided two (head .start - 1) in
+          record { answer = d .answer; decides = by-unbounded head meant (head .start - 1) two (omega (arith, start-names formed two .0)) (d .decides) }
       by-class false e false f true g =
-          let three : class ≡ 3 = eqb-true class 3 g in
-          let picked = rw (highest-infeasible n m class three) at (formed .picked) in
-          let d = strategy-decided (signed-half + span-limit) holds top-trial top-trial-is (anchored-marked anchor-marked (omega arith)) picked in
-          record { answer = d .answer; decides = by-infeasible meant three (infeasible-at holds (anchor-inside p) picked (d .decides)) }
-      by-class false e false f false g = absurd (class-other (formed .class-known) (eqb-false class 1 e) (eqb-false class 2 f) (eqb-false class 3 g))
+          let three : head .class ≡ 3 = eqb-true (head .class) 3 g in
+          let picked = rw (highest-infeasible n m (head .class) three) at (formed .picked) in
+          let d = strategy-decided (signed-half + span-limit) holds top-trial top-trial-is (starts .starts) picked in
+          record { answer = d .answer; decides = by-infeasible head meant three (infeasible-at holds (start-inside (start-below p (head .start))) picked (d .decides)) }
+      by-class false e false f false g = absurd (class-other (formed .class-known) (eqb-false (head .class) 1 e) (eqb-false (head .class) 2 f) (eqb-false (head .class) 3 g))
 
 -- ---- bytes
 
@@ -307,13 +381,17 @@ held-by : (p : List ℕ) → Bytes p → WithinLayout p → DecodedAs (problemOf
 unfolding problemOf
 held-by p b w = record { n-is = refl; m-is = refl; decoded = problem-decoded p b w }
 
+head-at : (a : List ℕ) (n m : ℕ) → Bytes a → HeadAt a (headIn a)
+unfolding answerOf
+head-at a n m b = record { class-is = refl; span-is = span-meant b n m; start-is = refl }
+
 read-by : (a : List ℕ) (n m : ℕ) → Bytes a → answerRefusal a n m ≡ 0
-    → AnswerRead a n m (Heads.Fields (classField a) (spanNumber a)) [] (pad 32 (stampsOf a n)) [] (pad 64 (picksOf a n m))
-unfolding stampsOf picksOf answerOutcome answerOf
+    → AnswerRead a n m (Heads.Fields (headIn a)) [] (pad 32 (stampsOf a n)) [] (pad 64 (picksOf a n m))
+unfolding stampsOf picksOf answerOutcome
 read-by a n m b none =
     let f = answer-fits a n m .0 none in
     record {
-      answered = head-fields (answerRefusal a n m) (classField a) (spanField a) (spanNumber a) none refl (span-meant b n m);
+      answered = head-fields (answerRefusal a n m) (classField a, spanField a, startField a) (headIn a) none (head-told (head-at a n m b));
       kept = λ d. absurd (d none);
       stamps-read = λ _. padded 32 _ (rw stampsAt-length (stamps-most (classField a) n (f .n-most)));
       picks-read = λ _. padded 64 _ (rw picksAt-length (picks-most (classField a) n m (f .n-most) (f .m-most)));
@@ -322,14 +400,13 @@ read-by a n m b none =
 -- Whether bytes of the right form are accepted.
 pub bytes-decided : (p a : List ℕ) → Bytes p → Bytes a → WithinLayout p → answerRefusal a (nField p) (mField p) ≡ 0
     → Decided (Accepted (problemOf p) (answerOf a (nField p) (mField p)))
-unfolding answerOf
-bytes-decided p a b c w none = accepted-decided held (read-formed c read right) (read-means c read right)
+bytes-decided p a b c w none = accepted-decided (headIn a) held (read-formed c read right) (read-means c read right)
   where
     held : DecodedAs (problemOf p) (leftTable p) (rightTable p) (nField p) (mField p)
     held = held-by p b w
 
-    right : HeadRead a (nField p) (mField p) (classField a) (spanNumber a)
-    right = record { none = none; class-is = refl; span-is = span-meant c (nField p) (mField p) }
+    right : HeadRead a (nField p) (mField p) (headIn a)
+    right = record { none = none; is = head-at a (nField p) (mField p) c }
 
-    read : AnswerRead a (nField p) (mField p) (Heads.Fields (classField a) (spanNumber a)) [] (pad 32 (stampsOf a (nField p))) [] (pad 64 (picksOf a (nField p) (mField p)))
+    read : AnswerRead a (nField p) (mField p) (Heads.Fields (headIn a)) [] (pad 32 (stampsOf a (nField p))) [] (pad 64 (picksOf a (nField p) (mField p)))
     read = read-by a (nField p) (mField p) c none

@@ -1,7 +1,7 @@
 -- Long inputs: what is decided from the first bytes and the size holds of every input that begins so.
 use Prim.Native.Nat.{ℕ, zero, suc, _+_, _-_, _≤_, _<_}
 use mathlib.Core.Path.{_≡_, refl, ap, sym, _∙_}
-use mathlib.Core.Bool.{false}
+use mathlib.Core.Bool.{false, _&&_}
 use mathlib.Core.List.{List}
 use mathlib.Core.Logic.{⊎-elim}
 use native.Mathlib.Omega.{arith}
@@ -15,7 +15,7 @@ use Rattle.definitions.specs.Limits.{kept-bytes, length-bytes, problem-header, 
 use Rattle.definitions.specs.Tropical.{Trop}
 use Rattle.definitions.specs.Bytes.{numAt, Outcome, outcome}
 use Rattle.definitions.specs.ProblemRecord.{lengthField, kindField, nField, mField, headerRefusal, headerOutcome, problemRefusal, refusalFor, meant}
-use Rattle.definitions.specs.AnswerRecord.{known-class, classField, spanField, answerSize, answerHeaderRefusal, answerHeaderJudged, answerHeaderOutcome, answerRefusal}
+use Rattle.definitions.specs.AnswerRecord.{known-class, startFits, classField, spanField, startField, answerSize, answerHeaderRefusal, answerHeaderJudged, answerHeaderOutcome, answerRefusal}
 use Rattle.definitions.specs.Verdict.{Verdict, refused, checkRefusal, Judged}
 use Rattle.definitions.specs.Programs.{cutPlace, problemPart, answerPart, KeptOf}
 use Rattle.definitions.proofs.Refusals.{or-else-suc, limits-clause, enough-clause, equal-clause, both-clause, problem-fits}
@@ -62,16 +62,16 @@ long-refused s size n m h k l = ⊎-elim
     let a = limits-clause n m _ _ .0 e in
     let b = enough-clause size answer-header _ _ .0 (a .1) in
     let c = equal-clause (lengthField s + length-bytes) size _ _ .0 (b .1) in
-    let d = both-clause (eqb (kindField s) answer-kind) (known-class (classField s)) _ _ .0 (c .1) in
+    let d = both-clause (eqb (kindField s) answer-kind) (known-class (classField s) && startFits (classField s) (startField s) n) _ _ .0 (c .1) in
     let g = both-clause (eqb (nField s) n) (eqb size (answerSize (classField s) n m)) _ _ .0 (d .1) in
     absurd (omega (arith, eqb-true size (answerSize (classField s) n m) (g .0 .1), size-most (classField s) n m h k)))
     (λ q. q)
     (eq-zero-or-pos (answerHeaderRefusal s size n m))
 
 -- A head's number is that of its refusal, 0 for none.
-refused-is : (head : AnswerHead) (k : ℕ) (x : ℕ × Trop) → headOf head ≡ outcome k x → answerRefused head ≡ k
+refused-is : (head : AnswerHead) (k : ℕ) (x : ℕ × Trop × ℕ) → headOf head ≡ outcome k x → answerRefused head ≡ k
 unfolding headOf answerRefused
-refused-is (Heads.Fields class span) k x e = sym (outcome-gives k x _ (sym e) .0)
+refused-is (Heads.Fields head) k x e = sym (outcome-gives k x _ (sym e) .0)
 refused-is (Heads.Refused j) k x e = sym (outcome-refusal k x j (sym e) .0)
 
 pub long-answer : (s : List ℕ) (size n m : ℕ) (head : AnswerHead) {r : ℕ} → n ≤ highest-n → m ≤ highest-m → answer-most < size
@@ -79,7 +79,7 @@ pub long-answer : (s : List ℕ) (size n m : ℕ) (head : AnswerHead) {r : ℕ} 
 unfolding answerHeaderOutcome
 long-answer s size n m head {r} h k l e f =
     let some = long-refused s size n m h k l in
-    let q : r ≡ answerHeaderRefusal s size n m = f ∙ refused-is head (answerHeaderRefusal s size n m) (classField s, spanField s) e in
+    let q : r ≡ answerHeaderRefusal s size n m = f ∙ refused-is head (answerHeaderRefusal s size n m) (classField s, spanField s, startField s) e in
     (q, omega arith)
 
 -- ---- inputs that are kept whole

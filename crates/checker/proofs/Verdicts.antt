@@ -12,12 +12,13 @@ use Rattle.definitions.specs.Bytes.{or-else, Outcome, outcome}
 use Rattle.definitions.specs.Offset.{tropOf}
 use Rattle.definitions.specs.Problem.{Problem}
 use Rattle.definitions.specs.ProblemRecord.{nField, mField, layoutOf, problemRefusal, problemOutcome, WithinLayout, problemOf}
-use Rattle.definitions.specs.AnswerRecord.{classField, spanField, answerRefusal, answerOutcome, answerOf}
+use Rattle.definitions.specs.AnswerRecord.{classField, spanField, startField, answerRefusal, answerOutcome, answerOf}
 use Rattle.definitions.specs.Verdict.{Verdict, accepted, refused, Accepted, checkRefusal, not-certified, Judged, turned-away, certified, uncertified}
 use Rattle.records.specs.declared.problem.Header.{Header}
 use Rattle.records.specs.declared.problem.Layout.{Layout}
 use Rattle.definitions.specs.ProblemRecord as Problems
 use Rattle.records.specs.declared.problem.Header.the-variants as Headers
+use Rattle.answer_reader.specs.declared.answer.Head.{Head}
 use Rattle.answer_reader.specs.declared.answer.AnswerHead.{AnswerHead}
 use Rattle.answer_reader.specs.declared.answer.AnswerHead.the-variants as Heads
 use Rattle.records.specs.ProblemHeader.{headerOf, problemRefused}
@@ -51,7 +52,7 @@ header-refused k a {j} e f {r} g =
     let same : r ≡ j = g ∙ ap problemRefused f in
     (q .0 ∙ sym same, omega (arith, q .1))
 
-head-refused : (k : ℕ) (x : ℕ × Trop) {j : ℕ} {head : AnswerHead} → headOf head ≡ outcome k x → head ≡ Heads.Refused j → {r : ℕ} → r ≡ answerRefused head → (k ≡ r) × (0 < r)
+head-refused : (k : ℕ) (x : ℕ × Trop × ℕ) {j : ℕ} {head : AnswerHead} → headOf head ≡ outcome k x → head ≡ Heads.Refused j → {r : ℕ} → r ≡ answerRefused head → (k ≡ r) × (0 < r)
 unfolding answerRefused
 head-refused k x {j} e f {r} g =
     let q = refused-by k x e f in
@@ -87,15 +88,15 @@ pub answered-refused : (p : Problem) (n m : ℕ) (a : List ℕ) {j r : ℕ} {hea
     → r ≡ answerRefused head → Answered p n m a (refused r)
 unfolding answerOutcome
 answered-refused p n m a {r = r} e f g =
-    let q = head-refused (answerRefusal a n m) (classField a, spanField a) e f g in
+    let q = head-refused (answerRefusal a n m) (classField a, spanField a, startField a) e f g in
     answer-turned p n m a r (q .0) (q .1)
 
 -- The answer is of the right form, and judged.
-pub answered-certified : {p : Problem} {n m : ℕ} {a : List ℕ} {class span : ℕ} {stamps picks : List ℕ} {r : Bool} → HeadRead a n m class span
-    → Meant (answerOf a n m) class span stamps picks → Decides (Accepted p (answerOf a n m)) r → r ≡ true → Answered p n m a (accepted class (tropOf span))
+pub answered-certified : {p : Problem} {n m : ℕ} {a : List ℕ} {head : Head} {stamps picks : List ℕ} {r : Bool} → HeadRead a n m head
+    → Meant (answerOf a n m) head stamps picks → Decides (Accepted p (answerOf a n m)) r → r ≡ true → Answered p n m a (accepted (head .class) (tropOf (head .span)))
 answered-certified h e d t = rw (← e .class-is, ← e .span-is) (Judging.certified (h .none) (d .yes t))
 
-pub answered-uncertified : {p : Problem} {n m : ℕ} {a : List ℕ} {class span : ℕ} {r : Bool} → HeadRead a n m class span
+pub answered-uncertified : {p : Problem} {n m : ℕ} {a : List ℕ} {head : Head} {r : Bool} → HeadRead a n m head
     → Decides (Accepted p (answerOf a n m)) r → r ≡ false → Answered p n m a (refused not-certified)
 answered-uncertified h d t = Judging.uncertified (h .none) (d .no t)
 

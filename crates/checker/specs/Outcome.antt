@@ -7,9 +7,10 @@ use lib.ListN.{getD}
 use Rattle.definitions.specs.Limits.{signed-half, span-limit}
 use Rattle.definitions.specs.Offset.{tropOf}
 use Rattle.definitions.specs.Problem.{Problem}
-use Rattle.definitions.specs.AnswerRecord.{Answer, known-class, highestPick, answerRefusal, answerOf}
+use Rattle.definitions.specs.AnswerRecord.{Answer, known-class, startFits, highestPick, answerRefusal, answerOf}
 use Rattle.definitions.specs.Verdict as Verdicts
 use Rattle.definitions.specs.Verdict.{Accepted, not-certified, pointOf, strategyOf}
+use Rattle.answer_reader.specs.declared.answer.Head.{Head}
 use Rattle.answer_reader.specs.declared.answer.AnswerHead.{AnswerHead}
 use Rattle.answer_reader.specs.declared.answer.AnswerHead.the-variants as Heads
 use Rattle.records.specs.Decoded.{Near}
@@ -25,7 +26,7 @@ verdictOf (Refused k) = Verdicts.refused k
 
 -- The number with which reading an answer refused, 0 where it did not.
 unfoldable pub answerRefused : AnswerHead → ℕ
-answerRefused (Heads.Fields class span) = 0
+answerRefused (Heads.Fields head) = 0
 answerRefused (Heads.Refused k) = k
 
 -- The offset number of a whole span within its limit.
@@ -33,18 +34,20 @@ pub record Span (span : ℕ) : Type 0 where
   pub some : 0 < span
   pub near : Near span-limit span
 
--- Class, span, stamps and picks, as the reader gives them, are of the form of the class as far as the tests need it.
-pub record Formed (n m class span : ℕ) (stamps picks : List ℕ) : Type 0 where
-  pub class-known : known-class class ≡ true
+-- Class, span, start, stamps and picks, as the reader gives them, are of the form of the class as far as the tests need it.
+pub record Formed (n m : ℕ) (head : Head) (stamps picks : List ℕ) : Type 0 where
+  pub class-known : known-class (head .class) ≡ true
+  pub start-fits : startFits (head .class) (head .start) n ≡ true
   pub stamped : Stamped stamps
-  pub picked : Picked picks (highestPick class n m)
-  pub anchored : class ≡ 1 → getD stamps 0 0 ≡ signed-half
-  pub whole-span : class ≡ 1 → Span span
+  pub picked : Picked picks (highestPick (head .class) n m)
+  pub anchored : head .class ≡ 1 → getD stamps 0 0 ≡ signed-half
+  pub whole-span : head .class ≡ 1 → Span (head .span)
 
 -- They mean this answer.
-pub record Meant (a : Answer) (class span : ℕ) (stamps picks : List ℕ) : Type 0 where
-  pub class-is : a .class ≡ class
-  pub span-is : a .span ≡ tropOf span
+pub record Meant (a : Answer) (head : Head) (stamps picks : List ℕ) : Type 0 where
+  pub class-is : a .class ≡ head .class
+  pub span-is : a .span ≡ tropOf (head .span)
+  pub start-is : a .start ≡ head .start
   pub point-is : (j : ℕ) → tropOf (getD stamps j 0) ≡ pointOf (a .stamps) j
   pub strategy-is : (j : ℕ) → getD picks j 0 ≡ strategyOf (a .picks) j
 

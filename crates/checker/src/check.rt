@@ -9,7 +9,7 @@ ghost use Rattle.definitions.specs.Tropical.{fin};
 ghost use Rattle.definitions.specs.Offset.{tropOf};
 ghost use Rattle.definitions.specs.ProblemRecord.{problemOf, meant};
 ghost use Rattle.definitions.specs.AnswerRecord.{Answer, highestPick};
-ghost use Rattle.definitions.specs.Certificate.{AcceptedOptimal, AcceptedUnbounded};
+ghost use Rattle.definitions.specs.Certificate.{Second, startOf, AnchorAnd, AcceptedOptimal, AcceptedUnbounded};
 ghost use Rattle.definitions.specs.Verdict.{Accepted, Judged, strategyOf};
 ghost use Rattle.records.specs.Stamps.{Stamped, stampsPoint};
 ghost use Rattle.problem_records.specs.Tables.{Laid};
@@ -17,13 +17,14 @@ ghost use Rattle.reach.specs.Marks.{Flags, Begins};
 ghost use Rattle.closed_walks.specs.Tables.{Picked};
 ghost use Rattle.checker.specs.Outcome.{verdictOf, answerRefused, Span, Meant, Formed, Answered};
 use answer_reader::answer::AnswerHead;
+use answer_reader::answer::Head;
 use answer_reader::answer::read_answer;
 use plan_tests::keeps_rules;
 use plan_tests::lower_point;
 use plan_tests::value_is;
 use problem_records::reader::judge_problem;
 use problem_records::reader::read_tables;
-use reach::anchor;
+use reach::anchor_and;
 use records::idle::idle_day;
 use records::limits::INFEASIBLE;
 use records::limits::NOT_CERTIFIED;
@@ -38,6 +39,8 @@ use records::problem::Header;
 use records::problem::problem_refusal;
 use strategy_tests::certify::certify_rows;
 use strategy_tests::certify::certify_variables;
+use strategy_tests::starts::in_second;
+use strategy_tests::starts::start_marks;
 
 // What the checker answers: accepted, with class and the span's offset number, or refused, with the number.
 pub enum Verdict {
@@ -46,7 +49,7 @@ pub enum Verdict {
 }
 
 // Class 1, least: the point keeps the rules, its value is the span, and the picks show that none is smaller: judged at
-// the span less 1, from a start.
+// the span less 1, from what the start means.
 fn certify_optimal(
     problem: &[u8],
     n: usize,
@@ -54,10 +57,10 @@ fn certify_optimal(
     stamps: &[u64; STRIDE],
     picks: &[u64; ROWS],
     span: u64,
-    start: [u8; STRIDE],
+    start: u64,
 ) -> bool
-    requires { ⌜ Laid (now problem) n m × Stamped (now stamps) × (getD (now stamps) 0 0 ≡ signed-half) × Picked (now picks) (m + 1) × Span span × Flags start ⌝ }
-    ensures { λ r. ⌜ ((z : ℤ) → tropOf span ≡ fin z → Decides (AcceptedOptimal (Begins start (n + 1)) (problemOf (now (problem .entry))) z (stampsPoint (now (stamps .entry))) (strategyOf (now (picks .entry)))) r) ⌝ }
+    requires { ⌜ Laid (now problem) n m × Stamped (now stamps) × (getD (now stamps) 0 0 ≡ signed-half) × Picked (now picks) (m + 1) × Span span ⌝ }
+    ensures { λ r. ⌜ ((z : ℤ) → tropOf span ≡ fin z → Decides (AcceptedOptimal (startOf (problemOf (now (problem .entry))) start) (problemOf (now (problem .entry))) z (stampsPoint (now (stamps .entry))) (strategyOf (now (picks .entry)))) r) ⌝ }
 {
     let x = lower_point(stamps, n + 1);
     if !keeps_rules(problem, n, m, &x) {
@@ -66,7 +69,14 @@ fn certify_optimal(
     if !value_is(problem, n, m, &x, span) {
         return false;
     }
-    certify_variables(problem, n, m, picks, span - 1, start)
+    certify_variables(
+        problem,
+        n,
+        m,
+        picks,
+        span - 1,
+        start_marks(problem, n, m, start),
+    )
 }
 
 // Class 2, bottomless: judged at the lowest trial from a start, on tables: a cycle that uses the objective then weighs below zero.
@@ -86,35 +96,52 @@ fn certify_unbounded(
     certify_rows(&left, &right, n, m, picks, OFFSET - SPAN_LIMIT - 1, start)
 }
 
-// What document 01 lists for the answer's class holds: reach begins at the anchor. Class 3 is judged at the top trial: a cycle that
-// uses the objective then weighs zero or more.
+// Class 2 as its start names it (document 02, 2.4): variable k is of the second list, and reach begins there and at the anchor.
+fn certify_named(problem: &[u8], n: usize, m: usize, picks: &[u64; ROWS], k: usize) -> bool
+    requires { ⌜ Laid (now problem) n m × Picked (now picks) (n + 1) × (k ≤ n) ⌝ }
+    ensures { λ r. ⌜ Decides (Second (problemOf (now (problem .entry))) k × AcceptedUnbounded (AnchorAnd k) (problemOf (now (problem .entry))) (strategyOf (now (picks .entry)))) r ⌝ }
+{
+    if !in_second(problem, n, m, k) {
+        return false;
+    }
+    certify_unbounded(problem, n, m, picks, anchor_and(k))
+}
+
+// What document 01 lists for the answer's class holds: reach begins where the answer's start says. Class 3 is judged at the top trial:
+// a cycle that uses the objective then weighs zero or more.
 fn certify(
     problem: &[u8],
     n: usize,
     m: usize,
-    class: u64,
-    span: u64,
+    head: Head,
     stamps: &[u64; STRIDE],
     picks: &[u64; ROWS],
 ) -> bool
-    requires { ⌜ Laid (now problem) n m × Formed n m class span (now stamps) (now picks) ⌝ }
-    ensures { λ r. ⌜ ((a : Answer) → Meant a class span (now (stamps .entry)) (now (picks .entry)) → Decides (Accepted (problemOf (now (problem .entry))) a) r) ⌝ }
+    requires { ⌜ Laid (now problem) n m × Formed n m head (now stamps) (now picks) ⌝ }
+    ensures { λ r. ⌜ ((a : Answer) → Meant a head (now (stamps .entry)) (now (picks .entry)) → Decides (Accepted (problemOf (now (problem .entry))) a) r) ⌝ }
 {
-    let start = anchor();
+    let class = head.class;
     match class {
-        OPTIMAL => certify_optimal(problem, n, m, stamps, picks, span, start),
-        UNBOUNDED => certify_unbounded(problem, n, m, picks, start),
-        INFEASIBLE => certify_variables(problem, n, m, picks, OFFSET + SPAN_LIMIT, start),
+        OPTIMAL => certify_optimal(problem, n, m, stamps, picks, head.span, head.start),
+        UNBOUNDED => certify_named(problem, n, m, picks, head.start as usize - 1),
+        INFEASIBLE => certify_variables(
+            problem,
+            n,
+            m,
+            picks,
+            OFFSET + SPAN_LIMIT,
+            start_marks(problem, n, m, head.start),
+        ),
         0 | 4.. => false,
     }
 }
 
 // The number with which an answer was refused. Public for `input`.
-pub fn answer_refusal(head: AnswerHead) -> usize
-    ensures { λ r. ⌜ r ≡ answerRefused head ⌝ }
+pub fn answer_refusal(read: AnswerHead) -> usize
+    ensures { λ r. ⌜ r ≡ answerRefused read ⌝ }
 {
-    match head {
-        AnswerHead::Fields(_, _) => 0,
+    match read {
+        AnswerHead::Fields(_) => 0,
         AnswerHead::Refused(k) => k,
     }
 }
@@ -126,12 +153,12 @@ fn check_answer(problem: &[u8], n: usize, m: usize, answer: &[u8]) -> Verdict
 {
     let mut stamps = [0u64; STRIDE];
     let mut picks = [0u64; ROWS];
-    let head = read_answer(answer, n, m, &mut stamps, &mut picks);
-    let AnswerHead::Fields(class, span) = head else {
-        return Verdict::Refused(answer_refusal(head));
+    let read = read_answer(answer, n, m, &mut stamps, &mut picks);
+    let AnswerHead::Fields(head) = read else {
+        return Verdict::Refused(answer_refusal(read));
     };
-    if certify(problem, n, m, class, span, &stamps, &picks) {
-        return Verdict::Accepted(class, span);
+    if certify(problem, n, m, head, &stamps, &picks) {
+        return Verdict::Accepted(head.class, head.span);
     }
     Verdict::Refused(NOT_CERTIFIED)
 }

@@ -22,5 +22,5 @@ settled-by h r s = record { answers = λ p q. s .answers p (holds-after r q); ma
 
 -- An answer of every problem that the tables hold.
 pub settled-answered : {n m : ℕ} {f : Frame} {left right : List ℕ} {a : Answer} → FrameOf n m left right f → AnswerOf f left right a
-    → Answered n m left right (a .class) (a .span) (a .trials) (a .stamps) (a .picks)
+    → Answered n m left right (a .class) (a .span) (a .start) (a .trials) (a .stamps) (a .picks)
 settled-answered {n} {m} {f} {left} {right} {a} o s = record { answers = λ p d e g. rw (← o .n-is, ← o .m-is) (s .answers p (decoded-holds d e g o)) }

@@ -13,8 +13,8 @@ use borrow.Author.Tests.{le-leb}
 use Rattle.base.proofs.Numbers.{nat-le-or-lt}
 use Rattle.definitions.specs.Limits.{signed-half, lead-limit, span-limit, stamp-limit}
 use Rattle.definitions.specs.Tropical.{Trop, bot, fin, plus}
-use Rattle.definitions.specs.Problem.{Problem, Point, Feasible, Attainable, Optimal}
-use Rattle.definitions.specs.Certificate.{Strategy, Anchor, AcceptedOptimal}
+use Rattle.definitions.specs.Problem.{Problem, Point, Feasible, Counts, Attainable, Optimal}
+use Rattle.definitions.specs.Certificate.{Strategy, startOf, AcceptedOptimal}
 use Rattle.definitions.specs.Offset.{tropOf}
 use Rattle.definitions.specs.Bytes.{whole-within, blank-or-within}
 use Rattle.definitions.specs.AnswerRecord.{is-zero, spanFits, stampsFit, picksFit, rightCounts, formRefusal}
@@ -29,13 +29,12 @@ use Rattle.duality.specs.System.{Solves, Blocks, systemAt}
 use Rattle.duality.specs.Values.{difference}
 use Rattle.duality.specs.Picks.{picksFrom}
 use Rattle.duality.proofs.Weights.{difference-plus}
-use Rattle.duality.proofs.Attain.{moved, moved-anchored, moved-solves, solves-feasible, solves-within}
-use Rattle.duality.proofs.Starts.{anchor-inside}
+use Rattle.duality.proofs.Attain.{moved, moved-anchored, moved-solves, moved-counts, solves-feasible, solves-within}
+use Rattle.duality.proofs.Starts.{start-below}
 use Rattle.duality.proofs.Picks.{picks-joined, block-picks}
-use Rattle.duality.proofs.Classes.{value-exactly, optimal-exactly, optimal-range}
+use Rattle.duality.proofs.Classes.{starts-inside, value-exactly, optimal-exactly, optimal-range}
 use Rattle.duality.proofs.Unused.{optimal-unused}
 use Rattle.reach.specs.Marks.{StartMarked}
-use Rattle.reach.proofs.Marks.{anchored-marked}
 use Rattle.trials.specs.Tables.{pointOf, pickOf}
 use Rattle.trial_tables.specs.declared.frame.Frame.{Frame}
 use Rattle.trial_tables.specs.Frames.{wholeOf, zero-offset, Raised, Holds, Ready}
@@ -45,19 +44,19 @@ use Rattle.least_span.specs.declared.halving.Least.{Least}
 use Rattle.least_span.specs.State.{PointAt}
 use Rattle.least_span.specs.Halving.{LeastFound}
 use Rattle.pick_tables.specs.Shown.{VariablePicks}
-use Rattle.class_answers.specs.Answered.{Stamps, answerIn, Settled}
+use Rattle.class_answers.specs.Answered.{Stamps, StartMarks, answerIn, Settled}
 use Rattle.class_answers.proofs.Variables.{variables-agree, variables-idle, variables-most}
 use Rattle.class_answers.proofs.Form.{cut-point, picks-fit, stamps-fit, cut-count, cut-count-map}
-use Rattle.class_answers.proofs.Shared.{enough, anchor-blocks, blocked-unattainable, same-count, cut-64, fits-64}
+use Rattle.class_answers.proofs.Shared.{enough, start-marked, blocked-unattainable, same-count, cut-64, fits-64}
 
-optimal-form : (n m span : ℕ) (stamps out : List ℕ) → n ≤ 31 → length stamps ≡ 32 → length out ≡ 64 → 0 < span → natAbs (wholeOf span) ≤ span-limit
+optimal-form : (n m span start : ℕ) (stamps out : List ℕ) → n ≤ 31 → length stamps ≡ 32 → length out ≡ 64 → 0 < span → natAbs (wholeOf span) ≤ span-limit
     → stampsFit (map tropOf (take (suc n) stamps)) ≡ true → picksFit (suc m) (take (suc n) out) ≡ true
-    → (rightCounts (answerIn n m 1 span stamps out) n m ≡ true) × (formRefusal (answerIn n m 1 span stamps out) n m ≡ 0)
+    → (rightCounts (answerIn n m 1 span start stamps out) n m ≡ true) × (formRefusal (answerIn n m 1 span start stamps out) n m ≡ 0)
 unfolding rightCounts spanFits whole-within
-optimal-form n m span stamps out h l l′ z b g f = (
+optimal-form n m span start stamps out h l l′ z b g f = (
   and-eq-true-iff (eqb (length (map tropOf (take (suc n) stamps))) (suc n)) (eqb (length (take (suc n) out)) (suc n)) .1
       (cut-count-map (suc n) stamps (omega arith), cut-count (suc n) out (omega arith)),
-  form-fits (answerIn n m 1 span stamps out) n m .1 (record { span-fits = rw (trop-fin span z) (le-leb _ span-limit b); stamps-fit = g; picks-fit = f }),
+  form-fits (answerIn n m 1 span start stamps out) n m .1 (record { span-fits = rw (trop-fin span z) (le-leb _ span-limit b); stamps-fit = g; picks-fit = f }),
 )
 
 below-whole : (k : ℕ) → 0 < k → wholeOf (k - 1) ≡ wholeOf k -ℤ pos 1
@@ -84,12 +83,12 @@ moved-within p t point k f =
     (subst (λ (z : Trop). blank-or-within stamp-limit (difference (pointOf point k) z) ≡ true) (trop-fin (getD point 0 0) (f .finite)) (f .stamps k))
 
 -- The halving ended: least.
-pub optimal-settled : (f : Frame) (left before right right′ : List ℕ) (s : Search) (least : Least) (out stamps : List ℕ) → LeastFound f left before right s least
-    → Raised right (f .objective) (f .m) zero-offset 32 right′ → VariablePicks right′ (least .blocking) (least .start) (f .n + 1) (f .m + 1) out
-    → Stamps (least .point) (f .n + 1) stamps
-    → Settled f left right s (record { class = 1; span = least .span; trials = least .trials; made = least .made; stamps = stamps; picks = out })
+pub optimal-settled : (f : Frame) (left before right right′ : List ℕ) (s : Search) (least : Least) (begin out stamps : List ℕ) → LeastFound f left before right s least
+    → Raised right (f .objective) (f .m) zero-offset 32 right′ → StartMarks (f .objective) (least .start) begin
+    → VariablePicks right′ (least .blocking) begin (f .n + 1) (f .m + 1) out → Stamps (least .point) (f .n + 1) stamps
+    → Settled f left right s (record { class = 1; span = least .span; start = least .start; trials = least .trials; made = least .made; stamps = stamps; picks = out })
 unfolding is-zero Verdict.pointOf
-optimal-settled f left before right right′ s l out stamps g r v d = record { answers = answers; made-up = g .made-up; made-most = g .made-most }
+optimal-settled f left before right right′ s l begin out stamps g r marks v d = record { answers = answers; made-up = g .made-up; made-most = g .made-most }
   where
     n : ℕ
     n = f .n
@@ -109,8 +108,8 @@ optimal-settled f left before right right′ s l out stamps g r v d = record { a
     y : Ready f left right
     y = g .raised .ready
 
-    starts : StartMarked Anchor (n + 1) (l .start)
-    starts = anchored-marked (g .started) (omega arith)
+    starts : (p : Problem) → Holds p f left right → StartMarked (startOf p (l .start)) (n + 1) begin
+    starts p q = start-marked (l .start) q (y .n-most) marks
 
     some : 0 < span
     some = omega (arith, g .span-trialled .lowest)
@@ -118,9 +117,8 @@ optimal-settled f left before right right′ s l out stamps g r v d = record { a
     shown : (p : Problem) → Holds p f left right → PointAt p span point
     shown p q = g .least p q .possible
 
-    blocks : (p : Problem) → Holds p f left right → Blocks (systemAt p (wholeOf span -ℤ pos 1)) Anchor (pickOf blocking)
-    blocks p q = subst (λ (t : ℤ). Blocks (systemAt p t) Anchor (pickOf blocking)) (below-whole span some)
-        (anchor-blocks p (wholeOf (span - 1)) (l .start) blocking (g .started) (g .least p q .impossible))
+    blocks : (p : Problem) → Holds p f left right → Blocks (systemAt p (wholeOf span -ℤ pos 1)) (startOf p (l .start)) (pickOf blocking)
+    blocks p q = subst (λ (t : ℤ). Blocks (systemAt p t) (startOf p (l .start)) (pickOf blocking)) (below-whole span some) (g .least p q .impossible)
 
     solves : (p : Problem) → Holds p f left right → Solves (systemAt p (wholeOf span)) (moved (pointOf point) (wholeOf (getD point 0 0)))
     solves p q = moved-solves (systemAt p (wholeOf span)) (pointOf point) (wholeOf (getD point 0 0)) (shown p q .solves)
@@ -128,28 +126,31 @@ optimal-settled f left before right right′ s l out stamps g r v d = record { a
     feasible : (p : Problem) → Holds p f left right → Feasible p (moved (pointOf point) (wholeOf (getD point 0 0)))
     feasible p q = solves-feasible p (wholeOf span) _ (moved-anchored (pointOf point) (wholeOf (getD point 0 0)) (trop-fin (getD point 0 0) (shown p q .finite))) (solves p q)
 
+    counts : (p : Problem) → Holds p f left right → Counts p (moved (pointOf point) (wholeOf (getD point 0 0)))
+    counts p q = moved-counts p (pointOf point) (wholeOf (getD point 0 0)) (shown p q .second .started) (shown p q .second .finite)
+
     unattainable : (p : Problem) → Holds p f left right → Attainable p (wholeOf span -ℤ pos 1) → ⊥
-    unattainable p q = blocked-unattainable p (wholeOf span -ℤ pos 1) (pickOf blocking) (blocks p q)
+    unattainable p q = blocked-unattainable p (wholeOf span -ℤ pos 1) (l .start) (pickOf blocking) (blocks p q)
 
     optimal : (p : Problem) → Holds p f left right → Optimal p (wholeOf span)
     optimal p q = optimal-exactly p (wholeOf span) .1 (
-      record { point = moved (pointOf point) (wholeOf (getD point 0 0)); feasible = feasible p q; within = solves-within p (wholeOf span) _ (solves p q) },
+      record { point = moved (pointOf point) (wholeOf (getD point 0 0)); feasible = feasible p q; counts = counts p q; within = solves-within p (wholeOf span) _ (solves p q) },
       unattainable p q,
     )
 
-    accepted : (p : Problem) → Holds p f left right → AcceptedOptimal Anchor p (wholeOf span) (moved (pointOf point) (wholeOf (getD point 0 0))) (pickOf out)
+    accepted : (p : Problem) → Holds p f left right → AcceptedOptimal (startOf p (l .start)) p (wholeOf span) (moved (pointOf point) (wholeOf (getD point 0 0))) (pickOf out)
     accepted p q =
         let held = raised-held p f left right right′ q y r in
-        let c = block-picks p (wholeOf span -ℤ pos 1) (picks-joined (pickOf blocking) (suc (p .m)) (suc (p .n))) (anchor-inside p) (blocks p q) in
-        let a : AcceptedOptimal Anchor p (wholeOf span) (moved (pointOf point) (wholeOf (getD point 0 0))) (picksFrom (pickOf blocking) (suc (p .m))) = record {
+        let c = block-picks p (wholeOf span -ℤ pos 1) (picks-joined (pickOf blocking) (suc (p .m)) (suc (p .n))) (starts-inside p (start-below p (l .start))) (blocks p q) in
+        let a : AcceptedOptimal (startOf p (l .start)) p (wholeOf span) (moved (pointOf point) (wholeOf (getD point 0 0))) (picksFrom (pickOf blocking) (suc (p .m))) = record {
           feasible = feasible p q;
-          value-is = value-exactly p (wholeOf span) _ (feasible p q) (solves-within p (wholeOf span) _ (solves p q)) (unattainable p q);
+          value-is = value-exactly p (wholeOf span) _ (feasible p q) (counts p q) (solves-within p (wholeOf span) _ (solves p q)) (unattainable p q);
           picks-count = c .0;
           below-zero = c .1;
         } in
-        let b : AcceptedOptimal Anchor p (wholeOf span) (moved (pointOf point) (wholeOf (getD point 0 0))) (picksFrom (pickOf blocking) (m + 1)) =
-        subst (λ (i : ℕ). AcceptedOptimal Anchor p (wholeOf span) (moved (pointOf point) (wholeOf (getD point 0 0))) (picksFrom (pickOf blocking) i)) (sym (same-count (p .m) m (q .m-is))) a in
-        optimal-unused (variables-agree p n m left right′ blocking (l .start) out held (y .n-most) starts v) (wholeOf span) _ b
+        let b : AcceptedOptimal (startOf p (l .start)) p (wholeOf span) (moved (pointOf point) (wholeOf (getD point 0 0))) (picksFrom (pickOf blocking) (m + 1)) =
+        subst (λ (i : ℕ). AcceptedOptimal (startOf p (l .start)) p (wholeOf span) (moved (pointOf point) (wholeOf (getD point 0 0))) (picksFrom (pickOf blocking) i)) (sym (same-count (p .m) m (q .m-is))) a in
+        optimal-unused (variables-agree p n m left right′ blocking begin out held (y .n-most) (starts p q) v) (wholeOf span) _ b
 
     stamps-point : (p : Problem) → Holds p f left right
         → Verdict.pointOf (map tropOf (take (suc n) stamps)) ≡ moved (pointOf point) (wholeOf (getD point 0 0))
@@ -168,21 +169,22 @@ optimal-settled f left before right right′ s l out stamps g r v d = record { a
         at : (k : ℕ) → getD (map tropOf (take (suc n) stamps)) k bot ≡ moved (pointOf point) (wholeOf (getD point 0 0)) k
         at k = ap (λ (h : Point). h k) (stamps-point p q)
 
-    answers : (p : Problem) → Holds p f left right → Answers p 1 (tropOf span) (l .trials) (answerIn n m 1 span stamps out)
+    answers : (p : Problem) → Holds p f left right → Answers p 1 (tropOf span) (l .trials) (answerIn n m 1 span (l .start) stamps out)
     answers p q =
         let held = raised-held p f left right right′ q y r in
         let cut = cut-64 n out (omega (arith, y .n-most)) (v .shown) in
-        let form = optimal-form n m span stamps out (y .n-most) (d .size-is) (v .shown .size-is) some (range p q) (fit p q)
-        (fits-64 (suc m) n out (omega (arith, y .n-most)) (v .shown) (λ j. omega (arith, variables-most p n m left right′ blocking (l .start) out held (y .n-most) starts v j))) in
+        let form = optimal-form n m span (l .start) stamps out (y .n-most) (d .size-is) (v .shown .size-is) some (range p q) (fit p q)
+        (fits-64 (suc m) n out (omega (arith, y .n-most)) (v .shown) (λ j. omega (arith, variables-most p n m left right′ blocking begin out held (y .n-most) (starts p q) v j))) in
         record {
           found = rw (trop-fin span some) (subst (Found p 1 (fin (wholeOf span))) (g .count) (Solved.optimal (optimal p q)));
           class-is = refl;
           span-is = refl;
           counts = rw (q .n-is, q .m-is) (form .0);
+          start-fits = le-leb (l .start) 1 (g .started);
           form = rw (q .n-is, q .m-is) (form .1);
-          idle-variables = λ _. subst (λ (s : Strategy). IdleVariables Anchor p s) (sym cut) (variables-idle p n m left right′ blocking (l .start) out held (y .n-most) starts v);
+          idle-variables = λ _. subst (λ (s : Strategy). IdleVariables (startOf p (l .start)) p s) (sym cut) (variables-idle p n m left right′ blocking begin out held (y .n-most) (starts p q) v);
           idle-rows = λ e. absurd (omega arith);
           accepted = Verdict.optimal refl (trop-fin span some)
-              (subst (AcceptedOptimal Anchor p (wholeOf span) (Verdict.pointOf (map tropOf (take (suc n) stamps)))) (sym cut)
-              (subst (λ (z : Point). AcceptedOptimal Anchor p (wholeOf span) z (pickOf out)) (sym (stamps-point p q)) (accepted p q)));
+              (subst (AcceptedOptimal (startOf p (l .start)) p (wholeOf span) (Verdict.pointOf (map tropOf (take (suc n) stamps)))) (sym cut)
+              (subst (λ (z : Point). AcceptedOptimal (startOf p (l .start)) p (wholeOf span) z (pickOf out)) (sym (stamps-point p q)) (accepted p q)));
         }

@@ -1,5 +1,5 @@
 -- What the answers of the three classes share.
-use Prim.Native.Nat.{ℕ, suc, _+_, _*_, _≤_, _<_}
+use Prim.Native.Nat.{ℕ, zero, suc, _+_, _*_, _≤_, _<_}
 use mathlib.Core.Path.{_≡_, refl}
 use mathlib.Core.Bool.{true}
 use mathlib.Core.List.{List}
@@ -9,8 +9,9 @@ use lib.ListN.{getD, take}
 use lib.IntN.{ℤ}
 use Rattle.base.specs.Filled.{Filled}
 use Rattle.definitions.specs.Limits.{lead-limit, span-limit}
+use Rattle.definitions.specs.Tropical.{Finite}
 use Rattle.definitions.specs.Problem.{Problem, Attainable}
-use Rattle.definitions.specs.Certificate.{Strategy, Anchor}
+use Rattle.definitions.specs.Certificate.{Strategy, startOf}
 use Rattle.definitions.specs.AnswerRecord.{picksFit}
 use Rattle.definitions.specs.Verdict as Verdict
 use Rattle.definitions.specs.Verdict.{strategyOf}
@@ -18,15 +19,18 @@ use Rattle.definitions.specs.Solved as Solved
 use Rattle.definitions.proofs.Offset.{trop-fin}
 use Rattle.duality.specs.System.{Blocks, systemAt}
 use Rattle.duality.specs.Within.{Enough}
-use Rattle.duality.proofs.Starts.{blocks-from}
 use Rattle.duality.proofs.Weak.{not-solved-and-blocked}
-use Rattle.duality.proofs.Attain.{attainable-solution, solution-attainable}
+use Rattle.duality.proofs.Attain.{joint-attainable}
+use Rattle.duality.proofs.Classes.{unsolved-unattainable}
 use Rattle.duality.proofs.Numbers.{top-enough}
-use Rattle.reach.specs.Marks.{Begins, Anchored}
-use Rattle.reach.proofs.Marks.{anchored-marked}
+use Rattle.reach.specs.Marks.{StartMarked}
+use Rattle.reach.proofs.Marks.{anchored-marked, coefficients-marked}
 use Rattle.trials.specs.Tables.{pointOf, pickOf}
-use Rattle.trial_tables.specs.Frames.{wholeOf}
+use Rattle.trial_tables.specs.declared.frame.Frame.{Frame}
+use Rattle.trial_tables.specs.Frames.{wholeOf, Holds}
+use Rattle.trial_tables.proofs.SecondList.{second-held}
 use Rattle.least_span.specs.State.{PointAt}
+use Rattle.class_answers.specs.Answered.{StartMarks}
 use Rattle.class_answers.proofs.Form.{cut-at, cut-strategy, picks-fit}
 
 -- 64 times the largest size is enough.
@@ -40,24 +44,35 @@ pub first-inside : (p : Problem) (t : ℤ) → 0 < systemAt p t .variables
 unfolding systemAt
 first-inside p t = omega arith
 
--- What blocks from marks of the anchor blocks from it.
-pub anchor-blocks : (p : Problem) (t : ℤ) (begin picks : List ℕ) → Anchored begin → Blocks (systemAt p t) (Begins begin (p .n + 1)) (pickOf picks)
-    → Blocks (systemAt p t) Anchor (pickOf picks)
-anchor-blocks p t begin picks a b = blocks-from (anchored-marked a (omega arith) .marked) b
+-- The marks of a start are those of what it means.
+pub start-marked : {p : Problem} {f : Frame} {left right : List ℕ} (start : ℕ) {begin : List ℕ} → Holds p f left right → f .n ≤ 31 → StartMarks (f .objective) start begin
+    → StartMarked (startOf p start) (f .n + 1) begin
+unfolding startOf
+start-marked zero q h m = anchored-marked (m .anchored refl) (omega arith)
+start-marked {f = f} (suc k) q h m =
+    let g = m .second (λ e. omega arith) in
+    record {
+      flags = m .flags;
+      marked = λ j s. coefficients-marked {width = f .n + 1} (f .objective) g (omega arith) j .1 (second-held q j .0 s);
+      only = λ j b. second-held q j .1 (coefficients-marked {width = f .n + 1} (f .objective) g (omega arith) j .0 b);
+    }
 
--- Where a strategy blocks, nothing is attainable.
-pub blocked-unattainable : (p : Problem) (t : ℤ) (τ : Strategy) → Blocks (systemAt p t) Anchor τ → Attainable p t → ⊥
-blocked-unattainable p t τ b a = not-solved-and-blocked (systemAt p t) Anchor (attainable-solution p t a) (record { strategy = τ; blocks = b })
+-- Where a strategy blocks from one, nothing is attainable.
+pub blocked-unattainable : (p : Problem) (t : ℤ) (start : ℕ) (τ : Strategy) → Blocks (systemAt p t) (startOf p start) τ → Attainable p t → ⊥
+blocked-unattainable p t start τ b = unsolved-unattainable p t start
+    (λ v. not-solved-and-blocked (systemAt p t) (startOf p start) v (record { strategy = τ; blocks = b }))
 
--- A point that shows t possible attains it.
+-- The value of variable 0 in a point that shows t possible.
+pub point-anchor : {p : Problem} {t : ℕ} {x : List ℕ} → PointAt p t x → Finite (pointOf x 0)
+point-anchor {x = x} a = record { whole = wholeOf (getD x 0 0); is = trop-fin (getD x 0 0) (a .finite) }
+
+-- Such a point attains it.
 pub point-attainable : (p : Problem) (t : ℕ) (x : List ℕ) → PointAt p t x → Attainable p (wholeOf t)
-point-attainable p t x a = solution-attainable p (wholeOf t) (record {
+point-attainable p t x a = joint-attainable p (wholeOf t) (record {
   point = pointOf x;
   solves = a .solves;
-  at = 0;
-  inside = first-inside p (wholeOf t);
-  started = refl;
-  finite = record { whole = wholeOf (getD x 0 0); is = trop-fin (getD x 0 0) (a .finite) };
+  first = record { at = 0; inside = first-inside p (wholeOf t); started = refl; finite = point-anchor a };
+  second = a .second;
 })
 
 -- The number of rows, or of variables, in both forms.

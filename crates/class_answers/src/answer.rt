@@ -1,13 +1,13 @@
 // The engine on tables: the two outer trials, the halving, and the answer of each class. Document 01, "The engine".
 ghost use mathlib.Core.Path.{_≡_};
 ghost use Prim.Native.Nat.{_+_, _<_, _≤_};
-ghost use lib.ListN.{getD};
+ghost use lib.ListN.{length, getD};
 ghost use Rattle.definitions.specs.Limits.{most-trials, stride};
 ghost use Rattle.records.specs.Decoded.{Rewritten};
 ghost use Rattle.trials.specs.Tables.{Ranged};
 ghost use Rattle.trial_tables.specs.Frames.{zero-offset, top-offset, Coefficients, Ready, Reraised};
 ghost use Rattle.least_span.specs.State.{Searched};
-ghost use Rattle.class_answers.specs.Answered.{Stamps, Settled, AnswerOf, Answered};
+ghost use Rattle.class_answers.specs.Answered.{Stamps, StartMarks, Settled, AnswerOf, Answered};
 use least_span::advance::floored;
 use least_span::advance::settle;
 use least_span::halving::halve;
@@ -19,6 +19,8 @@ use pick_tables::tables::induced;
 use pick_tables::tables::row_picks;
 use pick_tables::tables::variable_picks;
 use reach::anchor;
+use reach::anchor_and;
+use reach::marks_of;
 use records::limits::INFEASIBLE;
 use records::limits::OFFSET;
 use records::limits::OPTIMAL;
@@ -32,13 +34,15 @@ use trial_tables::floor::floor_of;
 use trial_tables::frame::Frame;
 use trial_tables::frame::frame_of;
 use trial_tables::frame::raise;
+use trial_tables::second::second_met;
 use trials::values::gap;
 
-// Class (1 least, 2 bottomless, 3 none), span and stamps as offset numbers, the trials of the definition, those that were made,
-// and picks. Stamps and picks count as far as the class has them.
+// Class (1 least, 2 bottomless, 3 none), span and stamps as offset numbers, the start, the trials of the definition, those that were
+// made, and picks. Stamps and picks count as far as the class has them.
 pub struct Answer {
     pub class: u64,
     pub span: u64,
+    pub start: u64,
     pub trials: u64,
     pub made: u64,
     pub stamps: [u64; STRIDE],
@@ -60,6 +64,17 @@ fn stamps(point: &[u64; STRIDE], width: usize) -> [u64; STRIDE]
     out
 }
 
+// What the start of class 1 or 3 means, as marks: 0 the anchor, 1 the variables of the second list. Document 02, 2.4.
+fn begun(objective: &[u32; STRIDE], start: u64) -> [u8; STRIDE]
+    requires { ⌜ length (now objective) ≡ stride ⌝ }
+    ensures { λ r. ⌜ StartMarks (now (objective .entry)) start r ⌝ }
+{
+    if start == 0 {
+        return anchor();
+    }
+    marks_of(objective)
+}
+
 // Class 3: the trial at 1,290,240 is not possible.
 fn infeasible(left: &[u32; TABLE], right: &mut [u32; TABLE], frame: Frame, search: Search) -> Answer
     requires { ⌜ Ready frame (now left) (now right) × Searched frame (now left) (now right) search × (search .blocked ≡ top-offset) ⌝ }
@@ -69,11 +84,12 @@ fn infeasible(left: &[u32; TABLE], right: &mut [u32; TABLE], frame: Frame, searc
     let objective = frame.objective;
     raise(right, &objective, frame.m, OFFSET);
     let blocking = search.blocking;
-    let start = search.start;
-    let shown = variable_picks(right, &blocking, start, frame.n + 1, rows);
+    let marks = begun(&objective, search.start);
+    let shown = variable_picks(right, &blocking, marks, frame.n + 1, rows);
     Answer {
         class: INFEASIBLE,
         span: 0,
+        start: search.start,
         trials: TRIALS_INFEASIBLE,
         made: search.made,
         stamps: [0; STRIDE],
@@ -81,20 +97,24 @@ fn infeasible(left: &[u32; TABLE], right: &mut [u32; TABLE], frame: Frame, searc
     }
 }
 
-// Class 2: the trial at the floor is possible, so that at −1,290,241 is; each row picks a variable that attains its largest there.
+// Class 2: the trial at the floor is possible, so that at −1,290,241 is; each row picks a variable that attains its largest there. The
+// start names a variable of the second list that has a value.
 fn unbounded(left: &[u32; TABLE], right: &mut [u32; TABLE], frame: Frame, search: Search) -> Answer
     requires { ⌜ Ready frame (now left) (now right) × Searched frame (now left) (now right) search × (search .reached ≤ search .floor) × (search .reached ≤ top-offset) ⌝ }
     ensures { λ r. ⌜ Settled frame (now (left .entry)) (now (right .entry)) search r × Reraised frame (now (left .entry)) (now (right .entry)) (now (right .exit)) ⌝ }
 {
     let rows = frame.m + 1;
+    let width = frame.n + 1;
     let objective = frame.objective;
     raise(right, &objective, frame.m, search.reached);
     let point = search.point;
-    let targets = induced(right, &point, frame.n + 1, rows);
-    let shown = row_picks(left, &targets, anchor(), frame.n + 1, rows);
+    let targets = induced(right, &point, width, rows);
+    let k = second_met(&objective, &point, width);
+    let shown = row_picks(left, &targets, anchor_and(k), width, rows);
     Answer {
         class: UNBOUNDED,
         span: 0,
+        start: k as u64 + 1,
         trials: TRIALS_UNBOUNDED,
         made: search.made,
         stamps: [0; STRIDE],
@@ -114,12 +134,13 @@ fn optimal(left: &[u32; TABLE], right: &mut [u32; TABLE], frame: Frame, search: 
     raise(right, &objective, frame.m, OFFSET);
     let point = least.point;
     let blocking = least.blocking;
-    let start = least.start;
-    let shown = variable_picks(right, &blocking, start, width, rows);
+    let marks = begun(&objective, least.start);
+    let shown = variable_picks(right, &blocking, marks, width, rows);
     let plan = stamps(&point, width);
     Answer {
         class: OPTIMAL,
         span: least.span,
+        start: least.start,
         trials: least.trials,
         made: least.made,
         stamps: plan,
@@ -133,7 +154,7 @@ fn solve_framed(left: &[u32; TABLE], right: &mut [u32; TABLE], frame: Frame) -> 
     requires { ⌜ Ready frame (now left) (now right) ⌝ }
     ensures { λ r. ⌜ AnswerOf frame (now (left .entry)) (now (right .entry)) r × Reraised frame (now (left .entry)) (now (right .entry)) (now (right .exit)) ⌝ }
 {
-    let top = try_at(left, right, frame, opened(frame.m + 1, anchor()), TOP);
+    let top = try_at(left, right, frame, opened(frame.m + 1), TOP);
     if top.blocked == TOP {
         return infeasible(left, right, frame, top);
     }
@@ -149,7 +170,7 @@ fn solve_framed(left: &[u32; TABLE], right: &mut [u32; TABLE], frame: Frame) -> 
 // Public for the engine's `solve`.
 pub fn solve_tables(left: &[u32; TABLE], right: &mut [u32; TABLE], n: usize, m: usize) -> Answer
     requires { ⌜ Coefficients n m (now left) (now right) ⌝ }
-    ensures { λ r. ⌜ Answered n m (now (left .entry)) (now (right .entry)) (r .class) (r .span) (r .trials) (r .stamps) (r .picks) × (0 < r .made) × (r .made ≤ most-trials) × Rewritten m (now (right .entry)) (now (right .exit)) ⌝ }
+    ensures { λ r. ⌜ Answered n m (now (left .entry)) (now (right .entry)) (r .class) (r .span) (r .start) (r .trials) (r .stamps) (r .picks) × (0 < r .made) × (r .made ≤ most-trials) × Rewritten m (now (right .entry)) (now (right .exit)) ⌝ }
 {
     let frame = frame_of(left, right, n, m);
     solve_framed(left, right, frame)

@@ -44,20 +44,20 @@ use Rattle.engine.specs.Outcome.{solvedOf, FoundFor, InTables, Posed, On
 
 -- What the writer was handed is what was found, cut to the counts of the class.
 handed :
-    (n m class span s p : ℕ) (stamps picks : List ℕ) (r : Written) (before after : List ℕ)
-    → AnswerWritten (fieldsOf class span (take s stamps) (take p picks)) n m r before after → s ≡ stampCount class n → p ≡ pickCount class n m
-    → AnswerWritten (answerIn n m class span stamps picks) n m r before after
-handed n m class span s p stamps picks r before after w e f =
-    subst₂ (λ (i k : ℕ). AnswerWritten (fieldsOf class span (take i stamps) (take k picks)) n m r before after) e f w
+    (n m class span start s p : ℕ) (stamps picks : List ℕ) (r : Written) (before after : List ℕ)
+    → AnswerWritten (fieldsOf (record { class = class; span = span; start = start }) (take s stamps) (take p picks)) n m r before after → s ≡ stampCount class n → p ≡ pickCount class n m
+    → AnswerWritten (answerIn n m class span start stamps picks) n m r before after
+handed n m class span start s p stamps picks r before after w e f =
+    subst₂ (λ (i k : ℕ). AnswerWritten (fieldsOf (record { class = class; span = span; start = start }) (take i stamps) (take k picks)) n m r before after) e f w
 
 module _
-    (n m class span s p : ℕ) (stamps picks : List ℕ) (r : Written) (before after : List ℕ)
-    (wrote : AnswerWritten (fieldsOf class span (take s stamps) (take p picks)) n m r before after)
-    (s-is : s ≡ stampCount class n) (p-is : p ≡ pickCount class n m) (found : FoundFor n m (length before) class span stamps picks)
+    (n m class span start s p : ℕ) (stamps picks : List ℕ) (r : Written) (before after : List ℕ)
+    (wrote : AnswerWritten (fieldsOf (record { class = class; span = span; start = start }) (take s stamps) (take p picks)) n m r before after)
+    (s-is : s ≡ stampCount class n) (p-is : p ≡ pickCount class n m) (found : FoundFor n m (length before) class span start stamps picks)
   where
     record-answered : writtenOf r ≡ gives (answerSize class n m)
     unfolding writerOutcome
-    record-answered = handed n m class span s p stamps picks r before after wrote s-is p-is .answered ∙ outcome-none _ (answerSize class n m) (found .taken)
+    record-answered = handed n m class span start s p stamps picks r before after wrote s-is p-is .answered ∙ outcome-none _ (answerSize class n m) (found .taken)
 
     -- The writer does not refuse it.
     pub never-refused : {k : ℕ} → r ≡ Writes.Refused k → ⊥
@@ -67,13 +67,13 @@ module _
         let z : _≡_ {A = ℕ} 0 1 = cc in omega arith
 
     -- The record stands in the buffer.
-    pub wrote-for : {size : ℕ} → r ≡ Writes.Record size → (size ≡ answerSize class n m) × (after ≡ written before (answerBytes n (answerIn n m class span stamps picks)))
+    pub wrote-for : {size : ℕ} → r ≡ Writes.Record size → (size ≡ answerSize class n m) × (after ≡ written before (answerBytes n (answerIn n m class span start stamps picks)))
     unfolding unlessRefused writtenOf
     wrote-for {size} f =
         let g : gives size ≡ gives (answerSize class n m) = sym (ap writtenOf f) ∙ record-answered in (
           cc,
-          handed n m class span s p stamps picks r before after wrote s-is p-is .buffer
-              ∙ ap (λ (i : ℕ). unlessRefused i before (written before (answerBytes n (answerIn n m class span stamps picks)))) (found .taken),
+          handed n m class span start s p stamps picks r before after wrote s-is p-is .buffer
+              ∙ ap (λ (i : ℕ). unlessRefused i before (written before (answerBytes n (answerIn n m class span start stamps picks)))) (found .taken),
         )
 
 -- ---- what was found can be written
@@ -82,17 +82,17 @@ cut-enough : (k : ℕ) (xs : List ℕ) → length (take k xs) ≡ k → k ≤ le
 cut-enough k xs e = omega (arith, length-take k xs)
 
 pub found-for :
-    (p : Problem) (n m room class span trials : ℕ) (stamps picks : List ℕ) → p .n ≡ n → p .m ≡ m → n ≤ highest-n → m ≤ highest-m → answer-most ≤ room
-    → Answers p class (tropOf span) trials (answerIn n m class span stamps picks) → FoundFor n m room class span stamps picks
-found-for p n m room class span trials stamps picks e f h g long ans =
-    let w : WriterFits (answerIn n m class span stamps picks) n m room =
-    subst₂ (λ (i k : ℕ). WriterFits (answerIn n m class span stamps picks) i k room) e f (answers-taken room (rw e h) (rw f g) long ans) in
+    (p : Problem) (n m room class span start trials : ℕ) (stamps picks : List ℕ) → p .n ≡ n → p .m ≡ m → n ≤ highest-n → m ≤ highest-m → answer-most ≤ room
+    → Answers p class (tropOf span) trials (answerIn n m class span start stamps picks) → FoundFor n m room class span start stamps picks
+found-for p n m room class span start trials stamps picks e f h g long ans =
+    let w : WriterFits (answerIn n m class span start stamps picks) n m room =
+    subst₂ (λ (i k : ℕ). WriterFits (answerIn n m class span start stamps picks) i k room) e f (answers-taken room (rw e h) (rw f g) long ans) in
     record {
       n-most = h;
       m-most = g;
       stamps-enough = cut-enough (stampCount class n) stamps (sym (length-map (take (stampCount class n) stamps) tropOf) ∙ w .stamps-count);
       picks-enough = cut-enough (pickCount class n m) picks (w .picks-count);
-      taken = writer-fits (answerIn n m class span stamps picks) n m room .1 w;
+      taken = writer-fits (answerIn n m class span start stamps picks) n m room .1 w;
     }
 
 -- ---- one answer
@@ -109,20 +109,20 @@ posed-tables o =
     }
 
 module _
-    {n m : ℕ} {left right : List ℕ} {class span trials : ℕ} {stamps picks : List ℕ}
-    (posed : Posed n m left right) (found : Tables.Answered n m left right class span trials stamps picks)
+    {n m : ℕ} {left right : List ℕ} {class span start trials : ℕ} {stamps picks : List ℕ}
+    (posed : Posed n m left right) (found : Tables.Answered n m left right class span start trials stamps picks)
   where
     -- What was found is written,
-    pub posed-found : (room : ℕ) → answer-most ≤ room → FoundFor n m room class span stamps picks
+    pub posed-found : (room : ℕ) → answer-most ≤ room → FoundFor n m room class span start stamps picks
     posed-found room long =
         let d = posed-tables posed in
         let s = posed .stands in
-        found-for (posed .problem) n m room class span trials stamps picks (s .n-is) (s .m-is) (d .n-most) (d .m-most) long
+        found-for (posed .problem) n m room class span start trials stamps picks (s .n-is) (s .m-is) (d .n-most) (d .m-most) long
         (found .answers (posed .problem) (s .decoded) (s .n-is) (s .m-is))
 
 -- as an answer of each problem that stands there.
-pub one-wrote : {n m : ℕ} {left right : List ℕ} {class span trials size : ℕ} {stamps picks before after : List ℕ}
-    → Tables.Answered n m left right class span trials stamps picks → size ≡ answerSize class n m → after ≡ written before (answerBytes n (answerIn n m class span stamps picks))
+pub one-wrote : {n m : ℕ} {left right : List ℕ} {class span start trials size : ℕ} {stamps picks before after : List ℕ}
+    → Tables.Answered n m left right class span start trials stamps picks → size ≡ answerSize class n m → after ≡ written before (answerBytes n (answerIn n m class span start stamps picks))
     → (p : Problem) → InTables p n m left right → OneWrote p n m class span trials size before after
 one-wrote found e f p s = record { answer = _; answers = found .answers p (s .decoded) (s .n-is) (s .m-is); size-is = e; buffer-is = f }
 

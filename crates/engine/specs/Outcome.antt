@@ -26,12 +26,12 @@ solvedOf (Answered class span trials size) = Results.answered class (tropOf span
 solvedOf (AllAnswered count trials size) = Results.all-answered count trials size
 
 -- What was found is such as the writer takes, with a buffer of `room` bytes.
-pub record FoundFor (n m room class span : ℕ) (stamps picks : List ℕ) : Type 0 where
+pub record FoundFor (n m room class span start : ℕ) (stamps picks : List ℕ) : Type 0 where
   pub n-most : n ≤ highest-n
   pub m-most : m ≤ highest-m
   pub stamps-enough : stampCount class n ≤ length stamps
   pub picks-enough : pickCount class n m ≤ length picks
-  pub taken : writerRefusal (answerIn n m class span stamps picks) n m room ≡ 0
+  pub taken : writerRefusal (answerIn n m class span start stamps picks) n m room ≡ 0
 
 -- The problem stands in the tables, with this n and m.
 pub record InTables (p : Problem) (n m : ℕ) (left right : List ℕ) : Type 0 where

@@ -11,6 +11,7 @@ ghost use Rattle.definitions.specs.Solved.{Solves};
 ghost use Rattle.records.specs.Decoded.{Rewritten};
 ghost use Rattle.class_answers.specs.Answered.{answerIn};
 ghost use Rattle.engine.specs.Outcome.{solvedOf, FoundFor, InTables, Posed, OneWrote, SeveralRead};
+use answer_reader::answer::Head;
 use answer_reader::class::pick_count;
 use answer_reader::class::stamp_count;
 use answer_writer::writer::Written;
@@ -45,16 +46,19 @@ struct One {
 
 // Writes the answer's record at the start of a buffer, and gives its length.
 fn write_found(found: Answer, n: usize, m: usize, answer: &mut [u8]) -> usize
-    requires { ⌜ FoundFor n m (length (now answer)) (found .class) (found .span) (found .stamps) (found .picks) ⌝ }
-    ensures { λ r. ⌜ (r ≡ answerSize (found .class) n m) × (now (answer .exit) ≡ written (now (answer .entry)) (answerBytes n (answerIn n m (found .class) (found .span) (found .stamps) (found .picks)))) ⌝ }
+    requires { ⌜ FoundFor n m (length (now answer)) (found .class) (found .span) (found .start) (found .stamps) (found .picks) ⌝ }
+    ensures { λ r. ⌜ (r ≡ answerSize (found .class) n m) × (now (answer .exit) ≡ written (now (answer .entry)) (answerBytes n (answerIn n m (found .class) (found .span) (found .start) (found .stamps) (found .picks)))) ⌝ }
 {
-    let class = found.class;
-    let span = found.span;
+    let head = Head {
+        class: found.class,
+        span: found.span,
+        start: found.start,
+    };
     let stamps = found.stamps;
     let picks = found.picks;
-    let s = stamp_count(class, n);
-    let p = pick_count(class, n, m);
-    let written = write_answer(class, span, &stamps[..s], &picks[..p], n, m, answer);
+    let s = stamp_count(found.class, n);
+    let p = pick_count(found.class, n, m);
+    let written = write_answer(head, &stamps[..s], &picks[..p], n, m, answer);
     let Written::Record(size) = written else {
         return 0;
     };

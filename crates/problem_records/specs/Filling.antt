@@ -1,5 +1,5 @@
 -- What the steps of reading a problem ask and leave: what the bytes and tables must hold, a run of elements filled, rows filled.
--- The contracts of the functions inside cite these; of the public ones `read_tables` and `read_question` do.
+-- The contracts of the functions inside cite these; of the public ones `leads_of`, `read_tables` and `read_question` do.
 use Prim.Native.Nat.{ℕ, _+_, _*_, _≤_, _<_}
 use mathlib.Core.Path.{_≡_}
 use mathlib.Core.Bool.{cond}

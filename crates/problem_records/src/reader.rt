@@ -143,8 +143,8 @@ fn row_of(bytes: &[u8], at: usize, count: usize) -> [u32; STRIDE]
 }
 
 // n + 1 leads from a place of the bytes, then blanks. Rows of the full width have a call of their own, which is compiled for
-// that length.
-fn leads_of(bytes: &[u8], at: usize, n: usize) -> [u32; STRIDE]
+// that length. Public for `strategy_tests::starts`.
+pub fn leads_of(bytes: &[u8], at: usize, n: usize) -> [u32; STRIDE]
     requires { ⌜ (n ≤ highest-n) × (at + signed-bytes * (n + 1) ≤ length (now bytes)) ⌝ }
     ensures { λ r. ⌜ RowOf (λ j. leadAt (now (bytes .entry)) (at + signed-bytes * j)) (n + 1) r ⌝ }
 {

@@ -26,9 +26,10 @@ pub fn anchor_and(k: usize) -> [u8; STRIDE]
     requires { ⌜ k < stride ⌝ }
     ensures { λ r. ⌜ AnchoredAnd k r ⌝ }
 {
-    let mut start = anchor();
-    start[k] = 1;
-    start
+    let mut both = [0u8; STRIDE];
+    both[0] = 1;
+    both[k] = 1;
+    both
 }
 
 // The variables of a list of coefficients that are not blank. Public for `class_answers`.

@@ -2,3 +2,4 @@ pub mod Counting
 pub mod Certified
 pub mod Variables
 pub mod RowStrategy
+pub mod Seconds

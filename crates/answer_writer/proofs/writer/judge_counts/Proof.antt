@@ -25,9 +25,9 @@ judge-counts-spec =
     returns-2
     returns-3
     (λ c κs. search needs)
-    (λ c. counts-class _ _ _ _ _ _ (c .before .before .before .before .if1 .left) (c .before .before .before .if2 .left) (c .before .before .if3 .left) (c .before .known-class .ensures) (not-true _ (c .if4 .taken)))
+    (λ c. counts-class _ _ _ _ _ _ _ (c .before .before .before .before .if1 .left) (c .before .before .before .if2 .left) (c .before .before .if3 .left) (c .before .start-fits .ensures) (not-true _ (c .if4 .taken)))
     (λ c κs. search needs)
-    (λ c. counts-stamps _ _ _ _ _ _ (c .before .before .before .before .before .before .if1 .left) (c .before .before .before .before .before .if2 .left) (c .before .before .before .before .if3 .left) (c .before .before .before .known-class .ensures) (not-false _ (c .before .before .if4 .left)) (c .before .stamp-count .ensures .0) (c .if5 .taken))
+    (λ c. counts-stamps _ _ _ _ _ _ _ (c .before .before .before .before .before .before .if1 .left) (c .before .before .before .before .before .if2 .left) (c .before .before .before .before .if3 .left) (c .before .before .before .start-fits .ensures) (not-false _ (c .before .before .if4 .left)) (c .before .stamp-count .ensures .0) (c .if5 .taken))
     (λ c κs. search needs)
-    (λ c. counts-picks _ _ _ _ _ _ (c .before .before .before .before .before .before .before .before .if1 .left) (c .before .before .before .before .before .before .before .if2 .left) (c .before .before .before .before .before .before .if3 .left) (c .before .before .before .before .before .known-class .ensures) (not-false _ (c .before .before .before .before .if4 .left)) (c .before .before .before .stamp-count .ensures .0) (c .before .before .if5 .left) (c .before .pick-count .ensures .0) (c .if6 .taken))
-    (λ c. counts-right _ _ _ _ _ _ (c .before .before .before .before .before .before .before .before .if1 .left) (c .before .before .before .before .before .before .before .if2 .left) (c .before .before .before .before .before .before .if3 .left) (c .before .before .before .before .before .known-class .ensures) (not-false _ (c .before .before .before .before .if4 .left)) (c .before .before .before .stamp-count .ensures .0) (c .before .before .if5 .left) (c .before .pick-count .ensures .0) (c .if6 .left)))
+    (λ c. counts-picks _ _ _ _ _ _ _ (c .before .before .before .before .before .before .before .before .if1 .left) (c .before .before .before .before .before .before .before .if2 .left) (c .before .before .before .before .before .before .if3 .left) (c .before .before .before .before .before .start-fits .ensures) (not-false _ (c .before .before .before .before .if4 .left)) (c .before .before .before .stamp-count .ensures .0) (c .before .before .if5 .left) (c .before .pick-count .ensures .0) (c .if6 .taken))
+    (λ c. counts-right _ _ _ _ _ _ _ (c .before .before .before .before .before .before .before .before .if1 .left) (c .before .before .before .before .before .before .before .if2 .left) (c .before .before .before .before .before .before .if3 .left) (c .before .before .before .before .before .start-fits .ensures) (not-false _ (c .before .before .before .before .if4 .left)) (c .before .before .before .stamp-count .ensures .0) (c .before .before .if5 .left) (c .before .pick-count .ensures .0) (c .if6 .left)))

@@ -7,6 +7,6 @@ pub judge-writing-spec : {M : Type 1} → statement M
 judge-writing-spec =
     tie.close (tie.spec
     (λ c κs. search needs)
-    (λ c. counts-refused (c .before .before .before .before .args .class) (c .before .before .before .before .args .span) (c .before .before .before .before .args .stamps .now) (c .before .before .before .before .args .picks .now) (c .before .before .before .before .args .n) (c .before .before .before .before .args .m) (c .before .before .before .before .args .room) (c .before .judge-counts .ensures) (c .if1 .taken))
-    (λ c κs. counts-limits _ _ _ _ _ _ (c .before .judge-counts .ensures) (c .if1 .left))
-    (λ c. counts-then-form (c .before .before .before .before .before .args .class) (c .before .before .before .before .before .args .span) (c .before .before .before .before .before .args .stamps .now) (c .before .before .before .before .before .args .picks .now) (c .before .before .before .before .before .args .n) (c .before .before .before .before .before .args .m) (c .before .before .before .before .before .args .room) (c .before .before .judge-counts .ensures) (c .before .if1 .left) (c .judge-fields .ensures)))
+    (λ c. counts-refused (c .before .before .before .before .args .head) (c .before .before .before .before .args .stamps .now) (c .before .before .before .before .args .picks .now) (c .before .before .before .before .args .n) (c .before .before .before .before .args .m) (c .before .before .before .before .args .room) (c .before .judge-counts .ensures) (c .if1 .taken))
+    (λ c κs. counts-limits _ _ _ _ _ _ _ (c .before .judge-counts .ensures) (c .if1 .left))
+    (λ c. counts-then-form (c .before .before .before .before .before .args .head) (c .before .before .before .before .before .args .stamps .now) (c .before .before .before .before .before .args .picks .now) (c .before .before .before .before .before .args .n) (c .before .before .before .before .before .args .m) (c .before .before .before .before .before .args .room) (c .before .before .judge-counts .ensures) (c .before .if1 .left) (c .judge-fields .ensures)))

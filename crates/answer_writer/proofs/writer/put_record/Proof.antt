@@ -17,6 +17,5 @@ put-record-spec =
     (λ c κs. search needs)
     (λ c κs. search needs)
     (λ c κs. search needs)
-    (λ c κs. search needs)
     (λ c. search needs)
-    (λ c. record-put _ _ _ _ _ (map off (c .before .before .before .before .before .before .before .before .before .before .before .before .before .before .before .before .args .stamps .now)) (c .before .before .before .before .before .before .before .before .before .before .before .before .before .before .before .before .args .picks .now) (omega arith) (rw length-map (omega arith)) (rw (c .before .before .before .before .before .before .before .before .before .before .before .offset .ensures .0) at (c .before .before .before .before .before .before .before .before .before .before .put-header .ensures)) (c .before .before .before .before .before .before .put-stamps .ensures) (c .before .before .put-picks .ensures)))
+    (λ c. record-put _ _ _ _ (map off (c .before .before .before .before .before .before .before .before .before .before .before .before .before .before .before .args .stamps .now)) (c .before .before .before .before .before .before .before .before .before .before .before .before .before .before .before .args .picks .now) (omega arith) (rw length-map (omega arith)) (c .before .before .before .before .before .before .before .before .before .before .put-header .ensures) (c .before .before .before .before .before .before .put-stamps .ensures) (c .before .before .put-picks .ensures)))

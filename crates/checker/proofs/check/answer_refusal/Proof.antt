@@ -10,7 +10,7 @@ returns c = sym (ap answerRefused (c .enum-told .given .1))
 
 returns-2 : tie.Need-returns-2
 unfolding answerRefused
-returns-2 c = sym (ap answerRefused (c .before .head .given .1))
+returns-2 c = sym (ap answerRefused (c .before .read .given .1))
 
 pub answer-refusal-spec : {M : Type 1} → statement M
 answer-refusal-spec = tie.close (tie.spec

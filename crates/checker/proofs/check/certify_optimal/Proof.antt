@@ -1,7 +1,7 @@
 use borrow.Author.Needs.{needs}
 use Rattle.closed_walks.proofs.Holding.{laid-holds}
 use Rattle.plan_tests.proofs.Sides.{low-small}
-use Rattle.checker.proofs.Acceptance.{optimal-broken, optimal-other, optimal-picks, optimal-at}
+use Rattle.checker.proofs.Acceptance.{optimal-broken, optimal-other, optimal-picks, optimal-at, optimal-started}
 use borrow.Author.Tests.{not-true, not-false}
 use native.Mathlib.Omega.{arith}
 use Rattle.checker.proofs.check.certify_optimal.Statement.{statement}
@@ -20,10 +20,11 @@ certify-optimal-spec =
     (λ c. λ z e. let start = c .before .before .before .before .before .before .before .before in
     optimal-other (laid-holds (start .pre .0)) _ (c .before .value-is .ensures _ z (start .pre .1) (c .before .before .before .before .before .before .lower-point .ensures) e) (not-true _ (c .if2 .taken)))
     (λ c. search needs)
+    (λ c κs. search needs)
     (λ c κs.
-    let start = c .before .before .before .before .before .before .before .before in
+    let start = c .before .before .before .before .before .before .before .before .before in
     let s = start .pre .4 in
-    (start .pre .0, record { some = omega (arith, s .near .lo (s .some)); near = record { hi = omega (arith, s .near .hi); lo = λ h. omega (arith, s .near .lo (s .some)) } }, start .pre .3, start .pre .5))
-    (λ c. λ z e. let start = c .before .before .before .before .before .before .before .before .before in
-    let low = c .before .before .before .before .before .before .before .lower-point .ensures in
-    optimal-picks (laid-holds (start .pre .0)) _ (start .pre .2) (c .before .before .before .before .before .keeps-rules .ensures _ (start .pre .1) low) (not-false _ (c .before .before .before .before .if1 .left)) (c .before .before .value-is .ensures _ z (start .pre .1) low e) (not-false _ (c .before .if2 .left)) (optimal-at (start .pre .4) e (λ y f. c .certify-variables .ensures y f))))
+    (start .pre .0, record { some = omega (arith, s .near .lo (s .some)); near = record { hi = omega (arith, s .near .hi); lo = λ h. omega (arith, s .near .lo (s .some)) } }, start .pre .3, c .start-marks .ensures .flags))
+    (λ c. λ z e. let start = c .before .before .before .before .before .before .before .before .before .before in
+    let low = c .before .before .before .before .before .before .before .before .lower-point .ensures in
+    optimal-started (c .before .start-marks .ensures) (optimal-picks (laid-holds (start .pre .0)) _ (start .pre .2) (c .before .before .before .before .before .before .keeps-rules .ensures _ (start .pre .1) low) (not-false _ (c .before .before .before .before .before .if1 .left)) (c .before .before .before .value-is .ensures _ z (start .pre .1) low e) (not-false _ (c .before .before .if2 .left)) (optimal-at (start .pre .4) e (λ y f. c .certify-variables .ensures y f)))))

@@ -14,14 +14,14 @@ returns-2 : tie.Need-returns-2
 unfolding verdictOf
 returns-2 c =
     let bytes : Bytes (c .before .before .before .before .before .before .before .before .before .before .before .before .args .answer .now) = record { byte = λ i. c .before .before .before .before .before .before .before .before .before .before .shared-slice-known2 .given i .fits } in
-    let right = head-read _ _ _ (c .before .before .before .before .before .before .before .read-answer .ensures .answered) (c .before .before .before .before .before .head .given .1) in
+    let right = head-read _ _ _ (c .before .before .before .before .before .before .before .read-answer .ensures .answered) (c .before .before .before .before .before .read .given .1) in
     answered-certified right (read-means bytes (c .before .before .before .before .before .before .before .read-answer .ensures) right) (c .before .certify .ensures _ (read-means bytes (c .before .before .before .before .before .before .before .read-answer .ensures) right)) (c .if1 .taken)
 
 returns-3 : tie.Need-returns-3
 unfolding verdictOf
 returns-3 c =
     let bytes : Bytes (c .before .before .before .before .before .before .before .before .before .before .before .before .args .answer .now) = record { byte = λ i. c .before .before .before .before .before .before .before .before .before .before .shared-slice-known2 .given i .fits } in
-    let right = head-read _ _ _ (c .before .before .before .before .before .before .before .read-answer .ensures .answered) (c .before .before .before .before .before .head .given .1) in
+    let right = head-read _ _ _ (c .before .before .before .before .before .before .before .read-answer .ensures .answered) (c .before .before .before .before .before .read .given .1) in
     answered-uncertified right (c .before .certify .ensures _ (read-means bytes (c .before .before .before .before .before .before .before .read-answer .ensures) right)) (c .if1 .left)
 
 pub check-answer-spec : {M : Type 1} → statement M
@@ -34,6 +34,6 @@ check-answer-spec =
     (λ c κs. search needs)
     returns
     (λ c κs. let bytes : Bytes (c .before .before .before .before .before .before .before .before .before .before .args .answer .now) = record { byte = λ i. c .before .before .before .before .before .before .before .before .shared-slice-known2 .given i .fits } in
-    (c .before .before .before .before .before .before .before .before .before .before .pre, read-formed bytes (c .before .before .before .before .before .read-answer .ensures) (head-read _ _ _ (c .before .before .before .before .before .read-answer .ensures .answered) (c .before .before .before .head .given .1))))
+    (c .before .before .before .before .before .before .before .before .before .before .pre, read-formed bytes (c .before .before .before .before .before .read-answer .ensures) (head-read _ _ _ (c .before .before .before .before .before .read-answer .ensures .answered) (c .before .before .before .read .given .1))))
     returns-2
     returns-3)

@@ -16,5 +16,6 @@ optimal-spec =
     (λ c κs. search needs)
     (λ c κs. search needs)
     (λ c κs. search needs)
-    (λ c. let start = c .before .before .before .before .before .before .before .before .before .before .before .before .before .before .before .before in let a = start .args in let h = c .before .before .before .before .before .before .before .before .before .before .before .before .before .before .halve in let r = c .before .before .before .before .before .before .before .before .raise in
-    (settled-before (h .ensures .raised) (optimal-settled (a .frame) (a .left .now) (a .right .now) (h .last .1 .0) (r .last .0) (a .search) (h .result) (c .before .before .variable-picks .result) (c .stamps .result) (h .ensures) (r .ensures) (c .before .before .variable-picks .ensures) (c .stamps .ensures)), reraised-trans (h .ensures .raised) (raised-reraised (a .frame) _ (a .left .now) (h .last .1 .0) (r .last .0) (h .ensures .raised .ready) (record { lowest = omega arith; highest = omega arith }) (r .ensures)))))
+    (λ c κs. search needs)
+    (λ c. let start = c .before .before .before .before .before .before .before .before .before .before .before .before .before .before .before .before .before in let a = start .args in let h = c .before .before .before .before .before .before .before .before .before .before .before .before .before .before .before .halve in let r = c .before .before .before .before .before .before .before .before .before .raise in
+    (settled-before (h .ensures .raised) (optimal-settled (a .frame) (a .left .now) (a .right .now) (h .last .1 .0) (r .last .0) (a .search) (h .result) (c .before .before .before .before .before .begun .result) (c .before .before .variable-picks .result) (c .stamps .result) (h .ensures) (r .ensures) (c .before .before .before .before .before .begun .ensures) (c .before .before .variable-picks .ensures) (c .stamps .ensures)), reraised-trans (h .ensures .raised) (raised-reraised (a .frame) _ (a .left .now) (h .last .1 .0) (r .last .0) (h .ensures .raised .ready) (record { lowest = omega arith; highest = omega arith }) (r .ensures)))))

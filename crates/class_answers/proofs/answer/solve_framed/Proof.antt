@@ -15,8 +15,7 @@ solve-framed-spec =
     (tie.spec
     (λ c. search needs)
     (λ c κs. search needs)
-    (λ c κs. search needs)
-    (λ c κs. let start = c .before .before .before .before in let a = start .args in let o = c .opened .ensures in let z = o .searched (a .frame) (a .left .now) (a .right .now) refl (start .pre) in (start .pre, z, top-affordable o z))
+    (λ c κs. let start = c .before .before .before in let a = start .args in let o = c .opened .ensures in let z = o .searched (a .frame) (a .left .now) (a .right .now) refl (start .pre) in (start .pre, z, top-affordable o z))
     (λ c κs. let t = c .before .before .before .try-at .ensures in (t .raised .ready, t .searched, c .before .if1 .taken))
     (λ c. (settled-by (omega (arith, c .before .before .before .before .try-at .ensures .counted)) (c .before .before .before .before .try-at .ensures .raised) (c .infeasible .ensures .0), reraised-trans (c .before .before .before .before .try-at .ensures .raised) (c .infeasible .ensures .1)))
     (λ c κs. c .before .before .before .try-at .ensures .raised .ready)

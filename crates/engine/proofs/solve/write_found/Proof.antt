@@ -20,6 +20,6 @@ write-found-spec =
     (λ c. search needs)
     (λ c. search needs)
     (λ c. search needs)
-    (λ c. absurd (never-refused _ _ _ _ _ _ _ _ _ _ _ (c .before .before .before .before .write-answer .ensures) (c .before .before .before .before .before .before .before .before .before .stamp-count .ensures .0) (c .before .before .before .before .before .before .before .before .pick-count .ensures .0) (c .before .before .before .before .before .before .before .before .before .before .before .before .before .pre) (c .enum-told .given .1)))
+    (λ c. absurd (never-refused _ _ _ _ _ _ _ _ _ _ _ _ (c .before .before .before .before .write-answer .ensures) (c .before .before .before .before .before .before .before .before .before .stamp-count .ensures .0) (c .before .before .before .before .before .before .before .before .pick-count .ensures .0) (c .before .before .before .before .before .before .before .before .before .before .before .before .before .pre) (c .enum-told .given .1)))
     (λ c. search needs)
-    (λ c. wrote-for _ _ _ _ _ _ _ _ _ _ _ (c .before .before .before .before .before .write-answer .ensures) (c .before .before .before .before .before .before .before .before .before .before .stamp-count .ensures .0) (c .before .before .before .before .before .before .before .before .before .pick-count .ensures .0) (c .before .before .before .before .before .before .before .before .before .before .before .before .before .before .pre) (c .before .written .given .1)))
+    (λ c. wrote-for _ _ _ _ _ _ _ _ _ _ _ _ (c .before .before .before .before .before .write-answer .ensures) (c .before .before .before .before .before .before .before .before .before .before .stamp-count .ensures .0) (c .before .before .before .before .before .before .before .before .before .pick-count .ensures .0) (c .before .before .before .before .before .before .before .before .before .before .before .before .before .before .pre) (c .before .written .given .1)))
