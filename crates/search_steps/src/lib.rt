@@ -1,2 +1,2 @@
-// A search that is made one trial at a time, kept as words between the trials. Document 02, 2.11.
-pub mod stored;
+// A search that makes document 01's trials in their order, one at a time. Document 02, 2.11.
+pub mod steps;
