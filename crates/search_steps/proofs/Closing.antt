@@ -17,6 +17,7 @@ use Rattle.trial_tables.specs.Frames.{top-offset, lowest-offset, Copied, Coeffi
 use Rattle.trial_tables.proofs.Framing.{framed}
 use Rattle.trial_tables.proofs.Raising.{holds-after, holds-within, problemIn, problem-in}
 use Rattle.least_span.specs.declared.state.Search.{Search}
+use Rattle.least_span.specs.declared.halving.Least.{Least}
 use Rattle.least_span.specs.State.{Budgeted, Searched, TrialMade, Opened}
 use Rattle.class_answers.specs.declared.answer.Answer.{Answer}
 use Rattle.class_answers.specs.Answered.{Settled, LeastShown}
@@ -56,11 +57,11 @@ module _ {f : Frame} {left before after : List ℕ} {s r : Search} {t : ℕ} (b 
       record { answers = λ p q. g .answers p (holds-after (made .raised) q); trials-is = omega arith; made-is = omega (arith, made .counted) }
 
   -- The bracket is 1 wide: least.
-  pub closed-least : {a : Answer} → LeastShown f left after (leastOf r) a → ClosedBy (λ p. Holds p f left before) (f .n) (f .m) (s .made) a
-  closed-least {a} g = record {
+  pub closed-least : {l : Least} {a : Answer} → l ≡ leastOf r → LeastShown f left after l a → ClosedBy (λ p. Holds p f left before) (f .n) (f .m) (s .made) a
+  closed-least e g = record {
     answers = λ p q. g .answers p (holds-after (made .raised) q);
-    trials-is = omega (arith, g .trials-is, made .counted);
-    made-is = omega (arith, g .made-is, made .counted);
+    trials-is = omega (arith, g .trials-is, ap (λ (l : Least). l .trials) e, made .counted);
+    made-is = omega (arith, g .made-is, ap (λ (l : Least). l .made) e, made .counted);
   }
 
   -- Else the search is open.
