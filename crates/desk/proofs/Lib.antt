@@ -1,2 +1,5 @@
 pub mod Line
 pub mod Runs
+pub mod Ring
+pub mod Kept
+pub mod Holding

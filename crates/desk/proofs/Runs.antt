@@ -51,13 +51,13 @@ pub record Sound (d : Desk) : Type 0 where
 
 -- ---- what a place is
 
-empty-not-waits : {number own : ℕ} {problem : List ℕ} → empty ≡ waits number problem own → ⊥
+pub empty-not-waits : {number own : ℕ} {problem : List ℕ} → empty ≡ waits number problem own → ⊥
 empty-not-waits e = let z : _≡_ {A = ℕ} 0 1 = cc in omega arith
 
-empty-not-answered : {number class own : ℕ} {span : Trop} {problem : List ℕ} {a : Answer} → empty ≡ answered number problem class span own a → ⊥
+pub empty-not-answered : {number class own : ℕ} {span : Trop} {problem : List ℕ} {a : Answer} → empty ≡ answered number problem class span own a → ⊥
 empty-not-answered e = let z : _≡_ {A = ℕ} 0 1 = cc in omega arith
 
-answered-not-waits : {number class own : ℕ} {span : Trop} {problem : List ℕ} {a : Answer} {n o : ℕ} {p : List ℕ} → answered number problem class span own a ≡ waits n p o → ⊥
+pub answered-not-waits : {number class own : ℕ} {span : Trop} {problem : List ℕ} {a : Answer} {n o : ℕ} {p : List ℕ} → answered number problem class span own a ≡ waits n p o → ⊥
 answered-not-waits e = let z : _≡_ {A = ℕ} 0 1 = cc in omega arith
 
 fit-of-waits : {number own : ℕ} {problem : List ℕ} → Fit (waits number problem own) → WithinLayout problem × (own < most-trials)
@@ -79,7 +79,7 @@ module _ {d : Desk} (sound : Sound d) where
 beyond-empty : (d : Desk) (i : ℕ) → length (d .places) ≡ desk-places → (placeAt d i ≡ empty → ⊥) → i < desk-places
 beyond-empty d i e some = ⊎-elim (λ (h : desk-places ≤ i). absurd (some (List·getD-eq-default (d .places) empty (omega arith)))) (λ h. h) (nat-le-or-lt desk-places i)
 
-waiting-inside : {d : Desk} {i : ℕ} → length (d .places) ≡ desk-places → Waiting d i → i < desk-places
+pub waiting-inside : {d : Desk} {i : ℕ} → length (d .places) ≡ desk-places → Waiting d i → i < desk-places
 waiting-inside {d} {i} e w = beyond-empty d i e (λ z. empty-not-waits (sym z ∙ w .there .is))
 
 -- ---- one place changed
@@ -235,7 +235,7 @@ unfolding ownOf
 same-own e = ap ownOf e
 
 -- At most sixteen wait.
-line-few : {d : Desk} → Sound d → length (d .line) ≤ desk-places
+pub line-few : {d : Desk} → Sound d → length (d .line) ≤ desk-places
 line-few s = line-most desk-places (s .line) (λ i w. waiting-inside (s .sixteen) w)
 
 module _ {memory : ℕ} {d : Desk} {number passed most : ℕ} (s : Sound d) (owed : Due d number passed most) where

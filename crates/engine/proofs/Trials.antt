@@ -1,5 +1,5 @@
 -- One trial on the bytes of a problem: what is read, begun, and left.
-use Prim.Native.Nat.{ℕ, _+_, _<_}
+use Prim.Native.Nat.{ℕ, _+_, _≤_, _<_}
 use mathlib.Core.Path.{_≡_, refl, sym, ap, _∙_}
 use mathlib.Core.Bool.{false}
 use mathlib.Core.List.{List}
@@ -118,9 +118,9 @@ begun-refused {p} {header} {k} {r} e f g =
       m-is = λ z. absurd (omega (arith, h .1));
     }
 
-pub never-refused-one : {p : List ℕ} {header : Header} {k : ℕ} → WithinLayout p → headerOf header ≡ problemOutcome false p → header ≡ Headers.Refused k → ⊥
+pub never-refused-one : (p : List ℕ) {header : Header} {k : ℕ} → WithinLayout p → headerOf header ≡ problemOutcome false p → header ≡ Headers.Refused k → ⊥
 unfolding problemOutcome
-never-refused-one {p} w e f = let h = answer-refused (problemRefusal p) (layoutOf p) e f in omega (arith, h .0, h .1, w)
+never-refused-one p w e f = let h = answer-refused (problemRefusal p) (layoutOf p) e f in omega (arith, h .0, h .1, w)
 
 -- An answer of the problem can be written.
 pub settled-found : {s : List ℕ} {a : Answer} {n m room : ℕ} → Bytes s → SettledFor s a → n ≡ nField s → m ≡ mField s → answer-most ≤ room
