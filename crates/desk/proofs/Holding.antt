@@ -48,7 +48,7 @@ place-ticket (is-answered s n g) = refl
 
 pub place-some : {bytes : List ℕ} {c : Place} {p : Machine.Place} → PlaceIs bytes c p → 0 < c .ticket → p ≡ Machine.empty → ⊥
 unfolding ticketOf
-place-some h some e = let z : 0 ≡ _ = sym (ap ticketOf e) ∙ place-ticket h in omega arith
+place-some {c = c} h some e = let z : _≡_ {A = ℕ} 0 (c .ticket) = sym (ap ticketOf e) ∙ place-ticket h in omega arith
 
 -- What the code's place says of a problem that waits.
 pub record WaitsAs (bytes : List ℕ) (c : Place) (number : ℕ) (problem : List ℕ) (own : ℕ) : Type 0 where
@@ -59,19 +59,19 @@ pub record WaitsAs (bytes : List ℕ) (c : Place) (number : ℕ) (problem : List
   pub problem-is : meant bytes ≡ problem
   pub own-is : c .search .made ≡ own
 
-problemIn : Machine.Place → List ℕ
+unfoldable problemIn : Machine.Place → List ℕ
 problemIn Machine.empty = []
 problemIn (Machine.waits number problem own) = problem
 problemIn (Machine.answered number problem class span own a) = problem
 
-ownIn : Machine.Place → ℕ
+unfoldable ownIn : Machine.Place → ℕ
 ownIn Machine.empty = 0
 ownIn (Machine.waits number problem own) = own
 ownIn (Machine.answered number problem class span own a) = own
 
 pub place-waits : {bytes : List ℕ} {c : Place} {p : Machine.Place} {number own : ℕ} {problem : List ℕ} → PlaceIs bytes c p → p ≡ Machine.waits number problem own
     → WaitsAs bytes c number problem own
-unfolding ticketOf
+unfolding ticketOf problemIn ownIn
 place-waits (is-empty z) e = absurd (empty-not-waits e)
 place-waits (is-waiting s n g) e = record { seated = s; not-closed = n; pursued = g; number-is = ap ticketOf e; problem-is = ap problemIn e; own-is = ap ownIn e }
 place-waits (is-answered s n g) e = absurd (answered-not-waits e)
@@ -93,6 +93,12 @@ pub place-closed : {bytes : List ℕ} {c : Place} {p : Machine.Place} → PlaceI
 place-closed (is-empty z) some e = absurd (omega arith)
 place-closed (is-waiting s n g) some e = absurd (true-not-false (sym e ∙ n))
 place-closed (is-answered s n g) some e = record { seated = s; settled = g; is = refl }
+
+-- The size that a place tells fits, unless it is empty.
+pub size-known : {bytes : List ℕ} {c : Place} {p : Machine.Place} → PlaceIs bytes c p → (c .ticket ≡ 0) ⊎ (c .size ≤ problem-most)
+size-known (is-empty z) = inl z
+size-known (is-waiting s n g) = inr (s .size-most)
+size-known (is-answered s n g) = inr (s .size-most)
 
 -- ---- the line
 
@@ -168,6 +174,10 @@ held-all (p ∷ places) h =
 
 -- ---- looking
 
+empty-ticket : ticketOf Machine.empty ≡ 0
+unfolding ticketOf
+empty-ticket = refl
+
 module _ {d : Desk} {memory : List ℕ} {state : Machine.Desk} (h : Holds d memory state) where
   ticket-at : (i : ℕ) → i < desk-places → ticketOf (placeAt state i) ≡ placeIn d i .ticket
   ticket-at i b = place-ticket (h .places i b)
@@ -179,10 +189,6 @@ module _ {d : Desk} {memory : List ℕ} {state : Machine.Desk} (h : Holds d memo
     is-empty = place-empty (h .places r b) (f .free b);
     first = λ k l e. f .before k l (sym (ticket-at k (omega arith)) ∙ rw e (empty-ticket));
   }
-    where
-      empty-ticket : ticketOf Machine.empty ≡ 0
-      unfolding ticketOf
-      empty-ticket = refl
 
   -- and where there is none, all are held.
   pub held-sixteen : FirstFree d desk-places → held (state .places) ≡ desk-places

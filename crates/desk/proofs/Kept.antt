@@ -5,7 +5,7 @@ use mathlib.Core.Logic.{_⊎_, ⊎-elim}
 use mathlib.Core.List.{List, [], _∷_, _++_}
 use native.Mathlib.Omega.{arith}
 use native.Mathlib.Nat.{mul-le-mul-left, mul-le-mul-right}
-use lib.ListN.{length, getD, set, take, length-set, List·getD-eq-default}
+use lib.ListN.{length, getD, set, take, drop, length-set, List·getD-eq-default}
 use lib.Seq.{ext-getD, getD-take, take-at, getD-append-add, length-take-le, take-length}
 use Rattle.base.proofs.Numbers.{nat-le-or-lt}
 use Rattle.definitions.specs.Limits.{desk-places, desk-memory, problem-most}
@@ -15,6 +15,9 @@ use Rattle.definitions.specs.Questions.{part}
 use Rattle.definitions.proofs.Put.{take-put, length-put, getD-put-after, put-more, put-nil}
 use Rattle.definitions.proofs.Questions.{part-length, part-at}
 use Rattle.definitions.proofs.Refusals.{problem-fits}
+use Rattle.least_span.specs.declared.state.Search.{Search}
+use Rattle.search_steps.specs.declared.steps.Trial.{Trial}
+use Rattle.engine.specs.OneTrial.{TrialFor}
 use Rattle.desk.specs.State.{bytesAt}
 
 -- What a list with values put holds before them, and in them.
@@ -101,3 +104,11 @@ copied-more {before} {after} {run} {at} {j} h l c = record {
 
 pub copied-all : {before after run : List ℕ} {at j : ℕ} → j ≡ length run → Copied before at run j after → after ≡ put before at run
 copied-all {before} {after} {run} {at} e c = c .is ∙ ap (λ (z : List ℕ). put before at z) (rw e (take-length run))
+
+-- The part of the memory up to its end.
+pub part-end : (memory : List ℕ) (from size : ℕ) → take (from + size - from) (drop from memory) ≡ part memory from size
+part-end memory from size = let e : from + size - from ≡ size = omega arith in rw e refl
+
+pub trial-part : (memory : List ℕ) (from size : ℕ) {search : Search} {r : Trial} → TrialFor (meant (take (from + size - from) (drop from memory))) search r
+    → TrialFor (meant (part memory from size)) search r
+trial-part memory from size {search} {r} t = subst (λ (z : List ℕ). TrialFor (meant z) search r) (part-end memory from size) t

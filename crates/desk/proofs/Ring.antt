@@ -3,6 +3,7 @@ use Prim.Native.Nat.{ℕ, zero, suc, _+_, _-_, _%_, _≤_, _<_}
 use mathlib.Core.Path.{_≡_, refl, sym, ap, ap₂, subst, _∙_}
 use mathlib.Core.List.{List, [], _∷_, _++_}
 use native.Mathlib.Omega.{arith}
+use native.Mathlib.Numerals.{add-one}
 use lib.ListN.{length, getD, set}
 use lib.Seq.{getD-set-same, getD-set-other}
 use Rattle.desk.specs.State.{ring}
@@ -22,7 +23,7 @@ ring-turn l h k (suc n) e =
     ap₂ (λ (a : ℕ) (r : List ℕ). getD l a 0 ∷ r) e (ring-turn l (h + 1) (k + 1) n f)
 
 -- One entry more at the end.
-pub ring-more : (l : List ℕ) (h n : ℕ) → ring l h (n + 1) ≡ ring l h n ++ (getD l ((h + n) % 16) 0 ∷ [])
+ring-more : (l : List ℕ) (h n : ℕ) → ring l h (suc n) ≡ ring l h n ++ (getD l ((h + n) % 16) 0 ∷ [])
 unfolding ring
 ring-more l h zero = let e : h % 16 ≡ (h + 0) % 16 = omega arith in ap (λ (a : ℕ). getD l a 0 ∷ []) e
 ring-more l h (suc n) =
@@ -40,7 +41,8 @@ ring-other l h (suc n) q x d = ap₂ (λ (a : ℕ) (r : List ℕ). a ∷ r)
 -- One joins the end.
 pub ring-join : (l : List ℕ) (h n x : ℕ) → length l ≡ 16 → n < 16 → ring (set l ((h + n) % 16) x) h (n + 1) ≡ ring l h n ++ (x ∷ [])
 ring-join l h n x e b =
-    ring-more (set l ((h + n) % 16) x) h n
+    ap (λ (k : ℕ). ring (set l ((h + n) % 16) x) h k) (add-one n)
+    ∙ ring-more (set l ((h + n) % 16) x) h n
     ∙ ap₂ (λ (r : List ℕ) (a : ℕ). r ++ (a ∷ [])) (ring-other l h n ((h + n) % 16) x (λ k c f. absurd (apart k c f))) (getD-set-same l ((h + n) % 16) x 0 (omega arith))
   where
     apart : (k : ℕ) → k < n → (h + k) % 16 ≡ (h + n) % 16 → ⊥

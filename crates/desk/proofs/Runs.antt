@@ -76,7 +76,7 @@ module _ {d : Desk} (sound : Sound d) where
   answered-fit {i} st = fit-of-answered (subst Fit (st .is) (sound .fits i))
 
 -- What waits, or is answered, stands at one of the sixteen places.
-beyond-empty : (d : Desk) (i : ℕ) → length (d .places) ≡ desk-places → (placeAt d i ≡ empty → ⊥) → i < desk-places
+pub beyond-empty : (d : Desk) (i : ℕ) → length (d .places) ≡ desk-places → (placeAt d i ≡ empty → ⊥) → i < desk-places
 beyond-empty d i e some = ⊎-elim (λ (h : desk-places ≤ i). absurd (some (List·getD-eq-default (d .places) empty (omega arith)))) (λ h. h) (nat-le-or-lt desk-places i)
 
 pub waiting-inside : {d : Desk} {i : ℕ} → length (d .places) ≡ desk-places → Waiting d i → i < desk-places

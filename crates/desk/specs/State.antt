@@ -4,13 +4,14 @@ use mathlib.Core.Path.{_≡_}
 use mathlib.Core.Bool.{true, false}
 use mathlib.Core.List.{List, [], _∷_}
 use lib.ListN.{length, getD, set}
-use Rattle.definitions.specs.Limits.{desk-places, problem-most}
+use Rattle.definitions.specs.Limits.{desk-places, desk-memory, problem-most, last-ticket}
 use Rattle.definitions.specs.Offset.{tropOf}
 use Rattle.definitions.specs.ProblemRecord.{meant, nField, mField}
 use Rattle.definitions.specs.Questions.{part}
 use Rattle.definitions.specs.Desk as Machine
 use Rattle.class_answers.specs.Answered.{answerIn}
-use Rattle.engine.specs.OneTrial.{PursuedFor, SettledFor}
+use Rattle.engine.specs.declared.one_trial.Begun.{Begun}
+use Rattle.engine.specs.OneTrial.{PursuedFor, SettledFor, TrialFor}
 use Rattle.desk.specs.declared.state.Place.{Place}
 use Rattle.desk.specs.declared.state.Desk.{Desk}
 
@@ -59,8 +60,34 @@ pub record FirstFree (d : Desk) (r : ℕ) : Type 0 where
 -- The first place with the ticket, or 16.
 pub record HoldsTicket (d : Desk) (ticket r : ℕ) : Type 0 where
   pub most : r ≤ desk-places
-  pub held : r < desk-places → placeIn d r .ticket ≡ ticket
-  pub before : (k : ℕ) → k < r → placeIn d k .ticket ≡ ticket → ⊥
+  pub held : r < desk-places → (0 < ticket) × (placeIn d r .ticket ≡ ticket)
+  pub before : (k : ℕ) → k < r → 0 < ticket → placeIn d k .ticket ≡ ticket → ⊥
+
+-- ---- parts of calls
+
+-- The place of a problem that was begun, of this size, with its ticket.
+pub record NewPlace (ticket size : ℕ) (b : Begun) (place : Place) : Type 0 where
+  pub ticket-is : place .ticket ≡ ticket
+  pub size-is : place .size ≡ size
+  pub n-is : place .n ≡ b .n
+  pub m-is : place .m ≡ b .m
+  pub still-open : place .closed ≡ false
+  pub search-is : place .search ≡ b .search
+
+-- It is entered at a place, with the next ticket, at the end of the line.
+pub record Entered (d : Desk) (at : ℕ) (p : List ℕ) (b : Begun) (r : Desk) : Type 0 where
+  pub place : Place
+  pub new : NewPlace (d .given + 1) (length p) b place
+  pub desk-is : r ≡ record { given = d .given + 1; head = d .head; waiting = d .waiting + 1; line = set (d .line) ((d .head + d .waiting) % desk-places) at; places = set (d .places) at place }
+
+-- There is room for it.
+pub record Room (d : Desk) (at : ℕ) (p memory : List ℕ) : Type 0 where
+  pub arrays : Arrays d
+  pub inside : at < desk-places
+  pub few : d .waiting < desk-places
+  pub ticket-left : d .given < last-ticket
+  pub short : length p ≤ problem-most
+  pub memory-enough : desk-memory ≤ length memory
 
 -- ---- the state of the machine that it holds
 
@@ -96,3 +123,18 @@ pub record Holds (d : Desk) (memory : List ℕ) (state : Machine.Desk) : Type 0 
   pub line-is : ring (d .line) (d .head) (d .waiting) ≡ state .line
   pub places-size : length (state .places) ≡ desk-places
   pub places : (i : ℕ) → i < desk-places → PlaceIs (bytesAt memory i (placeIn d i .size)) (placeIn d i) (Machine.placeAt state i)
+
+-- A place whose search can have its next trial,
+pub record Tryable (memory : List ℕ) (at : ℕ) (c : Place) : Type 0 where
+  pub inside : at < desk-places
+  pub memory-enough : desk-memory ≤ length memory
+  pub size-most : c .size ≤ problem-most
+  pub pursued : PursuedFor (meant (bytesAt memory at (c .size))) (c .search)
+
+-- and the place after it.
+pub record Tried (bytes : List ℕ) (c r : Place) : Type 0 where
+  pub ticket-is : r .ticket ≡ c .ticket
+  pub size-is : r .size ≡ c .size
+  pub n-is : r .n ≡ c .n
+  pub m-is : r .m ≡ c .m
+  pub trial : TrialFor (meant bytes) (c .search) (record { closed = r .closed; search = r .search; answer = r .answer })

@@ -2,9 +2,10 @@
 ghost use mathlib.Core.Path.{_≡_};
 ghost use Prim.Native.Nat.{_+_, _*_, _≤_};
 ghost use lib.ListN.{length};
-ghost use Rattle.definitions.specs.Limits.{desk-places, desk-memory, problem-most};
+ghost use Rattle.definitions.specs.Limits.{problem-most};
 ghost use Rattle.definitions.specs.Bytes.{put};
-ghost use Rattle.desk.specs.State.{Arrays};
+ghost use Rattle.desk.specs.State.{bytesAt, NewPlace, Entered, Room, Tryable, Tried};
+ghost use Rattle.desk.specs.declared.calls.TakenIn.the-variants as TakenIn;
 ghost use Rattle.desk.specs.Calls.{AsLeft, OpenedBy, TookIn, DidStep, DidCollect};
 use crate::limits::LAST_TICKET;
 use crate::limits::MEMORY;
@@ -20,6 +21,7 @@ use crate::state::joined;
 use crate::state::left_line;
 use crate::state::place_of;
 use crate::state::seated;
+use engine::one_trial::Begun;
 use engine::one_trial::begin;
 use engine::one_trial::one_trial;
 use engine::solve::write_found;
@@ -60,7 +62,7 @@ pub struct Taking {
     pub desk: Desk,
 }
 
-pub struct Step {
+pub struct Stepping {
     pub outcome: Stepped,
     pub desk: Desk,
 }
@@ -70,18 +72,30 @@ pub struct Collecting {
     pub desk: Desk,
 }
 
+// A taking-in that changes nothing.
+fn refused_in(desk: Desk, number: usize) -> Taking
+    ensures { λ r. ⌜ r ≡ record { outcome = TakenIn.Refused number; desk = desk } ⌝ }
+{
+    Taking {
+        outcome: TakenIn::Refused(number),
+        desk,
+    }
+}
+
 // A place with nothing on it.
 fn no_place() -> Place
     ensures { λ r. ⌜ r .ticket ≡ 0 ⌝ }
 {
+    let search = opened(1);
+    let answer = no_answer();
     Place {
         ticket: 0,
         size: 0,
         n: 0,
         m: 0,
         closed: false,
-        search: opened(1),
-        answer: no_answer(),
+        search,
+        answer,
     }
 }
 
@@ -114,93 +128,112 @@ fn keep(memory: &mut [u8], from: usize, problem: &[u8])
     }
 }
 
+// The place of a problem that was begun.
+fn new_place(ticket: u64, size: usize, begun: Begun) -> Place
+    ensures { λ r. ⌜ NewPlace ticket size begun r ⌝ }
+{
+    let search = begun.search;
+    let answer = no_answer();
+    Place {
+        ticket,
+        size,
+        n: begun.n,
+        m: begun.m,
+        closed: false,
+        search,
+        answer,
+    }
+}
+
+// A problem that was begun gets the next ticket, a place, and the end of the line.
+fn enter(memory: &mut [u8], desk: Desk, at: usize, problem: &[u8], begun: Begun) -> Desk
+    requires { ⌜ Room desk at (now problem) (now memory) ⌝ }
+    ensures { λ r. ⌜ Entered desk at (now (problem .entry)) begun r × (now (memory .exit) ≡ put (now (memory .entry)) (at * problem-most) (now (problem .entry))) ⌝ }
+{
+    keep(memory, at * PROBLEM_MOST, problem);
+    let ticket = desk.given + 1;
+    let place = new_place(ticket, problem.len(), begun);
+    let mut next = joined(seated(desk, at, place), at);
+    next.given = ticket;
+    next
+}
+
 // A problem that nothing refuses goes to the first empty place and to the end of the line, with the next ticket.
 pub fn take_in(memory: &mut [u8], desk: Desk, problem: &[u8]) -> Taking
     requires { ⌜ AsLeft desk (now memory) ⌝ }
     ensures { λ r. ⌜ TookIn desk (now (memory .entry)) (now (problem .entry)) (r .outcome) (r .desk) (now (memory .exit)) ⌝ }
 {
     if memory.len() < MEMORY {
-        return Taking {
-            outcome: TakenIn::Refused(REFUSED_MEMORY),
-            desk,
-        };
+        return refused_in(desk, REFUSED_MEMORY);
     }
     let begun = begin(problem);
     if begun.refused != 0 {
-        return Taking {
-            outcome: TakenIn::Refused(begun.refused),
-            desk,
-        };
+        return refused_in(desk, begun.refused);
     }
     let at = first_free(desk);
     if at == PLACES {
-        return Taking {
-            outcome: TakenIn::Refused(REFUSED_FULL),
-            desk,
-        };
+        return refused_in(desk, REFUSED_FULL);
     }
     if desk.given == LAST_TICKET {
-        return Taking {
-            outcome: TakenIn::Refused(REFUSED_FULL),
-            desk,
-        };
+        return refused_in(desk, REFUSED_FULL);
     }
-    keep(memory, at * PROBLEM_MOST, problem);
-    let ticket = desk.given + 1;
-    let search = begun.search;
-    let place = Place {
-        ticket,
-        size: problem.len(),
-        n: begun.n,
-        m: begun.m,
-        closed: false,
-        search,
-        answer: no_answer(),
-    };
-    let mut next = joined(seated(desk, at, place), at);
-    next.given = ticket;
+    let next = enter(memory, desk, at, problem, begun);
     Taking {
-        outcome: TakenIn::Ticket(ticket),
+        outcome: TakenIn::Ticket(next.given),
         desk: next,
     }
 }
 
+// The place after the next trial of its search.
+fn tried(memory: &[u8], at: usize, place: Place) -> Place
+    requires { ⌜ Tryable (now memory) at place ⌝ }
+    ensures { λ r. ⌜ Tried (bytesAt (now (memory .entry)) at (place .size)) place r ⌝ }
+{
+    let from = at * PROBLEM_MOST;
+    let to = from + place.size;
+    let search = place.search;
+    let trial = one_trial(&memory[from..to], search);
+    let next = trial.search;
+    let answer = trial.answer;
+    Place {
+        ticket: place.ticket,
+        size: place.size,
+        n: place.n,
+        m: place.m,
+        closed: trial.closed,
+        search: next,
+        answer,
+    }
+}
+
 // One trial of the problem at the head of the line.
-pub fn step(memory: &[u8], desk: Desk) -> Step
+pub fn step(memory: &[u8], desk: Desk) -> Stepping
     requires { ⌜ AsLeft desk (now memory) ⌝ }
     ensures { λ r. ⌜ DidStep desk (now (memory .entry)) (r .outcome) (r .desk) ⌝ }
 {
     if memory.len() < MEMORY {
-        return Step {
+        return Stepping {
             outcome: Stepped::Refused(REFUSED_MEMORY),
             desk,
         };
     }
     if desk.waiting == 0 {
-        return Step {
+        return Stepping {
             outcome: Stepped::NoneWaits,
             desk,
         };
     }
     let head = desk.head;
     let at = desk.line[head];
-    let mut place = desk.places[at];
-    let from = at * PROBLEM_MOST;
-    let to = from + place.size;
-    let trial = one_trial(&memory[from..to], place.search);
-    let search = trial.search;
-    let answer = trial.answer;
-    place.closed = trial.closed;
-    place.search = search;
-    place.answer = answer;
+    let place = tried(memory, at, desk.places[at]);
     let next = left_line(seated(desk, at, place));
-    if trial.closed {
-        return Step {
+    if place.closed {
+        return Stepping {
             outcome: Stepped::Done(place.ticket),
             desk: next,
         };
     }
-    Step {
+    Stepping {
         outcome: Stepped::GoesOn(place.ticket),
         desk: joined(next, at),
     }
@@ -217,7 +250,7 @@ pub fn collect(memory: &[u8], desk: Desk, ticket: u64, buffer: &mut [u8]) -> Col
             desk,
         };
     }
-    let at = held_at(desk, ticket);
+    let at = place_of(desk, ticket);
     if at == PLACES {
         return Collecting {
             outcome: Collected::Refused(REFUSED_TICKET),

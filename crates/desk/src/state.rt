@@ -1,7 +1,7 @@
 // What the desk knows besides the problems in the lent memory: tickets, the line and the places.
 ghost use mathlib.Core.Path.{_≡_};
-ghost use Prim.Native.Nat.{_+_, _<_, _≤_};
-ghost use Rattle.definitions.specs.Limits.{desk-places, last-ticket};
+ghost use Prim.Native.Nat.{_<_};
+ghost use Rattle.definitions.specs.Limits.{desk-places};
 ghost use Rattle.desk.specs.State.{Arrays, seatedAt, joinedBy, headGone, FirstFree, HoldsTicket};
 use crate::limits::PLACES;
 use class_answers::answer::Answer;
@@ -49,6 +49,9 @@ pub fn place_of(desk: Desk, ticket: u64) -> usize
     requires { ⌜ Arrays desk ⌝ }
     ensures { λ r. ⌜ HoldsTicket desk ticket r ⌝ }
 {
+    if ticket == 0 {
+        return PLACES;
+    }
     let mut i = 0;
     while i < PLACES {
         let place = desk.places[i];
