@@ -1,9 +1,12 @@
 // The desk's four calls: opening, taking in, a step, collecting. The office lends the memory; the state goes from call to call.
 ghost use mathlib.Core.Path.{_≡_};
-ghost use Prim.Native.Nat.{_+_, _*_, _≤_};
+ghost use Prim.Native.Nat.{_+_, _*_, _-_, _≤_};
 ghost use lib.ListN.{length};
 ghost use Rattle.definitions.specs.Limits.{problem-most};
 ghost use Rattle.definitions.specs.Bytes.{put};
+ghost use Rattle.definitions.specs.ProblemRecord.{meant};
+ghost use Rattle.definitions.specs.Questions.{part};
+ghost use Rattle.engine.specs.OneTrial.{PursuedFor, TrialFor};
 ghost use Rattle.desk.specs.State.{bytesAt, NewPlace, Entered, Room, Tryable, Tried};
 ghost use Rattle.desk.specs.declared.calls.TakenIn.the-variants as TakenIn;
 ghost use Rattle.desk.specs.Calls.{AsLeft, OpenedBy, TookIn, DidStep, DidCollect};
@@ -25,9 +28,11 @@ use engine::one_trial::Begun;
 use engine::one_trial::begin;
 use engine::one_trial::one_trial;
 use engine::solve::write_found;
+use least_span::state::Search;
 use least_span::state::opened;
 use records::limits::ANSWER_MOST;
 use records::limits::REFUSED_ROOM;
+use search_steps::steps::Trial;
 use search_steps::steps::no_answer;
 
 // What taking in answers: refused with the number, or the ticket.
@@ -184,6 +189,14 @@ pub fn take_in(memory: &mut [u8], desk: Desk, problem: &[u8]) -> Taking
     }
 }
 
+// The next trial of the search of the problem in a part of the memory.
+fn trial_at(memory: &[u8], from: usize, to: usize, search: Search) -> Trial
+    requires { ⌜ (from ≤ to) × (to ≤ length (now memory)) × PursuedFor (meant (part (now memory) from (to - from))) search ⌝ }
+    ensures { λ r. ⌜ TrialFor (meant (part (now (memory .entry)) from (to - from))) search r ⌝ }
+{
+    one_trial(&memory[from..to], search)
+}
+
 // The place after the next trial of its search.
 fn tried(memory: &[u8], at: usize, place: Place) -> Place
     requires { ⌜ Tryable (now memory) at place ⌝ }
@@ -192,7 +205,7 @@ fn tried(memory: &[u8], at: usize, place: Place) -> Place
     let from = at * PROBLEM_MOST;
     let to = from + place.size;
     let search = place.search;
-    let trial = one_trial(&memory[from..to], search);
+    let trial = trial_at(memory, from, to, search);
     let next = trial.search;
     let answer = trial.answer;
     Place {
@@ -272,8 +285,9 @@ pub fn collect(memory: &[u8], desk: Desk, ticket: u64, buffer: &mut [u8]) -> Col
     }
     let answer = place.answer;
     let size = write_found(answer, place.n, place.m, buffer);
+    let free = no_place();
     Collecting {
         outcome: Collected::Handed(answer.class, answer.span, answer.trials, size),
-        desk: seated(desk, at, no_place()),
+        desk: seated(desk, at, free),
     }
 }

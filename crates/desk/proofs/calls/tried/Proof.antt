@@ -1,7 +1,7 @@
-use mathlib.Core.Path.{refl, sym, ap, _∙_}
+use Prim.Native.Nat.{_*_}
+use mathlib.Core.Path.{refl}
 use native.Mathlib.Omega.{arith}
 use Rattle.desk.proofs.Kept.{part-end, trial-part}
-use Prim.Native.Nat.{_*_}
 use borrow.Author.Needs.{needs}
 use Rattle.desk.proofs.calls.tried.Statement.{statement}
 use Rattle.desk.proofs.calls.tried.Tie as tie
@@ -12,8 +12,5 @@ tried-spec =
     (tie.spec
     (λ c. search needs)
     (λ c. search needs)
-    (λ c. search needs)
-    (λ c. search needs)
-    (λ c. search needs)
-    (λ c κs. let p = c .before .before .before .before .pre in rw (part-end _ _ _) (p .pursued))
-    (λ c. record { ticket-is = refl; size-is = refl; n-is = refl; m-is = refl; trial = trial-part (c .before .before .before .before .before .before .before .args .memory .now) (c .before .before .before .before .before .before .before .args .at * 16394) (c .before .before .before .before .before .before .before .args .place .size) (c .before .before .one-trial .ensures) }))
+    (λ c κs. let a = c .before .before .before .before .args in let p = c .before .before .before .before .pre in (omega arith, omega (arith, p .inside, p .size-most, p .memory-enough), rw (part-end (a .memory .now) (a .at * 16394) (a .place .size)) (p .pursued)))
+    (λ c. let a = c .before .before .before .before .before .before .before .args in record { ticket-is = refl; size-is = refl; n-is = refl; m-is = refl; trial = trial-part (a .memory .now) (a .at * 16394) (a .place .size) (c .before .before .trial-at .ensures) }))
