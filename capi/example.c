@@ -4,7 +4,7 @@
  *
  * prints
  *
- *     accepted: class 1, span 3, after 23 trials; pick of the anchor 1
+ *     accepted: class 1, span 3, after 23 trials; start 0, pick of the anchor 1
  *     on the sheet: 0:03; 7:05 is 425 minutes
  */
 #include <stdio.h>
@@ -22,7 +22,7 @@ int main(void) {
         printf("refused %u\n", span_refusal(solved));
         return 1;
     }
-    size_t size = 4 + answer[0];   /* an answer has at most 206 bytes, so its length field is its first byte */
+    size_t size = 4 + answer[0];   /* an answer has at most 208 bytes, so its length field is its first byte */
 
     uint64_t judged = span_check(problem, sizeof problem, answer, size);
     uint64_t fields = span_read(answer, size, 0, 0, stamps, SPAN_STAMPS, picks, SPAN_PICKS);
@@ -30,8 +30,8 @@ int main(void) {
         printf("the answer is not accepted\n");
         return 1;
     }
-    printf("accepted: class %u, span %d, after %u trials; pick of the anchor %u\n",
-           span_class(judged), (int)span_minutes(judged), span_trials(solved), (unsigned)picks[0]);
+    printf("accepted: class %u, span %d, after %u trials; start %u, pick of the anchor %u\n",
+           span_class(judged), (int)span_minutes(judged), span_trials(solved), span_start(fields), (unsigned)picks[0]);
 
     /* The span on a ward's sheet, and a text from there. */
     uint8_t text[SPAN_TEXT_SIZE];

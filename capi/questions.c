@@ -7,7 +7,7 @@
  *     from decision to ready: least 65
  *     from cleaned to ready: least 5
  *     from ready to decision: bottomless
- *     48 trials, 84 bytes of answers
+ *     48 trials, 90 bytes of answers
  */
 #include <stdio.h>
 

@@ -16,17 +16,22 @@
  * the rules, then that many question rows. span_solve takes both, span_check kind 1 alone. A problem of 0 bytes is an idle day: n
  * and m are 0, and so are both leads of the anchor; its answer is least 0.
  *
+ * A plan counts only if its second list is not blank, and classes and spans are about the plans that count. An answer has kind 4
+ * and a start, which says where reach begins: in classes 1 and 3, 0 is the anchor and 1 all moments with a non-blank lead in the
+ * second list; in class 2 it is 1 + the number of one such moment, and reach begins there and at the anchor.
+ *
  * Refusals: 1 the problem has 1 to 9 bytes; 2 its length field is not its size - 4; 3 its kind is not 1, nor, in
  * span_solve, 3; 4 n is above 31 or m above 63; 5 its size does not fit n and m, and for kind 3 the count; 6 a lead is
- * neither blank nor within 20,160 of 0; 7 the answer buffer is shorter than 206 bytes a question; 8 the answer has fewer
- * than 14 bytes; 9 its length field is not its size - 4; 10 its kind is not 2 or its class not 1 to 3; 11 its n is not the
- * problem's, or its size does not fit its class; 12 its span or a stamp is outside the form of its class; 13 a pick is above
- * its highest value; 14 not certified; 15 the count of questions is 0 or above 8; 17 a rule, not the question, has an
- * all-blank left list (span_convert drops such rules); 18 (hours and minutes) the text is not of
- * this form, a value is beyond 6,000,000 of 0, or the writer's buffer is shorter than 10 bytes; 19 a week list or a minute to
- * be looked up is not of its form (span_first_open). The first that applies is returned, in this order, but 15 is looked at
- * after 4 and before 5, and 17 after 6 and before 7; a record of kind 3 that ends before its count gets 5. A refusal writes
- * nothing.
+ * neither blank nor within 20,160 of 0; 7 the answer buffer is shorter than 208 bytes a question; 8 the answer has fewer
+ * than 16 bytes; 9 its length field is not its size - 4; 10 its kind is not 4, its class not 1 to 3, or its start above 1
+ * (in class 2: 0, or above the problem's n + 1); 11 its n is not the problem's, or its size does not fit its class; 12 its
+ * span or a stamp is outside the form of its class; 13 a pick is above its highest value; 14 not certified; 15 the count of
+ * questions is 0 or above 8; 17 a rule, not the question, has an all-blank left list (span_convert drops such rules); 18
+ * (hours and minutes) the text is not of this form, a value is beyond 6,000,000 of 0, or the writer's buffer is shorter
+ * than 10 bytes; 19 a week list or a minute to be looked up is not of its form (span_first_open); 24 to 26 two plans cannot
+ * be merged (span_merge); 27 (span_census) w is 0 or above 20,160, n is above 31 or m above 63, or there are more than
+ * 65,536 problems. The first that applies is returned, in this order, but 15 is looked at after 4 and before 5, and 17 after
+ * 6 and before 7; a record of kind 3 that ends before its count gets 5. A refusal writes nothing.
  */
 #ifndef SPAN_H
 #define SPAN_H
@@ -38,7 +43,7 @@
 extern "C" {
 #endif
 
-#define SPAN_ANSWER_SIZE 206      /* an answer buffer of this many bytes, a question, is long enough for every answer */
+#define SPAN_ANSWER_SIZE 208      /* an answer buffer of this many bytes, a question, is long enough for every answer */
 #define SPAN_PROBLEM_SIZE 16394   /* the longest problem of one question, kind 1 */
 #define SPAN_QUESTIONS 8          /* the most questions of a problem of kind 3 */
 #define SPAN_QUESTIONS_SIZE 18188 /* the longest problem of several questions, kind 3 */
@@ -54,10 +59,18 @@ extern "C" {
 #define SPAN_WRONG_COUNT 15       /* span_solve only: the count of questions is 0 or above SPAN_QUESTIONS */
 #define SPAN_SILENT_RULE 17       /* span_solve, span_check only: a rule has an all-blank left list */
 #define SPAN_NO_TEXT 18           /* span_hours_read, span_hours_write only */
-#define SPAN_TOO_FEW_PLACES 255   /* span_read, span_marks_differ only */
+#define SPAN_TOO_FEW_PLACES 255   /* span_read, span_marks_differ, span_census only */
 
 #define SPAN_WINDOWS 14           /* the most windows of a week list, with two minutes each */
 #define SPAN_NEVER 0              /* span_first_open only: the week list is empty */
+
+#define SPAN_PLAN_SIZE 128        /* a buffer of this many bytes is long enough for the stamps of every plan */
+#define SPAN_FORWARD 24           /* span_merge only: the shift is above 0 */
+#define SPAN_RULE_BROKEN 25       /* span_merge only: a plan breaks a rule */
+#define SPAN_TOO_EARLY 26         /* span_merge only: a merged stamp would be below its limit */
+
+#define SPAN_COUNTS 4             /* places to lend to span_census */
+#define SPAN_NO_CENSUS 27         /* span_census only */
 
 #define SPAN_DIFFER 256           /* span_marks_differ only */
 
@@ -73,7 +86,7 @@ uint64_t span_solve(const uint8_t *problem, size_t problem_size, uint8_t *answer
 uint64_t span_check(const uint8_t *problem, size_t problem_size, const uint8_t *answer, size_t answer_size);
 
 /* Reads an answer record for a problem of n and m. Lend at least 32 stamps and 64 picks.
- * Result: read: 256 * class + 4294967296 * the span's offset number (0 where blank), and the first places hold
+ * Result: read: 256 * class + 65536 * start + 4294967296 * the span's offset number (0 where blank), and the first places hold
  * class 1: n + 1 stamps as offset numbers, and n + 1 picks; class 2: m + 1 picks; class 3: n + 1 picks; the rest of the
  * first 32 and 64 places is 0. Else the refusal: 4 (n or m above its limit), 8 to 13; or, where no refusal applies,
  * SPAN_TOO_FEW_PLACES for fewer than 32 stamps or 64 picks lent. Nothing is then written. */
@@ -81,10 +94,10 @@ uint64_t span_read(const uint8_t *record, size_t record_size, uint64_t n, uint64
                    uint64_t *stamps, size_t stamps_count, uint64_t *picks, size_t picks_count);
 
 /* Writes an answer record for a problem of n and m at the start of `buffer`; the bytes after it stay.
- * `span` and `stamps` are offset numbers. Class 1: n + 1 stamps and n + 1 picks; class 2: no stamps, m + 1 picks;
- * class 3: no stamps, n + 1 picks.
+ * `span` and `stamps` are offset numbers, `start` is the record's own. Class 1: n + 1 stamps and n + 1 picks; class 2: no stamps,
+ * m + 1 picks; class 3: no stamps, n + 1 picks.
  * Result: written: 256 * the record's size. Else the refusal: 4, 7, 10 to 13; stamps or picks in another count: 11. */
-uint64_t span_write(uint64_t class_number, uint64_t span, const uint64_t *stamps, size_t stamps_count,
+uint64_t span_write(uint64_t class_number, uint64_t span, uint64_t start, const uint64_t *stamps, size_t stamps_count,
                     const uint64_t *picks, size_t picks_count, uint64_t n, uint64_t m,
                     uint8_t *buffer, size_t buffer_size);
 
@@ -95,6 +108,17 @@ uint64_t span_write(uint64_t class_number, uint64_t span, const uint64_t *stamps
  * Result: converted: 256 * the record's size. Else the refusal: 1 to 6 or 15 as span_solve gives them, then 7 where the buffer is
  * shorter than the record to be written. */
 uint64_t span_convert(const uint8_t *stored, size_t stored_size, uint8_t *buffer, size_t buffer_size);
+
+/* Merges two plans of a problem of kind 1, or of an idle day: each moment is the later of the first plan's and the second plan's plus
+ * `shift`, which is 0 or less. A plan is n + 1 stamps of 4 bytes, as in an answer record: -2147483648 is blank, the anchor's is 0, and
+ * the others lie within the limit of stamps. The merged stamps are written the same way at the start of `buffer`; the bytes after them
+ * stay. They keep the rules, and where both plans have a second list that is not blank, so has the merged one, and its span is at most
+ * the greater of the two. Lend SPAN_PLAN_SIZE bytes, whatever n is.
+ * Result: merged: 256 * the bytes written, 4 * (n + 1). Else the refusal: 1 to 6 or 17 as span_check gives them; 7 the buffer is shorter
+ * than 128 bytes; 12 a plan is not n + 1 such stamps; 24 the shift is above 0; 25 a plan breaks a rule; 26 a merged stamp would be
+ * below the limit of stamps. Nothing is then written. */
+uint64_t span_merge(const uint8_t *problem, size_t problem_size, const uint8_t *first, size_t first_size,
+                    const uint8_t *second, size_t second_size, int64_t shift, uint8_t *buffer, size_t buffer_size);
 
 /* Reads a span or stamp in hours and minutes: an optional minus, hours without leading zeros, a colon, two digits of minutes
  * below 60, as in 7:05, -0:05 or 0:00; two hyphens are blank. There is one text for each value within 6,000,000 of 0, and for
@@ -123,6 +147,12 @@ uint64_t span_first_open(const uint64_t *week, size_t week_count, uint64_t minut
 uint64_t span_marks_differ(const uint8_t *before, size_t before_size, const uint8_t *after, size_t after_size,
                            uint64_t count);
 
+/* Counts by class all problems of kind 1 with this n and m whose leads are blank or -w to w: the first four places of `counts` become the
+ * numbers of problems that are least, bottomless, none, and under refusal 17. They add up to (2w + 2) to the power 2 (n + 1)(m + 1).
+ * Result: counted: 0. Else the refusal 27 (SPAN_NO_CENSUS); or, where it does not apply, SPAN_TOO_FEW_PLACES for fewer than SPAN_COUNTS
+ * places. Nothing is then written. The longest census, 65,536 problems, takes a fifth of a second. */
+uint64_t span_census(uint64_t n, uint64_t m, uint64_t w, uint64_t *counts, size_t counts_count);
+
 /* The size of a problem record of kind 1 or 3, with that many rules and questions (kind 1 has one); 0 for another kind. */
 static inline size_t span_record_size(unsigned kind, size_t n, size_t m, size_t count) {
     return kind == 1 ? 10 + 8 * (n + 1) * (m + 1) : kind == 3 ? 12 + 8 * (n + 1) * (m + count) : 0;
@@ -138,7 +168,8 @@ static inline size_t span_record_end(const uint8_t *records, size_t at) {
 static inline unsigned span_refusal(uint64_t result) { return (unsigned)(result & 255); }
 static inline unsigned span_trials(uint64_t result) { return (unsigned)(result >> 8); }           /* span_solve */
 static inline unsigned span_class(uint64_t result) { return (unsigned)((result >> 8) & 255); }    /* span_check, span_read */
-static inline size_t span_size(uint64_t result) { return (size_t)(result >> 8); }                 /* span_write, span_convert, span_hours_write */
+static inline unsigned span_start(uint64_t result) { return (unsigned)((result >> 16) & 65535); } /* span_read */
+static inline size_t span_size(uint64_t result) { return (size_t)(result >> 8); }                 /* span_write, span_convert, span_merge, span_hours_write */
 static inline int span_blank(uint64_t result) { return (result >> 32) == 0; }                     /* span_hours_read, where the low byte is 0 */
 static inline int32_t span_minutes(uint64_t result) {                            /* class 1; span_first_open; span_hours_read, where not blank */
     return (int32_t)((int64_t)(result >> 32) - 2147483648LL);

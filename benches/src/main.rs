@@ -5,6 +5,7 @@
 //!     … -- --worst SECONDS    looks for the problem that takes `solve` longest, by hill climbing
 
 mod agree;
+mod census;
 mod engines;
 mod families;
 mod questions;

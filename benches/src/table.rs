@@ -3,6 +3,7 @@
 use std::hint::black_box;
 
 use crate::agree;
+use crate::census;
 use crate::engines::{library, library_accepts, unproved_accepts, Solve, UNPROVED};
 use crate::families::{Family, FAMILIES};
 use crate::questions;
@@ -61,13 +62,14 @@ pub fn print(effort: Effort) {
     println!(
         "Microseconds: the shortest of many calls, turn about, as a mean over the problems. Buffers were not cleared"
     );
-    println!("before a call: each engine has one answer buffer of 206 bytes for all its calls.");
+    println!("before a call: each engine has one answer buffer of 208 bytes for all its calls.");
     println!("All engines agreed on class, span and trials, and both checkers accepted every answer.");
     println!();
     let sets: Vec<(Family, Set)> = FAMILIES.into_iter().map(|family| (family, set(effort, family, 31, 63))).collect();
     let solve_times = solving(effort, &sets);
     checking(effort, &sets, &solve_times);
     questions::print(effort);
+    census::print(effort);
     growth(effort);
 }
 

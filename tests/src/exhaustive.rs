@@ -1,7 +1,8 @@
 //! Every plan in a box that is large enough to tell.
 //!
 //! With N moments and leads within ±w, stamps go over blank and everything within ±(2(N − 1)w + 2Nw + 1). A best span
-//! below −2Nw can only be had by a plan that can be made smaller without end: bottomless.
+//! below −2Nw can only be had by a plan that can be made smaller without end: bottomless. Only plans that count are looked
+//! at (document 02, 2.4).
 
 use crate::paper::{Minute, Outcome, Problem, Span};
 
@@ -36,14 +37,14 @@ pub fn every_plan(n: usize, reach: i64, mut visit: impl FnMut(&[Minute])) {
     }
 }
 
-/// Class and least span by definition.
+/// Class and least span by definition, over the plans that keep the rules and count.
 pub fn solve(problem: &Problem, w: i64) -> Outcome {
     let n = problem.n();
     let mut best = Span::PlusInfinity;
     every_plan(n, reach(n, w), |plan| {
         if best != Span::MinusInfinity {
             let span = problem.span(plan);
-            if span < best && problem.keeps_the_rules(plan) {
+            if span < best && problem.counts(plan) && problem.keeps_the_rules(plan) {
                 best = span;
             }
         }

@@ -1,6 +1,6 @@
 //! Random problems and tables.
 
-use crate::paper::{counts, highest_pick, largest, Answer, Minute, Problem, Questions, Row, LONGEST_LEAD};
+use crate::paper::{counts, highest_pick, largest, starts, Answer, Minute, Problem, Questions, Row, LONGEST_LEAD};
 use random::Random;
 
 /// What a random problem is made of.
@@ -111,7 +111,17 @@ pub fn any_questions(random: &mut Random, largest_n: usize, largest_m: usize, co
     questions(random, problem, count)
 }
 
-/// A table of a class with picks drawn one by one; for class 1 with a random plan and its own span, if whole.
+/// A start of a class: one that means something, as a rule.
+pub fn start(random: &mut Random, problem: &Problem, class: u64) -> u64 {
+    let second = problem.second_list();
+    if class == 2 && !second.is_empty() && random.chance(9, 10) {
+        return second[random.below(second.len())] as u64 + 1;
+    }
+    let starts = starts(class, problem.n());
+    random.within(*starts.start() as i64, *starts.end() as i64) as u64
+}
+
+/// A table of a class with a start and picks drawn one by one; for class 1 with a random plan and its own span, if whole.
 pub fn table(random: &mut Random, problem: &Problem, class: u64) -> Answer {
     let (n, m) = (problem.n(), problem.m());
     let (stamps, picks) = counts(class, n, m);
@@ -126,7 +136,7 @@ pub fn table(random: &mut Random, problem: &Problem, class: u64) -> Answer {
             _ => Some(random.within(-4, 4)),
         };
     }
-    Answer { class, span, stamps: plan, picks }
+    Answer { class, span, start: start(random, problem, class), stamps: plan, picks }
 }
 
 /// An answer with one field changed, still of the right form as a rule.
@@ -134,7 +144,7 @@ pub fn changed(random: &mut Random, problem: &Problem, answer: &Answer) -> Answe
     let mut answer = answer.clone();
     let highest = highest_pick(answer.class, problem.n(), problem.m()) as usize;
     let places = answer.stamps.len();
-    match (answer.class, random.below(8)) {
+    match (answer.class, random.below(9)) {
         (1, 0) => answer.span = answer.span.map(|span| span + [-1, 1, 2][random.below(3)]),
         (1, 1..=3) if places > 1 => {
             let place = 1 + random.below(places - 1);
@@ -153,6 +163,7 @@ pub fn changed(random: &mut Random, problem: &Problem, answer: &Answer) -> Answe
                 answer.picks = picks;
             }
         }
+        (class, 5) => answer.start = start(random, problem, class),
         _ => {
             let place = random.below(answer.picks.len());
             answer.picks[place] = random.below(highest + 1) as u64;

@@ -4,7 +4,8 @@
 //! right (`paper`, `exhaustive`, `second`) was written from documents 01 and 02 alone, in their words, plainly and slowly.
 //!
 //! `cargo run --release --offline --manifest-path tests/Cargo.toml` runs all of it; a word after `--` runs one suite, and
-//! `--long` has a suite that knows it try more than there is time for in the gate.
+//! `--long` has a suite that knows it try more than there is time for in the gate; `census-table` prints the handbook's table by
+//! definition.
 //! A disagreement prints the bytes it was found on, and the status is then not 0.
 
 mod exhaustive;
@@ -33,14 +34,18 @@ fn main() {
     if programs::acted_as_a_program(&words) {
         return;
     }
+    if words == ["census-table"] {
+        return suites::census::print_table();
+    }
     let long = words.iter().any(|word| word == "--long");
     words.retain(|word| word != "--long");
     println!("tests from outside, on {TRIED}");
-    let all: [Suite; 16] = [
+    let all: [Suite; 19] = [
         ("examples", suites::examples::run),
         ("all-small", suites::small::every_small_problem),
         ("random-small", suites::small::random_problems),
         ("all-tables", suites::tables::run),
+        ("starts", suites::starts::run),
         ("checker", suites::checker::run),
         ("bytes", suites::bytes::run),
         ("fields", suites::fields::run),
@@ -53,6 +58,8 @@ fn main() {
         ("questions", suites::questions::run),
         ("idle", suites::idle::run),
         ("silent", suites::silent::run),
+        ("merging", suites::merging::run),
+        ("census", suites::census::run),
     ];
     let mut failures = 0;
     let mut run = 0;

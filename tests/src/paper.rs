@@ -1,4 +1,5 @@
-//! Document 01, and 2.1 and 2.6 of document 02, in Rust, as plainly as it can be said: problems, plans, spans, records, refusals, trials.
+//! Document 01, and 2.1, 2.2, 2.4, 2.6 and 2.9 of document 02, in Rust, as plainly as it can be said: problems, plans, spans, records, refusals,
+//! trials.
 
 /// A lead, stamp or whole minute; `None` is blank.
 pub type Minute = Option<i64>;
@@ -49,6 +50,8 @@ pub enum Outcome {
 pub struct Answer {
     pub class: u64,
     pub span: Minute,
+    /// Where reach begins (document 02, 2.4).
+    pub start: u64,
     pub stamps: Vec<Minute>,
     pub picks: Vec<u64>,
 }
@@ -57,7 +60,10 @@ pub const BLANK: i64 = -2_147_483_648;
 /// The limits of document 02, 2.2.
 pub const LONGEST_LEAD: i64 = 20_160;
 pub const LONGEST_SPAN: i64 = 1_290_240;
-pub const LONGEST_STAMP: i64 = 3_000_000;
+/// The limits of document 02, 2.4: a stamp, the buffer for an answer, and the kind of an answer.
+pub const LONGEST_STAMP: i64 = 6_000_000;
+pub const BUFFER: usize = 208;
+pub const ANSWER_KIND: u8 = 4;
 
 /// The largest of (lead + moment); blank is below every minute, and so is `None` in Rust's order.
 pub fn largest(leads: &[Minute], plan: &[Minute]) -> Minute {
@@ -89,6 +95,16 @@ impl Problem {
             (Some(_), None) => Span::PlusInfinity,
             (Some(first), Some(second)) => Span::Whole(first - second),
         }
+    }
+
+    /// A plan counts only if its second list is not blank (document 02, 2.4).
+    pub fn counts(&self, plan: &[Minute]) -> bool {
+        largest(&self.question.right, plan).is_some()
+    }
+
+    /// The moments with a non-blank lead in the second list.
+    pub fn second_list(&self) -> Vec<usize> {
+        (0..=self.n()).filter(|&moment| self.question.right[moment].is_some()).collect()
     }
 
     /// The record.
@@ -124,9 +140,11 @@ fn put_rows<'a>(bytes: &mut Vec<u8>, rows: impl Iterator<Item = &'a Row>) {
 
 impl Answer {
     pub fn bytes(&self, n: usize) -> Vec<u8> {
-        let mut bytes = vec![0, 0, 0, 0, 2, 0, n as u8, 0, self.class as u8, 0];
-        for minute in std::iter::once(&self.span).chain(&self.stamps) {
-            bytes.extend((minute.unwrap_or(BLANK) as i32).to_le_bytes());
+        let mut bytes = vec![0, 0, 0, 0, ANSWER_KIND, 0, n as u8, 0, self.class as u8, 0];
+        bytes.extend((self.span.unwrap_or(BLANK) as i32).to_le_bytes());
+        bytes.extend((self.start as u16).to_le_bytes());
+        for stamp in &self.stamps {
+            bytes.extend((stamp.unwrap_or(BLANK) as i32).to_le_bytes());
         }
         for pick in &self.picks {
             bytes.extend((*pick as u16).to_le_bytes());
@@ -261,6 +279,20 @@ pub fn highest_pick(class: u64, n: usize, m: usize) -> u64 {
     }
 }
 
+/// The lowest and the highest start of a class (document 02, 2.4).
+pub fn starts(class: u64, n: usize) -> std::ops::RangeInclusive<u64> {
+    if class == 2 {
+        1..=n as u64 + 1
+    } else {
+        0..=1
+    }
+}
+
+/// Refusal 10 of a class and a start, with the problem's n.
+fn no_class_or_start(class: u64, start: u64, n: usize) -> bool {
+    class == 0 || class > 3 || !starts(class, n).contains(&start)
+}
+
 /// Refusal 12 or 13 for fields whose counts are right.
 fn fields_out_of_form(class: u64, span: Minute, stamps: &[Minute], picks: &[u64], highest: u64) -> Option<u64> {
     let span_good = if class == 1 { span.is_some() && within(span, LONGEST_SPAN) } else { span.is_none() };
@@ -273,24 +305,26 @@ fn fields_out_of_form(class: u64, span: Minute, stamps: &[Minute], picks: &[u64]
 
 /// Refusals 8 to 13; else the answer.
 pub fn read_answer(bytes: &[u8], n: usize, m: usize) -> Result<Answer, u64> {
-    if bytes.len() < 14 {
+    if bytes.len() < 16 {
         return Err(8);
     }
     if number(&bytes[0..4]) != bytes.len() as u64 - 4 {
         return Err(9);
     }
     let class = number(&bytes[8..10]);
-    if number(&bytes[4..6]) != 2 || class == 0 || class > 3 {
+    let start = number(&bytes[14..16]);
+    if number(&bytes[4..6]) != ANSWER_KIND as u64 || no_class_or_start(class, start, n) {
         return Err(10);
     }
     let (stamps, picks) = counts(class, n, m);
-    if number(&bytes[6..8]) != n as u64 || bytes.len() != 14 + 4 * stamps + 2 * picks {
+    if number(&bytes[6..8]) != n as u64 || bytes.len() != 16 + 4 * stamps + 2 * picks {
         return Err(11);
     }
-    let (first, second) = bytes[14..].split_at(4 * stamps);
+    let (first, second) = bytes[16..].split_at(4 * stamps);
     let answer = Answer {
         class,
         span: minute(&bytes[10..14]),
+        start,
         stamps: first.chunks(4).map(minute).collect(),
         picks: second.chunks(2).map(number).collect(),
     };
@@ -310,31 +344,24 @@ pub fn reader(bytes: &[u8], n: u64, m: u64) -> Result<Answer, u64> {
 }
 
 /// The writer: 4, then 7, then 10 to 13; else the record.
-pub fn writer(
-    class: u64,
-    span: Minute,
-    stamps: &[Minute],
-    picks: &[u64],
-    n: u64,
-    m: u64,
-    buffer: usize,
-) -> Result<Vec<u8>, u64> {
+pub fn writer(answer: &Answer, n: u64, m: u64, buffer: usize) -> Result<Vec<u8>, u64> {
     if n > 31 || m > 63 {
         return Err(4);
     }
-    if buffer < 206 {
+    if buffer < BUFFER {
         return Err(7);
     }
-    if class == 0 || class > 3 {
+    let (n, m) = (n as usize, m as usize);
+    if no_class_or_start(answer.class, answer.start, n) {
         return Err(10);
     }
-    let (n, m) = (n as usize, m as usize);
-    if (stamps.len(), picks.len()) != counts(class, n, m) {
+    if (answer.stamps.len(), answer.picks.len()) != counts(answer.class, n, m) {
         return Err(11);
     }
-    match fields_out_of_form(class, span, stamps, picks, highest_pick(class, n, m)) {
+    let highest = highest_pick(answer.class, n, m);
+    match fields_out_of_form(answer.class, answer.span, &answer.stamps, &answer.picks, highest) {
         Some(refusal) => Err(refusal),
-        None => Ok(Answer { class, span, stamps: stamps.to_vec(), picks: picks.to_vec() }.bytes(n)),
+        None => Ok(answer.bytes(n)),
     }
 }
 

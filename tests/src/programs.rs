@@ -1,5 +1,5 @@
-//! The programs, run on standard input. SPAN_PROGRAM, VERDICT_PROGRAM and CONVERT_PROGRAM name them; else they are
-//! target/bin/span, target/bin/verdict and target/bin/convert of the repository. On the stand-in this test program acts as each. Places are
+//! The programs, run on standard input, the census program with words. SPAN_PROGRAM, VERDICT_PROGRAM, CONVERT_PROGRAM and CENSUS_PROGRAM
+//! name them; else they are target/bin/span, target/bin/verdict, target/bin/convert and target/bin/census of the repository. On the stand-in this test program acts as each. Places are
 //! looked up when it runs: a copied tree is tried with its own programs.
 
 use std::io::{Read, Write};
@@ -11,7 +11,7 @@ pub fn repository() -> PathBuf {
     std::env::var_os("CARGO_MANIFEST_DIR").map_or_else(|| ".".into(), |package| PathBuf::from(package).join(".."))
 }
 
-/// The command of a program: its name is `span`, `verdict` or `convert`.
+/// The command of a program: its name is `span`, `verdict`, `convert` or `census`.
 fn command(name: &str, variable: &str) -> Command {
     if let Some(path) = std::env::var_os(variable) {
         return Command::new(path);
@@ -78,10 +78,28 @@ pub fn convert(input: &[u8]) -> Result<Vec<u8>, String> {
     run(command("convert", "CONVERT_PROGRAM"), input)
 }
 
+/// What the census program writes on standard output and on standard error, with these words behind its name.
+pub fn census(words: &[&str]) -> Result<(Vec<u8>, Vec<u8>), String> {
+    let mut program = command("census", "CENSUS_PROGRAM");
+    let ended = program.args(words).stdin(Stdio::null()).output();
+    let output = ended.map_err(|error| format!("{program:?} cannot be run: {error}"))?;
+    if output.status.success() {
+        Ok((output.stdout, output.stderr))
+    } else {
+        Err(format!("{program:?} ended with {}", output.status))
+    }
+}
+
 /// Acts as one of the programs where the words say so and the stand-in is built in; true where it did.
 #[cfg(feature = "stand-in")]
 pub fn acted_as_a_program(words: &[String]) -> bool {
     let name = words.first().map_or("", |word| word.as_str());
+    if name == "act-as-census" {
+        let (output, error) = unproved::programs::census(&words[1..]);
+        print!("{output}");
+        eprint!("{error}");
+        return true;
+    }
     let program: fn(&[u8]) -> Vec<u8> = match name {
         "act-as-span" => unproved::programs::span,
         "act-as-verdict" => unproved::programs::verdict,

@@ -1,4 +1,4 @@
-//! A second checker, from document 01's section "The checker".
+//! A second checker, from document 01's section "The checker" and document 02, 2.4.
 //!
 //! Cycles are judged in two ways, neither of them by potentials: on small problems every simple cycle is walked, on all
 //! of them the heaviest (or lightest) way between any two moments is built up moment by moment (Floyd and Warshall).
@@ -26,10 +26,20 @@ enum Wanted {
     ZeroOrMore,
 }
 
-/// The moments that arcs lead to from the anchor, and the anchor.
-fn reached(moments: usize, leads_to: impl Fn(usize) -> Vec<usize>) -> Vec<bool> {
+/// Where reach begins: in classes 1 and 3 at the anchor, or at all moments with a non-blank lead in the second list; in class 2
+/// at one of these, and at the anchor.
+fn beginning(problem: &Problem, answer: &Answer) -> Vec<usize> {
+    match (answer.class, answer.start) {
+        (2, start) => vec![0, start as usize - 1],
+        (_, 0) => vec![0],
+        _ => problem.second_list(),
+    }
+}
+
+/// The moments that reach begins at, and those that arcs lead to from there.
+fn reached(moments: usize, beginning: Vec<usize>, leads_to: impl Fn(usize) -> Vec<usize>) -> Vec<bool> {
     let mut marks = vec![false; moments];
-    let mut waiting = vec![0];
+    let mut waiting = beginning;
     while let Some(moment) = waiting.pop() {
         if !marks[moment] {
             marks[moment] = true;
@@ -60,18 +70,19 @@ fn led_by_rows(problem: &Problem, picks: &[u64], moment: usize) -> Vec<usize> {
 pub fn plays_no_part(problem: &Problem, answer: &Answer) -> Vec<bool> {
     let moments = problem.n() + 1;
     if answer.class == 2 {
-        let marks = reached(moments, |j| led_by_rows(problem, &answer.picks, j));
+        let marks = reached(moments, beginning(problem, answer), |j| led_by_rows(problem, &answer.picks, j));
         let in_use = |i: usize| (0..moments).any(|j| marks[j] && problem.row(i).left[j].is_some());
         (0..=problem.m()).map(|i| !in_use(i)).collect()
     } else {
-        let marks = reached(moments, |j| led_by_pick(problem, &answer.picks, j));
+        let marks = reached(moments, beginning(problem, answer), |j| led_by_pick(problem, &answer.picks, j));
         marks.iter().map(|mark| !mark).collect()
     }
 }
 
 /// The arcs of classes 1 and 3 from reached moments; `None` where a reached moment has no pick that counts.
-fn arcs_by_picks(problem: &Problem, picks: &[u64]) -> Option<Vec<Arc>> {
-    let marks = reached(problem.n() + 1, |j| led_by_pick(problem, picks, j));
+fn arcs_by_picks(problem: &Problem, answer: &Answer) -> Option<Vec<Arc>> {
+    let picks = &answer.picks;
+    let marks = reached(problem.n() + 1, beginning(problem, answer), |j| led_by_pick(problem, picks, j));
     let mut arcs = Vec::new();
     for from in (0..=problem.n()).filter(|&j| marks[j]) {
         if picks[from] == 0 {
@@ -90,8 +101,9 @@ fn arcs_by_picks(problem: &Problem, picks: &[u64]) -> Option<Vec<Arc>> {
 }
 
 /// The arcs of class 2 from reached moments; `None` where a row in use picks no moment that counts.
-fn arcs_by_rows(problem: &Problem, picks: &[u64]) -> Option<Vec<Arc>> {
-    let marks = reached(problem.n() + 1, |j| led_by_rows(problem, picks, j));
+fn arcs_by_rows(problem: &Problem, answer: &Answer) -> Option<Vec<Arc>> {
+    let picks = &answer.picks;
+    let marks = reached(problem.n() + 1, beginning(problem, answer), |j| led_by_rows(problem, picks, j));
     let mut arcs = Vec::new();
     for number in 0..=problem.m() {
         let row = problem.row(number);
@@ -198,18 +210,22 @@ pub fn accepted(problem: &Problem, answer: &Answer) -> bool {
             if !problem.keeps_the_rules(&answer.stamps) || problem.span(&answer.stamps) != Span::Whole(s) {
                 return false;
             }
-            let Some(mut arcs) = arcs_by_picks(problem, &answer.picks) else { return false };
+            let Some(mut arcs) = arcs_by_picks(problem, answer) else { return false };
             for arc in arcs.iter_mut().filter(|arc| arc.by_question) {
                 arc.weight += s - 1;
             }
             cycles(&arcs, moments, Wanted::BelowZero)
         }
         2 => {
-            let Some(arcs) = arcs_by_rows(problem, &answer.picks) else { return false };
+            // The start names a moment with a non-blank lead in the second list.
+            if problem.question.right[answer.start as usize - 1].is_none() {
+                return false;
+            }
+            let Some(arcs) = arcs_by_rows(problem, answer) else { return false };
             !question_in_a_cycle(&arcs, moments) && cycles(&arcs, moments, Wanted::ZeroOrMore)
         }
         _ => {
-            let Some(arcs) = arcs_by_picks(problem, &answer.picks) else { return false };
+            let Some(arcs) = arcs_by_picks(problem, answer) else { return false };
             !question_in_a_cycle(&arcs, moments) && cycles(&arcs, moments, Wanted::BelowZero)
         }
     }

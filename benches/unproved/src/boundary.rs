@@ -1,10 +1,12 @@
 //! The functions of `capi/span.h` over slices, answered by the unproved engine and checker. The package `stand-in` of
 //! tests/ is over them.
 
+use crate::census;
 use crate::checker;
 use crate::converter;
 use crate::engine::solve_all;
 use crate::hours;
+use crate::merger;
 use crate::record::{self, Answer, BLANK, BUFFER};
 use crate::{ROWS, VARIABLES};
 
@@ -31,6 +33,26 @@ pub fn convert(stored: &[u8], buffer: &mut [u8]) -> u64 {
     }
 }
 
+/// The refusal, or 256 × the bytes of the merged stamps.
+pub fn merge(problem: &[u8], first: &[u8], second: &[u8], shift: i64, buffer: &mut [u8]) -> u64 {
+    match merger::merge(problem, first, second, shift, buffer) {
+        Ok(size) => 256 * size as u64,
+        Err(number) => number as u64,
+    }
+}
+
+/// The refusal, 255 where fewer than four places are lent, or 0 with the counts in the first four.
+pub fn census(n: u64, m: u64, w: u64, counts: &mut [u64]) -> u64 {
+    match census::census(n, m, w) {
+        Err(number) => number as u64,
+        Ok(_) if counts.len() < 4 => 255,
+        Ok(found) => {
+            counts[..4].copy_from_slice(&found);
+            0
+        }
+    }
+}
+
 /// The refusal, or 256 × class + 2³² × the span's offset number.
 pub fn check(problem: &[u8], answer: &[u8]) -> u64 {
     match checker::check(problem, answer) {
@@ -39,7 +61,7 @@ pub fn check(problem: &[u8], answer: &[u8]) -> u64 {
     }
 }
 
-/// The refusal, or 256 × class + 2³² × the span's offset number, with stamps and picks in the first places.
+/// The refusal, or 256 × class + 2¹⁶ × start + 2³² × the span's offset number, with stamps and picks in the first places.
 pub fn read(bytes: &[u8], n: u64, m: u64, stamps: &mut [u64], picks: &mut [u64]) -> u64 {
     if n >= VARIABLES as u64 || m >= ROWS as u64 {
         return 4;
@@ -58,28 +80,39 @@ pub fn read(bytes: &[u8], n: u64, m: u64, stamps: &mut [u64], picks: &mut [u64])
             for place in 0..second {
                 picks[place] = answer.picks[place] as u64;
             }
-            class_and_span(answer.class, answer.span)
+            class_and_span(answer.class, answer.span) + ((answer.start as u64) << 16)
         }
     }
 }
 
 /// The refusal, or 256 × the record's size.
-pub fn write(class: u64, span: u64, stamps: &[u64], picks: &[u64], n: u64, m: u64, buffer: &mut [u8]) -> u64 {
+#[allow(clippy::too_many_arguments)]
+pub fn write(
+    class: u64,
+    span: u64,
+    start: u64,
+    stamps: &[u64],
+    picks: &[u64],
+    n: u64,
+    m: u64,
+    buffer: &mut [u8],
+) -> u64 {
     if n >= VARIABLES as u64 || m >= ROWS as u64 {
         return 4;
     }
     if buffer.len() < BUFFER {
         return 7;
     }
-    if !(1..=3).contains(&class) {
+    let (variables, rows) = (n as usize + 1, m as usize + 1);
+    if !(1..=3).contains(&class) || !record::start_in_form(class as u16, start, variables) {
         return 10;
     }
-    let (class, variables, rows) = (class as u16, n as usize + 1, m as usize + 1);
+    let class = class as u16;
     if (stamps.len(), picks.len()) != record::counts(class, variables, rows) {
         return 11;
     }
     let minute = |offset: u64| i64::try_from(offset).map_or(i64::MAX, |number| number - OFFSET);
-    let mut answer = Answer { class, span: BLANK, stamps: [BLANK; VARIABLES], picks: [0; ROWS] };
+    let mut answer = Answer { class, span: BLANK, start: start as u16, stamps: [BLANK; VARIABLES], picks: [0; ROWS] };
     if !record::span_in_form(class, minute(span)) {
         return 12;
     }

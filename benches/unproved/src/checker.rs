@@ -31,9 +31,9 @@ pub fn check(problem: &[u8], answer: &[u8]) -> Result<Accepted, u8> {
     let problem = &table;
     let answer = record::answer(answer, problem.variables, problem.rows)?;
     let accepted = match answer.class {
-        1 => keeps(problem, &answer) && blocks(problem, &answer.picks, answer.span as i64 - 1),
-        2 => saves(problem, &answer.picks),
-        _ => blocks(problem, &answer.picks, TOP as i64),
+        1 => keeps(problem, &answer) && blocks(problem, &answer, answer.span as i64 - 1),
+        2 => saves(problem, &answer),
+        _ => blocks(problem, &answer, TOP as i64),
     };
     if accepted {
         Ok(Accepted { class: answer.class, span: answer.span })
@@ -86,11 +86,19 @@ fn keeps(problem: &Problem, answer: &Answer) -> bool {
     true
 }
 
-/// Every reached variable has a pick that counts, and every reached closed walk weighs below zero at t.
-fn blocks(problem: &Problem, picks: &[u16; ROWS], t: i64) -> bool {
+/// Every reached variable has a pick that counts, and every reached closed walk weighs below zero at t. Reach begins at the anchor
+/// (start 0) or at all variables of the second list (start 1).
+fn blocks(problem: &Problem, answer: &Answer, t: i64) -> bool {
+    let picks = &answer.picks;
     let mut order = [0usize; VARIABLES];
-    let mut count = 1;
-    let mut reached = 1u32;
+    let mut count = 0;
+    let mut reached = if answer.start == 0 { 1 } else { problem.second() };
+    let mut begin = reached;
+    while begin != 0 {
+        order[count] = begin.trailing_zeros() as usize;
+        count += 1;
+        begin &= begin - 1;
+    }
     let mut at = 0;
     while at < count {
         let variable = order[at];
@@ -158,11 +166,16 @@ fn largest_walk(weights: &[i32; VARIABLES], longest: &[i32; VARIABLES]) -> i32 {
     lanes.into_iter().max().unwrap_or(0)
 }
 
-/// Every row in use picks a variable that counts, no reached closed walk uses the objective, and each weighs zero or
-/// more: at −TOP − 1 this is one test.
-fn saves(problem: &Problem, picks: &[u16; ROWS]) -> bool {
+/// The start names a variable of the second list; every row in use from there and from the anchor picks a variable that counts,
+/// no reached closed walk uses the objective, and each weighs zero or more: at −TOP − 1 this is one test.
+fn saves(problem: &Problem, answer: &Answer) -> bool {
+    let (picks, start) = (&answer.picks, answer.start as usize - 1);
+    if problem.second() >> start & 1 == 0 {
+        return false;
+    }
     let mut reached = [false; VARIABLES];
     reached[0] = true;
+    reached[start] = true;
     let mut used = [false; ROWS];
     let mut order = [0usize; ROWS];
     let mut count = 0;

@@ -17,6 +17,7 @@ pub struct Dense {
     right: [Row; ROWS],
     /// The objective's right coefficients as the record has them.
     objective: Row,
+    second: u32,
 }
 
 #[inline(always)]
@@ -75,7 +76,7 @@ impl<'a> Rows<'a> for Dense {
             }
         }
         let objective = right[problem.rows - 1];
-        Dense { variables: problem.variables, rows: problem.rows, left, right, objective }
+        Dense { variables: problem.variables, rows: problem.rows, left, right, objective, second: problem.second() }
     }
 
     fn variables(&self) -> usize {
@@ -150,5 +151,9 @@ impl<'a> Rows<'a> for Dense {
 
     fn right(&self, row: usize, variable: usize) -> f32 {
         self.right[row][variable % VARIABLES]
+    }
+
+    fn second(&self) -> u32 {
+        self.second
     }
 }

@@ -7,7 +7,7 @@
 use crate::dense::Dense;
 use crate::lists::Lists;
 use crate::number::Number;
-use crate::policy::{possible, Picks, Rows, State};
+use crate::policy::{trial, Blocked, Picks, Rows, State};
 use crate::record::{self, Answer, Problem, BLANK, BUFFER};
 use crate::saver::{self, Targets};
 use crate::{NO_PICK, ROWS, TOP, VARIABLES};
@@ -30,9 +30,9 @@ pub struct Answered {
 
 /// What a search ends with.
 enum Found {
-    Least { span: i32, stamps: [i32; VARIABLES], picks: Picks, trials: u32 },
+    Least { span: i32, stamps: [i32; VARIABLES], from: Blocked, picks: Picks, trials: u32 },
     Bottomless { targets: Targets },
-    None { picks: Picks },
+    None { from: Blocked, picks: Picks },
 }
 
 /// Answers a problem of one question with rows kept in one way and one search; refusals 1 to 7.
@@ -128,19 +128,18 @@ fn moved<V: Number>(values: &[V; VARIABLES]) -> [i32; VARIABLES] {
 fn by_halving<'a, R: Rows<'a>>(table: &mut R) -> Found {
     let mut state = State::new();
     table.raise(TOP);
-    if !possible(table, &mut state) {
-        return Found::None { picks: state.picks };
+    if let Some(from) = trial(table, &mut state) {
+        return Found::None { from, picks: state.picks };
     }
     let objective = table.rows() - 1;
     let mut point = state.clone();
-    let mut picks;
     table.raise(-TOP - 1);
-    if possible(table, &mut state) {
+    let Some(mut from) = trial(table, &mut state) else {
         let mut targets = [NO_PICK; ROWS];
         table.attain(&state.values, &mut targets);
         return Found::Bottomless { targets };
-    }
-    picks = state.picks;
+    };
+    let mut picks = state.picks;
     let (mut low, mut high, mut trials) = (-TOP - 1, TOP, 2);
     let mut known = own_span(table, objective, &point.values, -TOP - 1);
     while high - low > 1 {
@@ -152,16 +151,19 @@ fn by_halving<'a, R: Rows<'a>>(table: &mut R) -> Found {
         }
         table.raise(middle);
         state = point.clone();
-        if possible(table, &mut state) {
-            high = middle;
-            point = state.clone();
-            known = own_span(table, objective, &point.values, middle);
-        } else {
-            low = middle;
-            picks = state.picks;
+        match trial(table, &mut state) {
+            None => {
+                high = middle;
+                point = state.clone();
+                known = own_span(table, objective, &point.values, middle);
+            }
+            Some(blocked) => {
+                low = middle;
+                (from, picks) = (blocked, state.picks);
+            }
         }
     }
-    Found::Least { span: high, stamps: moved(&point.values), picks, trials }
+    Found::Least { span: high, stamps: moved(&point.values), from, picks, trials }
 }
 
 /// The objective value of a point, the objective being raised by t; far below where it is minus infinity.
@@ -183,8 +185,8 @@ fn own_span<'a, R: Rows<'a>>(table: &R, objective: usize, values: &[R::Value; VA
 fn by_newton<'a, R: Rows<'a>>(table: &mut R) -> Found {
     let mut state = State::new();
     table.raise(TOP);
-    if !possible(table, &mut state) {
-        return Found::None { picks: state.picks };
+    if let Some(from) = trial(table, &mut state) {
+        return Found::None { from, picks: state.picks };
     }
     let mut targets = [NO_PICK; ROWS];
     loop {
@@ -194,10 +196,10 @@ fn by_newton<'a, R: Rows<'a>>(table: &mut R) -> Found {
             return Found::Bottomless { targets };
         };
         table.raise(span - 1);
-        if !possible(table, &mut state) {
+        if let Some(from) = trial(table, &mut state) {
             table.raise(span);
             let stamps = saver::point(table, &targets);
-            return Found::Least { span, stamps, picks: state.picks, trials: trials(span) };
+            return Found::Least { span, stamps, from, picks: state.picks, trials: trials(span) };
         }
     }
 }
@@ -217,11 +219,11 @@ fn trials(span: i32) -> u32 {
     trials
 }
 
-/// The picks of reached variables as a record has them, and 0 for the others.
-fn played(problem: &Problem, picks: &Picks) -> [u16; ROWS] {
+/// The picks of variables reached from where the strategy blocks, as a record has them, and 0 for the others.
+fn played(problem: &Problem, from: Blocked, picks: &Picks) -> [u16; ROWS] {
     let mut out = [0; ROWS];
-    let mut waiting = 1u32;
-    let mut reached = 1u32;
+    let mut reached = if from == Blocked::Anchor { 1 } else { problem.second() };
+    let mut waiting = reached;
     while waiting != 0 {
         let variable = waiting.trailing_zeros() as usize;
         waiting &= waiting - 1;
@@ -240,24 +242,29 @@ fn played(problem: &Problem, picks: &Picks) -> [u16; ROWS] {
 
 fn write(problem: &Problem, found: Found, buffer: &mut [u8]) -> Answered {
     let (variables, rows) = (problem.variables, problem.rows);
-    let mut answer = Answer { class: 3, span: BLANK, stamps: [BLANK; VARIABLES], picks: [0; ROWS] };
+    let mut answer = Answer { class: 3, span: BLANK, start: 0, stamps: [BLANK; VARIABLES], picks: [0; ROWS] };
     let mut made = 1;
     match found {
-        Found::None { picks } => answer.picks = played(problem, &picks),
+        Found::None { from, picks } => {
+            answer.start = from as u16;
+            answer.picks = played(problem, from, &picks);
+        }
         Found::Bottomless { targets } => {
             made = 2;
             answer.class = 2;
+            answer.start = targets[rows - 1] as u16 + 1;
             let used = saver::in_use(&Lists::of(problem), &targets);
             for row in 0..rows {
                 answer.picks[row] = if used[row] == NO_PICK { 0 } else { used[row] as u16 + 1 };
             }
         }
-        Found::Least { span, stamps, picks, trials } => {
+        Found::Least { span, stamps, from, picks, trials } => {
             made = trials;
             answer.class = 1;
             answer.span = span;
+            answer.start = from as u16;
             answer.stamps = stamps;
-            answer.picks = played(problem, &picks);
+            answer.picks = played(problem, from, &picks);
         }
     }
     let size = record::put(&answer, variables, rows, buffer);

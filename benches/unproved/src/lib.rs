@@ -11,12 +11,14 @@
 #![allow(clippy::needless_range_loop)]
 
 pub mod boundary;
+pub mod census;
 pub mod checker;
 pub mod converter;
 mod dense;
 mod engine;
 mod hours;
 mod lists;
+mod merger;
 mod number;
 mod policy;
 pub mod programs;

@@ -21,6 +21,7 @@ pub struct Lists<'a> {
     /// The objective's right coefficients as the record has them.
     objective: Vec<[i32; 2]>,
     problem: &'a Problem,
+    second: u32,
     /// What the objective is raised by.
     raised: i32,
 }
@@ -74,7 +75,17 @@ impl<'a> Rows<'a> for Lists<'a> {
         let last = 2 * problem.rows - 1;
         let pairs = &entries[starts[last] as usize..];
         let objective = pairs.iter().map(|pair: &[Entry; 2]| [pair[0].coefficient, pair[1].coefficient]).collect();
-        Lists { variables: problem.variables, rows: problem.rows, entries, starts, objective, problem, raised: 0 }
+        let second = problem.second();
+        Lists {
+            variables: problem.variables,
+            rows: problem.rows,
+            entries,
+            starts,
+            objective,
+            problem,
+            second,
+            raised: 0,
+        }
     }
 
     fn variables(&self) -> usize {
@@ -163,5 +174,9 @@ impl<'a> Rows<'a> for Lists<'a> {
     fn right(&self, row: usize, variable: usize) -> i32 {
         let raised = if row + 1 == self.rows { self.raised } else { 0 };
         self.problem.right[row * VARIABLES + variable % VARIABLES] + raised
+    }
+
+    fn second(&self) -> u32 {
+        self.second
     }
 }

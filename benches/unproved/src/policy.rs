@@ -1,8 +1,9 @@
 //! Deciding whether a trial is possible, by policy iteration over the strategies of variables.
 //!
 //! Kept throughout: every closed walk of the strategy is negative. A variable's value is the longest walk from it to a
-//! variable without a pick. Where no row gives a variable a lower value, the values are a point; where variable 0 has
-//! none left, the strategy blocks. Strategies stay good at lower trials, so a trial starts from the last possible one's.
+//! variable without a pick. Where no row gives a variable a lower value, the values are a point; where variable 0, or all
+//! variables of the objective's second list, have none left, the strategy blocks from there (document 02, 2.4). Strategies stay
+//! good at lower trials, so a trial starts from the last possible one's.
 
 use crate::number::Number;
 use crate::record::Problem;
@@ -33,6 +34,17 @@ pub trait Rows<'a> {
     /// The largest of left coefficient − distance over a row, for distances where TOP is 'not reached'.
     fn farthest(&self, row: usize, distances: &Values<Self::Value>) -> Self::Value;
     fn right(&self, row: usize, variable: usize) -> Self::Value;
+    /// The variables of the objective's second list, as bits.
+    fn second(&self) -> u32;
+}
+
+/// Where a strategy blocks from, as an answer's start has it.
+#[derive(Clone, Copy, Debug, PartialEq, Eq)]
+pub enum Blocked {
+    /// From variable 0.
+    Anchor = 0,
+    /// From all variables of the second list.
+    Second = 1,
 }
 
 /// A strategy and its values.
@@ -49,19 +61,38 @@ impl<V: Number> State<V> {
     }
 }
 
-/// Decides the trial to which the objective was raised, from a state that is good there.
-pub fn possible<'a, R: Rows<'a>>(table: &R, state: &mut State<R::Value>) -> bool {
+/// Where the strategy blocks from by now, if it does.
+#[inline(always)]
+fn blocked<V: Number>(values: &Values<V>, second: u32) -> Option<Blocked> {
+    if values[0].is_bot() {
+        return Some(Blocked::Anchor);
+    }
+    let mut bits = second;
+    while bits != 0 {
+        if !values[bits.trailing_zeros() as usize % VARIABLES].is_bot() {
+            return None;
+        }
+        bits &= bits - 1;
+    }
+    Some(Blocked::Second)
+}
+
+/// Decides the trial to which the objective was raised, from a state that is good there: possible, or blocked.
+pub fn trial<'a, R: Rows<'a>>(table: &R, state: &mut State<R::Value>) -> Option<Blocked> {
     let objective = (table.rows() - 1) as u8;
     if state.picks[..table.variables()].contains(&objective) {
         evaluate(table, state);
     }
-    while !state.values[0].is_bot() {
+    let second = table.second();
+    loop {
+        if let Some(from) = blocked(&state.values, second) {
+            return Some(from);
+        }
         if !table.improve(&state.values, &mut state.picks) {
-            return true;
+            return None;
         }
         evaluate(table, state);
     }
-    false
 }
 
 /// The values of a strategy: longest walks, in rounds from below, forwards and backwards in turn. Variables that pick one

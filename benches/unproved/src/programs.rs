@@ -1,5 +1,6 @@
-//! What the span, the verdict and the convert program write for an input, without proofs.
+//! What the span, the verdict and the convert program write for an input, and the census program for words, without proofs.
 
+use crate::census;
 use crate::checker;
 use crate::converter;
 use crate::engine::solve_all;
@@ -39,4 +40,20 @@ pub fn verdict(input: &[u8]) -> Vec<u8> {
         Err(number) => format!("refused {number}"),
     };
     (line + "\n").into_bytes()
+}
+
+/// The line of a census, or the handbook's table without words; then what goes to standard error.
+pub fn census(words: &[String]) -> (String, &'static str) {
+    let numbers: Vec<u64> = words.iter().filter_map(|word| number(word)).collect();
+    match (words.len(), &numbers[..]) {
+        (0, _) => (census::table(), ""),
+        (3, [n, m, w]) => (census::line(*n, *m, *w), ""),
+        _ => (String::new(), "census: give n, m and w, or no words\n"),
+    }
+}
+
+/// A word of digits; a number beyond 64 bits is as large as any.
+fn number(word: &str) -> Option<u64> {
+    let digits = !word.is_empty() && word.bytes().all(|byte| byte.is_ascii_digit());
+    digits.then(|| word.parse().unwrap_or(u64::MAX))
 }

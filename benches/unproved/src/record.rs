@@ -5,9 +5,12 @@ use crate::{LARGEST, QUESTIONS, ROWS, TOP, VARIABLES};
 /// Blank as it stands in a record.
 pub const BLANK: i32 = i32::MIN;
 /// The size that an answer buffer must have, for each question.
-pub const BUFFER: usize = 206;
+pub const BUFFER: usize = 208;
 /// The largest size of a stamp.
-const STAMP: i32 = 3_000_000;
+pub const STAMP: i32 = 6_000_000;
+/// The kind of an answer, and the size of its header.
+const KIND: u16 = 4;
+const HEADER: usize = 16;
 
 /// A problem's coefficients: row i's left ones from `i * VARIABLES` on, so that every row starts at a fixed place.
 /// Places beyond the problem's own hold blank.
@@ -78,6 +81,13 @@ fn copy(bytes: &[u8], coefficients: &mut [i32]) -> bool {
 }
 
 impl Problem {
+    /// The variables with a finite coefficient in the objective's second list, as bits.
+    pub fn second(&self) -> u32 {
+        let list = &self.right[(self.rows - 1) * VARIABLES..][..VARIABLES];
+        let finite = list.iter().enumerate().map(|(place, &coefficient)| ((coefficient != BLANK) as u32) << place);
+        finite.fold(0, |bits, bit| bits | bit)
+    }
+
     /// Room for a problem, all of it blank.
     pub fn new() -> Problem {
         Problem { variables: 0, rows: 0, left: [BLANK; ROWS * VARIABLES], right: [BLANK; ROWS * VARIABLES] }
@@ -151,6 +161,7 @@ fn fill(bytes: &[u8], layout: Layout, problem: &mut Problem) -> Result<Layout, u
 pub struct Answer {
     pub class: u16,
     pub span: i32,
+    pub start: u16,
     pub stamps: [i32; VARIABLES],
     pub picks: [u16; ROWS],
 }
@@ -170,6 +181,15 @@ pub fn highest(class: u16, variables: usize, rows: usize) -> usize {
         variables
     } else {
         rows
+    }
+}
+
+/// Whether a start is one of its class.
+pub fn start_in_form(class: u16, start: u64, variables: usize) -> bool {
+    if class == 2 {
+        (1..=variables as u64).contains(&start)
+    } else {
+        start <= 1
     }
 }
 
@@ -193,26 +213,28 @@ pub fn stamp_in_form(place: usize, stamp: i64) -> bool {
 
 /// Reads an answer; refusals 8 to 13.
 pub fn answer(bytes: &[u8], variables: usize, rows: usize) -> Result<Answer, u8> {
-    if bytes.len() < 14 {
+    if bytes.len() < HEADER {
         return Err(8);
     }
     if four(bytes, 0) as u32 as usize != bytes.len() - 4 {
         return Err(9);
     }
     let class = two(bytes, 8) as u16;
-    if two(bytes, 4) != 2 || !(1..=3).contains(&class) {
+    let start = two(bytes, 14) as u16;
+    let known = two(bytes, 4) == KIND as usize && (1..=3).contains(&class);
+    if !known || !start_in_form(class, start as u64, variables) {
         return Err(10);
     }
     let (stamps, picks) = counts(class, variables, rows);
-    if two(bytes, 6) + 1 != variables || bytes.len() != 14 + 4 * stamps + 2 * picks {
+    if two(bytes, 6) + 1 != variables || bytes.len() != HEADER + 4 * stamps + 2 * picks {
         return Err(11);
     }
-    let mut answer = Answer { class, span: four(bytes, 10), stamps: [BLANK; VARIABLES], picks: [0; ROWS] };
+    let mut answer = Answer { class, span: four(bytes, 10), start, stamps: [BLANK; VARIABLES], picks: [0; ROWS] };
     if !span_in_form(class, answer.span as i64) {
         return Err(12);
     }
     for place in 0..stamps {
-        let stamp = four(bytes, 14 + 4 * place);
+        let stamp = four(bytes, HEADER + 4 * place);
         if !stamp_in_form(place, stamp as i64) {
             return Err(12);
         }
@@ -220,7 +242,7 @@ pub fn answer(bytes: &[u8], variables: usize, rows: usize) -> Result<Answer, u8>
     }
     let limit = highest(class, variables, rows);
     for place in 0..picks {
-        let pick = two(bytes, 14 + 4 * stamps + 2 * place);
+        let pick = two(bytes, HEADER + 4 * stamps + 2 * place);
         if pick > limit {
             return Err(13);
         }
@@ -232,14 +254,15 @@ pub fn answer(bytes: &[u8], variables: usize, rows: usize) -> Result<Answer, u8>
 /// Writes an answer whose form is right at the start of a buffer that is long enough; its size.
 pub fn put(answer: &Answer, variables: usize, rows: usize, buffer: &mut [u8]) -> usize {
     let (stamps, picks) = counts(answer.class, variables, rows);
-    let size = 14 + 4 * stamps + 2 * picks;
+    let size = HEADER + 4 * stamps + 2 * picks;
     let record = &mut buffer[..size];
     record[..4].copy_from_slice(&(size as u32 - 4).to_le_bytes());
-    record[4..6].copy_from_slice(&2u16.to_le_bytes());
+    record[4..6].copy_from_slice(&KIND.to_le_bytes());
     record[6..8].copy_from_slice(&(variables as u16 - 1).to_le_bytes());
     record[8..10].copy_from_slice(&answer.class.to_le_bytes());
     record[10..14].copy_from_slice(&answer.span.to_le_bytes());
-    let (first, second) = record[14..].split_at_mut(4 * stamps);
+    record[14..16].copy_from_slice(&answer.start.to_le_bytes());
+    let (first, second) = record[HEADER..].split_at_mut(4 * stamps);
     for (bytes, stamp) in first.chunks_exact_mut(4).zip(&answer.stamps) {
         bytes.copy_from_slice(&stamp.to_le_bytes());
     }

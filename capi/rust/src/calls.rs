@@ -4,7 +4,7 @@ use crate::raw;
 use crate::words::{Answer, AnswerAt, Certified, Class, Outcome, Refusal, Solved, SolvedAll};
 
 /// An answer buffer of this many bytes is long enough for every answer; for several questions, of this many for each.
-pub const ANSWER_SIZE: usize = 206;
+pub const ANSWER_SIZE: usize = 208;
 /// The size of the longest problem of one question.
 pub const PROBLEM_SIZE: usize = 16_394;
 /// The most questions that a problem of kind 3 puts to its rules.
@@ -95,22 +95,45 @@ pub fn check(problem: &[u8], answer: &[u8]) -> Result<Certified, Refusal> {
 /// Reads an answer record for a problem of `n` and `m`.
 ///
 /// Refusals: 4, and 8 to 13.
+///
+/// ```
+/// // Example J of document 01: moment 2 - 10 <= moment 1, and the span from moment 2 to moment 1. Its least span is -10, since only
+/// // plans that have moment 2 count (document 02, 2.4).
+/// const BLANK: i32 = i32::MIN;
+/// let mut problem = vec![54, 0, 0, 0, 1, 0, 2, 0, 1, 0];
+/// for lead in [BLANK, BLANK, -10, BLANK, 0, BLANK, BLANK, 0, BLANK, BLANK, BLANK, 0] {
+///     problem.extend(lead.to_le_bytes());
+/// }
+/// let mut buffer = [0; span::ANSWER_SIZE];
+/// let solved = span::solve(&problem, &mut buffer).unwrap();
+/// assert_eq!(solved.to_string(), "least -10");
+///
+/// // The anchor is in no row, so the table blocks from the second list: start 1.
+/// let answer = span::read(&buffer[..solved.size], 2, 1).unwrap();
+/// assert_eq!(answer.start(), 1);
+/// assert_eq!(answer.picks(), [0, 2, 1]);
+/// let mut again = [0; span::ANSWER_SIZE];
+/// assert_eq!(span::write(&answer, 2, 1, &mut again), Ok(solved.size));
+/// assert_eq!(again, buffer);
+/// ```
 pub fn read(record: &[u8], n: usize, m: usize) -> Result<Answer, Refusal> {
     let mut stamps = [0; raw::STAMPS];
     let mut picks = [0; raw::PICKS];
     let result = raw::read(record, n as u64, m as u64, &mut stamps, &mut picks);
     refusal(result)?;
     let class = Class::of((result >> 8) & 255);
+    let start = (result >> 16) as u16;
     let rows = if class == Class::Bottomless { m + 1 } else { n + 1 };
     let picks = picks[..rows].iter().map(|&pick| pick as u16).collect();
     Ok(match class {
         Class::Least => Answer::Least {
             span: minute(result >> 32).unwrap_or(0),
+            start,
             stamps: stamps[..n + 1].iter().map(|&stamp| minute(stamp)).collect(),
             picks,
         },
-        Class::Bottomless => Answer::Bottomless { picks },
-        Class::None => Answer::None { picks },
+        Class::Bottomless => Answer::Bottomless { start, picks },
+        Class::None => Answer::None { start, picks },
     })
 }
 
@@ -125,7 +148,8 @@ pub fn write(answer: &Answer, n: usize, m: usize, buffer: &mut [u8]) -> Result<u
     };
     let stamps: Vec<u64> = answer.stamps().iter().map(|&stamp| offset(stamp)).collect();
     let picks: Vec<u64> = answer.picks().iter().map(|&pick| pick as u64).collect();
-    let result = raw::write(answer.class().number(), span, &stamps, &picks, n as u64, m as u64, buffer);
+    let (class, start) = (answer.class().number(), answer.start() as u64);
+    let result = raw::write(class, span, start, &stamps, &picks, n as u64, m as u64, buffer);
     refusal(result)?;
     Ok((result >> 8) as usize)
 }
@@ -138,7 +162,8 @@ fn asks_several(problem: &[u8]) -> bool {
     })
 }
 
-/// The outcome and the size of a record that was just written here, so that its header is there: length, kind, n, class, span.
+/// The outcome and the size of a record that was just written here, so that its header is there: length, kind, n, class,
+/// span, start.
 fn written(record: &[u8]) -> (Outcome, usize) {
     let size = u32::from_le_bytes([record[0], record[1], record[2], record[3]]) as usize + 4;
     let span = i32::from_le_bytes([record[10], record[11], record[12], record[13]]);

@@ -7,6 +7,8 @@
 pub const STAMPS: usize = 32;
 /// Places that the reader is lent for picks.
 pub const PICKS: usize = 64;
+/// Places that a census is lent for its counts.
+pub const COUNTS: usize = 4;
 
 mod archive {
     extern "C" {
@@ -25,6 +27,7 @@ mod archive {
         pub fn span_write(
             class: u64,
             span: u64,
+            start: u64,
             stamps: *const u64,
             stamps_count: usize,
             picks: *const u64,
@@ -35,6 +38,17 @@ mod archive {
             buffer_size: usize,
         ) -> u64;
         pub fn span_convert(stored: *const u8, stored_size: usize, buffer: *mut u8, buffer_size: usize) -> u64;
+        pub fn span_merge(
+            problem: *const u8,
+            problem_size: usize,
+            first: *const u8,
+            first_size: usize,
+            second: *const u8,
+            second_size: usize,
+            shift: i64,
+            buffer: *mut u8,
+            buffer_size: usize,
+        ) -> u64;
         pub fn span_first_open(week: *const u64, week_count: usize, minute: u64) -> u64;
         pub fn span_hours_read(text: *const u8, text_size: usize) -> u64;
         pub fn span_hours_write(value: u64, buffer: *mut u8, buffer_size: usize) -> u64;
@@ -45,6 +59,7 @@ mod archive {
             after_size: usize,
             count: u64,
         ) -> u64;
+        pub fn span_census(n: u64, m: u64, w: u64, counts: *mut u64, counts_count: usize) -> u64;
     }
 }
 
@@ -61,7 +76,7 @@ pub fn check(problem: &[u8], answer: &[u8]) -> u64 {
 }
 
 /// Reads an answer record: the refusal, 255 where fewer than [`STAMPS`] and [`PICKS`] places are lent, or
-/// 256 × class + 2³² × the span's offset number.
+/// 256 × class + 2¹⁶ × start + 2³² × the span's offset number.
 pub fn read(record: &[u8], n: u64, m: u64, stamps: &mut [u64], picks: &mut [u64]) -> u64 {
     // SAFETY: all parts are valid for their lengths, and each `&mut` overlaps nothing.
     unsafe {
@@ -79,12 +94,23 @@ pub fn read(record: &[u8], n: u64, m: u64, stamps: &mut [u64], picks: &mut [u64]
 }
 
 /// Writes an answer record: the refusal, or 256 × the record's size.
-pub fn write(class: u64, span: u64, stamps: &[u64], picks: &[u64], n: u64, m: u64, buffer: &mut [u8]) -> u64 {
+#[allow(clippy::too_many_arguments)]
+pub fn write(
+    class: u64,
+    span: u64,
+    start: u64,
+    stamps: &[u64],
+    picks: &[u64],
+    n: u64,
+    m: u64,
+    buffer: &mut [u8],
+) -> u64 {
     // SAFETY: all parts are valid for their lengths, and the `&mut` overlaps nothing.
     unsafe {
         archive::span_write(
             class,
             span,
+            start,
             stamps.as_ptr(),
             stamps.len(),
             picks.as_ptr(),
@@ -101,6 +127,24 @@ pub fn write(class: u64, span: u64, stamps: &[u64], picks: &[u64], n: u64, m: u6
 pub fn convert(stored: &[u8], buffer: &mut [u8]) -> u64 {
     // SAFETY: both parts are valid for their lengths, and a `&mut` overlaps nothing.
     unsafe { archive::span_convert(stored.as_ptr(), stored.len(), buffer.as_mut_ptr(), buffer.len()) }
+}
+
+/// Merges two plans, the second with a shift: the refusal, or 256 × the bytes of the merged stamps.
+pub fn merge(problem: &[u8], first: &[u8], second: &[u8], shift: i64, buffer: &mut [u8]) -> u64 {
+    // SAFETY: all parts are valid for their lengths, and the `&mut` overlaps nothing.
+    unsafe {
+        archive::span_merge(
+            problem.as_ptr(),
+            problem.len(),
+            first.as_ptr(),
+            first.len(),
+            second.as_ptr(),
+            second.len(),
+            shift,
+            buffer.as_mut_ptr(),
+            buffer.len(),
+        )
+    }
 }
 
 /// The first open minute of a week list: the refusal, 0 for never, or 2³² × the minute's offset number.
@@ -125,4 +169,11 @@ pub fn hours_write(value: u64, buffer: &mut [u8]) -> u64 {
 pub fn marks_differ(before: &[u8], after: &[u8], count: u64) -> u64 {
     // SAFETY: both parts are valid for their lengths and are only read.
     unsafe { archive::span_marks_differ(before.as_ptr(), before.len(), after.as_ptr(), after.len(), count) }
+}
+
+/// A census of small problems: the refusal, 255 where fewer than [`COUNTS`] places are lent, or 0, with the counts of least, bottomless,
+/// none and refused in the first places.
+pub fn census(n: u64, m: u64, w: u64, counts: &mut [u64]) -> u64 {
+    // SAFETY: the part is valid for its length, and a `&mut` overlaps nothing.
+    unsafe { archive::span_census(n, m, w, counts.as_mut_ptr(), counts.len()) }
 }

@@ -6,11 +6,12 @@ use std::ops::Range;
 /// The class of an answer.
 #[derive(Clone, Copy, Debug, PartialEq, Eq)]
 pub enum Class {
-    /// Class 1: some plan that keeps the rules has this whole span, and none has a smaller one.
+    /// Class 1: some plan that keeps the rules and counts has this whole span, and none has a smaller one. A plan counts if its
+    /// second list is not blank (document 02, 2.4).
     Least,
-    /// Class 2: for every whole number some plan that keeps the rules has a span at or under it.
+    /// Class 2: for every whole number some plan that keeps the rules and counts has a span at or under it.
     Bottomless,
-    /// Class 3: no plan that keeps the rules has a span below plus infinity.
+    /// Class 3: no plan that keeps the rules counts.
     None,
 }
 
@@ -42,7 +43,7 @@ pub enum Outcome {
     Least(i32),
     /// Spans have no lower end.
     Bottomless,
-    /// No plan has a span.
+    /// No plan counts.
     None,
 }
 
@@ -74,7 +75,7 @@ pub struct Solved {
     pub outcome: Outcome,
     /// The trials as document 01 counts them: 1 for none, 2 for bottomless, else 2 plus the halvings, never above 24.
     pub trials: u32,
-    /// The size of the record written, at most 206.
+    /// The size of the record written, at most 208.
     pub size: usize,
 }
 
@@ -134,7 +135,7 @@ impl fmt::Display for Certified {
 /// A refusal of document 01, "What is turned away", or of document 02.
 #[derive(Clone, Copy, Debug, PartialEq, Eq)]
 pub struct Refusal {
-    /// Its number, 1 to 15, 18 or 19.
+    /// Its number, 1 to 15, 17 to 19 or 24 to 27.
     pub number: u8,
 }
 
@@ -148,20 +149,25 @@ impl Refusal {
             4 => "n is above 31 or m above 63.",
             5 => "Its size does not fit n and m, and for kind 3 the count of questions.",
             6 => "A lead is neither blank nor within ±20,160.",
-            7 => "The answer buffer is shorter than 206 bytes a question, whichever class is due.",
-            8 => "The answer has fewer than 14 bytes.",
+            7 => "The answer buffer is shorter than 208 bytes a question, whichever class is due.",
+            8 => "The answer has fewer than 16 bytes.",
             9 => "Its length field is not its size − 4.",
-            10 => "Its kind is not 2 or its class not 1 to 3.",
+            10 => "Its kind is not 4, its class not 1 to 3, or its start above 1 (for bottomless: 0, or above the problem's n + 1).",
             11 => "Its n is not the problem's, or its size does not fit its class.",
             12 => "Its span or a stamp is outside the form of its class.",
             13 => "A pick is above its highest value.",
             14 => "The form is right and the answer is not accepted: not certified.",
             15 => "The count of questions is 0 or above 8.",
+            17 => "A rule has an all-blank left list.",
             18 => {
                 "The text is not of this form, a value read or to be written is beyond ±6,000,000, or the writer's \
                  buffer is shorter than 10 bytes."
             }
             19 => "More than 14 windows, a closing not after its opening, an opening or closing outside its range, a window that starts before the last one closes, or a minute to be looked up beyond ±6,000,000.",
+            24 => "The shift is above 0.",
+            25 => "A plan breaks a rule.",
+            26 => "A merged stamp would be below −6,000,000.",
+            27 => "w is 0 or above 20,160, n or m is beyond its limit, or the total is above 65,536.",
             _ => "No refusal of documents 01 and 02.",
         }
     }
@@ -181,22 +187,28 @@ impl std::error::Error for Refusal {}
 /// The fields of an answer record.
 #[derive(Clone, Debug, PartialEq, Eq)]
 pub enum Answer {
-    /// Class 1: a span, a plan of n + 1 stamps (`None` is blank, the anchor's is 0), and a pick for each moment.
+    /// Class 1: a span, a start, a plan of n + 1 stamps (`None` is blank, the anchor's is 0), and a pick for each moment.
     Least {
         /// The span field, within ±1,290,240.
         span: i32,
-        /// One stamp a moment, blank or within ±3,000,000.
+        /// Where reach begins: 0 at the anchor, 1 at all moments with a non-blank lead in the second list.
+        start: u16,
+        /// One stamp a moment, blank or within ±6,000,000.
         stamps: Vec<Option<i32>>,
         /// One pick a moment: 0, a rule number, or m + 1 for the question.
         picks: Vec<u16>,
     },
-    /// Class 2: a pick for each of the m + 1 rows.
+    /// Class 2: a start, and a pick for each of the m + 1 rows.
     Bottomless {
+        /// 1 + the number of a moment with a non-blank lead in the second list: reach begins there and at the anchor.
+        start: u16,
         /// One pick a row: 0, or 1 + a moment's number.
         picks: Vec<u16>,
     },
-    /// Class 3: a pick for each moment.
+    /// Class 3: a start, and a pick for each moment.
     None {
+        /// Where reach begins: 0 at the anchor, 1 at all moments with a non-blank lead in the second list.
+        start: u16,
         /// One pick a moment: 0, a rule number, or m + 1 for the question.
         picks: Vec<u16>,
     },
@@ -220,10 +232,17 @@ impl Answer {
         }
     }
 
+    /// Where reach begins (document 02, 2.4).
+    pub fn start(&self) -> u16 {
+        match self {
+            Answer::Least { start, .. } | Answer::Bottomless { start, .. } | Answer::None { start, .. } => *start,
+        }
+    }
+
     /// The pick table.
     pub fn picks(&self) -> &[u16] {
         match self {
-            Answer::Least { picks, .. } | Answer::Bottomless { picks } | Answer::None { picks } => picks,
+            Answer::Least { picks, .. } | Answer::Bottomless { picks, .. } | Answer::None { picks, .. } => picks,
         }
     }
 }

@@ -46,7 +46,7 @@ module _ (a : Answer) (n m : ℕ) where
 -- ---- the answer in bytes
 
 -- Offset numbers of fields stand for what the fields stand for.
-trops-off : (xs : List ℕ) → Below signed-full xs → map tropOf (map off xs) ≡ map tropField xs
+pub trops-off : (xs : List ℕ) → Below signed-full xs → map tropOf (map off xs) ≡ map tropField xs
 trops-off [] b = refl
 trops-off (x ∷ xs) b = ap₂ _∷_ (trop-off x (b .below 0 (omega arith))) (trops-off xs (record { below = λ i h. b .below (suc i) (omega arith) }))
 

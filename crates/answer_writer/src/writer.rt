@@ -72,8 +72,8 @@ fn judge_counts(head: Head, stamps: usize, picks: usize, n: usize, m: usize, roo
     0
 }
 
-// The stamps, offset numbers, have their form.
-fn stamps_fit(stamps: &[u64]) -> bool
+// The stamps, offset numbers, have their form. Public for `merging::plan`.
+pub fn stamps_fit(stamps: &[u64]) -> bool
     ensures { λ r. ⌜ r ≡ stampsFit (map tropOf (now (stamps .entry))) ⌝ }
 {
     let mut i: usize = 0;
@@ -164,8 +164,8 @@ pub fn put_word(buffer: &mut [u8], at: usize, x: u64)
     buffer[d] = (w % BYTE) as u8;
 }
 
-// The stamps, offset numbers, put from a place on.
-fn put_stamps(stamps: &[u64], buffer: &mut [u8], at: usize)
+// The stamps, offset numbers, put from a place on. Public for `merging::merge`.
+pub fn put_stamps(stamps: &[u64], buffer: &mut [u8], at: usize)
     requires { ⌜ at + signed-bytes * length (now stamps) ≤ length (now buffer) ⌝ }
     ensures { λ _. ⌜ now (buffer .exit) ≡ put (now (buffer .entry)) at (fields signed-bytes (map off (now (stamps .entry)))) ⌝ }
 {

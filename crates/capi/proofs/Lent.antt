@@ -1,6 +1,6 @@
 -- Numbers copied to the first of the lent places, and what reading then gives.
 use Prim.Native.Nat.{ℕ, zero, suc, _+_, _≤_, _<_}
-use mathlib.Core.Path.{_≡_, refl, ap, ap₂, sym, subst, _∙_}
+use mathlib.Core.Path.{_≡_, refl, ap, sym, subst, _∙_}
 use mathlib.Core.List.{List, [], _∷_, _++_}
 use native.Mathlib.Omega.{arith}
 use native.Mathlib.Nat.{zero-add}
@@ -8,17 +8,18 @@ use lib.ListN.{length, getD, take, set}
 use lib.Seq.{length-take-le, take-all}
 use Rattle.definitions.specs.Limits.{signed-bytes, span-place}
 use Rattle.definitions.specs.Bytes.{Bytes, put, numAt}
-use Rattle.definitions.specs.AnswerRecord.{answerRefusal, answerOutcome, answerOf, classField, spanField}
+use Rattle.definitions.specs.AnswerRecord.{answerRefusal, answerOutcome, answerOf, classField, spanField, startField}
 use Rattle.definitions.proofs.Offset.{off-bound, tropOf-injective}
 use Rattle.definitions.proofs.Refusals.{answer-fits}
-use Rattle.definitions.proofs.RoundTrip.{class-most}
+use Rattle.definitions.proofs.RoundTrip.{class-most, start-most}
 use Rattle.definitions.proofs.Put.{put-nil, put-more, length-put}
+use Rattle.answer_reader.specs.declared.answer.Head.{Head}
 use Rattle.answer_reader.specs.declared.answer.AnswerHead.{AnswerHead}
 use Rattle.answer_reader.specs.declared.answer.AnswerHead.the-variants as Heads
-use Rattle.answer_reader.specs.AnswerReading.{AnswerRead, spanNumber}
-use Rattle.answer_reader.proofs.Heads.{fields-by, refused-by}
+use Rattle.answer_reader.specs.AnswerReading.{AnswerRead, spanNumber, headIn}
+use Rattle.answer_reader.proofs.Heads.{told-head, fields-by, refused-by}
 use Rattle.answer_reader.proofs.Judging.{span-meant}
-use Rattle.capi.specs.Numbers.{ReadsAs, PlacesAs, stamp-places, pick-places, fieldsNumber, low-byte, low-half}
+use Rattle.capi.specs.Numbers.{ReadsAs, PlacesAs, stamp-places, pick-places, headNumber, low-byte, low-quarter, low-half}
 
 -- The first i numbers are copied.
 pub record Copied (before from : List ℕ) (i : ℕ) (now : List ℕ) : Type 0 where
@@ -50,40 +51,54 @@ both-lent number stamps picks stamps-before picks-before h g e f = rw (e, f) (Pl
 -- ---- the reader's result
 
 -- What the reader gave of an answer that it took.
-pub record Taken (s : List ℕ) (n m class span : ℕ) : Type 0 where
+pub record Taken (s : List ℕ) (n m : ℕ) (head : Head) : Type 0 where
   pub none : answerRefusal s n m ≡ 0
-  pub class-is : classField s ≡ class
-  pub span-is : spanNumber s ≡ span
+  pub class-is : classField s ≡ head .class
+  pub span-is : spanNumber s ≡ head .span
+  pub start-is : startField s ≡ head .start
 
-pub taken : {s : List ℕ} {n m : ℕ} {head : AnswerHead} {class span : ℕ} {stamps-before stamps picks-before picks : List ℕ}
-    → Bytes s → AnswerRead s n m head stamps-before stamps picks-before picks → head ≡ Heads.Fields class span → Taken s n m class span
+pub taken : {s : List ℕ} {n m : ℕ} {read : AnswerHead} {head : Head} {stamps-before stamps picks-before picks : List ℕ}
+    → Bytes s → AnswerRead s n m read stamps-before stamps picks-before picks → read ≡ Heads.Fields head → Taken s n m head
 unfolding answerOutcome answerOf
-taken {s} {n} {m} {span = span} b r e =
-    let h = fields-by (answerRefusal s n m) (classField s) (spanField s) (r .answered) e in
-    record { none = h .0; class-is = sym (h .1); span-is = tropOf-injective (spanNumber s) span (span-meant b n m ∙ sym (h .2)) }
+taken {s} {n} {m} {head = head} b r e =
+    let h = fields-by (answerRefusal s n m) (classField s, spanField s, startField s) (r .answered) e in
+    let a = told-head (h .1) in
+    record {
+      none = h .0;
+      class-is = sym (a .class-is);
+      span-is = tropOf-injective (spanNumber s) (head .span) (span-meant b n m ∙ sym (a .span-is));
+      start-is = sym (a .start-is);
+    }
 
--- Its class and span are small.
-pub taken-small : {s : List ℕ} {n m class span : ℕ} → Taken s n m class span → (class < low-byte) × (span < low-half)
+-- Its class, start and span are small.
+pub taken-small : {s : List ℕ} {n m : ℕ} {head : Head} → Taken s n m head → (head .class < low-byte) × (head .start < low-quarter) × (head .span < low-half)
 taken-small {s} {n} {m} t =
-    let f = answer-fits s n m .0 (t .none) in
-    (omega (arith, class-most (classField s) (f .class-known), t .class-is), omega (arith, off-bound (numAt signed-bytes s span-place), t .span-is))
+    let f = answer-fits s n m .0 (t .none) in (
+      omega (arith, class-most (classField s) (f .class-known), t .class-is),
+      omega (arith, start-most (classField s) (startField s) n (f .start-fits), f .n-most, t .start-is),
+      omega (arith, off-bound (numAt signed-bytes s span-place), t .span-is),
+    )
 
-pub reads-fields : {s : List ℕ} {n m : ℕ} {head : AnswerHead} {class span : ℕ} {stamps-own stamps picks-own picks : List ℕ}
-    → Bytes s → AnswerRead s n m head stamps-own stamps picks-own picks → head ≡ Heads.Fields class span
+-- Its number is that of the fields in the bytes.
+taken-number : {s : List ℕ} {n m : ℕ} {head : Head} → Taken s n m head → headNumber (headIn s) ≡ headNumber head
+taken-number t = rw (t .class-is, t .span-is, t .start-is) refl
+
+pub reads-fields : {s : List ℕ} {n m : ℕ} {read : AnswerHead} {head : Head} {stamps-own stamps picks-own picks : List ℕ}
+    → Bytes s → AnswerRead s n m read stamps-own stamps picks-own picks → read ≡ Heads.Fields head
     → {stamps-before picks-before stamps-after picks-after : List ℕ} {number : ℕ}
-    → PlacesAs (fieldsNumber class span) stamps picks stamps-before picks-before number stamps-after picks-after
+    → PlacesAs (headNumber head) stamps picks stamps-before picks-before number stamps-after picks-after
     → ReadsAs s n m stamps-before picks-before number stamps-after picks-after
 reads-fields b r e (PlacesAs.too-few h) = ReadsAs.too-few (taken b r e .none) h
-reads-fields {s} {n} {m} {class = class} {span} {stamps = stamps} {picks = picks} b r e {stamps-before} {picks-before} (PlacesAs.lent f g) =
+reads-fields {s} {n} {m} {stamps = stamps} {picks = picks} b r e {stamps-before} {picks-before} (PlacesAs.lent f g) =
     let t = taken b r e in
-    let number-is : fieldsNumber (classField s) (spanNumber s) ≡ fieldsNumber class span = ap₂ fieldsNumber (t .class-is) (t .span-is) in
-    subst (λ (k : ℕ). ReadsAs s n m stamps-before picks-before k (put stamps-before 0 stamps) (put picks-before 0 picks)) number-is (ReadsAs.read (t .none) f g (r .stamps-read (t .none)) (r .picks-read (t .none)))
+    subst (λ (k : ℕ). ReadsAs s n m stamps-before picks-before k (put stamps-before 0 stamps) (put picks-before 0 picks)) (taken-number t)
+    (ReadsAs.read (t .none) f g (r .stamps-read (t .none)) (r .picks-read (t .none)))
 
 pub reads-refused : {s : List ℕ} {n m : ℕ} {head : AnswerHead} {k : ℕ} {stamps-own stamps picks-own picks : List ℕ}
     → AnswerRead s n m head stamps-own stamps picks-own picks → head ≡ Heads.Refused k → (stamps-before picks-before : List ℕ)
     → ReadsAs s n m stamps-before picks-before k stamps-before picks-before
 unfolding answerOutcome
-reads-refused {s} {n} {m} {k = k} r e stamps-before picks-before = go k (refused-by (answerRefusal s n m) (classField s, spanField s) (r .answered) e)
+reads-refused {s} {n} {m} {k = k} r e stamps-before picks-before = go k (refused-by (answerRefusal s n m) (classField s, spanField s, startField s) (r .answered) e)
   where
     go : (j : ℕ) → (j ≡ answerRefusal s n m) × (answerRefusal s n m ≡ 0 → ⊥) → ReadsAs s n m stamps-before picks-before j stamps-before picks-before
     go zero h = absurd (h .1 (sym (h .0)))

@@ -4,3 +4,5 @@ pub mod FirstOpen
 pub mod Hours
 pub mod Compared
 pub mod Converting
+pub mod Merging
+pub mod Counted

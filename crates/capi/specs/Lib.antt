@@ -3,3 +3,5 @@ pub mod Opening
 pub mod HoursNumbers
 pub mod Marks
 pub mod Converted
+pub mod Merged
+pub mod Census

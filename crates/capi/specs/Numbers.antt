@@ -4,16 +4,17 @@ use mathlib.Core.Path.{_≡_}
 use mathlib.Core.List.{List}
 use mathlib.Core.Logic.{_⊎_}
 use lib.ListN.{length}
-use Rattle.definitions.specs.Limits.{highest-n, highest-m, byte-values, signed-full, most-trials, most-questions, answer-most}
+use Rattle.definitions.specs.Limits.{highest-n, highest-m, byte-values, short-full, signed-full, most-trials, most-questions, answer-most}
 use Rattle.definitions.specs.Bytes.{put, Outcome, refusal, gives}
 use Rattle.definitions.specs.Offset.{tropOf}
-use Rattle.definitions.specs.AnswerRecord.{Answer, answerRefusal, answerBytes, classField, writerRefusal, writerOutcome, written}
+use Rattle.definitions.specs.AnswerRecord.{Answer, answerRefusal, answerBytes, writerRefusal, writerOutcome, written}
 use Rattle.definitions.specs.Verdict as Verdicts
 use Rattle.definitions.specs.Verdict.{Judged}
 use Rattle.definitions.specs.Solved as Results
 use Rattle.definitions.specs.Solved.{Solves}
 use Rattle.answer_reader.specs.Fields.{Padded, stampsOf, picksOf}
-use Rattle.answer_reader.specs.AnswerReading.{spanNumber}
+use Rattle.answer_reader.specs.AnswerReading.{headIn}
+use Rattle.answer_reader.specs.declared.answer.Head.{Head}
 use Rattle.answer_writer.specs.AnswerWriting.{unlessRefused}
 use Rattle.answer_writer.specs.declared.writer.Written.{Written}
 use Rattle.answer_writer.specs.declared.writer.Written.the-variants.{Record}
@@ -22,9 +23,12 @@ use Rattle.engine.specs.declared.solve.Solved.the-variants.{Answered, AllAnswer
 use Rattle.checker.specs.declared.check.Verdict.{Verdict}
 use Rattle.checker.specs.declared.check.Verdict.the-variants as Turned
 
--- What is not the refusal counts 256 times, the span behind the class 2³² times.
+-- What is not the refusal counts 256 times, the start behind the class 2¹⁶ times, the span 2³² times.
 abbrev pub low-byte : ℕ
 low-byte = byte-values
+
+abbrev pub low-quarter : ℕ
+low-quarter = short-full
 
 abbrev pub low-half : ℕ
 low-half = signed-full
@@ -85,6 +89,10 @@ pub record WritesAs (a : Answer) (n m number : ℕ) (before after : List ℕ) : 
   pub number-is : number ≡ writtenNumber (writerOutcome a n m (length before))
   pub buffer : after ≡ unlessRefused (writerRefusal a n m (length before)) before (written before (answerBytes n a))
 
+-- Class, the span's offset number and the start, as they are handed over.
+abbrev pub headWith : ℕ → ℕ → ℕ → Head
+headWith class span start = record { class = class; span = span; start = start }
+
 -- A record that was written is short.
 pub record SmallRecord (r : Written) : Type 0 where
   pub size-small : {size : ℕ} → r ≡ Record size → size ≤ answer-most
@@ -101,7 +109,11 @@ pick-places = suc highest-m
 abbrev pub too-few-places : ℕ
 too-few-places = 255
 
--- The reader's result as a number: the refusal, or else that there are too few places, and both as they were; or class and
+-- The number of class, start and span.
+abbrev pub headNumber : Head → ℕ
+headNumber h = low-byte * h .class + low-quarter * h .start + low-half * h .span
+
+-- The reader's result as a number: the refusal, or else that there are too few places, and both as they were; or class, start and
 -- span, the stamps in the first 32 places and the picks in the first 64, each with 0 behind them, and what follows as it was.
 pub data ReadsAs (s : List ℕ) (n m : ℕ) (stamps-before picks-before : List ℕ) : ℕ → List ℕ → List ℕ → Type 0 where
   turned-away : {k : ℕ} → answerRefusal s n m ≡ suc k → ReadsAs s n m stamps-before picks-before (suc k) stamps-before picks-before
@@ -110,7 +122,7 @@ pub data ReadsAs (s : List ℕ) (n m : ℕ) (stamps-before picks-before : List �
       → ReadsAs s n m stamps-before picks-before too-few-places stamps-before picks-before
   read :
       {stamps picks : List ℕ} → answerRefusal s n m ≡ 0 → stamp-places ≤ length stamps-before → pick-places ≤ length picks-before → Padded stamp-places (stampsOf s n) stamps → Padded pick-places (picksOf s n m) picks
-      → ReadsAs s n m stamps-before picks-before (fieldsNumber (classField s) (spanNumber s)) (put stamps-before 0 stamps) (put picks-before 0 picks)
+      → ReadsAs s n m stamps-before picks-before (headNumber (headIn s)) (put stamps-before 0 stamps) (put picks-before 0 picks)
 
 -- Stamps and picks handed out, and the number that goes with them: 255 and the places as they were, where these are too few; or
 -- both at the start of the places.

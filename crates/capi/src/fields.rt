@@ -6,8 +6,9 @@ ghost use lib.ListN.{length};
 ghost use Rattle.definitions.specs.Bytes.{put};
 ghost use Rattle.answer_reader.specs.Fields.{fieldsOf};
 ghost use Rattle.answer_writer.specs.AnswerWriting.{writtenOf};
-ghost use Rattle.capi.specs.Numbers.{WritesAs, SmallRecord, ReadsAs, PlacesAs, writtenNumber, low-byte, low-half, fieldsNumber};
+ghost use Rattle.capi.specs.Numbers.{WritesAs, SmallRecord, ReadsAs, PlacesAs, writtenNumber, low-byte, low-quarter, low-half, headWith, headNumber};
 use answer_reader::answer::AnswerHead;
+use answer_reader::answer::Head;
 use answer_reader::answer::read_answer;
 use answer_writer::writer::Written;
 use answer_writer::writer::write_answer;
@@ -23,6 +24,9 @@ const PICK_PLACES: usize = ROWS;
 
 pub const TOO_FEW_PLACES: u64 = 255;
 
+// The start stands above the class, below the span.
+const QUARTER: u64 = BYTE * BYTE;
+
 // 256 × size where written, else the refusal.
 fn written_number(written: Written) -> u64
     requires { ⌜ SmallRecord written ⌝ }
@@ -34,25 +38,31 @@ fn written_number(written: Written) -> u64
     }
 }
 
-// Writes an answer for a problem of n and m; span and stamps are offset numbers.
+// Writes an answer for a problem of n and m; span and stamps are offset numbers, the start is a number by itself.
 #[no_mangle]
 pub extern "C" fn span_write(
     class: u64,
     span: u64,
+    start: u64,
     stamps: &[u64],
     picks: &[u64],
     n: u64,
     m: u64,
     buffer: &mut [u8],
 ) -> u64
-    ensures { λ r. ⌜ WritesAs (fieldsOf class span (now (stamps .entry)) (now (picks .entry))) n m r (now (buffer .entry)) (now (buffer .exit)) ⌝ }
+    ensures { λ r. ⌜ WritesAs (fieldsOf (headWith class span start) (now (stamps .entry)) (now (picks .entry))) n m r (now (buffer .entry)) (now (buffer .exit)) ⌝ }
 {
-    let written = write_answer(class, span, stamps, picks, n as usize, m as usize, buffer);
+    let head = Head {
+        class: class,
+        span: span,
+        start: start,
+    };
+    let written = write_answer(head, stamps, picks, n as usize, m as usize, buffer);
     written_number(written)
 }
 
-// Copies numbers to the first of the lent places.
-fn copy(from: &[u64], to: &mut [u64])
+// Copies numbers to the first of the lent places. Public for `census`.
+pub fn copy(from: &[u64], to: &mut [u64])
     requires { ⌜ length (now from) ≤ length (now to) ⌝ }
     ensures { λ _. ⌜ now (to .exit) ≡ put (now (to .entry)) 0 (now (from .entry)) ⌝ }
 {
@@ -62,17 +72,16 @@ fn copy(from: &[u64], to: &mut [u64])
     }
 }
 
-// Class and span as a number, stamps and picks in the lent places, where there are enough.
+// Class, start and span as a number, stamps and picks in the lent places, where there are enough.
 fn lend(
-    class: u64,
-    span: u64,
+    head: Head,
     stamps: &[u64; STRIDE],
     picks: &[u64; ROWS],
     stamps_out: &mut [u64],
     picks_out: &mut [u64],
 ) -> u64
-    requires { ⌜ (class < low-byte) × (span < low-half) ⌝ }
-    ensures { λ r. ⌜ PlacesAs (fieldsNumber class span) (now (stamps .entry)) (now (picks .entry)) (now («stamps_out» .entry)) (now («picks_out» .entry)) r (now («stamps_out» .exit)) (now («picks_out» .exit)) ⌝ }
+    requires { ⌜ (head .class < low-byte) × (head .start < low-quarter) × (head .span < low-half) ⌝ }
+    ensures { λ r. ⌜ PlacesAs (headNumber head) (now (stamps .entry)) (now (picks .entry)) (now («stamps_out» .entry)) (now («picks_out» .entry)) r (now («stamps_out» .exit)) (now («picks_out» .exit)) ⌝ }
 {
     if stamps_out.len() < STAMP_PLACES {
         return TOO_FEW_PLACES;
@@ -82,7 +91,7 @@ fn lend(
     }
     copy(stamps, stamps_out);
     copy(picks, picks_out);
-    BYTE * class + FULL * span
+    BYTE * head.class + QUARTER * head.start + FULL * head.span
 }
 
 // Reads an answer for a problem of n and m.
@@ -98,22 +107,15 @@ pub extern "C" fn span_read(
 {
     let mut own_stamps = [0u64; STRIDE];
     let mut own_picks = [0u64; ROWS];
-    let head = read_answer(
+    let read = read_answer(
         bytes,
         n as usize,
         m as usize,
         &mut own_stamps,
         &mut own_picks,
     );
-    match head {
-        AnswerHead::Fields(class, span) => lend(
-            class,
-            span,
-            &own_stamps,
-            &own_picks,
-            stamps,
-            picks,
-        ),
+    match read {
+        AnswerHead::Fields(head) => lend(head, &own_stamps, &own_picks, stamps, picks),
         AnswerHead::Refused(k) => k as u64,
     }
 }

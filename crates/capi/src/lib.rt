@@ -1,7 +1,9 @@
 // The boundary to C and Rust: functions on bytes and numbers. capi/span.h says the same in C's words.
 pub mod calls;
+pub mod census;
 pub mod conversion;
 pub mod fields;
 pub mod marks;
 pub mod opening;
+pub mod plans;
 pub mod sheet;

@@ -28,3 +28,4 @@ pub mod Agree
 pub mod Scaling
 pub mod Selection
 pub mod Marks
+pub mod Merging

@@ -287,11 +287,11 @@ module _ (a : Answer) (n m room : ℕ) (f : WriterFits a n m room) where
 
 module _ {s : List ℕ} (bytes : Bytes s) where
   -- A field that is read, and what follows, is what stands there.
-  le-then : (k at : ℕ) → at + k ≤ length s → le k (numAt k s at) ++ drop (at + k) s ≡ drop at s
+  pub le-then : (k at : ℕ) → at + k ≤ length s → le k (numAt k s at) ++ drop (at + k) s ≡ drop at s
   le-then k at h = rw (le-num k at bytes h, ← drop-drop k at s) (take-append-drop k (drop at s))
 
   -- A run that is read, and what follows, is what stands there.
-  fields-then : (k count at : ℕ) → at + k * count ≤ length s → fields k (numsAt k count s at) ++ drop (at + k * count) s ≡ drop at s
+  pub fields-then : (k count at : ℕ) → at + k * count ≤ length s → fields k (numsAt k count s at) ++ drop (at + k * count) s ≡ drop at s
   fields-then k count at h = rw (fields-nums k count at bytes h, ← drop-drop (k * count) at s) (take-append-drop (k * count) (drop at s))
 
   -- The first sixteen bytes.

@@ -1,4 +1,5 @@
--- The bisection: which trials document 01 counts, and how many. Document 01, "The engine" (Algorithm 1).
+-- The bisection: which trials document 01 counts, and how many. Document 01, "The engine" (Algorithm 1), with
+-- the outer trials of document 02, 2.2.
 use Prim.Native.Nat.{ℕ, zero, suc, _+_, _/_}
 use mathlib.Core.Bool.{Bool, true, false}
 use lib.Dec.{eqb}

@@ -30,7 +30,8 @@ pub record Second (p : Problem) (j : ℕ) : Type 0 where
   pub inside : j ≤ p .n
   pub right : Finite (p .right (p .m) j)
 
--- What the start of an answer of class 1 or 3 means: 0 the anchor, 1 all variables of the second list. (Others are refused by 10.)
+-- What the start of an answer of class 1 or 3 means: 0 the anchor; 1 all variables of the second list, and the anchor only if it is one of
+-- them. (A start above 1 is refused by 10, and never asked for here.)
 unfoldable pub startOf : Problem → ℕ → ℕ → Type 0
 startOf p zero = Anchor
 startOf p (suc k) = Second p
@@ -146,7 +147,7 @@ pub record RowArc (p : Problem) (picks : Strategy) (t : ℤ) (j l : ℕ) (w : �
   pub picked : picks row ≡ suc l
   pub by : ArcBy p t row j l w
 
--- Row i picks a variable whose right coefficient is not blank.
+-- Row i picks a variable whose right coefficient is not blank. (That the pick is a variable of the problem is the record's form, refusal 13.)
 pub record RowHasPick (p : Problem) (picks : Strategy) (i : ℕ) : Type 0 where
   pub variable : ℕ
   pub picked : picks i ≡ suc variable

@@ -1,6 +1,6 @@
 -- The three demands of the service description, sentence by sentence, as statements about any functions on bytes:
 -- an engine, a checker, readers, a writer and the two programs. That a function ends on every string of bytes is part
--- of its being a function. Document 01 says under "The checker" what the words of demand 3 mean. No bytes mean the idle day (document 02,
+-- of its being a function. Document 01 says under "The checker" what the words of demand 3 mean, and document 02, 2.4, with which plans it compares. No bytes mean the idle day (document 02,
 -- 2.9): of a string of bytes p the demands hold with the record that it means, `meant p`.
 use Prim.Native.Nat.{ℕ, zero, suc, _+_, _*_, _≤_, _<_}
 use mathlib.Core.Path.{_≡_}
@@ -142,7 +142,7 @@ pub record ProgramsAnswer (span verdict : Program) : Type 0 where
 -- ---- demand 2
 
 -- For every problem within the layout (and a buffer that is long enough) the class and least span are those of the
--- theory, in at most 24 trials.
+-- theory, by the plans that count (document 02, 2.4), in at most 24 trials.
 pub record FoundBy (engine : Engine) (p buffer : List ℕ) : Type 0 where
   pub class : ℕ
   pub span : Trop
@@ -301,7 +301,7 @@ OwnAnswers engine check =
 
 -- Document 02, 2.1: demands 2 and 3 for each question with its kind 1 problem, which is within the layout, so that all that they say of such a
 -- problem holds of it. The answer to question q, in `size` bytes of the engine's buffer from `at` on: class and least span of the
--- theory, in at most 24 trials; it reads back as itself; and the checker accepts it.
+-- theory, by the plans that count, in at most 24 trials; it reads back as itself; and the checker accepts it.
 pub record QuestionAnswered (check : Checker) (read : Reader) (p buffer : List ℕ) (q at size trials : ℕ) : Type 0 where
   pub class : ℕ
   pub span : Trop

@@ -20,3 +20,5 @@ pub mod Selection
 pub mod Conversion
 pub mod Marks
 pub mod Desk
+pub mod Merging
+pub mod Census

@@ -1,4 +1,4 @@
--- The numbers of documents 01 and 02, each once; those that follow from others are derived. (Refusals 14, 18 and 19 are named in
+-- The numbers of documents 01 and 02, each once for what it limits; those that follow from others are derived. (Refusals 14, 18 and 19 are named in
 -- Verdict, Hours and Week, and the two outer trials are counted in Bisection.)
 use Prim.Native.Nat.{ℕ, suc, _+_, _*_, _-_}
 use lib.IntN.{ℤ, pos, negsuc}
@@ -158,6 +158,11 @@ kept-bytes = 20000
 abbrev pub word-values : ℕ
 word-values = 18446744073709551616
 
+-- 2⁶³: a signed number of 64 bits, handed over as the unsigned one with the same bits, stands for itself below it, from there on for
+-- itself less 2⁶⁴.
+abbrev pub word-half : ℕ
+word-half = 9223372036854775808
+
 -- Document 02, 2.7: a span or stamp has a text if it is blank or within this of 0, ±6,000,000.
 abbrev pub text-limit : ℕ
 text-limit = 6000000
@@ -194,6 +199,10 @@ last-ticket = word-values - 1
 
 abbrev pub desk-steps : ℕ
 desk-steps = desk-places * most-trials
+
+-- Document 02, 2.13: a buffer of fewer bytes than the stamps of 32 moments, 128, is refused, whatever n is.
+abbrev pub merged-most : ℕ
+merged-most = signed-bytes * stride
 
 -- ---- refusals, as document 01 counts them under "What is turned away" and document 02 goes on
 
@@ -269,3 +278,25 @@ refused-ticket = 22
 -- The memory is shorter than 16 problems of 16,394 bytes.
 abbrev pub refused-memory : ℕ
 refused-memory = 23
+
+-- Document 02, 2.13: the shift is above 0.
+abbrev pub refused-shift : ℕ
+refused-shift = 24
+
+-- A plan breaks a rule.
+abbrev pub refused-rule : ℕ
+refused-rule = 25
+
+-- A merged stamp would be below −6,000,000.
+abbrev pub refused-early : ℕ
+refused-early = 26
+
+-- ---- a census (document 02, 2.14)
+
+-- The most problems that a census counts.
+abbrev pub census-most : ℕ
+census-most = 65536
+
+-- Its refusal: "w is 0 or above 20,160, n or m is beyond its limit, or the total is above 65,536".
+abbrev pub refused-census : ℕ
+refused-census = 27

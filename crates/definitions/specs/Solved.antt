@@ -26,8 +26,8 @@ answersRefused questions room = record { applies = ltb room (questions * answer-
 unfoldable pub engineRefusal : List ℕ → ℕ → ℕ
 engineRefusal p room = or-else (recordRefusal p) (first (answersRefused (questionsAsked (kindField p) (countField p)) room ∷ []))
 
--- The class, span and trials of a problem: least s, bottomless or none, by its plans that count alone. The count is document 01's for
--- that class and span; how many trials a run makes is not said here.
+-- The class, span and trials of a problem: least s, bottomless or none, by its plans that count alone. The number of trials is
+-- document 01's for that class and span.
 pub data Found (p : Problem) : ℕ → Trop → ℕ → Type 0 where
   optimal : {s : ℤ} → Optimal p s → Found p class-optimal (fin s) (trials-optimal s)
   unbounded : Unbounded p → Found p class-unbounded bot trials-unbounded

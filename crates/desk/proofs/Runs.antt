@@ -10,20 +10,17 @@ use native.Mathlib.Decide.{ℕ-discrete}
 use lib.ListN.{length, getD, set, replicate, length-set, length-replicate, getD-replicate, List·getD-eq-default}
 use lib.Seq.{getD-set-same, getD-set-other}
 use Rattle.definitions.specs.Limits.{desk-places, most-trials}
-use Rattle.definitions.specs.Tropical.{Trop, fin}
-use Rattle.definitions.specs.Problem.{Problem}
-use Rattle.definitions.specs.Bisection.{trials-optimal}
+use Rattle.definitions.specs.Tropical.{Trop}
 use Rattle.definitions.specs.ProblemRecord.{WithinLayout, problemRefusal, problemOf, meant}
 use Rattle.definitions.specs.AnswerRecord.{Answer}
-use Rattle.definitions.specs.Solved.{Found, optimal, unbounded, infeasible, Answers}
+use Rattle.definitions.specs.Solved.{Found, Answers}
 use Rattle.definitions.specs.Bytes.{first, or-else}
 use Rattle.definitions.specs.Desk.{memoryRefused, fullRefused, Place, empty, waits, answered, Desk, opened, placeAt, Stands, ticketOf, FirstEmpty, TakenIn, TakesIn, taken, takeRefusal, Stepped, Steps, one-more, last-one, Collected, Collects, handed-over, Run, nothing, take-in, one-step, collect, FromOpening, StillWaits, DeskHolds}
 use Rattle.definitions.specs.Desk as Desks
 use Rattle.base.proofs.Numbers.{nat-le-or-lt}
 use Rattle.definitions.proofs.Refusals.{or-else-none}
 use Rattle.duality.proofs.SmallLeads.{trials-few}
-use Rattle.duality.specs.Classes.{HasOptimal}
-use Rattle.duality.proofs.Classes.{infeasible-not-unbounded, infeasible-not-optimal, unbounded-not-optimal, optimal-unique}
+use Rattle.duality.proofs.Classes.{found-one}
 use Rattle.desk.proofs.Line.{At, In, Line, at-kept, at-end, at-joined, at-next, joins, leaves, line-as, line-most}
 
 -- Something waits at this place.
@@ -349,18 +346,6 @@ given-rises (collect run (handed-over h st b)) = given-rises run
 tickets-later : {memory : ℕ} {d e f g : Desk} {p q : List ℕ} {number later k : ℕ} → TakesIn memory d p (Desks.ticket number) e → Run memory e k f
     → TakesIn memory f q (Desks.ticket later) g → number < later
 tickets-later (taken h f) run (taken i g) = omega (arith, given-rises run)
-
--- Class, span and trials of a problem are one.
-pub found-one : {p : Problem} {c z k l : ℕ} {s t : Trop} → Found p c s k → Found p z t l → (c ≡ z) × (s ≡ t) × (k ≡ l)
-found-one {p} (optimal {s = s} o) (optimal {s = t} q) = let e : s ≡ t = optimal-unique p s t o q in (refl, ap fin e, ap trials-optimal e)
-found-one {p} (optimal {s = s} o) (unbounded u) = absurd (unbounded-not-optimal p u (record { at = s; optimal = o }))
-found-one {p} (optimal {s = s} o) (infeasible n) = absurd (infeasible-not-optimal p n (record { at = s; optimal = o }))
-found-one {p} (unbounded u) (optimal {s = s} o) = absurd (unbounded-not-optimal p u (record { at = s; optimal = o }))
-found-one (unbounded u) (unbounded v) = (refl, refl, refl)
-found-one {p} (unbounded u) (infeasible n) = absurd (infeasible-not-unbounded p n u)
-found-one {p} (infeasible n) (optimal {s = s} o) = absurd (infeasible-not-optimal p n (record { at = s; optimal = o }))
-found-one {p} (infeasible n) (unbounded u) = absurd (infeasible-not-unbounded p n u)
-found-one (infeasible n) (infeasible o) = (refl, refl, refl)
 
 -- A taking-in with a ticket had memory enough.
 taken-enough : {memory number : ℕ} {d e : Desk} {p : List ℕ} → TakesIn memory d p (Desks.ticket number) e → first (memoryRefused memory ∷ []) ≡ 0

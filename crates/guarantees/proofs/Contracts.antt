@@ -11,7 +11,7 @@ use Rattle.definitions.specs.Problem.{Problem}
 use Rattle.definitions.specs.Bytes.{Outcome, refusal, gives, outcome, refusalOf}
 use Rattle.definitions.specs.ProblemRecord.{problemOf, recordRefusal, problemOutcome, nField, mField, layoutOf, WithinLayouts, meant}
 use Rattle.definitions.specs.Questions.{asking}
-use Rattle.definitions.specs.AnswerRecord.{Answer, answerRefusal, answerOutcome, answerOf, stampCount, pickCount, classField, spanField, writerRefusal, writerOutcome, answerBytes, written}
+use Rattle.definitions.specs.AnswerRecord.{Answer, answerRefusal, answerOutcome, answerOf, stampCount, pickCount, classField, spanField, startField, writerRefusal, writerOutcome, answerBytes, written}
 use Rattle.definitions.specs.Programs.{VerdictOutput}
 use Rattle.definitions.specs.Demands.{Word, Slice, Handed, Engine, Checker, ProblemReader, Reader, Writer, Program, EngineSolves, CheckerJudges, ProblemReaderRefuses, ReadsProblems, ReaderRefuses, ReadsFields, WriterRefuses, WritesRecord, ProgramsAnswer}
 use Rattle.definitions.proofs.Outcomes.{refusal-outcome}
@@ -112,7 +112,7 @@ module _ {left₀ right₀ : List ℕ} (read : ReadProblem left₀ right₀) whe
 -- What the reader gives: the refusal, or the fields, stamps and picks as many as the class has.
 unfoldable pub readingOf : AnswerHead → List ℕ → List ℕ → ℕ → ℕ → Outcome Answer
 readingOf (Heads.Refused k) stamps picks n m = refusal k
-readingOf (Heads.Fields class span) stamps picks n m = gives (fieldsOf class span (take (stampCount class n) stamps) (take (pickCount class n m) picks))
+readingOf (Heads.Fields head) stamps picks n m = gives (fieldsOf head (take (stampCount (head .class) n) stamps) (take (pickCount (head .class) n m) picks))
 
 module _ {stamps₀ picks₀ : List ℕ} (read : ReadAnswer stamps₀ picks₀) where
   abbrev pub readerOf : Reader
@@ -131,9 +131,9 @@ module _ {stamps₀ picks₀ : List ℕ} (read : ReadAnswer stamps₀ picks₀) 
     untouched = λ s b n m k v w e. read .contract s n m b v w .kept (λ z. omega arith);
   }
     where
-      go : (s : List ℕ) (n m k : ℕ) → answerRefusal s n m ≡ suc k → (h : AnswerHead) → headOf h ≡ outcome (answerRefusal s n m) (classField s, spanField s)
+      go : (s : List ℕ) (n m k : ℕ) → answerRefusal s n m ≡ suc k → (h : AnswerHead) → headOf h ≡ outcome (answerRefusal s n m) (classField s, spanField s, startField s)
           → readingOf h (read .stamps s n m) (read .picks s n m) n m ≡ refusal (suc k)
-      go s n m k e (Heads.Fields class span) a = absurd (let f = fields-by (answerRefusal s n m) _ _ {r = Heads.Fields class span} a refl in omega (arith, f .0))
+      go s n m k e (Heads.Fields head) a = absurd (let f = fields-by (answerRefusal s n m) _ {r = Heads.Fields head} a refl in omega (arith, f .0))
       go s n m k e (Heads.Refused j) a = let f = refused-by (answerRefusal s n m) _ {r = Heads.Refused j} a refl in ap refusal (f .0 ∙ e)
 
   pub reader-reads : ReadsFields readerOf
@@ -141,7 +141,7 @@ module _ {stamps₀ picks₀ : List ℕ} (read : ReadAnswer stamps₀ picks₀) 
   reader-reads s b n m v w e = go (read .head s n m) refl
     where
       go : (h : AnswerHead) → read .head s n m ≡ h → readingOf h (read .stamps s n m) (read .picks s n m) n m ≡ gives (answerOf s n m)
-      go (Heads.Fields class span) f = ap gives (counted (read .contract s n m b v w) f (b .bytes))
+      go (Heads.Fields head) f = ap gives (counted (read .contract s n m b v w) f (b .bytes))
       go (Heads.Refused j) f = absurd (let g = refused-by (answerRefusal s n m) _ (read .contract s n m b v w .answered) f in g .1 e)
 
 -- ---- `write_answer`

@@ -18,7 +18,7 @@ use Rattle.definitions.proofs.Whole.{up, down}
 use Rattle.definitions.proofs.Tropical.{bot-not-fin}
 use Rattle.definitions.proofs.Offset.{trop-fin, trop-read, within-fits, trop-fieldOf, off-bound}
 use Rattle.definitions.proofs.Refusals.{WriterFits}
-use Rattle.definitions.proofs.RoundTrip.{class-most, span-within, stamps-within, size-most, highest-most}
+use Rattle.definitions.proofs.RoundTrip.{class-most, start-most, span-within, stamps-within, size-most, highest-most}
 use Rattle.answer_reader.specs.Fields.{fieldsOf}
 use Rattle.answer_reader.proofs.ByClass.{stamps-most, picks-most}
 use Rattle.checker.proofs.Answers.{within-at, picks-at}
@@ -61,18 +61,18 @@ numbers-words xs h l = record { word = λ i. rw (List·getD-map numberFor xs i b
 
 -- What is handed to the writer for an answer.
 abbrev pub handing : Answer → ℕ → ℕ → WriterFields
-handing a n m = record { class = a .class; span = numberFor (a .span); stamps = map numberFor (a .stamps); picks = a .picks; n = n; m = m }
+handing a n m = record { head = record { class = a .class; span = numberFor (a .span); start = a .start }; stamps = map numberFor (a .stamps); picks = a .picks; n = n; m = m }
 
 pub handing-fits : (a : Answer) (n m : ℕ) → Handed a → Word n → Word m → WriterFieldsFit (handing a n m)
 handing-fits a n m h v w =
-    record { class = h .class; span = number-word (a .span) (h .span); stamps = numbers-words (a .stamps) (h .stamps) (h .stamps-size); picks = h .picks; n = v; m = w }
+    record { class = h .class; span = number-word (a .span) (h .span); start = h .start; stamps = numbers-words (a .stamps) (h .stamps) (h .stamps-size); picks = h .picks; n = v; m = w }
 
 -- They mean the answer.
-pub handing-means : (a : Answer) → Handed a → fieldsOf (a .class) (numberFor (a .span)) (map numberFor (a .stamps)) (a .picks) ≡ a
+pub handing-means : (a : Answer) → Handed a → fieldsOf (record { class = a .class; span = numberFor (a .span); start = a .start }) (map numberFor (a .stamps)) (a .picks) ≡ a
 handing-means a h =
     let e = number-back (a .span) (h .span) in
     let f = numbers-back (a .stamps) (h .stamps) in
-    λ i. record { class = a .class; span = e i; stamps = f i; picks = a .picks }
+    λ i. record { class = a .class; span = e i; start = a .start; stamps = f i; picks = a .picks }
 
 -- What the writer takes can be handed to it.
 pub fits-handed : (a : Answer) (n m room : ℕ) → WriterFits a n m room → Handed a
@@ -81,6 +81,7 @@ fits-handed a n m room f =
     record {
       class = omega (arith, class-most (a .class) (f .class-known));
       span = within-numbered span-limit (a .span) (omega arith) (span-within (a .class) (a .span) (f .form .span-fits));
+      start = omega (arith, start-most (a .class) (a .start) n (f .start-fits), f .n-most);
       stamps = λ i. within-numbered stamp-limit (getD (a .stamps) i bot) (omega arith) (within-at stamp-limit (a .stamps) (stamps-within (a .stamps) (f .form .stamps-fit)) i);
       stamps-size = omega (arith, f .stamps-count, stamps-most (a .class) n (f .n-most));
       picks = record {

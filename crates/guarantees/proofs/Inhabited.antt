@@ -15,7 +15,7 @@ use Rattle.definitions.specs.Problem.{Problem}
 use Rattle.definitions.specs.Bytes.{Bytes, outcome}
 use Rattle.definitions.specs.Offset.{tropOf}
 use Rattle.definitions.specs.ProblemRecord.{lengthField, kindField, nField, mField, countField, leadsPlace, questionsAsked, layoutOf, headerRefusal, headerOutcome, problemRefusal, recordRefusal, problemOutcome, WithinLayout, WithinLayouts, problemOf, refusalFor, meant}
-use Rattle.definitions.specs.AnswerRecord.{Answer, answerRefusal, answerOutcome, answerOf, answerHeaderRefusal, classField, spanField, answerSize, answerBytes, writerRefusal, writerOutcome, written}
+use Rattle.definitions.specs.AnswerRecord.{Answer, answerRefusal, answerOutcome, answerOf, answerHeaderRefusal, classField, spanField, startField, answerSize, answerBytes, writerRefusal, writerOutcome, written}
 use Rattle.definitions.specs.Verdict as Verdicts
 use Rattle.definitions.specs.Verdict.{Judged, turned-away, certified, uncertified, answerFor, checkRefusal}
 use Rattle.definitions.specs.Solved as Results
@@ -34,10 +34,11 @@ use Rattle.records.specs.declared.problem.Header.the-variants as Headers
 use Rattle.records.specs.ProblemHeader.{headerOf, problemRefused}
 use Rattle.definitions.proofs.Solved.{none-refused, one-asked}
 use Rattle.problem_records.specs.Tables.{leftTable, rightTable}
+use Rattle.answer_reader.specs.declared.answer.Head.{Head}
 use Rattle.answer_reader.specs.declared.answer.AnswerHead.{AnswerHead}
 use Rattle.answer_reader.specs.declared.answer.AnswerHead.the-variants as Heads
 use Rattle.answer_reader.specs.Fields.{fieldsOf, stampsOf, picksOf}
-use Rattle.answer_reader.specs.AnswerReading.{headOf, spanNumber}
+use Rattle.answer_reader.specs.AnswerReading.{headOf, toldBy, headIn}
 use Rattle.answer_reader.proofs.Judging.{span-meant}
 use Rattle.answer_reader.proofs.Passing.{stampsAt-length, picksAt-length}
 use Rattle.answer_reader.proofs.ByClass.{stamps-most, picks-most}
@@ -75,14 +76,14 @@ unfolding headerBy headerOf outcome
 header-by zero s = refl
 header-by (suc k) s = refl
 
-headBy : ℕ → ℕ → ℕ → AnswerHead
-headBy zero class span = Heads.Fields class span
-headBy (suc k) class span = Heads.Refused (suc k)
+headBy : ℕ → Head → AnswerHead
+headBy zero head = Heads.Fields head
+headBy (suc k) head = Heads.Refused (suc k)
 
-head-by : (k class span : ℕ) → headOf (headBy k class span) ≡ outcome k (class, tropOf span)
+head-by : (k : ℕ) (head : Head) → headOf (headBy k head) ≡ outcome k (toldBy head)
 unfolding headBy headOf outcome
-head-by zero class span = refl
-head-by (suc k) class span = refl
+head-by zero head = refl
+head-by (suc k) head = refl
 
 writtenBy : ℕ → ℕ → Written
 writtenBy zero size = Writes.Record size
@@ -204,11 +205,11 @@ the-read-problem left₀ right₀ = record {
 pub the-read-answer : (stamps₀ picks₀ : List ℕ) → ReadAnswer stamps₀ picks₀
 unfolding answerOutcome answerOf stampsOf picksOf
 the-read-answer stamps₀ picks₀ = record {
-  head = λ s n m. headBy (answerRefusal s n m) (classField s) (spanNumber s);
+  head = λ s n m. headBy (answerRefusal s n m) (headIn s);
   stamps = λ s n m. unlessRefused (answerRefusal s n m) stamps₀ (pad 32 (stampsOf s n));
   picks = λ s n m. unlessRefused (answerRefusal s n m) picks₀ (pad 64 (picksOf s n m));
   contract = λ s n m b v w. record {
-    answered = head-by (answerRefusal s n m) (classField s) (spanNumber s) ∙ ap (λ (x : Trop). outcome (answerRefusal s n m) (classField s, x)) (span-meant (b .bytes) n m);
+    answered = head-by (answerRefusal s n m) (headIn s) ∙ ap (λ (x : Trop). outcome (answerRefusal s n m) (classField s, x, startField s)) (span-meant (b .bytes) n m);
     kept = λ d. let some = above (answerRefusal s n m) d in (unless-refused (answerRefusal s n m) stamps₀ _ some, unless-refused (answerRefusal s n m) picks₀ _ some);
     stamps-read = λ e. rw (unless-none (answerRefusal s n m) stamps₀ (pad 32 (stampsOf s n)) e)
         (padded 32 (stampsOf s n) (rw stampsAt-length (stamps-most (classField s) n (answer-fits s n m .0 e .n-most))));
@@ -224,7 +225,7 @@ the-read-answer stamps₀ picks₀ = record {
 
 -- The refusal of what is handed over, and the answer that it means.
 abbrev meantBy : WriterFields → Answer
-meantBy f = fieldsOf (f .class) (f .span) (f .stamps) (f .picks)
+meantBy f = fieldsOf (f .head) (f .stamps) (f .picks)
 
 abbrev refusedBy : WriterFields → List ℕ → ℕ
 refusedBy f before = writerRefusal (meantBy f) (f .n) (f .m) (length before)
@@ -232,9 +233,9 @@ refusedBy f before = writerRefusal (meantBy f) (f .n) (f .m) (length before)
 pub the-write-answer : WriteAnswer
 unfolding writerOutcome
 the-write-answer = record {
-  result = λ f before. writtenBy (refusedBy f before) (answerSize (f .class) (f .n) (f .m));
+  result = λ f before. writtenBy (refusedBy f before) (answerSize (f .head .class) (f .n) (f .m));
   buffer = λ f before. unlessRefused (refusedBy f before) before (written before (answerBytes (f .n) (meantBy f)));
-  contract = λ f before h b. record { answered = written-by (refusedBy f before) (answerSize (f .class) (f .n) (f .m)); buffer = refl };
+  contract = λ f before h b. record { answered = written-by (refusedBy f before) (answerSize (f .head .class) (f .n) (f .m)); buffer = refl };
 }
 
 -- ---- `answer` of the span program

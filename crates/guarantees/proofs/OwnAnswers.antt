@@ -1,6 +1,6 @@
 -- The engine's own record, judged by the checker and read by the reader.
 use Prim.Native.Nat.{ℕ, zero, suc, _+_, _≤_, _<_}
-use mathlib.Core.Path.{_≡_, ap, ap₂, sym, subst, subst₂, _∙_}
+use mathlib.Core.Path.{_≡_, refl, ap, sym, subst, subst₂, _∙_}
 use mathlib.Core.Bool.{false}
 use mathlib.Core.List.{List}
 use native.Mathlib.Omega.{arith}
@@ -11,7 +11,7 @@ use Rattle.definitions.specs.Tropical.{Trop, bot}
 use Rattle.definitions.specs.Offset.{tropOf}
 use Rattle.definitions.specs.Bytes.{Bytes, numAt, Outcome, gives, outcome}
 use Rattle.definitions.specs.ProblemRecord.{WithinLayout, headerOutcome, nField, mField, meant}
-use Rattle.definitions.specs.AnswerRecord.{Answer, answerRefusal, answerOutcome, answerOf, answerBytes, classField, spanField}
+use Rattle.definitions.specs.AnswerRecord.{Answer, answerRefusal, answerOutcome, answerOf, answerBytes, classField, spanField, startField}
 use Rattle.definitions.specs.Verdict as Verdicts
 use Rattle.definitions.specs.Verdict.{Verdict, accepted, Judged, pointOf, strategyOf}
 use Rattle.definitions.specs.Solved as Results
@@ -71,7 +71,7 @@ own-verdict {p} {before} {after} {r} {class} {span} {trials} {size} h e {v} j =
     let named : v ≡ accepted class (tropOf span) = verdict-on p (w .within) (w .answer) (w .answers) (rw (w .bytes) at j) in
     rw named (OwnVerdict.own (w .none) (rw e at h) (rw named at j))
 
--- The reader gives class and span, stamps and picks.
+-- The reader gives class, span and start, stamps and picks.
 pub own-reading : {p before after : List ℕ} {r : Declared.Solved} {class span trials size : ℕ} → Solves p before (solvedOf r) after → r ≡ Answered class span trials size
     → (head : AnswerHead) {stamps₀ stamps picks₀ picks : List ℕ}
     → (WithinLayout p → AnswerRead (take size after) (nField p) (mField p) head stamps₀ stamps picks₀ picks) → OwnReading p before stamps₀ picks₀ (headOf head) after stamps picks
@@ -86,8 +86,10 @@ own-reading {p} {before} {after} {class = class} {span} {trials} {size} h e head
     let read : AnswerRead (answerBytes (nField p) (w .answer)) (nField p) (mField p) head stamps₀ stamps picks₀ picks = rw (w .bytes) at (reads (w .within)) in
     let class-is : classField (answerBytes (nField p) (w .answer)) ≡ class = ap (λ (x : Answer). x .class) back ∙ w .answers .class-is in
     let span-is : spanField (answerBytes (nField p) (w .answer)) ≡ tropOf span = ap (λ (x : Answer). x .span) back ∙ w .answers .span-is in
-    let told : headOf head ≡ gives (class, tropOf span) = read .answered ∙ outcome-none _ _ none ∙ ap₂ (λ (c : ℕ) (x : Trop). gives (c, x)) class-is span-is in
-    rw (told, w .buffer-is) (OwnReading.own a (w .none) (w .answers) (held a back read none))
+    let start-is : startField (answerBytes (nField p) (w .answer)) ≡ w .answer .start = ap (λ (x : Answer). x .start) back in
+    let told : headOf head ≡ gives (class, tropOf span, w .answer .start) = read .answered ∙ outcome-none _ _ none ∙ rw (class-is, span-is, start-is) refl in
+    subst₂ (λ (x : Outcome (ℕ × Trop × ℕ)) (y : List ℕ). OwnReading p before stamps₀ picks₀ x y stamps picks) (sym told) (sym (w .buffer-is))
+    (OwnReading.own a (w .none) (w .answers) (held a back read none))
   where
     held : (a : Answer) → answerOf (answerBytes (nField p) a) (nField p) (mField p) ≡ a
         → AnswerRead (answerBytes (nField p) a) (nField p) (mField p) head stamps₀ stamps picks₀ picks

@@ -6,25 +6,26 @@ use mathlib.Core.Bool.{Bool, true, false, cond, _&&_, and-eq-true-iff, false≢t
 use mathlib.Core.List.{List}
 use mathlib.Core.Logic.{⊎-elim}
 use native.Mathlib.Omega.{arith}
-use lib.Dec.{T, eqb}
+use lib.Dec.{T, eqb, leb}
 use lib.ListN.{length, List·getD-eq-default}
 use lib.IntN.{ℤ, pos, negsuc, _+ℤ_, _-ℤ_}
 use lib.Signed.{_≤ℤ_, leZ}
-use borrow.Author.Tests.{eqb-true}
+use borrow.Author.Tests.{eqb-true, leb-true}
 use Rattle.base.proofs.Numbers.{nat-le-or-lt}
 use Rattle.definitions.specs.Limits.{lead-limit, span-limit, class-optimal, class-unbounded, class-infeasible}
 use Rattle.definitions.specs.Tropical.{Trop, bot, fin, _⊑_, blank-least, whole-least, Finite}
 use Rattle.definitions.specs.Problem as Problems
 use Rattle.definitions.specs.Problem.{Problem, Value, minus-infinity, plus-infinity, side, value}
-use Rattle.definitions.specs.Certificate.{Strategy, Anchor, Reachable, start, onward, Walk, stop, step, Cycle, raise, Leads, Arc, HasPick, PicksCount, BelowZero, RowLeads, RowArc, RowHasPick, RowPicksCount, AtLeastZero}
+use Rattle.definitions.specs.Certificate.{Strategy, Second, startOf, AnchorAnd, Reachable, start, onward, Walk, stop, step, Cycle, raise, Leads, Arc, HasPick, PicksCount, BelowZero, RowLeads, RowArc, RowHasPick, RowPicksCount, AtLeastZero}
 use Rattle.definitions.specs.ProblemRecord.{nField, mField, WithinLayout, problemOf}
 use Rattle.definitions.specs.AnswerRecord.{Answer, answerRefusal}
 use Rattle.definitions.specs.Verdict.{Accepted, optimal, unbounded, infeasible, answerFor, pointOf, strategyOf}
 use Rattle.definitions.proofs.Whole.{whole, plus-read}
 use Rattle.definitions.proofs.Tropical.{fin-injective, bot-not-fin, not-finite-bot}
 use Rattle.duality.specs.Picks.{NoneAbove}
-use Rattle.duality.proofs.Starts.{anchor-inside}
+use Rattle.duality.proofs.Starts.{start-below, anchor-and-below}
 use Rattle.duality.proofs.Numbers.{below-infeasible, above-unbounded}
+use Rattle.duality.proofs.Classes.{starts-inside}
 use Rattle.strategy_tests.proofs.Certified.{Scale, strict, loose, strict-scale, loose-scale}
 use Rattle.duality.proofs.SmallLeads.{layout-within, layout-enough}
 use Rattle.guarantees.proofs.Holding.{picks-above}
@@ -113,12 +114,12 @@ record Bounded (pot : ℕ → Trop) (s : ℕ → ℤ → ℤ) (n l : ℕ) (w h :
   is : pot l ≡ fin there
   under : (s n w +ℤ there) ≤ℤ h
 
-module _ {Leads : ℕ → ℕ → Type 0} {A : ℕ → ℕ → ℤ → Type 0} {Counts : ℕ → Type 0} {s : ℕ → ℤ → ℤ} {Good : ℤ → Type 0} (scale : Scale s Good)
-    (pot : ℕ → Trop) (some : Finite (pot 0)) (counts : (j : ℕ) → Finite (pot j) → Counts j)
+module _ {Start : ℕ → Type 0} {Leads : ℕ → ℕ → Type 0} {A : ℕ → ℕ → ℤ → Type 0} {Counts : ℕ → Type 0} {s : ℕ → ℤ → ℤ} {Good : ℤ → Type 0} (scale : Scale s Good)
+    (pot : ℕ → Trop) (some : (j : ℕ) → Start j → Finite (pot j)) (counts : (j : ℕ) → Finite (pot j) → Counts j)
     (leads : (j l : ℕ) → Finite (pot j) → Leads j l → Finite (pot l))
     (bounded : (j l : ℕ) (w h : ℤ) → pot j ≡ fin h → A j l w → Bounded pot s 1 l w h) where
-  reached : {j : ℕ} → Reachable Anchor Leads j → Finite (pot j)
-  reached (start e) = rw e some
+  reached : {j : ℕ} → Reachable Start Leads j → Finite (pot j)
+  reached (start b) = some _ b
   reached (onward {j = j} {l = l} r a) = leads j l (reached r) a
 
   walk-bounded : {j k n : ℕ} {w : ℤ} (h : ℤ) → pot j ≡ fin h → Walk A j k n w → Bounded pot s n k w h
@@ -132,7 +133,7 @@ module _ {Leads : ℕ → ℕ → Type 0} {A : ℕ → ℕ → ℤ → Type 0} {
         under = omega (whole, scale .more n w v, plus-read (s 1 w) (s n v), plus-read (s 1 w) (b .there), plus-read (s n v) (q .there), plus-read (s (suc n) (w +ℤ v)) (q .there), b .under, q .under);
       }
 
-  certifies : ((j : ℕ) → Reachable Anchor Leads j → Counts j) × ((w : ℤ) → Cycle Anchor Leads A w → Good w)
+  certifies : ((j : ℕ) → Reachable Start Leads j → Counts j) × ((w : ℤ) → Cycle Start Leads A w → Good w)
   certifies = (
     λ j r. counts j (reached r),
     λ w c.
@@ -161,8 +162,27 @@ unfoldable pub variableFalls : Problem → ℤ → (ℕ → Trop) → Strategy �
 variableFalls p t pot picks j bot = true
 variableFalls p t pot picks j (fin h) = pickFalls p t pot j h (picks j)
 
-unfoldable pub variablesFall : Problem → ℤ → List Trop → Strategy → Bool
-variablesFall p t pots picks = finite? (pointOf pots 0) && every (λ j. variableFalls p t (pointOf pots) picks j (pointOf pots j)) (length pots)
+-- The variables of the start have a number: the anchor, or those of the second list.
+unfoldable pub metAt : Trop → Trop → Bool
+metAt bot h = true
+metAt (fin b) h = finite? h
+
+unfoldable pub startMet : Problem → (ℕ → Trop) → ℕ → Bool
+startMet p pot zero = finite? (pot 0)
+startMet p pot (suc k) = every (λ j. metAt (p .right (p .m) j) (pot j)) (suc (p .n))
+
+met-finite : (x h : Trop) → metAt x h ≡ true → Finite x → Finite h
+unfolding metAt
+met-finite bot h e f = absurd (not-finite-bot f)
+met-finite (fin b) h e f = finite-tested h e
+
+start-met : (p : Problem) (pot : ℕ → Trop) (begin : ℕ) → startMet p pot begin ≡ true → (j : ℕ) → startOf p begin j → Finite (pot j)
+unfolding startMet startOf
+start-met p pot zero e j s = rw s (finite-tested (pot 0) e)
+start-met p pot (suc k) e j s = met-finite (p .right (p .m) j) (pot j) (every-below (λ j. metAt (p .right (p .m) j) (pot j)) (suc (p .n)) e j (omega (arith, s .inside))) (s .right)
+
+unfoldable pub variablesFall : Problem → ℤ → ℕ → List Trop → Strategy → Bool
+variablesFall p t begin pots picks = startMet p (pointOf pots) begin && every (λ j. variableFalls p t (pointOf pots) picks j (pointOf pots j)) (length pots)
 
 -- What the test of a variable at h says.
 record Fall (p : Problem) (t : ℤ) (pot : ℕ → Trop) (picks : Strategy) (j : ℕ) (h : ℤ) : Type 0 where
@@ -191,14 +211,15 @@ falls-bounded (fin y) bot a r h pot l e q t = absurd (false≢true t)
 falls-bounded (fin y) (fin k) a r h pot l e q t =
     record { there = k; is = q; under = subst (λ (z : ℤ). (strict 1 ((z -ℤ a) +ℤ r) +ℤ k) ≤ℤ h) (fin-injective e) (le-tested t) }
 
-pub variables-fall : (p : Problem) (t : ℤ) (pots : List Trop) (picks : Strategy) → variablesFall p t pots picks ≡ true → PicksCount Anchor p picks × BelowZero Anchor p picks t
+pub variables-fall : (p : Problem) (t : ℤ) (begin : ℕ) (pots : List Trop) (picks : Strategy) → variablesFall p t begin pots picks ≡ true
+    → PicksCount (startOf p begin) p picks × BelowZero (startOf p begin) p picks t
 unfolding variablesFall
-variables-fall p t pots picks e = certifies strict-scale pot (finite-tested (pot 0) (both .0)) counts leads bounded
+variables-fall p t begin pots picks e = certifies strict-scale pot (start-met p pot begin (both .0)) counts leads bounded
   where
     pot : ℕ → Trop
     pot = pointOf pots
 
-    both : (finite? (pointOf pots 0) ≡ true) × (every (λ j. variableFalls p t (pointOf pots) picks j (pointOf pots j)) (length pots) ≡ true)
+    both : (startMet p (pointOf pots) begin ≡ true) × (every (λ j. variableFalls p t (pointOf pots) picks j (pointOf pots j)) (length pots) ≡ true)
     both = and-eq-true-iff _ _ .0 e
 
     fall : (j : ℕ) (h : ℤ) → pointOf pots j ≡ fin h → Fall p t (pointOf pots) picks j h
@@ -247,8 +268,8 @@ unfoldable pub variableRises : Problem → ℤ → (ℕ → Trop) → Strategy �
 variableRises p t pot picks j bot = true
 variableRises p t pot picks j (fin h) = every (λ i. rowLeft p t pot picks i h (p .left i j)) (suc (p .m))
 
-unfoldable pub variablesRise : Problem → ℤ → List Trop → Strategy → Bool
-variablesRise p t pots picks = finite? (pointOf pots 0) && every (λ j. variableRises p t (pointOf pots) picks j (pointOf pots j)) (length pots)
+unfoldable pub variablesRise : Problem → ℤ → ℕ → List Trop → Strategy → Bool
+variablesRise p t at pots picks = (finite? (pointOf pots 0) && finite? (pointOf pots at)) && every (λ j. variableRises p t (pointOf pots) picks j (pointOf pots j)) (length pots)
 
 -- What the test of a row with left coefficient a of a variable at h says.
 record Rise (p : Problem) (t : ℤ) (pot : ℕ → Trop) (picks : Strategy) (i : ℕ) (h a : ℤ) : Type 0 where
@@ -280,11 +301,12 @@ rise-of p t pot picks i h a e = go (picks i) refl e
         let f = rises-finite (p .right i l) (pot l) a (raise p t i) h e in
         record { variable = l; b = f .whole; picked = q; right-is = f .is; bound = rises-bounded (p .right i l) (pot l) a (raise p t i) h pot l refl e (f .whole) (f .is) }
 
-pub variables-rise : (p : Problem) (t : ℤ) (pots : List Trop) (picks : Strategy) → variablesRise p t pots picks ≡ true → RowPicksCount Anchor p picks × AtLeastZero Anchor p picks t
+pub variables-rise : (p : Problem) (t : ℤ) (at : ℕ) (pots : List Trop) (picks : Strategy) → variablesRise p t at pots picks ≡ true
+    → RowPicksCount (AnchorAnd at) p picks × AtLeastZero (AnchorAnd at) p picks t
 unfolding variablesRise variableRises
-variables-rise p t pots picks e = (λ i j h r f. c .0 j r i h f, c .1)
+variables-rise p t at pots picks e = (λ i j h r f. c .0 j r i h f, c .1)
   where
-    both : (finite? (pointOf pots 0) ≡ true) × (every (λ j. variableRises p t (pointOf pots) picks j (pointOf pots j)) (length pots) ≡ true)
+    both : ((finite? (pointOf pots 0) && finite? (pointOf pots at)) ≡ true) × (every (λ j. variableRises p t (pointOf pots) picks j (pointOf pots j)) (length pots) ≡ true)
     both = and-eq-true-iff _ _ .0 e
 
     rise : (i j : ℕ) (h a : ℤ) → i ≤ p .m → pointOf pots j ≡ fin h → p .left i j ≡ fin a → Rise p t (pointOf pots) picks i h a
@@ -312,8 +334,13 @@ variables-rise p t pots picks e = (λ i j h r f. c .0 j r i h f, c .1)
         let k : w ≡ (r .b -ℤ a .by .a) +ℤ raise p t (a .row) = a .by .weighs ∙ ap (λ (x : ℤ). (x -ℤ a .by .a) +ℤ raise p t (a .row)) g in
         rw (k, ← d) (r .bound)
 
-    c : ((j : ℕ) → Reachable Anchor (RowLeads p picks) j → (i : ℕ) → i ≤ p .m → Finite (p .left i j) → RowHasPick p picks i) × AtLeastZero Anchor p picks t
-    c = certifies loose-scale (pointOf pots) (finite-tested (pointOf pots 0) (both .0)) counts leads bounded
+    begun : (j : ℕ) → AnchorAnd at j → Finite (pointOf pots j)
+    begun j =
+        let each = and-eq-true-iff (finite? (pointOf pots 0)) (finite? (pointOf pots at)) .0 (both .0) in
+        ⊎-elim (λ (e : j ≡ 0). rw e (finite-tested (pointOf pots 0) (each .0))) (λ (e : j ≡ at). rw e (finite-tested (pointOf pots at) (each .1)))
+
+    c : ((j : ℕ) → Reachable (AnchorAnd at) (RowLeads p picks) j → (i : ℕ) → i ≤ p .m → Finite (p .left i j) → RowHasPick p picks i) × AtLeastZero (AnchorAnd at) p picks t
+    c = certifies loose-scale (pointOf pots) begun counts leads bounded
 
 -- ---- answers
 
@@ -322,14 +349,18 @@ leastTested p a pots bot = false
 leastTested p a pots (fin s) =
     (isWhole (pos 0) (pointOf (a .stamps) 0)
     && every (λ i. atMost (side (p .n) (p .left i) (pointOf (a .stamps))) (side (p .n) (p .right i) (pointOf (a .stamps)))) (p .m))
-    && (isValue s (value p (pointOf (a .stamps))) && variablesFall p (s -ℤ pos 1) pots (strategyOf (a .picks)))
+    && (isValue s (value p (pointOf (a .stamps))) && variablesFall p (s -ℤ pos 1) (a .start) pots (strategyOf (a .picks)))
+
+unfoldable pub bottomlessTested : Problem → Answer → List Trop → ℕ → Bool
+bottomlessTested p a pots zero = false
+bottomlessTested p a pots (suc k) = (leb k (p .n) && finite? (p .right (p .m) k)) && variablesRise p (negsuc span-limit) k pots (strategyOf (a .picks))
 
 -- The answer is accepted, by this potential.
 unfoldable pub tested : Problem → Answer → List Trop → Bool
 tested p a pots =
     cond (eqb (a .class) class-optimal) (leastTested p a pots (a .span))
-    (cond (eqb (a .class) class-unbounded) (variablesRise p (negsuc span-limit) pots (strategyOf (a .picks)))
-    (cond (eqb (a .class) class-infeasible) (variablesFall p (pos span-limit) pots (strategyOf (a .picks))) false))
+    (cond (eqb (a .class) class-unbounded) (bottomlessTested p a pots (a .start))
+    (cond (eqb (a .class) class-infeasible) (variablesFall p (pos span-limit) (a .start) pots (strategyOf (a .picks))) false))
 
 least-accepted : (p : Problem) (a : Answer) (pots : List Trop) → a .class ≡ class-optimal → (x : Trop) → a .span ≡ x → leastTested p a pots x ≡ true → Accepted p a
 unfolding leastTested
@@ -338,7 +369,7 @@ least-accepted p a pots c (fin s) q e =
     let halves = and-eq-true-iff _ _ .0 e in
     let plan = and-eq-true-iff _ _ .0 (halves .0) in
     let rest = and-eq-true-iff _ _ .0 (halves .1) in
-    let f = variables-fall p (s -ℤ pos 1) pots (strategyOf (a .picks)) (rest .1) in
+    let f = variables-fall p (s -ℤ pos 1) (a .start) pots (strategyOf (a .picks)) (rest .1) in
     optimal c q (record {
       feasible = record {
         anchored = is-whole (pos 0) (pointOf (a .stamps) 0) (plan .0);
@@ -360,6 +391,17 @@ variables-table : (p a : List ℕ) → answerRefusal a (nField p) (mField p) ≡
 unfolding problemOf
 variables-table p a none e = picks-above p a none (suc (mField p)) (suc (nField p)) (rw e) (rw e)
 
+bottomless-accepted : (p a : List ℕ) (pots : List Trop) → WithinLayout p → answerRefusal a (nField p) (mField p) ≡ 0 → answerFor p a .class ≡ class-unbounded
+    → (begin : ℕ) → answerFor p a .start ≡ begin → bottomlessTested (problemOf p) (answerFor p a) pots begin ≡ true → Accepted (problemOf p) (answerFor p a)
+unfolding bottomlessTested
+bottomless-accepted p a pots w none two zero s e = absurd (false≢true e)
+bottomless-accepted p a pots w none two (suc k) s e =
+    let halves = and-eq-true-iff _ _ .0 e in
+    let named = and-eq-true-iff (leb k (problemOf p .n)) (finite? (problemOf p .right (problemOf p .m) k)) .0 (halves .0) in
+    let second : Second (problemOf p) k = record { inside = leb-true k (problemOf p .n) (named .0); right = finite-tested _ (named .1) } in
+    let f = variables-rise (problemOf p) (negsuc span-limit) k pots (strategyOf (answerFor p a .picks)) (halves .1) in
+    unbounded two s second (above-unbounded (problemOf p) lead-limit span-limit (strategyOf (answerFor p a .picks)) (starts-inside (problemOf p) (anchor-and-below (problemOf p) k second)) (layout-within p w) (layout-enough p w) (rows-table p a none two) (f .0) (f .1))
+
 -- Bytes that nothing refuses and whose answer passes the test are accepted.
 pub tested-accepted : (p a : List ℕ) (pots : List Trop) → WithinLayout p → answerRefusal a (nField p) (mField p) ≡ 0
     → tested (problemOf p) (answerFor p a) pots ≡ true → Accepted (problemOf p) (answerFor p a)
@@ -368,16 +410,13 @@ tested-accepted p a pots w none e = go (eqb (answerFor p a .class) 1) refl (eqb 
   where
     go : (b : Bool) → eqb (answerFor p a .class) 1 ≡ b → (c : Bool) → eqb (answerFor p a .class) 2 ≡ c → (d : Bool) → eqb (answerFor p a .class) 3 ≡ d
         → cond b (leastTested (problemOf p) (answerFor p a) pots (answerFor p a .span))
-        (cond c (variablesRise (problemOf p) (negsuc span-limit) pots (strategyOf (answerFor p a .picks)))
-        (cond d (variablesFall (problemOf p) (pos span-limit) pots (strategyOf (answerFor p a .picks))) false)) ≡ true
+        (cond c (bottomlessTested (problemOf p) (answerFor p a) pots (answerFor p a .start))
+        (cond d (variablesFall (problemOf p) (pos span-limit) (answerFor p a .start) pots (strategyOf (answerFor p a .picks))) false)) ≡ true
         → Accepted (problemOf p) (answerFor p a)
     go true q c r d s e = least-accepted (problemOf p) (answerFor p a) pots (eqb-true _ 1 q) (answerFor p a .span) refl e
-    go false q true r d s e =
-        let two : answerFor p a .class ≡ 2 = eqb-true _ 2 r in
-        let f = variables-rise (problemOf p) (negsuc span-limit) pots (strategyOf (answerFor p a .picks)) e in
-        unbounded two (above-unbounded (problemOf p) lead-limit span-limit (strategyOf (answerFor p a .picks)) (anchor-inside (problemOf p)) (layout-within p w) (layout-enough p w) (rows-table p a none two) (f .0) (f .1))
+    go false q true r d s e = bottomless-accepted p a pots w none (eqb-true _ 2 r) (answerFor p a .start) refl e
     go false q false r true s e =
         let three : answerFor p a .class ≡ 3 = eqb-true _ 3 s in
-        let f = variables-fall (problemOf p) (pos span-limit) pots (strategyOf (answerFor p a .picks)) e in
-        infeasible three (below-infeasible (problemOf p) lead-limit span-limit (strategyOf (answerFor p a .picks)) (anchor-inside (problemOf p)) (layout-within p w) (layout-enough p w) (variables-table p a none three) (f .0) (f .1))
+        let f = variables-fall (problemOf p) (pos span-limit) (answerFor p a .start) pots (strategyOf (answerFor p a .picks)) e in
+        infeasible three (below-infeasible (problemOf p) lead-limit span-limit (strategyOf (answerFor p a .picks)) (starts-inside (problemOf p) (start-below (problemOf p) (answerFor p a .start))) (layout-within p w) (layout-enough p w) (variables-table p a none three) (f .0) (f .1))
     go false q false r false s e = absurd (false≢true e)

@@ -9,13 +9,13 @@ use lib.Dec.{eqb}
 use lib.ListN.{length, getD, List·getD-eq-default}
 use lib.IntN.{ℤ, pos, negℤ, natAbs, _+ℤ_, _-ℤ_}
 use lib.Signed.{_≤ℤ_}
-use borrow.Author.Tests.{eq-eqb, le-leb}
+use borrow.Author.Tests.{eq-eqb, le-leb, lt-ltb}
 use Rattle.base.proofs.Numbers.{nat-le-or-lt}
 use Rattle.definitions.specs.Limits.{highest-n, highest-m, lead-limit, span-limit, stamp-limit, class-optimal, class-unbounded, class-infeasible}
 use Rattle.definitions.specs.Tropical.{Trop, bot, fin, plus, Finite}
 use Rattle.definitions.specs.Problem.{Problem, Point, Feasible, value, Attainable, Optimal, Unbounded, Infeasible}
 use Rattle.definitions.specs.Problem as Problems
-use Rattle.definitions.specs.Certificate.{Strategy, Anchor, AcceptedOptimal}
+use Rattle.definitions.specs.Certificate.{Strategy, Anchor, Second, startOf, AnchorAnd, AcceptedOptimal}
 use Rattle.definitions.specs.Bytes.{all, blank-or-within, whole-within}
 use Rattle.definitions.specs.ProblemRecord.{listOf}
 use Rattle.definitions.specs.AnswerRecord.{Answer, stampCount, pickCount, highestPick, rightCounts, formRefusal, spanFits, stampsFit, picksFit, is-zero, is-blank}
@@ -24,22 +24,22 @@ use Rattle.definitions.specs.Verdict.{strategyOf}
 use Rattle.definitions.specs.Solved as Results
 use Rattle.definitions.specs.Solved.{Found, Answers, IdleVariables, IdleRows}
 use Rattle.definitions.proofs.Whole.{up, down, whole, plus-read, neg-read, abs-show}
-use Rattle.definitions.proofs.Tropical.{blank-or-finite}
 use Rattle.definitions.proofs.Refusals.{form-fits}
 use Rattle.definitions.proofs.ProblemBack.{listed-length, listed-at}
-use Rattle.duality.specs.System.{Solves, Blocks, systemAt}
+use Rattle.duality.specs.Starts.{StartBelow}
+use Rattle.duality.specs.System.{Solves, Solution, Meets, systemAt}
 use Rattle.duality.specs.Values.{values}
 use Rattle.duality.specs.Within.{Within}
 use Rattle.duality.specs.Picks.{SomePicks}
 use Rattle.duality.proofs.Weak.{not-solved-and-blocked}
-use Rattle.duality.proofs.Attain.{moved, moved-anchored, moved-solves, solves-feasible, solves-within, attainable-solution}
-use Rattle.duality.proofs.Ends.{finished, blank-blocks}
-use Rattle.duality.proofs.Strong.{settled}
+use Rattle.duality.proofs.Attain.{moved, moved-anchored, moved-solves, solves-feasible, moved-counts, solves-within}
+use Rattle.duality.proofs.Ends.{finished}
+use Rattle.duality.proofs.Strong.{settled, met-or-blocks}
 use Rattle.duality.proofs.Stamps.{stamps-at-most-32}
-use Rattle.duality.proofs.Starts.{anchor-inside}
+use Rattle.duality.proofs.Starts.{anchor-below, second-below, start-below, anchor-and-below}
 use Rattle.duality.proofs.Numbers.{top-enough}
 use Rattle.duality.proofs.Unused.{optimal-unused, infeasible-unused, unbounded-unused}
-use Rattle.duality.proofs.Classes.{value-exactly, optimal-exactly, optimal-accepted, optimal-range, infeasible-accepted, unbounded-accepted, classified}
+use Rattle.duality.proofs.Classes.{starts-inside, attainable-exactly, value-exactly, optimal-exactly, optimal-accepted, optimal-range, infeasible-accepted, unbounded-accepted, classified}
 use Rattle.checker.proofs.Agreeing.{listed-point, listed-strategy, listed-fit, optimal-agrees, infeasible-agrees, unbounded-agrees}
 use Rattle.guarantees.proofs.Reached.{listed-whole, shown, shown-agree, shown-past, shown-idle, shown-most, rows-shown, rows-shown-agree, rows-shown-past, rows-shown-idle, rows-shown-most}
 
@@ -99,11 +99,13 @@ module _ (p : Problem) (n-most : p .n ≤ highest-n) (within : Within p lead-lim
   unfolding spanFits is-blank stampsFit
   none-answer h =
       let c = infeasible-accepted p .0 h in
-      let picks : Strategy = shown p (c .picks) n-most in
+      let t = c .table in
+      let begun = start-below p (c .start) in
+      let picks : Strategy = shown p begun (t .picks) n-most in
       let table : List ℕ = listOf picks (suc (p .n)) in
-      let whole-is = listed-whole picks (suc (p .n)) (shown-past p (c .picks) n-most) in
-      let fit = listed-fit (suc (p .m)) picks (suc (p .n)) (shown-most p (c .picks) n-most (suc (p .m)) (c .none-above)) in
-      let a : Answer = record { class = class-infeasible; span = bot; stamps = []; picks = table } in
+      let whole-is = listed-whole picks (suc (p .n)) (shown-past p begun (t .picks) n-most) in
+      let fit = listed-fit (suc (p .m)) picks (suc (p .n)) (shown-most p begun (t .picks) n-most (suc (p .m)) (t .none-above)) in
+      let a : Answer = record { class = class-infeasible; span = bot; start = c .start; stamps = []; picks = table } in
       record {
         class = class-infeasible;
         span = bot;
@@ -114,10 +116,11 @@ module _ (p : Problem) (n-most : p .n ≤ highest-n) (within : Within p lead-lim
           class-is = refl;
           span-is = refl;
           counts = counts-right a (p .n) (p .m) refl (listed-length picks (suc (p .n)));
+          start-fits = le-leb (c .start) 1 (c .fits);
           form = form-fits a (p .n) (p .m) .1 (record { span-fits = refl; stamps-fit = refl; picks-fit = fit });
-          idle-variables = λ _. subst (IdleVariables Anchor p) (sym whole-is) (shown-idle p (c .picks) n-most);
+          idle-variables = λ _. subst (IdleVariables (startOf p (c .start)) p) (sym whole-is) (shown-idle p begun (t .picks) n-most);
           idle-rows = λ e. absurd (omega arith);
-          accepted = Verdicts.infeasible refl (infeasible-agrees p (anchor-inside p) (listed-strategy picks (suc (p .n))) (infeasible-unused (shown-agree p (c .picks) n-most) (c .accepted)));
+          accepted = Verdicts.infeasible refl (infeasible-agrees p (starts-inside p begun) (listed-strategy picks (suc (p .n))) (infeasible-unused (shown-agree p begun (t .picks) n-most) (t .accepted)));
         };
       }
 
@@ -125,11 +128,14 @@ module _ (p : Problem) (n-most : p .n ≤ highest-n) (within : Within p lead-lim
   unfolding spanFits is-blank stampsFit
   bottomless-answer h =
       let c = unbounded-accepted p .0 h in
-      let picks : Strategy = rows-shown p (c .picks) n-most (c .none-above) in
+      let t = c .table in
+      let begun = anchor-and-below p (c .at) (c .second) in
+      let picks : Strategy = rows-shown p begun (t .picks) n-most (t .none-above) in
       let table : List ℕ = listOf picks (suc (p .m)) in
-      let whole-is = listed-whole picks (suc (p .m)) (rows-shown-past p (c .picks) n-most (c .none-above)) in
-      let fit = listed-fit (suc (p .n)) picks (suc (p .m)) (rows-shown-most p (c .picks) n-most (c .none-above)) in
-      let a : Answer = record { class = class-unbounded; span = bot; stamps = []; picks = table } in
+      let whole-is = listed-whole picks (suc (p .m)) (rows-shown-past p begun (t .picks) n-most (t .none-above)) in
+      let fit = listed-fit (suc (p .n)) picks (suc (p .m)) (rows-shown-most p begun (t .picks) n-most (t .none-above)) in
+      let a : Answer = record { class = class-unbounded; span = bot; start = suc (c .at); stamps = []; picks = table } in
+      let idle : IdleRows (AnchorAnd (c .at)) p (strategyOf table) = subst (IdleRows (AnchorAnd (c .at)) p) (sym whole-is) (rows-shown-idle p begun (t .picks) n-most (t .none-above)) in
       record {
         class = class-unbounded;
         span = bot;
@@ -140,10 +146,11 @@ module _ (p : Problem) (n-most : p .n ≤ highest-n) (within : Within p lead-lim
           class-is = refl;
           span-is = refl;
           counts = counts-right a (p .n) (p .m) refl (listed-length picks (suc (p .m)));
+          start-fits = rw (lt-ltb 0 (suc (c .at)) (omega arith), le-leb (suc (c .at)) (suc (p .n)) (omega (arith, c .second .inside)));
           form = form-fits a (p .n) (p .m) .1 (record { span-fits = refl; stamps-fit = refl; picks-fit = fit });
           idle-variables = λ d. absurd (d refl);
-          idle-rows = λ _. subst (IdleRows Anchor p) (sym whole-is) (rows-shown-idle p (c .picks) n-most (c .none-above));
-          accepted = Verdicts.unbounded refl (unbounded-agrees p (listed-strategy picks (suc (p .m))) (unbounded-unused (rows-shown-agree p (c .picks) n-most (c .none-above)) (c .accepted)));
+          idle-rows = λ _ k e. let same : c .at ≡ k = omega arith in subst (λ (i : ℕ). IdleRows (AnchorAnd i) p (strategyOf table)) same idle;
+          accepted = Verdicts.unbounded refl refl (c .second) (unbounded-agrees p (listed-strategy picks (suc (p .m))) (unbounded-unused (rows-shown-agree p begun (t .picks) n-most (t .none-above)) (t .accepted)));
         };
       }
 
@@ -159,8 +166,11 @@ module _ (p : Problem) (n-most : p .n ≤ highest-n) (within : Within p lead-lim
 
   least-plan : (s : ℤ) → Optimal p s → LeastPlan s
   unfolding systemAt is-zero
-  least-plan s o = ⊎-elim blank found (blank-or-finite (x 0))
+  least-plan s o = found (subst (λ (j : ℕ). Finite (x j)) (first .started) (first .finite))
     where
+      τ : Strategy
+      τ = settled (systemAt p s) .strategy
+
       x : Point
       x = values (systemAt p s) (settled (systemAt p s) .strategy)
 
@@ -170,11 +180,18 @@ module _ (p : Problem) (n-most : p .n ≤ highest-n) (within : Within p lead-lim
       exactly : Attainable p s × (Attainable p (s -ℤ pos 1) → ⊥)
       exactly = optimal-exactly p s .0 o
 
-      blank : x 0 ≡ bot → LeastPlan s
-      blank e = absurd (not-solved-and-blocked (systemAt p s) Anchor (attainable-solution p s (exactly .0)) (record {
-        strategy = settled (systemAt p s) .strategy;
-        blocks = blank-blocks (systemAt p s) (settled (systemAt p s) .strategy) (settled (systemAt p s) .policy) Anchor (λ j z. (omega arith, rw z e));
-      }))
+      -- The values are finite at a variable of each start that has a solution.
+      meets : {Start : ℕ → Type 0} → StartBelow (suc (p .n)) Start → Solution (systemAt p s) Start → Meets (systemAt p s) Start x
+      meets {Start} begun v = ⊎-elim
+          (λ m. m)
+          (λ b. absurd (not-solved-and-blocked (systemAt p s) Start v (record { strategy = settled (systemAt p s) .strategy; blocks = b })))
+          (met-or-blocks (systemAt p s) (settled (systemAt p s) .strategy) begun (settled (systemAt p s) .policy))
+
+      first : Meets (systemAt p s) Anchor x
+      first = meets (anchor-below p) (attainable-exactly p s .0 (exactly .0) .0)
+
+      second : Meets (systemAt p s) (Second p) x
+      second = meets (second-below p) (attainable-exactly p s .0 (exactly .0) .1)
 
       low : (k : ℕ) → k ≤ p .n → (v : ℤ) → x k ≡ fin v → Low s v
       low k h v e =
@@ -190,7 +207,7 @@ module _ (p : Problem) (n-most : p .n ≤ highest-n) (within : Within p lead-lim
           record {
             plan = y;
             feasible = feasible;
-            value-is = value-exactly p s y feasible (solves-within p s y kept) (exactly .1);
+            value-is = value-exactly p s y feasible (moved-counts p x (f .whole) (second .started) (second .finite)) (solves-within p s y kept) (exactly .1);
             stamps = stamps-right (listOf y (suc (p .n)))
                 (rw (listed-at y bot (suc (p .n)) 0 (omega arith), anchored) refl)
                 (λ k. ⊎-elim
@@ -207,11 +224,13 @@ module _ (p : Problem) (n-most : p .n ≤ highest-n) (within : Within p lead-lim
       let l = least-plan s o in
       let x : Point = l .plan in
       let c = optimal-accepted p s (l .plan) (l .feasible) (l .value-is) .0 (o .least) in
-      let picks : Strategy = shown p (c .picks) n-most in
+      let t = c .table in
+      let begun = start-below p (c .start) in
+      let picks : Strategy = shown p begun (t .picks) n-most in
       let table : List ℕ = listOf picks (suc (p .n)) in
-      let whole-is = listed-whole picks (suc (p .n)) (shown-past p (c .picks) n-most) in
-      let fit = listed-fit (suc (p .m)) picks (suc (p .n)) (shown-most p (c .picks) n-most (suc (p .m)) (c .none-above)) in
-      let a : Answer = record { class = class-optimal; span = fin s; stamps = listOf x (suc (p .n)); picks = table } in
+      let whole-is = listed-whole picks (suc (p .n)) (shown-past p begun (t .picks) n-most) in
+      let fit = listed-fit (suc (p .m)) picks (suc (p .n)) (shown-most p begun (t .picks) n-most (suc (p .m)) (t .none-above)) in
+      let a : Answer = record { class = class-optimal; span = fin s; start = c .start; stamps = listOf x (suc (p .n)); picks = table } in
       record {
         class = class-optimal;
         span = fin s;
@@ -222,11 +241,12 @@ module _ (p : Problem) (n-most : p .n ≤ highest-n) (within : Within p lead-lim
           class-is = refl;
           span-is = refl;
           counts = counts-right a (p .n) (p .m) (listed-length x (suc (p .n))) (listed-length picks (suc (p .n)));
+          start-fits = le-leb (c .start) 1 (c .fits);
           form = form-fits a (p .n) (p .m) .1 (record { span-fits = le-leb _ span-limit (range s o); stamps-fit = l .stamps; picks-fit = fit });
-          idle-variables = λ _. subst (IdleVariables Anchor p) (sym whole-is) (shown-idle p (c .picks) n-most);
+          idle-variables = λ _. subst (IdleVariables (startOf p (c .start)) p) (sym whole-is) (shown-idle p begun (t .picks) n-most);
           idle-rows = λ e. absurd (omega arith);
-          accepted = Verdicts.optimal refl refl (optimal-agrees p s (anchor-inside p) (listed-point x (suc (p .n))) (listed-strategy picks (suc (p .n)))
-              (optimal-unused (shown-agree p (c .picks) n-most) s x (c .accepted)));
+          accepted = Verdicts.optimal refl refl (optimal-agrees p s (starts-inside p begun) (listed-point x (suc (p .n))) (listed-strategy picks (suc (p .n)))
+              (optimal-unused (shown-agree p begun (t .picks) n-most) s x (t .accepted)));
         };
       }
 

@@ -26,7 +26,7 @@ use Rattle.checker.proofs.Judgement.{judged-unique, all-bytes}
 use Rattle.guarantees.proofs.Holding.{accepted-holds}
 use Rattle.checker.proofs.Demand3.{least-exactly}
 use Rattle.strategy_tests.proofs.Certified.{strict, loose}
-use Rattle.guarantees.proofs.Potentials.{every, atMost, sameWhole, isWhole, isValue, finite?, falls, leftFalls, pickFalls, variableFalls, variablesFall, rises, rowPick, rowLeft, variableRises, variablesRise, leastTested, tested, tested-accepted}
+use Rattle.guarantees.proofs.Potentials.{every, atMost, sameWhole, isWhole, isValue, finite?, falls, leftFalls, pickFalls, variableFalls, metAt, startMet, variablesFall, rises, rowPick, rowLeft, variableRises, variablesRise, leastTested, bottomlessTested, tested, tested-accepted}
 
 -- P holds of each example of a list.
 pub data Each (P : Example → Type 0) : List Example → Type 0 where
@@ -45,13 +45,13 @@ potentials =
     (fin (pos 0) ∷ [])
     ∷ (fin (pos 0) ∷ [])
     ∷ (fin (pos 0) ∷ [])
-    ∷ (fin (pos 0) ∷ [])
+    ∷ (bot ∷ [])
     ∷ (fin (pos 0) ∷ fin (pos 929) ∷ [])
     ∷ (fin (pos (suc span-limit)) ∷ fin (pos 0) ∷ [])
     ∷ (fin (pos 0) ∷ fin (pos 641) ∷ [])
     ∷ (fin (pos 0) ∷ fin (pos 929) ∷ [])
     ∷ (fin (pos 0) ∷ fin (pos 1409) ∷ fin (pos 1409) ∷ [])
-    ∷ (fin (pos 0) ∷ bot ∷ bot ∷ [])
+    ∷ (bot ∷ fin (pos 0) ∷ fin (pos 321) ∷ [])
     ∷ (fin (pos 0) ∷ fin (pos 0) ∷ [])
     ∷ []
 
@@ -62,7 +62,7 @@ allTested (e ∷ es) (q ∷ qs) = tested (problemOf (e .problem)) (answerFor (e 
 
 -- Every answer of the table passes.
 examples-tested : allTested examples potentials ≡ true
-unfolding allTested potentials examples example-A example-B example-C example-D example-E example-F example-G example-H example-I example-J example-K problemOf answerOf numAt numsAt tropField signed tropAt side value minus largest larger plus raise pointOf strategyOf tested leastTested every atMost sameWhole isWhole isValue finite? falls leftFalls pickFalls variableFalls variablesFall rises rowPick rowLeft variableRises variablesRise strict loose
+unfolding allTested potentials examples example-A example-B example-C example-D example-E example-F example-G example-H example-I example-J example-K problemOf answerOf numAt numsAt tropField signed tropAt side value minus largest larger plus raise pointOf strategyOf tested leastTested bottomlessTested every atMost sameWhole isWhole isValue finite? falls leftFalls pickFalls variableFalls metAt startMet variablesFall rises rowPick rowLeft variableRises variablesRise strict loose
 examples-tested = refl
 
 -- ---- the theorem
@@ -138,7 +138,7 @@ refused-M check judges =
     (judges (example-M .problem) (example-M .answer) (record { bytes = all-bytes (example-M .problem) .0 refl; size = omega arith })
     (record { bytes = all-bytes (example-M .answer) .0 refl; size = omega arith })) judged-M
 
--- ---- A's 38 bytes
+-- ---- A's 40 bytes
 
 -- A's problem followed by its answer, as input of the verdict program, is accepted as least with span 3; the line says so.
 pub output-A : VerdictOutput (example-A .problem ++ example-A .answer)

@@ -2,24 +2,24 @@
 -- and some that break what these leave. Each theorem says what the program does and which statement it breaks.
 use Prim.Native.Nat.{ℕ, zero, suc, _+_, _≤_, _<_}
 use mathlib.Core.Path.{_≡_, refl, ap, sym, _∙_}
-use mathlib.Core.Bool.{Bool, true, false, cond, _||_, true≢false, false≢true}
+use mathlib.Core.Bool.{Bool, true, false, cond, _||_, and-eq-true-iff, true≢false, false≢true}
 use mathlib.Core.Logic.{⊎-elim}
 use mathlib.Core.List.{List, [], _∷_}
 use native.Mathlib.Omega.{arith}
 use native.Mathlib.Nat.{eq-zero-or-pos}
-use lib.Dec.{eqb}
+use lib.Dec.{eqb, leb, ltb}
 use lib.Signed.{_≤ℤ_}
-use borrow.Author.Tests.{ne-eqb, le-ltb}
+use borrow.Author.Tests.{ne-eqb, le-ltb, ltb-true, leb-true}
 use lib.ListN.{length, getD, take, replicate, length-take, length-replicate}
 use lib.IntN.{ℤ, pos}
 use Rattle.definitions.specs.Limits.{class-optimal, class-unbounded, class-infeasible, answer-most, most-trials}
 use Rattle.definitions.specs.Tropical.{Trop, bot, fin, plus, larger, largest, Finite, _⊑_}
-use Rattle.definitions.specs.Problem.{Problem, Point, Feasible, Value, side, value, minus, minus-infinity, plus-infinity, Optimal, _≼_, lowest, between, highest}
+use Rattle.definitions.specs.Problem.{Problem, Point, Feasible, Counts, Value, side, value, minus, minus-infinity, plus-infinity, Optimal, _≼_, lowest, between, highest}
 use Rattle.definitions.specs.Problem as Problems
 use Rattle.definitions.specs.Bytes.{Outcome, gives, put, numAt, numsAt, signed, tropField, tropAt, all, some-below, blank-or-within, whole-within}
 use Rattle.definitions.specs.ProblemRecord.{WithinLayout, problemOf, nField, mField, problemRefusal, headerRefusal, headerJudged, leadsOf, refusalFor}
-use Rattle.definitions.specs.AnswerRecord.{Answer, known-class, answerBytes, answerSize, pickCount, highestPick, written, writerRefusal, writerJudged, answerRefusal, answerHeaderRefusal, answerHeaderJudged, answerOf, formRefusal, spanFits, stampsFit, picksFit, is-zero, is-blank}
-use Rattle.definitions.specs.Certificate.{Strategy, Reachable, start, onward, Anchor, Leads, RowLeads}
+use Rattle.definitions.specs.AnswerRecord.{Answer, known-class, startFits, answerBytes, answerSize, pickCount, highestPick, written, writerRefusal, writerJudged, answerRefusal, answerHeaderRefusal, answerHeaderJudged, answerOf, formRefusal, spanFits, stampsFit, picksFit, is-zero, is-blank}
+use Rattle.definitions.specs.Certificate.{Strategy, Reachable, start, onward, startOf, AnchorAnd, Leads, RowLeads}
 use Rattle.definitions.specs.Verdict.{accepts, accepted, Accepted, answerFor, pointOf, strategyOf}
 use Rattle.definitions.specs.Solved.{Solved, engineRefusal, answered, Found, optimal, unbounded, infeasible, Answers}
 use Rattle.definitions.specs.Demands.{Slice, Handed, Engine, Checker, Reader, Writer, Accepts, EngineRefuses, WriterRefuses, EngineSolves, LeastSpans, FoundBy, OwnAnswers, AcceptsExactly, NeverBroken, EngineReadsBack, ReaderRefuses, ReadsFields}
@@ -30,6 +30,7 @@ use Rattle.definitions.proofs.Whole.{whole, eq-read}
 use Rattle.definitions.proofs.Tropical.{bot-not-fin, fin-injective, fin-below}
 use Rattle.definitions.proofs.Offset.{trop-zero}
 use Rattle.definitions.proofs.Values.{infinite-not-below, whole-below}
+use Rattle.definitions.proofs.Counts.{whole-counts}
 use Rattle.definitions.proofs.Refusals.{answer-fits, writer-fits}
 use Rattle.definitions.proofs.RoundTrip.{writer-accepts, answer-length, answer-bytes, size-most}
 use Rattle.checker.proofs.Answers.{picks-at}
@@ -38,7 +39,7 @@ use Rattle.definitions.proofs.Solved.{answer-takes}
 use Rattle.guarantees.proofs.Engine.{found-as, engine-answer}
 use Rattle.guarantees.proofs.Records.{read-fields}
 
--- ---- the examples' bytes, and a buffer of 206 zeros
+-- ---- the examples' bytes, and a buffer of 208 zeros
 
 slice-A : Slice (example-A .problem)
 unfolding example-A all
@@ -137,7 +138,7 @@ none-to-every-problem engine trials size always least =
     go : {c : ℕ} {s : Trop} {t : ℕ} → Found (problemOf (example-A .problem)) c s t → c ≡ class-infeasible → ⊥
     go (optimal o) e = omega (arith, e)
     go (unbounded u) e = omega (arith, e)
-    go (infeasible n) e = infinite-not-below (rw value-A at (n anchor-only feasible-A))
+    go (infeasible n) e = infinite-not-below (rw value-A at (n anchor-only feasible-A (whole-counts value-A)))
 
 -- The engine that calls all least with one fixed span (demand 2).
 pub all-least-with-one-span : (engine : Engine) (s : ℤ) (trials size : List ℕ → ℕ)
@@ -165,7 +166,7 @@ always-the-most-trials engine c s size always least =
     go (unbounded u) e = omega (arith, e)
     go (infeasible n) e = omega (arith, e)
 
--- The engine that leaves the buffer as lent (reading back, demand 2): 206 zeros are no record.
+-- The engine that leaves the buffer as lent (reading back, demand 2): 208 zeros are no record.
 pub buffer-left :
     (engine : Engine) (read : Reader) → ReaderRefuses read → ReadsFields read → ((p buffer : List ℕ) → engine .buffer p buffer ≡ buffer) → EngineReadsBack engine read → ⊥
 unfolding numAt example-A
@@ -221,11 +222,15 @@ not-below lowest e f = let z : _≡_ {A = ℕ} 0 1 = cc in omega arith
 not-below (between h) e f = let z : _≡_ {A = ℕ} 0 1 = cc in omega arith
 not-below highest e f = let z : _≡_ {A = ℕ} 0 1 = cc in omega arith
 
+counts-B : Counts (problemOf (example-B .problem)) anchor-only
+unfolding side largest larger plus problemOf tropAt tropField numAt signed example-B
+counts-B = record { second = record { whole = pos 2; is = refl } }
+
 class-B : {c : ℕ} {s : Trop} {t : ℕ} → Found (problemOf (example-B .problem)) c s t → c ≡ class-unbounded
 unfolding problemOf example-B numAt
 class-B (optimal {s = z} o) = absurd (least-B z o)
 class-B (unbounded u) = refl
-class-B (infeasible n) = absurd (not-below (n anchor-only (record { anchored = refl; keeps = λ i h. absurd (omega arith) })) refl (value-B anchor-only))
+class-B (infeasible n) = absurd (not-below (n anchor-only (record { anchored = refl; keeps = λ i h. absurd (omega arith) }) counts-B) refl (value-B anchor-only))
 
 left-B : problemOf (example-B .problem) .left 0 0 ≡ bot
 unfolding problemOf tropAt tropField numAt signed example-B
@@ -235,12 +240,19 @@ rows-B : problemOf (example-B .problem) .m ≡ 0
 unfolding problemOf example-B numAt
 rows-B = refl
 
-unused-B : (picks : Strategy) (j : ℕ) → Reachable Anchor (RowLeads (problemOf (example-B .problem)) picks) j → Finite (problemOf (example-B .problem) .left 0 j) → ⊥
+unused-B : (picks : Strategy) (j : ℕ) → Reachable (AnchorAnd 0) (RowLeads (problemOf (example-B .problem)) picks) j → Finite (problemOf (example-B .problem) .left 0 j) → ⊥
 unused-B picks j r f = bot-not-fin (sym left-B ∙ rw (at-start r) at (f .is))
   where
-    at-start : {j : ℕ} → Reachable Anchor (RowLeads (problemOf (example-B .problem)) picks) j → j ≡ 0
-    at-start (start e) = e
+    at-start : {j : ℕ} → Reachable (AnchorAnd 0) (RowLeads (problemOf (example-B .problem)) picks) j → j ≡ 0
+    at-start (start e) = ⊎-elim (λ z. z) (λ z. z) e
     at-start (onward r h) = absurd (let z : h .row ≡ 0 = omega (arith, h .inside, rows-B) in bot-not-fin (sym left-B ∙ rw (z, at-start r) at (h .left .is)))
+
+-- B's start is 1: of the anchor, its only moment.
+start-B : (class begin : ℕ) → class ≡ class-unbounded → startFits class begin (nField (example-B .problem)) ≡ true → begin ≡ 1
+unfolding example-B numAt
+start-B class begin c e =
+    let f = and-eq-true-iff (ltb 0 begin) (leb begin 1) .0 (rw c at e) in
+    omega (arith, ltb-true 0 begin (f .0), leb-true begin 1 (f .1))
 
 pub idle-row-filled : (engine : Engine) → FillsPicks engine → EngineSolves engine → ⊥
 unfolding strategyOf example-B
@@ -248,7 +260,8 @@ idle-row-filled engine fills solves =
     let e = engine-answer engine solves (example-B .problem) zeros slice-B slice-zeros within-B long-zeros in
     let w = answer-takes (example-B .problem) within-B (e .answer) (e .answers) in
     let some = fills (example-B .problem) zeros (e .answer) (e .buffer-is) 0 (rw (w .picks-count) (picks-some (e .answer .class) _ _ (w .class-known))) in
-    omega (arith, some, e .answers .idle-rows (class-B (e .answers .found)) 0 (unused-B (strategyOf (e .answer .picks))))
+    let named = start-B (e .answer .class) (e .answer .start) (e .answers .class-is ∙ class-B (e .answers .found)) (w .start-fits) in
+    omega (arith, some, e .answers .idle-rows (class-B (e .answers .found)) 0 named 0 (unused-B (strategyOf (e .answer .picks))))
 
 -- A with moment 1 in no list: 5 and blank, 2 and blank.
 problem-idle : List ℕ
@@ -276,14 +289,27 @@ class-idle (optimal o) e = omega (arith, e)
 class-idle (unbounded u) e = let a = u (pos 0) in let h : pos 3 ≤ℤ pos 0 = whole-below (rw (value-idle (a .point) (a .feasible)) at (a .within)) in omega (whole, h)
 class-idle (infeasible n) e = omega (arith, e)
 
+rows-idle : problemOf problem-idle .m ≡ 0
+unfolding problemOf problem-idle numAt
+rows-idle = refl
+
 right-idle : (problemOf problem-idle .right 0 1 ≡ bot) × (problemOf problem-idle .n ≡ 1)
 unfolding problemOf tropAt tropField numAt signed problem-idle
 right-idle = (refl, refl)
 
-unreached-idle : (picks : Strategy) → picks 0 ≤ 1 → (j : ℕ) → Reachable Anchor (Leads (problemOf problem-idle) picks) j → j ≡ 0
-unreached-idle picks most j (start e) = e
-unreached-idle picks most j (onward r h) =
-    let from = unreached-idle picks most _ r in
+-- Either start is the anchor.
+begins-idle : (begin j : ℕ) → startOf (problemOf problem-idle) begin j → j ≡ 0
+unfolding startOf
+begins-idle zero j e = e
+begins-idle (suc k) j s = ⊎-elim
+    (λ (z : j ≡ 0). z)
+    (λ (z : 0 < j). let e : j ≡ 1 = omega (arith, s .inside, right-idle .1) in absurd (bot-not-fin (sym (right-idle .0) ∙ rw (rows-idle, e) at (s .right .is))))
+    (eq-zero-or-pos j)
+
+unreached-idle : (picks : Strategy) (begin : ℕ) → picks 0 ≤ 1 → (j : ℕ) → Reachable (startOf (problemOf problem-idle) begin) (Leads (problemOf problem-idle) picks) j → j ≡ 0
+unreached-idle picks begin most j (start b) = begins-idle begin j b
+unreached-idle picks begin most j (onward r h) =
+    let from = unreached-idle picks begin most _ r in
     let row : h .row ≡ 0 = let p : picks 0 ≡ suc (h .row) = rw from at (h .picked) in omega arith in
     ⊎-elim
     (λ (z : j ≡ 0). z)
@@ -301,7 +327,7 @@ idle-variable-filled engine fills solves =
     let most : getD (e .answer .picks) 0 0 ≤ 1 = rw highest at (picks-at _ (e .answer .picks) (w .form .picks-fit) 0) in
     let some = fills problem-idle zeros (e .answer) (e .buffer-is) 1 (omega arith) in
     let none = e .answers .idle-variables (class-idle (e .answers .found)) 1
-    (λ r. let z = unreached-idle (strategyOf (e .answer .picks)) most 1 r in omega (arith, z)) in
+    (λ r. let z = unreached-idle (strategyOf (e .answer .picks)) (e .answer .start) most 1 r in omega (arith, z)) in
     omega (arith, some, none)
 
 -- The engine that touches the byte after the record.
@@ -328,7 +354,7 @@ byte-after-touched engine read refuses reads touches back =
 
 -- The checker that accepts a plan that breaks a rule: E with moment 1 at 29.
 unfoldable pub answer-broken : List ℕ
-answer-broken = 22 ∷ 0 ∷ 0 ∷ 0 ∷ 2 ∷ 0 ∷ 1 ∷ 0 ∷ 1 ∷ 0 ∷ 29 ∷ 0 ∷ 0 ∷ 0 ∷ 0 ∷ 0 ∷ 0 ∷ 0 ∷ 29 ∷ 0 ∷ 0 ∷ 0 ∷ 1 ∷ 0 ∷ 2 ∷ 0 ∷ []
+answer-broken = 24 ∷ 0 ∷ 0 ∷ 0 ∷ 4 ∷ 0 ∷ 1 ∷ 0 ∷ 1 ∷ 0 ∷ 29 ∷ 0 ∷ 0 ∷ 0 ∷ 0 ∷ 0 ∷ 0 ∷ 0 ∷ 0 ∷ 0 ∷ 29 ∷ 0 ∷ 0 ∷ 0 ∷ 1 ∷ 0 ∷ 2 ∷ 0 ∷ []
 
 pub broken-plan-accepted : (check : Checker) → Accepts check (example-E .problem) answer-broken → NeverBroken check → ⊥
 unfolding answer-broken example-E problemOf answerOf pointOf side largest larger plus tropAt tropField numAt numsAt signed all
@@ -339,7 +365,7 @@ broken-plan-accepted check accepts never =
 
 -- The checker that accepts a plan with another span than its field: E with moment 1 at 31 and the span field 30.
 unfoldable pub answer-other : List ℕ
-answer-other = 22 ∷ 0 ∷ 0 ∷ 0 ∷ 2 ∷ 0 ∷ 1 ∷ 0 ∷ 1 ∷ 0 ∷ 30 ∷ 0 ∷ 0 ∷ 0 ∷ 0 ∷ 0 ∷ 0 ∷ 0 ∷ 31 ∷ 0 ∷ 0 ∷ 0 ∷ 1 ∷ 0 ∷ 2 ∷ 0 ∷ []
+answer-other = 24 ∷ 0 ∷ 0 ∷ 0 ∷ 4 ∷ 0 ∷ 1 ∷ 0 ∷ 1 ∷ 0 ∷ 30 ∷ 0 ∷ 0 ∷ 0 ∷ 0 ∷ 0 ∷ 0 ∷ 0 ∷ 0 ∷ 0 ∷ 31 ∷ 0 ∷ 0 ∷ 0 ∷ 1 ∷ 0 ∷ 2 ∷ 0 ∷ []
 
 pub another-span-accepted : (check : Checker) → Accepts check (example-E .problem) answer-other → NeverBroken check → ⊥
 unfolding answer-other example-E problemOf answerOf pointOf value minus side largest larger plus tropAt tropField numAt numsAt signed all
@@ -366,13 +392,14 @@ refusal-marked engine marks refuses =
 
 -- The writer that does: class 0 is refused by 10.
 answer-unknown : Answer
-answer-unknown = record { class = 0; span = bot; stamps = []; picks = [] }
+answer-unknown = record { class = 0; span = bot; start = 0; stamps = []; picks = [] }
 
 handed-unknown : Handed answer-unknown
 unfolding answer-unknown
 handed-unknown = record {
   class = omega arith;
   span = record { number = 0; fits = omega arith; means = trop-zero };
+  start = omega arith;
   stamps = λ i. record { number = 0; fits = omega arith; means = trop-zero };
   stamps-size = omega arith;
   picks = record { word = λ i. omega arith; size = omega arith };

@@ -14,6 +14,7 @@ use Rattle.definitions.specs.Programs.{ReadFrom, SpanOutput}
 use Rattle.definitions.specs.Demands.{Word, Words, Slice}
 use Rattle.records.specs.declared.problem.Header.{Header}
 use Rattle.problem_records.specs.Tables.{ProblemRead}
+use Rattle.answer_reader.specs.declared.answer.Head.{Head}
 use Rattle.answer_reader.specs.declared.answer.AnswerHead.{AnswerHead}
 use Rattle.answer_reader.specs.Fields.{fieldsOf}
 use Rattle.answer_reader.specs.AnswerReading.{AnswerRead}
@@ -52,8 +53,7 @@ pub record ReadAnswer (stamps₀ picks₀ : List ℕ) : Type 0 where
 
 -- What is handed to `answer_writer::writer::write_answer` besides the buffer.
 pub record WriterFields : Type 0 where
-  pub class : ℕ
-  pub span : ℕ
+  pub head : Head
   pub stamps : List ℕ
   pub picks : List ℕ
   pub n : ℕ
@@ -61,8 +61,9 @@ pub record WriterFields : Type 0 where
 
 -- All of it can be handed over.
 pub record WriterFieldsFit (f : WriterFields) : Type 0 where
-  pub class : Word (f .class)
-  pub span : Word (f .span)
+  pub class : Word (f .head .class)
+  pub span : Word (f .head .span)
+  pub start : Word (f .head .start)
   pub stamps : Words (f .stamps)
   pub picks : Words (f .picks)
   pub n : Word (f .n)
@@ -74,7 +75,7 @@ pub record WriteAnswer : Type 0 where
   pub buffer : WriterFields → List ℕ → List ℕ
   pub contract :
       (f : WriterFields) (before : List ℕ) → WriterFieldsFit f → Slice before
-      → AnswerWritten (fieldsOf (f .class) (f .span) (f .stamps) (f .picks)) (f .n) (f .m) (result f before) before (buffer f before)
+      → AnswerWritten (fieldsOf (f .head) (f .stamps) (f .picks)) (f .n) (f .m) (result f before) before (buffer f before)
 
 -- `answer` of a program that is to put out `Output input`, with whatever buffer it is lent: how many bytes of the buffer are put
 -- out, and the buffer afterwards.

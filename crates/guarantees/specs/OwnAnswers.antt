@@ -31,15 +31,15 @@ pub record HeldIn (a : Answer) (stamps picks : List ℕ) : Type 0 where
   pub picks-are : (j : ℕ) → getD picks j 0 ≡ getD (a .picks) j 0
 
 -- The engine's refusal, and the buffer and both arrays as lent; or what the reader gives of the bytes that the engine wrote: class,
--- span, stamps and picks of an answer that the engine may give, whose record is what was written.
-pub data OwnReading (p before stamps-before picks-before : List ℕ) : Outcome (ℕ × Trop) → List ℕ → List ℕ → List ℕ → Type 0 where
+-- span, start, stamps and picks of an answer that the engine may give, whose record is what was written.
+pub data OwnReading (p before stamps-before picks-before : List ℕ) : Outcome (ℕ × Trop × ℕ) → List ℕ → List ℕ → List ℕ → Type 0 where
   turned-away :
       {k : ℕ} → engineRefusal p (length before) ≡ suc k
       → OwnReading p before stamps-before picks-before (refusal (suc k)) before stamps-before picks-before
   own :
       {class : ℕ} {span : Trop} {trials : ℕ} {stamps picks : List ℕ} (a : Answer) → engineRefusal p (length before) ≡ 0
       → Answers (problemOf p) class span trials a → HeldIn a stamps picks
-      → OwnReading p before stamps-before picks-before (gives (class, span)) (written before (answerBytes (nField p) a)) stamps picks
+      → OwnReading p before stamps-before picks-before (gives (class, span, a .start)) (written before (answerBytes (nField p) a)) stamps picks
   several :
       {count trials size : ℕ} {after : List ℕ} → Solves p before (all-answered count trials size) after
       → OwnReading p before stamps-before picks-before (refusal refused-kind) after stamps-before picks-before

@@ -47,7 +47,7 @@ fn read_own(
     }
 }
 
-// The engine, then the reader on what it wrote: the engine's class and span, and its stamps and picks in two arrays.
+// The engine, then the reader on what it wrote: the engine's class and span, the start, and its stamps and picks in two arrays.
 pub fn solve_then_read(
     problem: &[u8],
     answer: &mut [u8],

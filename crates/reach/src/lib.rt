@@ -12,7 +12,7 @@ use crate::compare::marks_differ;
 use records::limits::ARCS;
 use records::limits::STRIDE;
 
-// The start of document 01: variable 0, the anchor, alone. Public for `checker::check`, `class_answers`.
+// The start of document 01: variable 0, the anchor, alone. Public for `strategy_tests::starts`, `class_answers`.
 pub fn anchor() -> [u8; STRIDE]
     ensures { λ r. ⌜ Anchored r ⌝ }
 {
@@ -32,7 +32,7 @@ pub fn anchor_and(k: usize) -> [u8; STRIDE]
     both
 }
 
-// The variables of a list of coefficients that are not blank. Public for `class_answers`.
+// The variables of a list of coefficients that are not blank. Public for `strategy_tests::starts`, `class_answers`.
 pub fn marks_of(coefficients: &[u32; STRIDE]) -> [u8; STRIDE]
     requires { ⌜ length (now coefficients) ≡ stride ⌝ }
     ensures { λ r. ⌜ MarksOf (now (coefficients .entry)) stride r ⌝ }

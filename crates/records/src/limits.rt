@@ -116,6 +116,13 @@ pub const MOST_WINDOWS: usize = 14;
 
 pub const MINUTE_LIMIT: u64 = 6000000;
 
+// Document 02, 2.13: the stamps of 32 moments in bytes; from this on a number of 64 bits stands for one below 0, and the last of them.
+pub const MERGED_MOST: usize = LEAD_BYTES * STRIDE;
+
+pub const WORD_HALF: u64 = 9223372036854775808;
+
+pub const LAST_WORD: u64 = 18446744073709551615;
+
 // Refusals. Of a problem: fewer bytes than a header, another length, another kind, n or m above their limits, another size, a
 // lead outside its range.
 pub const REFUSED_SHORT: usize = 1;
@@ -159,3 +166,15 @@ pub const NOT_CERTIFIED: usize = 14;
 pub const NO_TEXT: usize = 18;
 
 pub const WEEK_REFUSAL: usize = 19;
+
+// Of two plans to be merged: the shift is above 0, a plan breaks a rule, a merged stamp would be below its limit.
+pub const REFUSED_SHIFT: usize = 24;
+
+pub const REFUSED_RULE: usize = 25;
+
+pub const REFUSED_EARLY: usize = 26;
+
+// Document 02, 2.14: the most problems that a census counts, and its refusal.
+pub const CENSUS_MOST: u64 = 65536;
+
+pub const REFUSED_CENSUS: usize = 27;

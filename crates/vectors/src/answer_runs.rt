@@ -2,6 +2,7 @@
 use crate::noise;
 use crate::print;
 use answer_reader::answer::AnswerHead;
+use answer_reader::answer::Head;
 use answer_reader::answer::read_answer;
 use records::limits::INFEASIBLE;
 use records::limits::OPTIMAL;
@@ -34,10 +35,11 @@ fn show_picks(picks: &[u64; ROWS], last: usize) {
     }
 }
 
-fn show_read(class: u64, span: u64) {
-    print::counted(b"read, class ", class);
+fn show_read(head: Head) {
+    print::counted(b"read, class ", head.class);
     print::text(b" span ");
-    print::minutes(span);
+    print::minutes(head.span);
+    print::counted(b" start ", head.start);
 }
 
 // What the class has of stamps and picks.
@@ -58,11 +60,11 @@ pub fn run(line: &[u8], bytes: &[u8], n: usize, m: usize) {
     let mut stamps = noise::stamps();
     let mut picks = noise::picks();
     print::edge(b"answer", line);
-    let head = read_answer(bytes, n, m, &mut stamps, &mut picks);
-    match head {
-        AnswerHead::Fields(class, span) => {
-            show_read(class, span);
-            show_lists(class, n, m, &stamps, &picks);
+    let read = read_answer(bytes, n, m, &mut stamps, &mut picks);
+    match read {
+        AnswerHead::Fields(head) => {
+            show_read(head);
+            show_lists(head.class, n, m, &stamps, &picks);
         }
         AnswerHead::Refused(k) => show_refused(k, &stamps, &picks),
     }

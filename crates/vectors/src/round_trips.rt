@@ -4,8 +4,10 @@ use crate::noise;
 use crate::noise::BUFFER;
 use crate::print;
 use crate::writer_runs::Fields;
+use crate::writer_runs::head_of;
 use crate::writer_runs::write;
 use answer_reader::answer::AnswerHead;
+use answer_reader::answer::Head;
 use answer_writer::roundtrip::read_then_write;
 use answer_writer::roundtrip::write_then_read;
 use answer_writer::writer::Written;
@@ -38,12 +40,15 @@ fn same_list(list: &[u64], numbers: &[u64]) -> bool {
     list.len() <= numbers.len()
 }
 
-// Class and span are those of `f`.
-fn same_fields(f: Fields, class: u64, span: u64) -> bool {
-    if class != f.class {
+// Class, span and start are those of `f`.
+fn same_fields(f: Fields, head: Head) -> bool {
+    if head.class != f.class {
         return false;
     }
-    span == f.span
+    if head.span != f.span {
+        return false;
+    }
+    head.start == f.start
 }
 
 // Both lists came back, with 0 behind them.
@@ -63,9 +68,8 @@ fn same_lists(
 fn back(f: Fields, stamps: &[u64], picks: &[u64], buffer: &mut [u8]) -> bool {
     let mut stamps_back = noise::stamps();
     let mut picks_back = noise::picks();
-    let head = write_then_read(
-        f.class,
-        f.span,
+    let read = write_then_read(
+        head_of(f),
         stamps,
         picks,
         f.n,
@@ -74,10 +78,10 @@ fn back(f: Fields, stamps: &[u64], picks: &[u64], buffer: &mut [u8]) -> bool {
         &mut stamps_back,
         &mut picks_back,
     );
-    let AnswerHead::Fields(class, span) = head else {
+    let AnswerHead::Fields(head) = read else {
         return false;
     };
-    if !same_fields(f, class, span) {
+    if !same_fields(f, head) {
         return false;
     }
     same_lists(stamps, picks, &stamps_back, &picks_back)

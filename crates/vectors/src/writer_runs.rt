@@ -7,6 +7,7 @@ use crate::print;
 use crate::script::byte_at;
 use crate::script::number_after;
 use crate::script::place_of;
+use answer_reader::answer::Head;
 use answer_writer::writer::Written;
 use answer_writer::writer::write_answer;
 use records::limits::ANSWER_MOST;
@@ -19,6 +20,7 @@ pub const LONGEST: usize = 70;
 pub struct Fields {
     pub class: u64,
     pub span: u64,
+    pub start: u64,
     pub stamps: [u64; LONGEST],
     pub stamp_count: usize,
     pub picks: [u64; LONGEST],
@@ -71,11 +73,12 @@ impl Fields {
         self
     }
 
-    // Class and span.
+    // Class, span and start.
     fn headed(mut self, mark: u8, x: u64) -> Fields {
         match mark {
             b'c' => self.class = x,
             b's' => self.span = x,
+            b'r' => self.start = x,
             _ => (),
         }
         self
@@ -96,6 +99,7 @@ fn unset() -> Fields {
     Fields {
         class: 0,
         span: 0,
+        start: 0,
         stamps: stamps_of_zero(),
         stamp_count: 0,
         picks: no_picks(),
@@ -122,18 +126,19 @@ pub fn fields_of(line: &[u8]) -> Fields {
     f
 }
 
+// Class, span and start of the fields.
+pub fn head_of(f: Fields) -> Head {
+    Head {
+        class: f.class,
+        span: f.span,
+        start: f.start,
+    }
+}
+
 // The buffer cut to its size, and the answer written.
 fn write_cut(f: Fields, stamps: &[u64], picks: &[u64], buffer: &mut [u8]) -> Written {
     let room = bytes_within(f.room, buffer);
-    write_answer(
-        f.class,
-        f.span,
-        stamps,
-        picks,
-        f.n,
-        f.m,
-        &mut buffer[..room],
-    )
+    write_answer(head_of(f), stamps, picks, f.n, f.m, &mut buffer[..room])
 }
 
 pub fn write(f: Fields, stamps: &[u64], picks: &[u64], buffer: &mut [u8; BUFFER]) -> Written {

@@ -1,4 +1,4 @@
-//! Which picks of an accepted answer play a part: document 01, "The checker". Picks of moments that are not reached, and of
+//! Which picks of an accepted answer play a part: document 01, "The checker", and document 02, 2.4. Picks of moments that are not reached, and of
 //! rows that have no reached moment on their left, play none.
 
 use crate::outcome::Outcome;
@@ -23,10 +23,19 @@ pub fn carried_rows(problem: &Problem, answer: &Answer) -> Vec<(usize, usize)> {
         .collect()
 }
 
-/// Marks of the moments that are reached: from the anchor on, until a round adds none.
+/// Whether reach begins at a moment: at the anchor, or at all moments of the group that the span starts from (start 1); of a bottomless
+/// answer at the anchor and at one of this group (1 + its number).
+fn begins(problem: &Problem, answer: &Answer, moment: usize) -> bool {
+    match (answer.outcome, answer.start) {
+        (Outcome::Bottomless, start) => moment == 0 || moment + 1 == start,
+        (_, 0) => moment == 0,
+        _ => problem.question.right[moment].is_some(),
+    }
+}
+
+/// Marks of the moments that are reached: from where reach begins on, until a round adds none.
 fn moments(problem: &Problem, answer: &Answer) -> Vec<bool> {
-    let mut reached = vec![false; problem.moments.len()];
-    reached[0] = true;
+    let mut reached: Vec<bool> = (0..problem.moments.len()).map(|moment| begins(problem, answer, moment)).collect();
     loop {
         let before = reached.clone();
         for moment in (0..before.len()).filter(|&moment| before[moment]) {
@@ -62,8 +71,12 @@ mod tests {
     #[test]
     fn picks_of_moments_that_are_not_reached_play_no_part() {
         let problem = parse::sheet(&format!("{RULES}span: from anchor to a\n")).expect("a good text").alone(0);
-        let answer =
-            Answer { outcome: Outcome::Least(30), stamps: vec![Some(0), Some(30), Some(10)], picks: vec![1, 3, 2] };
+        let answer = Answer {
+            outcome: Outcome::Least(30),
+            start: 0,
+            stamps: vec![Some(0), Some(30), Some(10)],
+            picks: vec![1, 3, 2],
+        };
         assert_eq!(picked_rows(&problem, &answer), [0, 2]);
         let damaged = Answer { picks: vec![65_535, 3, 2], ..answer };
         assert_eq!(picked_rows(&problem, &damaged), [0; 0]);
@@ -72,9 +85,26 @@ mod tests {
     #[test]
     fn rows_without_a_reached_moment_carry_nothing() {
         let problem = parse::sheet(&format!("{RULES}b <= a\nspan: from a to b\n")).expect("a good text").alone(0);
-        let answer = Answer { outcome: Outcome::Bottomless, stamps: vec![], picks: vec![2, 0, 2, 1] };
+        let answer = Answer { outcome: Outcome::Bottomless, start: 2, stamps: vec![], picks: vec![2, 0, 2, 1] };
         assert_eq!(carried_rows(&problem, &answer), [(0, 1)]);
         let answer = Answer { picks: vec![2, 3, 2, 9], ..answer };
         assert_eq!(carried_rows(&problem, &answer), [(0, 1), (1, 2), (2, 1), (3, 8)]);
+    }
+
+    /// Reach begins where the answer's start says.
+    #[test]
+    fn reach_begins_at_the_start() {
+        let problem = parse::sheet("moments: a, b\nb - 10 <= a\nspan: from b to a\n").expect("a good text").alone(0);
+        let answer = Answer {
+            outcome: Outcome::Least(-10),
+            start: 1,
+            stamps: vec![Some(0), Some(-10), Some(0)],
+            picks: vec![0, 2, 1],
+        };
+        assert_eq!(picked_rows(&problem, &answer), [0, 1]);
+        assert_eq!(picked_rows(&problem, &Answer { start: 0, ..answer.clone() }), [0; 0]);
+        let bottomless = Answer { outcome: Outcome::Bottomless, start: 3, stamps: vec![], picks: vec![2, 0] };
+        assert_eq!(carried_rows(&problem, &bottomless), [(0, 1)]);
+        assert_eq!(carried_rows(&problem, &Answer { start: 1, ..bottomless }), [(0, 0); 0]);
     }
 }

@@ -6,6 +6,8 @@ use crate::problem::{Lead, BLANK};
 #[derive(Clone, Debug)]
 pub struct Answer {
     pub outcome: Outcome,
+    /// Where reach begins (document 02, 2.4). It may be any number.
+    pub start: usize,
     /// One a moment in a least answer, else none.
     pub stamps: Vec<Lead>,
     /// One a moment, or one a row in a bottomless answer. They may be any numbers.
@@ -34,10 +36,14 @@ pub fn cut(mut records: &[u8], count: usize) -> Vec<&[u8]> {
     parts
 }
 
+/// The kind of an answer, and the size of its header.
+const KIND: usize = 4;
+const HEADER: usize = 16;
+
 /// Reads a record with the layout of an answer to a problem of so many moments, the anchor among them, and so many rows.
 pub fn read(record: &[u8], moments: usize, rows: usize) -> Option<Answer> {
     let length = record.first_chunk().map(|field| u32::from_le_bytes(*field) as usize)?;
-    if record.len() < 14 || length != record.len() - 4 || two(record, 4) != 2 || two(record, 6) + 1 != moments {
+    if record.len() < HEADER || length != record.len() - 4 || two(record, 4) != KIND || two(record, 6) + 1 != moments {
         return None;
     }
     let (outcome, stamps, picks) = match (two(record, 8), four(record, 10)) {
@@ -47,13 +53,16 @@ pub fn read(record: &[u8], moments: usize, rows: usize) -> Option<Answer> {
         (3, _) => (Outcome::None, 0, moments),
         _ => return None,
     };
-    if record.len() != 14 + 4 * stamps + 2 * picks {
+    if record.len() != HEADER + 4 * stamps + 2 * picks {
         return None;
     }
     Some(Answer {
         outcome,
-        stamps: (0..stamps).map(|place| Some(four(record, 14 + 4 * place)).filter(|&stamp| stamp != BLANK)).collect(),
-        picks: (0..picks).map(|place| two(record, 14 + 4 * stamps + 2 * place)).collect(),
+        start: two(record, 14),
+        stamps: (0..stamps)
+            .map(|place| Some(four(record, HEADER + 4 * place)).filter(|&stamp| stamp != BLANK))
+            .collect(),
+        picks: (0..picks).map(|place| two(record, HEADER + 4 * stamps + 2 * place)).collect(),
     })
 }
 
@@ -75,10 +84,10 @@ mod tests {
     /// Every cut of a record, and every byte of its header changed, is read or turned down without a fault.
     #[test]
     fn damaged_records_do_no_harm() {
-        let good = [22, 0, 0, 0, 2, 0, 1, 0, 1, 0, 12, 0, 0, 0, 0, 0, 0, 0, 12, 0, 0, 0, 1, 0, 0xFF, 0xFF];
+        let good = [24, 0, 0, 0, 4, 0, 1, 0, 1, 0, 12, 0, 0, 0, 7, 0, 0, 0, 0, 0, 12, 0, 0, 0, 1, 0, 0xFF, 0xFF];
         let answer = read(&good, 2, 2).expect("a readable record");
         assert_eq!((answer.outcome, &answer.picks[..]), (Outcome::Least(12), &[1, 65_535][..]));
-        assert_eq!(answer.stamps, [Some(0), Some(12)]);
+        assert_eq!((answer.start, &answer.stamps[..]), (7, &[Some(0), Some(12)][..]));
         for end in 0..good.len() {
             assert!(read(&good[..end], 2, 2).is_none());
         }

@@ -83,8 +83,12 @@ pub fn accepted(problem: &Problem, answer: &Answer) -> String {
 }
 
 fn holding_up(problem: &Problem, answer: &Answer) -> String {
+    let rows = reached::picked_rows(problem, answer);
+    if rows.is_empty() {
+        return "The group that the span starts from is empty: no plan counts, whatever the rules.\n".into();
+    }
     let mut lines = String::from("What holds it up, by the pick table:\n");
-    for number in reached::picked_rows(problem, answer) {
+    for number in rows {
         let _ = match problem.rules.get(number) {
             Some(rule) => writeln!(lines, "  rule {}: {}", number + 1, rule.text),
             None => writeln!(lines, "  the span itself"),
@@ -96,7 +100,11 @@ fn holding_up(problem: &Problem, answer: &Answer) -> String {
 fn carrying(problem: &Problem, answer: &Answer) -> String {
     let rows = reached::carried_rows(problem, answer);
     if rows.is_empty() {
-        return "No rule binds the anchor: the plan that leaves all other moments blank keeps the rules.\n".into();
+        let start = answer.start.checked_sub(1).and_then(|start| problem.moments.get(start).filter(|_| start > 0));
+        let start = start.map_or(String::new(), |moment| format!(" or {}", moment.name));
+        return format!(
+            "No rule binds the anchor{start}: the plan that leaves all other moments blank keeps the rules.\n"
+        );
     }
     let mut lines = String::from("The pick table names, for each row in use, a moment that carries it:\n");
     for (number, moment) in rows {

@@ -3,7 +3,7 @@
 
 use super::{checked, expected_check};
 use crate::generate::any;
-use crate::paper::{self, mend_length};
+use crate::paper::{self, mend_length, BUFFER, LONGEST_STAMP};
 use crate::tally::Tally;
 use random::Random;
 
@@ -15,7 +15,7 @@ pub fn engine(tally: &mut Tally, random: &mut Random, problem: &[u8], length: us
     let noise = buffer.clone();
     let (expected, count) = match paper::read_questions(problem) {
         Err(refusal) => (refusal, 0),
-        Ok(all) if length < 206 * all.questions.len() => (7, 0),
+        Ok(all) if length < BUFFER * all.questions.len() => (7, 0),
         Ok(all) => (0, all.questions.len()),
     };
     let result = span::raw::solve(problem, &mut buffer);
@@ -59,15 +59,29 @@ pub fn harmed(random: &mut Random, good: &[u8]) -> Vec<u8> {
         }
         2 => {
             // A header field set to something near an edge.
-            let place = [0, 4, 6, 8][random.below(4)];
-            let value = [0, 1, 2, 3, 4, 31, 32, 63, 64, 255, 256, 65_535][random.below(12)] as u16;
-            bytes[place..place + 2].copy_from_slice(&value.to_le_bytes());
+            let place = [0, 4, 6, 8, 14][random.below(5)];
+            let value = [0, 1, 2, 3, 4, 31, 32, 33, 63, 64, 255, 256, 65_535][random.below(13)] as u16;
+            if place + 2 <= bytes.len() {
+                bytes[place..place + 2].copy_from_slice(&value.to_le_bytes());
+            }
         }
         3 => {
             // Four bytes set to a number near an edge.
-            let place = 10 + 4 * random.below((bytes.len() - 10) / 4);
-            let edges =
-                [0, 20_160, 20_161, 1_290_240, 1_290_241, 3_000_000, 3_000_001, i32::MAX, i32::MIN, i32::MIN + 1];
+            let place = [10, 16][random.below(2)] + 4 * random.below((bytes.len() - 10) / 4);
+            let stamp = LONGEST_STAMP as i32;
+            let edges = [
+                0,
+                20_160,
+                20_161,
+                1_290_240,
+                1_290_241,
+                3_000_001,
+                stamp,
+                stamp + 1,
+                i32::MAX,
+                i32::MIN,
+                i32::MIN + 1,
+            ];
             let sign = if random.chance(1, 2) { 1 } else { -1 };
             let value = edges[random.below(edges.len())].wrapping_mul(sign);
             if place + 4 <= bytes.len() {
@@ -102,7 +116,7 @@ pub fn run(tally: &mut Tally) {
     tally.seed(SEED);
     let mut random = Random::new(SEED);
     // Every buffer length, with a good problem of each kind and with bad ones.
-    for length in 0..=210 {
+    for length in 0..=BUFFER + 4 {
         for _ in 0..8 {
             let good = any(&mut random, 6, 8).bytes();
             engine(tally, &mut random, &good, length);
@@ -112,16 +126,16 @@ pub fn run(tally: &mut Tally) {
     }
     // Every cut of a problem and of an answer, and every byte of the headers with every value.
     let good = any(&mut random, 3, 3).bytes();
-    let mut buffer = [0; 206];
+    let mut buffer = [0; BUFFER];
     let size = span::solve(&good, &mut buffer).map_or(0, |solved| solved.size);
     let answer = buffer[..size].to_vec();
     for cut in 0..good.len() {
         let mut part = good[..cut].to_vec();
-        engine(tally, &mut random, &part, 206);
+        engine(tally, &mut random, &part, BUFFER);
         checker(tally, &part, &answer);
         if cut >= 4 {
             mend_length(&mut part);
-            engine(tally, &mut random, &part, 206);
+            engine(tally, &mut random, &part, BUFFER);
         }
     }
     for cut in 0..answer.len() {
@@ -132,11 +146,11 @@ pub fn run(tally: &mut Tally) {
             checker(tally, &good, &part);
         }
     }
-    for place in 0..14 {
+    for place in 0..16 {
         for value in 0..=255 {
             let mut other = good.clone();
             other[place] = value;
-            engine(tally, &mut random, &other, 206);
+            engine(tally, &mut random, &other, BUFFER);
             checker(tally, &other, &answer);
             let mut other = answer.clone();
             other[place] = value;
@@ -150,7 +164,7 @@ pub fn run(tally: &mut Tally) {
         let size = span::solve(&problem, &mut buffer).map_or(0, |solved| solved.size);
         let answer = buffer[..size].to_vec();
         let bad = harmed(&mut random, &problem);
-        let length = if random.chance(1, 2) { 206 } else { random.below(300) };
+        let length = if random.chance(1, 2) { BUFFER } else { random.below(300) };
         engine(tally, &mut random, &bad, length);
         checker(tally, &bad, &answer);
         let worse = harmed(&mut random, &answer);

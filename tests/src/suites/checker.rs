@@ -144,18 +144,21 @@ fn heaviest(tally: &mut Tally) {
             let chain: Vec<u64> = (0..=n as u64).map(|j| j + 2).collect();
             let mut once = chain.clone();
             once[n] = question;
-            for picks in [vec![question; n + 1], vec![1; n + 1], chain, once] {
-                let none = Answer { class: 3, span: None, stamps: vec![], picks: picks.clone() };
+            let tables = [vec![question; n + 1], vec![1; n + 1], chain, once];
+            for (picks, start) in tables.into_iter().flat_map(|picks| [(picks.clone(), 0), (picks, 1)]) {
+                let none = Answer { class: 3, span: None, start, stamps: vec![], picks: picks.clone() };
                 judge(tally, "heaviest arcs", &bytes, &none.bytes(n));
-                let mut least = Answer { class: 1, span: Some(-2 * lead), stamps: vec![Some(0); n + 1], picks };
+                let mut least = Answer { class: 1, span: Some(-2 * lead), start, stamps: vec![Some(0); n + 1], picks };
                 judge(tally, "heaviest arcs", &bytes, &least.bytes(n));
                 least.span = Some(paper::LONGEST_SPAN);
                 judge(tally, "heaviest arcs", &bytes, &least.bytes(n));
             }
             for moment in 0..=n as u64 {
                 let picks = vec![moment + 1; problem.m() + 1];
-                let bottomless = Answer { class: 2, span: None, stamps: vec![], picks };
-                judge(tally, "heaviest arcs", &bytes, &bottomless.bytes(n));
+                for start in [1, moment + 1, n as u64 + 1] {
+                    let bottomless = Answer { class: 2, span: None, start, stamps: vec![], picks: picks.clone() };
+                    judge(tally, "heaviest arcs", &bytes, &bottomless.bytes(n));
+                }
             }
         }
     }

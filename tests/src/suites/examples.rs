@@ -1,8 +1,8 @@
-//! Document 01's examples, A to K and M, and the unstarred ones.
+//! Document 01's examples, A to K and M, and the unstarred ones, as document 02 has them: by 2.4 J gives least −10 and D gives none.
 
 use super::{answered, checked, expected_check};
 use crate::exhaustive;
-use crate::paper::{read_questions, Answer, Outcome, Problem, Row};
+use crate::paper::{read_questions, Answer, Outcome, Problem, Row, BUFFER};
 use crate::programs::repository;
 use crate::tally::{hex, Tally};
 use random::Random;
@@ -31,6 +31,10 @@ pub fn e() -> Problem {
     Problem { rules: vec![row(1, &[(A, 30)], &[(1, 0)])], question: row(1, &[(1, 0)], &[(A, 0)]) }
 }
 
+pub fn j() -> Problem {
+    Problem { rules: vec![row(2, &[(2, -10)], &[(1, 0)])], question: row(2, &[(1, 0)], &[(2, 0)]) }
+}
+
 /// Each example with its outcome.
 pub fn all() -> Vec<(&'static str, Problem, Outcome)> {
     let with = |rule: Row| {
@@ -43,18 +47,17 @@ pub fn all() -> Vec<(&'static str, Problem, Outcome)> {
     let f = Problem { question: row(1, &[(A, 0)], &[(1, 0)]), ..e() };
     let i =
         Problem { rules: vec![row(2, &[(A, 60)], &[(1, 0), (2, 15)])], question: row(2, &[(1, 0), (2, 0)], &[(A, 0)]) };
-    let j = Problem { rules: vec![row(2, &[(2, -10)], &[(1, 0)])], question: row(2, &[(1, 0)], &[(2, 0)]) };
     vec![
         ("A", a(), Outcome::Least(3)),
         ("B", question(&[], &[(A, 2)]), Outcome::Bottomless),
         ("C", question(&[(A, 5)], &[]), Outcome::None),
-        ("D", question(&[], &[]), Outcome::Bottomless),
+        ("D", question(&[], &[]), Outcome::None),
         ("E", e(), Outcome::Least(30)),
         ("F", f, Outcome::Bottomless),
         ("G", with(row(1, &[(1, 0)], &[(A, 20)])), Outcome::None),
         ("H", with(row(1, &[(1, 0)], &[(A, 30)])), Outcome::Least(30)),
         ("I", i, Outcome::Least(45)),
-        ("J", j, Outcome::Bottomless),
+        ("J", j(), Outcome::Least(-10)),
         ("K", with(row(1, &[(1, 0)], &[])), Outcome::None),
     ]
 }
@@ -76,15 +79,15 @@ pub fn run(tally: &mut Tally) {
     limits(tally, &mut random);
 }
 
-/// A's bytes are printed in document 01, and nothing in its answer is free.
+/// A's bytes are printed in document 01; document 02, 2.4, gives its answer kind 4 and start 0, so that they are 40.
 fn bytes_of_a(tally: &mut Tally) {
     let problem = a().bytes();
     tally.same("A's problem", hex(&problem).as_str(), "0E0000000100000000000500000002000000", &problem, &[]);
-    let mut buffer = [0; 206];
+    let mut buffer = [0; BUFFER];
     let size = span::solve(&problem, &mut buffer).map_or(0, |solved| solved.size);
     let record = &buffer[..size];
-    tally.same("A's answer", hex(record).as_str(), "1000000002000000010003000000000000000100", &problem, record);
-    tally.same("A's bytes together", problem.len() + record.len(), 38, &problem, record);
+    tally.same("A's answer", hex(record).as_str(), "12000000040000000100030000000000000000000100", &problem, record);
+    tally.same("A's bytes together", problem.len() + record.len(), 40, &problem, record);
     let words = span::check(&problem, record).map(|certified| certified.to_string());
     tally.same("A's verdict", words, Ok("accepted least 3".into()), &problem, record);
     tally.count("examples by bytes");
@@ -114,7 +117,7 @@ fn stored(tally: &mut Tally, random: &mut Random) {
             let found = span::check(&problem.bytes(), &record).map(|certified| certified.to_string());
             tally.same("a stored question", found, Ok(format!("accepted {expected}")), &problem.bytes(), &record);
         }
-        let found = span::solve_all(&bytes, &mut [0; 8 * 206]).map(|solved| solved.to_string());
+        let found = span::solve_all(&bytes, &mut [0; 8 * BUFFER]).map(|solved| solved.to_string());
         tally.same("a stored example", found, Ok(expected.join(", ")), &bytes, &[]);
         tally.count("stored examples");
     }
@@ -134,23 +137,28 @@ fn m(tally: &mut Tally) {
         (30, [1, 0], Err(14)),
         (30, [2, 2], Err(14)),
     ] {
-        let answer =
-            Answer { class: 1, span: Some(minute), stamps: vec![Some(0), Some(minute)], picks: picks.to_vec() }
-                .bytes(1);
+        let answer = Answer {
+            class: 1,
+            span: Some(minute),
+            start: 0,
+            stamps: vec![Some(0), Some(minute)],
+            picks: picks.to_vec(),
+        }
+        .bytes(1);
         tally.same("M and its neighbours", checked(&problem, &answer), expected, &problem, &answer);
         tally.same("M by the second checker", expected_check(&problem, &answer), expected, &problem, &answer);
         tally.count("tables of E");
     }
     let words = span::check(
         &problem,
-        &Answer { class: 1, span: Some(31), stamps: vec![Some(0), Some(31)], picks: vec![1, 2] }.bytes(1),
+        &Answer { class: 1, span: Some(31), start: 0, stamps: vec![Some(0), Some(31)], picks: vec![1, 2] }.bytes(1),
     );
     tally.same("M's verdict", words.map_err(|refusal| refusal.to_string()), Err("not certified".into()), &problem, &[]);
 }
 
 /// Lead 20,160 accepted, 20,161 refused by 6 (document 02, 2.2); n 31 accepted, 32 refused by 4; m 63 and 64 likewise.
 fn limits(tally: &mut Tally, random: &mut Random) {
-    let mut buffer = [0; 206];
+    let mut buffer = [0; BUFFER];
     let far = [(20_160, 0), (20_161, 6), (-20_160, 0), (-20_161, 6), (i32::MIN as i64 + 1, 6), (i32::MAX as i64, 6)];
     for (lead, refusal) in far.into_iter().chain([(10_081, 0), (-10_081, 0)]) {
         for place in 0..2 {
@@ -180,17 +188,20 @@ fn limits(tally: &mut Tally, random: &mut Random) {
     stamps_at_their_limits(tally);
 }
 
-/// A plan with a stamp of ±3,000,000 is accepted, one minute further the answer is refused by 12 (document 02, 2.2). Moment 1 is
+/// A plan with a stamp of ±6,000,000 is accepted, one minute further the answer is refused by 12 (document 02, 2.4). Moment 1 is
 /// in no row, so that its stamp is free.
 fn stamps_at_their_limits(tally: &mut Tally) {
     let problem = Problem { rules: vec![], question: row(1, &[(A, 0)], &[(A, 0)]) }.bytes();
     for (stamp, expected) in [
-        (3_000_000, Ok(Outcome::Least(0))),
-        (-3_000_000, Ok(Outcome::Least(0))),
-        (3_000_001, Err(12)),
-        (-3_000_001, Err(12)),
+        (6_000_000, Ok(Outcome::Least(0))),
+        (-6_000_000, Ok(Outcome::Least(0))),
+        (3_000_001, Ok(Outcome::Least(0))),
+        (6_000_001, Err(12)),
+        (-6_000_001, Err(12)),
     ] {
-        let answer = Answer { class: 1, span: Some(0), stamps: vec![Some(0), Some(stamp)], picks: vec![1, 0] }.bytes(1);
+        let answer =
+            Answer { class: 1, span: Some(0), start: 0, stamps: vec![Some(0), Some(stamp)], picks: vec![1, 0] }
+                .bytes(1);
         tally.same("a stamp at its limit", checked(&problem, &answer), expected, &problem, &answer);
         tally.same("by the second checker", expected_check(&problem, &answer), expected, &problem, &answer);
         tally.count("stamps at their limits");

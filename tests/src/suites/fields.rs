@@ -2,7 +2,7 @@
 
 use super::bytes::{harmed, seen};
 use crate::generate::any;
-use crate::paper::{self, Minute};
+use crate::paper::{self, Answer, Minute, BUFFER};
 use crate::tally::Tally;
 use random::Random;
 
@@ -35,7 +35,7 @@ fn read(tally: &mut Tally, random: &mut Random, record: &[u8], n: u64, m: u64) {
             tally.count(&format!("reader {refusal}"));
         }
         Ok(answer) => {
-            let expected = 256 * answer.class + (offset(answer.span) << 32);
+            let expected = 256 * answer.class + (answer.start << 16) + (offset(answer.span) << 32);
             tally.same(&format!("the reader's result, {what}"), result, expected, &[], record);
             let found: Vec<Minute> = stamps[..answer.stamps.len()].iter().map(|&stamp| minute(stamp)).collect();
             tally.same("the reader's stamps", &found, &answer.stamps, &[], record);
@@ -57,11 +57,10 @@ fn read(tally: &mut Tally, random: &mut Random, record: &[u8], n: u64, m: u64) {
             tally.count("reader read");
             lend(tally, random, record, n, m, result);
             // What was read is written to the same bytes.
-            let mut buffer = [0xA5; 206];
-            let span = result >> 32;
-            let class = (result >> 8) & 255;
+            let mut buffer = [0xA5; BUFFER];
+            let (class, start, span) = ((result >> 8) & 255, (result >> 16) & 65_535, result >> 32);
             let (stamps, picks) = (&stamps[..answer.stamps.len()], &picks[..answer.picks.len()]);
-            let written = span::raw::write(class, span, stamps, picks, n, m, &mut buffer);
+            let written = span::raw::write(class, span, start, stamps, picks, n, m, &mut buffer);
             tally.same("the size written again", written, 256 * record.len() as u64, &[], record);
             tally.same("the record written again", &buffer[..record.len()], record, &[], record);
         }
@@ -91,26 +90,33 @@ fn lend(tally: &mut Tally, random: &mut Random, record: &[u8], n: u64, m: u64, w
     }
 }
 
-/// The writer on any fields.
-#[allow(clippy::too_many_arguments)]
-fn write(
-    tally: &mut Tally,
-    random: &mut Random,
+/// Fields handed to the writer; span and stamps are offset numbers.
+#[derive(Clone, Debug)]
+struct Fields {
     class: u64,
     span: u64,
-    stamps: &[u64],
-    picks: &[u64],
-    n: u64,
-    m: u64,
-    length: usize,
-) {
+    start: u64,
+    stamps: Vec<u64>,
+    picks: Vec<u64>,
+}
+
+impl Fields {
+    /// The same in the paper's terms.
+    fn answer(&self) -> Answer {
+        let stamps = self.stamps.iter().map(|&stamp| minute(stamp)).collect();
+        Answer { class: self.class, span: minute(self.span), start: self.start, stamps, picks: self.picks.clone() }
+    }
+}
+
+/// The writer on any fields.
+fn write(tally: &mut Tally, random: &mut Random, fields: &Fields, n: u64, m: u64, length: usize) {
     let mut buffer = vec![0; length];
     random.fill(&mut buffer);
     let noise = buffer.clone();
-    let result = span::raw::write(class, span, stamps, picks, n, m, &mut buffer);
-    let minutes: Vec<Minute> = stamps.iter().map(|&stamp| minute(stamp)).collect();
-    let what = format!("class {class} span {span} stamps {stamps:?} picks {picks:?} n {n} m {m} buffer {length}");
-    match paper::writer(class, minute(span), &minutes, picks, n, m, length) {
+    let Fields { class, span, start, stamps, picks } = fields;
+    let result = span::raw::write(*class, *span, *start, stamps, picks, n, m, &mut buffer);
+    let what = format!("{fields:?} n {n} m {m} buffer {length}");
+    match paper::writer(&fields.answer(), n, m, length) {
         Err(refusal) => {
             tally.same(&format!("the writer's refusal, {what}"), result, refusal, &[], &[]);
             tally.same(&format!("the buffer where refused, {what}"), &buffer, &noise, &[], &[]);
@@ -133,7 +139,7 @@ pub fn run(tally: &mut Tally) {
     const SEED: u64 = 2_000_001;
     tally.seed(SEED);
     let mut random = Random::new(SEED);
-    let mut buffer = [0; 206];
+    let mut buffer = [0; BUFFER];
     for round in 0..40_000 {
         let (n, m) = if round % 20 == 0 { (31, 63) } else { (4, 4) };
         let problem = any(&mut random, n, m);
@@ -171,11 +177,12 @@ fn edges() -> Vec<u64> {
         -1_290_240,
         -1_290_241,
         2_000_001,
-        2_999_999,
-        3_000_000,
         3_000_001,
-        -3_000_000,
-        -3_000_001,
+        5_999_999,
+        6_000_000,
+        6_000_001,
+        -6_000_000,
+        -6_000_001,
         OFFSET - 1,
         1 - OFFSET,
     ];
@@ -189,45 +196,60 @@ fn every_edge_of_the_writer(tally: &mut Tally, random: &mut Random) {
     for (n, m) in [(0u64, 0u64), (1, 0), (0, 1), (3, 5), (31, 63)] {
         for class in 1..=3u64 {
             let (stamps, picks) = paper::counts(class, n as usize, m as usize);
-            let good_span = if class == 1 { offset(Some(3)) } else { 0 };
-            let good_stamps = vec![offset(Some(0)); stamps];
-            let good_picks = vec![0; picks];
-            let highest = paper::highest_pick(class, n as usize, m as usize);
-            for length in 0..=207 {
-                write(tally, random, class, good_span, &good_stamps, &good_picks, n, m, length);
+            let good = Fields {
+                class,
+                span: if class == 1 { offset(Some(3)) } else { 0 },
+                start: 1,
+                stamps: vec![offset(Some(0)); stamps],
+                picks: vec![0; picks],
+            };
+            for length in 0..=BUFFER + 1 {
+                write(tally, random, &good, n, m, length);
             }
-            for other in [0, 1, 2, 3, 4, 255, 256, 257, 65_535, 65_536, 65_537, (1 << 32) + 1, u64::MAX] {
-                write(tally, random, other, good_span, &good_stamps, &good_picks, n, m, 206);
+            for class in [0, 1, 2, 3, 4, 255, 256, 257, 65_535, 65_536, 65_537, (1 << 32) + 1, u64::MAX] {
+                write(tally, random, &Fields { class, ..good.clone() }, n, m, BUFFER);
+            }
+            for start in (0..=n + 3).chain([31, 32, 33, 255, 256, 65_535, 65_536, 65_537, 1 << 32, u64::MAX]) {
+                let other = Fields { start, ..good.clone() };
+                write(tally, random, &other, n, m, BUFFER);
+                write(tally, random, &Fields { picks: vec![0; picks + 1], ..other.clone() }, n, m, BUFFER);
+                write(tally, random, &other, n, m, BUFFER - 1);
+                tally.count("starts handed to the writer");
             }
             for other_n in SIZES {
                 for other_m in SIZES {
-                    write(tally, random, class, good_span, &good_stamps, &good_picks, other_n, other_m, 206);
-                    write(tally, random, class, good_span, &good_stamps, &good_picks, other_n, other_m, 205);
+                    write(tally, random, &good, other_n, other_m, BUFFER);
+                    write(tally, random, &good, other_n, other_m, BUFFER - 1);
                 }
             }
             for first in 0..=stamps + 2 {
                 for second in [0, 1, picks.saturating_sub(1), picks, picks + 1, 32, 64, 65] {
-                    let (some_stamps, some_picks) = (vec![offset(Some(0)); first], vec![0; second]);
-                    write(tally, random, class, good_span, &some_stamps, &some_picks, n, m, 206);
+                    let other = Fields { stamps: vec![offset(Some(0)); first], picks: vec![0; second], ..good.clone() };
+                    write(tally, random, &other, n, m, BUFFER);
                 }
             }
             for span in edges() {
-                write(tally, random, class, span, &good_stamps, &good_picks, n, m, 206);
+                write(tally, random, &Fields { span, ..good.clone() }, n, m, BUFFER);
             }
             for place in 0..stamps {
                 for stamp in edges() {
-                    let mut other = good_stamps.clone();
-                    other[place] = stamp;
-                    write(tally, random, class, good_span, &other, &good_picks, n, m, 206);
+                    let mut other = good.clone();
+                    other.stamps[place] = stamp;
+                    write(tally, random, &other, n, m, BUFFER);
                 }
             }
-            for place in 0..picks {
-                for pick in [1, highest - 1, highest, highest + 1, 65_535, 65_536, 65_537, 1 << 32, u64::MAX] {
-                    let mut other = good_picks.clone();
-                    other[place] = pick;
-                    write(tally, random, class, good_span, &good_stamps, &other, n, m, 206);
-                }
-            }
+            edges_of_picks(tally, random, &good, n, m);
+        }
+    }
+}
+
+fn edges_of_picks(tally: &mut Tally, random: &mut Random, good: &Fields, n: u64, m: u64) {
+    let highest = paper::highest_pick(good.class, n as usize, m as usize);
+    for place in 0..good.picks.len() {
+        for pick in [1, highest - 1, highest, highest + 1, 65_535, 65_536, 65_537, 1 << 32, u64::MAX] {
+            let mut other = good.clone();
+            other.picks[place] = pick;
+            write(tally, random, &other, n, m, BUFFER);
         }
     }
 }
@@ -266,7 +288,8 @@ fn random_fields(tally: &mut Tally, random: &mut Random) {
             (1, _) => offset(Some(random.within(-paper::LONGEST_SPAN, paper::LONGEST_SPAN))),
             _ => 0,
         };
-        let length = if random.chance(1, 10) { random.below(206) } else { 206 };
-        write(tally, random, class, span, &stamps, &picks, n, m, length);
+        let start = if random.chance(1, 8) { random.below(8) as u64 } else { 1 };
+        let length = if random.chance(1, 10) { random.below(BUFFER) } else { BUFFER };
+        write(tally, random, &Fields { class, span, start, stamps, picks }, n, m, length);
     }
 }

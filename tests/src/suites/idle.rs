@@ -4,7 +4,7 @@
 use super::bytes::{checker, engine, harmed};
 use super::pipes::{span_program, verdict};
 use super::{checked, outcome_of};
-use crate::paper::{self, Outcome, Problem, Row};
+use crate::paper::{self, Outcome, Problem, Row, BUFFER};
 use crate::programs;
 use crate::tally::Tally;
 use random::Random;
@@ -42,20 +42,20 @@ fn answered(tally: &mut Tally, random: &mut Random, record: &[u8]) -> Vec<u8> {
         let result = span::raw::solve(&[], &mut buffer);
         tally.same("the engine on no bytes", result, span::raw::solve(record, &mut other), &[], &buffer);
         tally.same("what it writes", &buffer, &other, &[], &buffer);
-        let expected = if length < 206 { 7 } else { 256 * paper::trials_for(Outcome::Least(0)) };
+        let expected = if length < BUFFER { 7 } else { 256 * paper::trials_for(Outcome::Least(0)) };
         tally.same("refusal 7, or the trials", result, expected, &[], &buffer);
     }
-    let mut buffer = [0; 206];
+    let mut buffer = [0; BUFFER];
     match span::solve(&[], &mut buffer) {
         Err(refusal) => tally.fail(format!("no bytes got {refusal}"), &[], &[]),
         Ok(solved) => {
             tally.same("least 0", outcome_of(solved.outcome), Outcome::Least(0), &[], &buffer);
-            tally.same("the size of the answer", solved.size, 20, &[], &buffer);
+            tally.same("the size of the answer", solved.size, 22, &[], &buffer);
         }
     }
     let all = span::solve_all(&[], &mut buffer).map(|solved| solved.to_string()).map_err(|refusal| refusal.number);
     tally.same("all answers", all, Ok("least 0".to_string()), &[], &buffer);
-    buffer[..20].to_vec()
+    buffer[..22].to_vec()
 }
 
 /// The checker with no bytes for the problem: it accepts the engine's answer, and judges every other as with the record.
@@ -91,9 +91,9 @@ fn short(tally: &mut Tally, random: &mut Random, record: &[u8], answer: &[u8]) {
             strings.push(noise);
         }
         for (number, bytes) in strings.iter().enumerate() {
-            let mut buffer = [0; 206];
+            let mut buffer = [0; BUFFER];
             tally.same("the engine on 1 to 9 bytes", span::raw::solve(bytes, &mut buffer), 1, bytes, &[]);
-            tally.same("its buffer", buffer, [0; 206], bytes, &buffer);
+            tally.same("its buffer", buffer, [0; BUFFER], bytes, &buffer);
             tally.same("the checker on 1 to 9 bytes", checked(bytes, answer), Err(1), bytes, answer);
             if number < 20 {
                 let line = programs::span(bytes);

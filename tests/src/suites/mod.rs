@@ -1,22 +1,25 @@
 //! The suites, each against one part of what the papers promise.
 
 pub mod bytes;
+pub mod census;
 pub mod checker;
 pub mod examples;
 pub mod fields;
 pub mod hours;
 pub mod idle;
 pub mod marks;
+pub mod merging;
 pub mod opening;
 pub mod parts;
 pub mod pipes;
 pub mod questions;
 pub mod silent;
 pub mod small;
+pub mod starts;
 pub mod tables;
 pub mod unproved;
 
-use crate::paper::{self, Outcome, Problem};
+use crate::paper::{self, Outcome, Problem, BUFFER};
 use crate::second;
 use crate::tally::Tally;
 use random::Random;
@@ -37,7 +40,7 @@ pub fn checked(problem: &[u8], answer: &[u8]) -> Result<Outcome, u64> {
     }
 }
 
-/// What document 01 says that the checker must say.
+/// What documents 01 and 02 say that the checker must say.
 pub fn expected_check(problem: &[u8], answer: &[u8]) -> Result<Outcome, u64> {
     let problem = paper::read_problem(problem)?;
     let answer = paper::read_answer(answer, problem.n(), problem.m())?;
@@ -54,7 +57,7 @@ pub fn expected_check(problem: &[u8], answer: &[u8]) -> Result<Outcome, u64> {
 pub fn answered(tally: &mut Tally, random: &mut Random, problem: &Problem) -> (Outcome, Vec<u8>) {
     let bytes = problem.bytes();
     let (n, m) = (problem.n(), problem.m());
-    let mut buffer = vec![0; 206 + random.below(20)];
+    let mut buffer = vec![0; BUFFER + random.below(20)];
     random.fill(&mut buffer);
     let noise = buffer.clone();
     // The plain boundary first: the wrapper relies on a record being there.
@@ -74,7 +77,7 @@ pub fn answered(tally: &mut Tally, random: &mut Random, problem: &Problem) -> (O
         }
     };
     let outcome = outcome_of(solved.outcome);
-    if solved.size > 206 {
+    if solved.size > BUFFER {
         tally.fail(format!("a record of {} bytes", solved.size), &bytes, &buffer);
         return (outcome, Vec::new());
     }
@@ -89,6 +92,13 @@ pub fn answered(tally: &mut Tally, random: &mut Random, problem: &Problem) -> (O
             if !second::accepted(problem, &answer) {
                 tally.fail("the second checker turns the engine's answer down".into(), &bytes, &record);
             }
+            tally.count(match (answer.class, answer.start) {
+                (1, 0) => "least from the anchor",
+                (1, _) => "least from the second list",
+                (3, 0) => "none from the anchor",
+                (3, _) => "none from the second list",
+                _ => "bottomless from a moment",
+            });
             let idle = second::plays_no_part(problem, &answer);
             if idle.iter().zip(&answer.picks).any(|(idle, pick)| *idle && *pick != 0) {
                 tally.fail("a pick that plays no part is not 0".into(), &bytes, &record);

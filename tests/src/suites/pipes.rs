@@ -3,7 +3,7 @@
 use super::examples::{a, all, e};
 use super::{expected_check, outcome_of};
 use crate::generate::{self, any, changed, Shape};
-use crate::paper::{self, mend_length, Outcome, Problem};
+use crate::paper::{self, mend_length, Outcome, Problem, BUFFER};
 use crate::programs;
 use crate::tally::Tally;
 use random::Random;
@@ -66,7 +66,7 @@ pub fn span_program(tally: &mut Tally, input: &[u8]) {
             tally.count(&format!("span refused {refusal}"));
         }
         Ok(all) => {
-            let mut buffer = [0; 8 * 206];
+            let mut buffer = [0; 8 * BUFFER];
             let expected: Vec<_> = match span::solve_all(input, &mut buffer) {
                 Ok(solved) => solved.answers.iter().map(|answer| Ok(outcome_of(answer.outcome))).collect(),
                 Err(refusal) => vec![Err(refusal.number as u64)],
@@ -100,8 +100,8 @@ pub fn run(tally: &mut Tally) {
         span_program(tally, &problem.bytes());
     }
     let mut both = a().bytes();
-    both.extend([0x10, 0, 0, 0, 2, 0, 0, 0, 1, 0, 3, 0, 0, 0, 0, 0, 0, 0, 1, 0]);
-    tally.same("A's 38 bytes", (both.len(), verdict_line(&both).as_str()), (38, "accepted least 3\n"), &both, &[]);
+    both.extend([0x12, 0, 0, 0, 4, 0, 0, 0, 1, 0, 3, 0, 0, 0, 0, 0, 0, 0, 0, 0, 1, 0]);
+    tally.same("A's 40 bytes", (both.len(), verdict_line(&both).as_str()), (40, "accepted least 3\n"), &both, &[]);
     verdict(tally, &both);
     short_inputs(tally, &mut random, &both);
     long_inputs(tally, &mut random);
@@ -118,7 +118,7 @@ fn short_inputs(tally: &mut Tally, random: &mut Random, both: &[u8]) {
         let problem = if round % 10 == 0 { any(random, 31, 63) } else { any(random, 5, 6) };
         let bytes = problem.bytes();
         span_program(tally, &bytes);
-        let mut buffer = [0; 206];
+        let mut buffer = [0; BUFFER];
         let size = span::solve(&bytes, &mut buffer).map_or(0, |solved| solved.size);
         if let Ok(answer) = paper::read_answer(&buffer[..size], problem.n(), problem.m()) {
             let mut input = bytes.clone();
@@ -139,7 +139,7 @@ fn long_inputs(tally: &mut Tally, random: &mut Random) {
     for size in sizes {
         let mut noise = vec![0; size];
         random.fill(&mut noise);
-        let fields: Vec<u64> = (0..=14)
+        let fields: Vec<u64> = (0..=16)
             .chain([16_390, 16_391, 16_392, 19_995, 19_996, 19_997, 20_000])
             .chain([size as u64 - 5, size as u64 - 4, size as u64 - 3, size as u64, u32::MAX as u64])
             .collect();
@@ -170,7 +170,7 @@ fn longest_inputs(tally: &mut Tally, random: &mut Random) {
     random.fill(&mut input);
     let good = sized(random, 31, 63).bytes();
     for (field, start) in
-        [(0, &[][..]), (14, &[]), (19_996, &[1, 0, 31, 0, 63, 0]), (size - 4, &[1, 0, 31, 0, 63, 0]), (size - 3, &[])]
+        [(0, &[][..]), (16, &[]), (19_996, &[1, 0, 31, 0, 63, 0]), (size - 4, &[1, 0, 31, 0, 63, 0]), (size - 3, &[])]
     {
         input[..4].copy_from_slice(&(field as u32).to_le_bytes());
         input[4..4 + start.len()].copy_from_slice(start);
@@ -188,7 +188,7 @@ fn after_a_problem(tally: &mut Tally, random: &mut Random, good: &[u8], problem:
     let mut outside = good.to_vec();
     let place = 10 + 4 * random.below((good.len() - 10) / 4);
     outside[place..place + 4].copy_from_slice(&20_161i32.to_le_bytes());
-    let mut buffer = [0; 206];
+    let mut buffer = [0; BUFFER];
     let written = span::solve(good, &mut buffer).map_or(0, |solved| solved.size);
     for first in [good, &outside] {
         let mut rest = vec![0; size - first.len()];
@@ -197,15 +197,16 @@ fn after_a_problem(tally: &mut Tally, random: &mut Random, good: &[u8], problem:
         input.extend(&rest);
         verdict(tally, &input);
         span_program(tally, &input);
-        if rest.len() >= 14 {
+        if rest.len() >= 16 {
             for class in 0..=4u8 {
-                for kind in [1u8, 2] {
+                for kind in [1u8, 2, 4] {
                     for off in [0i64, 1, -1] {
                         let mut tail = rest.clone();
                         mend_length(&mut tail);
                         let length = (tail.len() as i64 - 4 + off) as u32;
                         tail[..4].copy_from_slice(&length.to_le_bytes());
                         tail[4..10].copy_from_slice(&[kind, 0, problem.n() as u8, 0, class, 0]);
+                        tail[14..16].copy_from_slice(&[1, 0]);
                         let mut input = first.to_vec();
                         input.extend(tail);
                         verdict(tally, &input);

@@ -5,7 +5,7 @@ use super::small::every_problem;
 use super::{answered, expected_check};
 use crate::exhaustive;
 use crate::generate::{any, any_questions};
-use crate::paper::{self, mend_length, Problem, Questions, Row};
+use crate::paper::{self, mend_length, Problem, Questions, Row, BUFFER};
 use crate::programs;
 use crate::tally::Tally;
 use random::Random;
@@ -38,12 +38,12 @@ fn good(tally: &mut Tally, random: &mut Random, stored: &[u8]) {
     converter(tally, random, &record, record.len());
     tally.same("converting again", paper::converted(&record, record.len()), Ok(record.clone()), stored, &record);
     let (dropped, several) = (record.len() < stored.len(), paper::number(&stored[4..6]) == 3);
-    let mut buffer = [0; 8 * 206];
+    let mut buffer = [0; 8 * BUFFER];
     let refusal = span::raw::solve(stored, &mut buffer) & 255;
     tally.same("17 where rules are dropped", refusal, if dropped { 17 } else { 0 }, stored, &record);
     tally.same("no 17 afterwards", span::raw::solve(&record, &mut buffer) & 255, 0, stored, &record);
     if !several {
-        bytes::checker(tally, stored, &buffer[..20]);
+        bytes::checker(tally, stored, &buffer[..22]);
         tally.same("the checker's 17", expected_check(stored, &[]) == Err(17), dropped, stored, &[]);
     }
     tally.count(if dropped { "with a rule that says nothing" } else { "with none" });
@@ -100,7 +100,7 @@ fn large(tally: &mut Tally, random: &mut Random) {
         let bad = harmed(random, &stored);
         let length = [0, bad.len() / 2, bad.len(), bad.len() + 20][random.below(4)];
         converter(tally, random, &bad, length);
-        bytes::engine(tally, random, &bad, 8 * 206);
+        bytes::engine(tally, random, &bad, 8 * BUFFER);
         if round % 40 == 0 {
             program(tally, &stored);
             program(tally, &bad);
@@ -118,11 +118,11 @@ fn orders(tally: &mut Tally, random: &mut Random) {
             rules[silent].left.fill(None);
             let stored = Problem { rules, question: question.clone() }.bytes();
             good(tally, random, &stored);
-            bytes::engine(tally, random, &stored, 205);
+            bytes::engine(tally, random, &stored, BUFFER - 1);
             let mut outside = stored.clone();
             let last = outside.len() - 4;
             outside[last..].copy_from_slice(&10_000_000i32.to_le_bytes());
-            bytes::engine(tally, random, &outside, 206);
+            bytes::engine(tally, random, &outside, BUFFER);
             converter(tally, random, &outside, stored.len());
             tally.same("6 before 17", paper::read_questions(&outside), Err(6), &outside, &[]);
         }

@@ -1,9 +1,9 @@
-//! Small problems: the engine against every plan in a box.
+//! Small problems: the engine against every plan in a box that counts.
 
 use super::{answered, bytes};
 use crate::exhaustive;
 use crate::generate::{self, Shape};
-use crate::paper::{Minute, Problem, Row};
+use crate::paper::{Minute, Problem, Row, BUFFER};
 use crate::tally::Tally;
 use random::Random;
 
@@ -34,7 +34,7 @@ pub fn every_small_problem(tally: &mut Tally) {
         every_problem(n, m, w, |problem| {
             tally.count("problems");
             if problem.rules.iter().any(Row::says_nothing) {
-                bytes::engine(tally, &mut random, &problem.bytes(), 206);
+                bytes::engine(tally, &mut random, &problem.bytes(), BUFFER);
                 return;
             }
             let expected = exhaustive::solve(problem, w);

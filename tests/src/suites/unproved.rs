@@ -5,7 +5,7 @@ use unproved::{solve_all_by, solve_by, Answered, InFull, InLists, Search};
 use super::expected_check;
 use crate::exhaustive;
 use crate::generate::{self, any, any_questions, changed, Shape};
-use crate::paper::{self, Outcome, Problem, Questions};
+use crate::paper::{self, Outcome, Problem, Questions, BUFFER};
 use crate::tally::Tally;
 use random::Random;
 
@@ -40,7 +40,7 @@ fn outcome(answered: Answered) -> Outcome {
 fn judge(tally: &mut Tally, random: &mut Random, problem: &Problem, expected: Option<Outcome>) {
     let bytes = problem.bytes();
     for (name, engine) in ENGINES {
-        let mut buffer = [0xA5; 206];
+        let mut buffer = [0xA5; BUFFER];
         let Ok(answered) = engine(&bytes, &mut buffer) else {
             tally.fail(format!("{name} refuses a good problem"), &bytes, &[]);
             continue;
@@ -62,7 +62,7 @@ fn judge(tally: &mut Tally, random: &mut Random, problem: &Problem, expected: Op
 fn several(tally: &mut Tally, all: &Questions) {
     let bytes = all.bytes();
     for ((name, engine), (_, engine_of_all)) in ENGINES.into_iter().zip(ENGINES_OF_ALL) {
-        let mut expected = [0xA5; 8 * 206];
+        let mut expected = [0xA5; 8 * BUFFER];
         let (mut answers, mut at) = (Vec::new(), 0);
         for number in 0..all.questions.len() {
             if let Ok(answered) = engine(&all.alone(number).bytes(), &mut expected[at..]) {
@@ -70,7 +70,7 @@ fn several(tally: &mut Tally, all: &Questions) {
                 answers.push(answered);
             }
         }
-        let mut buffer = [0xA5; 8 * 206];
+        let mut buffer = [0xA5; 8 * BUFFER];
         tally.same(name, engine_of_all(&bytes, &mut buffer), Ok(answers), &bytes, &expected[..at]);
         tally.same(name, buffer, expected, &bytes, &expected[..at]);
     }
@@ -108,7 +108,7 @@ pub fn run(tally: &mut Tally) {
     }
     for _ in 0..3_000 {
         let problem = any(&mut random, 31, 63);
-        let mut buffer = [0; 206];
+        let mut buffer = [0; BUFFER];
         let first = solve_by::<InFull>(Search::Halving, &problem.bytes(), &mut buffer);
         judge(tally, &mut random, &problem, first.ok().map(outcome));
         tally.count("problems of all sizes");

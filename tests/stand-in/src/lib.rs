@@ -4,12 +4,16 @@
 
 #[path = "../../../capi/rust/src/calls.rs"]
 mod calls;
+#[path = "../../../capi/rust/src/census.rs"]
+mod census;
 #[path = "../../../capi/rust/src/conversion.rs"]
 mod conversion;
 #[path = "../../../capi/rust/src/hours.rs"]
 mod hours;
 #[path = "../../../capi/rust/src/marks.rs"]
 mod marks;
+#[path = "../../../capi/rust/src/merging.rs"]
+mod merging;
 #[path = "../../../capi/rust/src/opening.rs"]
 mod opening;
 pub mod raw;
@@ -17,8 +21,10 @@ pub mod raw;
 mod words;
 
 pub use calls::{check, read, solve, solve_all, write, ANSWER_SIZE, PROBLEM_SIZE, QUESTIONS, QUESTIONS_SIZE};
+pub use census::{census, Census};
 pub use conversion::convert;
 pub use hours::{read_hours, write_hours, TEXT_SIZE};
 pub use marks::marks_differ;
+pub use merging::{merge, PLAN_SIZE};
 pub use opening::{first_open, Window};
 pub use words::{Answer, AnswerAt, Certified, Class, Outcome, Refusal, Solved, SolvedAll};

@@ -1,9 +1,11 @@
 //! The functions of `raw` in the package `span`, by the unproved engine and checker.
 
-pub use unproved::boundary::{check, convert, hours_read, hours_write, marks_differ, read, solve, write};
+pub use unproved::boundary::{census, check, convert, hours_read, hours_write, marks_differ, merge, read, solve, write};
 pub use unproved::week::first_open;
 
 /// Places that the reader is lent for stamps.
 pub const STAMPS: usize = unproved::VARIABLES;
 /// Places that the reader is lent for picks.
 pub const PICKS: usize = unproved::ROWS;
+/// Places that a census is lent for its counts.
+pub const COUNTS: usize = 4;

@@ -46,7 +46,7 @@ fn a_rule_that_does_not_exist_is_not_named() {
 /// A moment that does not exist, in a bottomless answer; its rows are two.
 #[test]
 fn a_moment_that_does_not_exist_is_not_named() {
-    let record = [14, 0, 0, 0, 2, 0, 1, 0, 2, 0, 0, 0, 0, 0x80, 2, 0, 99, 0];
+    let record = [16, 0, 0, 0, 4, 0, 1, 0, 2, 0, 0, 0, 0, 0x80, 1, 0, 2, 0, 99, 0];
     for told in both_ways(&record) {
         claims_only(&told);
         assert!(told.out.contains("The record claims that spans are bottomless.\n"), "{told:?}");
@@ -56,7 +56,7 @@ fn a_moment_that_does_not_exist_is_not_named() {
 #[test]
 fn what_cannot_be_read_claims_nothing() {
     let good = least(30, &[0, 30], &[1, 2]);
-    for record in [&good[..13], &good[..20], &least(30, &[0, 30, 30], &[1, 2, 0]), &least(i32::MIN, &[0, 30], &[1, 2])]
+    for record in [&good[..15], &good[..20], &least(30, &[0, 30, 30], &[1, 2, 0]), &least(i32::MIN, &[0, 30], &[1, 2])]
     {
         for told in both_ways(record) {
             claims_only(&told);

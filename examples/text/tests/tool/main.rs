@@ -56,11 +56,13 @@ fn e() -> String {
     format!("moments: bed\nanchor + 30 <= bed\n{}", span("anchor", "bed"))
 }
 
-/// A class 1 answer record.
+/// A class 1 answer record that starts at the anchor.
 fn least(span: i32, stamps: &[i32], picks: &[u16]) -> Vec<u8> {
-    let mut record = ((10 + 6 * stamps.len()) as u32).to_le_bytes().to_vec();
-    record.extend([2, 0, stamps.len() as u8 - 1, 0, 1, 0]);
-    record.extend([span].iter().chain(stamps).flat_map(|number| number.to_le_bytes()));
+    let mut record = ((12 + 6 * stamps.len()) as u32).to_le_bytes().to_vec();
+    record.extend([4, 0, stamps.len() as u8 - 1, 0, 1, 0]);
+    record.extend(span.to_le_bytes());
+    record.extend([0, 0]);
+    record.extend(stamps.iter().flat_map(|number| number.to_le_bytes()));
     record.extend(picks.iter().flat_map(|pick| pick.to_le_bytes()));
     record
 }

@@ -12,7 +12,7 @@ fn first() -> Vec<u8> {
     least(30, &[0, 30], &[1, 2])
 }
 
-const SECOND: [u8; 18] = [14, 0, 0, 0, 2, 0, 1, 0, 2, 0, 0, 0, 0, 0x80, 2, 0, 2, 0];
+const SECOND: [u8; 20] = [16, 0, 0, 0, 4, 0, 1, 0, 2, 0, 0, 0, 0, 0x80, 2, 0, 2, 0, 2, 0];
 
 /// The tool on answers to a text, in a file and from an engine.
 fn both_ways(contents: &str, records: &[&[u8]]) -> [Told; 2] {

@@ -53,3 +53,29 @@ fn both_groups_are_printed() {
     assert!(told.out.contains("  from  later of anchor, (cleaned - 5)\n  to    ready - 10\n"), "{told:?}");
     assert!(told.out.contains("The least span is -5 minutes."), "{told:?}");
 }
+
+/// A span is about somebody: a plan without the group that the span starts from does not count (document 02, 2.4).
+#[test]
+fn plans_without_the_span_s_start_do_not_count() {
+    let scratch = Scratch::new("counts");
+    let run = |contents: &str| text(&["run".as_ref(), scratch.file("span.txt", contents).as_os_str()]);
+    let told = run("moments: one, two\ntwo - 10 <= one\nspan: from two to one\n");
+    assert_eq!(told.status, Some(0), "{told:?}");
+    assert!(told.out.contains("The least span is -10 minutes."), "{told:?}");
+    assert!(
+        told.out.contains("What holds it up, by the pick table:\n  rule 1: two - 10 <= one\n  the span itself\n"),
+        "{told:?}"
+    );
+    let told = run("moments: one, two\ntwo - 10 <= one\nspan: from nothing to one\n");
+    assert!(
+        told.out.contains("None: ") && told.out.contains("The group that the span starts from is empty"),
+        "{told:?}"
+    );
+    let told = run("moments: one, two\nanchor + 5 <= one\nspan: from two to one\n");
+    assert!(
+        told.out.contains("Bottomless: ") && told.out.contains("  one carries rule 1: anchor + 5 <= one\n"),
+        "{told:?}"
+    );
+    let told = run("moments: one, two\none <= two\nspan: from two to one\n");
+    assert!(told.out.contains("No rule binds the anchor or two: "), "{told:?}");
+}

@@ -8,7 +8,7 @@ mod refused;
 use super::bytes::{checker, seen};
 use super::outcome_of;
 use crate::generate::{self, Shape};
-use crate::paper::{self, Outcome, Problem, Questions, LONGEST_LEAD};
+use crate::paper::{self, Outcome, Problem, Questions, BUFFER, LONGEST_LEAD};
 use crate::tally::Tally;
 use random::Random;
 
@@ -22,9 +22,9 @@ struct Alone {
 
 fn alone(tally: &mut Tally, problem: &Problem) -> Alone {
     let bytes = problem.bytes();
-    let mut buffer = [0xA5; 206];
+    let mut buffer = [0xA5; BUFFER];
     let result = span::raw::solve(&bytes, &mut buffer);
-    let size = (paper::number(&buffer[..4]) as usize + 4).min(206);
+    let size = (paper::number(&buffer[..4]) as usize + 4).min(BUFFER);
     match (result & 255, paper::read_answer(&buffer[..size], problem.n(), problem.m())) {
         (0, Ok(answer)) => Alone { record: buffer[..size].to_vec(), trials: result >> 8, outcome: answer.outcome() },
         (refusal, _) => {
@@ -44,10 +44,10 @@ fn records(answers: &[&Alone]) -> Vec<u8> {
     answers.iter().flat_map(|answer| answer.record.iter().copied()).collect()
 }
 
-/// The engine on a problem of kind 3 gives the answers of one call a question: every byte of the buffer, which has 206
+/// The engine on a problem of kind 3 gives the answers of one call a question: every byte of the buffer, which has 208
 /// bytes a question or more and held noise, and the sum of the trials.
 fn compare(tally: &mut Tally, random: &mut Random, bytes: &[u8], answers: &[&Alone]) {
-    let mut buffer = vec![0; 206 * answers.len() + [0, 0, 1, 30, 206][random.below(5)]];
+    let mut buffer = vec![0; BUFFER * answers.len() + [0, 0, 1, 30, BUFFER][random.below(5)]];
     random.fill(&mut buffer);
     let mut expected = buffer.clone();
     let records = records(answers);
@@ -66,7 +66,7 @@ fn compare(tally: &mut Tally, random: &mut Random, bytes: &[u8], answers: &[&Alo
 fn package(tally: &mut Tally, all: &Questions, answers: &[&Alone]) {
     let bytes = all.bytes();
     let records = records(answers);
-    let mut buffer = vec![0xA5; 206 * answers.len()];
+    let mut buffer = vec![0xA5; BUFFER * answers.len()];
     tally.same("solve", span::solve(&bytes, &mut buffer).map_err(|refusal| refusal.number), Err(3), &bytes, &[]);
     tally.same("the buffer of solve", buffer.iter().all(|byte| *byte == 0xA5), true, &bytes, &buffer);
     let solved = match span::solve_all(&bytes, &mut buffer) {

@@ -2,7 +2,7 @@
 
 use super::good;
 use crate::generate::{self, any_questions, Shape};
-use crate::paper::{self, mend_length};
+use crate::paper::{self, mend_length, BUFFER};
 use crate::suites::bytes::{checker, engine, harmed};
 use crate::tally::Tally;
 use random::Random;
@@ -48,8 +48,8 @@ fn refused_by(random: &mut Random, applies: impl Fn(u64) -> bool) -> (Vec<u8>, u
     if applies(2) {
         bytes[random.below(4)] ^= 1 << random.below(8);
     }
-    let enough = 206 * count;
-    let length = if applies(7) { enough.saturating_sub(1 + random.below(206)) } else { enough + random.below(3) };
+    let enough = BUFFER * count;
+    let length = if applies(7) { enough.saturating_sub(1 + random.below(BUFFER)) } else { enough + random.below(3) };
     (bytes, length)
 }
 
@@ -59,7 +59,7 @@ fn tried(tally: &mut Tally, random: &mut Random, problem: &[u8], length: usize) 
     checker(tally, problem, &[]);
     let expected = match paper::read_problem(problem) {
         Err(refusal) => refusal,
-        Ok(_) if length < 206 => 7,
+        Ok(_) if length < BUFFER => 7,
         Ok(_) => 0,
     };
     let mut buffer = vec![0xA5; length];
@@ -94,7 +94,7 @@ fn counts(tally: &mut Tally, random: &mut Random) {
             mend_length(&mut bytes);
             let found = span::raw::solve(&bytes, &mut []);
             tally.same("a record that ends before its count", found, if above { 4 } else { 5 }, &bytes, &[]);
-            tried(tally, random, &bytes, 206);
+            tried(tally, random, &bytes, BUFFER);
             tally.count("records of 10 and 11 bytes");
         }
     }
@@ -116,19 +116,19 @@ fn counts(tally: &mut Tally, random: &mut Random) {
         for count in [0, 1, 7, 8, 9] {
             let mut bytes = bytes.clone();
             bytes[10..12].copy_from_slice(&[count, 0]);
-            tried(tally, random, &bytes, 8 * 206);
+            tried(tally, random, &bytes, 8 * BUFFER);
         }
     }
 }
 
-/// Buffers of every length up to 206 bytes a question and two more, for every count.
+/// Buffers of every length up to 208 bytes a question and two more, for every count.
 fn buffers(tally: &mut Tally, random: &mut Random) {
     for count in 1..=8 {
         let all = any_questions(random, 3, 3, count);
         let bytes = all.bytes();
-        for length in 0..=206 * count + 2 {
+        for length in 0..=BUFFER * count + 2 {
             let found = span::raw::solve(&bytes, &mut vec![0; length]) & 255;
-            let expected = if length < 206 * count { 7 } else { 0 };
+            let expected = if length < BUFFER * count { 7 } else { 0 };
             tally.same(&format!("a buffer of {length} bytes"), found, expected, &bytes, &[]);
             engine(tally, random, &bytes, length);
             tally.count("buffers");
@@ -146,7 +146,7 @@ fn leads(tally: &mut Tally, random: &mut Random) {
             for lead in FAR.into_iter().chain([20_160, -20_160, i32::MIN]) {
                 let mut other = bytes.clone();
                 other[place..place + 4].copy_from_slice(&lead.to_le_bytes());
-                engine(tally, random, &other, 206 * count);
+                engine(tally, random, &other, BUFFER * count);
                 match paper::read_questions(&other) {
                     Ok(all) => good(tally, random, &all),
                     Err(refusal) => {
@@ -171,17 +171,17 @@ fn damage(tally: &mut Tally, random: &mut Random) {
     let good = any_questions(random, 3, 3, 3).bytes();
     for cut in 0..good.len() {
         let mut part = good[..cut].to_vec();
-        tried(tally, random, &part, 3 * 206);
+        tried(tally, random, &part, 3 * BUFFER);
         if cut >= 4 {
             mend_length(&mut part);
-            tried(tally, random, &part, 3 * 206);
+            tried(tally, random, &part, 3 * BUFFER);
         }
     }
     for place in 0..12 {
         for value in 0..=255 {
             let mut other = good.clone();
             other[place] = value;
-            tried(tally, random, &other, 3 * 206);
+            tried(tally, random, &other, 3 * BUFFER);
         }
     }
     for round in 0..if tally.long { 1_000_000 } else { 30_000 } {
@@ -192,7 +192,7 @@ fn damage(tally: &mut Tally, random: &mut Random) {
         if random.chance(1, 5) && bad.len() > 12 {
             bad[10] = random.below(10) as u8;
         }
-        let length = if random.chance(1, 2) { 206 * count } else { random.below(1_700) };
+        let length = if random.chance(1, 2) { BUFFER * count } else { random.below(1_700) };
         tried(tally, random, &bad, length);
     }
 }

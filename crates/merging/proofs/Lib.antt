@@ -1,0 +1,6 @@
+pub mod Sides
+pub mod Later
+pub mod Plans
+pub mod Rows
+pub mod Outcomes
+pub mod Keeps
