@@ -13,7 +13,7 @@ use Rattle.definitions.specs.Limits.{desk-places, most-trials}
 use Rattle.definitions.specs.Tropical.{Trop}
 use Rattle.definitions.specs.ProblemRecord.{WithinLayout, problemRefusal, problemOf, meant}
 use Rattle.definitions.specs.AnswerRecord.{Answer}
-use Rattle.definitions.specs.Solved.{Found, Answers}
+use Rattle.definitions.specs.Solved.{Answers}
 use Rattle.definitions.specs.Bytes.{first, or-else}
 use Rattle.definitions.specs.Desk.{memoryRefused, fullRefused, Place, empty, waits, answered, Desk, opened, placeAt, Stands, ticketOf, FirstEmpty, TakenIn, TakesIn, taken, takeRefusal, Stepped, Steps, one-more, last-one, Collected, Collects, handed-over, Run, nothing, take-in, one-step, collect, FromOpening, StillWaits, DeskHolds}
 use Rattle.definitions.specs.Desk as Desks
