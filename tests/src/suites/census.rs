@@ -163,7 +163,9 @@ fn try_refused(tally: &mut Tally, n: u64, m: u64, w: u64) {
 
 /// Every n, m, w just beyond, and numbers so large that a power overflows.
 fn refusals(tally: &mut Tally) {
-    for (n, m, w) in [(0, 0, 0), (0, 0, 20_161), (32, 0, 1), (0, 64, 1), (0, 0, 128), (0, 0, 20_160), (31, 63, 20_160), (31, 63, 1)] {
+    for (n, m, w) in
+        [(0, 0, 0), (0, 0, 20_161), (32, 0, 1), (0, 64, 1), (0, 0, 128), (0, 0, 20_160), (31, 63, 20_160), (31, 63, 1)]
+    {
         try_refused(tally, n, m, w);
     }
     // The first total above 65,536 of each n and m.
@@ -210,7 +212,15 @@ fn words(tally: &mut Tally) {
             tally.count("of words");
         }
     }
-    for words in [&["0"][..], &["0", "0"], &["0", "0", "1", "1"], &["", "0", "1"], &["0", "-1", "1"], &["0", "0", "1 "], &["0", "0x1", "1"]] {
+    for words in [
+        &["0"][..],
+        &["0", "0"],
+        &["0", "0", "1", "1"],
+        &["", "0", "1"],
+        &["0", "-1", "1"],
+        &["0", "0", "1 "],
+        &["0", "0x1", "1"],
+    ] {
         let found = printed(tally, words);
         tally.same("no three numbers", found, (String::new(), true), &[], &[]);
         tally.count("of words");

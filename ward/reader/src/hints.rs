@@ -1,0 +1,93 @@
+//! What a writer may have meant.
+
+use crate::tokens::{Fault, Token};
+
+/// The candidate that a word was probably meant to be, if one is near.
+pub fn near<'a>(word: &str, candidates: impl Iterator<Item = &'a str>) -> Option<&'a str> {
+    let small = word.to_lowercase();
+    let far = small.chars().count() / 3 + 1;
+    let mut found: Vec<(usize, &str)> = candidates
+        .map(|candidate| (steps(&small, &candidate.to_lowercase()), candidate))
+        .filter(|(steps, _)| *steps < far.min(3))
+        .collect();
+    found.sort();
+    found.first().map(|(_, candidate)| *candidate)
+}
+
+/// How many letters must be put in, left out or changed, or neighbours swapped, to make one word of the other.
+fn steps(a: &str, b: &str) -> usize {
+    let (a, b): (Vec<char>, Vec<char>) = (a.chars().collect(), b.chars().collect());
+    let mut rows = vec![(0..=b.len()).collect::<Vec<usize>>()];
+    for i in 1..=a.len() {
+        let mut row = vec![i];
+        for j in 1..=b.len() {
+            let above = &rows[i - 1];
+            let mut best = (above[j] + 1).min(row[j - 1] + 1).min(above[j - 1] + (a[i - 1] != b[j - 1]) as usize);
+            if i > 1 && j > 1 && a[i - 1] == b[j - 2] && a[i - 2] == b[j - 1] {
+                best = best.min(rows[i - 2][j - 2] + 1);
+            }
+            row.push(best);
+        }
+        rows.push(row);
+    }
+    rows[a.len()][b.len()]
+}
+
+/// A sign that stands where `<=` belongs, with both sides as they were written.
+pub fn relation(token: &Token, left: &str, right: &str) -> Fault {
+    let fault = Fault::new(token.from, token.to, format!("'<=' is expected, not '{}'", token.text));
+    fault.hint(match token.text {
+        "≤" | "=<" | "⩽" => "write '<='".into(),
+        ">=" | "≥" | "=>" => format!("write it the other way round: '{right} <= {left}'"),
+        "=" | "==" => {
+            format!("an equation is two rules, each on its line: '{left} <= {right}' and '{right} <= {left}'")
+        }
+        "<" => format!("write '{left} <= {right}'; where they must not be at the same minute, add 1 on the left"),
+        ">" => format!("write '{right} <= {left}'; where they must not be at the same minute, add 1 on the left"),
+        _ => format!("write '{left} <= {right}'"),
+    })
+}
+
+/// Minutes that are not written as a whole number or as hours and minutes.
+pub fn minutes(from: usize, to: usize, word: &str) -> Fault {
+    let fault = |message: String| Fault::new(from, to, message);
+    if word.contains('.') {
+        let parts: Vec<&str> = word.split('.').collect();
+        let whole = parts[0];
+        let hours = match (parts.get(1), whole) {
+            (Some(&"5"), hours) => format!("; half an hour more than {hours} hours is {hours}:30"),
+            (Some(&"25"), hours) => format!("; a quarter more than {hours} hours is {hours}:15"),
+            _ => "; hours and minutes are written 1:30".into(),
+        };
+        return fault(format!("'{word}' is no whole number of minutes"))
+            .hint(format!("minutes are whole: write '{whole}'{hours}"));
+    }
+    if word.contains(':') {
+        return fault(format!("'{word}' is no text of hours and minutes"))
+            .hint("hours without a leading zero, a colon, and two digits of minutes below 60, as in 1:30 or 0:05");
+    }
+    let digits: String = word.chars().take_while(char::is_ascii_digit).collect();
+    if !digits.is_empty() {
+        return fault(format!("'{word}' is no number of minutes"))
+            .hint(format!("write '{digits}' for minutes, or hours and minutes as in 1:30"));
+    }
+    fault(format!("minutes are expected, not '{word}'"))
+}
+
+#[cfg(test)]
+mod tests {
+    use super::*;
+
+    #[test]
+    fn near_words_are_found() {
+        let names = ["ready", "cleaned", "ambulance", "a"];
+        let near = |word: &str| near(word, names.into_iter());
+        assert_eq!(near("Ready"), Some("ready"));
+        assert_eq!(near("claened"), Some("cleaned"));
+        assert_eq!(near("ambulence"), Some("ambulance"));
+        assert_eq!(near("AMBULANCE"), Some("ambulance"));
+        assert_eq!(near("A"), Some("a"));
+        assert_eq!(near("b"), None);
+        assert_eq!(near("nurse"), None);
+    }
+}

@@ -1,0 +1,92 @@
+//! A sheet as a text again.
+
+use std::fmt::Write;
+
+use crate::clock::{Clock, DAY, DAYS};
+use crate::sheet::{Lead, Moment, Row, Sheet};
+use crate::sides;
+
+/// A name as a text writes it, in quotes where it needs them.
+pub fn name(name: &str) -> String {
+    match sides::is_name(name) {
+        true => name.into(),
+        false => format!("\"{name}\""),
+    }
+}
+
+/// Minutes of a lead: hours and minutes from an hour on.
+fn minutes(minutes: i32, clock: &Clock) -> String {
+    match minutes {
+        0..60 => minutes.to_string(),
+        _ => (clock.write)(minutes),
+    }
+}
+
+/// A side in words that read back as the same leads. Brackets show to which moment minutes belong.
+pub fn side(moments: &[Moment], leads: &[Lead], clock: &Clock) -> String {
+    let term = |moment: &Moment, lead: i32| match lead {
+        0 => name(&moment.name),
+        lead => format!("{} {} {}", name(&moment.name), if lead < 0 { '-' } else { '+' }, minutes(lead.abs(), clock)),
+    };
+    let terms: Vec<(&Moment, i32)> =
+        moments.iter().zip(leads).filter_map(|(moment, lead)| lead.map(|lead| (moment, lead))).collect();
+    match &terms[..] {
+        [] => "nothing".into(),
+        [(moment, lead)] => term(moment, *lead),
+        several => {
+            let terms = several.iter().map(|&(moment, lead)| match lead {
+                0 => term(moment, 0),
+                lead => format!("({})", term(moment, lead)),
+            });
+            format!("later of {}", terms.collect::<Vec<_>>().join(", "))
+        }
+    }
+}
+
+/// A rule in words that read back as the same leads.
+pub fn rule(moments: &[Moment], row: &Row, clock: &Clock) -> String {
+    format!("{} <= {}", side(moments, &row.left, clock), side(moments, &row.right, clock))
+}
+
+/// The groups of a span, as it is written behind `span:`.
+pub fn groups(moments: &[Moment], row: &Row, clock: &Clock) -> String {
+    format!("from {} to {}", side(moments, &row.right, clock), side(moments, &row.left, clock))
+}
+
+/// The whole text.
+pub fn text(sheet: &Sheet, clock: &Clock) -> String {
+    let mut text = String::new();
+    if sheet.idle {
+        return text;
+    }
+    if let Some(title) = &sheet.title {
+        let _ = writeln!(text, "# {title}\n");
+    }
+    let names = |places: &[usize]| places.iter().map(|&j| name(&sheet.moments[j].name)).collect::<Vec<_>>().join(", ");
+    if sheet.moments.len() > 1 {
+        let _ = writeln!(text, "moments: {}", names(&(1..sheet.moments.len()).collect::<Vec<_>>()));
+    }
+    if let Some(anchor) = sheet.anchor {
+        let day = anchor.day.map_or(String::new(), |day| format!("{} ", DAYS[day]));
+        let _ = writeln!(text, "anchor: {day}{}", (clock.write)(anchor.minute));
+    }
+    for window in &sheet.week {
+        let day = window.opening / DAY as u32;
+        let time = |minute: u32| (clock.write)((minute - day * DAY as u32) as i32);
+        let _ = writeln!(text, "open: {} {}-{}", DAYS[day as usize], time(window.opening), time(window.closing));
+    }
+    if !sheet.admits.is_empty() {
+        let _ = writeln!(text, "admits: {}", names(&sheet.admits));
+    }
+    for row in &sheet.rules {
+        let state = if row.in_force { "" } else { "suspended: " };
+        let _ = writeln!(text, "{state}{}", rule(&sheet.moments, row, clock));
+    }
+    for question in &sheet.questions {
+        let _ = writeln!(text, "span: {}", groups(&sheet.moments, &question.row, clock));
+        if let Some(expected) = question.expected {
+            let _ = writeln!(text, "expect: {expected}");
+        }
+    }
+    text
+}

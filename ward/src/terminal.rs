@@ -1,0 +1,265 @@
+//! A report for the terminal: verdict, plan and timeline of each span.
+
+use std::fmt::Write;
+
+use ward_reader::remark::clean;
+use ward_reader::{Sheet, Weight};
+
+use crate::answer::{Body, Placed, Report, Span};
+use crate::scale::{bar, drawn, Scale};
+use crate::told;
+
+/// How a terminal shows things.
+#[derive(Clone, Copy)]
+pub struct Look {
+    /// Characters in a line.
+    pub width: usize,
+    /// Signs beyond ASCII.
+    pub signs: bool,
+}
+
+/// The signs of a timeline.
+struct Signs {
+    moment: char,
+    round: char,
+    slack: char,
+    before: char,
+    after: char,
+    mark: char,
+    ends: [char; 2],
+    span: char,
+    together: char,
+}
+
+const FULL: Signs = Signs {
+    moment: '●',
+    round: '◆',
+    slack: '░',
+    before: '◂',
+    after: '▸',
+    mark: '┬',
+    ends: ['├', '┤'],
+    span: '─',
+    together: '│',
+};
+const PLAIN: Signs = Signs {
+    moment: 'O',
+    round: '#',
+    slack: '.',
+    before: '<',
+    after: '>',
+    mark: '|',
+    ends: ['[', ']'],
+    span: '=',
+    together: '|',
+};
+
+/// Mistakes and warnings with their places.
+pub fn remarks(report: &Report) -> String {
+    let mut text: String = report.remarks.iter().map(|remark| remark.in_file(&report.file, &report.lines)).collect();
+    if let Some(fault) = &report.fault {
+        let _ = writeln!(text, "{}: {}", clean(&report.file), clean(fault));
+    }
+    let mistakes = report.remarks.iter().filter(|remark| remark.weight == Weight::Mistake).count();
+    if mistakes > 1 {
+        let _ = writeln!(text, "{}: {mistakes} mistakes", clean(&report.file));
+    }
+    text
+}
+
+/// A few words on a text that was only read.
+pub fn checked(report: &Report) -> String {
+    match &report.sheet {
+        Some(sheet) if report.fault.is_none() => format!("{}: no mistake; {}\n", clean(&report.file), size(sheet)),
+        _ => String::new(),
+    }
+}
+
+fn count(number: usize, one: &str, more: &str) -> String {
+    format!("{number} {}", if number == 1 { one } else { more })
+}
+
+fn size(sheet: &Sheet) -> String {
+    if sheet.idle {
+        return "an idle day".into();
+    }
+    let suspended = sheet.rules.iter().filter(|rule| !rule.in_force).count();
+    let moments = count(sheet.moments.len() - 1, "moment beside the anchor", "moments beside the anchor");
+    let rules = count(sheet.rules.len(), "rule", "rules");
+    let spans = count(sheet.questions.len(), "span", "spans");
+    match suspended {
+        0 => format!("{moments}, {rules}, {spans}"),
+        _ => format!("{moments}, {rules} ({suspended} suspended), {spans}"),
+    }
+}
+
+/// The whole report.
+pub fn report(report: &Report, look: Look) -> String {
+    let Some(sheet) = report.sheet.as_ref().filter(|_| report.fault.is_none()) else { return String::new() };
+    let mut text = match &sheet.title {
+        Some(title) => format!("{title}\n{}: {}\n", report.file, size(sheet)),
+        None => format!("{}: {}\n", report.file, size(sheet)),
+    };
+    for (number, span) in report.spans.iter().enumerate() {
+        text.push('\n');
+        if report.spans.len() > 1 {
+            let _ = writeln!(text, "Span {} of {}", number + 1, report.spans.len());
+        }
+        text += &one(sheet, span, look);
+    }
+    text.split('\n').map(|line| clean(line.trim_end())).collect::<Vec<_>>().join("\n")
+}
+
+fn one(sheet: &Sheet, span: &Span, look: Look) -> String {
+    let mut text =
+        format!("From  {}\nTo    {}\n{}\n{}\n", span.from, span.to, told::verdict(span), told::headline(span));
+    if let Some(expected) = span.expected {
+        let _ = writeln!(text, "The text expects another answer: {expected}");
+    }
+    match &span.body {
+        Body::Least { plan, start, minutes, .. } => {
+            let _ = write!(text, "\n{}\n{}", table(sheet, plan), timeline(sheet, plan, Some((*start, *minutes)), look));
+        }
+        Body::Claim(_, plan) if !plan.is_empty() => {
+            let _ = write!(text, "\n{}", table(sheet, plan));
+        }
+        _ => {}
+    }
+    for (words, rules) in told::explained(sheet, span) {
+        let _ = writeln!(text, "{}{words}", if rules.is_empty() { "" } else { "\n" });
+        for place in rules {
+            let _ = writeln!(text, "  {}", told::rule(sheet, place));
+        }
+    }
+    text
+}
+
+/// The plan in columns.
+fn table(sheet: &Sheet, plan: &[Placed]) -> String {
+    let timed = plan.iter().any(|placed| placed.times.is_some());
+    let clocked = sheet.anchor.is_some();
+    let mut rows = vec![heads(clocked, timed)];
+    rows.extend(plan.iter().map(|placed| cells(sheet, placed, clocked, timed)));
+    let columns = rows[0].len();
+    let width = |column: usize| rows.iter().map(|row| row[column].chars().count()).max().unwrap_or(0);
+    let widths: Vec<usize> = (0..columns).map(width).collect();
+    let mut text = String::new();
+    for row in &rows {
+        let cells = row.iter().zip(&widths).enumerate().map(|(column, (cell, &width))| match column == 0 {
+            true => format!("{cell:>width$}"),
+            false => format!("{cell:<width$}"),
+        });
+        let _ = writeln!(text, "  {}", cells.collect::<Vec<_>>().join("  "));
+    }
+    text
+}
+
+fn heads(clocked: bool, timed: bool) -> Vec<String> {
+    let mut heads = vec![if clocked { "time" } else { "after anchor" }, "moment"];
+    if clocked {
+        heads.push("after anchor");
+    }
+    if timed {
+        heads.extend(["earliest", "latest"]);
+    }
+    heads.push("");
+    heads.into_iter().map(String::from).collect()
+}
+
+fn cells(sheet: &Sheet, placed: &Placed, clocked: bool, timed: bool) -> Vec<String> {
+    let shown = placed.stamp.filter(|_| !placed.free);
+    let blank = || "--".to_string();
+    let mut cells = vec![shown.map_or_else(blank, |stamp| told::time(sheet, stamp)), placed.name.clone()];
+    if clocked {
+        cells.push(shown.map_or_else(blank, crate::archive::hours));
+    }
+    if timed {
+        let times = placed.times.filter(|_| placed.moment != 0 && !placed.free);
+        cells.push(times.map_or(String::new(), |times| told::earliest(sheet, times.earliest)));
+        cells.push(times.map_or(String::new(), |times| told::latest(sheet, times.latest)));
+    }
+    cells.push(told::note(sheet, placed));
+    cells
+}
+
+/// The plan along a line of time. `span` is its start in the plan, and its minutes.
+fn timeline(sheet: &Sheet, plan: &[Placed], span: Option<(i32, i32)>, look: Look) -> String {
+    let signs = if look.signs { &FULL } else { &PLAIN };
+    let label =
+        drawn(plan).map(|(placed, _)| placed.name.chars().count()).max().unwrap_or(0).clamp(4, 24.min(look.width / 3));
+    let width = look.width.saturating_sub(label + 6).max(20);
+    let scale = Scale::of(sheet, plan, width / 10);
+    let column = |minute: i64| (scale.place(minute) * (width - 1) as f64).round() as usize;
+    let mut text = axis(sheet, &scale, signs, label, width);
+    for (placed, stamp) in drawn(plan) {
+        let mut line = vec![' '; width];
+        let bar = bar(&scale, placed, stamp);
+        line[column(bar.from)..=column(bar.to)].fill(signs.slack);
+        if bar.before {
+            line[0] = signs.before;
+        }
+        if bar.after {
+            line[width - 1] = signs.after;
+        }
+        line[column(stamp.into())] = if placed.round { signs.round } else { signs.moment };
+        let _ = writeln!(text, "  {}  {}", padded(&placed.name, label), line.into_iter().collect::<String>());
+    }
+    if let Some((start, minutes)) = span {
+        let (from, to) = (i64::from(start), i64::from(start) + i64::from(minutes));
+        let (first, last) = (column(from.min(to)), column(from.max(to)));
+        let mut line = vec![' '; width];
+        line[first..=last].fill(signs.span);
+        [line[first], line[last]] = signs.ends;
+        if first == last {
+            line[first] = signs.together;
+        }
+        let _ = writeln!(text, "  {}  {}", padded("span", label), line.into_iter().collect::<String>());
+    }
+    text + &legend(plan, signs, label, look.width)
+}
+
+/// What the signs mean, on a line or on several.
+fn legend(plan: &[Placed], signs: &Signs, label: usize, width: usize) -> String {
+    let mut items = vec![format!("{} planned", signs.moment)];
+    if plan.iter().any(|placed| placed.round) {
+        items.push(format!("{} planned, and of the round", signs.round));
+    }
+    if plan.iter().any(|placed| placed.times.is_some()) {
+        items.push(format!("{} where it can be", signs.slack));
+    }
+    let margin = format!("  {}  ", padded("", label));
+    let line = format!("{margin}{}\n", items.join("   "));
+    match line.chars().count() > width {
+        true => items.iter().map(|item| format!("{margin}{item}\n")).collect(),
+        false => line,
+    }
+}
+
+/// A name in a column; a long one is cut.
+fn padded(name: &str, width: usize) -> String {
+    let length = name.chars().count();
+    match length > width {
+        true => format!("{}..", name.chars().take(width - 2).collect::<String>()),
+        false => format!("{name}{}", " ".repeat(width - length)),
+    }
+}
+
+/// The times above a timeline, and a line of marks.
+fn axis(sheet: &Sheet, scale: &Scale, signs: &Signs, label: usize, width: usize) -> String {
+    let mut times = vec![' '; width];
+    let mut marks = vec![' '; width];
+    let mut free = 0;
+    for &mark in &scale.marks {
+        let column = (scale.place(mark.into()) * (width - 1) as f64).round() as usize;
+        let time: Vec<char> = told::time(sheet, mark).chars().collect();
+        marks[column] = signs.mark;
+        // The last time ends with the line, and a time that has no room is left out.
+        let start = column.min(width.saturating_sub(time.len()));
+        if start >= free && time.len() <= width {
+            times[start..start + time.len()].copy_from_slice(&time);
+            free = start + time.len() + 1;
+        }
+    }
+    let line = |part: Vec<char>| format!("  {}  {}\n", padded("", label), part.into_iter().collect::<String>());
+    line(times) + &line(marks)
+}

@@ -1,0 +1,174 @@
+//! Words that the terminal, the sheet and the files share.
+
+use ward_reader::clock::{DAY, DAYS};
+use ward_reader::Sheet;
+
+use crate::answer::{Body, Placed, Span};
+use crate::archive::hours;
+use crate::opening::Door;
+use crate::times::{Bound, Slack};
+use crate::why::{Blocked, Loose};
+
+/// Minutes, and hours and minutes where that helps.
+pub fn minutes(value: i32) -> String {
+    let plural = if value.abs() == 1 { "minute" } else { "minutes" };
+    match value.abs() {
+        0..60 => format!("{value} {plural}"),
+        _ => format!("{value} {plural} ({})", hours(value)),
+    }
+}
+
+/// When a minute is: the time of day where the text gives the anchor's, else hours and minutes after the anchor.
+pub fn time(sheet: &Sheet, stamp: i32) -> String {
+    let Some(anchor) = sheet.anchor else { return hours(stamp) };
+    let minute = i64::from(anchor.minute) + i64::from(stamp);
+    let (day, of_day) = (minute.div_euclid(DAY.into()), minute.rem_euclid(DAY.into()) as i32);
+    let time = hours(of_day);
+    match (anchor.day, day) {
+        (Some(first), -6..=6) => format!("{} {time}", &DAYS[(first as i64 + day).rem_euclid(7) as usize][..3]),
+        (_, 0) => time,
+        _ => format!("{time} {day:+}d"),
+    }
+}
+
+/// An earliest time.
+pub fn earliest(sheet: &Sheet, bound: Bound) -> String {
+    match bound {
+        Bound::At(minute) => time(sheet, minute),
+        Bound::Open => "any".into(),
+        Bound::Never => "never".into(),
+    }
+}
+
+/// A latest time; it is worded like an earliest one.
+pub fn latest(sheet: &Sheet, bound: Bound) -> String {
+    earliest(sheet, bound)
+}
+
+/// What else there is to say of a moment in a plan.
+pub fn note(sheet: &Sheet, placed: &Placed) -> String {
+    if placed.free {
+        return "free: the span and the rules say nothing of it".into();
+    }
+    if placed.stamp.is_none() {
+        return "left out of this plan".into();
+    }
+    match placed.door {
+        None => String::new(),
+        Some(Door::Open) => "open".into(),
+        Some(Door::Far) => "opening hours cannot be looked up so far away".into(),
+        Some(Door::Shut { opens, fits: None }) => format!("shut, opens {}", time(sheet, opens)),
+        Some(Door::Shut { fits: Some(fits), .. }) => {
+            format!("shut; open {}, which fits the least span", time(sheet, fits))
+        }
+    }
+}
+
+/// A list of words: `a`, `a and b`, `a, b and c`.
+pub fn list(words: &[String]) -> String {
+    match words {
+        [] => String::new(),
+        [only] => only.clone(),
+        [first @ .., last] => format!("{} and {last}", first.join(", ")),
+    }
+}
+
+fn names(sheet: &Sheet, moments: &[usize]) -> String {
+    list(&moments.iter().map(|&moment| sheet.moments[moment].name.clone()).collect::<Vec<_>>())
+}
+
+/// The main thing, in a line.
+pub fn headline(span: &Span) -> String {
+    match &span.body {
+        Body::Least { minutes: value, .. } => {
+            format!("The least span is {}. No plan that keeps the rules has a smaller one.", minutes(*value))
+        }
+        Body::Bottomless(_) => {
+            "Bottomless: whatever span you name, some plan that keeps the rules has a smaller one.".into()
+        }
+        Body::None(_) => "None: no plan that keeps the rules has a span.".into(),
+        Body::Claim(words, _) => words.clone(),
+    }
+}
+
+/// What the checker says, in a line.
+pub fn verdict(span: &Span) -> String {
+    let words = span.verdict.words();
+    match span.verdict {
+        crate::answer::Verdict::Accepted(_) => format!("The checker, which trusts no engine, says: {words}"),
+        crate::answer::Verdict::NotAccepted(_) => {
+            format!("The checker, which trusts no engine, does not accept the answer: {words}")
+        }
+    }
+}
+
+/// What is said below the plan: why there is none, and what could not be found. Each with the rules that it names.
+pub fn explained(sheet: &Sheet, span: &Span) -> Vec<(String, Vec<usize>)> {
+    match &span.body {
+        Body::Least { slack, reasons, .. } => {
+            let mut told = Vec::new();
+            if let Slack::Cannot(why) = slack {
+                told.push((format!("Earliest and latest times cannot be told: {why}."), Vec::new()));
+            }
+            if let Some(reasons) = reasons {
+                told.push((behind(reasons.rules.len()).into(), reasons.rules.clone()));
+                if !reasons.round.is_empty() {
+                    told.push((
+                        format!("The round that binds it runs over {}.", names(sheet, &reasons.round)),
+                        Vec::new(),
+                    ));
+                }
+            }
+            told
+        }
+        Body::Bottomless(loose) => loose_words(sheet, loose).into_iter().map(|words| (words, Vec::new())).collect(),
+        Body::None(blocked) => vec![blocked_words(blocked)],
+        Body::Claim(..) => Vec::new(),
+    }
+}
+
+fn behind(rules: usize) -> &'static str {
+    match rules {
+        0 => "No rule is behind it: the span is what it is by itself.",
+        1 => "The rule behind it; with this one alone the least span is the same:",
+        _ => "The rules behind it; with these alone the least span is the same:",
+    }
+}
+
+fn loose_words(sheet: &Sheet, loose: &Loose) -> Vec<String> {
+    let mut told = Vec::new();
+    if !loose.late.is_empty() {
+        told.push(format!("Nothing says how late {} may be.", names(sheet, &loose.late)));
+    }
+    if !loose.early.is_empty() {
+        told.push(format!("Nothing says how early {} may be.", names(sheet, &loose.early)));
+    }
+    told.push(match (loose.late.is_empty(), loose.early.is_empty()) {
+        (true, true) => "The span runs to nothing.".into(),
+        _ => "A rule is probably missing.".into(),
+    });
+    told
+}
+
+fn blocked_words(blocked: &Blocked) -> (String, Vec<usize>) {
+    match blocked {
+        Blocked::FromNothing => {
+            ("The group that the span starts from is empty: no plan counts, whatever the rules.".into(), Vec::new())
+        }
+        Blocked::Contradiction(rules) if rules.len() == 1 => ("No plan can keep this rule:".into(), rules.clone()),
+        Blocked::Contradiction(rules) => (
+            "These rules contradict each other; without any one of them there is a plan that keeps the others:".into(),
+            rules.clone(),
+        ),
+        Blocked::StartLeftOut(rules) => (
+            "Every plan that keeps the rules leaves out all that the span starts from, because of:".into(),
+            rules.clone(),
+        ),
+    }
+}
+
+/// A rule as a text has it: its number, its line, its words.
+pub fn rule(sheet: &Sheet, place: usize) -> String {
+    let rule = &sheet.rules[place];
+    format!("rule {} (line {}): {}", place + 1, rule.place.line, rule.text)
+}

@@ -1,0 +1,180 @@
+//! Answers: the verdict first, the plan in the order of time, and why there is none.
+
+use crate::{answered, ward, E};
+
+/// Document 01's example E, with the anchor at 23:45.
+#[test]
+fn a_plan_is_told_after_the_verdict_with_clock_times() {
+    let out = answered(&format!("anchor: 23:45\n{E}"));
+    let place = |words: &str| out.find(words).unwrap_or_else(|| panic!("{words}: {out}"));
+    assert!(place("says: accepted least 30\n") < place("The least span is 30 minutes."));
+    assert!(place("23:45  anchor") < place("0:15 +1d  bed     0:30          0:15 +1d  0:15 +1d"));
+    let out = answered(&format!("anchor: Sunday 23:45\n{E}"));
+    assert!(out.contains("Mon 0:15  bed"), "{out}");
+    let out = answered(&E.replace("30", "1:30"));
+    assert!(out.contains("The least span is 90 minutes (1:30)."), "{out}");
+    assert!(out.contains("        1:30  bed     1:30      1:30"), "{out}");
+}
+
+#[test]
+fn moments_stand_in_the_order_of_time() {
+    let out =
+        answered("moments: c, b, a\nanchor - 20 <= a\na + 30 <= b\nb + 5 <= c\nc <= anchor + 15\nspan: from a to c\n");
+    let table = out.split("moment  earliest  latest").nth(1).expect("the plan");
+    let places: Vec<usize> = ["anchor\n", " a  ", " b  ", " c  "].map(|name| table.find(name).expect(name)).into();
+    let [anchor, a, b, c] = places[..] else { panic!("{places:?}") };
+    assert!(a < anchor && anchor < b && b < c, "{out}");
+    assert!(out.contains("-0:20  a"), "{out}");
+}
+
+#[test]
+fn names_in_quotes_hold_spaces_and_hyphens() {
+    let text = "moments: \"bed 4-B #1\", \"to\", nurse\nanchor + 10 <= \"bed 4-B #1\" # why\n\"bed 4-B #1\" + 5 <= later of \"to\", nurse\nspan: from \"nurse\" to \"bed 4-B #1\"\n";
+    let told = ward(&["--json", "-"], text);
+    assert_eq!(told.status, Some(0), "{told:?}");
+    assert!(told.out.contains("\"bed 4-B #1\"") && told.out.contains("\"to\": \"\\\"bed 4-B #1\\\"\""), "{told:?}");
+    let record = ward(&["record", "-"], text).out;
+    let back = ward(&["text", "-"], &record).out;
+    assert_eq!(ward(&["record", "-"], &back).out, record);
+}
+
+#[test]
+fn a_bottomless_span_is_told_with_the_moments_that_nothing_holds() {
+    let text = "moments: bed, ambulance, nurse\nanchor + 30 <= bed\nbed <= ambulance + 60\nanchor <= nurse\nnurse <= anchor + 5\n";
+    let out = answered(&format!("{text}span: from later of nurse, ambulance to bed\n"));
+    assert!(out.contains("says: accepted bottomless\n"), "{out}");
+    assert!(out.contains("Nothing says how late ambulance may be.\nA rule is probably missing.\n"), "{out}");
+    let out = answered(&format!("{text}bed <= anchor + 40\nspan: from bed to ambulance\nspan: from anchor to bed\n"));
+    assert!(!out.contains("accepted bottomless"), "{out}");
+    // Nothing holds the end of this one from below.
+    let out = answered("moments: a, b\na <= anchor + 5\nb <= a\nspan: from anchor to later of a, b\n");
+    assert!(out.contains("Nothing says how early a and b may be.\n"), "{out}");
+    let out = answered("moments: a\nanchor <= a\nspan: from a to nothing\n");
+    assert!(out.contains("accepted bottomless\n") && out.contains("The span runs to nothing.\n"), "{out}");
+    assert!(!out.contains("A rule is probably missing"), "{out}");
+}
+
+/// A span is about somebody (document 02, 2.4): a plan without the group that the span starts from does not count.
+#[test]
+fn plans_without_the_span_s_start_do_not_count() {
+    let out = answered("moments: one, two\ntwo - 10 <= one\nspan: from two to one\nexpect: least -10\n");
+    assert!(out.contains("says: accepted least -10\n") && out.contains("The least span is -10 minutes."), "{out}");
+    let out = answered("moments: one, two\nanchor + 5 <= one\nspan: from two to one\n");
+    assert!(out.contains("accepted bottomless\n") && out.contains("Nothing says how late two may be.\n"), "{out}");
+    assert!(!out.contains("how early"), "{out}");
+    let out = answered("moments: one, two\none <= two\nspan: from two to one\n");
+    assert!(out.contains("how late two may be.\nNothing says how early one may be.\n"), "{out}");
+    // Every plan leaves out both groups: there is none, where a plan without the end alone is bottomless.
+    let out = answered("moments: one, two\none <= two\ntwo <= nothing\nspan: from two to one\n");
+    assert!(
+        out.contains("accepted none\n")
+            && out.contains("starts from, because of:\n  rule 2 (line 3): two <= nothing\n"),
+        "{out}"
+    );
+    let out = answered("moments: one, two\none <= nothing\nspan: from two to one\n");
+    assert!(out.contains("accepted bottomless\n"), "{out}");
+}
+
+/// Nobody is in an empty group, whatever the span runs to; document 01's example D runs to nothing too.
+#[test]
+fn no_plan_counts_where_the_span_starts_from_nothing() {
+    for end in ["one", "anchor", "nothing"] {
+        let text = format!("moments: one, two\ntwo - 10 <= one\nspan: from nothing to {end}\nexpect: none\n");
+        let out = answered(&text);
+        assert!(out.contains("says: accepted none\n"), "{out}");
+        assert!(
+            out.contains("The group that the span starts from is empty: no plan counts, whatever the rules.\n"),
+            "{out}"
+        );
+        assert!(ward(&["--json", "-"], &text).out.contains("\"why\": \"from nothing\""));
+    }
+}
+
+#[test]
+fn no_span_is_told_with_the_rules_that_contradict_each_other() {
+    let text =
+        "moments: a, b, c\nanchor + 30 <= a\na + 25 <= b\nanchor + 5 <= c\nb <= anchor + 54\nspan: from a to b\n";
+    let out = answered(text);
+    assert!(out.contains("says: accepted none\n"), "{out}");
+    let told = out.split("These rules contradict each other").nth(1).expect("the rules");
+    let rules: Vec<&str> = told.lines().skip(1).collect();
+    assert_eq!(
+        rules,
+        [
+            "  rule 1 (line 2): anchor + 30 <= a",
+            "  rule 2 (line 3): a + 25 <= b",
+            "  rule 4 (line 5): b <= anchor + 54"
+        ]
+    );
+    let out = answered("moments: a\nanchor + 1 <= anchor\nspan: from anchor to a\n");
+    assert!(out.contains("No plan can keep this rule:\n  rule 1 (line 2): anchor + 1 <= anchor\n"), "{out}");
+}
+
+#[test]
+fn no_span_is_told_where_its_start_is_always_left_out() {
+    let out = answered("moments: a, b\nanchor + 5 <= b\na <= nothing\nspan: from a to b\n");
+    assert!(out.contains("accepted none"), "{out}");
+    assert!(
+        out.contains("leaves out all that the span starts from, because of:\n  rule 2 (line 3): a <= nothing\n"),
+        "{out}"
+    );
+}
+
+#[test]
+fn several_spans_are_answered_one_after_another() {
+    let text = format!("{E}expect: least 30\nspan: from bed to anchor\nexpect: bottomless\n");
+    let out = answered(&text);
+    let place = |words: &str| out.find(words).unwrap_or_else(|| panic!("{words}: {out}"));
+    assert!(place("Span 1 of 2\nFrom  anchor\nTo    bed\n") < place("accepted least 30\n"));
+    assert!(place("accepted least 30\n") < place("Span 2 of 2\nFrom  bed\nTo    anchor\n"));
+    assert!(place("Span 2 of 2") < place("accepted bottomless\n"));
+    // Length 56, kind 3, n 1, m 1, count 2.
+    assert!(ward(&["record", "-"], &text).out.starts_with("380000000300010001000200"));
+}
+
+#[test]
+fn another_answer_than_expected_has_a_status_of_its_own() {
+    let told = ward(&["-"], format!("{E}expect: least 29\n"));
+    assert_eq!(told.status, Some(4), "{told:?}");
+    assert!(told.out.contains("The text expects another answer: least 29\n"), "{told:?}");
+    for expected in ["least 30", "least 0:30"] {
+        assert_eq!(ward(&["-"], format!("{E}expect: {expected}\n")).status, Some(0));
+    }
+}
+
+/// No bytes are an idle day (document 02, 2.9), and a line that says nothing is not.
+#[test]
+fn an_empty_text_is_an_idle_day() {
+    let told = ward(&["-"], "");
+    assert_eq!(told.status, Some(0), "{told:?}");
+    assert!(told.out.contains("an idle day") && told.out.contains("accepted least 0"), "{told:?}");
+    assert_eq!(ward(&["record", "--binary", "-"], "").out, "");
+    assert_eq!(ward(&["-"], "\n").status, Some(1));
+}
+
+/// Suspended rules are written as kind 5 (document 02, 2.10). Whether they are answered is the archive's to say.
+#[test]
+fn suspended_rules_are_sent_with_their_states() {
+    let text = "moments: bed\nanchor + 30 <= bed\nsuspended: anchor + 50 <= bed\nspan: from anchor to bed\n";
+    let record = ward(&["record", "-"], text);
+    assert_eq!(record.status, Some(0), "{record:?}");
+    // Length, kind 5, n 1, m 2, then the states 1 and 0.
+    assert!(record.out.starts_with("3A000000050001000200") && record.out[20..].starts_with("01000000"), "{record:?}");
+    let told = ward(&["-"], text);
+    let known = span::solve_all(&[14, 0, 0, 0, 5, 0, 0, 0, 0, 0, 0, 0, 0, 0, 0, 0, 0, 0], &mut []);
+    match known.map_err(|refusal| refusal.number) {
+        Err(3) => {
+            assert_eq!((told.status, told.out.as_str()), (Some(1), ""), "{told:?}");
+            assert!(told.err.contains("does not take suspended rules yet (refused 3)"), "{told:?}");
+        }
+        _ => {
+            assert_eq!(told.status, Some(0), "{told:?}");
+            assert!(told.out.contains("accepted least 30") && told.out.contains("2 rules (1 suspended)"), "{told:?}");
+        }
+    }
+    let back = ward_reader::read(text.as_bytes(), &ward_reader::Clock::unjudged()).sheet.expect("a good text");
+    let bytes = ward_reader::record::sent(&back).remove(0);
+    let again = ward_reader::record::sheet(&bytes).expect("a record");
+    assert_eq!(again.rules.iter().map(|rule| rule.in_force).collect::<Vec<_>>(), [true, false]);
+    assert_eq!(ward_reader::record::sent(&again), [bytes]);
+}

@@ -1,0 +1,183 @@
+//! Random texts, there and back: text, record, text, and the same record.
+
+use random::Random;
+use ward_reader::{record, shown, Clock, Weight};
+
+use crate::ward;
+
+const BLANK: i32 = i32::MIN;
+
+/// Hours by the archive, as the tool has them.
+pub fn clock() -> Clock {
+    fn write(minutes: i32) -> String {
+        let mut text = [0; span::TEXT_SIZE];
+        let size = span::write_hours(Some(minutes), &mut text).expect("a time");
+        String::from_utf8_lossy(&text[..size]).into_owned()
+    }
+    Clock { read: |text| span::read_hours(text.as_bytes()).ok().flatten(), write }
+}
+
+/// A text, and the record that it means, put together without the tool.
+pub struct Meant {
+    pub text: String,
+    pub record: Vec<u8>,
+}
+
+fn space(random: &mut Random) -> &'static str {
+    ["", " ", "  ", "\t"][random.below(4)]
+}
+
+/// Minutes as a number or as hours and minutes.
+fn minutes(random: &mut Random, minutes: i32) -> String {
+    match random.chance(1, 2) {
+        true => minutes.to_string(),
+        false => format!("{}:{:02}", minutes / 60, minutes % 60),
+    }
+}
+
+fn lead(random: &mut Random) -> i32 {
+    match random.below(6) {
+        0 => 0,
+        1 => [-20_160, 20_160, 60, -60, 1][random.below(5)],
+        2 => random.lead(-20_160, 20_160),
+        _ => random.lead(-120, 120),
+    }
+}
+
+fn term(random: &mut Random, name: &str, lead: i32) -> String {
+    if lead == 0 && random.chance(2, 3) {
+        return name.into();
+    }
+    let sign = if lead < 0 || lead == 0 && random.chance(1, 2) { '-' } else { '+' };
+    let (before, after) = (space(random), space(random));
+    format!("{name}{before}{sign}{after}{}", minutes(random, lead.abs()))
+}
+
+/// A side in words, and its leads. A moment may be named twice; the larger lead counts.
+fn side(random: &mut Random, names: &[String], may_be_nothing: bool) -> (String, Vec<i32>) {
+    let mut leads = vec![BLANK; names.len()];
+    if may_be_nothing && random.chance(1, 12) {
+        return ("nothing".into(), leads);
+    }
+    let count = 1 + random.below(4) * random.below(2);
+    let mut terms = Vec::new();
+    for _ in 0..count {
+        let (moment, lead) = (random.below(names.len()), lead(random));
+        leads[moment] = leads[moment].max(lead);
+        let term = term(random, &names[moment], lead);
+        terms.push(if random.chance(1, 4) { format!("({term})") } else { term });
+    }
+    let comma = format!("{},{}", space(random), space(random));
+    let word = ["later", "latest"][random.below(2)];
+    let words =
+        if count == 1 && random.chance(3, 4) { terms.concat() } else { format!("{word} of {}", terms.join(&comma)) };
+    (words, leads)
+}
+
+fn comment(random: &mut Random) -> &'static str {
+    ["", "", " # why", "\t#", " # a \"quote\" <= b"][random.below(5)]
+}
+
+/// A text with up to so many moments and rules.
+pub fn text(random: &mut Random, most_moments: usize, most_rules: usize) -> Meant {
+    let plain = ["ready", "bed", "Küche", "x_1", "théâtre", "later2", "a.b"];
+    let strange = ["\"bed 4-B\"", "\"to\"", "\"Bett #7, links\"", "\"<= 5\"", "\"nurse (late)\""];
+    let n = random.below(most_moments + 1);
+    let mut names = vec!["anchor".to_string()];
+    for number in 1..=n {
+        let name = match (random.below(4), number) {
+            (0, number @ 1..=7) => plain[number - 1].into(),
+            (1, 1..=5) => strange[number - 1].replace("<= 5", "5 <= x"),
+            _ => format!("m{number}"),
+        };
+        names.push(name);
+    }
+    let (m, questions) = (random.below(most_rules + 1), 1 + random.below(8) * random.below(2));
+    let mut lines = Vec::new();
+    if n > 0 {
+        let cut = 1 + random.below(n);
+        lines.push(format!("moments: {}{}", names[1..=cut].join(", "), comment(random)));
+        if cut < n {
+            lines.push(format!("  moments :{}", names[cut + 1..].join(",")));
+        }
+    }
+    let mut rows: Vec<Vec<i32>> = Vec::new();
+    for _ in 0..m {
+        let ((left, left_leads), (right, right_leads)) = (side(random, &names, false), side(random, &names, true));
+        lines.push(format!("{}{left}{}<={}{right}{}", space(random), space(random), space(random), comment(random)));
+        rows.push([left_leads, right_leads].concat());
+        if random.chance(1, 5) {
+            lines.push("# between".into());
+        }
+    }
+    for _ in 0..questions {
+        let ((start, start_leads), (end, end_leads)) = (side(random, &names, true), side(random, &names, true));
+        lines.push(format!("span: from {start} to {end}{}", comment(random)));
+        rows.push([end_leads, start_leads].concat());
+    }
+    if random.chance(1, 3) {
+        lines.insert(random.below(lines.len() + 1), "anchor: Tue 7:30".into());
+    }
+    Meant { text: lines.join(["\n", "\r\n"][random.below(2)]) + "\n", record: put_together(n, m, questions, &rows) }
+}
+
+/// Length, kind, n, m, the count where there are several questions, and rows.
+fn put_together(n: usize, m: usize, questions: usize, rows: &[Vec<i32>]) -> Vec<u8> {
+    let mut body = Vec::new();
+    let mut two = |number: usize| body.extend((number as u16).to_le_bytes());
+    two(if questions == 1 { 1 } else { 3 });
+    two(n);
+    two(m);
+    if questions > 1 {
+        two(questions);
+    }
+    body.extend(rows.iter().flatten().flat_map(|lead| lead.to_le_bytes()));
+    [(body.len() as u32).to_le_bytes().to_vec(), body].concat()
+}
+
+#[test]
+fn random_texts_go_there_and_back() {
+    let mut random = Random::new(500);
+    for number in 0..500 {
+        let Meant { text, record: meant } = text(&mut random, 31, 63);
+        let read = ward_reader::read(text.as_bytes(), &clock());
+        let mistakes: Vec<_> = read.remarks.iter().filter(|remark| remark.weight == Weight::Mistake).collect();
+        assert!(mistakes.is_empty(), "{mistakes:?}\n{text}");
+        let sheet = read.sheet.expect("a good text");
+        assert_eq!(record::sent(&sheet), std::slice::from_ref(&meant), "{text}");
+        let same = shown::text(&sheet, &clock());
+        let again = shown::text(&record::sheet(&meant).expect("a record"), &clock());
+        for text in [same, again] {
+            let read = ward_reader::read(text.as_bytes(), &clock()).sheet.unwrap_or_else(|| panic!("{text}"));
+            assert_eq!(record::sent(&read), std::slice::from_ref(&meant), "{text}");
+        }
+        // The archive takes what the tool makes of a text.
+        assert_eq!(span::solve_all(&meant, &mut []).map_err(|refusal| refusal.number), Err(7), "{text}");
+        if number % 10 == 0 {
+            let hex = ward(&["record", "-"], &text);
+            assert_eq!((hex.status, hex.out.trim_end()), (Some(0), record::hex(&meant).as_str()), "{text}");
+            let back = ward(&["text", "-"], &hex.out);
+            assert_eq!(ward(&["record", "-"], &back.out).out, hex.out, "{}", back.out);
+        }
+    }
+}
+
+/// The limits that the messages name are the archive's.
+#[test]
+fn the_limits_are_the_archives() {
+    use ward_reader::limits;
+    let zero = |n: usize| vec![0; 2 * (n + 1)];
+    let number = |n: usize, m: usize, questions: usize, rows: &[Vec<i32>]| {
+        span::solve_all(&put_together(n, m, questions, rows), &mut []).map_err(|refusal| refusal.number)
+    };
+    let rows = |n: usize, count: usize| vec![zero(n); count];
+    assert_eq!(number(limits::MOMENTS, limits::RULES, 1, &rows(limits::MOMENTS, limits::RULES + 1)), Err(7));
+    assert_eq!(number(limits::MOMENTS + 1, 0, 1, &rows(limits::MOMENTS + 1, 1)), Err(4));
+    assert_eq!(number(0, limits::RULES + 1, 1, &rows(0, limits::RULES + 2)), Err(4));
+    assert_eq!(number(0, 0, limits::QUESTIONS, &rows(0, limits::QUESTIONS)), Err(7));
+    assert_eq!(number(0, 0, limits::QUESTIONS + 1, &rows(0, limits::QUESTIONS + 1)), Err(15));
+    for (lead, refusal) in [(limits::LEAD, 7), (-limits::LEAD, 7), (limits::LEAD + 1, 6), (-limits::LEAD - 1, 6)] {
+        assert_eq!(number(0, 0, 1, &[vec![lead, 0]]), Err(refusal));
+    }
+    assert_eq!(number(0, 1, 1, &[vec![BLANK, 0], zero(0)]), Err(17));
+}
