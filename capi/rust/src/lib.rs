@@ -5,7 +5,7 @@
 //! answer record into its fields and back; [`read_hours`] and [`write_hours`] turn spans and stamps into hours and minutes and
 //! back. [`convert`] drops the rules that say nothing from a stored problem. [`merge`] makes one plan of two.
 //! [`first_open`] looks up a ward's opening hours. [`marks_differ`] is the test of mark bytes by which reach ends.
-//! [`census`] counts small problems by class.
+//! [`census`] counts small problems by class. [`Desk`] answers sixteen problems in turn, a trial at a time.
 //!
 //! What these functions return is proved of the code behind them, which the archive `libcapi.a` holds; this thin layer
 //! and the compiler that builds it are not part of the proofs.
@@ -35,6 +35,7 @@
 mod calls;
 mod census;
 mod conversion;
+mod desk;
 mod hours;
 mod marks;
 mod merging;
@@ -45,6 +46,7 @@ mod words;
 pub use calls::{check, read, solve, solve_all, write, ANSWER_SIZE, PROBLEM_SIZE, QUESTIONS, QUESTIONS_SIZE};
 pub use census::{census, Census};
 pub use conversion::convert;
+pub use desk::{Collected, Desk, Step, DESK_MEMORY};
 pub use hours::{read_hours, write_hours, TEXT_SIZE};
 pub use marks::marks_differ;
 pub use merging::{merge, PLAN_SIZE};
