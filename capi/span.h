@@ -26,12 +26,13 @@
  * than 16 bytes; 9 its length field is not its size - 4; 10 its kind is not 4, its class not 1 to 3, or its start above 1
  * (in class 2: 0, or above the problem's n + 1); 11 its n is not the problem's, or its size does not fit its class; 12 its
  * span or a stamp is outside the form of its class; 13 a pick is above its highest value; 14 not certified; 15 the count of
- * questions is 0 or above 8; 17 a rule, not the question, has an all-blank left list (span_convert drops such rules); 18
- * (hours and minutes) the text is not of this form, a value is beyond 6,000,000 of 0, or the writer's buffer is shorter
- * than 10 bytes; 19 a week list or a minute to be looked up is not of its form (span_first_open); 24 to 26 two plans cannot
- * be merged (span_merge); 27 (span_census) w is 0 or above 20,160, n is above 31 or m above 63, or there are more than
- * 65,536 problems. The first that applies is returned, in this order, but 15 is looked at after 4 and before 5, and 17 after
- * 6 and before 7; a record of kind 3 that ends before its count gets 5. A refusal writes nothing.
+ * questions is 0 or above 8; 16 (span_reasons) the answer is bottomless; 17 a rule, not the question, has an all-blank left
+ * list (span_convert drops such rules); 18 (hours and minutes) the text is not of this form, a value is beyond 6,000,000 of
+ * 0, or the writer's buffer is shorter than 10 bytes; 19 a week list or a minute to be looked up is not of its form
+ * (span_first_open); 24 to 26 two plans cannot be merged (span_merge); 27 (span_census) w is 0 or above 20,160, n is above
+ * 31 or m above 63, or there are more than 65,536 problems. The first that applies is returned, in this order, but 15 is
+ * looked at after 4 and before 5, 16 after 14, and 17 after 6 and before 7; a record of kind 3 that ends before its count
+ * gets 5. A refusal writes nothing.
  */
 #ifndef SPAN_H
 #define SPAN_H
@@ -50,6 +51,9 @@ extern "C" {
 #define SPAN_STAMPS 32            /* places to lend to span_read for stamps */
 #define SPAN_PICKS 64             /* places to lend to span_read for picks */
 
+#define SPAN_RULES 64             /* places to lend to span_reasons for rules */
+#define SPAN_ROUND 32             /* places to lend to span_reasons for the round */
+
 #define SPAN_TEXT_SIZE 10         /* a buffer of this many bytes is long enough for every text of hours and minutes */
 
 #define SPAN_LEAST 1
@@ -57,9 +61,10 @@ extern "C" {
 #define SPAN_NONE 3
 #define SPAN_NOT_CERTIFIED 14
 #define SPAN_WRONG_COUNT 15       /* span_solve only: the count of questions is 0 or above SPAN_QUESTIONS */
-#define SPAN_SILENT_RULE 17       /* span_solve, span_check only: a rule has an all-blank left list */
+#define SPAN_NO_REASONS 16        /* span_reasons only: the answer is bottomless */
+#define SPAN_SILENT_RULE 17       /* span_solve, span_check, span_reasons only: a rule has an all-blank left list */
 #define SPAN_NO_TEXT 18           /* span_hours_read, span_hours_write only */
-#define SPAN_TOO_FEW_PLACES 255   /* span_read, span_marks_differ, span_census only */
+#define SPAN_TOO_FEW_PLACES 255   /* span_read, span_reasons, span_marks_differ, span_census only */
 
 #define SPAN_WINDOWS 14           /* the most windows of a week list, with two minutes each */
 #define SPAN_NEVER 0              /* span_first_open only: the week list is empty */
@@ -84,6 +89,17 @@ uint64_t span_solve(const uint8_t *problem, size_t problem_size, uint8_t *answer
  * Result: accepted: 256 * class + 4294967296 * the span's offset number (0 where blank), so the low byte is 0;
  * else the refusal, 1 to 6, 8 to 14 or 17, where 14 is 'not certified'. */
 uint64_t span_check(const uint8_t *problem, size_t problem_size, const uint8_t *answer, size_t answer_size);
+
+/* Names the rules behind an accepted answer of class least or none to a problem of kind 1: those that reached moments pick, ascending,
+ * from 1 on. The problem with only these rules and the question has the same class and span. For least also the binding round,
+ * moments in turn, which is a reached cycle of the answer's picks that uses the question once and weighs 0 at the least span: from
+ * the start (the anchor, or the first planned moment of the second list) a moment yields to its pick and a rule to its first latest
+ * right moment until a moment comes again; the round starts there. Lend at least 64 places for rules and 32 for the round.
+ * Result: 256 * the number of rules + 65536 * the number of the round's moments, which is 0 for none alone; rules and round stand in
+ * the first places, and what follows stays. Else the refusal: those of span_check, then 16 where the answer is bottomless; or, where
+ * no refusal applies, SPAN_TOO_FEW_PLACES for fewer places lent. Nothing is then written. */
+uint64_t span_reasons(const uint8_t *problem, size_t problem_size, const uint8_t *answer, size_t answer_size,
+                      uint64_t *rules, size_t rules_count, uint64_t *round, size_t round_count);
 
 /* Reads an answer record for a problem of n and m. Lend at least 32 stamps and 64 picks.
  * Result: read: 256 * class + 65536 * start + 4294967296 * the span's offset number (0 where blank), and the first places hold
@@ -169,6 +185,8 @@ static inline unsigned span_refusal(uint64_t result) { return (unsigned)(result 
 static inline unsigned span_trials(uint64_t result) { return (unsigned)(result >> 8); }           /* span_solve */
 static inline unsigned span_class(uint64_t result) { return (unsigned)((result >> 8) & 255); }    /* span_check, span_read */
 static inline unsigned span_start(uint64_t result) { return (unsigned)((result >> 16) & 65535); } /* span_read */
+static inline unsigned span_rules(uint64_t result) { return (unsigned)((result >> 8) & 255); }    /* span_reasons */
+static inline unsigned span_round(uint64_t result) { return (unsigned)((result >> 16) & 255); }   /* span_reasons */
 static inline size_t span_size(uint64_t result) { return (size_t)(result >> 8); }                 /* span_write, span_convert, span_merge, span_hours_write */
 static inline int span_blank(uint64_t result) { return (result >> 32) == 0; }                     /* span_hours_read, where the low byte is 0 */
 static inline int32_t span_minutes(uint64_t result) {                            /* class 1; span_first_open; span_hours_read, where not blank */

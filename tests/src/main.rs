@@ -40,7 +40,7 @@ fn main() {
     let long = words.iter().any(|word| word == "--long");
     words.retain(|word| word != "--long");
     println!("tests from outside, on {TRIED}");
-    let all: [Suite; 19] = [
+    let all: [Suite; 20] = [
         ("examples", suites::examples::run),
         ("all-small", suites::small::every_small_problem),
         ("random-small", suites::small::random_problems),
@@ -60,6 +60,7 @@ fn main() {
         ("silent", suites::silent::run),
         ("merging", suites::merging::run),
         ("census", suites::census::run),
+        ("reasons", suites::reasons::run),
     ];
     let mut failures = 0;
     let mut run = 0;

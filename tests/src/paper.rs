@@ -1,4 +1,4 @@
-//! Document 01, and 2.1, 2.2, 2.4, 2.6 and 2.9 of document 02, in Rust, as plainly as it can be said: problems, plans, spans, records, refusals,
+//! Document 01, and 2.1, 2.2, 2.4, 2.5, 2.6 and 2.9 of document 02, in Rust, as plainly as it can be said: problems, plans, spans, records, refusals,
 //! trials.
 
 /// A lead, stamp or whole minute; `None` is blank.
@@ -393,5 +393,60 @@ pub fn trials_for(outcome: Outcome) -> u64 {
         Outcome::Least(span) => trials(|t| t >= span),
         Outcome::Bottomless => trials(|_| true),
         Outcome::None => trials(|_| false),
+    }
+}
+
+/// What the tool of document 02, 2.5, names: rules, ascending, and for class 1 the binding round.
+#[derive(Clone, Debug, PartialEq, Eq)]
+pub struct Reasons {
+    pub rules: Vec<usize>,
+    pub round: Option<Vec<usize>>,
+}
+
+/// The rules picked by reached moments, and the binding round, of an accepted answer of class 1 or 3.
+pub fn reasons(problem: &Problem, answer: &Answer, reached: &[bool]) -> Reasons {
+    let picked = |rule: usize| (0..=problem.n()).any(|moment| reached[moment] && answer.picks[moment] == rule as u64);
+    let rules = (1..=problem.m()).filter(|&rule| picked(rule)).collect();
+    let round = (answer.class == 1).then(|| binding_round(problem, answer));
+    Reasons { rules, round }
+}
+
+/// From the start a moment yields to its pick and a rule yields to its first latest right moment, turn about, until a moment comes
+/// again. The question row yields like a rule. The round starts at the moment that comes again.
+fn binding_round(problem: &Problem, answer: &Answer) -> Vec<usize> {
+    let mut turns: Vec<usize> = Vec::new();
+    let mut moment = match answer.start {
+        0 => 0,
+        _ => {
+            let planned = |moment: &usize| answer.stamps[*moment].is_some();
+            problem.second_list().into_iter().find(planned).expect("a planned moment of the second list")
+        }
+    };
+    loop {
+        if let Some(again) = turns.iter().position(|&before| before == moment) {
+            return turns[again..].to_vec();
+        }
+        turns.push(moment);
+        let row = problem.row(answer.picks[moment] as usize - 1);
+        let latest = largest(&row.right, &answer.stamps);
+        let sum = |moment: usize| Some(row.right[moment]? + answer.stamps[moment]?);
+        moment = (0..=problem.n()).find(|&moment| sum(moment) == latest).expect("a latest right moment");
+    }
+}
+
+/// The lines of the tool: numbers follow single spaces; with no rule picked the line is `rules` alone; for class 3 only the first
+/// line. Refusals print as in the verdict program.
+pub fn reasons_lines(found: &Result<Reasons, u64>) -> String {
+    let line = |word: &str, numbers: &[usize]| {
+        let words: Vec<String> = std::iter::once(word.into()).chain(numbers.iter().map(usize::to_string)).collect();
+        words.join(" ") + "\n"
+    };
+    match found {
+        Ok(found) => {
+            let round = found.round.as_ref().map_or_else(String::new, |round| line("round", round));
+            line("rules", &found.rules) + &round
+        }
+        Err(14) => "not certified\n".into(),
+        Err(refusal) => format!("refused {refusal}\n"),
     }
 }

@@ -1,5 +1,5 @@
-//! The programs, run on standard input, the census program with words. SPAN_PROGRAM, VERDICT_PROGRAM, CONVERT_PROGRAM and CENSUS_PROGRAM
-//! name them; else they are target/bin/span, target/bin/verdict, target/bin/convert and target/bin/census of the repository. On the stand-in this test program acts as each. Places are
+//! The programs, run on standard input, the census program with words. SPAN_PROGRAM, VERDICT_PROGRAM, CONVERT_PROGRAM, REASONS_PROGRAM and
+//! CENSUS_PROGRAM name them; else they are span, verdict, convert, reasons and census in target/bin of the repository. On the stand-in this test program acts as each. Places are
 //! looked up when it runs: a copied tree is tried with its own programs.
 
 use std::io::{Read, Write};
@@ -11,7 +11,7 @@ pub fn repository() -> PathBuf {
     std::env::var_os("CARGO_MANIFEST_DIR").map_or_else(|| ".".into(), |package| PathBuf::from(package).join(".."))
 }
 
-/// The command of a program: its name is `span`, `verdict`, `convert` or `census`.
+/// The command of a program: its name is `span`, `verdict`, `convert`, `reasons` or `census`.
 fn command(name: &str, variable: &str) -> Command {
     if let Some(path) = std::env::var_os(variable) {
         return Command::new(path);
@@ -90,6 +90,10 @@ pub fn census(words: &[&str]) -> Result<(Vec<u8>, Vec<u8>), String> {
     }
 }
 
+pub fn reasons(input: &[u8]) -> Result<Vec<u8>, String> {
+    run(command("reasons", "REASONS_PROGRAM"), input)
+}
+
 /// Acts as one of the programs where the words say so and the stand-in is built in; true where it did.
 #[cfg(feature = "stand-in")]
 pub fn acted_as_a_program(words: &[String]) -> bool {
@@ -104,6 +108,7 @@ pub fn acted_as_a_program(words: &[String]) -> bool {
         "act-as-span" => unproved::programs::span,
         "act-as-verdict" => unproved::programs::verdict,
         "act-as-convert" => unproved::programs::convert,
+        "act-as-reasons" => unproved::programs::reasons,
         _ => return false,
     };
     let mut input = Vec::new();

@@ -66,6 +66,11 @@ fn led_by_rows(problem: &Problem, picks: &[u64], moment: usize) -> Vec<usize> {
     rows.map(|i| picks[i] as usize - 1).collect()
 }
 
+/// Classes 1 and 3: the reached moments.
+pub fn reached_by_picks(problem: &Problem, answer: &Answer) -> Vec<bool> {
+    reached(problem.n() + 1, beginning(problem, answer), |j| led_by_pick(problem, &answer.picks, j))
+}
+
 /// Picks that play no part, for an accepted answer: those of moments or rows that are not reached.
 pub fn plays_no_part(problem: &Problem, answer: &Answer) -> Vec<bool> {
     let moments = problem.n() + 1;
@@ -74,15 +79,14 @@ pub fn plays_no_part(problem: &Problem, answer: &Answer) -> Vec<bool> {
         let in_use = |i: usize| (0..moments).any(|j| marks[j] && problem.row(i).left[j].is_some());
         (0..=problem.m()).map(|i| !in_use(i)).collect()
     } else {
-        let marks = reached(moments, beginning(problem, answer), |j| led_by_pick(problem, &answer.picks, j));
-        marks.iter().map(|mark| !mark).collect()
+        reached_by_picks(problem, answer).iter().map(|mark| !mark).collect()
     }
 }
 
 /// The arcs of classes 1 and 3 from reached moments; `None` where a reached moment has no pick that counts.
 fn arcs_by_picks(problem: &Problem, answer: &Answer) -> Option<Vec<Arc>> {
     let picks = &answer.picks;
-    let marks = reached(problem.n() + 1, beginning(problem, answer), |j| led_by_pick(problem, picks, j));
+    let marks = reached_by_picks(problem, answer);
     let mut arcs = Vec::new();
     for from in (0..=problem.n()).filter(|&j| marks[j]) {
         if picks[from] == 0 {

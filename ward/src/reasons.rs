@@ -9,12 +9,14 @@ pub struct Reasons {
     pub round: Vec<usize>,
 }
 
-/// What the archive says is behind an answer to a problem of one question.
-///
-/// The archive has no entry for this yet. Until `capi/rust` offers it, nothing is told: the call goes here, with rule
-/// numbers, which count from 1, made places, and each caller shows what it returns.
-pub fn behind(_problem: &[u8], _answer: &[u8]) -> Option<Reasons> {
-    None
+/// What the archive says is behind an answer to a problem of one question; nothing where the answer is bottomless. Rule numbers count
+/// from 1 there and become places.
+pub fn behind(problem: &[u8], answer: &[u8]) -> Option<Reasons> {
+    let named = span::reasons(problem, answer).ok()?;
+    Some(Reasons {
+        rules: named.rules.iter().map(|number| number - 1).collect(),
+        round: named.round.unwrap_or_default(),
+    })
 }
 
 #[cfg(test)]

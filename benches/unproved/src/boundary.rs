@@ -7,6 +7,7 @@ use crate::converter;
 use crate::engine::solve_all;
 use crate::hours;
 use crate::merger;
+use crate::reasons;
 use crate::record::{self, Answer, BLANK, BUFFER};
 use crate::{ROWS, VARIABLES};
 
@@ -58,6 +59,20 @@ pub fn check(problem: &[u8], answer: &[u8]) -> u64 {
     match checker::check(problem, answer) {
         Ok(accepted) => class_and_span(accepted.class, accepted.span),
         Err(number) => number as u64,
+    }
+}
+
+/// The refusal, 255 where fewer than 64 places for rules and 32 for the round are lent, or 256 × the count of rules + 2¹⁶ × that of
+/// the round's moments, with both in the first places.
+pub fn reasons(problem: &[u8], answer: &[u8], rules: &mut [u64], round: &mut [u64]) -> u64 {
+    match reasons::reasons(problem, answer) {
+        Err(number) => number as u64,
+        Ok(_) if rules.len() < ROWS || round.len() < VARIABLES => 255,
+        Ok(found) => {
+            rules[..found.rules.len()].copy_from_slice(&found.rules);
+            round[..found.round.len()].copy_from_slice(&found.round);
+            256 * found.rules.len() as u64 + ((found.round.len() as u64) << 16)
+        }
     }
 }
 

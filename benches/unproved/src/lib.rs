@@ -22,6 +22,7 @@ mod merger;
 mod number;
 mod policy;
 pub mod programs;
+pub mod reasons;
 pub mod record;
 mod saver;
 pub mod week;

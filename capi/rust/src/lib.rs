@@ -3,9 +3,9 @@
 //! A clinic sends a problem as bytes (document 01, "Records"). [`solve`] answers it, and [`solve_all`] answers up to eight
 //! questions over the same rules; [`check`] judges an answer from any engine and trusts none. [`read`] and [`write`] turn an
 //! answer record into its fields and back; [`read_hours`] and [`write_hours`] turn spans and stamps into hours and minutes and
-//! back. [`convert`] drops the rules that say nothing from a stored problem. [`merge`] makes one plan of two.
-//! [`first_open`] looks up a ward's opening hours. [`marks_differ`] is the test of mark bytes by which reach ends.
-//! [`census`] counts small problems by class.
+//! back. [`convert`] drops the rules that say nothing from a stored problem. [`reasons`] names the rules behind an accepted answer
+//! and its binding round. [`merge`] makes one plan of two. [`first_open`] looks up a ward's opening hours. [`marks_differ`] is the test
+//! of mark bytes by which reach ends. [`census`] counts small problems by class.
 //!
 //! What these functions return is proved of the code behind them, which the archive `libcapi.a` holds; this thin layer
 //! and the compiler that builds it are not part of the proofs.
@@ -40,6 +40,7 @@ mod marks;
 mod merging;
 mod opening;
 pub mod raw;
+mod reasons;
 mod words;
 
 pub use calls::{check, read, solve, solve_all, write, ANSWER_SIZE, PROBLEM_SIZE, QUESTIONS, QUESTIONS_SIZE};
@@ -49,4 +50,5 @@ pub use hours::{read_hours, write_hours, TEXT_SIZE};
 pub use marks::marks_differ;
 pub use merging::{merge, PLAN_SIZE};
 pub use opening::{first_open, Window};
+pub use reasons::{reasons, Reasons};
 pub use words::{Answer, AnswerAt, Certified, Class, Outcome, Refusal, Solved, SolvedAll};

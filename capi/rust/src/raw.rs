@@ -37,6 +37,16 @@ mod archive {
             buffer: *mut u8,
             buffer_size: usize,
         ) -> u64;
+        pub fn span_reasons(
+            problem: *const u8,
+            problem_size: usize,
+            answer: *const u8,
+            answer_size: usize,
+            rules: *mut u64,
+            rules_count: usize,
+            round: *mut u64,
+            round_count: usize,
+        ) -> u64;
         pub fn span_convert(stored: *const u8, stored_size: usize, buffer: *mut u8, buffer_size: usize) -> u64;
         pub fn span_merge(
             problem: *const u8,
@@ -119,6 +129,24 @@ pub fn write(
             m,
             buffer.as_mut_ptr(),
             buffer.len(),
+        )
+    }
+}
+
+/// Names the rules behind an accepted answer and its binding round: the refusal, 255 where fewer than [`PICKS`] places for rules and
+/// [`STAMPS`] for the round are lent, or 256 × the number of rules + 2¹⁶ × the number of the round's moments.
+pub fn reasons(problem: &[u8], answer: &[u8], rules: &mut [u64], round: &mut [u64]) -> u64 {
+    // SAFETY: all parts are valid for their lengths, and each `&mut` overlaps nothing.
+    unsafe {
+        archive::span_reasons(
+            problem.as_ptr(),
+            problem.len(),
+            answer.as_ptr(),
+            answer.len(),
+            rules.as_mut_ptr(),
+            rules.len(),
+            round.as_mut_ptr(),
+            round.len(),
         )
     }
 }

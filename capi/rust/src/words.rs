@@ -135,7 +135,7 @@ impl fmt::Display for Certified {
 /// A refusal of document 01, "What is turned away", or of document 02.
 #[derive(Clone, Copy, Debug, PartialEq, Eq)]
 pub struct Refusal {
-    /// Its number, 1 to 15, 17 to 19 or 24 to 27.
+    /// Its number, 1 to 19 or 24 to 27.
     pub number: u8,
 }
 
@@ -158,6 +158,7 @@ impl Refusal {
             13 => "A pick is above its highest value.",
             14 => "The form is right and the answer is not accepted: not certified.",
             15 => "The count of questions is 0 or above 8.",
+            16 => "The answer is bottomless.",
             17 => "A rule has an all-blank left list.",
             18 => {
                 "The text is not of this form, a value read or to be written is beyond ±6,000,000, or the writer's \

@@ -47,7 +47,7 @@ ghost use Rattle.definitions.specs.AnswerRecord.{answerSize, stampsFit, picksFi
 ghost use Rattle.answer_reader.specs.Fields.{bodyOf, stampsAt, picksAt, stampFits, Padded};
 ghost use Rattle.answer_reader.specs.AnswerReading.{HeadAt, headOf, AnswerRead};
 
-// The class of an answer, its span's offset number and its start. Public for `answer_writer`, `checker` and `engine`, which hand
+// The class of an answer, its span's offset number and its start. Public for `answer_writer`, `checker`, `engine` and `grounds`, which hand
 // them on together.
 pub struct Head {
     pub class: u64,

@@ -43,6 +43,9 @@ copied-turn {before} {from} {i} {now} c h = record {
 pub copied-end : {before from : List ℕ} {i : ℕ} {now : List ℕ} → Copied before from i now → length from ≤ i → now ≡ put before 0 from
 copied-end {before} {from} {i} c h = c .is ∙ ap (put before 0) (take-all i from h)
 
+pub copied-stop : {before from : List ℕ} {i : ℕ} {now : List ℕ} (count : ℕ) → Copied before from i now → i ≡ count → now ≡ put before 0 (take count from)
+copied-stop {before} {from} count c e = c .is ∙ ap (λ (k : ℕ). put before 0 (take k from)) e
+
 pub both-lent : (number : ℕ) (stamps picks stamps-before picks-before : List ℕ) {stamps-after picks-after : List ℕ} → stamp-places ≤ length stamps-before
     → pick-places ≤ length picks-before → stamps-after ≡ put stamps-before 0 stamps
     → picks-after ≡ put picks-before 0 picks → PlacesAs number stamps picks stamps-before picks-before number stamps-after picks-after

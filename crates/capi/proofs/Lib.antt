@@ -6,3 +6,4 @@ pub mod Compared
 pub mod Converting
 pub mod Merging
 pub mod Counted
+pub mod Grounds

@@ -5,3 +5,4 @@ pub mod Marks
 pub mod Converted
 pub mod Merged
 pub mod Census
+pub mod Behind

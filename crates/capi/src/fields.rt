@@ -25,7 +25,7 @@ const PICK_PLACES: usize = ROWS;
 pub const TOO_FEW_PLACES: u64 = 255;
 
 // The start stands above the class, below the span.
-const QUARTER: u64 = BYTE * BYTE;
+pub const QUARTER: u64 = BYTE * BYTE;
 
 // 256 × size where written, else the refusal.
 fn written_number(written: Written) -> u64

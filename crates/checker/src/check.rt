@@ -136,7 +136,7 @@ fn certify(
     }
 }
 
-// The number with which an answer was refused. Public for `input`.
+// The number with which an answer was refused. Public for `input`, `grounds::reasons`.
 pub fn answer_refusal(read: AnswerHead) -> usize
     ensures { λ r. ⌜ r ≡ answerRefused read ⌝ }
 {

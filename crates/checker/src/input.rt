@@ -26,8 +26,9 @@ use records::problem::Header;
 use records::problem::problem_refusal;
 use records::problem::read_header;
 
-// Where an input is cut: by its first length field where that is whole and reaches no further than the input.
-fn cut_place(input: &[u8]) -> usize
+// Where an input is cut: by its first length field where that is whole and reaches no further than the input. Public for
+// `grounds::input`.
+pub fn cut_place(input: &[u8]) -> usize
     ensures { λ r. ⌜ (r ≡ cutPlace (now (input .entry))) × (r ≤ length (now (input .entry))) ⌝ }
 {
     let size = input.len();

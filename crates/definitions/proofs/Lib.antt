@@ -29,3 +29,4 @@ pub mod Scaling
 pub mod Selection
 pub mod Marks
 pub mod Merging
+pub mod ReasonsFacts

@@ -21,3 +21,4 @@ pub mod Conversion
 pub mod Marks
 pub mod Merging
 pub mod Census
+pub mod Reasons

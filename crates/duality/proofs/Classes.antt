@@ -292,15 +292,6 @@ module _ (Start : ℕ → Type 0) (p : Problem) (starts : StartBelow (suc (p .n)
           accepted = above-unbounded p L T (c .picks) (starts-inside p starts) within enough (c .none-above) (c .accepted .0) (c .accepted .1);
         }
 
-  -- For every problem, whatever its limit: class 3 accepts some picks exactly when no solution at any t is finite at a variable of
-  -- the start,
-  pub unsolved-never : ((t : ℤ) → Solution (systemAt p t) Start → ⊥) ↔ SomePicks (suc (p .m)) (suc (p .n)) (AcceptedInfeasible Start p)
-  unsolved-never = (λ d. unsolved-accepted _ _ (within-some p) (le-refl _) (d _), accepted-unsolved)
-
-  -- and class 2 exactly when at every t each is finite in some solution.
-  pub solved-always : ((t : ℤ) → AllSolved (systemAt p t) Start) ↔ SomePicks (suc (p .n)) (suc (p .m)) (AcceptedUnbounded Start p)
-  solved-always = (λ all. solved-accepted _ _ (within-some p) (le-refl _) (all _), accepted-solved)
-
 -- ---- from the starts of answers
 
 -- Where class 3 accepts, nothing is attainable.

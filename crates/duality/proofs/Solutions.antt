@@ -1,20 +1,19 @@
 -- The solutions of a system are closed under shifts and under the larger of two. So where a variable is finite in one solution and
--- another in another, both are in a third. The values of a kept strategy, where they solve the system, are finite exactly at the
--- variables that are finite in some solution; where one is blank the strategy blocks from it, and from any set of such variables.
+-- another in another, both are in a third. The values of a kept strategy are finite at every variable that is finite in some
+-- solution; where one is blank the strategy blocks from it.
 use Prim.Native.Nat.{ℕ, _<_}
-use mathlib.Core.Path.{_≡_, refl, sym, _∙_}
-use mathlib.Core.Logic.{_⊎_, inl, inr, ⊎-elim, _↔_}
+use mathlib.Core.Path.{_≡_, sym, _∙_}
+use mathlib.Core.Logic.{⊎-elim, _↔_}
 use Rattle.definitions.specs.Tropical.{Trop, bot, plus, larger, largest, _⊑_, Finite}
 use Rattle.definitions.specs.Problem.{Point}
 use Rattle.definitions.specs.Certificate.{Strategy}
 use Rattle.definitions.proofs.Tropical.{blank-or-finite, finite-above, ⊑-refl, ⊑-trans, ⊑-of-eq, plus-assoc, plus-mono, larger-left, larger-right, larger-one, largest-above, largest-least, largest-mono, largest-ext, largest-plus}
-use Rattle.duality.specs.Starts.{Only, StartBelow}
+use Rattle.duality.specs.Starts.{Only}
 use Rattle.duality.specs.System.{System, sideOf, Solves, Solution, AllSolved, Meets, Joint, Blocks, Saves}
 use Rattle.duality.specs.Values.{values, Policy}
 use Rattle.duality.specs.Induced.{Induced}
 use Rattle.duality.proofs.Weak.{solution-saves, weak}
 use Rattle.duality.proofs.Ends.{started-solution, blank-blocks}
-use Rattle.duality.proofs.Strong.{met-or-blocks}
 
 -- ---- shifts
 
@@ -87,27 +86,6 @@ module _ (s : System) (τ : Strategy) (policy : Policy s τ) where
       (blank-or-finite (values s τ k))
 
   module _ (solves : Solves s (values s τ)) where
-    -- Where the values solve the system: finite exactly at the variables that are finite in some solution.
-    pub values-finite : (k : ℕ) → k < s .variables → Finite (values s τ k) ↔ Solution s (Only k)
-    values-finite k h = (λ f. started-solution s (Only k) (values s τ) solves k h refl f, solved-finite k)
-
-    -- From a start without a solution the strategy blocks,
-    pub unsolved-blocks : {Start : ℕ → Type 0} → StartBelow (s .variables) Start → (Solution s Start → ⊥) → Blocks s Start τ
-    unsolved-blocks {Start} starts none = ⊎-elim
-        (λ m. absurd (none (started-solution s Start (values s τ) solves (m .at) (m .inside) (m .started) (m .finite))))
-        (λ b. b)
-        (met-or-blocks s τ starts policy)
-
-    -- and from two starts: the values are a solution for both, or it blocks from one of them.
-    pub settled-both : {A B : ℕ → Type 0} → StartBelow (s .variables) A → StartBelow (s .variables) B
-        → Joint s A B ⊎ (Blocks s A τ ⊎ Blocks s B τ)
-    settled-both {A} {B} a b = go (met-or-blocks s τ a policy) (met-or-blocks s τ b policy)
-      where
-        go : Meets s A (values s τ) ⊎ Blocks s A τ → Meets s B (values s τ) ⊎ Blocks s B τ → Joint s A B ⊎ (Blocks s A τ ⊎ Blocks s B τ)
-        go (inl f) (inl g) = inl (record { point = values s τ; solves = solves; first = f; second = g })
-        go (inr f) g = inr (inl f)
-        go (inl f) (inr g) = inr (inr g)
-
     -- A strategy of rows that the values induce saves from every start whose variables are finite in some solution.
     pub values-save : {Start : ℕ → Type 0} (σ : Strategy) → Induced s (values s τ) σ → AllSolved s Start → Saves s Start σ
     values-save {Start} σ induced all = solution-saves s (values s τ) σ solves induced Start

@@ -36,9 +36,6 @@ either-below {A = A} {B = B} a b = record { decided = λ j. go j (a .decided j) 
 pub anchor-below : (p : Problem) → StartBelow (suc (p .n)) Anchor
 anchor-below p = only-below 0 (omega arith)
 
-pub anchor-inside : (p : Problem) (j : ℕ) → Anchor j → j ≤ p .n
-anchor-inside p j e = omega arith
-
 -- So are the variables of the second list,
 pub second-below : (p : Problem) → StartBelow (suc (p .n)) (Second p)
 second-below p = record { decided = second-decided p; inside = λ j s. omega (arith, s .inside) }

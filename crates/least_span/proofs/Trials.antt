@@ -2,7 +2,7 @@
 use Prim.Native.Nat.{ℕ, suc, _+_, _*_, _-_, _≤_, _<_}
 use mathlib.Core.Path.{_≡_, refl, sym, ap, subst, _∙_}
 use mathlib.Core.Bool.{Bool, true, false, cond}
-use mathlib.Core.Logic.{_⊎_, inl, inr, ⊎-elim, _↔_}
+use mathlib.Core.Logic.{⊎-elim}
 use mathlib.Core.List.{List}
 use native.Mathlib.Omega.{arith}
 use native.Mathlib.Nat.{eq-zero-or-pos}
@@ -15,7 +15,7 @@ use borrow.Author.Tests.{le-leb, eq-eqb, ne-eqb}
 use Rattle.base.proofs.Numbers.{nat-le-or-lt}
 use Rattle.base.proofs.Filled.{filled-map, filled-end}
 use Rattle.definitions.specs.Limits.{signed-half, lead-limit, span-limit, stamp-limit}
-use Rattle.definitions.specs.Tropical.{Trop, bot, fin, plus, Finite}
+use Rattle.definitions.specs.Tropical.{Trop, bot, fin, plus}
 use Rattle.definitions.specs.Problem.{Problem, Point}
 use Rattle.definitions.specs.Certificate.{Anchor, Second, startOf}
 use Rattle.definitions.specs.Bytes.{blank-or-within}
@@ -23,12 +23,10 @@ use Rattle.definitions.specs.Offset.{tropOf}
 use Rattle.definitions.proofs.Whole.{up, down, whole, minus-read, abs-show, subℕ-read}
 use Rattle.definitions.proofs.Tropical.{bot-not-fin}
 use Rattle.definitions.proofs.Offset.{trop-zero, trop-fin, trop-order}
-use Rattle.duality.specs.Starts.{Only}
-use Rattle.duality.specs.System.{System, Solution, Meets, Blocks, systemAt}
-use Rattle.duality.specs.Values.{values, Policy, difference}
+use Rattle.duality.specs.System.{System, Meets, Blocks, systemAt}
+use Rattle.duality.specs.Values.{Policy, difference}
 use Rattle.duality.specs.Within.{Within}
-use Rattle.duality.proofs.Ends.{idle, empty-policy, started-solution, blank-blocks}
-use Rattle.duality.proofs.Solutions.{solved-finite}
+use Rattle.duality.proofs.Ends.{idle, empty-policy, blank-blocks}
 use Rattle.duality.proofs.Warm.{stays-down-at}
 use Rattle.duality.proofs.Stamps.{stamps-at-most-32}
 use Rattle.trials.specs.Tables.{systemOf, pointOf, pickOf, Ranged}
@@ -137,17 +135,6 @@ pub met-second : (p : Problem) (t : ℤ) (f : Frame) (left right x : List ℕ) (
 unfolding systemAt
 met-second p t f left right x k q h m =
     record { at = k; inside = omega (arith, q .n-is); started = second-held q k .1 (h, m .0); finite = number-finite _ .1 (m .1) }
-
--- Where variable 0 is not blank, the values are finite exactly at the variables that are finite in some solution.
-pub tried-finite : (p : Problem) (t : ℤ) (x picks : List ℕ) → Tried (systemAt p t) x picks → 0 < getD x 0 0
-    → (k : ℕ) → k ≤ p .n → Finite (pointOf x k) ↔ Solution (systemAt p t) (Only k)
-unfolding systemAt
-tried-finite p t x picks f h k b =
-    let i : k < suc (p .n) = omega arith in
-    let e : pointOf x k ≡ values (systemAt p t) (pickOf picks) k = f .values-are .each k i in (
-      λ q. started-solution (systemAt p t) (Only k) (pointOf x) (f .solves h) k i refl q,
-      λ v. rw e (solved-finite (systemAt p t) (pickOf picks) (f .policy) k v),
-    )
 
 -- A value of a kept strategy at t lies between −(64 L + |t|) and 0.
 record Low (t v : ℤ) : Type 0 where

@@ -332,11 +332,3 @@ module _ {Start : ℕ → Type 0} {arcs : List ℕ} {width : ℕ} {begin marks :
   from-reached j r =
       let q = reach-keep {L′ = Led arcs width} (λ j. j < width) (λ j h. let b = starts .marked j h in (b, b .inside)) (λ j l _ a. (a, a .to)) r in
       (q .1, reached .marked j (q .0))
-
--- The same of the anchor.
-module _ {arcs : List ℕ} {width : ℕ} {begin marks : List ℕ} (anchored : Anchored begin) (reached : Reached arcs width begin marks) where
-  pub reached-anchor : 0 < width → (j : ℕ) → j < width → Marked marks j → Reachable Anchor (Led arcs width) j
-  reached-anchor w = reached-from (anchored-marked anchored w) reached
-
-  pub anchor-reached : 0 < width → (j : ℕ) → Reachable Anchor (Led arcs width) j → (j < width) × Marked marks j
-  anchor-reached w = from-reached (anchored-marked anchored w) reached

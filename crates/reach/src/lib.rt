@@ -12,7 +12,8 @@ use crate::compare::marks_differ;
 use records::limits::ARCS;
 use records::limits::STRIDE;
 
-// The start of document 01: variable 0, the anchor, alone. Public for `strategy_tests::starts`, `class_answers`.
+// The start of document 01: variable 0, the anchor, alone. Public for `strategy_tests::starts`, `class_answers`,
+// `grounds::reached`.
 pub fn anchor() -> [u8; STRIDE]
     ensures { λ r. ⌜ Anchored r ⌝ }
 {
@@ -32,7 +33,8 @@ pub fn anchor_and(k: usize) -> [u8; STRIDE]
     both
 }
 
-// The variables of a list of coefficients that are not blank. Public for `strategy_tests::starts`, `class_answers`.
+// The variables of a list of coefficients that are not blank. Public for `strategy_tests::starts`, `class_answers`,
+// `grounds::reached`.
 pub fn marks_of(coefficients: &[u32; STRIDE]) -> [u8; STRIDE]
     requires { ⌜ length (now coefficients) ≡ stride ⌝ }
     ensures { λ r. ⌜ MarksOf (now (coefficients .entry)) stride r ⌝ }
@@ -92,7 +94,7 @@ fn spread_round(arcs: &[u32; ARCS], width: usize, marks: [u8; STRIDE], done: [u8
 
 // Marks of the variables that are reachable from the start, by rounds until one reaches no new variable: the marks before and
 // after it are compared by words (document 02, 2.3). Each round but the last marks one more, so there are at most as many of
-// these as variables. Public for `strategy_tests`, `pick_tables`.
+// these as variables. Public for `strategy_tests`, `pick_tables`, `grounds::reached`.
 pub fn reach(arcs: &[u32; ARCS], width: usize, start: [u8; STRIDE]) -> [u8; STRIDE]
     requires { ⌜ (width ≤ stride) × Flags start ⌝ }
     ensures { λ r. ⌜ Reached (now (arcs .entry)) width start r ⌝ }

@@ -162,6 +162,9 @@ pub const REFUSED_PICK: usize = 13;
 
 pub const NOT_CERTIFIED: usize = 14;
 
+// Of the rules behind an answer: the answer is bottomless.
+pub const REFUSED_BOTTOMLESS: usize = 16;
+
 // Of a text or a value that has none, and of a week list or a minute to be looked up.
 pub const NO_TEXT: usize = 18;
 

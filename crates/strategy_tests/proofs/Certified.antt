@@ -22,7 +22,7 @@ use Rattle.duality.proofs.Reach.{reach-keep, reach-map, circuit}
 use Rattle.duality.proofs.Cycles.{circuits-good}
 use Rattle.duality.proofs.Longest.{entries-end}
 use Rattle.duality.specs.Gains.{Entry}
-use Rattle.reach.specs.Marks.{Marked, Led, Begins, StartMarked, Reached, ReachedBy}
+use Rattle.reach.specs.Marks.{Marked, Led, Begins, StartMarked, Reached}
 use Rattle.closed_walks.specs.Gains.{arc-zero, weightOf, matrix, Tested}
 use Rattle.closed_walks.proofs.ClosedWalks.{weight-none, weight-some}
 
@@ -162,14 +162,6 @@ module _ {Start : ℕ → Type 0} {arcs : List ℕ} {N : ℕ} {Leads : ℕ → �
   strategy-reaches : {j : ℕ} → Reachable (Begins begin N) (Led arcs N) j → Reachable Start Leads j
   strategy-reaches r = reach-map (starts .only)
       (λ j l d. let q = shows .from j l (d .from) (d .to) (d .arc) in shows .leads j l (q .weight) (q .arc)) r
-
-  -- So where the picks that the strategy reaches count, the marks are those of what it reaches.
-  pub marks-reached : ((j : ℕ) → Reachable Start Leads j → Counts j) → ReachedBy Start Leads N marks
-  marks-reached counts = record {
-    flags = reached .flags;
-    marked = λ j r. let q = table-reaches (λ k b m. counts k (strategy-reaches (reached .only k b m))) r in (q .0, reached .marked j (q .1));
-    only = λ j b m. strategy-reaches (reached .only j b m);
-  }
 
   -- A walk of the strategy from a reached variable, in the table.
   walk-above : {j k n : ℕ} {w : ℤ} → j < N → Reachable (Begins begin N) (Led arcs N) j → Walk A j k n w → Above (matrix arcs marks) N j k n (s n w)

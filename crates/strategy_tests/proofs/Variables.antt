@@ -22,12 +22,12 @@ use Rattle.definitions.specs.Verdict.{strategyOf}
 use Rattle.definitions.proofs.Whole.{whole, plus-read, minus-read}
 use Rattle.definitions.proofs.Offset.{trop-fin, trop-read, trop-show}
 use Rattle.records.specs.Decoded.{Near}
-use Rattle.reach.specs.Marks.{Marked, StartMarked, Reached, ReachedBy}
+use Rattle.reach.specs.Marks.{Marked, StartMarked, Reached}
 use Rattle.closed_walks.specs.Gains.{arc-zero, arc-most, weightOf, Table, Tested}
 use Rattle.closed_walks.specs.Tables.{Sized, DecodedAs, Picked, Trial}
 use Rattle.closed_walks.specs.Arcs.{raisedBy, least-lead, lift, lifted, strictArc, variableArc, VariableArcs}
 use Rattle.strategy_tests.specs.Counts.{VariablesCount}
-use Rattle.strategy_tests.proofs.Certified.{weight-show, strict, strict-read, strict-scale, Behind, ShownArcs, marks-reached, certified-not, certified-both}
+use Rattle.strategy_tests.proofs.Certified.{weight-show, strict, strict-read, strict-scale, Behind, ShownArcs, certified-not, certified-both}
 
 -- ---- coefficients
 
@@ -185,11 +185,6 @@ module _ {left right : List ℕ} {n m t : ℕ} {picks arcs : List ℕ} (sized : 
           some = trop-some (getD left (c .row * 32 + j) 0) (holds .decoded .left-is (c .row) j (row-inside j (c .row) (c .picked)) (omega (arith, holds .n-is))) (c .left);
         })
         d
-
-    -- Where they count from the start, the marks are those of what the strategy reaches from it.
-    pub variables-reached : {Start : ℕ → Type 0} {begin marks : List ℕ} → StartMarked Start (n + 1) begin → Reached arcs (n + 1) begin marks
-        → PicksCount Start p (strategyOf picks) → ReachedBy Start (Leads p (strategyOf picks)) (n + 1) marks
-    variables-reached a r count = marks-reached variables-shown strict-scale (omega (arith, sized .n-most)) a r count
 
     -- The verdict of the two tests.
     pub variables-not : {Start : ℕ → Type 0} {begin marks : List ℕ} {c : Bool} → StartMarked Start (n + 1) begin → Reached arcs (n + 1) begin marks

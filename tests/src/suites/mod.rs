@@ -13,6 +13,7 @@ pub mod opening;
 pub mod parts;
 pub mod pipes;
 pub mod questions;
+pub mod reasons;
 pub mod silent;
 pub mod small;
 pub mod starts;

@@ -9,7 +9,7 @@ use crate::tally::Tally;
 use random::Random;
 
 /// The verdict program's cut: by the first length field, where it is whole and does not reach past the input.
-fn cut(input: &[u8]) -> (&[u8], &[u8]) {
+pub fn cut(input: &[u8]) -> (&[u8], &[u8]) {
     if input.len() >= 4 {
         let size = paper::number(&input[..4]) + 4;
         if size <= input.len() as u64 {

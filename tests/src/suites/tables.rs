@@ -12,7 +12,7 @@ use crate::tally::Tally;
 use random::Random;
 
 /// Hands over every pick table of a class.
-fn every_table(n: usize, m: usize, class: u64, mut visit: impl FnMut(&[u64])) {
+pub fn every_table(n: usize, m: usize, class: u64, mut visit: impl FnMut(&[u64])) {
     let mut picks = vec![0; counts(class, n, m).1];
     let highest = highest_pick(class, n, m);
     loop {

@@ -17,6 +17,8 @@ mod merging;
 #[path = "../../../capi/rust/src/opening.rs"]
 mod opening;
 pub mod raw;
+#[path = "../../../capi/rust/src/reasons.rs"]
+mod reasons;
 #[path = "../../../capi/rust/src/words.rs"]
 mod words;
 
@@ -27,4 +29,5 @@ pub use hours::{read_hours, write_hours, TEXT_SIZE};
 pub use marks::marks_differ;
 pub use merging::{merge, PLAN_SIZE};
 pub use opening::{first_open, Window};
+pub use reasons::{reasons, Reasons};
 pub use words::{Answer, AnswerAt, Certified, Class, Outcome, Refusal, Solved, SolvedAll};
