@@ -13,15 +13,17 @@
  * An offset number stands for a stamp or a span: 0 is blank, and v + 2147483648 is the minute v.
  *
  * A problem of kind 1 has one question. One of kind 3 has up to eight over the same rules: after m a count of two bytes, then
- * the rules, then that many question rows. span_solve takes both, span_check kind 1 alone. A problem of 0 bytes is an idle day: n
- * and m are 0, and so are both leads of the anchor; its answer is least 0.
+ * the rules, then that many question rows. One of kind 5 has, after m, a state of two bytes a rule: 1 in force, 0 suspended; its
+ * rules keep their numbers, and the suspended ones are kept by every plan. span_solve takes all three; span_check, span_reasons and
+ * span_merge kinds 1 and 5. A problem of 0 bytes is an idle day: n and m are 0, and so are both leads of the anchor; its answer is
+ * least 0.
  *
  * A plan counts only if its second list is not blank, and classes and spans are about the plans that count. An answer has kind 4
  * and a start, which says where reach begins: in classes 1 and 3, 0 is the anchor and 1 all moments with a non-blank lead in the
  * second list; in class 2 it is 1 + the number of one such moment, and reach begins there and at the anchor.
  *
- * Refusals: 1 the problem has 1 to 9 bytes; 2 its length field is not its size - 4; 3 its kind is not 1, nor, in
- * span_solve, 3; 4 n is above 31 or m above 63; 5 its size does not fit n and m, and for kind 3 the count; 6 a lead is
+ * Refusals: 1 the problem has 1 to 9 bytes; 2 its length field is not its size - 4; 3 its kind is not 1 or 5, nor, in
+ * span_solve, 3; 4 n is above 31 or m above 63; 5 its size does not fit its kind, n and m, and for kind 3 the count; 6 a lead is
  * neither blank nor within 20,160 of 0; 7 the answer buffer is shorter than 208 bytes a question; 8 the answer has fewer
  * than 16 bytes; 9 its length field is not its size - 4; 10 its kind is not 4, its class not 1 to 3, or its start above 1
  * (in class 2: 0, or above the problem's n + 1); 11 its n is not the problem's, or its size does not fit its class; 12 its
@@ -30,9 +32,11 @@
  * list (span_convert drops such rules); 18 (hours and minutes) the text is not of this form, a value is beyond 6,000,000 of
  * 0, or the writer's buffer is shorter than 10 bytes; 19 a week list or a minute to be looked up is not of its form
  * (span_first_open); 24 to 26 two plans cannot be merged (span_merge); 27 (span_census) w is 0 or above 20,160, n is above
- * 31 or m above 63, or there are more than 65,536 problems. The first that applies is returned, in this order, but 15 is
- * looked at after 4 and before 5, 16 after 14, and 17 after 6 and before 7; a record of kind 3 that ends before its count
- * gets 5. A refusal writes nothing.
+ * 31 or m above 63, or there are more than 65,536 problems; 20 a state of kind 5 is neither 0 nor 1. The first that applies is returned, in
+ * this order, but 15 is
+ * looked at after 4 and before 5, 16 after 14, 20 after 5 and before 6, and 17 after 6 and before 7; 6 and 17 look at suspended
+ * rules too; a record of kind 3 that ends before its count
+ * gets 5. span_convert takes kinds 1 and 3 alone. A refusal writes nothing.
  */
 #ifndef SPAN_H
 #define SPAN_H
@@ -46,6 +50,7 @@ extern "C" {
 
 #define SPAN_ANSWER_SIZE 208      /* an answer buffer of this many bytes, a question, is long enough for every answer */
 #define SPAN_PROBLEM_SIZE 16394   /* the longest problem of one question, kind 1 */
+#define SPAN_STATES_SIZE 16520    /* the longest problem with states of its rules, kind 5 */
 #define SPAN_QUESTIONS 8          /* the most questions of a problem of kind 3 */
 #define SPAN_QUESTIONS_SIZE 18188 /* the longest problem of several questions, kind 3 */
 #define SPAN_STAMPS 32            /* places to lend to span_read for stamps */
@@ -64,6 +69,7 @@ extern "C" {
 #define SPAN_NO_REASONS 16        /* span_reasons only: the answer is bottomless */
 #define SPAN_SILENT_RULE 17       /* span_solve, span_check, span_reasons only: a rule has an all-blank left list */
 #define SPAN_NO_TEXT 18           /* span_hours_read, span_hours_write only */
+#define SPAN_WRONG_STATE 20       /* span_solve, span_check only: a state is neither 0 nor 1 */
 #define SPAN_TOO_FEW_PLACES 255   /* span_read, span_reasons, span_marks_differ, span_census only */
 
 #define SPAN_WINDOWS 14           /* the most windows of a week list, with two minutes each */
@@ -79,15 +85,15 @@ extern "C" {
 
 #define SPAN_DIFFER 256           /* span_marks_differ only */
 
-/* Answers a problem of kind 1 or 3: writes the answer record of its question, or of each of its questions one after another,
+/* Answers a problem of kind 1, 3 or 5: writes the answer record of its question, or of each of its questions one after another,
  * at the start of `answers`. Each record starts where the one before ended, which span_record_end tells, and is the answer to
  * the problem of kind 1 with that question alone. The bytes after the last stay. Lend SPAN_ANSWER_SIZE bytes a question.
- * Result: 256 * trials + refusal. Answered: refusal 0, trials 1 to 24 a question, summed. Refused: 1 to 7, 15 or 17, trials 0. */
+ * Result: 256 * trials + refusal. Answered: refusal 0, trials 1 to 24 a question, summed. Refused: 1 to 7, 15, 17 or 20, trials 0. */
 uint64_t span_solve(const uint8_t *problem, size_t problem_size, uint8_t *answers, size_t answers_size);
 
-/* Judges an answer to a problem of kind 1.
+/* Judges an answer to a problem of kind 1 or 5.
  * Result: accepted: 256 * class + 4294967296 * the span's offset number (0 where blank), so the low byte is 0;
- * else the refusal, 1 to 6, 8 to 14 or 17, where 14 is 'not certified'. */
+ * else the refusal, 1 to 6, 8 to 14, 17 or 20, where 14 is 'not certified'. */
 uint64_t span_check(const uint8_t *problem, size_t problem_size, const uint8_t *answer, size_t answer_size);
 
 /* Names the rules behind an accepted answer of class least or none to a problem of kind 1: those that reached moments pick, ascending,

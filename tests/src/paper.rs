@@ -1,4 +1,4 @@
-//! Document 01, and 2.1, 2.2, 2.4, 2.5, 2.6 and 2.9 of document 02, in Rust, as plainly as it can be said: problems, plans, spans, records, refusals,
+//! Document 01, and 2.1, 2.2, 2.4, 2.5, 2.6, 2.9 and 2.10 of document 02, in Rust, as plainly as it can be said: problems, plans, spans, records, refusals,
 //! trials.
 
 /// A lead, stamp or whole minute; `None` is blank.
@@ -29,6 +29,13 @@ pub struct Problem {
 pub struct Questions {
     pub rules: Vec<Row>,
     pub questions: Vec<Row>,
+}
+
+/// A problem whose rules have states: 1 in force, 0 suspended (document 02, 2.10).
+#[derive(Clone, Debug, PartialEq, Eq)]
+pub struct Stated {
+    pub problem: Problem,
+    pub states: Vec<u64>,
 }
 
 /// The span of a plan; the order is document 01's.
@@ -132,6 +139,37 @@ impl Questions {
     }
 }
 
+impl Stated {
+    /// The problem that holds only the rules in force.
+    pub fn only_in_force(&self) -> Problem {
+        let rules = self.problem.rules.iter().zip(&self.states);
+        let rules = rules.filter(|(_, state)| **state == 1).map(|(rule, _)| rule.clone()).collect();
+        Problem { rules, question: self.problem.question.clone() }
+    }
+
+    /// The problem with its rules under their own numbers. A suspended rule is kept by every plan, gives no arcs, needs no pick and may
+    /// not be picked: so does a row without leads.
+    pub fn lifted(&self) -> Problem {
+        let mut problem = self.problem.clone();
+        for (rule, _) in problem.rules.iter_mut().zip(&self.states).filter(|(_, state)| **state == 0) {
+            rule.left.fill(None);
+            rule.right.fill(None);
+        }
+        problem
+    }
+
+    /// The record of kind 5.
+    pub fn bytes(&self) -> Vec<u8> {
+        let mut bytes = vec![0, 0, 0, 0, 5, 0, self.problem.n() as u8, 0, self.problem.m() as u8, 0];
+        for state in &self.states {
+            bytes.extend((*state as u16).to_le_bytes());
+        }
+        put_rows(&mut bytes, self.problem.rules.iter().chain([&self.problem.question]));
+        mend_length(&mut bytes);
+        bytes
+    }
+}
+
 fn put_rows<'a>(bytes: &mut Vec<u8>, rows: impl Iterator<Item = &'a Row>) {
     for lead in rows.flat_map(|row| row.left.iter().chain(&row.right)) {
         bytes.extend((lead.unwrap_or(BLANK) as i32).to_le_bytes());
@@ -184,23 +222,24 @@ fn within(minute: Minute, limit: i64) -> bool {
     minute.is_none_or(|value| -limit <= value && value <= limit)
 }
 
-/// Refusals 1 to 6 and 17 of the checker, which takes kind 1 alone; else the problem.
+/// Refusals 1 to 6, 17 and 20 of the checker, which takes kinds 1 and 5; else the problem, suspended rules without leads.
 pub fn read_problem(bytes: &[u8]) -> Result<Problem, u64> {
-    speaking(read_rows(bytes, &[1])?).map(|all| all.alone(0))
+    speaking(read_rows(bytes, &[1, 5])?).map(|all| all.alone(0))
 }
 
-/// Refusals 1 to 6, 15 and 17 of the engine, which takes kinds 1 and 3; else the rules and the questions.
+/// Refusals 1 to 6, 15, 17 and 20 of the engine, which takes kinds 1, 3 and 5; else the rules, suspended ones without leads, and the
+/// questions.
 pub fn read_questions(bytes: &[u8]) -> Result<Questions, u64> {
-    speaking(read_rows(bytes, &[1, 3])?)
+    speaking(read_rows(bytes, &[1, 3, 5])?)
 }
 
-/// Refusal 17: a rule has an all-blank left list.
-fn speaking(all: Questions) -> Result<Questions, u64> {
+/// Refusal 17: a rule has an all-blank left list, in force or suspended. Then suspended rules lose their leads.
+fn speaking((all, states): (Questions, Vec<u64>)) -> Result<Questions, u64> {
     if all.rules.iter().any(Row::says_nothing) {
-        Err(17)
-    } else {
-        Ok(all)
+        return Err(17);
     }
+    let problem = Stated { problem: all.alone(0), states }.lifted();
+    Ok(Questions { rules: problem.rules, questions: all.questions })
 }
 
 /// The converter (document 02, 2.6): 1 to 6 and 15 as the engine gives them, then 7 where the buffer is shorter than the record to
@@ -209,7 +248,7 @@ pub fn converted(bytes: &[u8], buffer: usize) -> Result<Vec<u8>, u64> {
     if bytes.is_empty() {
         return Err(1);
     }
-    let mut all = read_rows(bytes, &[1, 3])?;
+    let (mut all, _) = read_rows(bytes, &[1, 3])?;
     all.rules.retain(|rule| !rule.says_nothing());
     let record = if number(&bytes[4..6]) == 1 { all.alone(0).bytes() } else { all.bytes() };
     if buffer < record.len() {
@@ -219,11 +258,12 @@ pub fn converted(bytes: &[u8], buffer: usize) -> Result<Vec<u8>, u64> {
     }
 }
 
-fn read_rows(bytes: &[u8], kinds: &[u64]) -> Result<Questions, u64> {
+/// The rules and the questions as they stand, and the states of the rules, 1 where the kind has none.
+fn read_rows(bytes: &[u8], kinds: &[u64]) -> Result<(Questions, Vec<u64>), u64> {
     // 2.9: no bytes at all mean the problem with n = m = 0 and both anchor leads 0.
     if bytes.is_empty() {
         let question = Row { left: vec![Some(0)], right: vec![Some(0)] };
-        return Ok(Questions { rules: Vec::new(), questions: vec![question] });
+        return Ok((Questions { rules: Vec::new(), questions: vec![question] }, Vec::new()));
     }
     if bytes.len() < 10 {
         return Err(1);
@@ -242,13 +282,22 @@ fn read_rows(bytes: &[u8], kinds: &[u64]) -> Result<Questions, u64> {
     if kind == 3 && bytes.len() < 12 {
         return Err(5);
     }
-    // After m stands a count of questions, or nothing.
-    let (count, header) = if kind == 3 { (number(&bytes[10..12]), 12) } else { (1, 10) };
+    // After m stands a count of questions, or two bytes a rule, or nothing.
+    let (count, header) = match kind {
+        3 => (number(&bytes[10..12]), 12),
+        5 => (1, 10 + 2 * m),
+        _ => (1, 10),
+    };
     if count == 0 || count > 8 {
         return Err(15);
     }
     if bytes.len() as u64 != header + 8 * (n + 1) * (m + count) {
         return Err(5);
+    }
+    let states: Vec<u64> =
+        if kind == 5 { bytes[10..header as usize].chunks(2).map(number).collect() } else { vec![1; m as usize] };
+    if states.iter().any(|state| *state > 1) {
+        return Err(20);
     }
     let leads: Vec<Minute> = bytes[header as usize..].chunks(4).map(minute).collect();
     if !leads.iter().all(|lead| within(*lead, LONGEST_LEAD)) {
@@ -258,7 +307,7 @@ fn read_rows(bytes: &[u8], kinds: &[u64]) -> Result<Questions, u64> {
     let mut rules: Vec<Row> =
         leads.chunks(2 * width).map(|row| Row { left: row[..width].to_vec(), right: row[width..].to_vec() }).collect();
     let questions = rules.split_off(m as usize);
-    Ok(Questions { rules, questions })
+    Ok((Questions { rules, questions }, states))
 }
 
 /// The number of stamps and of picks that a class has.

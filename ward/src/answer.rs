@@ -125,7 +125,7 @@ impl Report {
                 });
             }
             let refused = record::sent(sheet).iter().find_map(|problem| archive::refusal(problem));
-            report.fault = refused.map(|refusal| refused_words(sheet, refusal));
+            report.fault = refused.map(refused_words);
         }
         if report.mistaken() {
             report.sheet = None;
@@ -145,7 +145,7 @@ impl Report {
             match archive::answers(&problem) {
                 Ok(more) => answers.extend(more),
                 Err(refusal) => {
-                    self.fault = Some(refused_words(sheet, refusal));
+                    self.fault = Some(refused_words(refusal));
                     return;
                 }
             }
@@ -187,10 +187,7 @@ impl Report {
     }
 }
 
-fn refused_words(sheet: &Sheet, refusal: span::Refusal) -> String {
-    if sheet.has_suspended() && refusal.number == 3 {
-        return "the archive that this tool is linked to does not take suspended rules yet (refused 3)".into();
-    }
+fn refused_words(refusal: span::Refusal) -> String {
     format!("the archive says: {refusal}. {}", refusal.reason())
 }
 

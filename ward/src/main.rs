@@ -204,13 +204,8 @@ fn judge(words: &Words) -> io::Result<u8> {
 
 fn record_of(words: &Words) -> io::Result<u8> {
     let mut report = text(&words.files[0]);
-    // A record is written for whoever takes it: that this archive does not know suspended rules yet is no fault of it.
-    let fault = report.fault.take_if(|_| report.sheet.as_ref().is_some_and(|sheet| sheet.has_suspended()));
     tell_remarks(&mut report, words);
     let Some(sheet) = report.sheet.as_ref().filter(|_| report.fault.is_none()) else { return Ok(FAULT) };
-    if let Some(fault) = fault {
-        tell(&format!("{}: {fault}\n", report.file));
-    }
     let records = record::sent(sheet);
     match words.binary {
         true => put(words, &records.concat())?,

@@ -5,7 +5,7 @@ use crate::LARGEST;
 
 /// Refusals 1 to 6 and 15, then 7 where the buffer is shorter than the record to be written; else its size.
 pub fn convert(bytes: &[u8], buffer: &mut [u8]) -> Result<usize, u8> {
-    let layout = header(bytes, true)?;
+    let layout = header(bytes, &[1, 3])?;
     let leads = &bytes[layout.coefficients..];
     let outside = |lead: i32| lead != BLANK && !(-LARGEST..=LARGEST).contains(&lead);
     if leads.chunks_exact(4).any(|lead| outside(four(lead, 0))) {

@@ -36,10 +36,12 @@ pub struct Layout {
     pub(crate) rules: usize,
     pub questions: usize,
     pub(crate) coefficients: usize,
+    /// Whether the rules have states, which stand behind m.
+    stated: bool,
 }
 
-/// Refusals 1 to 5 and 15, which the header decides; else the layout. Kind 3 is known where several questions are taken.
-pub(crate) fn header(bytes: &[u8], several: bool) -> Result<Layout, u8> {
+/// Refusals 1 to 5 and 15, which the header decides; else the layout. The kinds are those that are known.
+pub(crate) fn header(bytes: &[u8], kinds: &[usize]) -> Result<Layout, u8> {
     if bytes.len() < 10 {
         return Err(1);
     }
@@ -47,7 +49,7 @@ pub(crate) fn header(bytes: &[u8], several: bool) -> Result<Layout, u8> {
         return Err(2);
     }
     let kind = two(bytes, 4);
-    if kind != 1 && !(several && kind == 3) {
+    if !kinds.contains(&kind) {
         return Err(3);
     }
     let (n, m) = (two(bytes, 6), two(bytes, 8));
@@ -56,6 +58,7 @@ pub(crate) fn header(bytes: &[u8], several: bool) -> Result<Layout, u8> {
     }
     let (questions, coefficients) = match kind {
         1 => (1, 10),
+        5 => (1, 10 + 2 * m),
         _ if bytes.len() < 12 => return Err(5),
         _ => (two(bytes, 10), 12),
     };
@@ -65,7 +68,7 @@ pub(crate) fn header(bytes: &[u8], several: bool) -> Result<Layout, u8> {
     if bytes.len() != coefficients + 8 * (n + 1) * (m + questions) {
         return Err(5);
     }
-    Ok(Layout { variables: n + 1, rules: m, questions, coefficients })
+    Ok(Layout { variables: n + 1, rules: m, questions, coefficients, stated: kind == 5 })
 }
 
 /// Copies coefficients from bytes; true where all are within the limits.
@@ -128,19 +131,23 @@ pub fn meant(bytes: &[u8]) -> &[u8] {
     }
 }
 
-/// Reads a problem of kind 1 into room that is blank; refusals 1 to 6 and 17.
+/// Reads a problem of kind 1 or 5 into room that is blank; refusals 1 to 6, 17 and 20.
 pub fn read(bytes: &[u8], problem: &mut Problem) -> Result<(), u8> {
-    fill(bytes, header(bytes, false)?, problem).map(|_| ())
+    fill(bytes, header(bytes, &[1, 5])?, problem).map(|_| ())
 }
 
-/// Reads the rules of a problem of kind 1 or 3 into room that is blank, and judges the questions; refusals 1 to 6, 15
-/// and 17.
+/// Reads the rules of a problem of kind 1, 3 or 5 into room that is blank, and judges the questions; refusals 1 to 6, 15,
+/// 17 and 20.
 pub fn read_rules(bytes: &[u8], problem: &mut Problem) -> Result<Layout, u8> {
-    fill(bytes, header(bytes, true)?, problem)
+    fill(bytes, header(bytes, &[1, 3, 5])?, problem)
 }
 
-/// The rules go to their rows, and each question in turn to the objective's; refusals 6 and 17.
+/// The rules go to their rows, and each question in turn to the objective's; refusals 20, 6 and 17. Suspended rules are blank.
 fn fill(bytes: &[u8], layout: Layout, problem: &mut Problem) -> Result<Layout, u8> {
+    let state = |rule: usize| if layout.stated { two(bytes, 10 + 2 * rule) } else { 1 };
+    if (0..layout.rules).any(|rule| state(rule) > 1) {
+        return Err(20);
+    }
     problem.variables = layout.variables;
     problem.rows = layout.rules + 1;
     let mut good = true;
@@ -153,6 +160,10 @@ fn fill(bytes: &[u8], layout: Layout, problem: &mut Problem) -> Result<Layout, u
     let silent = |row: usize| problem.left[row * VARIABLES..][..layout.variables].iter().all(|&left| left == BLANK);
     if (0..layout.rules).any(silent) {
         return Err(17);
+    }
+    for rule in (0..layout.rules).filter(|&rule| state(rule) == 0) {
+        problem.left[rule * VARIABLES..][..VARIABLES].fill(BLANK);
+        problem.right[rule * VARIABLES..][..VARIABLES].fill(BLANK);
     }
     Ok(layout)
 }

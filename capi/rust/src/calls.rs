@@ -7,6 +7,8 @@ use crate::words::{Answer, AnswerAt, Certified, Class, Outcome, Refusal, Solved,
 pub const ANSWER_SIZE: usize = 208;
 /// The size of the longest problem of one question.
 pub const PROBLEM_SIZE: usize = 16_394;
+/// The size of the longest problem of one question whose rules have states, kind 5.
+pub const STATES_SIZE: usize = 16_520;
 /// The most questions that a problem of kind 3 puts to its rules.
 pub const QUESTIONS: usize = 8;
 /// The size of the longest problem of several questions.
@@ -18,8 +20,27 @@ const OFFSET: i64 = 1 << 31;
 /// Answers a problem of one question, and writes the answer record at the start of `answer`. Bytes after the record stay. No
 /// bytes are an idle day (document 02, 2.9), here and in [`solve_all`] and [`check`].
 ///
-/// Refusals: 1 to 7. A problem of kind 3 gets 3 here: its answers are several, and [`solve_all`] gives them. A refusal leaves
+/// A problem of kind 5 has a state of two bytes a rule after m, 1 in force and 0 suspended (document 02, 2.10). A suspended rule keeps its
+/// number, and every plan keeps it.
+///
+/// Refusals: 1 to 7, 17 and 20. A problem of kind 3 gets 3 here: its answers are several, and [`solve_all`] gives them. A refusal leaves
 /// `answer` untouched.
+///
+/// ```
+/// # fn leads(leads: [i32; 4]) -> impl Iterator<Item = u8> { leads.into_iter().flat_map(i32::to_le_bytes) }
+/// // The moment is 30 minutes after the anchor at the earliest, and 20 at the latest. At the weekend the second rule is lifted.
+/// const BLANK: i32 = i32::MIN;
+/// let rows = [[30, BLANK, BLANK, 0], [BLANK, 0, 20, BLANK], [BLANK, 0, 0, BLANK]];
+/// for (second, outcome) in [(1, span::Outcome::None), (0, span::Outcome::Least(30))] {
+///     // Length, kind, n, m, a state a rule; the rules; the question.
+///     let mut problem = vec![58, 0, 0, 0, 5, 0, 1, 0, 2, 0, 1, 0, second, 0];
+///     rows.into_iter().for_each(|row| problem.extend(leads(row)));
+///     let mut answer = [0; span::ANSWER_SIZE];
+///     let solved = span::solve(&problem, &mut answer).unwrap();
+///     assert_eq!(solved.outcome, outcome);
+///     assert_eq!(span::check(&problem, &answer[..solved.size]).unwrap().outcome, outcome);
+/// }
+/// ```
 pub fn solve(problem: &[u8], answer: &mut [u8]) -> Result<Solved, Refusal> {
     if asks_several(problem) {
         return Err(Refusal { number: 3 });
@@ -31,11 +52,11 @@ pub fn solve(problem: &[u8], answer: &mut [u8]) -> Result<Solved, Refusal> {
 }
 
 /// Answers every question of a problem (document 02, 2.1): of kind 3, with up to [`QUESTIONS`] questions over the same rules,
-/// or of kind 1, with one. The answer records are written one after another, each starting where the one before ended, from
+/// or of kind 1 or 5, with one. The answer records are written one after another, each starting where the one before ended, from
 /// the start of `answers`. Bytes after the last stay. Each is the answer to the problem of kind 1 that has this question alone,
 /// and [`check`] takes it with that problem.
 ///
-/// Refusals: 1 to 7, and 15. For 7 count [`ANSWER_SIZE`] bytes a question. A refusal leaves `answers` untouched.
+/// Refusals: 1 to 7, 15, 17 and 20. For 7 count [`ANSWER_SIZE`] bytes a question. A refusal leaves `answers` untouched.
 ///
 /// ```
 /// # fn leads(leads: [i32; 4]) -> impl Iterator<Item = u8> { leads.into_iter().flat_map(i32::to_le_bytes) }

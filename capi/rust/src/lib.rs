@@ -43,7 +43,9 @@ pub mod raw;
 mod reasons;
 mod words;
 
-pub use calls::{check, read, solve, solve_all, write, ANSWER_SIZE, PROBLEM_SIZE, QUESTIONS, QUESTIONS_SIZE};
+pub use calls::{
+    check, read, solve, solve_all, write, ANSWER_SIZE, PROBLEM_SIZE, QUESTIONS, QUESTIONS_SIZE, STATES_SIZE,
+};
 pub use census::{census, Census};
 pub use conversion::convert;
 pub use hours::{read_hours, write_hours, TEXT_SIZE};

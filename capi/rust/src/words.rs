@@ -135,7 +135,7 @@ impl fmt::Display for Certified {
 /// A refusal of document 01, "What is turned away", or of document 02.
 #[derive(Clone, Copy, Debug, PartialEq, Eq)]
 pub struct Refusal {
-    /// Its number, 1 to 19 or 24 to 27.
+    /// Its number, 1 to 20 or 24 to 27.
     pub number: u8,
 }
 
@@ -145,9 +145,9 @@ impl Refusal {
         match self.number {
             1 => "The problem has 1 to 9 bytes.",
             2 => "Its length field is not its size − 4.",
-            3 => "Its kind is not 1, nor, for the engine, 3.",
+            3 => "Its kind is not 1 or 5, nor, for the engine, 3.",
             4 => "n is above 31 or m above 63.",
-            5 => "Its size does not fit n and m, and for kind 3 the count of questions.",
+            5 => "Its size does not fit its kind, n and m, and for kind 3 the count of questions.",
             6 => "A lead is neither blank nor within ±20,160.",
             7 => "The answer buffer is shorter than 208 bytes a question, whichever class is due.",
             8 => "The answer has fewer than 16 bytes.",
@@ -165,6 +165,7 @@ impl Refusal {
                  buffer is shorter than 10 bytes."
             }
             19 => "More than 14 windows, a closing not after its opening, an opening or closing outside its range, a window that starts before the last one closes, or a minute to be looked up beyond ±6,000,000.",
+            20 => "A state is neither 0 nor 1.",
             24 => "The shift is above 0.",
             25 => "A plan breaks a rule.",
             26 => "A merged stamp would be below −6,000,000.",

@@ -4,3 +4,4 @@ pub mod Round
 pub mod Reasons
 pub mod Unique
 pub mod Keeps
+pub mod InForce

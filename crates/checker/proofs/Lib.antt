@@ -1,6 +1,7 @@
 pub mod Acceptance
 pub mod Answers
 pub mod Verdicts
+pub mod InForce
 pub mod Decided
 pub mod Judgement
 pub mod Agreeing

@@ -11,14 +11,14 @@ use lib.ListN.{length, getD, take, drop, length-take, length-drop}
 use lib.Seq.{getD-take, getD-drop, length-take-le, ext-getD, take-all}
 use borrow.Author.Tests.{lt-ltb, le-ltb, eqb-true, ne-eqb}
 use Rattle.base.proofs.Numbers.{nat-le-or-lt}
-use Rattle.definitions.specs.Limits.{kept-bytes, length-bytes, problem-header, answer-header, answer-most, highest-n, highest-m, answer-kind, problem-most}
+use Rattle.definitions.specs.Limits.{kept-bytes, length-bytes, problem-header, answer-header, answer-most, highest-n, highest-m, answer-kind, states-most}
 use Rattle.definitions.specs.Tropical.{Trop}
 use Rattle.definitions.specs.Bytes.{numAt, Outcome, outcome}
-use Rattle.definitions.specs.ProblemRecord.{lengthField, kindField, nField, mField, headerRefusal, headerOutcome, problemRefusal, refusalFor, meant}
+use Rattle.definitions.specs.ProblemRecord.{checker-kinds, lengthField, kindField, nField, mField, countField, questionsAsked, headerRefusal, headerOutcome, problemRefusal, refusalFor, meant}
 use Rattle.definitions.specs.AnswerRecord.{known-class, startFits, classField, spanField, startField, answerSize, answerHeaderRefusal, answerHeaderJudged, answerHeaderOutcome, answerRefusal}
 use Rattle.definitions.specs.Verdict.{Verdict, refused, checkRefusal, Judged}
 use Rattle.definitions.specs.Programs.{cutPlace, problemPart, answerPart, KeptOf}
-use Rattle.definitions.proofs.Refusals.{or-else-suc, limits-clause, enough-clause, equal-clause, both-clause, problem-fits}
+use Rattle.definitions.proofs.Refusals.{or-else-suc, limits-clause, enough-clause, equal-clause, both-clause, problem-fits, within-asks, leads-place-most, KnownKind, OneKind}
 use Rattle.definitions.proofs.Inputs.{kept-at, length-agrees, one-agrees, answer-agrees, header-short, header-length, cut-past, cut-inside, part-meant}
 use Rattle.definitions.proofs.RoundTrip.{size-most}
 use Rattle.definitions.proofs.Outcomes.{outcome-gives, outcome-refusal}
@@ -37,19 +37,28 @@ use Rattle.checker.proofs.Verdicts.{HeaderRead, turned}
 -- ---- long problems
 
 -- A header that is right says a size that is kept whole.
-pub header-small : (kept : List ℕ) (end : ℕ) {header : Header} {l : Layout} → headerOf header ≡ headerOutcome false kept end → header ≡ Headers.Told l
-    → (problem-header ≤ end) × (end ≤ problem-most) × (l .n ≤ highest-n) × (l .m ≤ highest-m)
+pub header-small : (kept : List ℕ) (end : ℕ) {header : Header} {l : Layout} → headerOf header ≡ headerOutcome checker-kinds kept end → header ≡ Headers.Told l
+    → (problem-header ≤ end) × (end ≤ states-most) × (l .n ≤ highest-n) × (l .m ≤ highest-m)
 header-small kept end {l = l} e f =
-    let h = header-fits false kept end e f in
-    (omega (arith, fits-one h), omega (arith, fits-one h, product-most (l .n) (l .m) (h .n-most) (h .m-most)), h .n-most, h .m-most)
+    let h = header-fits checker-kinds kept end e f in
+    (omega (arith, fits-one h, h .leads-least), omega (arith, fits-one h, h .leads-most, product-most (l .n) (l .m) (h .n-most) (h .m-most)), h .n-most, h .m-most)
+
+-- One of one question is one of the three kinds.
+known : {kind : ℕ} → OneKind kind → KnownKind kind
+known (OneKind.plain k) = KnownKind.plain k
+known (OneKind.stated k) = KnownKind.stated k
 
 -- A problem that is read is no longer than the longest.
-pub read-small : {s : List ℕ} {n m : ℕ} → HeaderRead s n m → (length s ≤ 16394) × (n ≤ highest-n) × (m ≤ highest-m)
+pub read-small : {s : List ℕ} {n m : ℕ} → HeaderRead s n m → (length s ≤ states-most) × (n ≤ highest-n) × (m ≤ highest-m)
 read-small {s} {n} {m} h =
-    let f = problem-fits s .0 (h .none) in
-    (omega (arith, f .size-is, product-most (nField s) (mField s) (f .n-most) (f .m-most)), omega (arith, h .n-is, f .n-most), omega (arith, h .m-is, f .m-most))
+    let f = problem-fits s (h .none) in
+    let start = leads-place-most (kindField s) (mField s) (f .m-most) (known (f .one-kind)) in
+    let one : questionsAsked (kindField s) (countField s) ≡ 1 = rw (within-asks s (h .none)) refl in
+    let rows : mField s + questionsAsked (kindField s) (countField s) ≡ suc (mField s) = omega (arith, one) in
+    let size = rw rows at (f .size-is) in
+    (omega (arith, size, start, product-most (nField s) (mField s) (f .n-most) (f .m-most)), omega (arith, h .n-is, f .n-most), omega (arith, h .m-is, f .m-most))
 
-pub kept-small : (kept : List ℕ) (end : ℕ) {n m : ℕ} → HeaderRead (take end kept) n m → end ≤ length kept → (end ≤ 16394) × (n ≤ highest-n) × (m ≤ highest-m)
+pub kept-small : (kept : List ℕ) (end : ℕ) {n m : ℕ} → HeaderRead (take end kept) n m → end ≤ length kept → (end ≤ states-most) × (n ≤ highest-n) × (m ≤ highest-m)
 kept-small kept end h l = let s = read-small h in (omega (arith, s .0, length-take-le end kept l), s .1, s .2)
 
 -- ---- long answers
@@ -110,26 +119,26 @@ module _ {kept input : List ℕ} {size end : ℕ} (longer : Longer kept size inp
   part-same : (i : ℕ) → i < end → i < kept-bytes → getD (take end input) i 0 ≡ getD kept i 0
   part-same i h k = getD-take end input i 0 h ∙ longer .begins i k
 
-  header-same : headerRefusal false (take end input) (length (take end input)) ≡ headerRefusal false kept end
+  header-same : headerRefusal checker-kinds (take end input) (length (take end input)) ≡ headerRefusal checker-kinds kept end
   header-same = rw part-length (⊎-elim
       (λ (h : problem-header ≤ end). one-agrees (take end input) kept (λ i b. part-same i (omega arith) (omega arith)) end)
-      (λ (h : end < problem-header). header-short false (take end input) end h ∙ sym (header-short false kept end h))
+      (λ (h : end < problem-header). header-short checker-kinds (take end input) end h ∙ sym (header-short checker-kinds kept end h))
       (nat-le-or-lt problem-header end))
 
   -- The header is refused,
-  pub header-turned : {header : Header} {j r : ℕ} → headerOf header ≡ headerOutcome false kept end → header ≡ Headers.Refused j → r ≡ problemRefused header
+  pub header-turned : {header : Header} {j r : ℕ} → headerOf header ≡ headerOutcome checker-kinds kept end → header ≡ Headers.Refused j → r ≡ problemRefused header
       → Judged (take end input) (drop end input) (refused r)
   unfolding refusalFor checkRefusal problemRefused
   header-turned {header} {j} {r} e f g =
-      let q = header-refuses false kept end e f in
+      let q = header-refuses checker-kinds kept end e f in
       let is : r ≡ j = g ∙ ap problemRefused f in
-      let first : headerRefusal false (take end input) (length (take end input)) ≡ j = header-same ∙ q .0 in
-      let some : 0 < headerRefusal false (take end input) (length (take end input)) = omega (arith, q .1) in
-      let whole : problemRefusal (take end input) ≡ headerRefusal false (take end input) (length (take end input)) = or-else-suc _ _ some in
+      let first : headerRefusal checker-kinds (take end input) (length (take end input)) ≡ j = header-same ∙ q .0 in
+      let some : 0 < headerRefusal checker-kinds (take end input) (length (take end input)) = omega (arith, q .1) in
+      let whole : problemRefusal (take end input) ≡ headerRefusal checker-kinds (take end input) (length (take end input)) = or-else-suc _ _ some in
       turned (take end input) (drop end input) r (or-else-suc _ _ (omega arith) ∙ whole ∙ first ∙ sym is) (omega (arith, q .1))
 
   -- as it is where the problem was not kept whole.
-  pub long-header : (header : Header) {r : ℕ} → kept-bytes < end → headerOf header ≡ headerOutcome false kept end → r ≡ problemRefused header
+  pub long-header : (header : Header) {r : ℕ} → kept-bytes < end → headerOf header ≡ headerOutcome checker-kinds kept end → r ≡ problemRefused header
       → Judged (take end input) (drop end input) (refused r)
   long-header (Headers.Told l) far e g = absurd (omega (arith, header-small kept end e refl .1))
   long-header (Headers.Refused j) far e g = header-turned e refl g
@@ -161,9 +170,9 @@ unfolding refusalFor checkRefusal
 long-past {kept} {input} {size} longer h k =
     let e = length-agrees input kept (λ i b. longer .begins i (omega arith)) in
     let cut : size ≡ cutPlace input = sym (longer .size-is) ∙ cut-past input (omega (arith, longer .size-is)) (omega (arith, longer .size-is)) in
-    let first : headerRefusal false (take size input) (length (take size input)) ≡ 2 =
-    header-same {end = size} longer (omega arith) ∙ header-length false kept size (omega arith) (λ q. omega arith) in
-    let whole : problemRefusal (take size input) ≡ headerRefusal false (take size input) (length (take size input)) = or-else-suc _ _ (omega arith) in
+    let first : headerRefusal checker-kinds (take size input) (length (take size input)) ≡ 2 =
+    header-same {end = size} longer (omega arith) ∙ header-length checker-kinds kept size (omega arith) (λ q. omega arith) in
+    let whole : problemRefusal (take size input) ≡ headerRefusal checker-kinds (take size input) (length (take size input)) = or-else-suc _ _ (omega arith) in
     judged-long input (omega (arith, longer .size-is)) cut (turned (take size input) (drop size input) 2 (or-else-suc _ _ (omega arith) ∙ whole ∙ first) (omega arith))
 
 -- It does not: the problem is cut there.

@@ -30,7 +30,7 @@ module _ (p : List ℕ) (w : WithinLayout p) where
   pub least-fits : (x : Point) (s : ℤ) → Fits (nField p) s x → (start : ℕ) → startFits class-optimal start (nField p) ≡ true → (picks : List ℕ) → length picks ≡ pickCount class-optimal (nField p) (mField p)
       → picksFit (highestPick class-optimal (nField p) (mField p)) picks ≡ true → WriterFits (leastAnswer (nField p) s x start picks) (nField p) (mField p) answer-most
   least-fits x s f start k picks e h =
-      let g = problem-fits p .0 w in
+      let g = problem-fits p w in
       record {
         n-most = g .n-most;
         m-most = g .m-most;
@@ -48,7 +48,7 @@ module _ (p : List ℕ) (w : WithinLayout p) where
       → WriterFits (blankAnswer class-infeasible start picks) (nField p) (mField p) answer-most
   unfolding spanFits is-blank stampsFit
   infeasible-fits start k picks e h =
-      let g = problem-fits p .0 w in
+      let g = problem-fits p w in
       record {
         n-most = g .n-most;
         m-most = g .m-most;
@@ -65,7 +65,7 @@ module _ (p : List ℕ) (w : WithinLayout p) where
       → WriterFits (blankAnswer class-unbounded start picks) (nField p) (mField p) answer-most
   unfolding spanFits is-blank stampsFit
   unbounded-fits start k picks e h =
-      let g = problem-fits p .0 w in
+      let g = problem-fits p w in
       record {
         n-most = g .n-most;
         m-most = g .m-most;

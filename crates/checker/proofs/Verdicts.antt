@@ -11,7 +11,7 @@ use Rattle.definitions.specs.Tropical.{Trop}
 use Rattle.definitions.specs.Bytes.{or-else, Outcome, outcome}
 use Rattle.definitions.specs.Offset.{tropOf}
 use Rattle.definitions.specs.Problem.{Problem}
-use Rattle.definitions.specs.ProblemRecord.{nField, mField, layoutOf, problemRefusal, problemOutcome, WithinLayout, problemOf}
+use Rattle.definitions.specs.ProblemRecord.{checker-kinds, nField, mField, layoutOf, problemRefusal, problemOutcome, WithinLayout, problemOf}
 use Rattle.definitions.specs.AnswerRecord.{classField, spanField, startField, answerRefusal, answerOutcome, answerOf}
 use Rattle.definitions.specs.Verdict.{Verdict, accepted, refused, Accepted, checkRefusal, not-certified, Judged, turned-away, certified, uncertified}
 use Rattle.records.specs.declared.problem.Header.{Header}
@@ -37,7 +37,7 @@ pub record HeaderRead (s : List ℕ) (n m : ℕ) : Type 0 where
   pub n-is : n ≡ nField s
   pub m-is : m ≡ mField s
 
-pub header-read : (s : List ℕ) {header : Header} {l : Layout} → headerOf header ≡ problemOutcome false s → header ≡ Headers.Told l → HeaderRead s (l .n) (l .m)
+pub header-read : (s : List ℕ) {header : Header} {l : Layout} → headerOf header ≡ problemOutcome checker-kinds s → header ≡ Headers.Told l → HeaderRead s (l .n) (l .m)
 unfolding problemOutcome
 header-read s e f =
     let r = answer-told (problemRefusal s) (layoutOf s) e f in
@@ -72,7 +72,7 @@ answer-turned p n m a zero e h = absurd (omega arith)
 answer-turned p n m a (suc k) e h = Judging.turned-away e
 
 -- The problem is refused.
-pub judged-problem : (p a : List ℕ) {j r : ℕ} {header : Header} → headerOf header ≡ problemOutcome false p → header ≡ Headers.Refused j
+pub judged-problem : (p a : List ℕ) {j r : ℕ} {header : Header} → headerOf header ≡ problemOutcome checker-kinds p → header ≡ Headers.Refused j
     → r ≡ problemRefused header → Judged p a (refused r)
 unfolding checkRefusal problemOutcome
 judged-problem p a {r = r} e f g =

@@ -1,4 +1,4 @@
-// The verdict on bytes: refusals 1 to 6, 17 and 8 to 13 first, in order; then what document 01 lists for the answer's class.
+// The verdict on bytes: refusals 1 to 5, 20, 6, 17 and 8 to 13 first, in order; then what document 01 lists for the answer's class.
 ghost use mathlib.Core.Path.{_≡_};
 ghost use Prim.Native.Nat.{ℕ, suc, _+_, _≤_, _<_};
 ghost use lib.IntN.{ℤ};
@@ -13,6 +13,7 @@ ghost use Rattle.definitions.specs.Certificate.{Second, startOf, AnchorAnd, Acc
 ghost use Rattle.definitions.specs.Verdict.{Accepted, Judged, strategyOf};
 ghost use Rattle.records.specs.Stamps.{Stamped, stampsPoint};
 ghost use Rattle.problem_records.specs.Tables.{Laid};
+ghost use Rattle.problem_records.specs.InForce.{StatesHeld, InForce};
 ghost use Rattle.reach.specs.Marks.{Flags, Begins};
 ghost use Rattle.closed_walks.specs.Tables.{Picked};
 ghost use Rattle.checker.specs.Outcome.{verdictOf, answerRefused, Span, Meant, Formed, Answered};
@@ -22,6 +23,7 @@ use answer_reader::answer::read_answer;
 use plan_tests::keeps_rules;
 use plan_tests::lower_point;
 use plan_tests::value_is;
+use problem_records::in_force::in_force;
 use problem_records::reader::judge_problem;
 use problem_records::reader::read_tables;
 use reach::anchor_and;
@@ -32,9 +34,11 @@ use records::limits::OFFSET;
 use records::limits::OPTIMAL;
 use records::limits::ROWS;
 use records::limits::SPAN_LIMIT;
+use records::limits::STATES_KIND;
 use records::limits::STRIDE;
 use records::limits::TABLE;
 use records::limits::UNBOUNDED;
+use records::problem::CHECKER_KINDS;
 use records::problem::Header;
 use records::problem::problem_refusal;
 use strategy_tests::certify::certify_rows;
@@ -163,14 +167,34 @@ fn check_answer(problem: &[u8], n: usize, m: usize, answer: &[u8]) -> Verdict
     Verdict::Refused(NOT_CERTIFIED)
 }
 
+// The verdict on an answer for a problem of kind 5, from its rules in force.
+fn check_room(problem: &[u8], room: &[u8], n: usize, m: usize, answer: &[u8]) -> Verdict
+    requires { ⌜ StatesHeld (now problem) n m × InForce (now problem) n m (now room) ⌝ }
+    ensures { λ r. ⌜ Answered (problemOf (now (problem .entry))) n m (now (answer .entry)) (verdictOf r) ⌝ }
+{
+    check_answer(room, n, m, answer)
+}
+
+// The verdict on an answer for a problem of kind 5 within the layout: judged by its rules in force, which are laid out as kind 1.
+fn check_in_force(problem: &[u8], n: usize, m: usize, answer: &[u8]) -> Verdict
+    requires { ⌜ StatesHeld (now problem) n m ⌝ }
+    ensures { λ r. ⌜ Answered (problemOf (now (problem .entry))) n m (now (answer .entry)) (verdictOf r) ⌝ }
+{
+    let room = in_force(problem, n, m);
+    check_room(problem, &room, n, m, answer)
+}
+
 // The verdict on a problem record and the bytes of an answer.
 fn check_record(problem: &[u8], answer: &[u8]) -> Verdict
     ensures { λ r. ⌜ Judged (now (problem .entry)) (now (answer .entry)) (verdictOf r) ⌝ }
 {
-    let header = judge_problem(problem, false);
+    let header = judge_problem(problem, CHECKER_KINDS);
     let Header::Told(layout) = header else {
         return Verdict::Refused(problem_refusal(header));
     };
+    if layout.kind == STATES_KIND {
+        return check_in_force(problem, layout.n, layout.m, answer);
+    }
     check_answer(problem, layout.n, layout.m, answer)
 }
 

@@ -22,6 +22,7 @@ use records::limits::KEPT;
 use records::limits::LENGTH_BYTES;
 use records::limits::LENGTH_PLACE;
 use records::limits::REFUSED_LENGTH;
+use records::problem::CHECKER_KINDS;
 use records::problem::Header;
 use records::problem::problem_refusal;
 use records::problem::read_header;
@@ -66,9 +67,9 @@ fn judge_long(kept: &[u8], size: usize, end: usize) -> Verdict
     ensures { λ r. ⌜ ((input : List ℕ) → Longer (now (kept .entry)) size input → Judged (take end input) (drop end input) (verdictOf r)) ⌝ }
 {
     if KEPT < end {
-        return Verdict::Refused(problem_refusal(read_header(kept, end, false)));
+        return Verdict::Refused(problem_refusal(read_header(kept, end, CHECKER_KINDS)));
     }
-    let header = judge_problem(&kept[..end], false);
+    let header = judge_problem(&kept[..end], CHECKER_KINDS);
     let Header::Told(layout) = header else {
         return Verdict::Refused(problem_refusal(header));
     };

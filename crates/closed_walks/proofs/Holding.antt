@@ -5,12 +5,12 @@ use native.Mathlib.Omega.{arith}
 use Rattle.definitions.specs.Problem.{Problem}
 use Rattle.definitions.specs.ProblemRecord.{problemOf}
 use Rattle.problem_records.specs.Tables.{leftTable, rightTable, Laid}
-use Rattle.problem_records.proofs.LeadTables.{problem-decoded}
+use Rattle.problem_records.proofs.LeadTables.{fit-decoded, laid-fit}
 use Rattle.closed_walks.specs.Tables.{Sized, DecodedAs}
 
 pub laid-holds : {s : List ℕ} {n m : ℕ} → Laid s n m → DecodedAs (problemOf s) (leftTable s) (rightTable s) n m
 unfolding problemOf
-laid-holds {s} l = record { n-is = l .n-is; m-is = l .m-is; decoded = problem-decoded s (l .bytes) (l .within) }
+laid-holds {s} l = record { n-is = l .n-is; m-is = l .m-is; decoded = fit-decoded s (l .bytes) (laid-fit l) }
 
 -- Tables that hold a problem are sized for it.
 pub holds-sized : {p : Problem} {left right : List ℕ} {n m : ℕ} → DecodedAs p left right n m → Sized left right n m

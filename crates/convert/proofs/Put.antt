@@ -9,7 +9,7 @@ use lib.Seq.{length-take-le}
 use borrow.Author.Tests.{le-ltb}
 use Rattle.definitions.specs.Limits.{length-bytes}
 use Rattle.definitions.specs.Bytes.{Bytes, or-else}
-use Rattle.definitions.specs.ProblemRecord.{lengthField, headerRefusal}
+use Rattle.definitions.specs.ProblemRecord.{converter-kinds, lengthField, headerRefusal}
 use Rattle.definitions.specs.AnswerRecord.{written}
 use Rattle.definitions.specs.Programs as Programs
 use Rattle.definitions.specs.Programs.{refusedLine, KeptOf, ReadFrom, read-most}
@@ -80,8 +80,8 @@ far-stored : {s : List ℕ} → Bytes s → read-most ≤ length s → storedRef
 unfolding storedRefusal
 far-stored {s} b h =
     let small = numAt-bound length-bytes 0 b in
-    let two = header-length true s (length s) (omega arith) (λ e. omega arith) in
-    or-else-suc (headerRefusal true s (length s)) _ (omega arith) ∙ two
+    let two = header-length converter-kinds s (length s) (omega arith) (λ e. omega arith) in
+    or-else-suc (headerRefusal converter-kinds s (length s)) _ (omega arith) ∙ two
 
 far-output : (input other : List ℕ) → Bytes input → Bytes other → read-most ≤ length input → read-most ≤ length other → {output : List ℕ} → ConvertOutput other output → ConvertOutput input output
 far-output input other b c h g (refusal e) = refusal (far-stored b h ∙ sym (far-stored c g) ∙ e)

@@ -13,16 +13,18 @@ use borrow.Author.Tests.{lt-ltb, le-ltb, ne-eqb}
 use Rattle.base.proofs.Numbers.{nat-le-or-lt}
 use Rattle.definitions.specs.Limits.{highest-n, highest-m, lead-limit, length-bytes, short-bytes, signed-bytes, kind-place, m-place, problem-header, questions-header, problem-kind, questions-kind, most-questions}
 use Rattle.definitions.specs.Bytes.{Bytes, numAt, le, tropField, tropAt, all, blank-or-within}
-use Rattle.definitions.specs.ProblemRecord.{lengthField, kindField, nField, mField, countField, leadsPlace, questionsAsked, recordSize, wrong-count, rowPlace, blank-left, leadsOf, silentRefused, WithinLayouts}
+use Rattle.definitions.specs.ProblemRecord.{Kinds, converter-kinds, engine-kinds, refusalFor, lengthField, kindField, nField, mField, countField, leadsPlace, questionsAsked, recordSize, wrong-count, rowPlace, blank-left, leadsOf, silentRefused, WithinLayouts}
 use Rattle.definitions.specs.Questions.{part, rowsSize}
+use Rattle.definitions.specs.Selection.{leftAt}
 use Rattle.definitions.specs.Conversion.{storedRefusal, rulesLeft, rowsLeft, convertedSize, questionRows, converted}
 use Rattle.definitions.proofs.Bytes.{numAt-same, numAt-back, length-le, all-numsAt, bytes-append, bytes-le, bytes-take, bytes-drop}
-use Rattle.definitions.proofs.Refusals.{HeaderPasses, header-passes, record-fits, few-questions, kind-either, or-else-none, passes-clause}
+use Rattle.definitions.proofs.Refusals.{HeaderPasses, header-passes, record-fits, few-questions, kind-stored, or-else-none, passes-clause}
 use Rattle.definitions.proofs.RoundTrip.{num-here}
 use Rattle.definitions.proofs.Silent.{none-below, run-same}
 use Rattle.definitions.proofs.Questions.{part-length, part-at}
 use Rattle.converter.specs.Steps.{headLeft}
-use Rattle.converter.proofs.Rows.{chosen, left-most, chosen-inside, chosen-speaks, row-inside, rows-length, rows-at}
+use Rattle.definitions.proofs.Chosen.{left-most, left-inside, left-stays}
+use Rattle.converter.proofs.Rows.{row-inside, rows-length, rows-at}
 
 -- A count of 1 to 8 is not wrong.
 few-right : (size count : ℕ) → 0 < count → count ≤ most-questions → (leb questions-header size && (eqb count 0 || ltb most-questions count)) ≡ false
@@ -54,16 +56,16 @@ converted-parts s = simp append-assoc
 
 -- A record that only 17 may refuse.
 pub record StoredFits (s : List ℕ) : Type 0 where
-  pub header : HeaderPasses true s (length s)
+  pub header : HeaderPasses converter-kinds s (length s)
   pub leads-fit : all (blank-or-within lead-limit) (leadsOf s) ≡ true
 
 pub stored-fits : (s : List ℕ) → storedRefusal s ≡ 0 → StoredFits s
 unfolding storedRefusal
 stored-fits s e =
     let h = or-else-none _ _ .0 e in
-    record { header = header-passes true s (length s) .0 (h .0); leads-fit = passes-clause (all (blank-or-within lead-limit) (leadsOf s)) _ _ .0 (h .1) .0 }
+    record { header = header-passes converter-kinds s (length s) .0 (h .0); leads-fit = passes-clause (all (blank-or-within lead-limit) (leadsOf s)) _ _ .0 (h .1) .0 }
 
-module _ (s : List ℕ) (h : HeaderPasses true s (length s)) where
+module _ (s : List ℕ) (h : HeaderPasses converter-kinds s (length s)) where
   -- Abbreviations: how many rules stay, how many questions are asked, where the leads start.
   abbrev left : ℕ
   left = rulesLeft s (mField s)
@@ -72,16 +74,23 @@ module _ (s : List ℕ) (h : HeaderPasses true s (length s)) where
   asked = questionsAsked (kindField s) (countField s)
 
   abbrev from : ℕ
-  from = leadsPlace (kindField s)
+  from = leadsPlace (kindField s) (mField s)
 
   either : (kindField s ≡ problem-kind) ⊎ (kindField s ≡ questions-kind)
-  either = kind-either (kindField s) (h .kind-known)
+  either = kind-stored (kindField s) (h .kind-known)
 
   pub from-least : problem-header ≤ from
   from-least = ⊎-elim (λ (k : kindField s ≡ problem-kind). rw k (omega arith)) (λ (k : kindField s ≡ questions-kind). rw k (omega arith)) either
 
   pub from-most : from ≤ questions-header
   from-most = ⊎-elim (λ (k : kindField s ≡ problem-kind). rw k (omega arith)) (λ (k : kindField s ≡ questions-kind). rw k (omega arith)) either
+
+  -- These kinds have no states: the leads start there, whatever the number of rules.
+  start-same : (m : ℕ) → leadsPlace (kindField s) m ≡ from
+  start-same m = ⊎-elim (λ (k : kindField s ≡ problem-kind). rw k refl) (λ (k : kindField s ≡ questions-kind). rw k refl) either
+
+  pub size-from : convertedSize s ≡ from + 2 * signed-bytes * (suc (nField s) * (left + asked))
+  size-from = ap (λ (x : ℕ). x + 2 * signed-bytes * (suc (nField s) * (left + asked))) (start-same left)
 
   pub asked-least : 0 < asked
   asked-least = ⊎-elim
@@ -118,15 +127,15 @@ module _ (s : List ℕ) (h : HeaderPasses true s (length s)) where
   converted-length =
       let head : List ℕ = headLeft s (convertedSize s - length-bytes) left in
       ap length (converted-parts s)
-      ∙ omega (arith, length-append head (rowsLeft s (mField s) ++ questionRows s), length-append (rowsLeft s (mField s)) (questionRows s), head-length (convertedSize s - length-bytes) left, rows-length s h (mField s) (omega arith), questions-length)
+      ∙ omega (arith, size-from, length-append head (rowsLeft s (mField s) ++ questionRows s), length-append (rowsLeft s (mField s)) (questionRows s), head-length (convertedSize s - length-bytes) left, rows-length s h (mField s) (omega arith), questions-length)
 
   pub converted-most : convertedSize s ≤ 18188
   converted-most =
       let wide = mul-le-mul-right {m = suc (nField s)} {n = 32} (left + asked) (omega (arith, h .n-most)) in
-      omega (arith, wide, left-most s (mField s), h .m-most, asked-most, from-most)
+      omega (arith, size-from, wide, left-most (blank-left s) (mField s), h .m-most, asked-most, from-most)
 
   pub converted-least : problem-header ≤ convertedSize s
-  converted-least = omega (arith, from-least)
+  converted-least = omega (arith, size-from, from-least)
 
   -- ---- its fields
 
@@ -163,7 +172,7 @@ module _ (s : List ℕ) (h : HeaderPasses true s (length s)) where
       ∙ numAt-back k (part s kind-place (m-place - kind-place)) _ 4 at kind-part
 
   pub converted-m : mField (converted s) ≡ left
-  converted-m = behind-n short-bytes 0 ∙ num-here short-bytes left _ (omega (arith, left-most s (mField s), h .m-most))
+  converted-m = behind-n short-bytes 0 ∙ num-here short-bytes left _ (omega (arith, left-most (blank-left s) (mField s), h .m-most))
 
   pub converted-count : kindField s ≡ questions-kind → countField (converted s) ≡ countField s
   converted-count k =
@@ -187,9 +196,9 @@ module _ (s : List ℕ) (h : HeaderPasses true s (length s)) where
 
   -- Row i of the converted record is this row of the record.
   unfoldable pub rowLeft : ℕ → ℕ
-  rowLeft i = cond (ltb i left) (chosen s (mField s) i) (mField s + (i - left))
+  rowLeft i = cond (ltb i left) (leftAt (blank-left s) (mField s) i) (mField s + (i - left))
 
-  pub row-rule : (i : ℕ) → i < left → rowLeft i ≡ chosen s (mField s) i
+  pub row-rule : (i : ℕ) → i < left → rowLeft i ≡ leftAt (blank-left s) (mField s) i
   unfolding rowLeft
   row-rule i l = rw (lt-ltb i left l)
 
@@ -200,7 +209,7 @@ module _ (s : List ℕ) (h : HeaderPasses true s (length s)) where
   pub row-one : (i : ℕ) → i < left + asked → rowLeft i < mField s + asked
   row-one i l = ⊎-elim
       (λ (q : left ≤ i). let e : i ≡ left + (i - left) = omega arith in rw e (rw (row-question (i - left)) (omega arith)))
-      (λ (q : i < left). rw (row-rule i q) (omega (arith, chosen-inside s (mField s) i q)))
+      (λ (q : i < left). rw (row-rule i q) (omega (arith, left-inside (blank-left s) (mField s) i q)))
       (nat-le-or-lt left i)
 
   behind-head : (k : ℕ) → getD (converted s) (from + k) 0 ≡ getD (rowsLeft s (mField s) ++ questionRows s) k 0
@@ -247,13 +256,13 @@ module _ (s : List ℕ) (h : HeaderPasses true s (length s)) where
 
   -- ---- nothing refuses it
 
-  pub converted-header : HeaderPasses true (converted s) (length (converted s))
+  pub converted-header : HeaderPasses converter-kinds (converted s) (length (converted s))
   converted-header = record {
     size-enough = rw converted-length converted-least;
     length-is = rw (converted-length, converted-length-field) (omega (arith, converted-least));
     kind-known = rw converted-kind (h .kind-known);
     n-most = rw converted-n (h .n-most);
-    m-most = rw converted-m (omega (arith, left-most s (mField s), h .m-most));
+    m-most = rw converted-m (omega (arith, left-most (blank-left s) (mField s), h .m-most));
     count-right = right;
     size-is = rw (converted-length, converted-n, converted-m) sizes;
   }
@@ -267,20 +276,24 @@ module _ (s : List ℕ) (h : HeaderPasses true s (length s)) where
           rw (converted-kind, converted-count k, k) (few-right (length (converted s)) (countField s) (c .some) (c .few)))
           either
 
-      sizes : convertedSize s ≡ leadsPlace (kindField (converted s)) + 2 * signed-bytes * (suc (nField s) * (left + questionsAsked (kindField (converted s)) (countField (converted s))))
+      sizes : convertedSize s ≡ leadsPlace (kindField (converted s)) left + 2 * signed-bytes * (suc (nField s) * (left + questionsAsked (kindField (converted s)) (countField (converted s))))
       sizes = rw (converted-asked, converted-kind) refl
+
+  -- Its leads start where those of the record do.
+  pub from-converted : leadsPlace (kindField (converted s)) (mField (converted s)) ≡ from
+  from-converted = rw converted-kind (start-same (mField (converted s)))
 
   -- Its rules are rules that stay.
   pub converted-blank : (i : ℕ) → i < left → blank-left (converted s) i ≡ blank-left s (rowLeft i)
   converted-blank i l =
-      rw (converted-kind, converted-n)
+      rw (from-converted, converted-n)
       (run-same (converted s) s (suc (nField s)) (rowPlace from (nField s) i) (rowPlace from (nField s) (rowLeft i)) (λ j g.
       row-lead i (signed-bytes * j) (omega arith) (omega arith)))
 
   pub converted-speaks : silentRefused (converted s) ≡ false
   converted-speaks = none-below (blank-left (converted s)) (mField (converted s)) .1 (λ i l.
       let g : i < left = rw converted-m at l in
-      converted-blank i g ∙ rw (row-rule i g) (chosen-speaks s (mField s) i g))
+      converted-blank i g ∙ rw (row-rule i g) (left-stays (blank-left s) (mField s) i g))
 
   -- Lead k of row i, of the left ones and the right ones counted together.
   lead-left : (i k : ℕ) → i < left + asked → k < 2 * suc (nField s)
@@ -295,7 +308,7 @@ module _ (s : List ℕ) (h : HeaderPasses true s (length s)) where
   unfolding leadsOf tropAt
   converted-leads fit =
       let every = all-numsAt (blank-or-within lead-limit) tropField signed-bytes (2 * (suc (nField s) * (mField s + asked))) s from .0 fit in
-      rw (converted-asked, converted-kind, converted-n, converted-m)
+      rw (from-converted, converted-asked, converted-n, converted-m)
       (all-numsAt (blank-or-within lead-limit) tropField signed-bytes (2 * (suc (nField s) * (left + asked))) (converted s) from .1 (λ k l.
       let c = divided (2 * suc (nField s)) k (left + asked) (omega arith) in
       let r = row-one (c .turns) (c .few) in
@@ -303,13 +316,34 @@ module _ (s : List ℕ) (h : HeaderPasses true s (length s)) where
       omega (arith, c .small, mul-le-mul-right {m = suc (rowLeft (c .turns))} {n = mField s + asked} (suc (nField s)) r) in
       rw (c .is) (rw (lead-left (c .turns) (c .rest) (c .few) (c .small)) (every (rowLeft (c .turns) * (2 * suc (nField s)) + c .rest) inside))))
 
--- So the engine takes it.
-pub converted-within : (s : List ℕ) → StoredFits s → WithinLayouts (converted s)
-converted-within s f = record-fits true (converted s) .1 (record {
-  header = converted-header s (f .header);
+-- The engine knows the converter's kinds.
+taken : {s : List ℕ} {size : ℕ} → HeaderPasses converter-kinds s size → HeaderPasses engine-kinds s size
+taken {s} h = record {
+  size-enough = h .size-enough;
+  length-is = h .length-is;
+  kind-known = ⊎-elim (λ (k : kindField s ≡ problem-kind). rw k refl) (λ (k : kindField s ≡ questions-kind). rw k refl) (kind-stored (kindField s) (h .kind-known));
+  n-most = h .n-most;
+  m-most = h .m-most;
+  count-right = h .count-right;
+  size-is = h .size-is;
+}
+
+-- So whoever knows its kind takes it,
+converted-by : (kinds : Kinds) (s : List ℕ) → StoredFits s → HeaderPasses kinds (converted s) (length (converted s)) → refusalFor kinds (converted s) ≡ 0
+converted-by kinds s f passes = record-fits kinds (converted s) .1 (record {
+  header = passes;
+  states-fit = ⊎-elim (λ (k : kindField (converted s) ≡ problem-kind). rw k refl) (λ (k : kindField (converted s) ≡ questions-kind). rw k refl) (kind-stored (kindField (converted s)) (converted-header s (f .header) .kind-known));
   leads-fit = converted-leads s (f .header) (f .leads-fit);
   rules-speak = converted-speaks s (f .header);
 })
+
+-- the engine,
+pub converted-within : (s : List ℕ) → StoredFits s → WithinLayouts (converted s)
+converted-within s f = converted-by engine-kinds s f (taken (converted-header s (f .header)))
+
+-- and the converter itself finds no rule to drop.
+pub converted-stored : (s : List ℕ) → StoredFits s → refusalFor converter-kinds (converted s) ≡ 0
+converted-stored s f = converted-by converter-kinds s f (converted-header s (f .header))
 
 -- Its bytes are bytes.
 rows-bytes : (s : List ℕ) → Bytes s → (k : ℕ) → Bytes (rowsLeft s k)
@@ -317,9 +351,9 @@ unfolding rowsLeft
 rows-bytes s b zero = bytes-take 0 b
 rows-bytes s b (suc k) = bytes-append (rows-bytes s b k) (go (blank-left s k))
   where
-    go : (t : Bool) → Bytes (cond t [] (part s (rowPlace (leadsPlace (kindField s)) (nField s) k) (rowsSize (nField s) 1)))
+    go : (t : Bool) → Bytes (cond t [] (part s (rowPlace (leadsPlace (kindField s) (mField s)) (nField s) k) (rowsSize (nField s) 1)))
     go true = bytes-take 0 b
-    go false = bytes-take (rowsSize (nField s) 1) (bytes-drop (rowPlace (leadsPlace (kindField s)) (nField s) k) b)
+    go false = bytes-take (rowsSize (nField s) 1) (bytes-drop (rowPlace (leadsPlace (kindField s) (mField s)) (nField s) k) b)
 
 pub converted-bytes : (s : List ℕ) → Bytes s → Bytes (converted s)
 unfolding converted
@@ -327,6 +361,6 @@ converted-bytes s b =
     bytes-append (bytes-le length-bytes _)
     (bytes-append (bytes-take (m-place - kind-place) (bytes-drop kind-place b))
     (bytes-append (bytes-le short-bytes _)
-    (bytes-append (bytes-take (leadsPlace (kindField s) - problem-header) (bytes-drop problem-header b))
+    (bytes-append (bytes-take (leadsPlace (kindField s) (mField s) - problem-header) (bytes-drop problem-header b))
     (bytes-append (rows-bytes s b (mField s))
-    (bytes-take (rowsSize (nField s) (questionsAsked (kindField s) (countField s))) (bytes-drop (rowPlace (leadsPlace (kindField s)) (nField s) (mField s)) b))))))
+    (bytes-take (rowsSize (nField s) (questionsAsked (kindField s) (countField s))) (bytes-drop (rowPlace (leadsPlace (kindField s) (mField s)) (nField s) (mField s)) b))))))

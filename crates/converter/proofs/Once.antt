@@ -8,8 +8,9 @@ use lib.ListN.{length, take, drop}
 use lib.Seq.{take-add, drop-drop, take-all}
 use Rattle.definitions.specs.Limits.{length-bytes, short-bytes, signed-bytes, kind-place, m-place, problem-header}
 use Rattle.definitions.specs.Bytes.{Bytes, le}
-use Rattle.definitions.specs.ProblemRecord.{lengthField, kindField, nField, mField, countField, leadsPlace, questionsAsked, recordSize, rowPlace, blank-left, silentRefused, WithinLayouts}
+use Rattle.definitions.specs.ProblemRecord.{converter-kinds, lengthField, kindField, nField, mField, countField, leadsPlace, questionsAsked, recordSize, rowPlace, blank-left, silentRefused, refusalFor}
 use Rattle.definitions.specs.Questions.{part, rowsSize}
+use Rattle.definitions.specs.Selection.{leftBelow}
 use Rattle.definitions.specs.Conversion.{rulesLeft, rowsLeft, convertedSize, questionRows, converted}
 use Rattle.definitions.proofs.Bytes.{le-num}
 use Rattle.definitions.proofs.Refusals.{HeaderPasses, RecordFits, record-fits}
@@ -20,24 +21,24 @@ use Rattle.converter.proofs.Converted.{from-least}
 part-part : (s : List ℕ) (from first second : ℕ) → part s from first ++ part s (from + first) second ≡ part s from (first + second)
 part-part s from first second = rw (take-add first second (drop from s), drop-drop first from s) refl
 
-module _ (s : List ℕ) (h : HeaderPasses true s (length s)) (speak : (i : ℕ) → i < mField s → blank-left s i ≡ false) where
+module _ (s : List ℕ) (h : HeaderPasses converter-kinds s (length s)) (speak : (i : ℕ) → i < mField s → blank-left s i ≡ false) where
   -- All rules stay, and their rows stand as they stood.
   pub all-left : (k : ℕ) → k ≤ mField s → rulesLeft s k ≡ k
-  unfolding rulesLeft
+  unfolding leftBelow
   all-left zero l = refl
   all-left (suc k) l = rw (speak k (omega arith), all-left k (omega arith)) (omega arith)
 
-  rows-all : (k : ℕ) → k ≤ mField s → rowsLeft s k ≡ part s (leadsPlace (kindField s)) (rowsSize (nField s) k)
+  rows-all : (k : ℕ) → k ≤ mField s → rowsLeft s k ≡ part s (leadsPlace (kindField s) (mField s)) (rowsSize (nField s) k)
   unfolding rowsLeft
   rows-all zero l = let e : rowsSize (nField s) 0 ≡ 0 = omega arith in rw e refl
   rows-all (suc k) l =
       let e : rowsSize (nField s) (suc k) ≡ rowsSize (nField s) k + rowsSize (nField s) 1 = omega arith in
-      rw (speak k (omega arith), rows-all k (omega arith), e) (part-part s (leadsPlace (kindField s)) (rowsSize (nField s) k) (rowsSize (nField s) 1))
+      rw (speak k (omega arith), rows-all k (omega arith), e) (part-part s (leadsPlace (kindField s) (mField s)) (rowsSize (nField s) k) (rowsSize (nField s) 1))
 
   pub converted-itself : Bytes s → converted s ≡ s
   unfolding converted
   converted-itself b =
-      let from : ℕ = leadsPlace (kindField s) in
+      let from : ℕ = leadsPlace (kindField s) (mField s) in
       let rows : ℕ = rowsSize (nField s) (mField s) in
       let ends : ℕ = rowsSize (nField s) (questionsAsked (kindField s) (countField s)) in
       let least = from-least s h in
@@ -55,8 +56,8 @@ module _ (s : List ℕ) (h : HeaderPasses true s (length s)) (speak : (i : ℕ) 
       let f = part-part s 0 4 (4 + (2 + ((from - 10) + (rows + ends)))) in
       rw (long, many, rows-all (mField s) (omega arith), a, c, d, e, f, size) (take-all (length s) s (omega arith))
 
--- A record that the engine takes stays as it is.
-pub stays : (s : List ℕ) → Bytes s → WithinLayouts s → converted s ≡ s
+-- A record of these kinds that the engine takes stays as it is.
+pub stays : (s : List ℕ) → Bytes s → refusalFor converter-kinds s ≡ 0 → converted s ≡ s
 stays s b w =
-    let r = record-fits true s .0 w in
+    let r = record-fits converter-kinds s .0 w in
     converted-itself s (r .header) (none-below (blank-left s) (mField s) .0 (r .rules-speak)) b

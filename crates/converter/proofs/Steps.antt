@@ -9,9 +9,10 @@ use native.Mathlib.Nat.{mul-le-mul-left, mul-le-mul-right}
 use lib.ListN.{length, take, drop, length-append}
 use Rattle.definitions.specs.Limits.{length-bytes, short-bytes, signed-bytes, kind-place, m-place, problem-header}
 use Rattle.definitions.specs.Bytes.{le, put, or-else, outcome}
-use Rattle.definitions.specs.ProblemRecord.{kindField, nField, mField, countField, leadsPlace, questionsAsked, rowPlace, runBlank, blank-left, layoutOf}
+use Rattle.definitions.specs.ProblemRecord.{converter-kinds, kindField, nField, mField, countField, leadsPlace, questionsAsked, rowPlace, runBlank, blank-left, layoutOf}
 use Rattle.definitions.specs.Questions.{part, rowsSize}
 use Rattle.definitions.specs.AnswerRecord.{written}
+use Rattle.definitions.specs.Selection.{leftBelow}
 use Rattle.definitions.specs.Conversion.{storedRefusal, rulesLeft, rowsLeft, convertedSize, questionRows, converted, convertRefusal, Converts}
 use Rattle.definitions.proofs.Bytes.{length-le}
 use Rattle.definitions.proofs.Put.{put-nil, put-put, length-put}
@@ -21,11 +22,12 @@ use Rattle.printing.specs.Text.{Putting}
 use Rattle.records.specs.declared.problem.Layout.{Layout}
 use Rattle.problem_records.proofs.ReadProblem.{Leads-told}
 use Rattle.converter.specs.Steps.{Stored, headLeft, PutAt}
-use Rattle.converter.proofs.Rows.{left-most, left-grows, rows-length}
-use Rattle.converter.proofs.Converted.{from-most, converted-parts, head-length}
+use Rattle.definitions.proofs.Chosen.{left-most, left-grows}
+use Rattle.converter.proofs.Rows.{rows-length}
+use Rattle.converter.proofs.Converted.{size-from, from-most, converted-parts, head-length}
 
 -- A record whose leads fit is stored.
-pub stored-of : {s : List ℕ} {l : Layout} → Leads-told true s l → Stored s l
+pub stored-of : {s : List ℕ} {l : Layout} → Leads-told converter-kinds s l → Stored s l
 stored-of {s} t = record {
   none = t .fits .none;
   n-is = t .fits .n-is;
@@ -36,7 +38,7 @@ stored-of {s} t = record {
   m-most = t .fits .m-most;
   questions-most = t .fits .questions-most;
   leads-least = t .fits .leads-least;
-  leads-most = rw (t .fits .leads-is) (from-most s (header-passes true s (length s) .0 (t .fits .none)));
+  leads-most = rw (t .fits .leads-is) (from-most s (header-passes converter-kinds s (length s) .0 (t .fits .none)));
   size-is = t .fits .size-is;
 }
 
@@ -48,22 +50,22 @@ part-put s from count h p =
     record { size-is = size; next-is = omega (arith, p .next-is, size); after-is = p .after-is; kept = p .kept }
 
 module _ {s : List ℕ} {l : Layout} (st : Stored s l) where
-  passes : HeaderPasses true s (length s)
-  passes = header-passes true s (length s) .0 (st .none)
+  passes : HeaderPasses converter-kinds s (length s)
+  passes = header-passes converter-kinds s (length s) .0 (st .none)
 
   -- The left list that is looked at is the rule's.
-  rule-blank : (k from : ℕ) {b : Bool} → from ≡ rowPlace (leadsPlace (kindField s)) (nField s) k → b ≡ runBlank s (l .n + 1) from → blank-left s k ≡ b
+  rule-blank : (k from : ℕ) {b : Bool} → from ≡ rowPlace (leadsPlace (kindField s) (mField s)) (nField s) k → b ≡ runBlank s (l .n + 1) from → blank-left s k ≡ b
   rule-blank k from e f =
       let wide : l .n + 1 ≡ suc (nField s) = omega (arith, st .n-is) in
       sym (rw (wide, e) at f)
 
   -- Row k lies inside, and the next starts behind it.
-  row-ends : (k from : ℕ) → from ≡ rowPlace (leadsPlace (kindField s)) (nField s) k → k < l .m → from + 2 * 4 * (l .n + 1) ≤ length s
+  row-ends : (k from : ℕ) → from ≡ rowPlace (leadsPlace (kindField s) (mField s)) (nField s) k → k < l .m → from + 2 * 4 * (l .n + 1) ≤ length s
   row-ends k from e h =
       let start : from ≡ l .leads + 2 * 4 * (k * suc (l .n)) = rw (st .n-is, st .leads-is) e in
       omega (arith, start, st .size-is, mul-le-mul-right {m = suc k} {n = l .m + l .questions} (suc (l .n)) (omega arith))
 
-  row-next : (k from : ℕ) → from ≡ rowPlace (leadsPlace (kindField s)) (nField s) k → from + 2 * 4 * (l .n + 1) ≡ rowPlace (leadsPlace (kindField s)) (nField s) (k + 1)
+  row-next : (k from : ℕ) → from ≡ rowPlace (leadsPlace (kindField s) (mField s)) (nField s) k → from + 2 * 4 * (l .n + 1) ≡ rowPlace (leadsPlace (kindField s) (mField s)) (nField s) (k + 1)
   row-next k from e = let wide : l .n + 1 ≡ suc (nField s) = omega (arith, st .n-is) in rw wide (omega (arith, e))
 
 -- ---- counting
@@ -71,12 +73,12 @@ module _ {s : List ℕ} {l : Layout} (st : Stored s l) where
 -- Of the first k rules so many stay; the next row starts at a place.
 pub record Counting (s : List ℕ) (k from left : ℕ) : Type 0 where
   pub inside : k ≤ mField s
-  pub place : from ≡ rowPlace (leadsPlace (kindField s)) (nField s) k
+  pub place : from ≡ rowPlace (leadsPlace (kindField s) (mField s)) (nField s) k
   pub left-is : left ≡ rulesLeft s k
 
 module _ {s : List ℕ} {l : Layout} (st : Stored s l) where
   pub counting-none : Counting s 0 (l .leads) 0
-  unfolding rulesLeft
+  unfolding leftBelow
   counting-none = record { inside = omega arith; place = rw (← st .leads-is) (omega arith); left-is = refl }
 
   module _ {k from left : ℕ} (c : Counting s k from left) where
@@ -84,10 +86,10 @@ module _ {s : List ℕ} {l : Layout} (st : Stored s l) where
     counting-inside h = row-ends st k from (c .place) h
 
     pub counting-few : left ≤ k
-    counting-few = omega (arith, c .left-is, left-most s k)
+    counting-few = omega (arith, c .left-is, left-most (blank-left s) k)
 
     pub counting-more : {b : Bool} {r : ℕ} → k < l .m → b ≡ runBlank s (l .n + 1) from → r ≡ cond b 0 1 → Counting s (k + 1) (from + 2 * 4 * (l .n + 1)) (left + r)
-    unfolding rulesLeft
+    unfolding leftBelow
     counting-more {b} {r} h e f =
         let next : k + 1 ≡ suc k = omega arith in
         record {
@@ -99,14 +101,14 @@ module _ {s : List ℕ} {l : Layout} (st : Stored s l) where
     pub counting-end : l .m ≤ k → (left ≡ rulesLeft s (mField s)) × (left ≤ l .m)
     counting-end h =
         let e : k ≡ mField s = omega (arith, c .inside, st .m-is) in
-        (rw e at (c .left-is), omega (arith, c .left-is, left-most s k, st .m-is))
+        (rw e at (c .left-is), omega (arith, c .left-is, left-most (blank-left s) k, st .m-is))
 
 -- ---- copying
 
 -- The rows of the first k rules that stay are put from a place on; the next row starts at a place.
 pub record Copying (s before : List ℕ) (at k from to : ℕ) (out : List ℕ) : Type 0 where
   pub inside : k ≤ mField s
-  pub place : from ≡ rowPlace (leadsPlace (kindField s)) (nField s) k
+  pub place : from ≡ rowPlace (leadsPlace (kindField s) (mField s)) (nField s) k
   pub to-is : to ≡ at + length (rowsLeft s k)
   pub out-is : out ≡ put before at (rowsLeft s k)
   pub kept : length out ≡ length before
@@ -133,7 +135,7 @@ module _ {s : List ℕ} {l : Layout} (st : Stored s l) where
         let next : k + 1 ≡ suc k = omega arith in
         rw (next, rule-blank st k from (c .place) e) (go b f)
       where
-        go : (b : Bool) → r ≡ cond b 0 1 → rowsLeft s k ++ cond b [] (part s (rowPlace (leadsPlace (kindField s)) (nField s) k) (rowsSize (nField s) 1)) ≡ rowsLeft s k ++ part s from (2 * 4 * (l .n + 1) * r)
+        go : (b : Bool) → r ≡ cond b 0 1 → rowsLeft s k ++ cond b [] (part s (rowPlace (leadsPlace (kindField s) (mField s)) (nField s) k) (rowsSize (nField s) 1)) ≡ rowsLeft s k ++ part s from (2 * 4 * (l .n + 1) * r)
         go true d = let none : 2 * 4 * (l .n + 1) * r ≡ 0 = rw d (omega arith) in rw none refl
         go false d =
             let one : 2 * 4 * (l .n + 1) * r ≡ rowsSize (nField s) 1 = rw (d, ← st .n-is) (omega arith) in
@@ -154,7 +156,7 @@ module _ {s : List ℕ} {l : Layout} (st : Stored s l) where
         ap length (row-more e f) ∙ length-append (rowsLeft s k) (part s from (2 * 4 * (l .n + 1) * r)) ∙ rw (part-length s from (2 * 4 * (l .n + 1) * r) fits) refl in
         let here = rows-length s (passes st) (k + 1) (omega (arith, st .m-is)) in
         let all-rows = rows-length s (passes st) (mField s) (omega arith) in
-        let grows = mul-le-mul-right {m = rulesLeft s (k + 1)} {n = rulesLeft s (mField s)} (suc (nField s)) (left-grows s (k + 1) (mField s) (omega (arith, st .m-is))) in
+        let grows = mul-le-mul-right {m = rulesLeft s (k + 1)} {n = rulesLeft s (mField s)} (suc (nField s)) (left-grows (blank-left s) (k + 1) (mField s) (omega (arith, st .m-is))) in
         (fits, omega (arith, long, here, all-rows, grows, c .to-is, c .kept))
 
     pub copying-more : {b : Bool} {r next : ℕ} {after : List ℕ} → k < l .m → at ≤ length before → b ≡ runBlank s (l .n + 1) from → r ≡ cond b 0 1
@@ -200,19 +202,23 @@ module _ {s : List ℕ} {l : Layout} (st : Stored s l) where
       let a : b₂ ≡ put b₀ 0 (headLeft s (size - 4) left ++ rowsLeft s (mField s)) =
       g .after-is ∙ rw f (put-put b₀ 0 (headLeft s (size - 4) left) (l .leads) (rowsLeft s (mField s)) (omega arith) (sym long ∙ omega arith)) in
       let questions : part s (l .leads + 2 * 4 * (l .n + 1) * l .m) (2 * 4 * (l .n + 1) * l .questions) ≡ questionRows s =
-      let place : l .leads + 2 * 4 * (l .n + 1) * l .m ≡ rowPlace (leadsPlace (kindField s)) (nField s) (mField s) = rw (← st .leads-is, ← st .n-is, ← st .m-is) (omega arith) in
+      let place : l .leads + 2 * 4 * (l .n + 1) * l .m ≡ rowPlace (leadsPlace (kindField s) (mField s)) (nField s) (mField s) = rw (← st .leads-is, ← st .n-is, ← st .m-is) (omega arith) in
       let count : 2 * 4 * (l .n + 1) * l .questions ≡ rowsSize (nField s) (questionsAsked (kindField s) (countField s)) = rw (← st .questions-is, ← st .n-is) (omega arith) in
       rw (place, count) refl in
       let c : b₃ ≡ put b₀ 0 ((headLeft s (size - 4) left ++ rowsLeft s (mField s)) ++ questionRows s) =
       i .after-is ∙ rw (a, questions) (put-put b₀ 0 (headLeft s (size - 4) left ++ rowsLeft s (mField s)) at (questionRows s) (omega arith) (g .next-is ∙ omega (arith, length-append head (rowsLeft s (mField s)), long))) in
       c ∙ ap (put b₀ 0) (append-assoc (headLeft s (size - 4) left) (rowsLeft s (mField s)) (questionRows s) ∙ rw (z, e) (sym (converted-parts s)))
 
-  -- There is room for the rows, and then for the questions.
+  -- There is room for what stands before the leads,
+  pub head-room : {size : ℕ} (b₀ : List ℕ) → size ≡ convertedSize s → size ≤ length b₀ → (l .leads ≤ length b₀) × (length-bytes ≤ size)
+  head-room b₀ z room = (omega (arith, z, size-from s (passes st), room, st .leads-is), omega (arith, z, size-from s (passes st), st .leads-is, st .leads-least))
+
+  -- for the rows, and then for the questions.
   pub rows-room : {size length₁ : ℕ} (b₀ : List ℕ) → size ≡ convertedSize s → size ≤ length b₀ → length₁ ≡ length b₀ → l .leads + length (rowsLeft s (mField s)) ≤ length₁
   rows-room b₀ z room same =
       let long = rows-length s (passes st) (mField s) (omega arith) in
       let grows = mul-le-mul-right {m = rulesLeft s (mField s)} {n = rulesLeft s (mField s) + questionsAsked (kindField s) (countField s)} (suc (nField s)) (omega arith) in
-      omega (arith, z, room, same, long, grows, st .leads-is)
+      omega (arith, z, size-from s (passes st), room, same, long, grows, st .leads-is)
 
   pub questions-room : {size at : ℕ} (b₀ : List ℕ) {b₁ b₂ : List ℕ} → size ≡ convertedSize s → size ≤ length b₀
       → PutAt (rowsLeft s (mField s)) (length (rowsLeft s (mField s))) (l .leads) b₁ at b₂ → length b₂ ≡ length b₀
@@ -220,10 +226,10 @@ module _ {s : List ℕ} {l : Layout} (st : Stored s l) where
   questions-room b₀ z room g same =
       let long = rows-length s (passes st) (mField s) (omega arith) in
       let asked : 2 * 4 * (l .n + 1) * l .questions ≡ rowsSize (nField s) (questionsAsked (kindField s) (countField s)) = rw (← st .questions-is, ← st .n-is) (omega arith) in
-      (omega (arith, st .size-is), rw asked (omega (arith, z, room, same, long, g .next-is, st .leads-is)))
+      (omega (arith, st .size-is), rw asked (omega (arith, z, size-from s (passes st), room, same, long, g .next-is, st .leads-is)))
 
   -- The size is the converted record's.
   pub size-is : {left size : ℕ} → left ≡ rulesLeft s (mField s) → size ≡ l .leads + 2 * 4 * ((l .n + 1) * (left + l .questions)) → size ≡ convertedSize s
   size-is {left} e f =
       let wide : l .n + 1 ≡ suc (nField s) = omega (arith, st .n-is) in
-      f ∙ rw (wide, e, st .leads-is, st .questions-is) refl
+      f ∙ rw (wide, e, st .leads-is, st .questions-is) (sym (size-from s (passes st)))

@@ -6,7 +6,7 @@ use mathlib.Core.List.{List, _++_}
 use lib.ListN.{length}
 use Rattle.definitions.specs.Limits.{highest-n, highest-m, most-questions, length-bytes, short-bytes, signed-bytes, kind-place, m-place, problem-header, questions-header, questions-leads}
 use Rattle.definitions.specs.Bytes.{le, put, Outcome, refusal, gives}
-use Rattle.definitions.specs.ProblemRecord.{kindField, nField, mField, countField, leadsPlace, questionsAsked, headerRefusal}
+use Rattle.definitions.specs.ProblemRecord.{converter-kinds, kindField, nField, mField, countField, leadsPlace, questionsAsked, headerRefusal}
 use Rattle.definitions.specs.Questions.{part}
 use Rattle.records.specs.declared.problem.Layout.{Layout}
 use Rattle.converter.specs.declared.convert.Conversion.{Conversion}
@@ -23,10 +23,10 @@ conversionOf (Refused k) = refusal k
 
 -- The layout is the record's, within the limits, and the record has its size.
 pub record Stored (s : List ℕ) (l : Layout) : Type 0 where
-  pub none : headerRefusal true s (length s) ≡ 0
+  pub none : headerRefusal converter-kinds s (length s) ≡ 0
   pub n-is : l .n ≡ nField s
   pub m-is : l .m ≡ mField s
-  pub leads-is : l .leads ≡ leadsPlace (kindField s)
+  pub leads-is : l .leads ≡ leadsPlace (kindField s) (mField s)
   pub questions-is : l .questions ≡ questionsAsked (kindField s) (countField s)
   pub n-most : l .n ≤ highest-n
   pub m-most : l .m ≤ highest-m
@@ -41,7 +41,7 @@ headLeft s long m =
     le length-bytes long
     ++ (part s kind-place (m-place - kind-place)
     ++ (le short-bytes m
-    ++ part s problem-header (leadsPlace (kindField s) - problem-header)))
+    ++ part s problem-header (leadsPlace (kindField s) (mField s) - problem-header)))
 
 -- `values`, so many bytes, stand in the buffer from a place on, everything else is as it was, and `next` is the place after them.
 pub record PutAt (values : List ℕ) (count at : ℕ) (before : List ℕ) (next : ℕ) (after : List ℕ) : Type 0 where

@@ -21,6 +21,7 @@ use records::limits::LENGTH_PLACE;
 use records::limits::M_PLACE;
 use records::limits::PROBLEM_HEADER;
 use records::limits::REFUSED_ROOM;
+use records::problem::CONVERTER_KINDS;
 use records::problem::Header;
 use records::problem::Layout;
 use records::problem::lead_count;
@@ -126,7 +127,7 @@ fn put_record(bytes: &[u8], layout: Layout, left: usize, size: usize, out: &mut 
 pub fn convert(bytes: &[u8], out: &mut [u8]) -> Conversion
     ensures { λ r. ⌜ Converts (now (bytes .entry)) (now (out .entry)) (conversionOf r) (now (out .exit)) ⌝ }
 {
-    let header = judge_leads(bytes, true);
+    let header = judge_leads(bytes, CONVERTER_KINDS);
     let Header::Told(layout) = header else {
         return Conversion::Refused(problem_refusal(header));
     };

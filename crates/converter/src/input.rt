@@ -11,6 +11,7 @@ ghost use Rattle.converter.specs.Steps.{conversionOf};
 use crate::convert::Conversion;
 use crate::convert::convert;
 use records::limits::KEPT;
+use records::problem::CONVERTER_KINDS;
 use records::problem::problem_refusal;
 use records::problem::read_header;
 
@@ -22,7 +23,7 @@ fn convert_kept(kept: &[u8], size: usize, out: &mut [u8]) -> Conversion
     if size <= KEPT {
         return convert(&kept[..size], out);
     }
-    let header = read_header(kept, size, true);
+    let header = read_header(kept, size, CONVERTER_KINDS);
     Conversion::Refused(problem_refusal(header))
 }
 

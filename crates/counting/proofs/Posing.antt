@@ -16,11 +16,11 @@ use Rattle.definitions.specs.Limits.{highest-n, highest-m, lead-limit, length-b
 use Rattle.definitions.specs.Tropical.{Trop, bot, fin}
 use Rattle.definitions.specs.Bytes.{Bytes, le, numsAt, fields, fieldOf, tropField, put, all, blank-or-within, or-else}
 use Rattle.definitions.specs.Offset.{tropOf}
-use Rattle.definitions.specs.ProblemRecord.{problemSize, problemRefusal, recordRefusal, refusalFor, silentRefused, lengthField, kindField, nField, mField, leadsOf, headerBytes, problemOf, meant, WithinLayout, questionsAsked, countField}
+use Rattle.definitions.specs.ProblemRecord.{checker-kinds, problemSize, problemRefusal, recordRefusal, refusalFor, silentRefused, lengthField, kindField, nField, mField, leadsOf, headerBytes, problemOf, meant, WithinLayout, questionsAsked, countField}
 use Rattle.definitions.specs.Solved as Results
 use Rattle.definitions.specs.Solved.{Solved, Found, Solves, solved, all-solved, engineRefusal}
 use Rattle.definitions.proofs.Bytes.{length-le, length-fields, nums-fields, bytes-append, bytes-le, bytes-fields}
-use Rattle.definitions.proofs.Refusals.{header-passes, kind-one, one-question, size-one, leads-one}
+use Rattle.definitions.proofs.Refusals.{header-passes, one-question, size-one, leads-one}
 use Rattle.definitions.proofs.RoundTrip.{trops-back, trops-below}
 use Rattle.definitions.proofs.ProblemBack.{length-header, read-length, read-kind, read-n, read-m}
 use Rattle.definitions.proofs.Put.{take-put, length-put}
@@ -99,10 +99,10 @@ all-wider a b h (x ∷ xs) e =
 pub small-posed : {n m w : ℕ} {s : List ℕ} → n ≤ highest-n → m ≤ highest-m → w ≤ lead-limit → Small n m w s → Posed s
 unfolding refusalFor
 small-posed {n} {m} {w} {s} a b h f =
-    let passes = header-passes false s (length s) .1 (record {
+    let passes = header-passes checker-kinds s (length s) .1 (record {
       size-enough = omega (arith, f .size-is);
       length-is = f .length-is;
-      kind-known = kind-one (kindField s) .1 (f .kind-is);
+      kind-known = rw (f .kind-is) refl;
       n-most = omega (arith, f .n-is);
       m-most = omega (arith, f .m-is);
       count-right = rw (f .kind-is) refl;
@@ -111,7 +111,7 @@ small-posed {n} {m} {w} {s} a b h f =
     record {
       some = omega (arith, f .size-is);
       kind-is = f .kind-is;
-      refusal-is = rw (passes, all-wider w lead-limit h (leadsOf s) (f .leads)) refl;
+      refusal-is = rw (passes, all-wider w lead-limit h (leadsOf s) (f .leads), f .kind-is) refl;
     }
 
 -- ---- what the engine says
@@ -125,7 +125,7 @@ engine-refusal : {s : List ℕ} (room : ℕ) → Posed s → answer-most ≤ roo
 unfolding engineRefusal
 engine-refusal {s} room p h =
     let asked : ltb room (questionsAsked (kindField s) (countField s) * answer-most) ≡ false = rw (p .kind-is) (le-ltb room (1 * answer-most) (omega arith)) in
-    or-none (recordRefusal s) _ 7 asked ∙ one-question s (p .kind-is)
+    or-none (recordRefusal s) _ 7 asked ∙ one-question s (rw (p .kind-is) refl)
 
 silent-or : (t : Bool) (k : ℕ) → cond t refused-silent 0 ≡ suc k → suc k ≡ refused-silent
 silent-or true k e = sym e

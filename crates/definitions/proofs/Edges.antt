@@ -2,13 +2,13 @@
 -- of fields, with its number. The lines that are printed, and document 01's numbers that no list shows.
 use Prim.Native.Nat.{ℕ}
 use mathlib.Core.Path.{_≡_, refl}
-use mathlib.Core.Bool.{true, false}
+use mathlib.Core.Bool.{false}
 use mathlib.Core.List.{List, [], _∷_, map}
 use lib.IntN.{ℤ, pos, negsuc}
-use Rattle.definitions.specs.Limits.{kept-bytes, top-trial, lowest-trial, problem-most, answer-most}
+use Rattle.definitions.specs.Limits.{kept-bytes, top-trial, lowest-trial, problem-most, states-most, answer-most}
 use Rattle.definitions.specs.Tropical.{Trop, bot, fin}
 use Rattle.definitions.specs.Bytes.{numAt, numsAt, le, signed, tropField, tropAt, all, some-below, blank-or-within, whole-within}
-use Rattle.definitions.specs.ProblemRecord.{headerRefusal, headerJudged, problemRefusal, leadsOf, refusalFor, headerBytes}
+use Rattle.definitions.specs.ProblemRecord.{checker-kinds, headerRefusal, headerJudged, problemRefusal, leadsOf, refusalFor, headerBytes}
 use Rattle.definitions.specs.Questions.{alone}
 use Rattle.definitions.specs.Bisection.{trials-infeasible, trials-unbounded}
 use Rattle.definitions.specs.Verdict.{Verdict, accepted, refused, checkRefusal}
@@ -57,6 +57,20 @@ problems =
     record { number = 6; bytes = (22 ∷ 0 ∷ 0 ∷ 0 ∷ 1 ∷ 0 ∷ 0 ∷ 0 ∷ 1 ∷ 0 ∷ 0 ∷ 0 ∷ 0 ∷ 128 ∷ 2 ∷ 0 ∷ 0 ∷ 0 ∷ 193 ∷ 78 ∷ 0 ∷ 0 ∷ 2 ∷ 0 ∷ 0 ∷ 0 ∷ []) } ∷
     -- blank are the rule's right list and the question's first
     record { number = 0; bytes = (22 ∷ 0 ∷ 0 ∷ 0 ∷ 1 ∷ 0 ∷ 0 ∷ 0 ∷ 1 ∷ 0 ∷ 2 ∷ 0 ∷ 0 ∷ 0 ∷ 0 ∷ 0 ∷ 0 ∷ 128 ∷ 0 ∷ 0 ∷ 0 ∷ 128 ∷ 2 ∷ 0 ∷ 0 ∷ 0 ∷ []) } ∷
+    -- kind 5, a suspended rule and one in force
+    record { number = 0; bytes = (34 ∷ 0 ∷ 0 ∷ 0 ∷ 5 ∷ 0 ∷ 0 ∷ 0 ∷ 2 ∷ 0 ∷ 0 ∷ 0 ∷ 1 ∷ 0 ∷ 7 ∷ 0 ∷ 0 ∷ 0 ∷ 2 ∷ 0 ∷ 0 ∷ 0 ∷ 1 ∷ 0 ∷ 0 ∷ 0 ∷ 2 ∷ 0 ∷ 0 ∷ 0 ∷ 5 ∷ 0 ∷ 0 ∷ 0 ∷ 2 ∷ 0 ∷ 0 ∷ 0 ∷ []) } ∷
+    -- kind 5 with the size of kind 1
+    record { number = 5; bytes = (22 ∷ 0 ∷ 0 ∷ 0 ∷ 5 ∷ 0 ∷ 0 ∷ 0 ∷ 1 ∷ 0 ∷ 2 ∷ 0 ∷ 7 ∷ 0 ∷ 0 ∷ 0 ∷ 2 ∷ 0 ∷ 0 ∷ 0 ∷ 5 ∷ 0 ∷ 0 ∷ 0 ∷ 2 ∷ 0 ∷ []) } ∷
+    -- state 2, and a lead of the question wrong
+    record { number = 20; bytes = (24 ∷ 0 ∷ 0 ∷ 0 ∷ 5 ∷ 0 ∷ 0 ∷ 0 ∷ 1 ∷ 0 ∷ 2 ∷ 0 ∷ 7 ∷ 0 ∷ 0 ∷ 0 ∷ 2 ∷ 0 ∷ 0 ∷ 0 ∷ 193 ∷ 78 ∷ 0 ∷ 0 ∷ 2 ∷ 0 ∷ 0 ∷ 0 ∷ []) } ∷
+    -- state 65,535
+    record { number = 20; bytes = (24 ∷ 0 ∷ 0 ∷ 0 ∷ 5 ∷ 0 ∷ 0 ∷ 0 ∷ 1 ∷ 0 ∷ 255 ∷ 255 ∷ 7 ∷ 0 ∷ 0 ∷ 0 ∷ 2 ∷ 0 ∷ 0 ∷ 0 ∷ 5 ∷ 0 ∷ 0 ∷ 0 ∷ 2 ∷ 0 ∷ 0 ∷ 0 ∷ []) } ∷
+    -- a suspended rule with a wrong lead
+    record { number = 6; bytes = (24 ∷ 0 ∷ 0 ∷ 0 ∷ 5 ∷ 0 ∷ 0 ∷ 0 ∷ 1 ∷ 0 ∷ 0 ∷ 0 ∷ 193 ∷ 78 ∷ 0 ∷ 0 ∷ 2 ∷ 0 ∷ 0 ∷ 0 ∷ 5 ∷ 0 ∷ 0 ∷ 0 ∷ 2 ∷ 0 ∷ 0 ∷ 0 ∷ []) } ∷
+    -- a suspended rule with a blank left list
+    record { number = 17; bytes = (24 ∷ 0 ∷ 0 ∷ 0 ∷ 5 ∷ 0 ∷ 0 ∷ 0 ∷ 1 ∷ 0 ∷ 0 ∷ 0 ∷ 0 ∷ 0 ∷ 0 ∷ 128 ∷ 2 ∷ 0 ∷ 0 ∷ 0 ∷ 5 ∷ 0 ∷ 0 ∷ 0 ∷ 2 ∷ 0 ∷ 0 ∷ 0 ∷ []) } ∷
+    -- kind 5 with no rules
+    record { number = 0; bytes = (14 ∷ 0 ∷ 0 ∷ 0 ∷ 5 ∷ 0 ∷ 0 ∷ 0 ∷ 0 ∷ 0 ∷ 5 ∷ 0 ∷ 0 ∷ 0 ∷ 2 ∷ 0 ∷ 0 ∷ 0 ∷ []) } ∷
     -- one left lead of two is blank in rule 1, both in rule 2
     record { number = 17; bytes = (54 ∷ 0 ∷ 0 ∷ 0 ∷ 1 ∷ 0 ∷ 1 ∷ 0 ∷ 2 ∷ 0 ∷ 0 ∷ 0 ∷ 0 ∷ 128 ∷ 5 ∷ 0 ∷ 0 ∷ 0 ∷ 0 ∷ 0 ∷ 0 ∷ 128 ∷ 0 ∷ 0 ∷ 0 ∷ 128 ∷ 0 ∷ 0 ∷ 0 ∷ 128 ∷ 0 ∷ 0 ∷ 0 ∷ 128 ∷ 3 ∷ 0 ∷ 0 ∷ 0 ∷ 0 ∷ 0 ∷ 0 ∷ 128 ∷ 0 ∷ 0 ∷ 0 ∷ 0 ∷ 0 ∷ 0 ∷ 0 ∷ 0 ∷ 0 ∷ 0 ∷ 0 ∷ 0 ∷ 0 ∷ 0 ∷ 0 ∷ 0 ∷ []) } ∷
     []
@@ -79,11 +93,15 @@ headers =
     record { number = 4; size = 530; bytes = (14 ∷ 2 ∷ 0 ∷ 0 ∷ 1 ∷ 0 ∷ 0 ∷ 0 ∷ 64 ∷ 0 ∷ []) } ∷
     -- n 31 and m 63, 16,394 bytes
     record { number = 0; size = 16394; bytes = (6 ∷ 64 ∷ 0 ∷ 0 ∷ 1 ∷ 0 ∷ 31 ∷ 0 ∷ 63 ∷ 0 ∷ []) } ∷
+    -- kind 5 with n 31 and m 63, 16,520 bytes
+    record { number = 0; size = 16520; bytes = (132 ∷ 64 ∷ 0 ∷ 0 ∷ 5 ∷ 0 ∷ 31 ∷ 0 ∷ 63 ∷ 0 ∷ []) } ∷
+    -- kind 3
+    record { number = 3; size = 24; bytes = (20 ∷ 0 ∷ 0 ∷ 0 ∷ 3 ∷ 0 ∷ 0 ∷ 0 ∷ 0 ∷ 0 ∷ []) } ∷
     -- n 32
     record { number = 4; size = 274; bytes = (14 ∷ 1 ∷ 0 ∷ 0 ∷ 1 ∷ 0 ∷ 32 ∷ 0 ∷ 0 ∷ 0 ∷ []) } ∷
     []
 
-headers-refused : map (λ d. headerRefusal false (d .bytes) (d .size)) headers ≡ map (λ d. d .number) headers
+headers-refused : map (λ d. headerRefusal checker-kinds (d .bytes) (d .size)) headers ≡ map (λ d. d .number) headers
 unfolding headers headerRefusal headerJudged numAt
 headers-refused = refl
 
@@ -291,9 +309,9 @@ outer-trials = (refl, refl)
 outer-counts : (trials-infeasible ≡ 1) × (trials-unbounded ≡ 2)
 outer-counts = (refl, refl)
 
--- The largest problem and the largest answer.
-largest-records : (problem-most ≡ 16394) × (answer-most ≡ 208)
-largest-records = (refl, refl)
+-- The largest problem, of kind 1 and of kind 5, and the largest answer.
+largest-records : (problem-most ≡ 16394) × (states-most ≡ 16520) × (answer-most ≡ 208)
+largest-records = (refl, refl, refl)
 
 -- A number that is no class has no stamps and no picks, fits no span, and has no words.
 no-class : (stampCount 4 31 ≡ 0) × (pickCount 4 31 63 ≡ 0) × (highestPick 4 31 63 ≡ 0) × (spanFits 4 bot ≡ false) × (classWords 4 bot ≡ [])

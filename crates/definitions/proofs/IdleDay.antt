@@ -1,7 +1,6 @@
 -- The idle day (document 02, 2.9): its bytes; it is within the layout; no bytes read as this problem already; its least span is 0.
 use Prim.Native.Nat.{ℕ, _<_}
 use mathlib.Core.Path.{_≡_, refl}
-use mathlib.Core.Bool.{Bool}
 use mathlib.Core.List.{List, [], _∷_}
 use native.Mathlib.Omega.{arith}
 use lib.ListN.{length}
@@ -12,7 +11,7 @@ use Rattle.definitions.specs.Limits.{problem-kind, questions-kind, probl
 use Rattle.definitions.specs.Tropical.{fin, plus, larger, largest}
 use Rattle.definitions.specs.Problem.{Optimal, value, side, minus, between}
 use Rattle.definitions.specs.Bytes.{some-below, Bytes, numAt, numsAt, le, fields, signed, tropField, fieldOf, tropAt, all, blank-or-within}
-use Rattle.definitions.specs.ProblemRecord.{WithinLayout, WithinLayouts, idle, meant, problemOf, problemBytes, headerBytes, rowBytes, rowsBytes, listOf, refusalFor, headerRefusal, headerJudged, leadsOf, kindField, nField, mField}
+use Rattle.definitions.specs.ProblemRecord.{Kinds, AsksOne, WithinLayout, WithinLayouts, idle, meant, problemOf, problemBytes, headerBytes, rowBytes, rowsBytes, listOf, refusalFor, headerRefusal, headerJudged, leadsOf, kindField, nField, mField}
 use Rattle.definitions.specs.AnswerRecord.{answerRefusal, answerHeaderRefusal, answerHeaderJudged}
 use Rattle.definitions.specs.Verdict.{checkRefusal}
 use Rattle.definitions.specs.Programs.{cutPlace, problemPart, answerPart}
@@ -69,6 +68,9 @@ pub idle-kind : kindField (meant []) ≡ problem-kind
 unfolding numAt
 idle-kind = rw idle-bytes refl
 
+pub idle-asks : AsksOne (meant [])
+idle-asks = rw idle-kind refl
+
 -- Several questions are asked by the bytes themselves.
 pub several-meant : (p : List ℕ) → kindField p ≡ questions-kind → meant p ≡ p
 unfolding numAt
@@ -81,9 +83,9 @@ several-itself (b ∷ p) k = refl
 
 -- ---- refusal 1 remains for 1 to 9 bytes, whatever they are
 
-pub short-refused : (several : Bool) (p : List ℕ) → 0 < length p → length p < problem-header → refusalFor several (meant p) ≡ 1
+pub short-refused : (kinds : Kinds) (p : List ℕ) → 0 < length p → length p < problem-header → refusalFor kinds (meant p) ≡ 1
 unfolding refusalFor headerRefusal headerJudged
-short-refused several p some h = rw (meant-some p some, lt-ltb (length p) problem-header h)
+short-refused kinds p some h = rw (meant-some p some, lt-ltb (length p) problem-header h)
 
 -- ---- "whose answer is least 0"
 

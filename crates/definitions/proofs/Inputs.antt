@@ -12,9 +12,9 @@ use lib.ListN.{length, getD, take, drop, replicate, length-take, length-drop, le
 use lib.Seq.{getD-take, getD-drop, length-take-le, ext-getD, take-all, take-take}
 use borrow.Author.Tests.{lt-ltb, le-ltb, eqb-true, ne-eqb}
 use Rattle.base.proofs.Numbers.{nat-le-or-lt}
-use Rattle.definitions.specs.Limits.{kept-bytes, word-values, length-bytes, problem-header, answer-header, signed-full, highest-n, highest-m, problem-kind, questions-header, questions-kind}
+use Rattle.definitions.specs.Limits.{kept-bytes, word-values, length-bytes, problem-header, answer-header, signed-full, highest-n, highest-m, questions-header, questions-kind}
 use Rattle.definitions.specs.Bytes.{Bytes, numAt, put}
-use Rattle.definitions.specs.ProblemRecord.{lengthField, kindField, nField, mField, headerRefusal, headerJudged, problemRefusal, WithinLayout, meant, problemSize, refusalFor, countField}
+use Rattle.definitions.specs.ProblemRecord.{Kinds, engine-kinds, checker-kinds, questionsAsked, lengthField, kindField, nField, mField, headerRefusal, headerJudged, problemRefusal, WithinLayout, meant, problemSize, refusalFor, countField}
 use Rattle.definitions.specs.AnswerRecord.{answerHeaderRefusal, answerHeaderJudged, answerRefusal}
 use Rattle.definitions.specs.Verdict.{Verdict, refused, checkRefusal, Judged, turned-away, certified, uncertified}
 use Rattle.definitions.specs.Programs.{cutPlace, problemPart, answerPart, KeptOf, SpanOutput, VerdictOutput, read-most, ReadFrom}
@@ -22,7 +22,7 @@ use Rattle.definitions.specs.Programs as Programs
 use Rattle.definitions.proofs.Bytes.{numAt-same, numAt-bound, bytes-take, bytes-drop, bytes-put, zero-bytes}
 use Rattle.definitions.proofs.Put.{take-put, length-put}
 use Rattle.definitions.proofs.IdleDay.{meant-some}
-use Rattle.definitions.proofs.Refusals.{or-else-suc, or-else-none, limits-clause, enough-clause, equal-clause, problem-fits, HeaderPasses, header-passes, kind-known, few-questions, size-one}
+use Rattle.definitions.proofs.Refusals.{or-else-suc, or-else-none, limits-clause, enough-clause, equal-clause, problem-fits, HeaderPasses, header-passes, kind-known, one-or-several, leads-place-most, few-questions}
 
 -- ---- what was kept
 
@@ -95,12 +95,12 @@ fields-agree : (n : ℕ) (s t : List ℕ) → ((i : ℕ) → i < n → getD s i 
 fields-agree n s t same k at h = numAt-same k s t at at (λ i b. same (at + i) (omega arith))
 
 -- A count plays no part where one question is asked for.
-count-idle : (size len kind n m c d : ℕ) → headerJudged false size len kind n m c ≡ headerJudged false size len kind n m d
+count-idle : (size len kind n m c d : ℕ) → headerJudged checker-kinds size len kind n m c ≡ headerJudged checker-kinds size len kind n m d
 unfolding headerJudged
-count-idle size len kind n m c d = go (eqb kind problem-kind) refl
+count-idle size len kind n m c d = go (eqb kind questions-kind) refl
   where
-    go : (b : Bool) → eqb kind problem-kind ≡ b → headerJudged false size len kind n m c ≡ headerJudged false size len kind n m d
-    go true e = rw (eqb-true kind problem-kind e) refl
+    go : (b : Bool) → eqb kind questions-kind ≡ b → headerJudged checker-kinds size len kind n m c ≡ headerJudged checker-kinds size len kind n m d
+    go true e = rw (eqb-true kind questions-kind e) refl
     go false e = rw e refl
 
 module _ (s t : List ℕ) (same : (i : ℕ) → i < problem-header → getD s i 0 ≡ getD t i 0) where
@@ -114,17 +114,17 @@ module _ (s t : List ℕ) (same : (i : ℕ) → i < problem-header → getD s i 
   m-agrees = fields-agree problem-header s t same 2 8 (omega arith)
 
   -- Where one question is asked for, ten bytes decide: what stands behind them is a count only in another kind.
-  pub one-agrees : (size : ℕ) → headerRefusal false s size ≡ headerRefusal false t size
+  pub one-agrees : (size : ℕ) → headerRefusal checker-kinds s size ≡ headerRefusal checker-kinds t size
   unfolding headerRefusal
   one-agrees size =
       rw (length-agrees, fields-agree problem-header s t same 2 4 (omega arith), n-agrees, m-agrees)
       (count-idle size (lengthField t) (kindField t) (nField t) (mField t) (countField s) (countField t))
 
 -- Where several may be, twelve do.
-pub header-agrees : (several : Bool) (s t : List ℕ) → ((i : ℕ) → i < questions-header → getD s i 0 ≡ getD t i 0) → (size : ℕ)
-    → headerRefusal several s size ≡ headerRefusal several t size
+pub header-agrees : (kinds : Kinds) (s t : List ℕ) → ((i : ℕ) → i < questions-header → getD s i 0 ≡ getD t i 0) → (size : ℕ)
+    → headerRefusal kinds s size ≡ headerRefusal kinds t size
 unfolding headerRefusal
-header-agrees several s t same size =
+header-agrees kinds s t same size =
     let at = fields-agree questions-header s t same in
     rw (at 4 0 (omega arith), at 2 4 (omega arith), at 2 6 (omega arith), at 2 8 (omega arith), at 2 10 (omega arith))
 
@@ -136,14 +136,14 @@ answer-agrees s t same size n m =
     rw (at 4 0 (omega arith), at 2 4 (omega arith), at 2 6 (omega arith), at 2 8 (omega arith), at 2 14 (omega arith))
 
 -- Fewer than 10 bytes: refusal 1, whatever they are.
-pub header-short : (several : Bool) (s : List ℕ) (size : ℕ) → size < problem-header → headerRefusal several s size ≡ 1
+pub header-short : (kinds : Kinds) (s : List ℕ) (size : ℕ) → size < problem-header → headerRefusal kinds s size ≡ 1
 unfolding headerRefusal headerJudged
-header-short several s size h = rw (lt-ltb size problem-header h)
+header-short kinds s size h = rw (lt-ltb size problem-header h)
 
 -- The length field is another than the size: refusal 2.
-pub header-length : (several : Bool) (s : List ℕ) (size : ℕ) → problem-header ≤ size → (lengthField s + length-bytes ≡ size → ⊥) → headerRefusal several s size ≡ 2
+pub header-length : (kinds : Kinds) (s : List ℕ) (size : ℕ) → problem-header ≤ size → (lengthField s + length-bytes ≡ size → ⊥) → headerRefusal kinds s size ≡ 2
 unfolding headerRefusal headerJudged
-header-length several s size h d = rw (le-ltb size problem-header h, ne-eqb (lengthField s + length-bytes) size d)
+header-length kinds s size h d = rw (le-ltb size problem-header h, ne-eqb (lengthField s + length-bytes) size d)
 
 -- ---- where an input is cut
 
@@ -176,11 +176,11 @@ field-below : {s : List ℕ} → Bytes s → lengthField s + length-bytes < sign
 field-below b = let h = numAt-bound length-bytes 0 b in omega arith
 
 -- The length field of so long a problem is another than its size.
-far-problem : (several : Bool) {s : List ℕ} → Bytes s → read-most ≤ length s → refusalFor several s ≡ 2
+far-problem : (kinds : Kinds) {s : List ℕ} → Bytes s → read-most ≤ length s → refusalFor kinds s ≡ 2
 unfolding refusalFor
-far-problem several {s} b h =
-    let two = header-length several s (length s) (omega arith) (λ e. omega (arith, field-below b)) in
-    or-else-suc (headerRefusal several s (length s)) _ (omega arith) ∙ two
+far-problem kinds {s} b h =
+    let two = header-length kinds s (length s) (omega arith) (λ e. omega (arith, field-below b)) in
+    or-else-suc (headerRefusal kinds s (length s)) _ (omega arith) ∙ two
 
 -- And so is that of so long an answer.
 far-answer : {a : List ℕ} → Bytes a → signed-full + length-bytes ≤ length a → (n m : ℕ) → n ≤ highest-n → m ≤ highest-m → answerRefusal a n m ≡ 9
@@ -193,30 +193,33 @@ far-answer {a} b h n m f g =
 -- What the span program puts out is the same for all inputs that are so long.
 pub span-far : (input other : List ℕ) → Bytes input → Bytes other → read-most ≤ length input → read-most ≤ length other → {output : List ℕ}
     → SpanOutput other output → SpanOutput input output
-span-far input other b c h g (Programs.refusal {k = k} e) = Programs.refusal (far-problem true b h ∙ sym (far-problem true c g) ∙ e)
-span-far input other b c h g (Programs.answer a k e ans) = absurd (let z = far-problem true c g in omega arith)
-span-far input other b c h g (Programs.answers k e all) = absurd (let z = far-problem true c g in omega arith)
+span-far input other b c h g (Programs.refusal {k = k} e) = Programs.refusal (far-problem engine-kinds b h ∙ sym (far-problem engine-kinds c g) ∙ e)
+span-far input other b c h g (Programs.answer a k e ans) = absurd (let z = far-problem engine-kinds c g in omega arith)
+span-far input other b c h g (Programs.answers k e all) = absurd (let z = far-problem engine-kinds c g in omega arith)
 
 -- ---- the verdict program on them
 
 -- A header that nothing refuses says a size that is kept.
-pub header-most : (several : Bool) (s : List ℕ) (size : ℕ) → headerRefusal several s size ≡ 0 → size ≤ kept-bytes
-header-most several s size e = ⊎-elim
-    (λ (k : kindField s ≡ problem-kind).
-    omega (arith, h .size-is, size-one (kindField s) (nField s) (mField s) (countField s) k, product-most (nField s) (suc (mField s)) 64 (h .n-most) (omega (arith, h .m-most))))
+pub header-most : (kinds : Kinds) (s : List ℕ) (size : ℕ) → headerRefusal kinds s size ≡ 0 → size ≤ kept-bytes
+header-most kinds s size e =
+    let start = leads-place-most (kindField s) (mField s) (h .m-most) (kind-known kinds (kindField s) (h .kind-known)) in
+    ⊎-elim
+    (λ (k : eqb (kindField s) questions-kind ≡ false).
+    let one : mField s + questionsAsked (kindField s) (countField s) ≡ suc (mField s) = rw k (omega arith) in
+    omega (arith, h .size-is, start, one, product-most (nField s) (mField s + questionsAsked (kindField s) (countField s)) 71 (h .n-most) (omega (arith, h .m-most))))
     (λ (k : kindField s ≡ questions-kind). let c = few-questions s size k h in omega (arith, c .size-is, product-most (nField s) (mField s + countField s) 71 (h .n-most) (omega (arith, h .m-most, c .few))))
-    (kind-known several (kindField s) (h .kind-known))
+    (one-or-several (kindField s))
   where
-    h : HeaderPasses several s size
-    h = header-passes several s size .0 e
+    h : HeaderPasses kinds s size
+    h = header-passes kinds s size .0 e
 
     product-most : (n rows most : ℕ) → n ≤ highest-n → rows ≤ most → suc n * rows ≤ 32 * most
     product-most n rows most h k =
         omega (arith, mul-le-mul-right {m = suc n} {n = 32} rows (omega arith), mul-le-mul-left {m = rows} {n = most} 32 k)
 
-pub header-none : (several : Bool) (s : List ℕ) → refusalFor several s ≡ 0 → headerRefusal several s (length s) ≡ 0
+pub header-none : (kinds : Kinds) (s : List ℕ) → refusalFor kinds s ≡ 0 → headerRefusal kinds s (length s) ≡ 0
 unfolding refusalFor
-header-none several s w = or-else-none (headerRefusal several s (length s)) _ .0 w .0
+header-none kinds s w = or-else-none (headerRefusal kinds s (length s)) _ .0 w .0
 
 -- Two inputs whose first bytes agree, and whose problem parts end at the same place.
 module _ (x y : List ℕ) (same : (i : ℕ) → i < kept-bytes → getD x i 0 ≡ getD y i 0) (end : ℕ) (inside : end ≤ length x) (inside′ : end ≤ length y) where
@@ -228,17 +231,17 @@ module _ (x y : List ℕ) (same : (i : ℕ) → i < kept-bytes → getD x i 0 �
       ext-getD 0 (take end x) (take end y) parts-length
       (λ i b. let l = length-take-le end x inside in getD-take end x i 0 (omega arith) ∙ same i (omega arith) ∙ sym (getD-take end y i 0 (omega arith)))
 
-  parts-header : kept-bytes < end → headerRefusal false (take end x) (length (take end x)) ≡ headerRefusal false (take end y) (length (take end y))
+  parts-header : kept-bytes < end → headerRefusal checker-kinds (take end x) (length (take end x)) ≡ headerRefusal checker-kinds (take end y) (length (take end y))
   parts-header h =
       one-agrees (take end x) (take end y) (λ i b. getD-take end x i 0 (omega arith) ∙ same i (omega arith) ∙ sym (getD-take end y i 0 (omega arith))) (length (take end x))
-      ∙ ap (headerRefusal false (take end y)) parts-length
+      ∙ ap (headerRefusal checker-kinds (take end y)) parts-length
 
   -- A problem part that reaches past what is kept is refused by its header.
-  parts-refused : kept-bytes < end → 0 < headerRefusal false (take end x) (length (take end x))
+  parts-refused : kept-bytes < end → 0 < headerRefusal checker-kinds (take end x) (length (take end x))
   parts-refused h = ⊎-elim
-      (λ (e : headerRefusal false (take end x) (length (take end x)) ≡ 0). absurd (omega (arith, header-most false (take end x) (length (take end x)) e, length-take-le end x inside)))
+      (λ (e : headerRefusal checker-kinds (take end x) (length (take end x)) ≡ 0). absurd (omega (arith, header-most checker-kinds (take end x) (length (take end x)) e, length-take-le end x inside)))
       (λ q. q)
-      (eq-zero-or-pos (headerRefusal false (take end x) (length (take end x))))
+      (eq-zero-or-pos (headerRefusal checker-kinds (take end x) (length (take end x))))
 
   problem-alike : problemRefusal (take end x) ≡ problemRefusal (take end y)
   unfolding refusalFor
@@ -247,7 +250,7 @@ module _ (x y : List ℕ) (same : (i : ℕ) → i < kept-bytes → getD x i 0 �
       (λ (h : kept-bytes < end).
       let some = parts-refused h in
       let alike = parts-header h in
-      or-else-suc (headerRefusal false (take end x) (length (take end x))) _ some ∙ alike ∙ sym (or-else-suc (headerRefusal false (take end y) (length (take end y))) _ (omega arith)))
+      or-else-suc (headerRefusal checker-kinds (take end x) (length (take end x))) _ some ∙ alike ∙ sym (or-else-suc (headerRefusal checker-kinds (take end y) (length (take end y))) _ (omega arith)))
       (nat-le-or-lt end kept-bytes)
 
 -- The refusal of the two parts is the same for inputs that are so long and begin alike, and there is one.
@@ -273,10 +276,10 @@ module _ (x y : List ℕ) (same : (i : ℕ) → i < kept-bytes → getD x i 0 �
       go : (k : ℕ) → problemRefusal (take (cutPlace x) x) ≡ k
           → (checkRefusal (take (cutPlace x) x) (drop (cutPlace x) x) ≡ checkRefusal (take (cutPlace y) y) (drop (cutPlace y) y)) × (0 < checkRefusal (take (cutPlace x) x) (drop (cutPlace x) x))
       go zero e =
-          let f = problem-fits (take (cutPlace x) x) .0 e in
-          let g = problem-fits (take (cutPlace y) y) .0 (sym alike ∙ e) in
+          let f = problem-fits (take (cutPlace x) x) e in
+          let g = problem-fits (take (cutPlace y) y) (sym alike ∙ e) in
           let most : cutPlace x ≤ kept-bytes =
-          let l = length-take-le (cutPlace x) x (omega (arith, cut-below)) in omega (arith, header-most false (take (cutPlace x) x) (length (take (cutPlace x) x)) (header-none false (take (cutPlace x) x) e)) in
+          let l = length-take-le (cutPlace x) x (omega (arith, cut-below)) in omega (arith, header-most checker-kinds (take (cutPlace x) x) (length (take (cutPlace x) x)) (header-none checker-kinds (take (cutPlace x) x) e)) in
           let nine = far-part x b long most _ _ (f .n-most) (f .m-most) in
           let nine′ = far-part y c long′ (omega (arith, cuts-alike)) _ _ (g .n-most) (g .m-most) in
           (rw (e, sym alike ∙ e, nine, nine′) refl, rw (e, nine) (omega arith))

@@ -27,6 +27,8 @@ pub mod WeekFacts
 pub mod Agree
 pub mod Scaling
 pub mod Selection
+pub mod Chosen
+pub mod Suspended
 pub mod Marks
 pub mod Merging
 pub mod ReasonsFacts

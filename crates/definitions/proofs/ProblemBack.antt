@@ -15,7 +15,7 @@ use Rattle.definitions.specs.Problem.{Problem}
 use Rattle.definitions.specs.Bytes.{numAt, numsAt, le, fields, tropField, fieldOf, tropAt, all, blank-or-within}
 use Rattle.definitions.specs.ProblemRecord.{WithinLayout, problemOf, problemSize, headerBytes, problemBytes, rowBytes, rowsBytes, leadsOf, listOf, nField, mField, lengthField, kindField, leadsPlace, rowPlace, blank-left, leftPlace, rightPlace, silentRefused}
 use Rattle.definitions.proofs.Bytes.{length-le, length-fields, fields-append, nums-fields, Below, getD-numsAt, all-true}
-use Rattle.definitions.proofs.Refusals.{problem-fits, leads-one}
+use Rattle.definitions.proofs.Refusals.{plain-within, leads-one}
 use Rattle.definitions.proofs.Silent.{none-below, run-speaks}
 use Rattle.definitions.proofs.RoundTrip.{trops-back, trops-below, num-here, num-past}
 
@@ -230,7 +230,7 @@ module _ (p : Problem) (n-most : p .n ≤ highest-n) (m-most : p .m ≤ highest-
 rules-back : (p : Problem) (n-most : p .n ≤ highest-n) (m-most : p .m ≤ highest-m) (l : SmallLeads p) → RulesSpeak p → silentRefused (problemBytes p) ≡ false
 rules-back p n-most m-most l speak =
     let back = read-back p n-most m-most l in
-    let start : leadsPlace (kindField (problemBytes p)) ≡ problem-header = rw (kind-back p n-most m-most l) refl in
+    let start : leadsPlace (kindField (problemBytes p)) (mField (problemBytes p)) ≡ problem-header = rw (kind-back p n-most m-most l) refl in
     none-below (blank-left (problemBytes p)) (mField (problemBytes p)) .1 (λ i b.
     let h : i < p .m = rw (back .1) at b in
     rw (start, back .0) (run-speaks (problemBytes p) (suc (p .n)) (rowPlace problem-header (p .n) i) (speak .column i) (omega (arith, speak .inside i h)) (λ e.
@@ -247,13 +247,14 @@ problem-back p n-most m-most l speak =
     let size = size-is p n-most m-most l in
     let most = size-most p n-most m-most l in
     let same = record-is p n-most m-most l in
+    let kind = kind-back p n-most m-most l in
     let xs : List ℕ = fields-of p n-most m-most l in
     let long : lengthField (problemBytes p) ≡ problemSize (p .n) (p .m) - length-bytes = rw same (read-length (p .n) (p .m) _ (omega arith)) in
     record {
-      within = problem-fits (problemBytes p) .1 (record {
+      within = plain-within (problemBytes p) (record {
         size-enough = omega arith;
         length-is = omega arith;
-        kind-is = kind-back p n-most m-most l;
+        kind-is = kind;
         n-most = omega (arith, back .0);
         m-most = omega (arith, back .1);
         size-is = rw (back .0, back .1) size;
@@ -264,8 +265,8 @@ problem-back p n-most m-most l speak =
       m-is = back .1;
       left-is = λ i j h g.
           let place : leftPlace (p .n) i j ≡ problem-header + signed-bytes * (2 * (i * suc (p .n)) + j) = omega arith in
-          rw (back .0, place) (lead-is p n-most m-most l i j h (omega arith) ∙ row-left p (tropField 0) i j g);
+          rw (kind, back .0, place) (lead-is p n-most m-most l i j h (omega arith) ∙ row-left p (tropField 0) i j g);
       right-is = λ i j h g.
           let place : rightPlace (p .n) i j ≡ problem-header + signed-bytes * (2 * (i * suc (p .n)) + (suc (p .n) + j)) = omega arith in
-          rw (back .0, place) (lead-is p n-most m-most l i (suc (p .n) + j) h (omega arith) ∙ row-right p (tropField 0) i j g);
+          rw (kind, back .0, place) (lead-is p n-most m-most l i (suc (p .n) + j) h (omega arith) ∙ row-right p (tropField 0) i j g);
     }

@@ -12,11 +12,11 @@ use lib.Seq.{getD-append-add, getD-take, getD-drop, length-take-le}
 use Rattle.definitions.specs.Limits.{highest-n, highest-m, lead-limit, length-bytes, short-bytes, signed-bytes, signed-full, problem-kind, questions-kind, most-questions, problem-header, questions-header}
 use Rattle.definitions.specs.Tropical.{Trop}
 use Rattle.definitions.specs.Bytes.{Bytes, numAt, tropField, tropAt, all, blank-or-within}
-use Rattle.definitions.specs.ProblemRecord.{nField, mField, lengthField, kindField, countField, problemSize, leadsOf, leadsPlace, questionsAsked, headerRefusal, WithinLayout, WithinLayouts, rowPlace, headerBytes, blank-left, silentRefused}
+use Rattle.definitions.specs.ProblemRecord.{Kinds, engine-kinds, nField, mField, lengthField, kindField, countField, problemSize, leadsOf, leadsPlace, questionsAsked, headerRefusal, WithinLayout, WithinLayouts, rowPlace, headerBytes, blank-left, silentRefused}
 use Rattle.definitions.specs.Questions.{part, rowsSize, alone, asking, askedRow}
 use Rattle.base.proofs.Numbers.{nat-le-or-lt}
 use Rattle.definitions.proofs.Bytes.{numAt-same, all-numsAt, bytes-append, bytes-le, bytes-take, bytes-drop}
-use Rattle.definitions.proofs.Refusals.{header-passes, few-questions, record-fits, problem-fits, leads-one}
+use Rattle.definitions.proofs.Refusals.{header-passes, few-questions, record-fits, plain-within, within-asks, leads-one}
 use Rattle.definitions.proofs.Silent.{some-same, run-same}
 use Rattle.definitions.proofs.ProblemBack.{length-header, read-length, read-kind, read-n, read-m}
 
@@ -172,9 +172,9 @@ pub record Several (s : List ℕ) : Type 0 where
   pub few : countField s ≤ most-questions
   pub asks : Asks s (countField s)
 
-pub several-passes : (several : Bool) {s : List ℕ} → kindField s ≡ questions-kind → headerRefusal several s (length s) ≡ 0 → Several s
-several-passes several {s} k e =
-    let h = header-passes several s (length s) .0 e in
+pub several-passes : (kinds : Kinds) {s : List ℕ} → kindField s ≡ questions-kind → headerRefusal kinds s (length s) ≡ 0 → Several s
+several-passes kinds {s} k e =
+    let h = header-passes kinds s (length s) .0 e in
     let f = few-questions s (length s) k h in
     record {
       kind-is = k;
@@ -188,7 +188,7 @@ leads-of : (fits : Trop → Bool) (s : List ℕ) → Several s → (all fits (le
     ↔ ((k : ℕ) → k < 2 * ((mField s + countField s) * suc (nField s)) → fits (tropAt s (questions-header + signed-bytes * k)) ≡ true)
 unfolding leadsOf tropAt
 leads-of fits s v =
-    let place : leadsPlace (kindField s) ≡ questions-header = rw (v .kind-is) refl in
+    let place : leadsPlace (kindField s) (mField s) ≡ questions-header = rw (v .kind-is) refl in
     let count : 2 * (suc (nField s) * (mField s + questionsAsked (kindField s) (countField s))) ≡ 2 * ((mField s + countField s) * suc (nField s)) = rw (v .kind-is) (omega arith) in
     rw (place, count) (all-numsAt fits tropField signed-bytes (2 * ((mField s + countField s) * suc (nField s))) s questions-header)
 
@@ -237,8 +237,8 @@ module _ (fits : Trop → Bool) (s : List ℕ) (v : Several s) where
 -- A rule of one question's record says nothing exactly when it does in the record of all.
 pub alone-blank : (s : List ℕ) (v : Several s) (q : ℕ) → q < countField s → (i : ℕ) → i < mField s → blank-left (alone s q) i ≡ blank-left s i
 alone-blank s v q h i g =
-    let from : leadsPlace (kindField (alone s q)) ≡ problem-header = rw (alone-kind s (v .asks) q h) refl in
-    let to : leadsPlace (kindField s) ≡ questions-header = rw (v .kind-is) refl in
+    let from : leadsPlace (kindField (alone s q)) (mField (alone s q)) ≡ problem-header = rw (alone-kind s (v .asks) q h) refl in
+    let to : leadsPlace (kindField s) (mField s) ≡ questions-header = rw (v .kind-is) refl in
     let asked : askedRow (mField s) q i ≡ i = rw (ne-eqb i (mField s) (λ e. omega arith)) in
     rw (from, to, alone-n s (v .asks) q h)
     (run-same (alone s q) s (suc (nField s)) (rowPlace problem-header (nField s) i) (rowPlace questions-header (nField s) i) (λ j l.
@@ -251,12 +251,12 @@ alone-silent s v q h = rw (alone-m s (v .asks) q h) (some-same (blank-left (alon
 -- A question's record is within the layout if the record is.
 pub alone-within : (s : List ℕ) → kindField s ≡ questions-kind → WithinLayouts s → (q : ℕ) → q < countField s → WithinLayout (alone s q)
 alone-within s k w q h =
-    let r = record-fits true s .0 w in
-    let v = several-passes true k (header-passes true s (length s) .1 (r .header)) in
+    let r = record-fits engine-kinds s .0 w in
+    let v = several-passes engine-kinds k (header-passes engine-kinds s (length s) .1 (r .header)) in
     let size = alone-length s (v .asks) q h in
     let n-is = alone-n s (v .asks) q h in
     let m-is = alone-m s (v .asks) q h in
-    problem-fits (alone s q) .1 (record {
+    plain-within (alone s q) (record {
       size-enough = rw size (omega arith);
       length-is = rw (size, alone-length-field s (v .asks) q h) (omega arith);
       kind-is = alone-kind s (v .asks) q h;
@@ -267,9 +267,9 @@ alone-within s k w q h =
       rules-speak = alone-silent s v q h ∙ r .rules-speak;
     })
 
--- A problem of one question is its own record.
+-- A problem within the layout asks one question, and is its own record.
 pub asking-itself : (p : List ℕ) (q : ℕ) → WithinLayout p → asking p q ≡ p
-asking-itself p q w = rw (problem-fits p .0 w .kind-is) refl
+asking-itself p q w = rw (within-asks p w) refl
 
 -- Its bytes are bytes.
 header-all-bytes : (n m : ℕ) → Bytes (headerBytes n m)

@@ -10,10 +10,10 @@ use lib.Dec.{eqb, ltb, leb}
 use lib.ListN.{length}
 use lib.IntN.{ℤ, natAbs}
 use borrow.Author.Tests.{ltb-false, eqb-true, not-false, le-ltb, le-leb, eq-eqb}
-use Rattle.definitions.specs.Limits.{highest-n, highest-m, lead-limit, length-bytes, signed-bytes, problem-kind, questions-kind, most-questions, answer-kind, problem-header, questions-header, answer-header, answer-most}
-use Rattle.definitions.specs.Tropical.{fin}
+use Rattle.definitions.specs.Limits.{highest-n, highest-m, lead-limit, length-bytes, signed-bytes, problem-kind, questions-kind, states-kind, short-bytes, states-place, leads-latest, most-questions, answer-kind, problem-header, questions-header, answer-header, answer-most}
+use Rattle.definitions.specs.Tropical.{Trop, bot, fin}
 use Rattle.definitions.specs.Bytes.{numsAt, tropField, tropAt, all, blank-or-within, or-else}
-use Rattle.definitions.specs.ProblemRecord.{problemSize, recordSize, lengthField, kindField, nField, mField, countField, leadsPlace, questionsAsked, leadsOf, known-kind, above-limits, wrong-count, headerRefusal, headerJudged, refusalFor, silentRefused, WithinLayout, problemOf, leftPlace, rightPlace, problemRefusal, recordRefusal}
+use Rattle.definitions.specs.ProblemRecord.{Kinds, engine-kinds, checker-kinds, converter-kinds, AsksOne, stateRefused, suspended, leadOf, leftFrom, rightFrom, problemSize, recordSize, lengthField, kindField, nField, mField, countField, leadsPlace, questionsAsked, leadsOf, known-kind, above-limits, wrong-count, headerRefusal, headerJudged, refusalFor, silentRefused, WithinLayout, problemOf, problemRefusal, recordRefusal}
 use Rattle.definitions.specs.AnswerRecord.{Answer, known-class, startFits, stampCount, pickCount, highestPick, answerSize, spanFits, stampsFit, picksFit, formRefusal, rightCounts, classField, startField, answerOf, answerHeaderRefusal, answerHeaderJudged, answerRefusal, writerRefusal, writerJudged}
 use Rattle.definitions.proofs.Bytes.{all-numsAt}
 use Rattle.definitions.proofs.Offset.{within-size}
@@ -81,24 +81,24 @@ pub fails-clause : (t : Bool) (n k : ℕ) → (cond t (suc n) k ≡ 0) ↔ ((t �
 fails-clause t n k = clause-none t n k
 
 -- The facts of a header that nothing refuses, of one question or several.
-pub record HeaderPasses (several : Bool) (s : List ℕ) (size : ℕ) : Type 0 where
+pub record HeaderPasses (kinds : Kinds) (s : List ℕ) (size : ℕ) : Type 0 where
   pub size-enough : problem-header ≤ size
   pub length-is : lengthField s + length-bytes ≡ size
-  pub kind-known : known-kind several (kindField s) ≡ true
+  pub kind-known : known-kind kinds (kindField s) ≡ true
   pub n-most : nField s ≤ highest-n
   pub m-most : mField s ≤ highest-m
   pub count-right : wrong-count size (kindField s) (countField s) ≡ false
   pub size-is : size ≡ recordSize (kindField s) (nField s) (mField s) (countField s)
 
-pub header-passes : (several : Bool) (s : List ℕ) (size : ℕ) → (headerRefusal several s size ≡ 0) ↔ HeaderPasses several s size
+pub header-passes : (kinds : Kinds) (s : List ℕ) (size : ℕ) → (headerRefusal kinds s size ≡ 0) ↔ HeaderPasses kinds s size
 unfolding headerRefusal headerJudged
-header-passes several s size = (passes, none)
+header-passes kinds s size = (passes, none)
   where
-    passes : headerRefusal several s size ≡ 0 → HeaderPasses several s size
+    passes : headerRefusal kinds s size ≡ 0 → HeaderPasses kinds s size
     passes e =
         let a = enough-clause size problem-header _ _ .0 e in
         let b = equal-clause (lengthField s + length-bytes) size _ _ .0 (a .1) in
-        let c = passes-clause (known-kind several (kindField s)) _ _ .0 (b .1) in
+        let c = passes-clause (known-kind kinds (kindField s)) _ _ .0 (b .1) in
         let d = limits-clause (nField s) (mField s) _ _ .0 (c .1) in
         let f = fails-clause (wrong-count size (kindField s) (countField s)) _ _ .0 (d .1) in
         let g = equal-clause size (recordSize (kindField s) (nField s) (mField s) (countField s)) _ _ .0 (f .1) in
@@ -112,13 +112,13 @@ header-passes several s size = (passes, none)
           size-is = g .0;
         }
 
-    none : HeaderPasses several s size → headerRefusal several s size ≡ 0
+    none : HeaderPasses kinds s size → headerRefusal kinds s size ≡ 0
     none f =
         enough-clause size problem-header _ _ .1 (
           f .size-enough,
           equal-clause _ _ _ _ .1 (
             f .length-is,
-            passes-clause (known-kind several (kindField s)) _ _ .1 (
+            passes-clause (known-kind kinds (kindField s)) _ _ .1 (
               f .kind-known,
               limits-clause _ _ _ _ .1 ((f .n-most, f .m-most), fails-clause _ _ _ .1 (f .count-right, equal-clause _ _ _ _ .1 (f .size-is, refl))),
             ),
@@ -126,51 +126,97 @@ header-passes several s size = (passes, none)
         )
 
 -- A record that nothing refuses: its header, its leads, and no rule that says nothing.
-pub record RecordFits (several : Bool) (s : List ℕ) : Type 0 where
-  pub header : HeaderPasses several s (length s)
+pub record RecordFits (kinds : Kinds) (s : List ℕ) : Type 0 where
+  pub header : HeaderPasses kinds s (length s)
+  pub states-fit : stateRefused s ≡ false
   pub leads-fit : all (blank-or-within lead-limit) (leadsOf s) ≡ true
   pub rules-speak : silentRefused s ≡ false
 
-pub record-fits : (several : Bool) (s : List ℕ) → (refusalFor several s ≡ 0) ↔ RecordFits several s
+pub record-fits : (kinds : Kinds) (s : List ℕ) → (refusalFor kinds s ≡ 0) ↔ RecordFits kinds s
 unfolding refusalFor
-record-fits several s = (
+record-fits kinds s = (
   λ e.
-      let h = or-else-none (headerRefusal several s (length s)) _ .0 e in
+      let h = or-else-none (headerRefusal kinds s (length s)) _ .0 e in
+      let a = fails-clause (stateRefused s) _ _ .0 (h .1) in
+      let b = passes-clause (all (blank-or-within lead-limit) (leadsOf s)) _ _ .0 (a .1) in
       record {
-        header = header-passes several s (length s) .0 (h .0);
-        leads-fit = passes-clause (all (blank-or-within lead-limit) (leadsOf s)) _ _ .0 (h .1) .0;
-        rules-speak = fails-clause (silentRefused s) _ _ .0 (passes-clause (all (blank-or-within lead-limit) (leadsOf s)) _ _ .0 (h .1) .1) .0;
+        header = header-passes kinds s (length s) .0 (h .0);
+        states-fit = a .0;
+        leads-fit = b .0;
+        rules-speak = fails-clause (silentRefused s) _ _ .0 (b .1) .0;
       },
   λ f.
-      or-else-none (headerRefusal several s (length s)) _ .1 (
-        header-passes several s (length s) .1 (f .header),
-        passes-clause _ _ _ .1 (f .leads-fit, fails-clause _ _ _ .1 (f .rules-speak, refl)),
+      or-else-none (headerRefusal kinds s (length s)) _ .1 (
+        header-passes kinds s (length s) .1 (f .header),
+        fails-clause _ _ _ .1 (f .states-fit, passes-clause _ _ _ .1 (f .leads-fit, fails-clause _ _ _ .1 (f .rules-speak, refl))),
       ),
 )
 
 -- ---- kinds
 
--- An entry that takes one question knows kind 1 alone.
-pub kind-one : (kind : ℕ) → (known-kind false kind ≡ true) ↔ (kind ≡ problem-kind)
-kind-one kind = (λ e. go (eqb kind problem-kind) refl e, λ e. rw (eq-eqb kind problem-kind e))
+-- A record asks several questions, or one.
+pub one-or-several : (kind : ℕ) → (eqb kind questions-kind ≡ false) ⊎ (kind ≡ questions-kind)
+one-or-several kind = go (eqb kind questions-kind) refl
   where
-    go : (t : Bool) → eqb kind problem-kind ≡ t → (t || (false && eqb kind questions-kind)) ≡ true → kind ≡ problem-kind
-    go true f e = eqb-true kind problem-kind f
-    go false f e = absurd (false≢true e)
+    go : (t : Bool) → eqb kind questions-kind ≡ t → (t ≡ false) ⊎ (kind ≡ questions-kind)
+    go true e = inr (eqb-true kind questions-kind e)
+    go false e = inl refl
 
--- One that takes several knows it too, and kind 3.
-pub kind-either : (kind : ℕ) → known-kind true kind ≡ true → (kind ≡ problem-kind) ⊎ (kind ≡ questions-kind)
-kind-either kind e = go (eqb kind problem-kind) (eqb kind questions-kind) refl refl e
+-- Whatever an entry knows is one of three kinds.
+pub data KnownKind (kind : ℕ) : Type 0 where
+  plain : kind ≡ problem-kind → KnownKind kind
+  several : kind ≡ questions-kind → KnownKind kind
+  stated : kind ≡ states-kind → KnownKind kind
+
+pub kind-known : (kinds : Kinds) (kind : ℕ) → known-kind kinds kind ≡ true → KnownKind kind
+kind-known kinds kind e = go (kinds .several) (kinds .states) (eqb kind problem-kind) (eqb kind questions-kind) (eqb kind states-kind) refl refl refl e
   where
-    go : (t u : Bool) → eqb kind problem-kind ≡ t → eqb kind questions-kind ≡ u → (t || (true && u)) ≡ true → (kind ≡ problem-kind) ⊎ (kind ≡ questions-kind)
+    go : (a b t u v : Bool) → eqb kind problem-kind ≡ t → eqb kind questions-kind ≡ u → eqb kind states-kind ≡ v → (t || ((a && u) || (b && v))) ≡ true → KnownKind kind
+    go a b true u v f g h e = plain (eqb-true kind problem-kind f)
+    go true b false true v f g h e = several (eqb-true kind questions-kind g)
+    go true true false false true f g h e = stated (eqb-true kind states-kind h)
+    go true true false false false f g h e = absurd (false≢true e)
+    go true false false false v f g h e = absurd (false≢true e)
+    go false true false u true f g h e = stated (eqb-true kind states-kind h)
+    go false true false u false f g h e = absurd (false≢true e)
+    go false false false u v f g h e = absurd (false≢true e)
+
+-- One of one question knows kinds 1 and 5.
+pub data OneKind (kind : ℕ) : Type 0 where
+  plain : kind ≡ problem-kind → OneKind kind
+  stated : kind ≡ states-kind → OneKind kind
+
+pub kind-one : (kind : ℕ) → known-kind checker-kinds kind ≡ true → OneKind kind
+kind-one kind e = go (eqb kind problem-kind) (eqb kind states-kind) refl refl e
+  where
+    go : (t v : Bool) → eqb kind problem-kind ≡ t → eqb kind states-kind ≡ v → (t || v) ≡ true → OneKind kind
+    go true v f h e = OneKind.plain (eqb-true kind problem-kind f)
+    go false true f h e = OneKind.stated (eqb-true kind states-kind h)
+    go false false f h e = absurd (false≢true e)
+
+pub one-asks : (kind : ℕ) → OneKind kind → eqb kind questions-kind ≡ false
+one-asks kind (OneKind.plain k) = rw k refl
+one-asks kind (OneKind.stated k) = rw k refl
+
+-- The kinds that the converter knows.
+pub kind-stored : (kind : ℕ) → known-kind converter-kinds kind ≡ true → (kind ≡ problem-kind) ⊎ (kind ≡ questions-kind)
+kind-stored kind e = go (eqb kind problem-kind) (eqb kind questions-kind) refl refl e
+  where
+    go : (t u : Bool) → eqb kind problem-kind ≡ t → eqb kind questions-kind ≡ u → (t || (u || false)) ≡ true → (kind ≡ problem-kind) ⊎ (kind ≡ questions-kind)
     go true u f g e = inl (eqb-true kind problem-kind f)
     go false true f g e = inr (eqb-true kind questions-kind g)
     go false false f g e = absurd (false≢true e)
 
--- Whatever an entry knows is one of the two.
-pub kind-known : (several : Bool) (kind : ℕ) → known-kind several kind ≡ true → (kind ≡ problem-kind) ⊎ (kind ≡ questions-kind)
-kind-known true kind e = kind-either kind e
-kind-known false kind e = inl (kind-one kind .0 e)
+-- Where the leads start: behind ten bytes at least, and 136 at most.
+pub leads-place-least : (kind m : ℕ) → KnownKind kind → problem-header ≤ leadsPlace kind m
+leads-place-least kind m (plain k) = rw k (omega arith)
+leads-place-least kind m (several k) = rw k (omega arith)
+leads-place-least kind m (stated k) = rw k (omega arith)
+
+pub leads-place-most : (kind m : ℕ) → m ≤ highest-m → KnownKind kind → leadsPlace kind m ≤ leads-latest
+leads-place-most kind m h (plain k) = rw k (omega arith)
+leads-place-most kind m h (several k) = rw k (omega arith)
+leads-place-most kind m h (stated k) = rw k (omega arith)
 
 -- A record of kind 3 that passes asks at most 8 questions, and one at least.
 pub record Questions (s : List ℕ) (size : ℕ) : Type 0 where
@@ -178,7 +224,7 @@ pub record Questions (s : List ℕ) (size : ℕ) : Type 0 where
   pub few : countField s ≤ most-questions
   pub size-is : size ≡ questions-header + 2 * signed-bytes * (suc (nField s) * (mField s + countField s))
 
-pub few-questions : {several : Bool} (s : List ℕ) (size : ℕ) → kindField s ≡ questions-kind → HeaderPasses several s size → Questions s size
+pub few-questions : {kinds : Kinds} (s : List ℕ) (size : ℕ) → kindField s ≡ questions-kind → HeaderPasses kinds s size → Questions s size
 few-questions s size k h =
     let size-is : size ≡ questions-header + 2 * signed-bytes * (suc (nField s) * (mField s + countField s)) = rw k at (h .size-is) in
     let long : leb questions-header size ≡ true = le-leb questions-header size (omega arith) in
@@ -196,13 +242,68 @@ size-one kind n m count e = rw e (omega arith)
 
 -- ---- problems of one question
 
--- A record of kind 1 has the same refusal, whether the entry takes several questions too or not.
-pub one-question : (s : List ℕ) → kindField s ≡ problem-kind → recordRefusal s ≡ problemRefusal s
+-- A record of one question has the same refusal, whether the entry takes several questions too or not.
+pub one-question : (s : List ℕ) → AsksOne s → recordRefusal s ≡ problemRefusal s
 unfolding refusalFor headerRefusal headerJudged
 one-question s k = rw k refl
 
 -- The facts of a problem record that nothing refuses.
 pub record ProblemFits (s : List ℕ) : Type 0 where
+  pub size-enough : problem-header ≤ length s
+  pub length-is : lengthField s + length-bytes ≡ length s
+  pub one-kind : OneKind (kindField s)
+  pub n-most : nField s ≤ highest-n
+  pub m-most : mField s ≤ highest-m
+  pub size-is : length s ≡ recordSize (kindField s) (nField s) (mField s) (countField s)
+  pub states-fit : stateRefused s ≡ false
+  pub leads-fit : all (blank-or-within lead-limit) (leadsOf s) ≡ true
+  pub rules-speak : silentRefused s ≡ false
+
+-- They hold of one within the layout, which asks one question.
+pub problem-fits : (s : List ℕ) → WithinLayout s → ProblemFits s
+problem-fits s e =
+    let r = record-fits checker-kinds s .0 e in
+    record {
+      size-enough = r .header .size-enough;
+      length-is = r .header .length-is;
+      one-kind = kind-one (kindField s) (r .header .kind-known);
+      n-most = r .header .n-most;
+      m-most = r .header .m-most;
+      size-is = r .header .size-is;
+      states-fit = r .states-fit;
+      leads-fit = r .leads-fit;
+      rules-speak = r .rules-speak;
+    }
+
+pub within-asks : (s : List ℕ) → WithinLayout s → AsksOne s
+within-asks s w = one-asks (kindField s) (problem-fits s w .one-kind)
+
+-- A record of one question that any entry takes is within the layout.
+pub within-one : (kinds : Kinds) (s : List ℕ) → AsksOne s → refusalFor kinds s ≡ 0 → WithinLayout s
+within-one kinds s one w =
+    let r = record-fits kinds s .0 w in
+    record-fits checker-kinds s .1 (record {
+      header = record {
+        size-enough = r .header .size-enough;
+        length-is = r .header .length-is;
+        kind-known = known (kind-known kinds (kindField s) (r .header .kind-known));
+        n-most = r .header .n-most;
+        m-most = r .header .m-most;
+        count-right = r .header .count-right;
+        size-is = r .header .size-is;
+      };
+      states-fit = r .states-fit;
+      leads-fit = r .leads-fit;
+      rules-speak = r .rules-speak;
+    })
+  where
+    known : KnownKind (kindField s) → known-kind checker-kinds (kindField s) ≡ true
+    known (KnownKind.plain k) = rw k refl
+    known (KnownKind.several k) = absurd (false≢true (sym one ∙ eq-eqb (kindField s) questions-kind k))
+    known (KnownKind.stated k) = rw k refl
+
+-- The facts of a record of kind 1 that nothing refuses.
+pub record PlainFits (s : List ℕ) : Type 0 where
   pub size-enough : problem-header ≤ length s
   pub length-is : lengthField s + length-bytes ≡ length s
   pub kind-is : kindField s ≡ problem-kind
@@ -212,9 +313,9 @@ pub record ProblemFits (s : List ℕ) : Type 0 where
   pub leads-fit : all (blank-or-within lead-limit) (leadsOf s) ≡ true
   pub rules-speak : silentRefused s ≡ false
 
--- They are those of a record.
-pub fit-record : (several : Bool) (s : List ℕ) → ProblemFits s → RecordFits several s
-fit-record several s f = record {
+-- Then it is within the layout.
+pub plain-within : (s : List ℕ) → PlainFits s → WithinLayout s
+plain-within s f = record-fits checker-kinds s .1 (record {
   header = record {
     size-enough = f .size-enough;
     length-is = f .length-is;
@@ -224,89 +325,73 @@ fit-record several s f = record {
     count-right = rw (f .kind-is) refl;
     size-is = f .size-is ∙ sym (size-one (kindField s) (nField s) (mField s) (countField s) (f .kind-is));
   };
+  states-fit = rw (f .kind-is) refl;
   leads-fit = f .leads-fit;
   rules-speak = f .rules-speak;
-}
-
--- Nothing refuses a problem exactly when these hold, whether the entry takes several questions too or not.
-pub problem-fits : (s : List ℕ) → WithinLayout s ↔ ProblemFits s
-problem-fits s = (fits, λ f. record-fits false s .1 (fit-record false s f))
-  where
-    fits : WithinLayout s → ProblemFits s
-    fits e =
-        let r = record-fits false s .0 e in
-        let k = kind-one (kindField s) .0 (r .header .kind-known) in
-        record {
-          size-enough = r .header .size-enough;
-          length-is = r .header .length-is;
-          kind-is = k;
-          n-most = r .header .n-most;
-          m-most = r .header .m-most;
-          size-is = r .header .size-is ∙ size-one (kindField s) (nField s) (mField s) (countField s) k;
-          leads-fit = r .leads-fit;
-          rules-speak = r .rules-speak;
-        }
+})
 
 -- ---- leads
 
 -- Each lead of a record is blank or within a limit, if all are.
 pub lead-each : (limit : ℕ) (s : List ℕ) → all (blank-or-within limit) (leadsOf s) ≡ true → (k : ℕ) → k < 2 * (suc (nField s) * (mField s + questionsAsked (kindField s) (countField s)))
-    → blank-or-within limit (tropAt s (leadsPlace (kindField s) + signed-bytes * k)) ≡ true
+    → blank-or-within limit (tropAt s (leadsPlace (kindField s) (mField s) + signed-bytes * k)) ≡ true
 unfolding leadsOf tropAt
 lead-each limit s =
-    all-numsAt (blank-or-within limit) tropField signed-bytes (2 * (suc (nField s) * (mField s + questionsAsked (kindField s) (countField s)))) s (leadsPlace (kindField s)) .0
+    all-numsAt (blank-or-within limit) tropField signed-bytes (2 * (suc (nField s) * (mField s + questionsAsked (kindField s) (countField s)))) s (leadsPlace (kindField s) (mField s)) .0
 
 -- Each lead of a record that nothing refuses is blank or within the limit.
-pub record-lead : (several : Bool) (s : List ℕ) → refusalFor several s ≡ 0 → (k : ℕ) → k < 2 * (suc (nField s) * (mField s + questionsAsked (kindField s) (countField s)))
-    → blank-or-within lead-limit (tropAt s (leadsPlace (kindField s) + signed-bytes * k)) ≡ true
-record-lead several s w = lead-each lead-limit s (record-fits several s .0 w .leads-fit)
+pub record-lead : (kinds : Kinds) (s : List ℕ) → refusalFor kinds s ≡ 0 → (k : ℕ) → k < 2 * (suc (nField s) * (mField s + questionsAsked (kindField s) (countField s)))
+    → blank-or-within lead-limit (tropAt s (leadsPlace (kindField s) (mField s) + signed-bytes * k)) ≡ true
+record-lead kinds s w = lead-each lead-limit s (record-fits kinds s .0 w .leads-fit)
 
 -- The leads of a record of kind 1.
 pub leads-one : (s : List ℕ) → kindField s ≡ problem-kind → leadsOf s ≡ map tropField (numsAt signed-bytes (2 * (suc (nField s) * suc (mField s))) s problem-header)
 unfolding leadsOf
 leads-one s e =
-    let place : leadsPlace (kindField s) ≡ problem-header = rw e refl in
+    let place : leadsPlace (kindField s) (mField s) ≡ problem-header = rw e refl in
     let count : 2 * (suc (nField s) * (mField s + questionsAsked (kindField s) (countField s))) ≡ 2 * (suc (nField s) * suc (mField s)) = rw e (omega arith) in
     rw (place, count)
-
--- Each lead of a problem is blank or within a limit, if all are.
-pub lead-within : (limit : ℕ) (s : List ℕ) → kindField s ≡ problem-kind → all (blank-or-within limit) (leadsOf s) ≡ true → (k : ℕ)
-    → k < 2 * (suc (nField s) * suc (mField s)) → blank-or-within limit (tropAt s (problem-header + signed-bytes * k)) ≡ true
-lead-within limit s e f k h =
-    let place : leadsPlace (kindField s) ≡ problem-header = rw e refl in
-    let count : questionsAsked (kindField s) (countField s) ≡ 1 = rw e refl in
-    rw place at (lead-each limit s f k (rw count (omega arith)))
 
 -- Lead k of row i, of the left ones and the right ones counted together, stands at this place among all leads.
 pub lead-inside : (n m i k : ℕ) → i ≤ m → k < 2 * suc n → 2 * (i * suc n) + k < 2 * (suc n * suc m)
 lead-inside n m i k row h = omega (arith, mul-le-mul-right {m = suc i} {n = suc m} (suc n) (omega arith))
 
-module _ (limit : ℕ) (s : List ℕ) (e : kindField s ≡ problem-kind) (f : all (blank-or-within limit) (leadsOf s) ≡ true)
+-- A lead of a row is blank or within a limit where the one that stands there is.
+row-limited : (limit : ℕ) (t : Bool) (x : Trop) → blank-or-within limit x ≡ true → blank-or-within limit (cond t bot x) ≡ true
+unfolding blank-or-within
+row-limited limit true x e = refl
+row-limited limit false x e = e
+
+module _ (limit : ℕ) (s : List ℕ) (one : AsksOne s) (f : all (blank-or-within limit) (leadsOf s) ≡ true)
     (i j : ℕ) (row : i ≤ mField s) (column : j ≤ nField s) where
+  -- Where one question is asked, there are so many leads.
+  many : mField s + questionsAsked (kindField s) (countField s) ≡ suc (mField s)
+  many = rw one (omega arith)
+
   -- So are the left coefficients of what it means,
   pub left-limited : blank-or-within limit (problemOf s .left i j) ≡ true
   unfolding problemOf
   left-limited =
       let k : ℕ = 2 * (i * suc (nField s)) + j in
-      let place : problem-header + signed-bytes * (2 * (i * suc (nField s)) + j) ≡ leftPlace (nField s) i j = omega arith in
-      rw place at (lead-within limit s e f k (lead-inside (nField s) (mField s) i j row (omega arith)))
+      let place : leadsPlace (kindField s) (mField s) + signed-bytes * (2 * (i * suc (nField s)) + j) ≡ leftFrom (leadsPlace (kindField s) (mField s)) (nField s) i j = omega arith in
+      row-limited limit (suspended s i) _ (rw place at (lead-each limit s f k (rw many (lead-inside (nField s) (mField s) i j row (omega arith)))))
 
   -- and the right ones.
   pub right-limited : blank-or-within limit (problemOf s .right i j) ≡ true
   unfolding problemOf
   right-limited =
       let k : ℕ = 2 * (i * suc (nField s)) + (suc (nField s) + j) in
-      let place : problem-header + signed-bytes * (2 * (i * suc (nField s)) + (suc (nField s) + j)) ≡ rightPlace (nField s) i j = omega arith in
-      rw place at (lead-within limit s e f k (lead-inside (nField s) (mField s) i (suc (nField s) + j) row (omega arith)))
+      let place : leadsPlace (kindField s) (mField s) + signed-bytes * (2 * (i * suc (nField s)) + (suc (nField s) + j)) ≡ rightFrom (leadsPlace (kindField s) (mField s)) (nField s) i j = omega arith in
+      row-limited limit (suspended s i) _ (rw place at (lead-each limit s f k (rw many (lead-inside (nField s) (mField s) i (suc (nField s) + j) row (omega arith)))))
 
 module _ (s : List ℕ) (w : WithinLayout s) (i j : ℕ) (row : i ≤ mField s) (column : j ≤ nField s) where
   -- The left coefficients of a problem within the layout are blank or within the limit.
   pub left-within : blank-or-within lead-limit (problemOf s .left i j) ≡ true
-  left-within = let f = problem-fits s .0 w in left-limited lead-limit s (f .kind-is) (f .leads-fit) i j row column
+  left-within = left-limited lead-limit s (within-asks s w) (problem-fits s w .leads-fit) i j row column
 
   -- The right coefficients are.
   pub right-within : blank-or-within lead-limit (problemOf s .right i j) ≡ true
-  right-within = let f = problem-fits s .0 w in right-limited lead-limit s (f .kind-is) (f .leads-fit) i j row column
+  right-within = right-limited lead-limit s (within-asks s w) (problem-fits s w .leads-fit) i j row column
 
 -- ---- answers
 

@@ -49,12 +49,12 @@ module _ {d : ℕ} {s t : List ℕ} (r : ScaledRecord d s t) where
             let k : ℕ = 2 * (i * suc (nField s)) + j in
             let place : problem-header + signed-bytes * (2 * (i * suc (nField s)) + j) ≡ leftPlace (nField s) i j = omega arith in
             let e = lead-scaled k (lead-inside (nField s) (mField s) i j row (omega arith)) in
-            rw (r .same-n) (sym (rw place at e));
+            rw (r .kind, r .of-kind, r .same-n) (sym (rw place at e));
         right = λ i j row column.
             let k : ℕ = 2 * (i * suc (nField s)) + (suc (nField s) + j) in
             let place : problem-header + signed-bytes * (2 * (i * suc (nField s)) + (suc (nField s) + j)) ≡ rightPlace (nField s) i j = omega arith in
             let e = lead-scaled k (lead-inside (nField s) (mField s) i (suc (nField s) + j) row (omega arith)) in
-            rw (r .same-n) (sym (rw place at e));
+            rw (r .kind, r .of-kind, r .same-n) (sym (rw place at e));
       }
 
 -- E in half minutes: rule anchor + 60 ≤ moment 1.

@@ -8,16 +8,16 @@ use native.Mathlib.Omega.{arith}
 use native.Mathlib.Nat.{zero-add}
 use lib.ListN.{length, take, length-append}
 use borrow.Author.Tests.{eqb-true}
-use Rattle.definitions.specs.Limits.{highest-n, highest-m, most-questions, problem-kind, questions-kind, answer-most}
+use Rattle.definitions.specs.Limits.{highest-n, highest-m, most-questions, questions-kind, answer-most}
 use Rattle.definitions.specs.Tropical.{Trop}
 use Rattle.definitions.specs.Bytes.{Bytes}
 use Rattle.definitions.specs.Problem.{Problem}
-use Rattle.definitions.specs.ProblemRecord.{WithinLayout, WithinLayouts, recordRefusal, problemOf, kindField, nField, mField, countField, questionsAsked}
+use Rattle.definitions.specs.ProblemRecord.{engine-kinds, AsksOne, WithinLayout, WithinLayouts, recordRefusal, problemOf, kindField, nField, mField, countField, questionsAsked}
 use Rattle.definitions.specs.Questions.{alone, asking}
 use Rattle.definitions.specs.AnswerRecord.{Answer, known-class, rightCounts, stampCount, pickCount, answerSize, answerBytes, written}
 use Rattle.definitions.specs.Solved as Results
 use Rattle.definitions.specs.Solved.{Solved, answered, all-answered, Found, optimal, unbounded, infeasible, Answers, AnswersInTurn, no-question, one-more, Solves, solved, all-solved, engineRefusal}
-use Rattle.definitions.proofs.Refusals.{WriterFits, form-fits, or-else-none, enough-clause, problem-fits, header-passes, record-fits, kind-known, few-questions, one-question}
+use Rattle.definitions.proofs.Refusals.{WriterFits, form-fits, or-else-none, enough-clause, problem-fits, header-passes, record-fits, one-or-several, few-questions, one-question}
 use Rattle.definitions.proofs.Questions.{several-passes, alone-n, alone-m, alone-within, alone-bytes}
 use Rattle.definitions.proofs.RoundTrip.{answer-length, answer-length-most, size-most}
 use Rattle.definitions.proofs.Put.{take-put, length-put}
@@ -48,7 +48,7 @@ answers-taken {p} {a = a} room h g long ans =
 pub answer-takes : (p : List ℕ) → WithinLayout p → {class : ℕ} {span : Trop} {trials : ℕ} (a : Answer) → Answers (problemOf p) class span trials a
     → WriterFits a (nField p) (mField p) answer-most
 unfolding problemOf
-answer-takes p w a ans = let f = problem-fits p .0 w in answers-taken answer-most (f .n-most) (f .m-most) (omega arith) ans
+answer-takes p w a ans = let f = problem-fits p w in answers-taken answer-most (f .n-most) (f .m-most) (omega arith) ans
 
 -- A record as long as its class asks stands at the buffer's start.
 pub record-stands : (p buffer : List ℕ) → WithinLayout p → {class : ℕ} {span : Trop} {trials : ℕ} (a : Answer) → Answers (problemOf p) class span trials a
@@ -78,14 +78,14 @@ none-refused p room =
 -- At most eight questions are asked.
 pub asked-few : (p : List ℕ) → WithinLayouts p → questionsAsked (kindField p) (countField p) ≤ most-questions
 asked-few p w =
-    let passes = record-fits true p .0 w .header in
+    let passes = record-fits engine-kinds p .0 w .header in
     ⊎-elim
-    (λ (k : kindField p ≡ problem-kind). rw k (omega arith))
+    (λ (k : AsksOne p). rw k (omega arith))
     (λ (k : kindField p ≡ questions-kind). rw k (few-questions p (length p) k passes .few))
-    (kind-known true (kindField p) (passes .kind-known))
+    (one-or-several (kindField p))
 
 -- Of a problem of one question: it is within the layout, and the buffer holds one answer.
-pub one-refused : (p : List ℕ) (room : ℕ) → kindField p ≡ problem-kind → (engineRefusal p room ≡ 0) ↔ (WithinLayout p × (answer-most ≤ room))
+pub one-refused : (p : List ℕ) (room : ℕ) → AsksOne p → (engineRefusal p room ≡ 0) ↔ (WithinLayout p × (answer-most ≤ room))
 one-refused p room k =
     let asked : questionsAsked (kindField p) (countField p) * answer-most ≡ answer-most = rw k refl in
     let same = one-question p k in (
@@ -96,7 +96,7 @@ one-refused p room k =
 -- The engine answered: the record of an answer stands at the buffer's start.
 pub record Wrote (p before : List ℕ) (class : ℕ) (span : Trop) (trials size : ℕ) (after : List ℕ) : Type 0 where
   pub none : engineRefusal p (length before) ≡ 0
-  pub kind-is : kindField p ≡ problem-kind
+  pub kind-is : AsksOne p
   pub within : WithinLayout p
   pub answer : Answer
   pub answers : Answers (problemOf p) class span trials answer
@@ -104,12 +104,12 @@ pub record Wrote (p before : List ℕ) (class : ℕ) (span : Trop) (trials size 
   pub buffer-is : after ≡ written before (answerBytes (nField p) answer)
   pub bytes : take size after ≡ answerBytes (nField p) answer
 
-wrote-record : (p before : List ℕ) {class : ℕ} {span : Trop} {trials : ℕ} (a : Answer) → kindField p ≡ problem-kind → engineRefusal p (length before) ≡ 0 → Answers (problemOf p) class span trials a
+wrote-record : (p before : List ℕ) {class : ℕ} {span : Trop} {trials : ℕ} (a : Answer) → AsksOne p → engineRefusal p (length before) ≡ 0 → Answers (problemOf p) class span trials a
     → Wrote p before class span trials (answerSize class (nField p) (mField p)) (written before (answerBytes (nField p) a))
 unfolding written
 wrote-record p before {class} a k e ans =
     let h = one-refused p (length before) k .0 e in
-    let f = problem-fits p .0 (h .0) in
+    let f = problem-fits p (h .0) in
     let size : length (answerBytes (nField p) a) ≡ answerSize class (nField p) (mField p) =
     answer-length a (nField p) (mField p) answer-most (answer-takes p (h .0) a ans) ∙ ap (λ (k : ℕ). answerSize k (nField p) (mField p)) (ans .class-is) in
     let most = size-most class (nField p) (mField p) (f .n-most) (f .m-most) in
@@ -144,7 +144,7 @@ pub record OneAsked (p : List ℕ) (q : ℕ) : Type 0 where
 
 pub one-asked : (p : List ℕ) → kindField p ≡ questions-kind → WithinLayouts p → (q : ℕ) → q < countField p → OneAsked p q
 one-asked p k w q h =
-    let v = several-passes true k (header-passes true p (length p) .1 (record-fits true p .0 w .header)) in
+    let v = several-passes engine-kinds k (header-passes engine-kinds p (length p) .1 (record-fits engine-kinds p .0 w .header)) in
     record { within = alone-within p k w q h; n-is = alone-n p (v .asks) q h; m-is = alone-m p (v .asks) q h }
 
 -- The record of its first question, or the record itself where it asks one.
@@ -156,17 +156,17 @@ pub record FirstAsked (p : List ℕ) : Type 0 where
 
 pub first-asked : (p : List ℕ) → WithinLayouts p → FirstAsked p
 first-asked p w =
-    let passes = record-fits true p .0 w .header in
+    let passes = record-fits engine-kinds p .0 w .header in
     ⊎-elim
-    (λ (k : kindField p ≡ problem-kind).
+    (λ (k : AsksOne p).
     let own : asking p 0 ≡ p = rw k refl in
     record { within = rw own (sym (one-question p k) ∙ w); n-is = ap nField own; m-is = ap mField own; bytes = λ b. rw own b })
     (λ (k : kindField p ≡ questions-kind).
     let own : asking p 0 ≡ alone p 0 = rw k refl in
-    let v = several-passes true k (header-passes true p (length p) .1 passes) in
+    let v = several-passes engine-kinds k (header-passes engine-kinds p (length p) .1 passes) in
     let o = one-asked p k w 0 (v .some) in
     record { within = rw own (o .within); n-is = rw own (o .n-is); m-is = rw own (o .m-is); bytes = λ b. rw own (alone-bytes p 0 b) })
-    (kind-known true (kindField p) (passes .kind-known))
+    (one-or-several (kindField p))
 
 -- An answer to it is one that the writer takes with the record's n and m.
 pub asked-takes : {p : List ℕ} {q : ℕ} → OneAsked p q → {class : ℕ} {span : Trop} {trials : ℕ} (a : Answer) → Answers (problemOf (alone p q)) class span trials a

@@ -7,26 +7,25 @@ use lib.Dec.{ltb}
 use lib.ListN.{length}
 use Rattle.definitions.specs.Limits.{length-bytes, short-bytes, kind-place, m-place, problem-header, refused-lead, refused-room}
 use Rattle.definitions.specs.Bytes.{Bytes, le, first, or-else, Outcome, outcome}
-use Rattle.definitions.specs.ProblemRecord.{kindField, nField, mField, countField, leadsPlace, questionsAsked, recordSize, rowPlace, headerRefusal, leadRefused, blank-left, problemOf, WithinLayouts}
+use Rattle.definitions.specs.ProblemRecord.{kindField, nField, mField, countField, leadsPlace, questionsAsked, recordSize, rowPlace, converter-kinds, headerRefusal, leadRefused, refusalFor, blank-left, problemOf, WithinLayouts}
 use Rattle.definitions.specs.Questions.{part, rowsSize, asking}
 use Rattle.definitions.specs.AnswerRecord.{written}
 use Rattle.definitions.specs.Programs.{refusedLine}
-use Rattle.definitions.specs.Selection.{SameClass}
+use Rattle.definitions.specs.Selection.{leftBelow, SameClass}
 
 -- The first of refusals 1 to 6 and 15 that applies to the bytes, as the engine gives them to a record, 0 where none does; never 17. No bytes
 -- are no idle day here and get 1 (2.9).
 unfoldable pub storedRefusal : List ℕ → ℕ
-storedRefusal s = or-else (headerRefusal true s (length s)) (first (record { applies = leadRefused s; number = refused-lead } ∷ []))
+storedRefusal s = or-else (headerRefusal converter-kinds s (length s)) (first (record { applies = leadRefused s; number = refused-lead } ∷ []))
 
 -- "Drops these rules and closes up the numbers": of the first k rules, how many stay, and their rows in their order.
-unfoldable pub rulesLeft : List ℕ → ℕ → ℕ
-rulesLeft s zero = 0
-rulesLeft s (suc k) = rulesLeft s k + cond (blank-left s k) 0 1
+abbrev pub rulesLeft : List ℕ → ℕ → ℕ
+rulesLeft s k = leftBelow (blank-left s) k
 
 unfoldable pub rowsLeft : List ℕ → ℕ → List ℕ
 rowsLeft s zero = []
 rowsLeft s (suc k) =
-    rowsLeft s k ++ cond (blank-left s k) [] (part s (rowPlace (leadsPlace (kindField s)) (nField s) k) (rowsSize (nField s) 1))
+    rowsLeft s k ++ cond (blank-left s k) [] (part s (rowPlace (leadsPlace (kindField s) (mField s)) (nField s) k) (rowsSize (nField s) 1))
 
 -- The size of the converted record.
 abbrev pub convertedSize : List ℕ → ℕ
@@ -35,7 +34,7 @@ convertedSize s = recordSize (kindField s) (nField s) (rulesLeft s (mField s)) (
 -- The rows of the questions.
 abbrev pub questionRows : List ℕ → List ℕ
 questionRows s =
-    part s (rowPlace (leadsPlace (kindField s)) (nField s) (mField s)) (rowsSize (nField s) (questionsAsked (kindField s) (countField s)))
+    part s (rowPlace (leadsPlace (kindField s) (mField s)) (nField s) (mField s)) (rowsSize (nField s) (questionsAsked (kindField s) (countField s)))
 
 -- The converted record: the length that fits; kind and n as they stand; how many rules stay; what stands between m and the leads (of
 -- kind 3 the count); the rules that stay, then the questions, as they stand.
@@ -44,7 +43,7 @@ converted s =
     le length-bytes (convertedSize s - length-bytes)
     ++ (part s kind-place (m-place - kind-place)
     ++ (le short-bytes (rulesLeft s (mField s))
-    ++ (part s problem-header (leadsPlace (kindField s) - problem-header)
+    ++ (part s problem-header (leadsPlace (kindField s) (mField s) - problem-header)
     ++ (rowsLeft s (mField s)
     ++ questionRows s))))
 
@@ -73,7 +72,7 @@ pub record ConvertedWell (s : List ℕ) : Type 0 where
   pub same-class : (q : ℕ) → q < questionsAsked (kindField s) (countField s) → SameClass (problemOf (asking s q)) (problemOf (asking (converted s) q))
   pub once : converted (converted s) ≡ converted s
 
--- It holds of every record that is not refused; and one that the engine takes, of at least ten bytes, stays as it is.
+-- It holds of every record that is not refused; and one that the engine takes, of kind 1 or 3 and at least ten bytes, stays as it is.
 pub record ConversionKeeps : Type 0 where
   pub well : (s : List ℕ) → Bytes s → storedRefusal s ≡ 0 → ConvertedWell s
-  pub stays : (s : List ℕ) → Bytes s → WithinLayouts s → converted s ≡ s
+  pub stays : (s : List ℕ) → Bytes s → refusalFor converter-kinds s ≡ 0 → converted s ≡ s

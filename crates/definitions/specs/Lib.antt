@@ -18,6 +18,7 @@ pub mod Week
 pub mod Scaling
 pub mod Selection
 pub mod Conversion
+pub mod Suspended
 pub mod Marks
 pub mod Merging
 pub mod Census

@@ -90,6 +90,16 @@ questions-kind = 3
 abbrev pub most-questions : ℕ
 most-questions = 8
 
+-- Document 02, 2.10: a problem with suspended rules, and the states of a rule: in force, suspended.
+abbrev pub states-kind : ℕ
+states-kind = 5
+
+abbrev pub state-in-force : ℕ
+state-in-force = 1
+
+abbrev pub state-suspended : ℕ
+state-suspended = 0
+
 -- Classes of answers: least, bottomless, none.
 abbrev pub class-optimal : ℕ
 class-optimal = 1
@@ -113,6 +123,10 @@ count-place = m-place + short-bytes
 
 abbrev pub questions-header : ℕ
 questions-header = count-place + short-bytes
+
+-- Document 02, 2.10: a problem of kind 5 has the states of its rules after m.
+abbrev pub states-place : ℕ
+states-place = m-place + short-bytes
 
 -- The largest answer record, 208 bytes: n = 31, class 1. An answer buffer shorter than that for each question is refused, whichever class is due.
 abbrev pub answer-most : ℕ
@@ -149,6 +163,14 @@ questions-leads = 2 * (stride * (highest-m + most-questions))
 
 abbrev pub questions-row : ℕ
 questions-row = problem-header + signed-bytes * questions-leads
+
+-- Where the leads of a record start at the latest: kind 5 with 63 rules, at 136.
+abbrev pub leads-latest : ℕ
+leads-latest = states-place + short-bytes * highest-m
+
+-- The largest record of kind 5, 16,520 bytes.
+abbrev pub states-most : ℕ
+states-most = leads-latest + signed-bytes * leads-most
 
 -- How many bytes of their input the programs keep.
 abbrev pub kept-bytes : ℕ
@@ -219,6 +241,10 @@ refused-lead = 6
 -- Document 02, 2.1: the count of questions is 0 or above 8.
 abbrev pub refused-count : ℕ
 refused-count = 15
+
+-- Document 02, 2.10: a state other than 0 or 1.
+abbrev pub refused-state : ℕ
+refused-state = 20
 
 -- Document 02, 2.6: a rule has an all-blank left list.
 abbrev pub refused-silent : ℕ

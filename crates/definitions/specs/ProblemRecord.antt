@@ -1,5 +1,5 @@
 -- The problem record: its size, its refusals, what its bytes mean, and a problem as bytes. Document 01, "Records"
--- and "What is turned away", 1 to 6; document 02, 2.1, 2.6 and 2.9.
+-- and "What is turned away", 1 to 6; document 02, 2.1, 2.6, 2.9 and 2.10.
 use Prim.Native.Nat.{ℕ, zero, suc, _+_, _*_, _-_}
 use mathlib.Core.Path.{_≡_}
 use mathlib.Core.Bool.{Bool, true, false, not, cond, _&&_, _||_}
@@ -7,8 +7,8 @@ use mathlib.Core.List.{List, [], _∷_, _++_, map}
 use lib.Dec.{eqb, ltb, leb}
 use lib.ListN.{length}
 use lib.IntN.{pos}
-use Rattle.definitions.specs.Limits.{highest-n, highest-m, lead-limit, length-bytes, short-bytes, signed-bytes, kind-place, n-place, m-place, count-place, problem-kind, questions-kind, most-questions, problem-header, questions-header, refused-short, refused-length, refused-kind, refused-limits, refused-count, refused-size, refused-lead, refused-silent, signed-half}
-use Rattle.definitions.specs.Tropical.{Trop, fin}
+use Rattle.definitions.specs.Limits.{highest-n, highest-m, lead-limit, length-bytes, short-bytes, signed-bytes, kind-place, n-place, m-place, count-place, problem-kind, questions-kind, states-kind, state-in-force, state-suspended, most-questions, problem-header, questions-header, states-place, refused-short, refused-length, refused-kind, refused-limits, refused-count, refused-size, refused-state, refused-lead, refused-silent, signed-half}
+use Rattle.definitions.specs.Tropical.{Trop, bot, fin}
 use Rattle.definitions.specs.Problem.{Problem}
 use Rattle.definitions.specs.Bytes.{numAt, numsAt, le, fields, tropField, fieldOf, tropAt, all, some-below, blank-or-within, Clause, first, or-else, Outcome, outcome}
 
@@ -32,34 +32,58 @@ mField s = numAt short-bytes s m-place
 abbrev pub countField : List ℕ → ℕ
 countField s = numAt short-bytes s count-place
 
--- By kind: of several questions, kind 3, or of one. A kind that an entry does not know is refused before it is asked.
-abbrev pub by-kind : {A : Type 0} → ℕ → A → A → A
-by-kind kind of-several of-one = cond (eqb kind questions-kind) of-several of-one
+-- By the questions: of several, kind 3, or of one. A kind that an entry does not know is refused before it is asked.
+abbrev pub by-questions : {A : Type 0} → ℕ → A → A → A
+by-questions kind of-several of-one = cond (eqb kind questions-kind) of-several of-one
 
--- Where the leads start, and how many questions follow the rules.
-abbrev pub leadsPlace : ℕ → ℕ
-leadsPlace kind = by-kind kind questions-header problem-header
+-- By the states: a record that has them, kind 5, or another.
+abbrev pub by-states : {A : Type 0} → ℕ → A → A → A
+by-states kind with-states without = cond (eqb kind states-kind) with-states without
 
+-- Where the leads start, behind a header with the count of questions, with the states of m rules, or with neither.
+abbrev pub leadsPlace : ℕ → ℕ → ℕ
+leadsPlace kind m = by-questions kind questions-header (by-states kind (states-place + short-bytes * m) problem-header)
+
+-- A record asks one question.
+abbrev pub AsksOne : List ℕ → Type 0
+AsksOne s = eqb (kindField s) questions-kind ≡ false
+
+-- How many questions follow the rules.
 abbrev pub questionsAsked : ℕ → ℕ → ℕ
-questionsAsked kind count = by-kind kind count 1
+questionsAsked kind count = by-questions kind count 1
 
 -- Size of a problem record: what stands before the leads, and 8 × (n + 1) bytes for each rule and each question.
 abbrev pub recordSize : ℕ → ℕ → ℕ → ℕ → ℕ
-recordSize kind n m count = leadsPlace kind + 2 * signed-bytes * (suc n * (m + questionsAsked kind count))
+recordSize kind n m count = leadsPlace kind m + 2 * signed-bytes * (suc n * (m + questionsAsked kind count))
 
 -- The leads of a problem record in their order: for each row n + 1 left leads, then n + 1 right leads.
 unfoldable pub leadsOf : List ℕ → List Trop
 leadsOf s =
     map tropField
-    (numsAt signed-bytes (2 * (suc (nField s) * (mField s + questionsAsked (kindField s) (countField s)))) s (leadsPlace (kindField s)))
+    (numsAt signed-bytes (2 * (suc (nField s) * (mField s + questionsAsked (kindField s) (countField s)))) s (leadsPlace (kindField s) (mField s)))
 
 -- The place of a row, in a record of n + 1 variables whose leads start at `start`.
 abbrev pub rowPlace : ℕ → ℕ → ℕ → ℕ
 rowPlace start n i = start + 2 * signed-bytes * (i * suc n)
 
--- The kinds that an entry knows: kind 1, and kind 3 if it takes several questions.
-abbrev pub known-kind : Bool → ℕ → Bool
-known-kind several kind = eqb kind problem-kind || (several && eqb kind questions-kind)
+-- The kinds that an entry knows beside kind 1: whether kind 3, several questions, and whether kind 5, states of rules.
+pub record Kinds : Type 0 where
+  pub several : Bool
+  pub states : Bool
+
+abbrev pub known-kind : Kinds → ℕ → Bool
+known-kind kinds kind =
+    eqb kind problem-kind || ((kinds .several && eqb kind questions-kind) || (kinds .states && eqb kind states-kind))
+
+-- Those of the engine and the problem reader: 1, 3 and 5; of the checker: 1 and 5; of the converter: 1 and 3, "also later".
+abbrev pub engine-kinds : Kinds
+engine-kinds = record { several = true; states = true }
+
+abbrev pub checker-kinds : Kinds
+checker-kinds = record { several = false; states = true }
+
+abbrev pub converter-kinds : Kinds
+converter-kinds = record { several = true; states = false }
 
 -- n is above its limit, 31, or m above its, 63.
 abbrev pub above-limits : ℕ → ℕ → Bool
@@ -82,17 +106,29 @@ countsRefused size kind n m count =
     ∷ []
 
 -- The first of refusals 1 to 5 and 15 on numbers: the size, and the header's length, kind, n, m and count.
-unfoldable pub headerJudged : Bool → ℕ → ℕ → ℕ → ℕ → ℕ → ℕ → ℕ
-headerJudged several size length kind n m count =
+unfoldable pub headerJudged : Kinds → ℕ → ℕ → ℕ → ℕ → ℕ → ℕ → ℕ
+headerJudged kinds size length kind n m count =
     first
     (record { applies = ltb size problem-header; number = refused-short }
     ∷ record { applies = not (eqb (length + length-bytes) size); number = refused-length }
-    ∷ record { applies = not (known-kind several kind); number = refused-kind }
+    ∷ record { applies = not (known-kind kinds kind); number = refused-kind }
     ∷ countsRefused size kind n m count)
 
 -- Refusals 1 to 5 and 15 concern the first bytes of a problem and its size.
-unfoldable pub headerRefusal : Bool → List ℕ → ℕ → ℕ
-headerRefusal several s size = headerJudged several size (lengthField s) (kindField s) (nField s) (mField s) (countField s)
+unfoldable pub headerRefusal : Kinds → List ℕ → ℕ → ℕ
+headerRefusal kinds s size = headerJudged kinds size (lengthField s) (kindField s) (nField s) (mField s) (countField s)
+
+-- The state of rule i, counted from 0, of a record of kind 5.
+abbrev pub stateField : List ℕ → ℕ → ℕ
+stateField s i = numAt short-bytes s (states-place + short-bytes * i)
+
+-- It is neither 0 nor 1.
+abbrev pub wrong-state : List ℕ → ℕ → Bool
+wrong-state s i = not (eqb (stateField s i) state-suspended || eqb (stateField s i) state-in-force)
+
+-- Refusal 20: a state other than 0 or 1.
+abbrev pub stateRefused : List ℕ → Bool
+stateRefused s = eqb (kindField s) states-kind && some-below (wrong-state s) (mField s)
 
 -- Refusal 6: a lead is neither blank nor within ±20,160.
 abbrev pub leadRefused : List ℕ → Bool
@@ -104,24 +140,28 @@ runBlank s count at = all (eqb signed-half) (numsAt signed-bytes count s at)
 
 -- Row i, counted from 0, has an all-blank left list.
 abbrev pub blank-left : List ℕ → ℕ → Bool
-blank-left s i = runBlank s (suc (nField s)) (rowPlace (leadsPlace (kindField s)) (nField s) i)
+blank-left s i = runBlank s (suc (nField s)) (rowPlace (leadsPlace (kindField s) (mField s)) (nField s) i)
 
--- Refusal 17: a rule has an all-blank left list. (A question may have one.)
+-- Refusal 17: a rule has an all-blank left list, in force or suspended. (A question may have one.)
 abbrev pub silentRefused : List ℕ → Bool
 silentRefused s = some-below (blank-left s) (mField s)
 
--- The first of refusals 1 to 6, 15 and 17 that applies to a problem, 0 where none does, in an entry that takes several questions or one.
-unfoldable pub refusalFor : Bool → List ℕ → ℕ
-refusalFor several s =
-    or-else (headerRefusal several s (length s))
-    (first (record { applies = leadRefused s; number = refused-lead } ∷ record { applies = silentRefused s; number = refused-silent } ∷ []))
+-- The first of refusals 1 to 5, 15, 20, 6 and 17 that applies to a problem, 0 where none does, in an entry that knows these kinds.
+unfoldable pub refusalFor : Kinds → List ℕ → ℕ
+refusalFor kinds s =
+    or-else (headerRefusal kinds s (length s))
+    (first
+    (record { applies = stateRefused s; number = refused-state }
+    ∷ record { applies = leadRefused s; number = refused-lead }
+    ∷ record { applies = silentRefused s; number = refused-silent }
+    ∷ []))
 
 -- Where one question is asked for, and where several may be.
 abbrev pub problemRefusal : List ℕ → ℕ
-problemRefusal s = refusalFor false s
+problemRefusal s = refusalFor checker-kinds s
 
 abbrev pub recordRefusal : List ℕ → ℕ
-recordRefusal s = refusalFor true s
+recordRefusal s = refusalFor engine-kinds s
 
 -- A problem of one question is within the layout if no refusal that concerns the problem applies to it; a record of one question
 -- or several.
@@ -144,33 +184,48 @@ layoutOf s = record {
   kind = kindField s;
   n = nField s;
   m = mField s;
-  leads = leadsPlace (kindField s);
+  leads = leadsPlace (kindField s) (mField s);
   questions = questionsAsked (kindField s) (countField s);
 }
 
 -- What a problem's header, its first bytes and its size, gives: the layout, or the first of refusals 1 to 5 and 15.
-unfoldable pub headerOutcome : Bool → List ℕ → ℕ → Outcome Layout
-headerOutcome several s size = outcome (headerRefusal several s size) (layoutOf s)
+unfoldable pub headerOutcome : Kinds → List ℕ → ℕ → Outcome Layout
+headerOutcome kinds s size = outcome (headerRefusal kinds s size) (layoutOf s)
 
--- What a whole problem gives: its layout, or the first of refusals 1 to 6, 15 and 17.
-unfoldable pub problemOutcome : Bool → List ℕ → Outcome Layout
-problemOutcome several s = outcome (refusalFor several s) (layoutOf s)
+-- What a whole problem gives: its layout, or the first of refusals 1 to 6, 15, 17 and 20.
+unfoldable pub problemOutcome : Kinds → List ℕ → Outcome Layout
+problemOutcome kinds s = outcome (refusalFor kinds s) (layoutOf s)
 
--- Places of the leads: row i has its left leads first, then its right leads, anchor first.
+-- Places of the leads, where they start at `start`: row i has its left leads first, then its right leads, anchor first.
+abbrev pub leftFrom : ℕ → ℕ → ℕ → ℕ → ℕ
+leftFrom start n i j = rowPlace start n i + signed-bytes * j
+
+abbrev pub rightFrom : ℕ → ℕ → ℕ → ℕ → ℕ
+rightFrom start n i j = rowPlace start n i + signed-bytes * suc n + signed-bytes * j
+
+-- Those of kind 1.
 abbrev pub leftPlace : ℕ → ℕ → ℕ → ℕ
-leftPlace n i j = rowPlace problem-header n i + signed-bytes * j
+leftPlace n i j = leftFrom problem-header n i j
 
 abbrev pub rightPlace : ℕ → ℕ → ℕ → ℕ
-rightPlace n i j = rowPlace problem-header n i + signed-bytes * suc n + signed-bytes * j
+rightPlace n i j = rightFrom problem-header n i j
 
--- The problem that the bytes of a record of one question mean.
+-- Row i is a suspended rule (document 02, 2.10). The question has no state.
+abbrev pub suspended : List ℕ → ℕ → Bool
+suspended s i = eqb (kindField s) states-kind && (ltb i (mField s) && eqb (stateField s i) state-suspended)
+
+-- The lead of row i at a place: the row of a suspended rule is blank on both sides.
+abbrev pub leadOf : List ℕ → ℕ → ℕ → Trop
+leadOf s i at = cond (suspended s i) bot (tropAt s at)
+
+-- The problem that the bytes of a record mean; of several questions, with the first.
 unfoldable pub problemOf : List ℕ → Problem
 problemOf s =
     record {
       n = nField s;
       m = mField s;
-      left = λ i j. tropAt s (leftPlace (nField s) i j);
-      right = λ i j. tropAt s (rightPlace (nField s) i j);
+      left = λ i j. leadOf s i (leftFrom (leadsPlace (kindField s) (mField s)) (nField s) i j);
+      right = λ i j. leadOf s i (rightFrom (leadsPlace (kindField s) (mField s)) (nField s) i j);
     }
 
 -- f 0, …, f (k − 1) as a list.

@@ -7,10 +7,10 @@ use mathlib.Core.List.{List, [], _∷_, _++_}
 use lib.Dec.{eqb, ltb}
 use lib.ListN.{length, take, drop}
 use lib.IntN.{ℤ, pos, negsuc}
-use Rattle.definitions.specs.Limits.{kept-bytes, length-bytes, signed-full, problem-kind, questions-kind}
+use Rattle.definitions.specs.Limits.{kept-bytes, length-bytes, signed-full, questions-kind}
 use Rattle.definitions.specs.Tropical.{Trop, bot, fin}
 use Rattle.definitions.specs.Bytes.{Bytes}
-use Rattle.definitions.specs.ProblemRecord.{recordRefusal, meant, problemOf, kindField, nField, countField, lengthField}
+use Rattle.definitions.specs.ProblemRecord.{recordRefusal, meant, problemOf, AsksOne, kindField, nField, countField, lengthField}
 use Rattle.definitions.specs.AnswerRecord.{Answer, by-class, answerBytes}
 use Rattle.definitions.specs.Verdict.{Verdict, accepted, refused, not-certified, Judged}
 use Rattle.definitions.specs.Solved.{Answers, AnswersInTurn}
@@ -100,7 +100,7 @@ pub record VerdictOutput (input output : List ℕ) : Type 0 where
 pub data SpanOutput (input : List ℕ) : List ℕ → Type 0 where
   refusal : {k : ℕ} → recordRefusal input ≡ suc k → SpanOutput input (refusedLine (suc k))
   answer :
-      {class : ℕ} {span : Trop} {trials : ℕ} (a : Answer) → kindField input ≡ problem-kind → recordRefusal input ≡ 0
+      {class : ℕ} {span : Trop} {trials : ℕ} (a : Answer) → AsksOne input → recordRefusal input ≡ 0
       → Answers (problemOf input) class span trials a → SpanOutput input (answerBytes (nField input) a)
   answers :
       {bytes : List ℕ} {trials : ℕ} → kindField input ≡ questions-kind → recordRefusal input ≡ 0

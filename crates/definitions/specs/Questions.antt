@@ -5,7 +5,7 @@ use mathlib.Core.List.{List, _++_}
 use lib.Dec.{eqb}
 use lib.ListN.{take, drop}
 use Rattle.definitions.specs.Limits.{signed-bytes, questions-header}
-use Rattle.definitions.specs.ProblemRecord.{kindField, nField, mField, by-kind, rowPlace, headerBytes}
+use Rattle.definitions.specs.ProblemRecord.{kindField, nField, mField, by-questions, rowPlace, headerBytes}
 
 -- `count` bytes of a string from a place on; fewer where it ends before.
 abbrev pub part : List ℕ → ℕ → ℕ → List ℕ
@@ -23,9 +23,9 @@ alone s q =
     ++ (part s questions-header (rowsSize (nField s) (mField s))
     ++ part s (rowPlace questions-header (nField s) (mField s + q)) (rowsSize (nField s) 1))
 
--- The kind 1 record of question q: of a record of kind 1, itself.
+-- The record of question q: where several are asked, its kind 1 record; a record of one question is its own.
 abbrev pub asking : List ℕ → ℕ → List ℕ
-asking s q = by-kind (kindField s) (alone s q) s
+asking s q = by-questions (kindField s) (alone s q) s
 
 -- Row i of `alone s q` is this row of the record: the rules as they stand, and question q for the question.
 abbrev pub askedRow : ℕ → ℕ → ℕ → ℕ

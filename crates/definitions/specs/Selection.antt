@@ -1,9 +1,9 @@
 -- Rows chosen: the problem with some of the inequalities (rules) of another, and its objective (question) last. Document 02 speaks of
 -- such problems in 2.5 ("the problem with only these rules and the question"), 2.6 ("drops these rules and closes up the numbers")
 -- and 2.10 ("the problem that holds only the rules in force").
-use Prim.Native.Nat.{ℕ, zero, suc, _≤_, _<_}
+use Prim.Native.Nat.{ℕ, zero, suc, _+_, _≤_, _<_}
 use mathlib.Core.Path.{_≡_}
-use mathlib.Core.Bool.{cond}
+use mathlib.Core.Bool.{Bool, cond}
 use mathlib.Core.Logic.{_↔_}
 use lib.Dec.{eqb, ltb}
 use lib.IntN.{ℤ, pos}
@@ -24,6 +24,16 @@ selected p f m′ =
       left = λ i j. p .left (rowOf p f m′ i) j;
       right = λ i j. p .right (rowOf p f m′ i) j;
     }
+
+-- Rows chosen by a test, which says of each whether it is left out: how many of the first k stay, and which of them is the i-th that
+-- stays, counted from 0.
+unfoldable pub leftBelow : (ℕ → Bool) → ℕ → ℕ
+leftBelow out zero = 0
+leftBelow out (suc k) = leftBelow out k + cond (out k) 0 1
+
+unfoldable pub leftAt : (ℕ → Bool) → ℕ → ℕ → ℕ
+leftAt out zero i = 0
+leftAt out (suc k) i = cond (ltb i (leftBelow out k)) (leftAt out k i) k
 
 -- The rows chosen are inequalities of p,
 pub record Choice (p : Problem) (f : ℕ → ℕ) (m′ : ℕ) : Type 0 where

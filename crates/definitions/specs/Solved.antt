@@ -6,12 +6,12 @@ use mathlib.Core.List.{List, [], _∷_, _++_}
 use lib.Dec.{ltb}
 use lib.ListN.{length, getD}
 use lib.IntN.{ℤ}
-use Rattle.definitions.specs.Limits.{problem-kind, questions-kind, answer-most, refused-room, class-optimal, class-unbounded, class-infeasible}
+use Rattle.definitions.specs.Limits.{questions-kind, answer-most, refused-room, class-optimal, class-unbounded, class-infeasible}
 use Rattle.definitions.specs.Tropical.{Trop, bot, fin, Finite}
 use Rattle.definitions.specs.Problem.{Problem, Optimal, Unbounded, Infeasible}
 use Rattle.definitions.specs.Certificate.{Strategy, Reachable, startOf, AnchorAnd, Leads, RowLeads}
 use Rattle.definitions.specs.Bytes.{Clause, first, or-else}
-use Rattle.definitions.specs.ProblemRecord.{recordRefusal, problemOf, kindField, nField, mField, countField, questionsAsked}
+use Rattle.definitions.specs.ProblemRecord.{recordRefusal, problemOf, AsksOne, kindField, nField, mField, countField, questionsAsked}
 use Rattle.definitions.specs.Questions.{alone}
 use Rattle.definitions.specs.AnswerRecord.{Answer, rightCounts, startFits, formRefusal, answerSize, answerBytes, written}
 use Rattle.definitions.specs.Bisection.{trials-optimal, trials-unbounded, trials-infeasible}
@@ -21,7 +21,7 @@ use Rattle.definitions.specs.Verdict.{Accepted, strategyOf}
 abbrev pub answersRefused : ℕ → ℕ → Clause
 answersRefused questions room = record { applies = ltb room (questions * answer-most); number = refused-room }
 
--- The first of refusals 1 to 6, 15 and 17 for a problem of one question or several, then 7 for a buffer of `room` bytes; 0 where none
+-- The first of refusals 1 to 6, 15, 17 and 20 for a problem of one question or several, then 7 for a buffer of `room` bytes; 0 where none
 -- applies.
 unfoldable pub engineRefusal : List ℕ → ℕ → ℕ
 engineRefusal p room = or-else (recordRefusal p) (first (answersRefused (questionsAsked (kindField p) (countField p)) room ∷ []))
@@ -75,7 +75,7 @@ pub data Solved : Type 0 where
 pub data Solves (p before : List ℕ) : Solved → List ℕ → Type 0 where
   turned-away : {k : ℕ} → engineRefusal p (length before) ≡ suc k → Solves p before (refused (suc k)) before
   solved :
-      {class : ℕ} {span : Trop} {trials : ℕ} (a : Answer) → kindField p ≡ problem-kind → engineRefusal p (length before) ≡ 0
+      {class : ℕ} {span : Trop} {trials : ℕ} (a : Answer) → AsksOne p → engineRefusal p (length before) ≡ 0
       → Answers (problemOf p) class span trials a
       → Solves p before (answered class span trials (answerSize class (nField p) (mField p))) (written before (answerBytes (nField p) a))
   all-solved :

@@ -22,5 +22,6 @@ pub mod Attain
 pub mod Classes
 pub mod Unused
 pub mod CycleMaps
+pub mod AgreeCertificates
 pub mod SmallLeads
 pub mod OlderProblems

@@ -2,7 +2,7 @@
 -- today, so the refusals are the same; and both pairs of outer trials are enough for such leads, so they decide alike.
 use Prim.Native.Nat.{ℕ, _≤_}
 use mathlib.Core.Path.{_≡_, refl, sym, _∙_}
-use mathlib.Core.Bool.{Bool, true, false, not}
+use mathlib.Core.Bool.{true, not}
 use mathlib.Core.List.{List, [], _∷_}
 use mathlib.Core.Logic.{_↔_, ⊎-elim}
 use native.Mathlib.Omega.{arith}
@@ -13,11 +13,11 @@ use Rattle.definitions.specs.Limits.{lead-limit, span-limit, top-trial, lowest-
 use Rattle.definitions.specs.Tropical.{Trop, bot, fin}
 use Rattle.definitions.specs.Bytes.{some-below, numAt, numsAt, signed, tropField, all, blank-or-within}
 use Rattle.definitions.specs.Problem.{Problem, Attainable, Infeasible}
-use Rattle.definitions.specs.ProblemRecord.{leadsOf, headerRefusal, headerJudged, refusalFor, WithinLayout, problemOf}
+use Rattle.definitions.specs.ProblemRecord.{Kinds, engine-kinds, checker-kinds, stateRefused, leadsOf, headerRefusal, headerJudged, refusalFor, WithinLayout, problemOf}
 use Rattle.definitions.specs.Questions.{alone}
 use Rattle.definitions.specs.Examples.{example-A}
 use Rattle.definitions.proofs.Bytes.{all-true}
-use Rattle.definitions.proofs.Refusals.{or-else-none, passes-clause}
+use Rattle.definitions.proofs.Refusals.{fails-clause, or-else-none, passes-clause}
 use Rattle.definitions.proofs.Inputs.{header-none}
 use Rattle.definitions.proofs.Questions.{several-passes, leads-alone}
 use Rattle.definitions.proofs.Solved.{one-asked}
@@ -39,15 +39,15 @@ all-more {limit} {more} h s e =
     all-true (blank-or-within more) bot (leadsOf s) .1 (λ i l. within-more h _ (all-true (blank-or-within limit) bot (leadsOf s) .0 e i l))
 
 -- The refusals are the same.
-same-refusal : (limit : ℕ) → limit ≤ lead-limit → (several : Bool) (s : List ℕ) → LeadsWithin limit s → refusalFor several s ≡ refusalBefore limit several s
+same-refusal : (limit : ℕ) → limit ≤ lead-limit → (kinds : Kinds) (s : List ℕ) → LeadsWithin limit s → refusalFor kinds s ≡ refusalBefore limit kinds s
 unfolding refusalFor refusalBefore
-same-refusal limit h several s e = rw (e, all-more h s e)
+same-refusal limit h kinds s e = rw (e, all-more h s e)
 
 -- A problem that was within the older layout had its leads within the limit.
-leads-before : (limit : ℕ) (several : Bool) (s : List ℕ) → refusalBefore limit several s ≡ 0 → LeadsWithin limit s
+leads-before : (limit : ℕ) (kinds : Kinds) (s : List ℕ) → refusalBefore limit kinds s ≡ 0 → LeadsWithin limit s
 unfolding refusalBefore
-leads-before limit several s e =
-    passes-clause (all (blank-or-within limit) (leadsOf s)) _ _ .0 (or-else-none (headerRefusal several s (length s)) _ .0 e .1) .0
+leads-before limit kinds s e =
+    passes-clause (all (blank-or-within limit) (leadsOf s)) _ _ .0 (fails-clause (stateRefused s) _ _ .0 (or-else-none (headerRefusal kinds s (length s)) _ .0 e .1) .1) .0
 
 -- ---- the trials
 
@@ -78,14 +78,14 @@ pub older-stay : (limit : ℕ) → limit ≤ lead-limit → OlderStay limit
 older-stay limit h = (
   same-refusal limit h,
   λ s e.
-      let f = leads-before limit false s e in
-      let w = same-refusal limit h false s f ∙ e in
+      let f = leads-before limit checker-kinds s e in
+      let w = same-refusal limit h checker-kinds s f ∙ e in
       (w, stays limit s w f),
   λ s k e q b.
-      let f = leads-before limit true s e in
-      let w = same-refusal limit h true s f ∙ e in
+      let f = leads-before limit engine-kinds s e in
+      let w = same-refusal limit h engine-kinds s f ∙ e in
       let one = one-asked s k w q b .within in
-      (one, stays limit (alone s q) one (leads-alone (blank-or-within limit) s (several-passes true k (header-none true s w)) f q b)),
+      (one, stays limit (alone s q) one (leads-alone (blank-or-within limit) s (several-passes engine-kinds k (header-none engine-kinds s w)) f q b)),
 )
 
 -- Document 01's limit.
@@ -99,18 +99,18 @@ older-numbers : (top-by older-lead-limit ≡ pos 645120) × (lowest-by older-lea
 older-numbers = (refl, refl, refl, refl, refl, refl)
 
 -- By the limit of today the refusals are those of the definitions.
-refusal-now : (several : Bool) (s : List ℕ) → refusalBefore lead-limit several s ≡ refusalFor several s
+refusal-now : (kinds : Kinds) (s : List ℕ) → refusalBefore lead-limit kinds s ≡ refusalFor kinds s
 unfolding refusalFor refusalBefore
-refusal-now several s = refl
+refusal-now kinds s = refl
 
 -- Example A was within the older layout, and so were leads of ±10,080. A lead of 10,081 was refused by 6, and is not now.
-older-A : refusalBefore older-lead-limit false (example-A .problem) ≡ 0
+older-A : refusalBefore older-lead-limit checker-kinds (example-A .problem) ≡ 0
 unfolding refusalBefore headerRefusal headerJudged leadsOf numAt numsAt all blank-or-within tropField signed example-A some-below
 older-A = refl
 
 lead-bytes : ℕ → List ℕ
 lead-bytes low = 14 ∷ 0 ∷ 0 ∷ 0 ∷ 1 ∷ 0 ∷ 0 ∷ 0 ∷ 0 ∷ 0 ∷ low ∷ 39 ∷ 0 ∷ 0 ∷ 160 ∷ 216 ∷ 255 ∷ 255 ∷ []
 
-older-edge : (refusalBefore older-lead-limit false (lead-bytes 96) ≡ 0) × (refusalBefore older-lead-limit false (lead-bytes 97) ≡ 6) × (refusalFor false (lead-bytes 97) ≡ 0)
+older-edge : (refusalBefore older-lead-limit checker-kinds (lead-bytes 96) ≡ 0) × (refusalBefore older-lead-limit checker-kinds (lead-bytes 97) ≡ 6) × (refusalFor checker-kinds (lead-bytes 97) ≡ 0)
 unfolding lead-bytes refusalBefore refusalFor headerRefusal headerJudged leadsOf numAt numsAt all blank-or-within tropField signed some-below
 older-edge = (refl, refl, refl)

@@ -12,7 +12,7 @@ use Rattle.definitions.specs.Questions.{alone}
 use Rattle.definitions.specs.Solved.{Found, optimal, unbounded, infeasible, AnswersInTurn, no-question, one-more}
 use Rattle.definitions.proofs.Bisection.{few-trials}
 use Rattle.definitions.proofs.Offset.{within-size}
-use Rattle.definitions.proofs.Refusals.{problem-fits, left-limited, right-limited}
+use Rattle.definitions.proofs.Refusals.{problem-fits, within-asks, left-limited, right-limited}
 use Rattle.definitions.proofs.Solved.{one-asked}
 use Rattle.duality.specs.Within.{Within, Enough}
 use Rattle.duality.proofs.Classes.{optimal-range}
@@ -22,7 +22,7 @@ use Rattle.duality.proofs.Numbers.{top-enough}
 pub leads-within : (limit : ℕ) (p : List ℕ) → WithinLayout p → all (blank-or-within limit) (leadsOf p) ≡ true → Within (problemOf p) limit
 unfolding problemOf
 leads-within limit p w f =
-    let k = problem-fits p .0 w .kind-is in
+    let k = within-asks p w in
     record {
       left = λ i j a h g e. within-size limit (left-limited limit p k f i j h g) e;
       right = λ i j a h g e. within-size limit (right-limited limit p k f i j h g) e;
@@ -31,11 +31,11 @@ leads-within limit p w f =
 -- and 64 times it, which is enough for them.
 pub leads-enough : (limit : ℕ) (p : List ℕ) → WithinLayout p → Enough (problemOf p .n) limit (2 * stride * limit)
 unfolding problemOf
-leads-enough limit p w = top-enough (nField p) limit (omega (arith, problem-fits p .0 w .n-most))
+leads-enough limit p w = top-enough (nField p) limit (omega (arith, problem-fits p w .n-most))
 
 -- The leads are within their limit.
 pub layout-within : (p : List ℕ) → WithinLayout p → Within (problemOf p) lead-limit
-layout-within p w = leads-within lead-limit p w (problem-fits p .0 w .leads-fit)
+layout-within p w = leads-within lead-limit p w (problem-fits p w .leads-fit)
 
 -- The limit of spans is enough for them.
 pub layout-enough : (p : List ℕ) → WithinLayout p → 2 * (suc (problemOf p .n) * lead-limit) ≤ span-limit

@@ -3,15 +3,15 @@
 -- trials that decide them do.
 use Prim.Native.Nat.{ℕ, _*_, _≤_, _<_}
 use mathlib.Core.Path.{_≡_}
-use mathlib.Core.Bool.{Bool, true, false, not}
+use mathlib.Core.Bool.{true, not}
 use mathlib.Core.List.{List, [], _∷_}
 use mathlib.Core.Logic.{_↔_}
 use lib.ListN.{length}
 use lib.IntN.{ℤ, pos, negsuc, natAbs}
-use Rattle.definitions.specs.Limits.{questions-kind, stride, top-trial, lowest-trial, refused-lead, refused-silent}
+use Rattle.definitions.specs.Limits.{questions-kind, stride, top-trial, lowest-trial, refused-state, refused-lead, refused-silent}
 use Rattle.definitions.specs.Bytes.{all, blank-or-within, first, or-else}
 use Rattle.definitions.specs.Problem.{Problem, Attainable, Optimal, Unbounded, Infeasible}
-use Rattle.definitions.specs.ProblemRecord.{kindField, countField, leadsOf, silentRefused, headerRefusal, refusalFor, WithinLayout, problemOf}
+use Rattle.definitions.specs.ProblemRecord.{Kinds, engine-kinds, checker-kinds, stateRefused, kindField, countField, leadsOf, silentRefused, headerRefusal, refusalFor, WithinLayout, problemOf}
 use Rattle.definitions.specs.Questions.{alone}
 
 -- The limit of leads before: ±10,080.
@@ -23,10 +23,14 @@ abbrev pub LeadsWithin : ℕ → List ℕ → Type 0
 LeadsWithin limit s = all (blank-or-within limit) (leadsOf s) ≡ true
 
 -- The first refusal that applied to a record in a layout with this limit of leads, 0 where none did.
-unfoldable pub refusalBefore : ℕ → Bool → List ℕ → ℕ
-refusalBefore limit several s =
-    or-else (headerRefusal several s (length s))
-    (first (record { applies = not (all (blank-or-within limit) (leadsOf s)); number = refused-lead } ∷ record { applies = silentRefused s; number = refused-silent } ∷ []))
+unfoldable pub refusalBefore : ℕ → Kinds → List ℕ → ℕ
+refusalBefore limit kinds s =
+    or-else (headerRefusal kinds s (length s))
+    (first
+    (record { applies = stateRefused s; number = refused-state }
+    ∷ record { applies = not (all (blank-or-within limit) (leadsOf s)); number = refused-lead }
+    ∷ record { applies = silentRefused s; number = refused-silent }
+    ∷ []))
 
 -- The limit of spans by a limit of leads, and the two outer trials: 645,120 and −645,121 before.
 abbrev pub spans-by : ℕ → ℕ
@@ -51,7 +55,7 @@ pub record Stays (limit : ℕ) (p : Problem) : Type 0 where
 -- within that layout: it is within this one, and stays; so does each of several questions.
 abbrev pub OlderStay : ℕ → Type 0
 OlderStay limit =
-    ((several : Bool) (s : List ℕ) → LeadsWithin limit s → refusalFor several s ≡ refusalBefore limit several s)
-    × ((s : List ℕ) → refusalBefore limit false s ≡ 0 → WithinLayout s × Stays limit (problemOf s))
-    × ((s : List ℕ) → kindField s ≡ questions-kind → refusalBefore limit true s ≡ 0 → (q : ℕ) → q < countField s
+    ((kinds : Kinds) (s : List ℕ) → LeadsWithin limit s → refusalFor kinds s ≡ refusalBefore limit kinds s)
+    × ((s : List ℕ) → refusalBefore limit checker-kinds s ≡ 0 → WithinLayout s × Stays limit (problemOf s))
+    × ((s : List ℕ) → kindField s ≡ questions-kind → refusalBefore limit engine-kinds s ≡ 0 → (q : ℕ) → q < countField s
     → WithinLayout (alone s q) × Stays limit (problemOf (alone s q)))

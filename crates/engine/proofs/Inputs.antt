@@ -8,7 +8,7 @@ use lib.ListN.{length, getD, take, length-take}
 use lib.Seq.{getD-take, take-all}
 use Rattle.definitions.specs.Limits.{kept-bytes, problem-header}
 use Rattle.definitions.specs.Bytes.{numAt}
-use Rattle.definitions.specs.ProblemRecord.{headerRefusal, headerOutcome, problemRefusal, refusalFor, meant}
+use Rattle.definitions.specs.ProblemRecord.{engine-kinds, headerRefusal, headerOutcome, problemRefusal, refusalFor, meant}
 use Rattle.definitions.specs.Programs.{KeptOf}
 use Rattle.definitions.specs.Solved as Results
 use Rattle.definitions.specs.Solved.{Solves}
@@ -29,17 +29,17 @@ kept-solves kept {before = before} {r} {after} s input k h = subst (λ (x : List
 
 -- A longer one is refused by its header: no problem is that long.
 pub long-refused : {kept input : List ℕ} {size : ℕ} {before : List ℕ} (header : Header) {r : ℕ} → KeptOf kept size input → kept-bytes < size
-    → headerOf header ≡ headerOutcome true kept size → r ≡ problemRefused header → Solves (meant input) before (solvedOf (Results′.Refused r)) before
+    → headerOf header ≡ headerOutcome engine-kinds kept size → r ≡ problemRefused header → Solves (meant input) before (solvedOf (Results′.Refused r)) before
 unfolding solvedOf problemRefused refusalFor
 long-refused {kept} {input} {size} {before} header {r} k h e g = rw (meant-some input (omega (arith, k .size-is))) (go header refl)
   where
     go : (x : Header) → header ≡ x → Solves input before (Results.refused r) before
     go (Headers.Told l) f =
-        let q = header-fits true kept size e f in
-        absurd (omega (arith, header-most true kept size (q .none)))
+        let q = header-fits engine-kinds kept size e f in
+        absurd (omega (arith, header-most engine-kinds kept size (q .none)))
     go (Headers.Refused j) f =
-        let q = header-refuses true kept size e f in
-        let same : headerRefusal true input (length input) ≡ j = ap (headerRefusal true input) (k .size-is) ∙ header-agrees true input kept (λ i b. kept-at k h i (omega arith)) size ∙ q .0 in
-        let some : 0 < headerRefusal true input (length input) = omega (arith, q .1) in
+        let q = header-refuses engine-kinds kept size e f in
+        let same : headerRefusal engine-kinds input (length input) ≡ j = ap (headerRefusal engine-kinds input) (k .size-is) ∙ header-agrees engine-kinds input kept (λ i b. kept-at k h i (omega arith)) size ∙ q .0 in
+        let some : 0 < headerRefusal engine-kinds input (length input) = omega (arith, q .1) in
         let number : r ≡ j = g ∙ ap problemRefused f in
-        refuses-with input before r (or-else-suc (headerRefusal true input (length input)) _ some ∙ same ∙ sym number) (omega (arith, q .1))
+        refuses-with input before r (or-else-suc (headerRefusal engine-kinds input (length input)) _ some ∙ same ∙ sym number) (omega (arith, q .1))

@@ -2,23 +2,22 @@
 use Prim.Native.Nat.{ℕ, zero, suc, _+_, _*_, _≤_, _<_}
 use mathlib.Core.Path.{_≡_, refl, ap, sym, subst₂, _∙_}
 use mathlib.Core.Bool.{Bool, cond, true, false}
-use mathlib.Core.Logic.{⊎-elim}
 use mathlib.Core.List.{List, map}
 use native.Mathlib.Omega.{arith}
 use lib.ListN.{length, take, length-take, length-map}
-use borrow.Author.Tests.{lt-ltb}
-use Rattle.definitions.specs.Limits.{answer-most, highest-n, highest-m, most-trials, problem-kind, questions-kind}
+use borrow.Author.Tests.{lt-ltb, ne-eqb}
+use Rattle.definitions.specs.Limits.{answer-most, highest-n, highest-m, most-trials, questions-kind}
 use Rattle.definitions.specs.Bytes.{Bytes, or-else, Outcome, gives}
 use Rattle.definitions.specs.Offset.{tropOf}
 use Rattle.definitions.specs.Problem.{Problem}
-use Rattle.definitions.specs.ProblemRecord.{kindField, nField, mField, countField, questionsAsked, layoutOf, problemRefusal, recordRefusal, problemOutcome, WithinLayout, WithinLayouts, problemOf, meant}
+use Rattle.definitions.specs.ProblemRecord.{engine-kinds, checker-kinds, AsksOne, kindField, nField, mField, countField, questionsAsked, layoutOf, problemRefusal, recordRefusal, problemOutcome, WithinLayout, WithinLayouts, problemOf, meant}
 use Rattle.definitions.specs.Questions.{asking}
 use Rattle.definitions.specs.AnswerRecord.{stampCount, pickCount, answerSize, answerBytes, writerOutcome, written}
 use Rattle.definitions.specs.Solved as Results
 use Rattle.definitions.specs.Solved.{Answers, Solves, turned-away, solved, engineRefusal}
 use Rattle.definitions.proofs.Questions.{asking-itself}
 use Rattle.definitions.proofs.IdleDay.{several-itself}
-use Rattle.definitions.proofs.Refusals.{or-else-suc, WriterFits, writer-fits, header-passes, kind-known, one-question}
+use Rattle.definitions.proofs.Refusals.{or-else-suc, WriterFits, writer-fits, one-question}
 use Rattle.definitions.proofs.Outcomes.{outcome-none}
 use Rattle.definitions.proofs.Solved.{answers-taken, none-refused, Wrote, wrote, WroteAll, wrote-all}
 use Rattle.records.specs.declared.problem.Header.{Header}
@@ -134,7 +133,7 @@ refuses-with p before zero e h = absurd (omega arith)
 refuses-with p before (suc k) e h = turned-away (or-else-suc (recordRefusal p) _ (rw e h) ∙ e)
 
 -- A problem that is refused.
-pub refuses-problem : (p before : List ℕ) {header : Header} {k r : ℕ} → headerOf header ≡ problemOutcome true p → header ≡ Headers.Refused k → r ≡ problemRefused header
+pub refuses-problem : (p before : List ℕ) {header : Header} {k r : ℕ} → headerOf header ≡ problemOutcome engine-kinds p → header ≡ Headers.Refused k → r ≡ problemRefused header
     → Solves p before (solvedOf (Results′.Refused r)) before
 unfolding solvedOf problemRefused problemOutcome
 refuses-problem p before {header} {k} {r} e f g =
@@ -146,13 +145,13 @@ refuses-problem p before {header} {k} {r} e f g =
 pub record Read (p : List ℕ) (l : Layout) (left right : List ℕ) : Type 0 where
   pub bytes : Bytes p
   pub within : WithinLayouts p
-  pub fits : HeaderFits true p (length p) l
+  pub fits : HeaderFits engine-kinds p (length p) l
   pub left-is : left ≡ leftTable (asking p 0)
   pub right-is : right ≡ rightTable (asking p 0)
 
-pub read-problem : {p left₀ right₀ left right : List ℕ} {header : Header} {l : Layout} → Bytes p → ProblemRead true p left₀ right₀ header left right → header ≡ Headers.Told l → Read p l left right
+pub read-problem : {p left₀ right₀ left right : List ℕ} {header : Header} {l : Layout} → Bytes p → ProblemRead engine-kinds p left₀ right₀ header left right → header ≡ Headers.Told l → Read p l left right
 read-problem {p} b r f =
-    let t = told-of true (r .result) f in
+    let t = told-of engine-kinds (r .result) f in
     record { bytes = b; within = t .within; fits = t .fits; left-is = r .left-read (t .within); right-is = r .right-read (t .within) }
 
 module _ {p : List ℕ} {l : Layout} {left right : List ℕ} (read : Read p l left right) where
@@ -186,8 +185,8 @@ module _ {p : List ℕ} {l : Layout} {left right : List ℕ} (read : Read p l le
 
   -- One question.
   module _ (k : l .kind ≡ questions-kind → ⊥) where
-    pub one-kind : kindField p ≡ problem-kind
-    one-kind = ⊎-elim (λ e. e) (λ e. absurd (k (read .fits .kind-is ∙ e))) (kind-known true (kindField p) (header-passes true p (length p) .0 (read .fits .none) .kind-known))
+    pub one-kind : AsksOne p
+    one-kind = ne-eqb (kindField p) questions-kind (λ e. k (read .fits .kind-is ∙ e))
 
     one-within : WithinLayout p
     one-within = sym (one-question p one-kind) ∙ read .within
@@ -226,7 +225,7 @@ pub solves-sent : {p : List ℕ} {l : Layout} {left right before after : List �
 solves-sent {p} read k s = rw (several-itself p (sym (read .fits .kind-is) ∙ k)) s
 
 -- The trials made for a problem that is refused, and for one that is not.
-pub none-made : {p : List ℕ} {header : Header} {k : ℕ} → headerOf header ≡ problemOutcome false p → header ≡ Headers.Refused k → TrialsMade p 0
+pub none-made : {p : List ℕ} {header : Header} {k : ℕ} → headerOf header ≡ problemOutcome checker-kinds p → header ≡ Headers.Refused k → TrialsMade p 0
 unfolding problemOutcome
 none-made {p} e f =
     let h = answer-refused (problemRefusal p) (layoutOf p) e f in
@@ -236,11 +235,11 @@ pub some-made : {p : List ℕ} {r : ℕ} → WithinLayout p → 0 < r → r ≤ 
 some-made w h k = record { refused = λ z. absurd (omega arith); some = λ _. h; most = k }
 
 -- A problem of one question, read by itself.
-pub read-posed : {p left₀ right₀ left right : List ℕ} {header : Header} {l : Layout} → Bytes p → ProblemRead false p left₀ right₀ header left right → header ≡ Headers.Told l
+pub read-posed : {p left₀ right₀ left right : List ℕ} {header : Header} {l : Layout} → Bytes p → ProblemRead checker-kinds p left₀ right₀ header left right → header ≡ Headers.Told l
     → WithinLayout p × Posed (l .n) (l .m) left right
 unfolding problemOf
 read-posed {p} b r f =
-    let t = told-of false (r .result) f in (
+    let t = told-of checker-kinds (r .result) f in (
       t .within,
       record {
         problem = problemOf p;

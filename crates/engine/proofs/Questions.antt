@@ -12,7 +12,7 @@ use borrow.Rule.Slice.PartMut.{putMid, midOf}
 use Rattle.definitions.specs.Limits.{answer-most, most-trials, questions-kind}
 use Rattle.definitions.specs.Bytes.{Bytes, put}
 use Rattle.definitions.specs.Problem.{Problem}
-use Rattle.definitions.specs.ProblemRecord.{kindField, nField, mField, countField, questionsAsked, problemOf, WithinLayouts}
+use Rattle.definitions.specs.ProblemRecord.{engine-kinds, kindField, nField, mField, countField, questionsAsked, problemOf, WithinLayouts}
 use Rattle.definitions.specs.Questions.{alone}
 use Rattle.definitions.specs.AnswerRecord.{answerSize, answerBytes, written}
 use Rattle.definitions.specs.Solved as Results
@@ -38,7 +38,7 @@ module _ {s : List ℕ} {l : Layout} {left₀ right₀ : List ℕ} (before : Lis
   within = none-refused s (length before) .0 (read .none) .0
 
   several : Several s
-  several = several-passes true (read .kind-is) (header-none true s within)
+  several = several-passes engine-kinds (read .kind-is) (header-none engine-kinds s within)
 
   -- The buffer has room for all.
   pub room-for-all : countField s * answer-most ≤ length before

@@ -12,6 +12,7 @@ ghost use Rattle.engine.specs.Outcome.{solvedOf};
 use crate::solve::Solved;
 use crate::solve::solve;
 use records::limits::KEPT;
+use records::problem::ENGINE_KINDS;
 use records::problem::problem_refusal;
 use records::problem::read_header;
 
@@ -23,7 +24,7 @@ fn solve_kept(kept: &[u8], size: usize, answer: &mut [u8]) -> Solved
     if size <= KEPT {
         return solve(&kept[..size], answer);
     }
-    let header = read_header(kept, size, true);
+    let header = read_header(kept, size, ENGINE_KINDS);
     Solved::Refused(problem_refusal(header))
 }
 

@@ -4,6 +4,7 @@ ghost use Rattle.engine.specs.Outcome.{TrialsMade};
 use class_answers::answer::solve_tables;
 use problem_records::reader::read_problem;
 use records::limits::TABLE;
+use records::problem::CHECKER_KINDS;
 use records::problem::Header;
 
 // The trials made for the problem that the bytes mean, 0 where it is refused.
@@ -12,7 +13,7 @@ pub fn trials_made(problem: &[u8]) -> u64
 {
     let mut left = [0u32; TABLE];
     let mut right = [0u32; TABLE];
-    let header = read_problem(problem, false, &mut left, &mut right);
+    let header = read_problem(problem, CHECKER_KINDS, &mut left, &mut right);
     let Header::Told(layout) = header else {
         return 0;
     };

@@ -1,4 +1,4 @@
-// The engine on bytes: refusals 1 to 7, 15 and 17 first, in order; then the answer, or those to several questions one after another, written
+// The engine on bytes: refusals 1 to 7, 15, 17 and 20 first, in order; then the answer, or those to several questions one after another, written
 // into the lent buffer.
 ghost use mathlib.Core.Path.{_≡_};
 ghost use Prim.Native.Nat.{ℕ, _*_, _≤_};
@@ -24,6 +24,7 @@ use records::limits::ANSWER_MOST;
 use records::limits::QUESTIONS_KIND;
 use records::limits::REFUSED_ROOM;
 use records::limits::TABLE;
+use records::problem::ENGINE_KINDS;
 use records::problem::Header;
 use records::problem::Layout;
 use records::problem::problem_refusal;
@@ -127,7 +128,7 @@ pub fn solve(problem: &[u8], answer: &mut [u8]) -> Solved
 {
     let mut left = [0u32; TABLE];
     let mut right = [0u32; TABLE];
-    let header = read_problem(problem, true, &mut left, &mut right);
+    let header = read_problem(problem, ENGINE_KINDS, &mut left, &mut right);
     let Header::Told(layout) = header else {
         return Solved::Refused(problem_refusal(header));
     };

@@ -8,7 +8,7 @@ use native.Mathlib.Omega.{arith}
 use Rattle.definitions.specs.Limits.{class-optimal, class-unbounded, class-infeasible}
 use Rattle.definitions.specs.Tropical.{Trop}
 use Rattle.definitions.specs.Bytes.{Bytes}
-use Rattle.definitions.specs.ProblemRecord.{problemOf, problemRefusal, problemOutcome, layoutOf, nField, mField}
+use Rattle.definitions.specs.ProblemRecord.{checker-kinds, problemOf, problemRefusal, problemOutcome, layoutOf, nField, mField}
 use Rattle.definitions.specs.AnswerRecord.{answerRefusal, answerOutcome, classField, spanField, startField}
 use Rattle.definitions.specs.Verdict as Verdicts
 use Rattle.definitions.specs.Verdict.{Accepted, optimal, unbounded, infeasible, checkRefusal, Judged, turned-away, certified, uncertified, answerFor}
@@ -21,8 +21,8 @@ use Rattle.records.specs.declared.problem.Layout.{Layout}
 use Rattle.records.specs.declared.problem.Header.the-variants as Headers
 use Rattle.records.specs.ProblemHeader.{headerOf}
 use Rattle.records.proofs.ProblemHeader.{answer-refused}
-use Rattle.problem_records.specs.Tables.{ProblemRead, Laid, rightTable}
-use Rattle.problem_records.proofs.ReadProblem.{laid}
+use Rattle.problem_records.specs.Tables.{ProblemRead, rightTable}
+use Rattle.problem_records.proofs.ReadProblem.{Told-of, told-of}
 use Rattle.problem_records.proofs.LeadTables.{problem-decoded}
 use Rattle.answer_reader.specs.declared.answer.Head.{Head}
 use Rattle.answer_reader.specs.declared.answer.AnswerHead.{AnswerHead}
@@ -88,19 +88,25 @@ module _ {p a : List ℕ} (h : Founded p a) where
   parts = or-else-none (problemRefusal p) (answerRefusal a (nField p) (mField p)) .0 (h .none)
 
   -- Neither refuses.
-  pub header-stands : {header : Header} {k : ℕ} → headerOf header ≡ problemOutcome false p → header ≡ Headers.Refused k → ⊥
+  pub header-stands : {header : Header} {k : ℕ} → headerOf header ≡ problemOutcome checker-kinds p → header ≡ Headers.Refused k → ⊥
   unfolding problemOutcome
   header-stands e f = let r = answer-refused (problemRefusal p) (layoutOf p) e f in omega (arith, parts .0)
 
-  module _ {left right left′ right′ : List ℕ} {header : Header} {l : Layout} (bytes : Bytes p) (read : ProblemRead false p left right header left′ right′)
+  module _ {left right left′ right′ : List ℕ} {header : Header} {l : Layout} (bytes : Bytes p) (read : ProblemRead checker-kinds p left right header left′ right′)
       (told : header ≡ Headers.Told l) where
-    lies : Laid p (l .n) (l .m)
-    lies = laid bytes (read .result) told
+    lies : Told-of checker-kinds p l
+    lies = told-of checker-kinds (read .result) told
+
+    n-is : nField p ≡ l .n
+    n-is = sym (lies .fits .n-is)
+
+    m-is : mField p ≡ l .m
+    m-is = sym (lies .fits .m-is)
 
     pub answer-stands : {head : AnswerHead} {k : ℕ} → headOf head ≡ answerOutcome a (l .n) (l .m) → head ≡ Heads.Refused k → ⊥
     unfolding answerOutcome
     answer-stands e f =
-        refused-by (answerRefusal a (l .n) (l .m)) (classField a, spanField a, startField a) e f .1 (rw (lies .n-is, lies .m-is) at (parts .1))
+        refused-by (answerRefusal a (l .n) (l .m)) (classField a, spanField a, startField a) e f .1 (rw (n-is, m-is) at (parts .1))
 
     table : right′ ≡ rightTable p
     table = read .right-read (lies .within) ∙ ap rightTable (asking-itself p 0 (lies .within))
@@ -114,14 +120,14 @@ module _ {p a : List ℕ} (h : Founded p a) where
     certifies {fields = fields} {stamps = stamps} {picks = picks} b r f =
         let d = problem-decoded p bytes (lies .within) in
         let right = head-read a (l .n) (l .m) (r .answered) f in
-        let means : Meant (answerFor p a) fields stamps picks = rw (lies .n-is, lies .m-is) (read-means b r right) in
+        let means : Meant (answerFor p a) fields stamps picks = rw (n-is, m-is) (read-means b r right) in
         record {
-          n-most = lies .n-most;
-          m-most = lies .m-most;
+          n-most = lies .fits .n-most;
+          m-most = lies .fits .m-most;
           held = record {
-            n-is = lies .n-is;
-            m-is = lies .m-is;
-            right-is = λ i j g k. rw table (d .right-is i j (omega (arith, lies .m-is)) (omega (arith, lies .n-is)));
+            n-is = n-is;
+            m-is = m-is;
+            right-is = λ i j g k. rw table (d .right-is i j (omega (arith, m-is)) (omega (arith, n-is)));
           };
           near = λ k. rw table (d .right-near k);
           formed = read-formed b r right;

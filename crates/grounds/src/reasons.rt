@@ -22,6 +22,7 @@ use records::limits::ROWS;
 use records::limits::STRIDE;
 use records::limits::TABLE;
 use records::limits::UNBOUNDED;
+use records::problem::CHECKER_KINDS;
 use records::problem::Header;
 use records::problem::problem_refusal;
 
@@ -93,7 +94,7 @@ fn read_reasons(problem: &[u8], answer: &[u8]) -> Grounds
 {
     let mut left = [0u32; TABLE];
     let mut right = [0u32; TABLE];
-    let header = read_problem(problem, false, &mut left, &mut right);
+    let header = read_problem(problem, CHECKER_KINDS, &mut left, &mut right);
     let Header::Told(layout) = header else {
         return refused(problem_refusal(header));
     };

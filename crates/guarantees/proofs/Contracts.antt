@@ -9,7 +9,7 @@ use lib.ListN.{length, getD, take}
 use Rattle.definitions.specs.Offset.{tropOf}
 use Rattle.definitions.specs.Problem.{Problem}
 use Rattle.definitions.specs.Bytes.{Outcome, refusal, gives, outcome, refusalOf}
-use Rattle.definitions.specs.ProblemRecord.{problemOf, recordRefusal, problemOutcome, nField, mField, layoutOf, WithinLayouts, meant}
+use Rattle.definitions.specs.ProblemRecord.{engine-kinds, problemOf, recordRefusal, problemOutcome, nField, mField, layoutOf, WithinLayouts, meant}
 use Rattle.definitions.specs.Questions.{asking}
 use Rattle.definitions.specs.AnswerRecord.{Answer, answerRefusal, answerOutcome, answerOf, stampCount, pickCount, classField, spanField, startField, writerRefusal, writerOutcome, answerBytes, written}
 use Rattle.definitions.specs.Programs.{VerdictOutput}
@@ -85,7 +85,7 @@ module _ {left₀ right₀ : List ℕ} (read : ReadProblem left₀ right₀) whe
   }
 
   -- A header that nothing refuses tells the layout.
-  header-given : (p : List ℕ) → WithinLayouts p → (h : Header) → headerOf h ≡ problemOutcome true p → Given p h
+  header-given : (p : List ℕ) → WithinLayouts p → (h : Header) → headerOf h ≡ problemOutcome engine-kinds p → Given p h
   unfolding problemOutcome
   header-given p w (Headers.Told l) e =
       let f = answer-told (recordRefusal p) (layoutOf p) {r = Headers.Told l} e refl in

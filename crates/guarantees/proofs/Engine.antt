@@ -3,17 +3,18 @@
 -- that any true checker accepts.
 use Prim.Native.Nat.{ℕ, zero, suc, _+_, _*_, _≤_, _<_}
 use mathlib.Core.Path.{_≡_, refl, ap, ap₂, sym, subst, subst₃, _∙_}
-use mathlib.Core.Bool.{false}
+use mathlib.Core.Bool.{false≢true}
+use borrow.Author.Tests.{eq-eqb}
 use mathlib.Core.List.{List, _++_, append-assoc}
 use native.Mathlib.Omega.{arith}
 use lib.ListN.{length, drop, length-append}
 use lib.Seq.{take-append-seam, drop-append-seam}
 use lib.IntN.{ℤ}
-use Rattle.definitions.specs.Limits.{answer-most, problem-kind, questions-kind, class-optimal, class-unbounded, class-infeasible}
+use Rattle.definitions.specs.Limits.{answer-most, questions-kind, class-optimal, class-unbounded, class-infeasible}
 use Rattle.definitions.specs.Tropical.{Trop, fin}
 use Rattle.definitions.specs.Problem.{Problem, Optimal}
 use Rattle.definitions.specs.Bytes.{or-else, Outcome, gives}
-use Rattle.definitions.specs.ProblemRecord.{WithinLayout, WithinLayouts, problemRefusal, problemOf, kindField, nField, mField, countField, questionsAsked, meant}
+use Rattle.definitions.specs.ProblemRecord.{checker-kinds, AsksOne, WithinLayout, WithinLayouts, problemRefusal, problemOf, kindField, nField, mField, countField, questionsAsked, meant}
 use Rattle.definitions.specs.Questions.{part, alone}
 use Rattle.definitions.specs.AnswerRecord.{Answer, answerRefusal, answerOf, answerSize, answerBytes, written}
 use Rattle.definitions.specs.Verdict.{Verdict, accepted, checkRefusal, answerFor, Accepted, Judged, turned-away, certified, uncertified}
@@ -25,7 +26,7 @@ use Rattle.definitions.proofs.Put.{put-front, drop-put}
 use Rattle.definitions.proofs.IdleDay.{meant-some, several-meant}
 use Rattle.definitions.proofs.Inputs.{header-most, header-none}
 use Rattle.definitions.proofs.Questions.{alone-bytes}
-use Rattle.definitions.proofs.Refusals.{or-else-none, problem-fits}
+use Rattle.definitions.proofs.Refusals.{or-else-none, problem-fits, within-asks}
 use Rattle.definitions.proofs.RoundTrip.{answer-back, answer-accepted, answer-length}
 use Rattle.definitions.proofs.Solved.{answer-takes, record-stands, result-parts, none-refused, one-refused, OneAsked, one-asked, asked-takes}
 use Rattle.checker.proofs.Accepting.{record-slice}
@@ -57,16 +58,16 @@ pub record EngineAnswer (engine : Engine) (p buffer : List ℕ) : Type 0 where
   pub result-is : engine .result p buffer ≡ answered class span trials (answerSize class (nField (meant p)) (mField (meant p)))
   pub buffer-is : engine .buffer p buffer ≡ written buffer (answerBytes (nField (meant p)) answer)
 
-answered-by : (engine : Engine) (p buffer : List ℕ) {r : Solved} {after : List ℕ} → Solves (meant p) buffer r after → kindField (meant p) ≡ problem-kind → engineRefusal (meant p) (length buffer) ≡ 0
+answered-by : (engine : Engine) (p buffer : List ℕ) {r : Solved} {after : List ℕ} → Solves (meant p) buffer r after → AsksOne (meant p) → engineRefusal (meant p) (length buffer) ≡ 0
     → engine .result p buffer ≡ r → engine .buffer p buffer ≡ after → EngineAnswer engine p buffer
 answered-by engine p buffer (Results.turned-away e) k h r-is b-is = absurd (let z : suc _ ≡ 0 = sym e ∙ h in omega arith)
-answered-by engine p buffer (all-solved three e turn) k h r-is b-is = absurd (omega arith)
+answered-by engine p buffer (all-solved three e turn) k h r-is b-is = absurd (false≢true (sym k ∙ eq-eqb (kindField (meant p)) questions-kind three))
 answered-by engine p buffer (solved a one e ans) k h r-is b-is = record { class = _; span = _; trials = _; answer = a; answers = ans; result-is = r-is; buffer-is = b-is }
 
 module _ (engine : Engine) (solves : EngineSolves engine) (p buffer : List ℕ) (b : Slice p) (c : Slice buffer) (w : WithinLayout (meant p)) (long : answer-most ≤ length buffer) where
   pub engine-answer : EngineAnswer engine p buffer
   engine-answer =
-      let k = problem-fits (meant p) .0 w .kind-is in
+      let k = within-asks (meant p) w in
       answered-by engine p buffer (solves p buffer b c) k (one-refused (meant p) (length buffer) k .1 (w, long)) refl refl
 
 pub least-spans : (engine : Engine) → EngineSolves engine → LeastSpans engine
@@ -158,7 +159,7 @@ own-answers engine solves check judges p buffer b c w long =
 
 -- A record within the layout has bytes, and means itself,
 pub within-itself : (p : List ℕ) → WithinLayout p → meant p ≡ p
-within-itself p w = meant-some p (omega (arith, problem-fits p .0 w .size-enough))
+within-itself p w = meant-some p (omega (arith, problem-fits p w .size-enough))
 
 -- so that a true checker accepts the bytes of an answer to it.
 accepts-record : (check : Checker) → CheckerJudges check → (p : List ℕ) → Slice p → WithinLayout p → {class : ℕ} {span : Trop} {trials : ℕ} (a : Answer)
@@ -169,7 +170,7 @@ accepts-record check judges p b w a ans =
 
 -- The record of one question can be handed over.
 alone-slice : (p : List ℕ) → Slice p → {q : ℕ} → OneAsked p q → Slice (alone p q)
-alone-slice p b {q} o = record { bytes = alone-bytes p q (b .bytes); size = omega (arith, header-most false (alone p q) (length (alone p q)) (header-none false (alone p q) (o .within))) }
+alone-slice p b {q} o = record { bytes = alone-bytes p q (b .bytes); size = omega (arith, header-most checker-kinds (alone p q) (length (alone p q)) (header-none checker-kinds (alone p q) (o .within))) }
 
 module _ (check : Checker) (judges : CheckerJudges check) (read : Reader) (reads : ReadsFields read) (p : List ℕ) (b : Slice p) (k : kindField p ≡ questions-kind) (w : WithinLayouts p) where
   -- One answer, behind others and before the rest of the buffer.
@@ -207,7 +208,7 @@ all-answered-by : (engine : Engine) (check : Checker) → CheckerJudges check �
     → AllAnswered engine check read p buffer
 unfolding written
 all-answered-by engine check judges read reads p buffer b (Results.turned-away e) k w h r-is b-is = absurd (let z : suc _ ≡ 0 = sym e ∙ h in omega arith)
-all-answered-by engine check judges read reads p buffer b (solved a one e ans) k w h r-is b-is = absurd (omega arith)
+all-answered-by engine check judges read reads p buffer b (solved a one e ans) k w h r-is b-is = absurd (false≢true (sym one ∙ eq-eqb (kindField p) questions-kind k))
 all-answered-by engine check judges read reads p buffer b (all-solved {bytes = bytes} {trials} three e turn) k w h r-is b-is = record {
   trials = trials;
   size = length bytes;

@@ -9,12 +9,12 @@ use native.Mathlib.Nat.{eq-zero-or-pos}
 use lib.ListN.{length, getD, take, drop, length-take, length-drop}
 use lib.Seq.{take-all, getD-take}
 use Rattle.base.proofs.Numbers.{nat-le-or-lt}
-use Rattle.definitions.specs.Limits.{kept-bytes, length-bytes, span-limit, problem-header, problem-kind, questions-kind}
+use Rattle.definitions.specs.Limits.{kept-bytes, length-bytes, span-limit, problem-header, questions-kind}
 use Rattle.definitions.specs.Tropical.{Trop}
 use Rattle.definitions.specs.Problem.{Problem}
 use Rattle.definitions.specs.Bytes.{Bytes, outcome}
 use Rattle.definitions.specs.Offset.{tropOf}
-use Rattle.definitions.specs.ProblemRecord.{lengthField, kindField, nField, mField, countField, leadsPlace, questionsAsked, layoutOf, headerRefusal, headerOutcome, problemRefusal, recordRefusal, problemOutcome, WithinLayout, WithinLayouts, problemOf, refusalFor, meant}
+use Rattle.definitions.specs.ProblemRecord.{AsksOne, engine-kinds, checker-kinds, lengthField, kindField, nField, mField, countField, leadsPlace, questionsAsked, layoutOf, headerRefusal, headerOutcome, problemRefusal, recordRefusal, problemOutcome, WithinLayout, WithinLayouts, problemOf, refusalFor, meant}
 use Rattle.definitions.specs.AnswerRecord.{Answer, answerRefusal, answerOutcome, answerOf, answerHeaderRefusal, classField, spanField, startField, answerSize, answerBytes, writerRefusal, writerOutcome, written}
 use Rattle.definitions.specs.Verdict as Verdicts
 use Rattle.definitions.specs.Verdict.{Judged, turned-away, certified, uncertified, answerFor, checkRefusal}
@@ -25,7 +25,7 @@ use Rattle.definitions.specs.Programs as Programs
 use Rattle.definitions.specs.Programs.{SpanOutput, VerdictOutput, KeptOf, ReadFrom, problemPart, answerPart, cutPlace, refusedLine, verdictLine}
 use Rattle.definitions.specs.Demands.{Slice, Numbered, Demands}
 use Rattle.definitions.proofs.Bytes.{bytes-take, bytes-drop}
-use Rattle.definitions.proofs.Refusals.{or-else-none, or-else-suc, record-fits, kind-known, one-question, problem-fits, answer-fits, form-fits}
+use Rattle.definitions.proofs.Refusals.{or-else-none, or-else-suc, record-fits, one-or-several, one-question, problem-fits, answer-fits, form-fits}
 use Rattle.definitions.proofs.RoundTrip.{span-within}
 use Rattle.definitions.proofs.IdleDay.{meant-some}
 use Rattle.definitions.proofs.Inputs.{kept-whole, kept-at, header-agrees, header-most, n-agrees, m-agrees, span-read, verdict-read}
@@ -68,7 +68,7 @@ use Rattle.guarantees.proofs.Demands.{demands}
 -- The case of each enum that a refusal's number, 0 for none, and what is given have.
 headerBy : ℕ → List ℕ → Header
 headerBy zero s =
-    Headers.Told (record { kind = kindField s; n = nField s; m = mField s; leads = leadsPlace (kindField s); questions = questionsAsked (kindField s) (countField s) })
+    Headers.Told (record { kind = kindField s; n = nField s; m = mField s; leads = leadsPlace (kindField s) (mField s); questions = questionsAsked (kindField s) (countField s) })
 headerBy (suc k) s = Headers.Refused (suc k)
 
 header-by : (k : ℕ) (s : List ℕ) → headerOf (headerBy k s) ≡ outcome k (layoutOf s)
@@ -126,12 +126,12 @@ answers-exist p k w zero h = record { bytes = []; trials = 0; turn = Results.no-
 answers-exist p k w (suc q) h =
     let first = answers-exist p k w q (omega arith) in
     let o = one-asked p k w q (omega arith) in
-    let s = answer-exists (problemOf (alone p q)) (problem-fits (alone p q) .0 (o .within) .n-most) (layout-within (alone p q) (o .within)) in
+    let s = answer-exists (problemOf (alone p q)) (problem-fits (alone p q) (o .within) .n-most) (layout-within (alone p q) (o .within)) in
     record { bytes = first .bytes ++ answerBytes (nField p) (s .answer); trials = first .trials + s .trials; turn = Results.one-more (s .answer) (first .turn) (s .answers) }
 
--- The kind of a record that nothing refuses.
-either-kind : (p : List ℕ) → WithinLayouts p → (kindField p ≡ problem-kind) ⊎ (kindField p ≡ questions-kind)
-either-kind p w = kind-known true (kindField p) (record-fits true p .0 w .header .kind-known)
+-- A record asks one question or several.
+either-kind : (p : List ℕ) → WithinLayouts p → AsksOne p ⊎ (kindField p ≡ questions-kind)
+either-kind p w = one-or-several (kindField p)
 
 solution-exists : (p before : List ℕ) → SomeSolution p before
 unfolding solvedOf problemOf
@@ -142,9 +142,9 @@ solution-exists p before = go (engineRefusal p (length before)) refl
     go zero e =
         let w = none-refused p (length before) .0 e .0 in
         ⊎-elim
-        (λ (k : kindField p ≡ problem-kind).
+        (λ (k : AsksOne p).
         let own : WithinLayout p = sym (one-question p k) ∙ w in
-        let s = answer-exists (problemOf p) (problem-fits p .0 own .n-most) (layout-within p own) in
+        let s = answer-exists (problemOf p) (problem-fits p own .n-most) (layout-within p own) in
         record {
           result = Solutions.Answered (s .class) (numberFor (s .span)) (s .trials) (answerSize (s .class) (nField p) (mField p));
           buffer = written before (answerBytes (nField p) (s .answer));
@@ -257,20 +257,20 @@ span-text input = go (recordRefusal input) refl
     go : (k : ℕ) → recordRefusal input ≡ k → SpanText input
     go (suc k) e = record { text = refusedLine (suc k); holds = Programs.refusal e }
     go zero e = ⊎-elim
-        (λ (k : kindField input ≡ problem-kind).
+        (λ (k : AsksOne input).
         let own : WithinLayout input = sym (one-question input k) ∙ e in
-        let s = answer-exists (problemOf input) (problem-fits input .0 own .n-most) (layout-within input own) in
+        let s = answer-exists (problemOf input) (problem-fits input own .n-most) (layout-within input own) in
         record { text = answerBytes (nField input) (s .answer); holds = Programs.answer (s .answer) k e (s .answers) })
         (λ (k : kindField input ≡ questions-kind).
         let s = answers-exist input k e (countField input) (omega arith) in record { text = s .bytes; holds = Programs.answers k e (s .turn) })
         (either-kind input e)
 
 -- A header of a size beyond what is kept is refused.
-long-number : (kept : List ℕ) (size : ℕ) → kept-bytes < size → 0 < headerRefusal true kept size
+long-number : (kept : List ℕ) (size : ℕ) → kept-bytes < size → 0 < headerRefusal engine-kinds kept size
 long-number kept size h = ⊎-elim
-    (λ (e : headerRefusal true kept size ≡ 0). absurd (omega (arith, header-most true kept size e)))
+    (λ (e : headerRefusal engine-kinds kept size ≡ 0). absurd (omega (arith, header-most engine-kinds kept size e)))
     (λ g. g)
-    (eq-zero-or-pos (headerRefusal true kept size))
+    (eq-zero-or-pos (headerRefusal engine-kinds kept size))
 
 span-kept : (kept : List ℕ) (size : ℕ) → KeptOutput kept size
 unfolding refusalFor
@@ -278,16 +278,16 @@ span-kept kept size = ⊎-elim
     (λ (h : size ≤ kept-bytes).
     let t = span-text (meant (take size kept)) in
     record { output = t .text; holds = λ input k. subst (λ (x : List ℕ). SpanOutput (meant x) (t .text)) (sym (kept-whole k h)) (t .holds) })
-    (λ (h : kept-bytes < size). long h (headerRefusal true kept size) refl (long-number kept size h))
+    (λ (h : kept-bytes < size). long h (headerRefusal engine-kinds kept size) refl (long-number kept size h))
     (nat-le-or-lt size kept-bytes)
   where
-    long : kept-bytes < size → (k : ℕ) → headerRefusal true kept size ≡ k → 0 < k → KeptOutput kept size
+    long : kept-bytes < size → (k : ℕ) → headerRefusal engine-kinds kept size ≡ k → 0 < k → KeptOutput kept size
     long h zero e s = absurd (omega arith)
     long h (suc k) e s = record {
       output = refusedLine (suc k);
       holds = λ input f.
-          let same : headerRefusal true input (length input) ≡ suc k = ap (headerRefusal true input) (f .size-is) ∙ header-agrees true input kept (λ i b. kept-at f h i (omega arith)) size ∙ e in
-          rw (meant-some input (omega (arith, f .size-is))) (Programs.refusal (or-else-suc (headerRefusal true input (length input)) _ (omega arith) ∙ same));
+          let same : headerRefusal engine-kinds input (length input) ≡ suc k = ap (headerRefusal engine-kinds input) (f .size-is) ∙ header-agrees engine-kinds input kept (λ i b. kept-at f h i (omega arith)) size ∙ e in
+          rw (meant-some input (omega (arith, f .size-is))) (Programs.refusal (or-else-suc (headerRefusal engine-kinds input (length input)) _ (omega arith) ∙ same));
     }
 
 pub the-span : Entries.SpanAnswer
@@ -328,16 +328,16 @@ module _ (kept : List ℕ) (size : ℕ) (h : kept-bytes < size) (cut : lengthFie
   end : ℕ
   end = lengthField kept + length-bytes
 
-  header-numbered : (k : ℕ) → headerRefusal false kept end ≡ k → headerOf (headerBy k kept) ≡ headerOutcome false kept end
+  header-numbered : (k : ℕ) → headerRefusal checker-kinds kept end ≡ k → headerOf (headerBy k kept) ≡ headerOutcome checker-kinds kept end
   unfolding headerOutcome
   header-numbered k e = header-by k kept ∙ ap (λ (i : ℕ). outcome i (layoutOf kept)) (sym e)
 
   -- Its problem is refused by its header, by a lead, or its answer by its header.
   verdict-cut : KeptVerdict kept size
   unfolding end headerBy problemRefused checkRefusal
-  verdict-cut = by-header (headerRefusal false kept end) refl
+  verdict-cut = by-header (headerRefusal checker-kinds kept end) refl
     where
-      by-answer : headerRefusal false kept end ≡ 0 → problemRefusal (take end kept) ≡ 0 → KeptVerdict kept size
+      by-answer : headerRefusal checker-kinds kept end ≡ 0 → problemRefusal (take end kept) ≡ 0 → KeptVerdict kept size
       by-answer e w =
           let small = header-small kept end {header = headerBy 0 kept} (header-numbered 0 e) refl in
           let some = long-refused (drop end kept) (size - end) (nField kept) (mField kept) (small .2) (small .3) (omega (arith, small .1)) in
@@ -352,7 +352,7 @@ module _ (kept : List ℕ) (size : ℕ) (h : kept-bytes < size) (cut : lengthFie
                 (long-answered longer cut (subst (λ (s : List ℕ). HeaderRead s (nField kept) (mField kept)) (problem-kept longer cut l (omega (arith, small .1))) read) refl some);
           }
 
-      by-problem : headerRefusal false kept end ≡ 0 → (j : ℕ) → problemRefusal (take end kept) ≡ j → KeptVerdict kept size
+      by-problem : headerRefusal checker-kinds kept end ≡ 0 → (j : ℕ) → problemRefusal (take end kept) ≡ j → KeptVerdict kept size
       by-problem e zero w = by-answer e w
       by-problem e (suc j) w =
           let small = header-small kept end {header = headerBy 0 kept} (header-numbered 0 e) refl in
@@ -364,7 +364,7 @@ module _ (kept : List ℕ) (size : ℕ) (h : kept-bytes < size) (cut : lengthFie
                 judged-long input (omega (arith, longer .size-is)) (long-cut longer h cut) (turned (take end input) (drop end input) (suc j) (or-else-suc (problemRefusal (take end input)) _ (omega arith) ∙ is) (omega arith));
           }
 
-      by-header : (k : ℕ) → headerRefusal false kept end ≡ k → KeptVerdict kept size
+      by-header : (k : ℕ) → headerRefusal checker-kinds kept end ≡ k → KeptVerdict kept size
       by-header zero e = by-problem e (problemRefusal (take end kept)) refl
       by-header (suc k) e = record {
         verdict = Verdicts.refused (suc k);

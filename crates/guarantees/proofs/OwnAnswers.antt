@@ -10,7 +10,7 @@ use Rattle.definitions.specs.Limits.{answer-most, refused-kind}
 use Rattle.definitions.specs.Tropical.{Trop, bot}
 use Rattle.definitions.specs.Offset.{tropOf}
 use Rattle.definitions.specs.Bytes.{Bytes, numAt, Outcome, gives, outcome}
-use Rattle.definitions.specs.ProblemRecord.{WithinLayout, headerOutcome, nField, mField, meant}
+use Rattle.definitions.specs.ProblemRecord.{checker-kinds, WithinLayout, headerOutcome, nField, mField, meant}
 use Rattle.definitions.specs.AnswerRecord.{Answer, answerRefusal, answerOutcome, answerOf, answerBytes, classField, spanField, startField}
 use Rattle.definitions.specs.Verdict as Verdicts
 use Rattle.definitions.specs.Verdict.{Verdict, accepted, Judged, pointOf, strategyOf}
@@ -101,13 +101,13 @@ own-reading {p} {before} {after} {class = class} {span} {trials} {size} h e head
 
 -- ---- the problem's n and m
 
-pub never-refused : (p : List ℕ) {header : Header} {k : ℕ} {A : Type 0} → headerOf header ≡ headerOutcome false p (length p) → header ≡ Headers.Refused k → WithinLayout p → A
-never-refused p e f w = absurd (let g = header-refuses false p (length p) e f in omega (arith, header-none false p w, g .0, g .1))
+pub never-refused : (p : List ℕ) {header : Header} {k : ℕ} {A : Type 0} → headerOf header ≡ headerOutcome checker-kinds p (length p) → header ≡ Headers.Refused k → WithinLayout p → A
+never-refused p e f w = absurd (let g = header-refuses checker-kinds p (length p) e f in omega (arith, header-none checker-kinds p w, g .0, g .1))
 
-pub reads-there : (p s : List ℕ) {header : Header} {l : Layout} {head : AnswerHead} {stamps₀ stamps picks₀ picks : List ℕ} → headerOf header ≡ headerOutcome false p (length p)
+pub reads-there : (p s : List ℕ) {header : Header} {l : Layout} {head : AnswerHead} {stamps₀ stamps picks₀ picks : List ℕ} → headerOf header ≡ headerOutcome checker-kinds p (length p)
     → header ≡ Headers.Told l → AnswerRead s (l .n) (l .m) head stamps₀ stamps picks₀ picks → WithinLayout p → AnswerRead s (nField p) (mField p) head stamps₀ stamps picks₀ picks
 reads-there p s {head = head} {stamps₀} {stamps} {picks₀} {picks} e f g w =
-    let h = header-fits false p (length p) e f in
+    let h = header-fits checker-kinds p (length p) e f in
     subst₂ (λ (n m : ℕ). AnswerRead s n m head stamps₀ stamps picks₀ picks) (h .n-is) (h .m-is) g
 
 -- Those of the idle day are 0, and those of other bytes their own.

@@ -2,19 +2,21 @@
 -- with the class and span of the theory.
 use Prim.Native.Nat.{ℕ, suc, _+_}
 use mathlib.Core.Path.{_≡_, refl, ap, sym, _∙_}
+use mathlib.Core.Bool.{false≢true}
+use borrow.Author.Tests.{eq-eqb}
 use mathlib.Core.List.{List, _++_}
 use native.Mathlib.Omega.{arith}
 use lib.ListN.{length, length-append}
 use lib.Seq.{take-append-seam, drop-append-seam}
-use Rattle.definitions.specs.Limits.{kept-bytes, length-bytes}
+use Rattle.definitions.specs.Limits.{kept-bytes, length-bytes, questions-kind}
 use Rattle.definitions.specs.Bytes.{Bytes}
-use Rattle.definitions.specs.ProblemRecord.{WithinLayout, lengthField}
+use Rattle.definitions.specs.ProblemRecord.{WithinLayout, kindField, lengthField}
 use Rattle.definitions.specs.Programs as Programs
 use Rattle.definitions.specs.Programs.{SpanOutput, VerdictOutput, ReadFrom, verdictLine, cutPlace, problemPart, answerPart}
 use Rattle.definitions.specs.Demands.{Word, Program, ProgramsAnswer}
 use Rattle.definitions.proofs.Bytes.{numAt-front}
 use Rattle.definitions.proofs.Inputs.{cut-inside}
-use Rattle.definitions.proofs.Refusals.{problem-fits, one-question}
+use Rattle.definitions.proofs.Refusals.{problem-fits, within-asks, one-question}
 use Rattle.guarantees.specs.Pipe.{Piped}
 use Rattle.guarantees.proofs.Engine.{verdict-on, within-itself}
 
@@ -24,7 +26,7 @@ module _ (p rest : List ℕ) (w : WithinLayout p) where
   -- Its length field says where the problem ends.
   cut-behind : cutPlace (p ++ rest) ≡ length p
   cut-behind =
-      let fits = problem-fits p .0 w in
+      let fits = problem-fits p w in
       let enough = fits .size-enough in
       let ends = fits .length-is in
       let longer = length-append p rest in
@@ -43,8 +45,8 @@ module _ (p rest : List ℕ) (w : WithinLayout p) where
 
 pub span-then-verdict : (p out line : List ℕ) → WithinLayout p → SpanOutput p out → VerdictOutput (p ++ out) line → Piped p out line
 span-then-verdict p out line w (Programs.refusal e) v =
-    absurd (let z : suc _ ≡ 0 = sym e ∙ one-question p (problem-fits p .0 w .kind-is) ∙ w in omega arith)
-span-then-verdict p out line w (Programs.answers k e turn) v = absurd (omega (arith, problem-fits p .0 w .kind-is))
+    absurd (let z : suc _ ≡ 0 = sym e ∙ one-question p (within-asks p w) ∙ w in omega arith)
+span-then-verdict p out line w (Programs.answers k e turn) v = absurd (false≢true (sym (within-asks p w) ∙ eq-eqb (kindField p) questions-kind k))
 span-then-verdict p out line w (Programs.answer a k e ans) v =
     record {
       within = w;

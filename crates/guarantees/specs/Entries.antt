@@ -7,7 +7,7 @@ use mathlib.Core.List.{List}
 use lib.ListN.{length, take}
 use Rattle.definitions.specs.Limits.{kept-bytes}
 use Rattle.definitions.specs.Bytes.{Bytes}
-use Rattle.definitions.specs.ProblemRecord.{meant}
+use Rattle.definitions.specs.ProblemRecord.{engine-kinds, meant}
 use Rattle.definitions.specs.Verdict.{Judged}
 use Rattle.definitions.specs.Solved.{Solves}
 use Rattle.definitions.specs.Programs.{ReadFrom, SpanOutput}
@@ -42,7 +42,7 @@ pub record ReadProblem (left₀ right₀ : List ℕ) : Type 0 where
   pub header : List ℕ → Header
   pub left : List ℕ → List ℕ
   pub right : List ℕ → List ℕ
-  pub contract : (p : List ℕ) → Slice p → ProblemRead true (meant p) left₀ right₀ (header p) (left p) (right p)
+  pub contract : (p : List ℕ) → Slice p → ProblemRead engine-kinds (meant p) left₀ right₀ (header p) (left p) (right p)
 
 -- `answer_reader::answer::read_answer`, lent two arrays: the head, and the arrays afterwards.
 pub record ReadAnswer (stamps₀ picks₀ : List ℕ) : Type 0 where

@@ -13,6 +13,7 @@ use engine::solve::solve;
 use records::limits::REFUSED_KIND;
 use records::limits::ROWS;
 use records::limits::STRIDE;
+use records::problem::CHECKER_KINDS;
 use records::problem::Header;
 use records::problem::read_header;
 
@@ -40,7 +41,7 @@ fn read_own(
     if problem.len() == 0 {
         return read_answer(written, 0, 0, stamps, picks);
     }
-    let header = read_header(problem, problem.len(), false);
+    let header = read_header(problem, problem.len(), CHECKER_KINDS);
     match header {
         Header::Refused(k) => AnswerHead::Refused(k),
         Header::Told(layout) => read_answer(written, layout.n, layout.m, stamps, picks),

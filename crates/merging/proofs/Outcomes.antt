@@ -17,7 +17,7 @@ use Rattle.definitions.specs.Tropical.{Trop, bot}
 use Rattle.definitions.specs.Problem.{Problem, Point, side, Keeps}
 use Rattle.definitions.specs.Bytes.{Bytes, fields, tropField, fieldOf, put, some-below, or-else, Outcome, refusal, gives}
 use Rattle.definitions.specs.Offset.{tropOf, off}
-use Rattle.definitions.specs.ProblemRecord.{nField, mField, layoutOf, problemRefusal, problemOutcome, WithinLayout, problemOf, listOf}
+use Rattle.definitions.specs.ProblemRecord.{checker-kinds, nField, mField, layoutOf, problemRefusal, problemOutcome, WithinLayout, problemOf, listOf}
 use Rattle.definitions.specs.AnswerRecord.{written}
 use Rattle.definitions.specs.Merging as Merging
 use Rattle.definitions.specs.Merging.{planOf, planFits, shiftOf, above-zero, mergedPlan, mergedBytes, mergeRefusal, KeepsRules, BothKeep, early, someEarly, Merges}
@@ -116,7 +116,7 @@ unfolding mergedOf
 turned zero h e = absurd (omega arith)
 turned (suc k) h e = Merging.turned-away e
 
-pub refused-problem : {p : List ℕ} (a b : List ℕ) (t : ℤ) (before : List ℕ) {header : Header} {k r : ℕ} → headerOf header ≡ problemOutcome false p → header ≡ Headers.Refused k
+pub refused-problem : {p : List ℕ} (a b : List ℕ) (t : ℤ) (before : List ℕ) {header : Header} {k r : ℕ} → headerOf header ≡ problemOutcome checker-kinds p → header ≡ Headers.Refused k
     → r ≡ problemRefused header → Merges p a b t before (mergedOf (Results.Refused r)) before
 unfolding problemRefused problemOutcome
 refused-problem {p} a b t before {header} {k} {r} e f g =
@@ -135,11 +135,11 @@ refused-plans {p} {n} a b t before {r} w e f z =
 -- ---- a problem in tables
 
 -- A problem of one question that was read.
-pub read-told : {p left₀ right₀ left right : List ℕ} {header : Header} {l : Layout} → Bytes p → ProblemRead false p left₀ right₀ header left right → header ≡ Headers.Told l
+pub read-told : {p left₀ right₀ left right : List ℕ} {header : Header} {l : Layout} → Bytes p → ProblemRead checker-kinds p left₀ right₀ header left right → header ≡ Headers.Told l
     → Read p (l .n) (l .m) left right
 unfolding problemOf
 read-told {p} b r f =
-    let t = told-of false (r .result) f in
+    let t = told-of checker-kinds (r .result) f in
     record {
       within = t .within;
       n-is = sym (t .fits .n-is);

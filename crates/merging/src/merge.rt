@@ -26,6 +26,7 @@ use records::limits::REFUSED_RULE;
 use records::limits::REFUSED_SHIFT;
 use records::limits::STRIDE;
 use records::limits::TABLE;
+use records::problem::CHECKER_KINDS;
 use records::problem::Header;
 use records::problem::problem_refusal;
 
@@ -116,7 +117,7 @@ pub fn merge(problem: &[u8], first: &[u8], second: &[u8], shift: u64, out: &mut 
 {
     let mut left = [0u32; TABLE];
     let mut right = [0u32; TABLE];
-    let header = read_problem(problem, false, &mut left, &mut right);
+    let header = read_problem(problem, CHECKER_KINDS, &mut left, &mut right);
     let Header::Told(layout) = header else {
         return Merged::Refused(problem_refusal(header));
     };

@@ -5,7 +5,7 @@ use mathlib.Core.Bool.{Bool, true, false, cond, false≢true}
 use mathlib.Core.List.{List}
 use mathlib.Core.Logic.{_⊎_, inl, inr, ⊎-elim, _↔_}
 use native.Mathlib.Omega.{arith}
-use native.Mathlib.Nat.{eq-zero-or-pos}
+use native.Mathlib.Nat.{eq-zero-or-pos, mul-le-mul-right}
 use native.Mathlib.Numerals.{add-one}
 use lib.Dec.{ltb}
 use lib.ListN.{length, getD}
@@ -215,7 +215,7 @@ full e = omega arith
 
 -- A row ends within the longest problem.
 pub row-small : {s : List ℕ} {n m : ℕ} → Laid s n m → (i : ℕ) {left : ℕ} → i ≤ m → left ≡ leftPlace n i 0 → left + 2 * signed-bytes * (n + 1) ≤ problem-most
-row-small {n = n} {m} laid i row place = omega (arith, laid .size-is, row-inside laid i row, product-most n m (laid .n-most) (laid .m-most))
+row-small {n = n} {m} laid i row place = omega (arith, mul-le-mul-right {m = i + 1} {n = m + 1} (n + 1) (omega arith), product-most n m (laid .n-most) (laid .m-most))
 
 -- Both sides of row i are in range.
 module _ {s : List ℕ} {n m : ℕ} (laid : Laid s n m) {x : List ℕ} (small : Low x) (i : ℕ) {left right : ℕ} (row : i ≤ m) (place : left ≡ leftPlace n i 0)

@@ -158,7 +158,8 @@ pub speaking-none : (s : List ℕ) (start n m : ℕ) → Speaking s start n m 0 
 unfolding some-below
 speaking-none s start n m = record { inside = omega arith; place = omega arith; none = refl }
 
-some-last : (test : ℕ → Bool) (i m : ℕ) → i < m → test i ≡ true → true ≡ some-below test m
+-- A test that passes for a number passes for some.
+pub some-last : (test : ℕ → Bool) (i m : ℕ) → i < m → test i ≡ true → true ≡ some-below test m
 unfolding some-below
 some-last test i zero h e = absurd (omega arith)
 some-last test i (suc m) h e = ⊎-elim

@@ -11,17 +11,17 @@ use borrow.Author.Tests.{le-leb, lt-leb, eq-eqb, ne-eqb}
 use Rattle.definitions.specs.Limits.{highest-n, highest-m, most-questions, signed-bytes, problem-header, questions-header, table-size}
 use Rattle.definitions.specs.Bytes.{numAt}
 use Rattle.definitions.specs.Offset.{off}
-use Rattle.definitions.specs.ProblemRecord.{nField, mField, rowPlace, leftPlace, rightPlace, listOf}
+use Rattle.definitions.specs.ProblemRecord.{engine-kinds, nField, mField, rowPlace, leftPlace, rightPlace, listOf}
 use Rattle.definitions.specs.Questions.{rowsSize, alone, askedRow}
 use Rattle.base.specs.Filled.{FilledFrom}
 use Rattle.base.proofs.Numbers.{nat-le-or-lt}
 use Rattle.definitions.proofs.Bytes.{numAt-drop}
 use Rattle.definitions.proofs.Inputs.{header-none}
-use Rattle.definitions.proofs.Questions.{Asks, Several, several-passes, row-inside, alone-n, alone-m, alone-lead}
+use Rattle.definitions.proofs.Questions.{Asks, Several, several-passes, row-inside, alone-kind, alone-n, alone-m, alone-lead}
 use Rattle.records.specs.Decoded.{Steady, Rewritten}
 use Rattle.problem_records.specs.Tables.{leadAt, cell, leftTable, rightTable}
 use Rattle.problem_records.specs.Filling.{rowCell, QuestionHeld}
-use Rattle.problem_records.proofs.Tables.{is-listOf, getD-listOf, length-listOf, cell-row, cell-past}
+use Rattle.problem_records.proofs.Tables.{is-listOf, getD-listOf, length-listOf, cell-row, cell-past, plain-left-table, plain-right-table}
 
 -- A table whose rows before and behind the question's are those of the record, and whose question is question q: `side` is where
 -- a row's leads of this table start.
@@ -145,22 +145,18 @@ module _
 -- Both tables.
 module _ (s : List ℕ) {count : ℕ} (asks : Asks s count) (q : ℕ) (h : q < count) where
   pub asked-left : {l : List ℕ} → AskedTable (drop 2 s) (nField s) (mField s) q 0 (leftPlace (nField s)) l → l ≡ leftTable (alone s q)
-  unfolding leftTable
   asked-left t =
-      rw (alone-n s asks q h, alone-m s asks q h) (asked-table s asks q h 0 (leftPlace (nField s)) (λ i j. omega arith) (omega arith) t)
+      rw (plain-left-table (alone s q) (alone-kind s asks q h), alone-n s asks q h, alone-m s asks q h) (asked-table s asks q h 0 (leftPlace (nField s)) (λ i j. omega arith) (omega arith) t)
 
   pub asked-right : {l : List ℕ} → AskedTable (drop 2 s) (nField s) (mField s) q (4 * (nField s + 1)) (rightPlace (nField s)) l → l ≡ rightTable (alone s q)
-  unfolding rightTable
   asked-right t =
-      rw (alone-n s asks q h, alone-m s asks q h) (asked-table s asks q h (4 * (nField s + 1)) (rightPlace (nField s)) (λ i j. omega arith) (omega arith) t)
+      rw (plain-right-table (alone s q) (alone-kind s asks q h), alone-n s asks q h, alone-m s asks q h) (asked-table s asks q h (4 * (nField s + 1)) (rightPlace (nField s)) (λ i j. omega arith) (omega arith) t)
 
   left-is : leftTable (alone s q) ≡ listOf (cell (leftPlace (nField s)) (alone s q) (nField s) (mField s)) 2048
-  unfolding leftTable
-  left-is = rw (alone-n s asks q h, alone-m s asks q h) refl
+  left-is = rw (plain-left-table (alone s q) (alone-kind s asks q h), alone-n s asks q h, alone-m s asks q h) refl
 
   right-is : rightTable (alone s q) ≡ listOf (cell (rightPlace (nField s)) (alone s q) (nField s) (mField s)) 2048
-  unfolding rightTable
-  right-is = rw (alone-n s asks q h, alone-m s asks q h) refl
+  right-is = rw (plain-right-table (alone s q) (alone-kind s asks q h), alone-n s asks q h, alone-m s asks q h) refl
 
 module _ (s : List ℕ) {count : ℕ} (asks : Asks s count) (some : 0 < count) (q : ℕ) (h : q < count) where
   -- The tables of two questions differ in the question's row alone.
@@ -199,7 +195,7 @@ pub record QuestionSizes (s : List ℕ) (n m q : ℕ) (left right : List ℕ) : 
 
 module _ {s : List ℕ} {n m q : ℕ} {left right : List ℕ} (held : QuestionHeld s n m q left right) where
   several : Several s
-  several = several-passes true (held .kind-is) (header-none true s (held .within))
+  several = several-passes engine-kinds (held .kind-is) (header-none engine-kinds s (held .within))
 
   pub question-sizes : QuestionSizes s n m q left right
   question-sizes =

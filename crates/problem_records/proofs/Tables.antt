@@ -1,10 +1,12 @@
 -- Laws of the lent tables: elements filled one after the other, rows after rows, and what a filled table holds.
 use Prim.Native.Nat.{ℕ, zero, suc, _+_, _*_, _-_, _/_, _%_, _≤_, _<_}
-use mathlib.Core.Path.{_≡_, refl, sym, _∙_}
+use mathlib.Core.Path.{_≡_, refl, ap, sym, _∙_}
+use mathlib.Core.Bool.{cond, _&&_}
 use mathlib.Core.List.{List, [], _∷_}
 use mathlib.Core.Logic.{_⊎_, ⊎-elim}
 use native.Mathlib.Omega.{arith}
 use native.Mathlib.Nat.{mul-le-mul-right}
+use lib.Dec.{eqb, ltb}
 use lib.ListN.{length, getD, length-append, List·getD-append}
 use lib.Seq.{getD-at, ext-getD}
 use borrow.Author.Tests.{le-leb, lt-leb}
@@ -12,8 +14,9 @@ use Rattle.base.specs.Filled.{FilledFrom}
 use Rattle.base.proofs.Numbers.{nat-le-or-lt}
 use Rattle.definitions.specs.Bytes.{numAt}
 use Rattle.definitions.specs.Offset.{off}
-use Rattle.definitions.specs.ProblemRecord.{leftPlace, rightPlace, listOf}
-use Rattle.problem_records.specs.Tables.{cell, leadAt}
+use Rattle.definitions.specs.Limits.{problem-kind, states-kind}
+use Rattle.definitions.specs.ProblemRecord.{kindField, nField, mField, stateField, leadsPlace, leftFrom, rightFrom, leftPlace, rightPlace, listOf}
+use Rattle.problem_records.specs.Tables.{cell, leadAt, leftTable, rightTable}
 use Rattle.problem_records.specs.Filling.{rowCell, RowOf, Framed, Tabled}
 
 -- ---- elements
@@ -127,3 +130,17 @@ getD-listOf f (suc k) i h = ⊎-elim
 pub is-listOf : (f : ℕ → ℕ) (k : ℕ) (l : List ℕ) → length l ≡ k → ((i : ℕ) → i < k → getD l i 0 ≡ f i) → l ≡ listOf f k
 is-listOf f k l e h =
     ext-getD 0 l (listOf f k) (e ∙ sym (length-listOf f k)) (λ i q. let r : i < k = rw e at q in h i r ∙ sym (getD-listOf f k i r))
+
+-- ---- the tables of a record of kind 1: no rule is suspended
+
+pub plain-left-table : (s : List ℕ) → kindField s ≡ problem-kind → leftTable s ≡ listOf (cell (leftPlace (nField s)) s (nField s) (mField s)) 2048
+unfolding leftTable
+plain-left-table s k = ap (λ (kind : ℕ). listOf (λ i.
+    cond (eqb kind states-kind && (ltb (i / 32) (mField s) && eqb (stateField s (i / 32)) 0)) 0
+    (cell (leftFrom (leadsPlace kind (mField s)) (nField s)) s (nField s) (mField s) i)) 2048) k
+
+pub plain-right-table : (s : List ℕ) → kindField s ≡ problem-kind → rightTable s ≡ listOf (cell (rightPlace (nField s)) s (nField s) (mField s)) 2048
+unfolding rightTable
+plain-right-table s k = ap (λ (kind : ℕ). listOf (λ i.
+    cond (eqb kind states-kind && (ltb (i / 32) (mField s) && eqb (stateField s (i / 32)) 0)) 0
+    (cell (rightFrom (leadsPlace kind (mField s)) (nField s)) s (nField s) (mField s) i)) 2048) k

@@ -1,17 +1,20 @@
 // A problem from its bytes: its leads judged, and read into two lent tables.
 ghost use mathlib.Core.Path.{_≡_};
 ghost use Prim.Native.Nat.{_+_, _*_, _-_, _<_, _≤_};
-ghost use mathlib.Core.Bool.{cond};
+ghost use mathlib.Core.Bool.{cond, _&&_};
 ghost use lib.Dec.{eqb};
 ghost use lib.ListN.{length, getD};
 ghost use Rattle.base.specs.Filled.{FilledFrom};
-ghost use Rattle.definitions.specs.Limits.{lead-limit, signed-half, signed-full, signed-bytes, highest-n, highest-m, most-questions, questions-header, questions-leads, questions-row, stride, table-size};
+ghost use Rattle.definitions.specs.Limits.{lead-limit, signed-half, signed-full, signed-bytes, states-kind, highest-n, highest-m, most-questions, leads-latest, questions-leads, questions-row, stride, table-size};
 ghost use Rattle.definitions.specs.Bytes.{tropField, some-below, blank-or-within};
-ghost use Rattle.definitions.specs.ProblemRecord.{rowPlace, leftPlace, runBlank, problemOutcome, meant};
+ghost use Rattle.definitions.specs.ProblemRecord.{rowPlace, leftPlace, runBlank, wrong-state, problemOutcome, meant};
 ghost use Rattle.definitions.specs.Questions.{alone};
-ghost use Rattle.records.specs.ProblemHeader.{headerOf};
-ghost use Rattle.problem_records.specs.Tables.{runFits, rowBlank, leadsOutcome, leadAt, leftTable, rightTable, ProblemRead};
+ghost use Rattle.records.specs.ProblemHeader.{kindsIn, headerOf};
+ghost use Rattle.problem_records.specs.Tables.{runFits, rowBlank, statesOutcome, leadsOutcome, leadAt, leftTable, rightTable, ProblemRead};
 ghost use Rattle.problem_records.specs.Filling.{rowCell, RowOf, Framed, QuestionHeld, Tabled};
+ghost use Rattle.problem_records.specs.InForce.{StatesHeld};
+use crate::in_force::in_force;
+use records::bytes::short_at;
 use records::bytes::word_in;
 use records::idle::idle_day;
 use records::limits::HIGHEST_N;
@@ -22,10 +25,15 @@ use records::limits::PROBLEM_HEADER;
 use records::limits::QUESTIONS_HEADER;
 use records::limits::REFUSED_LEAD;
 use records::limits::REFUSED_SILENT;
+use records::limits::REFUSED_STATE;
+use records::limits::SHORT_BYTES;
+use records::limits::STATES_KIND;
+use records::limits::STATES_PLACE;
 use records::limits::STRIDE;
 use records::limits::TABLE;
 use records::offset::offset_32;
 use records::problem::Header;
+use records::problem::Kinds;
 use records::problem::lead_count;
 use records::problem::read_header;
 
@@ -61,7 +69,7 @@ fn misfit(w: u32) -> u32
 // Each of `count` leads of a problem from a place on is blank or within the limit. All are looked at, so that the loop has no
 // branch.
 fn leads_fit(bytes: &[u8], start: usize, count: usize) -> bool
-    requires { ⌜ (start ≤ questions-header) × (count ≤ questions-leads) × (start + signed-bytes * count ≤ length (now bytes)) ⌝ }
+    requires { ⌜ (start ≤ leads-latest) × (count ≤ questions-leads) × (start + signed-bytes * count ≤ length (now bytes)) ⌝ }
     ensures { λ r. ⌜ r ≡ runFits (now (bytes .entry)) count start ⌝ }
 {
     let mut at = start;
@@ -228,12 +236,59 @@ pub fn read_question(
     read_row(bytes, at + LEAD_BYTES * (n + 1), n, right, STRIDE * m);
 }
 
-// The header of a record whose leads fit, of several questions or one: where things stand in it, or the first of refusals 1 to 6 and 15
-// that applies. Public for `converter::convert`.
-pub fn judge_leads(bytes: &[u8], several: bool) -> Header
-    ensures { λ r. ⌜ headerOf r ≡ leadsOutcome several (now (bytes .entry)) ⌝ }
+// A state is neither 0 nor 1.
+fn wrong_state(bytes: &[u8], i: usize) -> bool
+    requires { ⌜ i < highest-m ⌝ }
+    ensures { λ r. ⌜ r ≡ wrong-state (now (bytes .entry)) i ⌝ }
 {
-    let header = read_header(bytes, bytes.len(), several);
+    1 < short_at(bytes, STATES_PLACE + SHORT_BYTES * i)
+}
+
+// One of the states of m rules is neither 0 nor 1.
+fn some_wrong(bytes: &[u8], m: usize) -> bool
+    requires { ⌜ m ≤ highest-m ⌝ }
+    ensures { λ r. ⌜ r ≡ some-below (wrong-state (now (bytes .entry))) m ⌝ }
+{
+    for i in 0..m {
+        if wrong_state(bytes, i) {
+            return true;
+        }
+    }
+    false
+}
+
+// Refusal 20 applies, which concerns kind 5 alone.
+fn states_wrong(bytes: &[u8], kind: u16, m: usize) -> bool
+    requires { ⌜ m ≤ highest-m ⌝ }
+    ensures { λ r. ⌜ r ≡ (eqb kind states-kind && some-below (wrong-state (now (bytes .entry))) m) ⌝ }
+{
+    match kind {
+        STATES_KIND => some_wrong(bytes, m),
+        0..=4 | 6.. => false,
+    }
+}
+
+// The header of a record whose states fit, in an entry that knows these kinds: where things stand in it, or the first of refusals 1 to
+// 5, 15 and 20 that applies.
+fn judge_states(bytes: &[u8], kinds: Kinds) -> Header
+    ensures { λ r. ⌜ headerOf r ≡ statesOutcome (kindsIn kinds) (now (bytes .entry)) ⌝ }
+{
+    let header = read_header(bytes, bytes.len(), kinds);
+    let Header::Told(layout) = header else {
+        return header;
+    };
+    if states_wrong(bytes, layout.kind, layout.m) {
+        return Header::Refused(REFUSED_STATE);
+    }
+    header
+}
+
+// The header of a record whose leads fit, in an entry that knows these kinds: where things stand in it, or the first of refusals 1 to 6, 15
+// and 20 that applies. Public for `converter::convert`.
+pub fn judge_leads(bytes: &[u8], kinds: Kinds) -> Header
+    ensures { λ r. ⌜ headerOf r ≡ leadsOutcome (kindsIn kinds) (now (bytes .entry)) ⌝ }
+{
+    let header = judge_states(bytes, kinds);
     let Header::Told(layout) = header else {
         return header;
     };
@@ -247,12 +302,12 @@ pub fn judge_leads(bytes: &[u8], several: bool) -> Header
     header
 }
 
-// The header of a problem within the layout, of several questions or one: where things stand in it, or the first of refusals 1 to 6,
-// 15 and 17 that applies. Public for the checker's `check` and `input`.
-pub fn judge_problem(bytes: &[u8], several: bool) -> Header
-    ensures { λ r. ⌜ headerOf r ≡ problemOutcome several (now (bytes .entry)) ⌝ }
+// The header of a problem within the layout, in an entry that knows these kinds: where things stand in it, or the first of refusals 1 to 6,
+// 15, 17 and 20 that applies. Public for the checker's `check` and `input`.
+pub fn judge_problem(bytes: &[u8], kinds: Kinds) -> Header
+    ensures { λ r. ⌜ headerOf r ≡ problemOutcome (kindsIn kinds) (now (bytes .entry)) ⌝ }
 {
-    let header = judge_leads(bytes, several);
+    let header = judge_leads(bytes, kinds);
     let Header::Told(layout) = header else {
         return header;
     };
@@ -262,20 +317,34 @@ pub fn judge_problem(bytes: &[u8], several: bool) -> Header
     header
 }
 
+// The leads of a record of kind 5, into both tables; the rows of suspended rules are blank.
+fn read_in_force(bytes: &[u8], n: usize, m: usize, left: &mut [u32], right: &mut [u32])
+    requires { ⌜ StatesHeld (now bytes) n m × (length (now left) ≡ table-size) × (length (now right) ≡ table-size) ⌝ }
+    ensures { λ _. ⌜ (now (left .exit) ≡ leftTable (now (bytes .entry))) × (now (right .exit) ≡ rightTable (now (bytes .entry))) ⌝ }
+{
+    let room = in_force(bytes, n, m);
+    read_tables(&room, n, m, left, right);
+}
+
 // A problem record, into two lent tables: its layout, with the leads of its rules and of its first question as offset numbers
-// in rows of 32, or the first of refusals 1 to 6, 15 and 17 that applies, where several questions may be asked or one. A refused problem leaves both tables as they are.
+// in rows of 32, or the first of refusals 1 to 6, 15, 17 and 20 that applies, in an entry that knows these kinds. A refused problem leaves both tables as
+// they are.
 fn read_record(
     bytes: &[u8],
-    several: bool,
+    kinds: Kinds,
     left: &mut [u32; TABLE],
     right: &mut [u32; TABLE],
 ) -> Header
-    ensures { λ r. ⌜ ProblemRead several (now (bytes .entry)) (now (left .entry)) (now (right .entry)) r (now (left .exit)) (now (right .exit)) ⌝ }
+    ensures { λ r. ⌜ ProblemRead (kindsIn kinds) (now (bytes .entry)) (now (left .entry)) (now (right .entry)) r (now (left .exit)) (now (right .exit)) ⌝ }
 {
-    let header = judge_problem(bytes, several);
+    let header = judge_problem(bytes, kinds);
     let Header::Told(layout) = header else {
         return header;
     };
+    if layout.kind == STATES_KIND {
+        read_in_force(bytes, layout.n, layout.m, left, right);
+        return header;
+    }
     read_tables(
         &bytes[layout.leads - PROBLEM_HEADER..],
         layout.n,
@@ -289,15 +358,15 @@ fn read_record(
 // A problem from its bytes, the same way; no bytes mean the idle day.
 pub fn read_problem(
     bytes: &[u8],
-    several: bool,
+    kinds: Kinds,
     left: &mut [u32; TABLE],
     right: &mut [u32; TABLE],
 ) -> Header
-    ensures { λ r. ⌜ ProblemRead several (meant (now (bytes .entry))) (now (left .entry)) (now (right .entry)) r (now (left .exit)) (now (right .exit)) ⌝ }
+    ensures { λ r. ⌜ ProblemRead (kindsIn kinds) (meant (now (bytes .entry))) (now (left .entry)) (now (right .entry)) r (now (left .exit)) (now (right .exit)) ⌝ }
 {
     if bytes.len() == 0 {
         let idle = idle_day();
-        return read_record(&idle, several, left, right);
+        return read_record(&idle, kinds, left, right);
     }
-    read_record(bytes, several, left, right)
+    read_record(bytes, kinds, left, right)
 }

@@ -77,6 +77,11 @@ pub const QUESTIONS_HEADER: usize = COUNT_PLACE + SHORT_BYTES;
 
 pub const MOST_QUESTIONS: usize = 8;
 
+// The states of the rules of a problem of kind 5 stand behind m; the most bytes of a problem of kind 1, 16,394.
+pub const STATES_PLACE: usize = M_PLACE + SHORT_BYTES;
+
+pub const PROBLEM_MOST: usize = PROBLEM_HEADER + 2 * LEAD_BYTES * TABLE;
+
 pub const ANSWER_HEADER: usize = START_PLACE + SHORT_BYTES;
 
 pub const ANSWER_MOST: usize = ANSWER_HEADER + (LEAD_BYTES + SHORT_BYTES) * STRIDE;
@@ -85,6 +90,8 @@ pub const ANSWER_MOST: usize = ANSWER_HEADER + (LEAD_BYTES + SHORT_BYTES) * STRI
 pub const PROBLEM_KIND: u16 = 1;
 
 pub const QUESTIONS_KIND: u16 = 3;
+
+pub const STATES_KIND: u16 = 5;
 
 pub const ANSWER_KIND: u64 = 4;
 
@@ -142,6 +149,9 @@ pub const REFUSED_COUNT: usize = 15;
 
 // Of a problem with a rule that says nothing: its left list is all blank.
 pub const REFUSED_SILENT: usize = 17;
+
+// Document 02, 2.10: a state other than 0 or 1.
+pub const REFUSED_STATE: usize = 20;
 
 // Of an answer buffer: too few bytes.
 pub const REFUSED_ROOM: usize = 7;

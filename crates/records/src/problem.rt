@@ -1,10 +1,10 @@
 // The problem record: its header judged.
 ghost use mathlib.Core.Path.{_≡_};
 ghost use Prim.Native.Nat.{_+_, _*_, _<_, _≤_};
-ghost use Rattle.definitions.specs.Limits.{highest-n, highest-m, signed-full, short-full, stride, questions-kind, questions-header};
+ghost use Rattle.definitions.specs.Limits.{highest-n, highest-m, signed-full, short-full, stride, questions-kind, leads-latest};
 ghost use Rattle.definitions.specs.Bytes.{first, outcome};
 ghost use Rattle.definitions.specs.ProblemRecord.{leadsPlace, questionsAsked, recordSize, known-kind, wrong-count, countsRefused, headerJudged, headerOutcome};
-ghost use Rattle.records.specs.ProblemHeader.{layoutIn, layoutBy, headerOf, problemRefused, FieldsAt};
+ghost use Rattle.records.specs.ProblemHeader.{kindsIn, layoutIn, layoutBy, headerOf, problemRefused, FieldsAt};
 use crate::bytes::short_at;
 use crate::bytes::word_at;
 use crate::limits::COUNT_PLACE;
@@ -27,6 +27,33 @@ use crate::limits::REFUSED_LENGTH;
 use crate::limits::REFUSED_LIMITS;
 use crate::limits::REFUSED_SHORT;
 use crate::limits::REFUSED_SIZE;
+use crate::limits::SHORT_BYTES;
+use crate::limits::STATES_KIND;
+use crate::limits::STATES_PLACE;
+
+// The kinds that an entry knows beside kind 1: whether kind 3, several questions, and whether kind 5, states of rules.
+pub struct Kinds {
+    pub several: bool,
+    pub states: bool,
+}
+
+// Those of the engine and the problem reader: 1, 3 and 5.
+pub const ENGINE_KINDS: Kinds = Kinds {
+    several: true,
+    states: true,
+};
+
+// Those of the checker: 1 and 5.
+pub const CHECKER_KINDS: Kinds = Kinds {
+    several: false,
+    states: true,
+};
+
+// Those of the converter: 1 and 3.
+pub const CONVERTER_KINDS: Kinds = Kinds {
+    several: true,
+    states: false,
+};
 
 // Where things stand in a problem record: its kind, n and m, where its leads start, and how many questions follow its rules.
 pub struct Layout {
@@ -60,13 +87,15 @@ pub fn lead_count(n: usize, rows: usize) -> usize
     2 * ((n + 1) * rows)
 }
 
-// Where the leads of a record of this kind start.
-fn leads_place(kind: u16) -> usize
-    ensures { λ r. ⌜ (r ≡ leadsPlace kind) × (r ≤ questions-header) ⌝ }
+// Where the leads of a record of this kind with m rules start.
+fn leads_place(kind: u16, m: usize) -> usize
+    requires { ⌜ m < short-full ⌝ }
+    ensures { λ r. ⌜ (r ≡ leadsPlace kind m) × (r ≤ 2 * short-full + leads-latest) ⌝ }
 {
     match kind {
         QUESTIONS_KIND => QUESTIONS_HEADER,
-        0..=2 | 4.. => PROBLEM_HEADER,
+        STATES_KIND => STATES_PLACE + SHORT_BYTES * m,
+        0..=2 | 4 | 6.. => PROBLEM_HEADER,
     }
 }
 
@@ -87,7 +116,7 @@ fn record_size(kind: u16, n: usize, m: usize, count: usize) -> usize
     ensures { λ r. ⌜ r ≡ recordSize kind n m count ⌝ }
 {
     let rows = m + questions_asked(kind, count);
-    leads_place(kind) + LEAD_BYTES * lead_count(n, rows)
+    leads_place(kind, m) + LEAD_BYTES * lead_count(n, rows)
 }
 
 // A record that reaches to the end of its count asks no question, or too many.
@@ -133,21 +162,22 @@ fn judge_counts(size: usize, kind: u16, n: usize, m: usize, count: usize) -> usi
     0
 }
 
-// The entry knows the kind: kind 1, and kind 3 where several questions may be asked.
-fn knows(several: bool, kind: u16) -> bool
-    ensures { λ r. ⌜ r ≡ known-kind several kind ⌝ }
+// The entry knows the kind.
+fn knows(kinds: Kinds, kind: u16) -> bool
+    ensures { λ r. ⌜ r ≡ known-kind (kindsIn kinds) kind ⌝ }
 {
     match kind {
         PROBLEM_KIND => true,
-        QUESTIONS_KIND => several,
-        0 | 2 | 4.. => false,
+        QUESTIONS_KIND => kinds.several,
+        STATES_KIND => kinds.states,
+        0 | 2 | 4 | 6.. => false,
     }
 }
 
 // Refusals 1 to 5 and 15 on the header's numbers: the first that applies, 0 where none does.
-fn judge(several: bool, size: usize, fields: Fields) -> usize
+fn judge(kinds: Kinds, size: usize, fields: Fields) -> usize
     requires { ⌜ (fields .length < signed-full) × (fields .count < short-full) ⌝ }
-    ensures { λ r. ⌜ r ≡ headerJudged several size (fields .length) (fields .kind) (fields .n) (fields .m) (fields .count) ⌝ }
+    ensures { λ r. ⌜ r ≡ headerJudged (kindsIn kinds) size (fields .length) (fields .kind) (fields .n) (fields .m) (fields .count) ⌝ }
 {
     let whole = fields.length + LENGTH_BYTES;
     if size < PROBLEM_HEADER {
@@ -156,7 +186,7 @@ fn judge(several: bool, size: usize, fields: Fields) -> usize
     if whole != size {
         return REFUSED_LENGTH;
     }
-    if !knows(several, fields.kind) {
+    if !knows(kinds, fields.kind) {
         return REFUSED_KIND;
     }
     judge_counts(size, fields.kind, fields.n, fields.m, fields.count)
@@ -164,14 +194,14 @@ fn judge(several: bool, size: usize, fields: Fields) -> usize
 
 // The layout that a header's numbers tell.
 fn layout_of(fields: Fields) -> Layout
-    requires { ⌜ fields .count < short-full ⌝ }
+    requires { ⌜ (fields .count < short-full) × (fields .m < short-full) ⌝ }
     ensures { λ r. ⌜ layoutIn r ≡ layoutBy (fields .kind) (fields .n) (fields .m) (fields .count) ⌝ }
 {
     Layout {
         kind: fields.kind,
         n: fields.n,
         m: fields.m,
-        leads: leads_place(fields.kind),
+        leads: leads_place(fields.kind, fields.m),
         questions: questions_asked(fields.kind, fields.count),
     }
 }
@@ -200,12 +230,12 @@ fn fields_at(bytes: &[u8]) -> Fields
 }
 
 // The header of a problem from its first bytes and its size: the layout, or the first of refusals 1 to 5 and 15 that applies, in an
-// entry that takes several questions or one.
-pub fn read_header(bytes: &[u8], size: usize, several: bool) -> Header
-    ensures { λ r. ⌜ headerOf r ≡ headerOutcome several (now (bytes .entry)) size ⌝ }
+// entry that knows these kinds.
+pub fn read_header(bytes: &[u8], size: usize, kinds: Kinds) -> Header
+    ensures { λ r. ⌜ headerOf r ≡ headerOutcome (kindsIn kinds) (now (bytes .entry)) size ⌝ }
 {
     let fields = fields_at(bytes);
-    answered(judge(several, size, fields), layout_of(fields))
+    answered(judge(kinds, size, fields), layout_of(fields))
 }
 
 // The number with which a problem was refused. Public for `checker`, `engine`.

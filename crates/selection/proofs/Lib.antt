@@ -5,3 +5,4 @@ pub mod Picks
 pub mod RowPicks
 pub mod Certificates
 pub mod Requests
+pub mod Suspended

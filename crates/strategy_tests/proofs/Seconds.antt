@@ -1,6 +1,6 @@
 -- Marks of the second list, read from a problem's bytes.
 use Prim.Native.Nat.{ℕ, zero, suc, _+_, _*_, _≤_, _<_}
-use mathlib.Core.Path.{_≡_, refl}
+use mathlib.Core.Path.{_≡_, refl, sym, subst}
 use mathlib.Core.Bool.{not}
 use mathlib.Core.List.{List}
 use native.Mathlib.Omega.{arith}
@@ -9,7 +9,8 @@ use lib.ListN.{getD}
 use Rattle.base.specs.Decides.{Decides}
 use Rattle.base.proofs.Decides.{decides-as}
 use Rattle.definitions.specs.Certificate.{Second, startOf}
-use Rattle.definitions.specs.ProblemRecord.{leftPlace, rightPlace, problemOf}
+use Rattle.definitions.specs.ProblemRecord.{mField, leftPlace, rightPlace, problemOf}
+use Rattle.definitions.specs.Offset.{tropOf}
 use Rattle.problem_records.specs.Tables.{leadAt, Laid}
 use Rattle.problem_records.specs.Filling.{RowOf}
 use Rattle.problem_records.proofs.LeadTables.{right-lead-means}
@@ -24,18 +25,21 @@ module _ {s : List ℕ} {n m : ℕ} (l : Laid s n m) where
   lead-is : (at j : ℕ) → at ≡ leftPlace n m 0 + 4 * (n + 1) → at + 4 * j ≡ rightPlace n m j
   lead-is at j e = omega arith
 
+  second-means : (at j : ℕ) → at ≡ leftPlace n m 0 + 4 * (n + 1) → j ≤ n → tropOf (leadAt s (at + 4 * j)) ≡ problemOf s .right (mField s) j
+  second-means at j e h = rw (lead-is at j e) (subst (λ (i : ℕ). tropOf (leadAt s (rightPlace n m j)) ≡ problemOf s .right i j) (sym (l .m-is)) (right-lead-means l m j (omega arith) h))
+
   -- A variable of the second list has a lead there, and one that has is of the second list.
   pub second-lead : (at j : ℕ) → at ≡ leftPlace n m 0 + 4 * (n + 1) → Second (problemOf s) j → (j ≤ n) × (0 < leadAt s (at + 4 * j))
   unfolding problemOf
   second-lead at j e q =
       let h : j ≤ n = omega (arith, q .inside, l .n-is) in
-      (h, trop-some (leadAt s (at + 4 * j)) (rw (lead-is at j e, l .m-is) (right-lead-means l m j (omega arith) h)) (q .right))
+      (h, trop-some (leadAt s (at + 4 * j)) (second-means at j e h) (q .right))
 
   pub lead-second : (at j : ℕ) → at ≡ leftPlace n m 0 + 4 * (n + 1) → j ≤ n → 0 < leadAt s (at + 4 * j) → Second (problemOf s) j
   unfolding problemOf
   lead-second at j e h some = record {
     inside = omega (arith, l .n-is);
-    right = finite-trop (leadAt s (at + 4 * j)) (rw (lead-is at j e, l .m-is) (right-lead-means l m j (omega arith) h)) some;
+    right = finite-trop (leadAt s (at + 4 * j)) (second-means at j e h) some;
   }
 
   -- So the marks of a row of these leads are those of the second list,

@@ -4,6 +4,7 @@ use crate::noise;
 use crate::print;
 use problem_records::reader::read_problem;
 use records::limits::TABLE;
+use records::problem::CHECKER_KINDS;
 use records::problem::Header;
 
 fn wide(x: u32) -> u64 {
@@ -47,7 +48,7 @@ pub fn run(line: &[u8], bytes: &[u8]) {
     let mut left = noise::table();
     let mut right = noise::table();
     print::edge(b"problem", line);
-    let header = read_problem(bytes, false, &mut left, &mut right);
+    let header = read_problem(bytes, CHECKER_KINDS, &mut left, &mut right);
     match header {
         Header::Told(layout) => show_read(layout.n, layout.m, &left, &right),
         Header::Refused(k) => show_refused(k, &left, &right),
@@ -82,7 +83,7 @@ pub fn run_places(line: &[u8], bytes: &[u8]) {
     let mut left = noise::table();
     let mut right = noise::table();
     print::edge(b"problem", line);
-    read_problem(bytes, false, &mut left, &mut right);
+    read_problem(bytes, CHECKER_KINDS, &mut left, &mut right);
     show_places(&left, &right);
     print::end();
 }

@@ -60,7 +60,7 @@ pub fn harmed(random: &mut Random, good: &[u8]) -> Vec<u8> {
         2 => {
             // A header field set to something near an edge.
             let place = [0, 4, 6, 8, 14][random.below(5)];
-            let value = [0, 1, 2, 3, 4, 31, 32, 33, 63, 64, 255, 256, 65_535][random.below(13)] as u16;
+            let value = [0, 1, 2, 3, 4, 5, 31, 32, 33, 63, 64, 255, 256, 65_535][random.below(14)] as u16;
             if place + 2 <= bytes.len() {
                 bytes[place..place + 2].copy_from_slice(&value.to_le_bytes());
             }

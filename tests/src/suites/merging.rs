@@ -13,7 +13,7 @@ use random::Random;
 /// Where a lead or stamp is far from every limit.
 const LOWEST: i64 = i64::MIN;
 
-fn stamps(plan: &[Minute]) -> Vec<u8> {
+pub fn stamps(plan: &[Minute]) -> Vec<u8> {
     plan.iter().flat_map(|stamp| (stamp.unwrap_or(BLANK) as i32).to_le_bytes()).collect()
 }
 
@@ -32,7 +32,7 @@ fn plan(bytes: &[u8], n: usize) -> Result<Vec<Minute>, u64> {
 }
 
 /// What the paper says: the merged stamps, or the refusal.
-fn plain(problem: &[u8], first: &[u8], second: &[u8], shift: i64, buffer: usize) -> Result<Vec<Minute>, u64> {
+pub fn plain(problem: &[u8], first: &[u8], second: &[u8], shift: i64, buffer: usize) -> Result<Vec<Minute>, u64> {
     let problem = paper::read_problem(problem)?;
     if buffer < 128 {
         return Err(7);
@@ -59,7 +59,7 @@ fn plain(problem: &[u8], first: &[u8], second: &[u8], shift: i64, buffer: usize)
 }
 
 /// The archive on any bytes and a buffer of any length, which held noise: the number, and every byte of the buffer.
-fn merge(tally: &mut Tally, random: &mut Random, problem: &[u8], plans: [&[u8]; 2], shift: i64, length: usize) {
+pub fn merge(tally: &mut Tally, random: &mut Random, problem: &[u8], plans: [&[u8]; 2], shift: i64, length: usize) {
     let mut buffer = vec![0; length];
     random.fill(&mut buffer);
     let mut expected = buffer.clone();

@@ -17,6 +17,7 @@ pub mod reasons;
 pub mod silent;
 pub mod small;
 pub mod starts;
+pub mod suspended;
 pub mod tables;
 pub mod unproved;
 
@@ -56,7 +57,11 @@ pub fn expected_check(problem: &[u8], answer: &[u8]) -> Result<Outcome, u64> {
 /// bytes after the record, the checkers' verdicts, picks that play no part, reading and writing again. Returns the
 /// outcome and the record.
 pub fn answered(tally: &mut Tally, random: &mut Random, problem: &Problem) -> (Outcome, Vec<u8>) {
-    let bytes = problem.bytes();
+    answered_as(tally, random, problem, problem.bytes())
+}
+
+/// The same where the problem is sent as these bytes.
+pub fn answered_as(tally: &mut Tally, random: &mut Random, problem: &Problem, bytes: Vec<u8>) -> (Outcome, Vec<u8>) {
     let (n, m) = (problem.n(), problem.m());
     let mut buffer = vec![0; BUFFER + random.below(20)];
     random.fill(&mut buffer);

@@ -152,7 +152,7 @@ fn an_empty_text_is_an_idle_day() {
     assert_eq!(ward(&["-"], "\n").status, Some(1));
 }
 
-/// Suspended rules are written as kind 5 (document 02, 2.10). Whether they are answered is the archive's to say.
+/// Suspended rules are written as kind 5 (document 02, 2.10), and answered.
 #[test]
 fn suspended_rules_are_sent_with_their_states() {
     let text = "moments: bed\nanchor + 30 <= bed\nsuspended: anchor + 50 <= bed\nspan: from anchor to bed\n";
@@ -161,17 +161,8 @@ fn suspended_rules_are_sent_with_their_states() {
     // Length, kind 5, n 1, m 2, then the states 1 and 0.
     assert!(record.out.starts_with("3A000000050001000200") && record.out[20..].starts_with("01000000"), "{record:?}");
     let told = ward(&["-"], text);
-    let known = span::solve_all(&[14, 0, 0, 0, 5, 0, 0, 0, 0, 0, 0, 0, 0, 0, 0, 0, 0, 0], &mut []);
-    match known.map_err(|refusal| refusal.number) {
-        Err(3) => {
-            assert_eq!((told.status, told.out.as_str()), (Some(1), ""), "{told:?}");
-            assert!(told.err.contains("does not take suspended rules yet (refused 3)"), "{told:?}");
-        }
-        _ => {
-            assert_eq!(told.status, Some(0), "{told:?}");
-            assert!(told.out.contains("accepted least 30") && told.out.contains("2 rules (1 suspended)"), "{told:?}");
-        }
-    }
+    assert_eq!(told.status, Some(0), "{told:?}");
+    assert!(told.out.contains("accepted least 30") && told.out.contains("2 rules (1 suspended)"), "{told:?}");
     let back = ward_reader::read(text.as_bytes(), &ward_reader::Clock::unjudged()).sheet.expect("a good text");
     let bytes = ward_reader::record::sent(&back).remove(0);
     let again = ward_reader::record::sheet(&bytes).expect("a record");

@@ -145,16 +145,17 @@ fn the_timeline_has_a_row_a_moment() {
             .unwrap_or_else(|| panic!("{name}: {told:?}"))
     };
     let place = |line: &str, sign: char| line.chars().position(|c| c == sign).unwrap_or_else(|| panic!("{line}"));
-    assert!(place(row("anchor"), '●') < place(row("bed"), '●'), "{told:?}");
-    assert_eq!(place(row("span"), '├'), place(row("anchor"), '●'), "{told:?}");
-    assert_eq!(place(row("span"), '┤'), place(row("bed"), '●'), "{told:?}");
+    // Both are of the round that binds the span (document 02, 2.5).
+    assert!(place(row("anchor"), '◆') < place(row("bed"), '◆'), "{told:?}");
+    assert_eq!(place(row("span"), '├'), place(row("anchor"), '◆'), "{told:?}");
+    assert_eq!(place(row("span"), '┤'), place(row("bed"), '◆'), "{told:?}");
     assert!(told.out.contains("8:00 ") && told.out.contains("8:30"), "{told:?}");
     let plain = ward(&["--plain", "-"], E);
     assert!(plain.out.is_ascii() && plain.out.contains('['), "{plain:?}");
     for width in ["40", "79", "1000", "0", "x"] {
         let told = crate::told(crate::tool().arg("examples/problems/day-ward.txt").env("COLUMNS", width));
         let most = width.parse().unwrap_or(80).clamp(40, 160);
-        let drawn = told.out.lines().filter(|line| line.contains(['●', '┬', '├']));
+        let drawn = told.out.lines().filter(|line| line.contains(['●', '◆', '┬', '├']));
         assert!(
             told.status == Some(0) && drawn.into_iter().all(|line| line.chars().count() <= most),
             "{width}: {told:?}"

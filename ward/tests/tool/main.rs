@@ -15,6 +15,7 @@ mod run;
 mod scratch;
 mod second;
 mod slack;
+mod suspended;
 
 use std::io::Write;
 use std::path::{Path, PathBuf};

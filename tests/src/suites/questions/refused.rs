@@ -42,7 +42,7 @@ fn refused_by(random: &mut Random, applies: impl Fn(u64) -> bool) -> (Vec<u8>, u
     }
     mend_length(&mut bytes);
     if applies(3) {
-        let kind = [0, 2, 4, 5, 0x0103, 0x0300, 0x0301, 0xFFFF][random.below(8)] as u16;
+        let kind = [0, 2, 4, 6, 0x0103, 0x0300, 0x0301, 0xFFFF][random.below(8)] as u16;
         bytes[4..6].copy_from_slice(&kind.to_le_bytes());
     }
     if applies(2) {

@@ -1,5 +1,4 @@
-use Rattle.problem_records.proofs.ReadProblem.{refused-header, refused-lead, judged-told, leads-inside}
-use Rattle.records.proofs.ProblemHeader.{HeaderFits, header-fits}
+use Rattle.problem_records.proofs.ReadProblem.{refused-states, told-states, refused-lead, judged-told, leads-inside}
 use mathlib.Core.Path.{sym, _∙_}
 use borrow.Author.Tests.{not-true, not-false}
 use native.Mathlib.Omega.{arith}
@@ -14,11 +13,11 @@ judge-leads-spec =
     (λ c κs. search needs)
     (λ c. search needs)
     (λ c. search needs)
-    (λ c. refused-header _ _ (c .before .before .read-header .ensures) (c .enum-told .given .1))
-    (λ c. let h = header-fits _ _ _ (c .before .before .before .before .read-header .ensures) (c .before .before .header .given .1) in omega (arith, h .m-most, h .questions-most))
-    (λ c κs. let h = header-fits _ _ _ (c .before .before .before .before .read-header .ensures) (c .before .before .header .given .1) in (h .n-most, omega (arith, h .m-most, h .questions-most)))
-    (λ c κs. leads-inside _ _ (header-fits _ _ _ (c .before .before .before .before .before .read-header .ensures) (c .before .before .before .header .given .1)) (c .lead-count .ensures .0))
-    (λ c. refused-lead _ _ (header-fits _ _ _ (c .before .before .before .before .before .before .before .read-header .ensures) (c .before .before .before .before .before .header .given .1)) (c .before .before .lead-count .ensures .0)
+    (λ c. refused-states _ _ (c .before .before .judge-states .ensures) (c .enum-told .given .1))
+    (λ c. let h = told-states _ (c .before .before .before .before .judge-states .ensures) (c .before .before .header .given .1) in omega (arith, h .fits .m-most, h .fits .questions-most))
+    (λ c κs. let h = told-states _ (c .before .before .before .before .judge-states .ensures) (c .before .before .header .given .1) in (h .fits .n-most, omega (arith, h .fits .m-most, h .fits .questions-most)))
+    (λ c κs. leads-inside _ _ (told-states _ (c .before .before .before .before .before .judge-states .ensures) (c .before .before .before .header .given .1)) (c .lead-count .ensures .0))
+    (λ c. refused-lead _ _ (told-states _ (c .before .before .before .before .before .before .before .judge-states .ensures) (c .before .before .before .before .before .header .given .1)) (c .before .before .lead-count .ensures .0)
     (sym (not-true _ (c .if1 .taken)) ∙ c .before .leads-fit .ensures))
-    (λ c. judged-told _ _ (header-fits _ _ _ (c .before .before .before .before .before .before .before .read-header .ensures) (c .before .before .before .before .before .header .given .1)) (c .before .before .lead-count .ensures .0)
+    (λ c. judged-told _ _ (told-states _ (c .before .before .before .before .before .before .before .judge-states .ensures) (c .before .before .before .before .before .header .given .1)) (c .before .before .lead-count .ensures .0)
     (sym (not-false _ (c .if1 .left)) ∙ c .before .leads-fit .ensures)))

@@ -9,6 +9,6 @@ read-header-spec =
     (tie.spec
     (λ c κs. search needs)
     (λ c κs. let f = c .fields-at .ensures in (f .length-small, f .count-small))
-    (λ c κs. c .before .fields-at .ensures .count-small)
+    (λ c κs. let f = c .before .fields-at .ensures in (f .count-small, f .m-small))
     (λ c κs. search needs)
     (λ c. header-judged _ _ _ _ (c .before .before .before .fields-at .ensures) (c .before .before .judge .ensures) (c .before .layout-of .ensures) (c .answered .ensures)))
