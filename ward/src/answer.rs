@@ -191,7 +191,7 @@ fn refused_words(sheet: &Sheet, refusal: span::Refusal) -> String {
     if sheet.has_suspended() && refusal.number == 3 {
         return "the archive that this tool is linked to does not take suspended rules yet (refused 3)".into();
     }
-    format!("the archive says: {refusal}. {}", refusal.reason())
+    format!("the archive says: {refusal}")
 }
 
 impl Verdict {
@@ -199,7 +199,7 @@ impl Verdict {
     pub fn words(&self) -> String {
         match self {
             Verdict::Accepted(outcome) => format!("accepted {outcome}"),
-            Verdict::NotAccepted(refusal) => refusal.to_string(),
+            Verdict::NotAccepted(refusal) => refusal.line(),
         }
     }
 }
