@@ -84,15 +84,16 @@ static inline void span_fault(span_problem *problem, unsigned refusal, unsigned 
     }
 }
 
-/* Begins a problem in `room` lent bytes; SPAN_QUESTIONS_SIZE are enough for every one. Faults: 3, 4, 15, and 7 for too little room. */
+/* Begins a problem in `room` lent bytes; SPAN_QUESTIONS_SIZE are enough for every one. Faults: 3, 4, 15, 5 for a
+ * count in another kind, 7 for too little room. */
 static inline span_problem span_problem_begin(uint8_t *bytes, size_t room, unsigned kind, unsigned n, unsigned m, unsigned count) {
     span_problem problem = {bytes, kind, n, m, count, 0, 0, 0, 0};
     if (kind != SPAN_KIND_PROBLEM && kind != SPAN_KIND_QUESTIONS && kind != SPAN_KIND_STATES) {
         span_fault(&problem, 3, 0, 0);
     } else if (n > SPAN_MOST_N || m > SPAN_MOST_M) {
         span_fault(&problem, 4, 0, 0);
-    } else if (count == 0 || count > (kind == SPAN_KIND_QUESTIONS ? SPAN_QUESTIONS : 1)) {
-        span_fault(&problem, SPAN_WRONG_COUNT, 0, 0);
+    } else if (kind == SPAN_KIND_QUESTIONS ? count == 0 || count > SPAN_QUESTIONS : count != 1) {
+        span_fault(&problem, kind == SPAN_KIND_QUESTIONS ? SPAN_WRONG_COUNT : 5, 0, 0);
     } else if (room < span_problem_size(kind, n, m, count)) {
         span_fault(&problem, 7, 0, 0);
     } else {

@@ -12,7 +12,7 @@ pub const MOST_LEAD: i32 = 20_160;
 pub const BLANK: i32 = i32::MIN;
 
 /// A problem that is being built. Moments are numbers, 0 the anchor. A list names the moments that it has, each with its lead; the
-/// others are blank. A row that has a fault is not added.
+/// others are blank, and so is a lead of [`BLANK`]. A row that has a fault is not added.
 ///
 /// ```
 /// # fn main() -> Result<(), Box<dyn std::error::Error>> {
@@ -194,7 +194,7 @@ impl Problem {
                 if *place != BLANK {
                     return Err(fault(What::Twice));
                 }
-                if !(-MOST_LEAD..=MOST_LEAD).contains(&lead) {
+                if lead != BLANK && !(-MOST_LEAD..=MOST_LEAD).contains(&lead) {
                     return Err(fault(What::Beyond(lead)));
                 }
                 *place = lead;
