@@ -165,6 +165,24 @@ impl Problem {
 
     /// The record with one of the questions alone, by its place: of kind 1, or of kind 5 where a rule is suspended. [`crate::check`] takes
     /// it with the answer in that place.
+    ///
+    /// ```
+    /// # fn main() -> Result<(), Box<dyn std::error::Error>> {
+    /// let mut day = span::Problem::new(1)?;
+    /// day.rule(&[(0, 30)], &[(1, 0)])?;
+    /// day.question(&[(1, 0)], &[(0, 0)])?; // from the anchor to the moment
+    /// day.question(&[(0, 0)], &[(1, 0)])?; // and back
+    /// let mut answers = [0; 2 * span::ANSWER_SIZE];
+    /// let solved = span::solve_all(&day.record()?, &mut answers)?;
+    /// assert_eq!(solved.to_string(), "least 30, bottomless");
+    /// for (question, answer) in solved.answers.iter().enumerate() {
+    ///     let record = &answers[answer.bytes.clone()];
+    ///     assert_eq!(span::check(&day.alone(question)?, record)?.outcome, answer.outcome);
+    ///     assert_eq!(span::read(record, day.n(), day.m())?.to_string(), answer.to_string());
+    /// }
+    /// # Ok(())
+    /// # }
+    /// ```
     pub fn alone(&self, question: usize) -> Result<Vec<u8>, Fault> {
         let what = if question == 0 { What::NoQuestion } else { What::NoSuchRow };
         let row = self.questions.get(question).ok_or(Row::Question(question + 1).fault(what))?;
