@@ -105,6 +105,22 @@ fn the_checker_accepts_their_answers() -> Result<(), Box<dyn std::error::Error>>
     Ok(())
 }
 
+/// The rules behind the answers and their rounds are those that the page names.
+#[test]
+fn their_reasons_are_told() -> Result<(), Box<dyn std::error::Error>> {
+    let (examples, problems) = (examples(), problems()?);
+    for (problem, answer, lines) in [
+        ("The day", "The day's answer", "rules 1 2 3\nround 0 1 3 2\n"),
+        ("The weekend", "The weekend's answer", "rules 3\nround 2 3\n"),
+        ("The quarrel", "The quarrel's answer", "rules 1 2\n"),
+    ] {
+        assert_eq!(span::reasons(&problems[problem].record()?, &examples[answer])?.to_string(), lines, "{answer}");
+    }
+    let back = problems["From arrival to ready"].record()?;
+    assert_eq!(span::reasons(&back, &examples["A bottomless answer"]).unwrap_err().number, 16);
+    Ok(())
+}
+
 /// Each of the two answers stands where the one before ended, and is accepted with its question alone.
 #[test]
 fn several_answers_are_walked() -> Result<(), Box<dyn std::error::Error>> {
