@@ -28,14 +28,18 @@ extern "C" {
 #define SPAN_MOST_SPAN 1290240    /* a least span is within this of 0 */
 #define SPAN_MOST_STAMP 6000000   /* a stamp is blank or within this of 0 */
 
+/* Sizes of fields. */
+#define SPAN_SHORT_SIZE 2         /* kind, n, m, count, state, class, start, pick */
+#define SPAN_MINUTES_SIZE 4       /* length, lead, span, stamp */
+
 /* Places of fields, from the record's start. */
 #define SPAN_AT_LENGTH 0          /* 4 bytes: the bytes after this field */
 #define SPAN_AT_KIND 4            /* 2 bytes */
 #define SPAN_AT_N 6               /* 2 bytes */
 #define SPAN_AT_M 8               /* 2 bytes, of a problem */
-#define SPAN_AT_COUNT 10          /* 2 bytes, of kind 3; its rows start at 12 */
+#define SPAN_AT_COUNT 10          /* 2 bytes, of kind 3 */
 #define SPAN_AT_STATES 10         /* 2 bytes a rule, of kind 5; its rows follow */
-#define SPAN_AT_ROWS 10           /* of kind 1 */
+#define SPAN_AT_ROWS 10           /* of kind 1; 2 later in kind 3, behind the states in kind 5 */
 #define SPAN_AT_CLASS 8           /* 2 bytes, of an answer */
 #define SPAN_AT_SPAN 10           /* 4 bytes */
 #define SPAN_AT_START 14          /* 2 bytes */
@@ -60,11 +64,21 @@ static inline int32_t span_get_minutes(const uint8_t *at) {
 
 /* Where the rows of a problem start, and its size. `count` is its questions, 1 but for kind 3. */
 static inline size_t span_rows_place(unsigned kind, size_t m) {
-    return kind == SPAN_KIND_QUESTIONS ? 12 : kind == SPAN_KIND_STATES ? SPAN_AT_STATES + 2 * m : SPAN_AT_ROWS;
+    return SPAN_AT_ROWS + SPAN_SHORT_SIZE * (kind == SPAN_KIND_QUESTIONS ? 1 : kind == SPAN_KIND_STATES ? m : 0);
 }
 
 static inline size_t span_problem_size(unsigned kind, size_t n, size_t m, size_t count) {
-    return span_rows_place(kind, m) + 8 * (n + 1) * (m + count);
+    return span_rows_place(kind, m) + 2 * SPAN_MINUTES_SIZE * (n + 1) * (m + count);
+}
+
+/* The bytes of the stamps of an answer, and its size; 0 for a class that is none. */
+static inline size_t span_stamps_size(unsigned class_number, size_t n) {
+    return class_number == SPAN_LEAST ? SPAN_MINUTES_SIZE * (n + 1) : 0;
+}
+
+static inline size_t span_answer_size(unsigned class_number, size_t n, size_t m) {
+    size_t picks = SPAN_SHORT_SIZE * (class_number == SPAN_BOTTOMLESS ? m + 1 : n + 1);
+    return class_number < SPAN_LEAST || class_number > SPAN_NONE ? 0 : SPAN_AT_STAMPS + span_stamps_size(class_number, n) + picks;
 }
 
 /* A problem that is being built. The first fault stays: the refusal that such a record would get, with its row (rules from 1 on,
@@ -111,7 +125,7 @@ static inline span_problem span_problem_begin(uint8_t *bytes, size_t room, unsig
 /* The field of a lead in a row, counted from 0; `side` is 0 for left (a question's first list), 1 for right (its second). */
 static inline uint8_t *span_lead_field(const span_problem *problem, unsigned row, unsigned side, unsigned moment) {
     size_t moments = problem->n + 1;
-    return problem->bytes + span_rows_place(problem->kind, problem->m) + 4 * ((2 * row + side) * moments + moment);
+    return problem->bytes + span_rows_place(problem->kind, problem->m) + SPAN_MINUTES_SIZE * ((2 * row + side) * moments + moment);
 }
 
 /* Begins the next row, with all leads blank: rules 1 to m, then the questions. In kind 5 the rule is in force. Fault 5: no row is left. */
@@ -127,7 +141,7 @@ static inline void span_row(span_problem *problem) {
         span_put_minutes(span_lead_field(problem, row, 0, place), SPAN_BLANK);
     }
     if (problem->kind == SPAN_KIND_STATES && row < problem->m) {
-        span_put_short(problem->bytes + SPAN_AT_STATES + 2 * row, 1);
+        span_put_short(problem->bytes + SPAN_AT_STATES + SPAN_SHORT_SIZE * row, 1);
     }
 }
 
@@ -161,7 +175,7 @@ static inline void span_suspend(span_problem *problem) {
         span_fault(problem, 5, problem->rows, 0);
     }
     if (problem->fault == 0) {
-        span_put_short(problem->bytes + SPAN_AT_STATES + 2 * (problem->rows - 1), 0);
+        span_put_short(problem->bytes + SPAN_AT_STATES + SPAN_SHORT_SIZE * (problem->rows - 1), 0);
     }
 }
 
@@ -215,31 +229,26 @@ static inline span_answer span_answer_at(const uint8_t *bytes, size_t room) {
     }
     span_answer answer = {bytes, span_record_end(bytes, 0), span_get_short(bytes + SPAN_AT_N), span_get_short(bytes + SPAN_AT_CLASS),
                           span_get_short(bytes + SPAN_AT_START), 0, span_minute_at(bytes + SPAN_AT_SPAN)};
-    if (answer.size > room || answer.size > SPAN_ANSWER_SIZE || answer.class_number < 1 || answer.class_number > 3) {
+    size_t wanted = span_answer_size(answer.class_number, answer.n, 0); /* m is not told: bottomless may have more picks */
+    int fits = answer.class_number == SPAN_BOTTOMLESS ? answer.size >= wanted && answer.size % 2 == 0 : answer.size == wanted;
+    if (wanted == 0 || !fits || answer.size > room || answer.size > SPAN_ANSWER_SIZE) {
         return none;
     }
-    size_t moments = answer.n + 1, stamps = answer.class_number == SPAN_LEAST ? 4 * moments : 0;
-    if (answer.size < SPAN_AT_STAMPS + stamps) {
-        return none;
-    }
-    answer.picks = (unsigned)((answer.size - SPAN_AT_STAMPS - stamps) / 2);
-    if (answer.class_number != SPAN_BOTTOMLESS && answer.picks != moments) {
-        return none;
-    }
-    return answer.size % 2 == 0 ? answer : none;
+    answer.picks = (unsigned)((answer.size - SPAN_AT_STAMPS - span_stamps_size(answer.class_number, answer.n)) / SPAN_SHORT_SIZE);
+    return answer;
 }
 
 /* A moment's stamp: blank too where the class has no stamps, or there is no such moment. */
 static inline span_minute span_stamp(const span_answer *answer, unsigned moment) {
     span_minute blank = {0, 1};
     int there = answer->size != 0 && answer->class_number == SPAN_LEAST && moment <= answer->n;
-    return there ? span_minute_at(answer->bytes + SPAN_AT_STAMPS + 4 * moment) : blank;
+    return there ? span_minute_at(answer->bytes + SPAN_AT_STAMPS + SPAN_MINUTES_SIZE * moment) : blank;
 }
 
 /* A pick, counted from 0: of a moment in classes 1 and 3, of a row in class 2. 0 too where there is no such place. */
 static inline unsigned span_pick(const span_answer *answer, unsigned place) {
-    size_t stamps = answer->class_number == SPAN_LEAST ? 4 * (answer->n + 1) : 0;
-    return place < answer->picks ? span_get_short(answer->bytes + SPAN_AT_STAMPS + stamps + 2 * place) : 0;
+    size_t picks = SPAN_AT_STAMPS + span_stamps_size(answer->class_number, answer->n);
+    return place < answer->picks ? span_get_short(answer->bytes + picks + SPAN_SHORT_SIZE * place) : 0;
 }
 
 #ifdef __cplusplus
