@@ -1,6 +1,7 @@
 /* The span engine, release 4.2: its boundary to C.
  *
- * Link with target/staticlib/libcapi.a, which `rt staticlib capi` writes (x86-64, Linux).
+ * Link with target/staticlib/libcapi.a, which `rt staticlib capi` writes (x86-64, Linux). docs/RECORDS.md tells every record byte
+ * by byte, with the refusals and their order; span_records.h builds problems and takes answers apart.
  *
  * The words are those of documents 01 and 02. Records are bytes, little-endian. A function is handed a pointer and then a
  * number of bytes or places; a pointer must not be null, also where that number is 0. It reads and writes only there.

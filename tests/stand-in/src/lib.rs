@@ -2,6 +2,8 @@
 //! benchmark where the archive is not built. The calls and words are that package's own source; what is behind them is not.
 //! Nothing leads here from that package.
 
+#[path = "../../../capi/rust/src/builder.rs"]
+mod builder;
 #[path = "../../../capi/rust/src/calls.rs"]
 mod calls;
 #[path = "../../../capi/rust/src/census.rs"]
@@ -31,3 +33,5 @@ pub use merging::{merge, PLAN_SIZE};
 pub use opening::{first_open, Window};
 pub use reasons::{reasons, Reasons};
 pub use words::{Answer, AnswerAt, Certified, Class, Outcome, Refusal, Solved, SolvedAll};
+
+pub use builder::{Fault, Problem, Row, Side, What, BLANK, MOST_LEAD, MOST_M, MOST_N};
