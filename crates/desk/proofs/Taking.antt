@@ -57,7 +57,7 @@ opened-short h = record { short = λ _. refl; ready = λ l. absurd (omega arith)
 -- ---- refusals of taking in
 
 pub took-short : (d : Desk) (memory p : List ℕ) → length memory < desk-memory → TookIn d memory p (Takings.Refused refused-memory) d memory
-took-short d memory p h = record { same-length = refl; short = λ _. (refl, refl, refl); moves = λ l. absurd (omega arith) }
+took-short d memory p h = record { same-length = refl; still = λ e. (refl, refl); short = λ _. (refl, refl, refl); moves = λ l. absurd (omega arith) }
 
 -- A refusal changes nothing.
 took-nothing : (d : Desk) (memory p : List ℕ) (k : ℕ) → desk-memory ≤ length memory
@@ -65,6 +65,7 @@ took-nothing : (d : Desk) (memory p : List ℕ) (k : ℕ) → desk-memory ≤ le
 unfolding takenOf
 took-nothing d memory p k h refusal = record {
   same-length = refl;
+  still = λ e. (refl, refl);
   short = λ l. absurd (omega arith);
   moves = λ _ state f g. record { next = state; takes = TakesIn.turned-away (refusal state f g); holds = g };
 }
@@ -124,6 +125,7 @@ pub took-in : {d r : Desk} {memory memory′ p : List ℕ} {at : ℕ} {b : Begun
 unfolding takenOf
 took-in {d} {r} {memory} {memory′} {p} {at} {b} {given} h g z f room e m t = record {
   same-length = rw m (length-put memory (at * problem-most) p (omega arith) (omega (arith, room .short, room .inside)));
+  still = λ e. absurd (let z : _≡_ {A = ℕ} 0 1 = cc in omega arith);
   short = λ l. absurd (omega arith);
   moves = λ _ state o holds. record { next = next state; takes = rw t (takes state holds); holds = rw (e .desk-is, m) (held-after state holds) };
 }

@@ -58,9 +58,10 @@ pub record NextTaken (d : Desk) (memory p : List ℕ) (r : TakenIn) (d′ : Desk
   pub takes : TakesIn (length memory) state p (takenOf r) next
   pub holds : Holds d′ memory′ next
 
--- Taking in: 23 where the memory is too short, else the machine's transition.
+-- Taking in: 23 where the memory is too short, else the machine's transition; a refusal leaves memory and state as they were.
 pub record TookIn (d : Desk) (memory p : List ℕ) (r : TakenIn) (d′ : Desk) (memory′ : List ℕ) : Type 0 where
   pub same-length : length memory′ ≡ length memory
+  pub still : {k : ℕ} → r ≡ Takings.Refused k → (d′ ≡ d) × (memory′ ≡ memory)
   pub short : length memory < desk-memory → (r ≡ Takings.Refused refused-memory) × (d′ ≡ d) × (memory′ ≡ memory)
   pub moves : desk-memory ≤ length memory → (state : Machine.Desk) → FromOpening (length memory) state → Holds d memory state
       → NextTaken d memory p r d′ memory′ state
