@@ -15,11 +15,13 @@ use Rattle.definitions.specs.Bytes.{put}
 use Rattle.definitions.specs.Questions.{part}
 use Rattle.definitions.proofs.Put.{put-nil, put-put, length-put}
 use Rattle.definitions.proofs.Questions.{part-length, part-at}
+use Rattle.least_span.specs.declared.state.Search.{Search}
+use Rattle.class_answers.specs.declared.answer.Answer.{Answer}
 use Rattle.desk.specs.declared.state.Place.{Place}
 use Rattle.desk.specs.declared.state.Desk.{Desk}
 use Rattle.desk.specs.State.{noPlace}
 use Rattle.desk.proofs.Kept.{put-in-at}
-use Rattle.desk_words.specs.Words.{desk-words, headWords, placeWords, placeFrom, Sized, placesWords, placesFrom, PlacesPut, deskWords, deskFrom, toldIn, DeskPut}
+use Rattle.desk_words.specs.Words.{desk-words, headWords, searchWords, answerWords, placeWords, placeFrom, SearchSized, AnswerSized, Sized, PutAt, placesWords, placesFrom, PlacesPut, deskWords, deskFrom, toldIn, DeskPut}
 
 -- ---- runs
 
@@ -63,40 +65,62 @@ bit-back : (b : Bool) → eqb (cond b 1 0) 1 ≡ b
 bit-back true = refl
 bit-back false = refl
 
+search-length : {s : Search} → SearchSized s → length (searchWords s) ≡ 96
+search-length {s} z = omega (arith, length-append (s .point) (s .kept ++ s .blocking), length-append (s .kept) (s .blocking), z .point, z .kept, z .blocking)
+
+answer-length : {a : Answer} → AnswerSized a → length (answerWords a) ≡ 96
+answer-length {a} z = omega (arith, length-append (a .stamps) (a .picks), z .stamps, z .picks)
+
 module _ {p : Place} (s : Sized p) where
-  answer-length : length (p .answer .stamps ++ p .answer .picks) ≡ 96
-  answer-length = omega (arith, length-append (p .answer .stamps) (p .answer .picks), s .stamps, s .picks)
-
-  blocking-length : length (p .search .blocking ++ (p .answer .stamps ++ p .answer .picks)) ≡ 128
-  blocking-length = omega (arith, length-append (p .search .blocking) (p .answer .stamps ++ p .answer .picks), s .blocking, answer-length)
-
-  kept-length : length (p .search .kept ++ (p .search .blocking ++ (p .answer .stamps ++ p .answer .picks))) ≡ 160
-  kept-length = omega (arith, length-append (p .search .kept) (p .search .blocking ++ (p .answer .stamps ++ p .answer .picks)), s .kept, blocking-length)
-
-  point-length : length (p .search .point ++ (p .search .kept ++ (p .search .blocking ++ (p .answer .stamps ++ p .answer .picks)))) ≡ 192
-  point-length = omega (arith, length-append (p .search .point) (p .search .kept ++ (p .search .blocking ++ (p .answer .stamps ++ p .answer .picks))), s .point, kept-length)
-
   -- It has 208 words,
   pub place-length : length (placeWords p) ≡ 208
-  place-length = length-append (headWords p) (p .search .point ++ (p .search .kept ++ (p .search .blocking ++ (p .answer .stamps ++ p .answer .picks)))) ∙ omega (arith, point-length)
+  place-length =
+      length-append (headWords p) (searchWords (p .search) ++ answerWords (p .answer))
+      ∙ omega (arith, length-append (searchWords (p .search)) (answerWords (p .answer)), search-length (s .search), answer-length (s .answer))
 
   -- and reads back.
   place-back : (v : List ℕ) (at : ℕ) → RunAt v at (placeWords p) → placeFrom v at ≡ p
   place-back v at r =
-      let r1 = run-rest (headWords p) (p .search .point ++ (p .search .kept ++ (p .search .blocking ++ (p .answer .stamps ++ p .answer .picks)))) (at + 16) r refl in
-      let r2 = run-rest (p .search .point) (p .search .kept ++ (p .search .blocking ++ (p .answer .stamps ++ p .answer .picks))) (at + 48) r1 (omega (arith, s .point)) in
-      let r3 = run-rest (p .search .kept) (p .search .blocking ++ (p .answer .stamps ++ p .answer .picks)) (at + 80) r2 (omega (arith, s .kept)) in
-      let r4 = run-rest (p .search .blocking) (p .answer .stamps ++ p .answer .picks) (at + 112) r3 (omega (arith, s .blocking)) in
-      let r5 = run-rest (p .answer .stamps) (p .answer .picks) (at + 144) r4 (omega (arith, s .stamps)) in
+      let r1 = run-rest (headWords p) (searchWords (p .search) ++ answerWords (p .answer)) (at + 16) r refl in
+      let q1 = run-first (searchWords (p .search)) (answerWords (p .answer)) r1 in
+      let q2 = run-rest (p .search .point) (p .search .kept ++ p .search .blocking) (at + 48) q1 (omega (arith, s .search .point)) in
+      let q3 = run-rest (p .search .kept) (p .search .blocking) (at + 80) q2 (omega (arith, s .search .kept)) in
+      let r2 = run-rest (searchWords (p .search)) (answerWords (p .answer)) (at + 112) r1 (omega (arith, search-length (s .search))) in
+      let r3 = run-rest (p .answer .stamps) (p .answer .picks) (at + 144) r2 (omega (arith, s .answer .stamps)) in
       rw (
         run-part v at 16 (headWords p) (run-first (headWords p) _ r) refl,
-        run-part v (at + 16) 32 (p .search .point) (run-first (p .search .point) _ r1) (s .point),
-        run-part v (at + 48) 32 (p .search .kept) (run-first (p .search .kept) _ r2) (s .kept),
-        run-part v (at + 80) 32 (p .search .blocking) (run-first (p .search .blocking) _ r3) (s .blocking),
-        run-part v (at + 112) 32 (p .answer .stamps) (run-first (p .answer .stamps) _ r4) (s .stamps),
-        run-part v (at + 144) 64 (p .answer .picks) r5 (s .picks),
+        run-part v (at + 16) 32 (p .search .point) (run-first (p .search .point) _ q1) (s .search .point),
+        run-part v (at + 48) 32 (p .search .kept) (run-first (p .search .kept) _ q2) (s .search .kept),
+        run-part v (at + 80) 32 (p .search .blocking) q3 (s .search .blocking),
+        run-part v (at + 112) 32 (p .answer .stamps) (run-first (p .answer .stamps) _ r2) (s .answer .stamps),
+        run-part v (at + 144) 64 (p .answer .picks) r3 (s .answer .picks),
         bit-back (p .closed),
       ) refl
+
+-- Runs put one after another.
+pub put-two : {l x y : List ℕ} {at n : ℕ} (a b : List ℕ) → at + length a ≤ length l → n ≡ at + length a → PutAt l at a x → PutAt x n b y → PutAt l at (a ++ b) y
+put-two {l} {x} {y} {at} {n} a b h e p q = record {
+  same = q .same ∙ p .same;
+  is = q .is ∙ ap (λ (z : List ℕ). put z n b) (p .is) ∙ put-put l at a n b (omega arith) e;
+}
+
+pub put-three : {l x y w : List ℕ} {at n m : ℕ} (a b c : List ℕ) → at + length a ≤ length l → n ≡ at + length a → n + length b ≤ length l → m ≡ n + length b → PutAt l at a x → PutAt x n b y
+    → PutAt y m c w → PutAt l at (a ++ (b ++ c)) w
+put-three {l} {x} {y} {w} {at} {n} {m} a b c h e g f p q r = put-two a (b ++ c) h e p (put-two b c (omega (arith, p .same)) f q r)
+
+-- A place of its runs.
+pub place-read : (words : List ℕ) (at : ℕ) {head point kept blocking stamps picks : List ℕ} → head ≡ part words at 16 → point ≡ part words (at + 16) 32 → kept ≡ part words (at + 48) 32
+    → blocking ≡ part words (at + 80) 32 → stamps ≡ part words (at + 112) 32 → picks ≡ part words (at + 144) 64
+    → _≡_ {A = Place} (record {
+  ticket = getD head 0 0;
+  size = getD head 1 0;
+  n = getD head 2 0;
+  m = getD head 3 0;
+  closed = eqb (getD head 4 0) 1;
+  search = record { reached = getD head 5 0; blocked = getD head 6 0; floor = getD head 7 0; made = getD head 8 0; room = getD head 9 0; point = point; kept = kept; blocking = blocking; start = getD head 10 0 };
+  answer = record { class = getD head 11 0; span = getD head 12 0; start = getD head 13 0; trials = getD head 14 0; made = getD head 15 0; stamps = stamps; picks = picks };
+}) (placeFrom words at)
+place-read words at e1 e2 e3 e4 e5 e6 = rw (e1, e2, e3, e4, e5, e6) refl
 
 -- ---- the places
 
@@ -133,17 +157,17 @@ unfolding placesWords
 places-none before places = record { inside = omega arith; same = refl; sized = λ k h. absurd (omega arith); is = sym (put-nil before 20) }
 
 pub places-more : {before after after′ : List ℕ} {places : List Place} {i : ℕ} → desk-words ≤ length before → length places ≡ 16 → PlacesPut before places i after → i < 16
-    → after′ ≡ put after (20 + i * 208) (placeWords (getD places i noPlace)) → Sized (getD places i noPlace) → length after′ ≡ length after → PlacesPut before places (i + 1) after′
-places-more {before} {after} {after′} {places} {i} h e p b is s l = record {
+    → PutAt after (20 + i * 208) (placeWords (getD places i noPlace)) after′ → Sized (getD places i noPlace) → PlacesPut before places (i + 1) after′
+places-more {before} {after} {after′} {places} {i} h e p b l s = record {
   inside = omega arith;
-  same = l ∙ p .same;
+  same = l .same ∙ p .same;
   sized = λ k c. ⊎-elim
       (λ (g : i ≤ k). let z : k ≡ i = omega arith in subst (λ (j : ℕ). Sized (getD places j noPlace)) (sym z) s)
       (λ (g : k < i). p .sized k g)
       (nat-le-or-lt i k);
   is =
       let long = places-some places i (omega arith) (p .sized) in
-      is ∙ ap (λ (z : List ℕ). put z (20 + i * 208) (placeWords (getD places i noPlace))) (p .is)
+      l .is ∙ ap (λ (z : List ℕ). put z (20 + i * 208) (placeWords (getD places i noPlace))) (p .is)
       ∙ put-put before 20 (placesWords (take i places)) (20 + i * 208) (placeWords (getD places i noPlace)) (omega arith) (omega arith)
       ∙ ap (λ (z : List ℕ). put before 20 z) (sym (places-next places i (omega arith)) ∙ ap (λ (k : ℕ). placesWords (take k places)) (sym (add-one i)));
 }
@@ -195,9 +219,9 @@ read-end {words} {i} {out} r h =
 
 -- Numbers, line and places put one after another are the desk.
 pub desk-put : (d : Desk) (told : ℕ) (before one two after : List ℕ) → desk-words ≤ length before → length (d .line) ≡ 16 → length (d .places) ≡ 16
-    → one ≡ put before 0 (d .given ∷ d .head ∷ d .waiting ∷ told ∷ []) → two ≡ put one 4 (d .line) → length two ≡ length before → PlacesPut two (d .places) 16 after
+    → PutAt before 0 (d .given ∷ d .head ∷ d .waiting ∷ told ∷ []) one → PutAt one 4 (d .line) two → PlacesPut two (d .places) 16 after
     → DeskPut d told before after
-desk-put d told before one two after h l m e f same p = record { same = p .same ∙ same; back = back; told-is = run .each 3 (omega arith); is = whole }
+desk-put d told before one two after h l m e f p = record { same = p .same ∙ f .same ∙ e .same; back = back; told-is = run .each 3 (omega arith); is = whole }
   where
     sized : (k : ℕ) → k < length (d .places) → Sized (getD (d .places) k noPlace)
     sized k b = p .sized k (omega arith)
@@ -208,7 +232,7 @@ desk-put d told before one two after h l m e f same p = record { same = p .same 
     whole : after ≡ put before 0 (deskWords d told)
     whole =
         p .is ∙ ap (λ (z : List Place). put two 20 (placesWords z)) (subst (λ (n : ℕ). take n (d .places) ≡ d .places) m (take-length (d .places)))
-        ∙ ap (λ (z : List ℕ). put z 20 (placesWords (d .places))) (f ∙ ap (λ (z : List ℕ). put z 4 (d .line)) e ∙ put-put before 0 (d .given ∷ d .head ∷ d .waiting ∷ told ∷ []) 4 (d .line) (omega arith) refl)
+        ∙ ap (λ (z : List ℕ). put z 20 (placesWords (d .places))) (f .is ∙ ap (λ (z : List ℕ). put z 4 (d .line)) (e .is) ∙ put-put before 0 (d .given ∷ d .head ∷ d .waiting ∷ told ∷ []) 4 (d .line) (omega arith) refl)
         ∙ put-put before 0 ((d .given ∷ d .head ∷ d .waiting ∷ told ∷ []) ++ d .line) 20 (placesWords (d .places)) (omega arith) (omega (arith, l))
         ∙ ap (λ (z : List ℕ). put before 0 z) (append-assoc (d .given ∷ d .head ∷ d .waiting ∷ told ∷ []) (d .line) (placesWords (d .places)))
 

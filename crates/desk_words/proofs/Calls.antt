@@ -27,7 +27,7 @@ use Rattle.desk_words.specs.Entries.{AsLent, OpenedAs, TakenFrom, TakenA
 
 -- The premise of the desk's own calls.
 pub left-as : {memory words : List ℕ} {d : Desk} → AsLent memory words → desk-words ≤ length words → d ≡ deskFrom words → desk-memory ≤ length memory → Left d memory
-left-as lent w e h = rw e (lent w h)
+left-as lent w e h = rw e (lent .left w h)
 
 -- ---- opening
 
@@ -111,21 +111,21 @@ module _ {memory words : List ℕ} {d d′ : Desk} {r : Stepped} (h : desk-memor
 
 -- ---- collecting
 
-module _ {memory number : ℕ} {state next : Machine.Desk} {before after : List ℕ} {r : Machine.Collected} where
-  collect-refused : Collects memory state number before r next after → {k : ℕ} → r ≡ Machine.Collected.refused k
-      → Collects memory state number before (Machine.Collected.refused k) state before × (after ≡ before)
-  collect-refused (Collects.turned-away e) f = (rw (← f) (Collects.turned-away e), refl)
-  collect-refused (Collects.no-such-ticket e g) f = (rw (← f) (Collects.no-such-ticket e g), refl)
-  collect-refused (Collects.waits-yet e g) f = absurd (let z : _≡_ {A = ℕ} 0 1 = cc in omega arith)
-  collect-refused (Collects.short-buffer e g l) f = (rw (← f) (Collects.short-buffer e g l), refl)
-  collect-refused (Collects.handed-over e g l) f = absurd (let z : _≡_ {A = ℕ} 0 1 = cc in omega arith)
+collect-refused : {memory number k : ℕ} {state next : Machine.Desk} {before after : List ℕ} {r : Machine.Collected} → Collects memory state number before r next after
+    → r ≡ Machine.Collected.refused k → Collects memory state number before (Machine.Collected.refused k) state before × (after ≡ before)
+collect-refused (Collects.turned-away e) f = (rw (← f) (Collects.turned-away e), refl)
+collect-refused (Collects.no-such-ticket e g) f = (rw (← f) (Collects.no-such-ticket e g), refl)
+collect-refused (Collects.waits-yet e g) f = absurd (let z : _≡_ {A = ℕ} 0 1 = cc in omega arith)
+collect-refused (Collects.short-buffer e g l) f = (rw (← f) (Collects.short-buffer e g l), refl)
+collect-refused (Collects.handed-over e g l) f = absurd (let z : _≡_ {A = ℕ} 0 1 = cc in omega arith)
 
-  collect-waits : Collects memory state number before r next after → r ≡ Machine.still-waits → Collects memory state number before Machine.still-waits state before × (after ≡ before)
-  collect-waits (Collects.turned-away e) f = absurd (let z : _≡_ {A = ℕ} 0 1 = cc in omega arith)
-  collect-waits (Collects.no-such-ticket e g) f = absurd (let z : _≡_ {A = ℕ} 0 1 = cc in omega arith)
-  collect-waits (Collects.waits-yet e g) f = (Collects.waits-yet e g, refl)
-  collect-waits (Collects.short-buffer e g l) f = absurd (let z : _≡_ {A = ℕ} 0 1 = cc in omega arith)
-  collect-waits (Collects.handed-over e g l) f = absurd (let z : _≡_ {A = ℕ} 0 1 = cc in omega arith)
+collect-waits : {memory number : ℕ} {state next : Machine.Desk} {before after : List ℕ} {r : Machine.Collected} → Collects memory state number before r next after
+    → r ≡ Machine.still-waits → Collects memory state number before Machine.still-waits state before × (after ≡ before)
+collect-waits (Collects.turned-away e) f = absurd (let z : _≡_ {A = ℕ} 0 1 = cc in omega arith)
+collect-waits (Collects.no-such-ticket e g) f = absurd (let z : _≡_ {A = ℕ} 0 1 = cc in omega arith)
+collect-waits (Collects.waits-yet e g) f = (Collects.waits-yet e g, refl)
+collect-waits (Collects.short-buffer e g l) f = absurd (let z : _≡_ {A = ℕ} 0 1 = cc in omega arith)
+collect-waits (Collects.handed-over e g l) f = absurd (let z : _≡_ {A = ℕ} 0 1 = cc in omega arith)
 
 found-class : {p : Problem} {class trials : ℕ} {span : Trop} → Found p class span trials → class ≤ 3
 found-class (optimal o) = omega arith

@@ -33,8 +33,8 @@ handedNumber class own = 256 * class + 65536 * own
 
 -- "Each call gets memory and state as the call before left them": the desk that the words hold, with the memory. Where the memory or the words
 -- are too short nothing is asked.
-abbrev pub AsLent : List ℕ → List ℕ → Type 0
-AsLent memory words = desk-words ≤ length words → AsLeft (deskFrom words) memory
+pub record AsLent (memory words : List ℕ) : Type 0 where
+  pub left : desk-words ≤ length words → AsLeft (deskFrom words) memory
 
 -- ---- what the calls leave
 

@@ -8,6 +8,8 @@ use lib.ListN.{length, getD, take}
 use Rattle.definitions.specs.Limits.{desk-places, stride, table-rows}
 use Rattle.definitions.specs.Bytes.{put}
 use Rattle.definitions.specs.Questions.{part}
+use Rattle.least_span.specs.declared.state.Search.{Search}
+use Rattle.class_answers.specs.declared.answer.Answer.{Answer}
 use Rattle.desk.specs.declared.state.Place.{Place}
 use Rattle.desk.specs.declared.state.Desk.{Desk}
 use Rattle.desk.specs.State.{noPlace}
@@ -26,8 +28,14 @@ headWords p =
     ∷ p .search .reached ∷ p .search .blocked ∷ p .search .floor ∷ p .search .made ∷ p .search .room ∷ p .search .start
     ∷ p .answer .class ∷ p .answer .span ∷ p .answer .start ∷ p .answer .trials ∷ p .answer .made ∷ []
 
+abbrev pub searchWords : Search → List ℕ
+searchWords s = s .point ++ (s .kept ++ s .blocking)
+
+abbrev pub answerWords : Answer → List ℕ
+answerWords a = a .stamps ++ a .picks
+
 abbrev pub placeWords : Place → List ℕ
-placeWords p = headWords p ++ (p .search .point ++ (p .search .kept ++ (p .search .blocking ++ (p .answer .stamps ++ p .answer .picks))))
+placeWords p = headWords p ++ (searchWords (p .search) ++ answerWords (p .answer))
 
 -- The place in the words from one on.
 abbrev pub placeFrom : List ℕ → ℕ → Place
@@ -60,12 +68,23 @@ placeFrom words at = record {
 }
 
 -- The sizes of its runs.
+pub record SearchSized (s : Search) : Type 0 where
+  pub point : length (s .point) ≡ 32
+  pub kept : length (s .kept) ≡ 32
+  pub blocking : length (s .blocking) ≡ 32
+
+pub record AnswerSized (a : Answer) : Type 0 where
+  pub stamps : length (a .stamps) ≡ 32
+  pub picks : length (a .picks) ≡ 64
+
 pub record Sized (p : Place) : Type 0 where
-  pub point : length (p .search .point) ≡ 32
-  pub kept : length (p .search .kept) ≡ 32
-  pub blocking : length (p .search .blocking) ≡ 32
-  pub stamps : length (p .answer .stamps) ≡ 32
-  pub picks : length (p .answer .picks) ≡ 64
+  pub search : SearchSized (p .search)
+  pub answer : AnswerSized (p .answer)
+
+-- Values are put from a word on; the other words stay.
+pub record PutAt (before : List ℕ) (at : ℕ) (vs after : List ℕ) : Type 0 where
+  pub same : length after ≡ length before
+  pub is : after ≡ put before at vs
 
 -- Places one after another.
 unfoldable pub placesWords : List Place → List ℕ

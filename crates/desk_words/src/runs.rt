@@ -3,8 +3,8 @@ ghost use mathlib.Core.Path.{_≡_};
 ghost use Prim.Native.Nat.{_+_, _≤_};
 ghost use lib.ListN.{length};
 ghost use Rattle.definitions.specs.Limits.{desk-places, stride, table-rows};
-ghost use Rattle.definitions.specs.Bytes.{put};
 ghost use Rattle.definitions.specs.Questions.{part};
+ghost use Rattle.desk_words.specs.Words.{PutAt};
 use desk::limits::PLACES;
 use records::limits::ROWS;
 use records::limits::STRIDE;
@@ -12,7 +12,7 @@ use records::limits::STRIDE;
 // Puts numbers from a word on. Public for `stored`.
 pub fn put_numbers(words: &mut [u64], at: usize, run: &[u64])
     requires { ⌜ at + length (now run) ≤ length (now words) ⌝ }
-    ensures { λ _. ⌜ now (words .exit) ≡ put (now (words .entry)) at (now (run .entry)) ⌝ }
+    ensures { λ _. ⌜ PutAt (now (words .entry)) at (now (run .entry)) (now (words .exit)) ⌝ }
 {
     for j in 0..run.len() {
         words[at + j] = run[j];
@@ -22,7 +22,7 @@ pub fn put_numbers(words: &mut [u64], at: usize, run: &[u64])
 // Puts numbers of places or rows from a word on. Public for `stored`.
 pub fn put_indices(words: &mut [u64], at: usize, run: &[usize])
     requires { ⌜ at + length (now run) ≤ length (now words) ⌝ }
-    ensures { λ _. ⌜ now (words .exit) ≡ put (now (words .entry)) at (now (run .entry)) ⌝ }
+    ensures { λ _. ⌜ PutAt (now (words .entry)) at (now (run .entry)) (now (words .exit)) ⌝ }
 {
     for j in 0..run.len() {
         words[at + j] = run[j] as u64;

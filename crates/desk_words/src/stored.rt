@@ -2,10 +2,10 @@
 // its line, then its places.
 ghost use mathlib.Core.Path.{_≡_};
 ghost use mathlib.Core.Bool.{cond};
-ghost use Prim.Native.Nat.{_+_, _≤_};
+ghost use Prim.Native.Nat.{_+_, _*_, _≤_};
 ghost use lib.ListN.{length};
-ghost use Rattle.definitions.specs.Bytes.{put};
-ghost use Rattle.desk_words.specs.Words.{place-words, desk-words, placeWords, placeFrom, Sized, placesFrom, deskFrom, PlacesPut, DeskPut};
+ghost use Rattle.definitions.specs.Limits.{desk-places, stride, table-rows};
+ghost use Rattle.desk_words.specs.Words.{place-words, desk-words, headWords, searchWords, answerWords, placeWords, placeFrom, SearchSized, AnswerSized, Sized, PutAt, placesFrom, deskFrom, PlacesPut, DeskPut};
 use class_answers::answer::Answer;
 use crate::runs::head_at;
 use crate::runs::line_at;
@@ -18,6 +18,7 @@ use desk::limits::PLACES;
 use desk::state::Desk;
 use desk::state::Place;
 use least_span::state::Search;
+use records::limits::STRIDE;
 
 // Where the runs of a place start, and its words; where the line and the places of a desk start, and its words.
 const POINT: usize = 16;
@@ -87,10 +88,10 @@ fn load_place(words: &[u64], at: usize) -> Place
     }
 }
 
-// Stores a place in the words from one on; the others stay.
-fn store_place(words: &mut [u64], at: usize, place: Place)
-    requires { ⌜ at + place-words ≤ length (now words) ⌝ }
-    ensures { λ _. ⌜ (now (words .exit) ≡ put (now (words .entry)) at (placeWords place)) × Sized place ⌝ }
+// Stores the sixteen numbers of a place.
+fn store_head(words: &mut [u64], at: usize, place: Place)
+    requires { ⌜ at + desk-places ≤ length (now words) ⌝ }
+    ensures { λ _. ⌜ PutAt (now (words .entry)) at (headWords place) (now (words .exit)) ⌝ }
 {
     let search = place.search;
     let answer = place.answer;
@@ -112,17 +113,43 @@ fn store_place(words: &mut [u64], at: usize, place: Place)
         answer.trials,
         answer.made,
     ];
+    put_numbers(words, at, &head);
+}
+
+// Stores the runs of a search.
+fn store_search(words: &mut [u64], at: usize, search: Search)
+    requires { ⌜ at + 3 * stride ≤ length (now words) ⌝ }
+    ensures { λ _. ⌜ PutAt (now (words .entry)) at (searchWords search) (now (words .exit)) × SearchSized search ⌝ }
+{
     let point = search.point;
     let kept = search.kept;
     let blocking = search.blocking;
+    put_numbers(words, at, &point);
+    put_indices(words, at + STRIDE, &kept);
+    put_indices(words, at + 2 * STRIDE, &blocking);
+}
+
+// Stores the runs of an answer.
+fn store_answer(words: &mut [u64], at: usize, answer: Answer)
+    requires { ⌜ at + stride + table-rows ≤ length (now words) ⌝ }
+    ensures { λ _. ⌜ PutAt (now (words .entry)) at (answerWords answer) (now (words .exit)) × AnswerSized answer ⌝ }
+{
     let stamps = answer.stamps;
     let picks = answer.picks;
-    put_numbers(words, at, &head);
-    put_numbers(words, at + POINT, &point);
-    put_indices(words, at + KEPT, &kept);
-    put_indices(words, at + BLOCKING, &blocking);
-    put_numbers(words, at + STAMPS, &stamps);
-    put_numbers(words, at + PICKS, &picks);
+    put_numbers(words, at, &stamps);
+    put_numbers(words, at + STRIDE, &picks);
+}
+
+// Stores a place in the words from one on; the others stay.
+fn store_place(words: &mut [u64], at: usize, place: Place)
+    requires { ⌜ at + place-words ≤ length (now words) ⌝ }
+    ensures { λ _. ⌜ PutAt (now (words .entry)) at (placeWords place) (now (words .exit)) × Sized place ⌝ }
+{
+    let search = place.search;
+    let answer = place.answer;
+    store_head(words, at, place);
+    store_search(words, at + POINT, search);
+    store_answer(words, at + STAMPS, answer);
 }
 
 // The sixteen places in the words.

@@ -1,0 +1,35 @@
+use borrow.Author.Needs.{needs}
+use Rattle.desk_words.proofs.entries.open_words.Statement.{statement}
+use Rattle.desk_words.proofs.entries.open_words.Tie as tie
+use Rattle.desk_words.proofs.entries.open_words.Reads as reads
+use Rattle.desk_words.proofs.entries.open_words.Lts as lts
+use Rattle.desk.proofs.calls.open_desk.Reads as open-desk-reads
+use Rattle.desk_words.proofs.entries.told.Reads as told-reads
+
+-- src/entries.rt:48:9
+returns : tie.Need-returns
+returns c = search needs
+
+-- src/entries.rt:51:9
+returns-2 : tie.Need-returns-2
+returns-2 c = search needs
+
+-- src/entries.rt:53:9
+open-desk-requires : tie.Need-open-desk-requires
+open-desk-requires c κs = search needs
+
+-- src/entries.rt:54:5
+told-requires : tie.Need-told-requires
+told-requires c κs = search needs
+
+-- src/entries.rt:44:1
+same-length : tie.Need-same-length
+same-length c = search needs
+
+-- src/entries.rt:44:1
+returns-3 : tie.Need-returns-3
+returns-3 c = search needs
+
+pub open-words-spec : {M : Type 1} → statement M
+open-words-spec =
+    tie.close (tie.spec returns returns-2 open-desk-requires told-requires same-length returns-3)
