@@ -108,6 +108,14 @@ pub put-three : {l x y w : List ℕ} {at n m : ℕ} (a b c : List ℕ) → at + 
     → PutAt y m c w → PutAt l at (a ++ (b ++ c)) w
 put-three {l} {x} {y} {w} {at} {n} {m} a b c h e g f p q r = put-two a (b ++ c) h e p (put-two b c (omega (arith, p .same)) f q r)
 
+-- Numbers, search and answer put one after another are the place.
+pub place-put : {l x y w : List ℕ} {at : ℕ} (p : Place) → at + 208 ≤ length l → PutAt l at (headWords p) x → PutAt x (at + 16) (searchWords (p .search)) y × SearchSized (p .search)
+    → PutAt y (at + 112) (answerWords (p .answer)) w × AnswerSized (p .answer) → PutAt l at (placeWords p) w × Sized p
+place-put p h a b c = (
+  put-three (headWords p) (searchWords (p .search)) (answerWords (p .answer)) (omega arith) refl (omega (arith, search-length (b .1))) (omega (arith, search-length (b .1))) a (b .0) (c .0),
+  record { search = b .1; answer = c .1 },
+)
+
 -- A place of its runs.
 pub place-read : (words : List ℕ) (at : ℕ) {head point kept blocking stamps picks : List ℕ} → head ≡ part words at 16 → point ≡ part words (at + 16) 32 → kept ≡ part words (at + 48) 32
     → blocking ≡ part words (at + 80) 32 → stamps ≡ part words (at + 112) 32 → picks ≡ part words (at + 144) 64

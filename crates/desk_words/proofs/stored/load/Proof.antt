@@ -1,3 +1,4 @@
+use mathlib.Core.Path.{refl}
 use borrow.Author.Needs.{needs}
 use Rattle.desk_words.proofs.stored.load.Statement.{statement}
 use Rattle.desk_words.proofs.stored.load.Tie as tie
@@ -28,7 +29,7 @@ shared-slice-read-t10 c = search needs
 
 -- src/stored.rt:183:1
 returns : tie.Need-returns
-returns c = search needs
+returns c = rw (c .before .before .before .before .line-at .ensures, c .before .before .before .load-places .ensures) refl
 
 pub load-spec : {M : Type 1} → statement M
 load-spec =

@@ -22,7 +22,7 @@ load-place-requires c κs = search needs
 
 -- src/stored.rt:136:5
 loop-holds : tie.Need-loop-holds Inv-loop μ-loop
-loop-holds c = read-none _ _ (length-replicate {A = Place} 16 _)
+loop-holds c = read-none _ _ (length-replicate {A = Place} 16 (c .load-place .result))
 
 -- src/stored.rt:137:50
 mul-load-place : tie.Need-mul-load-place Inv-loop μ-loop
@@ -54,7 +54,7 @@ loop-less c = search needs
 
 -- src/stored.rt:136:5
 loop-again : tie.Need-loop-again Inv-loop μ-loop
-loop-again c = read-more (c .before .before .before .loop .inv) (omega arith) (c .before .load-place2 .ensures)
+loop-again c = read-more (c .before .before .loop .inv) (omega arith) (c .load-place2 .ensures)
 
 -- src/stored.rt:129:1
 returns : tie.Need-returns Inv-loop μ-loop

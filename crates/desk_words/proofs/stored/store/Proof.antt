@@ -1,3 +1,4 @@
+use Rattle.desk_words.proofs.Back.{desk-put}
 use borrow.Author.Needs.{needs}
 use Rattle.desk_words.proofs.stored.store.Statement.{statement}
 use Rattle.desk_words.proofs.stored.store.Tie as tie
@@ -33,7 +34,7 @@ same-length c = search needs
 
 -- src/stored.rt:199:1
 returns : tie.Need-returns
-returns c = search needs
+returns c = desk-put (c .before .before .before .before .before .before .before .before .before .before .before .before .before .before .before .before .args .desk) (c .before .before .before .before .before .before .before .before .before .before .before .before .before .before .before .before .args .told) (c .before .before .before .before .before .before .before .before .before .before .before .before .before .before .before .before .args .words .now) _ _ _ (c .before .before .before .before .before .before .before .before .before .before .before .before .before .before .before .before .pre .0) (c .before .before .before .before .before .before .before .before .before .before .before .before .before .before .before .before .pre .1) (c .before .before .before .before .before .before .before .before .before .before .before .before .before .before .before .before .pre .2) (c .before .before .before .before .before .before .before .before .before .before .before .put-numbers .ensures) (c .before .before .before .before .before .before .put-indices .ensures) (c .before .before .store-places .ensures)
 
 pub store-spec : {M : Type 1} → statement M
 store-spec =

@@ -24,7 +24,7 @@ same-length c = search needs
 
 -- src/stored.rt:92:1
 returns : tie.Need-returns
-returns c = search needs
+returns c = rw (c .before .before .before .before .before .bit .ensures) at (c .before .before .put-numbers .ensures)
 
 pub store-head-spec : {M : Type 1} → statement M
 store-head-spec =

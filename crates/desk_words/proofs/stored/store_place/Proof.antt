@@ -1,3 +1,4 @@
+use Rattle.desk_words.proofs.Back.{place-put}
 use borrow.Author.Needs.{needs}
 use Rattle.desk_words.proofs.stored.store_place.Statement.{statement}
 use Rattle.desk_words.proofs.stored.store_place.Tie as tie
@@ -33,7 +34,7 @@ same-length c = search needs
 
 -- src/stored.rt:144:1
 returns : tie.Need-returns
-returns c = search needs
+returns c = place-put (c .before .before .before .before .before .before .before .before .before .before .before .before .before .before .before .args .place) (c .before .before .before .before .before .before .before .before .before .before .before .before .before .before .before .pre) (c .before .before .before .before .before .before .before .before .before .before .store-head .ensures) (c .before .before .before .before .before .before .store-search .ensures) (c .before .before .store-answer .ensures)
 
 pub store-place-spec : {M : Type 1} → statement M
 store-place-spec =

@@ -51,7 +51,7 @@ loop-less c = search needs
 
 -- src/stored.rt:149:5
 loop-again : tie.Need-loop-again Inv-loop μ-loop
-loop-again c = search needs
+loop-again c = let i = c .before .before .before .before .before .before .loop .inv in (omega arith, omega (arith, c .before .before .store-place .ensures .0 .same), places-more (c .before .before .before .before .before .before .before .before .pre .0) (c .before .before .before .before .before .before .before .before .pre .1) (i .2) (omega arith) (c .before .before .store-place .ensures .0) (c .before .before .store-place .ensures .1))
 
 -- src/stored.rt:144:1
 same-length : tie.Need-same-length Inv-loop μ-loop
@@ -59,7 +59,7 @@ same-length c = search needs
 
 -- src/stored.rt:144:1
 returns : tie.Need-returns Inv-loop μ-loop
-returns c = search needs
+returns c = places-end (c .before .loop .inv .2) (omega arith)
 
 pub store-places-spec : {M : Type 1} → statement M
 store-places-spec =
