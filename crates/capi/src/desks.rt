@@ -34,7 +34,12 @@ pub extern "C" fn span_desk_step(memory: &[u8], words: &mut [u64]) -> u64
 
 // Writes the answer of a ticket into the buffer, and frees its place.
 #[no_mangle]
-pub extern "C" fn span_desk_collect(memory: &[u8], words: &mut [u64], ticket: u64, buffer: &mut [u8]) -> u64
+pub extern "C" fn span_desk_collect(
+    memory: &[u8],
+    words: &mut [u64],
+    ticket: u64,
+    buffer: &mut [u8],
+) -> u64
     requires { ⌜ AsLent (now memory) (now words) ⌝ }
     ensures { λ r. ⌜ CollectedAs (now (memory .entry)) (now (words .entry)) ticket (now (buffer .entry)) r (now (words .exit)) (now (buffer .exit)) ⌝ }
 {

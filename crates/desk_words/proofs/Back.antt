@@ -120,14 +120,14 @@ place-put p h a b c = (
 pub place-read : (words : List ℕ) (at : ℕ) {head point kept blocking stamps picks : List ℕ} → head ≡ part words at 16 → point ≡ part words (at + 16) 32 → kept ≡ part words (at + 48) 32
     → blocking ≡ part words (at + 80) 32 → stamps ≡ part words (at + 112) 32 → picks ≡ part words (at + 144) 64
     → _≡_ {A = Place} (record {
-  ticket = getD head 0 0;
-  size = getD head 1 0;
-  n = getD head 2 0;
-  m = getD head 3 0;
-  closed = eqb (getD head 4 0) 1;
-  search = record { reached = getD head 5 0; blocked = getD head 6 0; floor = getD head 7 0; made = getD head 8 0; room = getD head 9 0; point = point; kept = kept; blocking = blocking; start = getD head 10 0 };
-  answer = record { class = getD head 11 0; span = getD head 12 0; start = getD head 13 0; trials = getD head 14 0; made = getD head 15 0; stamps = stamps; picks = picks };
-}) (placeFrom words at)
+      ticket = getD head 0 0;
+      size = getD head 1 0;
+      n = getD head 2 0;
+      m = getD head 3 0;
+      closed = eqb (getD head 4 0) 1;
+      search = record { reached = getD head 5 0; blocked = getD head 6 0; floor = getD head 7 0; made = getD head 8 0; room = getD head 9 0; point = point; kept = kept; blocking = blocking; start = getD head 10 0 };
+      answer = record { class = getD head 11 0; span = getD head 12 0; start = getD head 13 0; trials = getD head 14 0; made = getD head 15 0; stamps = stamps; picks = picks };
+    }) (placeFrom words at)
 place-read words at e1 e2 e3 e4 e5 e6 = rw (e1, e2, e3, e4, e5, e6) refl
 
 -- ---- the places

@@ -145,7 +145,7 @@ collected-few {class = class} {own} o (Collects.handed-over {class = c} {own = k
     (omega (arith, found-class (desk-holds .answers-alone o g .1 .found)), omega (arith, desk-holds .trials-of-answered o g))
 
 module _ {memory words : List ℕ} {ticket : ℕ} {buffer buffer′ : List ℕ} {d d′ : Desk} {r : Collected} (h : desk-memory ≤ length memory) (w : desk-words ≤ length words) (e : d ≡ deskFrom words)
-  (t : DidCollect d memory ticket buffer r d′ buffer′) (lent : AsLent memory words) where
+    (t : DidCollect d memory ticket buffer r d′ buffer′) (lent : AsLent memory words) where
   pub collected-arrays : Arrays d′
   collected-arrays = let l = left-as lent w e h in t .moves h (l .state) (l .from-opening) (l .holds) .holds .arrays
 

@@ -113,6 +113,11 @@ pub fn collect_words(memory: &[u8], words: &mut [u64], ticket: u64, buffer: &mut
     match outcome {
         Collected::Refused(k) => k as u64,
         Collected::StillWaits => 0,
-        Collected::Handed(class, _, own, _) => told(words, collecting.desk, ticket, BYTE * class + OWN * own),
+        Collected::Handed(class, _, own, _) => told(
+            words,
+            collecting.desk,
+            ticket,
+            BYTE * class + OWN * own,
+        ),
     }
 }
