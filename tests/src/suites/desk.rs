@@ -7,7 +7,7 @@ use crate::paper::{self, Outcome, BUFFER};
 use crate::tally::Tally;
 use random::Random;
 use span::raw::{self, DESK_MEMORY, DESK_TICKET, DESK_WORDS};
-use std::collections::{HashMap, VecDeque};
+use std::collections::{BTreeMap, VecDeque};
 
 const PLACES: usize = 16;
 
@@ -29,7 +29,7 @@ struct Held {
 struct Model {
     given: u64,
     line: VecDeque<u64>,
-    held: HashMap<u64, Held>,
+    held: BTreeMap<u64, Held>,
 }
 
 /// The desk that is tried, with its memory and words; both are longer than asked for now and then.
@@ -297,6 +297,7 @@ fn full_desks(tally: &mut Tally, stock: &Stock) {
     };
     let slow = most(stock.good.iter().map(|(_, outcome)| paper::trials_for(*outcome)).max().unwrap_or(1));
     let trials = paper::trials_for(slow[0].1);
+    tally.same("the most trials of a problem", trials, 24, &slow[0].0, &[]);
     let mut desk = Tried::new(&mut random);
     desk.open();
     for at in 0..PLACES {
