@@ -113,11 +113,6 @@ fn stock(tally: &mut Tally, random: &mut Random, count: usize) -> Stock {
     Stock { good, bad }
 }
 
-/// The desk's own state, without the told ticket.
-fn words(state: &[u64]) -> Vec<u64> {
-    state.iter().enumerate().filter(|&(at, _)| at != DESK_TICKET).map(|(_, &word)| word).collect()
-}
-
 struct Run<'a> {
     tally: &'a mut Tally,
     random: Random,
@@ -130,11 +125,11 @@ struct Run<'a> {
 impl Run<'_> {
     /// A call that must change neither memory nor state.
     fn still(&mut self, what: &str, call: impl FnOnce(&mut Tried) -> u64, expected: u64) {
-        let (memory, state) = (self.desk.memory.clone(), words(&self.desk.state));
+        let (memory, state) = (self.desk.memory.clone(), self.desk.state.clone());
         let found = call(&mut self.desk);
         self.tally.same(what, found, expected, &[], &[]);
         self.tally.same("memory after a refusal", self.desk.memory == memory, true, &[], &[]);
-        self.tally.same("state after a refusal", words(&self.desk.state) == state, true, &[], &[]);
+        self.tally.same("state after a refusal", self.desk.state == state, true, &[], &[]);
         self.tally.count(what);
     }
 
