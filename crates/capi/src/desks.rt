@@ -1,10 +1,10 @@
 // A desk for sixteen problems (document 02, 2.11): the problems in lent memory, its state in lent words. The premise of the last three, that
 // both are as the call before left them, is `AsLent`; nothing is asked where one of them is too short.
-ghost use Rattle.desk_words.specs.Entries.{AsLent, OpenedAs, TakenAs, SteppedAs, CollectedAs};
-use desk_words::entries::collect_words;
-use desk_words::entries::open_words;
-use desk_words::entries::step_words;
-use desk_words::entries::take_words;
+ghost use Rattle.lent_desk.specs.Entries.{AsLent, OpenedAs, TakenAs, SteppedAs, CollectedAs};
+use lent_desk::entries::collect_words;
+use lent_desk::entries::open_words;
+use lent_desk::entries::step_words;
+use lent_desk::entries::take_words;
 
 // Opens a desk with nothing on it, whatever memory and words hold.
 #[no_mangle]

@@ -1,9 +1,9 @@
-use Rattle.desk_words.proofs.Calls.{opened-arrays, opened-words}
-use Rattle.desk_words.specs.Entries.{OpenedAs}
+use Rattle.lent_desk.proofs.Calls.{opened-arrays, opened-words}
+use Rattle.lent_desk.specs.Entries.{OpenedAs}
 use native.Mathlib.Omega.{arith}
 use borrow.Author.Needs.{needs}
-use Rattle.desk_words.proofs.entries.open_words.Statement.{statement}
-use Rattle.desk_words.proofs.entries.open_words.Tie as tie
+use Rattle.lent_desk.proofs.entries.open_words.Statement.{statement}
+use Rattle.lent_desk.proofs.entries.open_words.Tie as tie
 
 pub open-words-spec : {M : Type 1} → statement M
 open-words-spec =

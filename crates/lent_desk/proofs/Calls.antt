@@ -22,8 +22,8 @@ use Rattle.desk.specs.State.{Arrays, Holds}
 use Rattle.desk.specs.Calls.{Left, takenOf, steppedOf, collectedOf, OpenedBy, TookIn, DidStep, DidCollect}
 use Rattle.desk.proofs.Runs.{desk-holds}
 use Rattle.desk.proofs.Taking.{memory-enough}
 use Rattle.desk_words.specs.Words.{desk-words, deskFrom, DeskPut}
-use Rattle.desk_words.specs.Entries.{AsLent, OpenedAs, TakenFrom, TakenAs, SteppedFrom, SteppedAs, CollectedFrom, CollectedAs, goes-on-number, done-number, handedNumber}
+use Rattle.lent_desk.specs.Entries.{AsLent, OpenedAs, TakenFrom, TakenAs, SteppedFrom, SteppedAs, CollectedFrom, CollectedAs, goes-on-number, done-number, handedNumber}
 
 -- The premise of the desk's own calls.
 pub left-as : {memory words : List ℕ} {d : Desk} → AsLent memory words → desk-words ≤ length words → d ≡ deskFrom words → desk-memory ≤ length memory → Left d memory

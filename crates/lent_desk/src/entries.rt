@@ -2,11 +2,8 @@
 ghost use mathlib.Core.Path.{_≡_};
 ghost use Prim.Native.Nat.{_≤_};
 ghost use lib.ListN.{length};
 ghost use Rattle.desk_words.specs.Words.{desk-words, DeskPut};
-ghost use Rattle.desk_words.specs.Entries.{AsLent, OpenedAs, TakenAs, SteppedAs, CollectedAs};
-use crate::stored::DESK_WORDS;
-use crate::stored::load;
-use crate::stored::store;
+ghost use Rattle.lent_desk.specs.Entries.{AsLent, OpenedAs, TakenAs, SteppedAs, CollectedAs};
 use desk::calls::Collected;
 use desk::calls::Stepped;
 use desk::calls::TakenIn;
@@ -16,6 +13,9 @@ use desk::calls::step;
 use desk::calls::take_in;
 use desk::limits::MEMORY;
 use desk::state::Desk;
+use desk_words::stored::DESK_WORDS;
+use desk_words::stored::load;
+use desk_words::stored::store;
 use records::limits::BYTE;
 
 // The memory is too short; fewer words are lent than a desk has.

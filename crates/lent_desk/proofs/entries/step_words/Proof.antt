@@ -1,9 +1,9 @@
-use Rattle.desk_words.proofs.Calls.{left-as, stepped-arrays, step-not-refused, idle-words, on-words, done-words}
-use Rattle.desk_words.specs.Entries.{SteppedAs}
+use Rattle.lent_desk.proofs.Calls.{left-as, stepped-arrays, step-not-refused, idle-words, on-words, done-words}
+use Rattle.lent_desk.specs.Entries.{SteppedAs}
 use native.Mathlib.Omega.{arith}
 use borrow.Author.Needs.{needs}
-use Rattle.desk_words.proofs.entries.step_words.Statement.{statement}
-use Rattle.desk_words.proofs.entries.step_words.Tie as tie
+use Rattle.lent_desk.proofs.entries.step_words.Statement.{statement}
+use Rattle.lent_desk.proofs.entries.step_words.Tie as tie
 
 pub step-words-spec : {M : Type 1} → statement M
 step-words-spec =

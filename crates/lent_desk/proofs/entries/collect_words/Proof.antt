@@ -1,9 +1,9 @@
-use Rattle.desk_words.proofs.Calls.{left-as, collected-arrays, collected-small, refused-collect, waits-collect, handed-collect}
-use Rattle.desk_words.specs.Entries.{CollectedAs}
+use Rattle.lent_desk.proofs.Calls.{left-as, collected-arrays, collected-small, refused-collect, waits-collect, handed-collect}
+use Rattle.lent_desk.specs.Entries.{CollectedAs}
 use native.Mathlib.Omega.{arith}
 use borrow.Author.Needs.{needs}
-use Rattle.desk_words.proofs.entries.collect_words.Statement.{statement}
-use Rattle.desk_words.proofs.entries.collect_words.Tie as tie
+use Rattle.lent_desk.proofs.entries.collect_words.Statement.{statement}
+use Rattle.lent_desk.proofs.entries.collect_words.Tie as tie
 
 pub collect-words-spec : {M : Type 1} → statement M
 collect-words-spec =

@@ -1,9 +1,9 @@
-use Rattle.desk_words.proofs.Calls.{left-as, taken-arrays, refused-words, taken-words}
-use Rattle.desk_words.specs.Entries.{TakenAs}
+use Rattle.lent_desk.proofs.Calls.{left-as, taken-arrays, refused-words, taken-words}
+use Rattle.lent_desk.specs.Entries.{TakenAs}
 use native.Mathlib.Omega.{arith}
 use borrow.Author.Needs.{needs}
-use Rattle.desk_words.proofs.entries.take_words.Statement.{statement}
-use Rattle.desk_words.proofs.entries.take_words.Tie as tie
+use Rattle.lent_desk.proofs.entries.take_words.Statement.{statement}
+use Rattle.lent_desk.proofs.entries.take_words.Tie as tie
 
 pub take-words-spec : {M : Type 1} → statement M
 take-words-spec =

@@ -8,8 +8,8 @@ use Rattle.definitions.specs.Limits.{desk-memory}
 use Rattle.definitions.specs.Desk as Machine
 use Rattle.definitions.specs.Desk.{FromOpening, Run}
 use Rattle.desk.specs.Calls.{Left}
 use Rattle.desk_words.specs.Words.{desk-words, deskFrom}
-use Rattle.desk_words.specs.Entries.{AsLent, Stored, OpenedAs, TakenFrom, TakenAs, SteppedFrom, SteppedAs, CollectedFrom, CollectedAs}
+use Rattle.lent_desk.specs.Entries.{AsLent, Stored, OpenedAs, TakenFrom, TakenAs, SteppedFrom, SteppedAs, CollectedFrom, CollectedAs}
 
 stored-left : {words memory after : List ℕ} {state : Machine.Desk} {told : ℕ} → Stored words memory state told after → FromOpening (length memory) state → Left (deskFrom after) memory
 stored-left {state = state} s o = record { state = state; from-opening = o; holds = rw (s .stored .back) (s .holds) }
