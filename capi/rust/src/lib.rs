@@ -5,7 +5,8 @@
 //! answer record into its fields and back; [`read_hours`] and [`write_hours`] turn spans and stamps into hours and minutes and
 //! back. [`convert`] drops the rules that say nothing from a stored problem. [`reasons`] names the rules behind an accepted answer
 //! and its binding round. [`merge`] makes one plan of two. [`first_open`] looks up a ward's opening hours. [`marks_differ`] is the test
-//! of mark bytes by which reach ends. [`census`] counts small problems by class.
+//! of mark bytes by which reach ends. [`census`] counts small problems by class. [`Desk`] answers sixteen problems in turn, a trial at a
+//! time.
 //!
 //! What these functions return is proved of the code behind them, which the archive `libcapi.a` holds; this thin layer
 //! and the compiler that builds it are not part of the proofs.
@@ -36,6 +37,7 @@ mod builder;
 mod calls;
 mod census;
 mod conversion;
+mod desk;
 mod hours;
 mod marks;
 mod merging;
@@ -49,6 +51,7 @@ pub use calls::{
 };
 pub use census::{census, Census};
 pub use conversion::convert;
+pub use desk::{Collected, Desk, Step, DESK_MEMORY};
 pub use hours::{read_hours, write_hours, TEXT_SIZE};
 pub use marks::marks_differ;
 pub use merging::{merge, PLAN_SIZE};

@@ -10,6 +10,8 @@ mod calls;
 mod census;
 #[path = "../../../capi/rust/src/conversion.rs"]
 mod conversion;
+#[path = "../../../capi/rust/src/desk.rs"]
+mod desk;
 #[path = "../../../capi/rust/src/hours.rs"]
 mod hours;
 #[path = "../../../capi/rust/src/marks.rs"]
@@ -27,6 +29,7 @@ mod words;
 pub use calls::{check, read, solve, solve_all, write, ANSWER_SIZE, PROBLEM_SIZE, QUESTIONS, QUESTIONS_SIZE};
 pub use census::{census, Census};
 pub use conversion::convert;
+pub use desk::{Collected, Desk, Step, DESK_MEMORY};
 pub use hours::{read_hours, write_hours, TEXT_SIZE};
 pub use marks::marks_differ;
 pub use merging::{merge, PLAN_SIZE};
