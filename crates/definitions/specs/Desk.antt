@@ -8,7 +8,7 @@ use lib.ListN.{length, getD, set, replicate}
 use Rattle.definitions.specs.Limits.{most-trials, desk-places, desk-memory, desk-steps, last-ticket, answer-most, refused-room, refused-full, refused-ticket, refused-memory}
 use Rattle.definitions.specs.Tropical.{Trop}
 use Rattle.definitions.specs.Bytes.{Clause, first, or-else}
-use Rattle.definitions.specs.ProblemRecord.{problemRefusal, WithinLayout, problemOf, meant, nField, mField}
+use Rattle.definitions.specs.ProblemRecord.{desk-kinds, refusalFor, problemOf, meant, nField, mField}
 use Rattle.definitions.specs.AnswerRecord.{Answer, answerSize, answerBytes, written}
 use Rattle.definitions.specs.Solved.{Found, Answers}
 
@@ -88,9 +88,16 @@ pub data TakenIn : Type 0 where
   refused : ℕ → TakenIn
   ticket : ℕ → TakenIn
 
+-- The problem's refusals on a desk, and a problem that it takes: of kind 1, within the layout.
+abbrev pub deskRefusal : List ℕ → ℕ
+deskRefusal s = refusalFor desk-kinds s
+
+abbrev pub WithinDesk : List ℕ → Type 0
+WithinDesk s = deskRefusal s ≡ 0
+
 -- 23, then the problem's refusals, then 21. The desk knows no kind but 1, and takes the empty problem too.
 unfoldable pub takeRefusal : ℕ → Desk → List ℕ → ℕ
-takeRefusal memory d p = or-else (first (memoryRefused memory ∷ [])) (or-else (problemRefusal (meant p)) (first (fullRefused d)))
+takeRefusal memory d p = or-else (first (memoryRefused memory ∷ [])) (or-else (deskRefusal (meant p)) (first (fullRefused d)))
 
 -- A refused problem changes nothing. Another gets the next ticket and the first empty place, and goes to the end of the line.
 pub data TakesIn (memory : ℕ) (d : Desk) (p : List ℕ) : TakenIn → Desk → Type 0 where
@@ -199,10 +206,10 @@ pub record DeskHolds : Type 0 where
   pub steps-after :
       {memory : ℕ} {d e f : Desk} {p : List ℕ} {number k : ℕ} → FromOpening memory d → TakesIn memory d p (ticket number) e
       → Run memory e k f → desk-steps ≤ k → StillWaits f number → ⊥
-  -- the answer is one that the engine may give for that problem alone, which is within the layout;
+  -- the answer is one that the engine may give for that problem alone, which is one that the desk takes;
   pub answers-alone :
       {memory : ℕ} {d : Desk} → FromOpening memory d → {i number class own : ℕ} {span : Trop} {problem : List ℕ} {a : Answer}
-      → Stands d i (answered number problem class span own a) → WithinLayout problem × Answers (problemOf problem) class span own a
+      → Stands d i (answered number problem class span own a) → WithinDesk problem × Answers (problemOf problem) class span own a
   -- "a problem's answer does not depend on the others": over two sequences the same problem has the same class, span and own trials;
   pub independent :
       {memory room : ℕ} {d e : Desk} → FromOpening memory d → FromOpening room e → {problem : List ℕ} {i k x y c z own trials : ℕ} {s t : Trop} {a b : Answer}

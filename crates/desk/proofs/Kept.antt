@@ -10,11 +10,12 @@ use lib.Seq.{ext-getD, getD-take, take-at, getD-append-add, length-take-le, take
 use Rattle.base.proofs.Numbers.{nat-le-or-lt}
 use Rattle.definitions.specs.Limits.{desk-places, desk-memory, problem-most}
 use Rattle.definitions.specs.Bytes.{Bytes, put}
-use Rattle.definitions.specs.ProblemRecord.{WithinLayout, problemSize, meant}
+use Rattle.definitions.specs.ProblemRecord.{problemSize, meant}
+use Rattle.definitions.specs.Desk.{WithinDesk}
 use Rattle.definitions.specs.Questions.{part}
 use Rattle.definitions.proofs.Put.{take-put, length-put, getD-put-after, put-more, put-nil}
 use Rattle.definitions.proofs.Questions.{part-length, part-at}
-use Rattle.definitions.proofs.Refusals.{problem-fits}
+use Rattle.definitions.proofs.Refusals.{plain-desk}
 use Rattle.least_span.specs.declared.state.Search.{Search}
 use Rattle.search_steps.specs.declared.steps.Trial.{Trial}
 use Rattle.engine.specs.OneTrial.{TrialFor}
@@ -66,9 +67,9 @@ kept-there memory p i k size h b c d s t =
         before g = omega arith
 
 -- A problem that nothing refuses fits its place.
-pub fits-place : (p : List ℕ) → WithinLayout (meant p) → length p ≤ problem-most
+pub fits-place : (p : List ℕ) → WithinDesk (meant p) → length p ≤ problem-most
 fits-place [] w = omega arith
-fits-place (b ∷ s) w = let f = problem-fits (b ∷ s) .0 w in size-small (f .size-is) (f .n-most) (f .m-most)
+fits-place (b ∷ s) w = let f = plain-desk (b ∷ s) w in size-small (f .size-is) (f .n-most) (f .m-most)
   where
     size-small : {n m : ℕ} → length (b ∷ s) ≡ problemSize n m → n ≤ 31 → m ≤ 63 → length (b ∷ s) ≤ problem-most
     size-small {n} {m} e h g =

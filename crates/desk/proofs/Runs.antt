@@ -11,11 +11,11 @@ use lib.ListN.{length, getD, set, replicate, length-set, length-replicate, getD-
 use lib.Seq.{getD-set-same, getD-set-other}
 use Rattle.definitions.specs.Limits.{desk-places, most-trials}
 use Rattle.definitions.specs.Tropical.{Trop}
-use Rattle.definitions.specs.ProblemRecord.{WithinLayout, problemRefusal, problemOf, meant}
+use Rattle.definitions.specs.ProblemRecord.{problemOf, meant}
 use Rattle.definitions.specs.AnswerRecord.{Answer}
 use Rattle.definitions.specs.Solved.{Answers}
 use Rattle.definitions.specs.Bytes.{first, or-else}
-use Rattle.definitions.specs.Desk.{memoryRefused, fullRefused, Place, empty, waits, answered, Desk, opened, placeAt, Stands, ticketOf, FirstEmpty, TakenIn, TakesIn, taken, takeRefusal, Stepped, Steps, one-more, last-one, Collected, Collects, handed-over, Run, nothing, take-in, one-step, collect, FromOpening, StillWaits, DeskHolds}
+use Rattle.definitions.specs.Desk.{memoryRefused, fullRefused, deskRefusal, WithinDesk, Place, empty, waits, answered, Desk, opened, placeAt, Stands, ticketOf, FirstEmpty, TakenIn, TakesIn, taken, takeRefusal, Stepped, Steps, one-more, last-one, Collected, Collects, handed-over, Run, nothing, take-in, one-step, collect, FromOpening, StillWaits, DeskHolds}
 use Rattle.definitions.specs.Desk as Desks
 use Rattle.base.proofs.Numbers.{nat-le-or-lt}
 use Rattle.definitions.proofs.Refusals.{or-else-none}
@@ -34,9 +34,9 @@ pub record Waiting (d : Desk) (i : ℕ) : Type 0 where
 -- and has an answer that the engine may give.
 pub data Fit : Place → Type 0 where
   fit-empty : Fit empty
-  fit-waits : {number own : ℕ} {problem : List ℕ} → WithinLayout problem → own < most-trials → Fit (waits number problem own)
+  fit-waits : {number own : ℕ} {problem : List ℕ} → WithinDesk problem → own < most-trials → Fit (waits number problem own)
   fit-answered :
-      {number class own : ℕ} {span : Trop} {problem : List ℕ} {a : Answer} → WithinLayout problem
+      {number class own : ℕ} {span : Trop} {problem : List ℕ} {a : Answer} → WithinDesk problem
       → Answers (problemOf problem) class span own a → Fit (answered number problem class span own a)
 
 -- What holds of every state from an opening on.
@@ -57,19 +57,19 @@ empty-not-answered e = let z : _≡_ {A = ℕ} 0 1 = cc in omega arith
 pub answered-not-waits : {number class own : ℕ} {span : Trop} {problem : List ℕ} {a : Answer} {n o : ℕ} {p : List ℕ} → answered number problem class span own a ≡ waits n p o → ⊥
 answered-not-waits e = let z : _≡_ {A = ℕ} 0 1 = cc in omega arith
 
-fit-of-waits : {number own : ℕ} {problem : List ℕ} → Fit (waits number problem own) → WithinLayout problem × (own < most-trials)
+fit-of-waits : {number own : ℕ} {problem : List ℕ} → Fit (waits number problem own) → WithinDesk problem × (own < most-trials)
 fit-of-waits (fit-waits w h) = (w, h)
 
 fit-of-answered : {number class own : ℕ} {span : Trop} {problem : List ℕ} {a : Answer} → Fit (answered number problem class span own a)
-    → WithinLayout problem × Answers (problemOf problem) class span own a
+    → WithinDesk problem × Answers (problemOf problem) class span own a
 fit-of-answered (fit-answered w h) = (w, h)
 
 module _ {d : Desk} (sound : Sound d) where
-  pub waits-fit : {i number own : ℕ} {problem : List ℕ} → Stands d i (waits number problem own) → WithinLayout problem × (own < most-trials)
+  pub waits-fit : {i number own : ℕ} {problem : List ℕ} → Stands d i (waits number problem own) → WithinDesk problem × (own < most-trials)
   waits-fit {i} st = fit-of-waits (subst Fit (st .is) (sound .fits i))
 
   pub answered-fit : {i number class own : ℕ} {span : Trop} {problem : List ℕ} {a : Answer} → Stands d i (answered number problem class span own a)
-      → WithinLayout problem × Answers (problemOf problem) class span own a
+      → WithinDesk problem × Answers (problemOf problem) class span own a
   answered-fit {i} st = fit-of-answered (subst Fit (st .is) (sound .fits i))
 
 -- What waits, or is answered, stands at one of the sixteen places.
@@ -141,7 +141,7 @@ module _ {memory : ℕ} {d : Desk} (s : Sound d) where
   sound-taken (Desks.TakesIn.turned-away h) = s
   sound-taken {p = p} (taken {i = i} h f) =
       let new : Waiting d i → ⊥ = λ w. empty-not-waits (sym (f .is-empty) ∙ w .there .is) in
-      let fit = or-else-none (problemRefusal (meant p)) (first (fullRefused d)) .0 (or-else-none (first (memoryRefused memory ∷ [])) (or-else (problemRefusal (meant p)) (first (fullRefused d))) .0 h .1) in
+      let fit = or-else-none (deskRefusal (meant p)) (first (fullRefused d)) .0 (or-else-none (first (memoryRefused memory ∷ [])) (or-else (deskRefusal (meant p)) (first (fullRefused d))) .0 h .1) in
       sound-moved d (suc (d .given)) (d .line ++ (i ∷ [])) i (waits (suc (d .given)) (meant p) 0) s (f .inside)
       (joins i (s .line) new (λ k w. waits-elsewhere d _ _ i _ k (λ e. new (subst (Waiting d) e w)) w)
       (record { number = _; problem = _; own = _; there = record { is = here d (suc (d .given)) (d .line ++ (i ∷ [])) i _ (s .sixteen) (f .inside) } })
@@ -350,7 +350,7 @@ tickets-later (taken h f) run (taken i g) = omega (arith, given-rises run)
 -- A taking-in with a ticket had memory enough.
 taken-enough : {memory number : ℕ} {d e : Desk} {p : List ℕ} → TakesIn memory d p (Desks.ticket number) e → first (memoryRefused memory ∷ []) ≡ 0
 unfolding takeRefusal
-taken-enough {memory} {d = d} {p = p} (taken h f) = or-else-none (first (memoryRefused memory ∷ [])) (or-else (problemRefusal (meant p)) (first (fullRefused d))) .0 h .0
+taken-enough {memory} {d = d} {p = p} (taken h f) = or-else-none (first (memoryRefused memory ∷ [])) (or-else (deskRefusal (meant p)) (first (fullRefused d))) .0 h .0
 
 -- All that document 02 says of every sequence.
 pub desk-holds : DeskHolds

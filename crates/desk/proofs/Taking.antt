@@ -11,9 +11,9 @@ use lib.ListN.{length, getD, set, replicate, length-set, length-replicate, getD-
 use borrow.Author.Tests.{lt-ltb, le-ltb, le-leb, lt-leb}
 use Rattle.definitions.specs.Limits.{desk-places, desk-memory, problem-most, last-ticket, refused-memory, refused-full}
 use Rattle.definitions.specs.Bytes.{first, or-else, put}
-use Rattle.definitions.specs.ProblemRecord.{WithinLayout, problemRefusal, meant, nField, mField}
+use Rattle.definitions.specs.ProblemRecord.{meant, nField, mField}
 use Rattle.definitions.specs.Desk as Machine
-use Rattle.definitions.specs.Desk.{memoryRefused, fullRefused, placeAt, held, FirstEmpty, FromOpening, takeRefusal, TakesIn, taken}
+use Rattle.definitions.specs.Desk.{memoryRefused, fullRefused, deskRefusal, WithinDesk, placeAt, held, FirstEmpty, FromOpening, takeRefusal, TakesIn, taken}
 use Rattle.definitions.proofs.Put.{length-put}
 use Rattle.least_span.specs.declared.state.Search.{Search}
 use Rattle.engine.specs.declared.one_trial.Begun.{Begun}
@@ -81,7 +81,7 @@ took-refused {d} {memory} {p} {b} h g n = go (b .refused) refl
     go (suc k) e = took-nothing d memory p k h (λ state f holds. rw (memory-enough (length memory) h, sym (g .refused-is) ∙ e) refl)
 
 -- then 21: all places are held,
-pub took-full : {d : Desk} {memory p : List ℕ} {at : ℕ} → desk-memory ≤ length memory → WithinLayout (meant p) → FirstFree d at → at ≡ desk-places
+pub took-full : {d : Desk} {memory p : List ℕ} {at : ℕ} → desk-memory ≤ length memory → WithinDesk (meant p) → FirstFree d at → at ≡ desk-places
     → TookIn d memory p (Takings.Refused refused-full) d memory
 unfolding takeRefusal
 took-full {d} {memory} {p} {at} h w f e = took-nothing d memory p 20 h (λ state o g.
@@ -89,7 +89,7 @@ took-full {d} {memory} {p} {at} h w f e = took-nothing d memory p 20 h (λ state
     rw (memory-enough (length memory) h, w, le-leb desk-places (held (state .places)) (omega arith)) refl)
 
 -- or the tickets are used up.
-pub took-last : {d : Desk} {memory p : List ℕ} {at : ℕ} → desk-memory ≤ length memory → WithinLayout (meant p) → FirstFree d at → (at ≡ desk-places → ⊥) → d .given ≡ last-ticket
+pub took-last : {d : Desk} {memory p : List ℕ} {at : ℕ} → desk-memory ≤ length memory → WithinDesk (meant p) → FirstFree d at → (at ≡ desk-places → ⊥) → d .given ≡ last-ticket
     → TookIn d memory p (Takings.Refused refused-full) d memory
 unfolding takeRefusal
 took-last {d} {memory} {p} {at} h w f n e = took-nothing d memory p 20 h (λ state o g.
@@ -99,7 +99,7 @@ took-last {d} {memory} {p} {at} h w f n e = took-nothing d memory p 20 h (λ sta
 -- ---- one taken in
 
 -- Nothing refuses it.
-not-refused : (d : Desk) (memory p : List ℕ) (at : ℕ) (state : Machine.Desk) → desk-memory ≤ length memory → WithinLayout (meant p) → FirstFree d at → at < desk-places → d .given < last-ticket
+not-refused : (d : Desk) (memory p : List ℕ) (at : ℕ) (state : Machine.Desk) → desk-memory ≤ length memory → WithinDesk (meant p) → FirstFree d at → at < desk-places → d .given < last-ticket
     → Holds d memory state → takeRefusal (length memory) state p ≡ 0
 unfolding takeRefusal
 not-refused d memory p at state h w f b l g =
@@ -107,7 +107,7 @@ not-refused d memory p at state h w f b l g =
     rw (memory-enough (length memory) h, w, lt-leb desk-places (held (state .places)) some, lt-leb last-ticket (state .given) (omega (arith, g .given-is))) refl
 
 -- There is room for it: the line is shorter than 16.
-pub room-for : {d : Desk} {memory p : List ℕ} {at : ℕ} → desk-memory ≤ length memory → WithinLayout (meant p) → FirstFree d at → (at ≡ desk-places → ⊥) → (d .given ≡ last-ticket → ⊥)
+pub room-for : {d : Desk} {memory p : List ℕ} {at : ℕ} → desk-memory ≤ length memory → WithinDesk (meant p) → FirstFree d at → (at ≡ desk-places → ⊥) → (d .given ≡ last-ticket → ⊥)
     → d .given ≤ last-ticket → Left d memory → Room d at p memory
 room-for {d} {memory} {p} {at} h w f n l most left =
     let g = left .holds in
@@ -133,7 +133,7 @@ took-in {d} {r} {memory} {memory′} {p} {at} {b} {given} h g z f room e m t = r
     c : Place
     c = e .place
 
-    within : WithinLayout (meant p)
+    within : WithinDesk (meant p)
     within = sym (g .refused-is) ∙ z
 
     next : Machine.Desk → Machine.Desk

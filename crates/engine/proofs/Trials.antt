@@ -7,7 +7,7 @@ use native.Mathlib.Omega.{arith}
 use lib.ListN.{length}
 use Rattle.definitions.specs.Limits.{highest-n, highest-m, answer-most}
 use Rattle.definitions.specs.Bytes.{Bytes}
-use Rattle.definitions.specs.ProblemRecord.{layoutOf, problemRefusal, problemOutcome, WithinLayout, problemOf, nField, mField}
+use Rattle.definitions.specs.ProblemRecord.{desk-kinds, layoutOf, problemOutcome, WithinLayout, problemOf, nField, mField}
 use Rattle.definitions.proofs.Questions.{asking-itself}
 use Rattle.records.specs.declared.problem.Header.{Header}
 use Rattle.records.specs.declared.problem.Layout.{Layout}
@@ -22,6 +22,8 @@ use Rattle.least_span.specs.declared.state.Search.{Search}
 use Rattle.least_span.specs.State.{Opened}
 use Rattle.class_answers.specs.declared.answer.Answer.{Answer}
 use Rattle.search_steps.specs.declared.steps.Trial.{Trial}
+use Rattle.definitions.specs.Desk.{deskRefusal, WithinDesk}
+use Rattle.definitions.proofs.Refusals.{desk-within}
 use Rattle.search_steps.specs.Steps.{Pursued, TrialOf}
 use Rattle.search_steps.proofs.Found.{open-more}
 use Rattle.search_steps.proofs.Closing.{opened-pursued}
@@ -33,7 +35,7 @@ use Rattle.engine.proofs.Outcomes.{posed-tables, found-for}
 -- What was read, where nothing was refused.
 pub record ReadOne (p : List ℕ) (l : Layout) (left right : List ℕ) : Type 0 where
   pub bytes : Bytes p
-  pub within : WithinLayout p
+  pub within : WithinDesk p
   pub n-is : l .n ≡ nField p
   pub m-is : l .m ≡ mField p
   pub n-most : l .n ≤ highest-n
@@ -41,9 +43,9 @@ pub record ReadOne (p : List ℕ) (l : Layout) (left right : List ℕ) : Type 0 
   pub left-is : left ≡ leftTable p
   pub right-is : right ≡ rightTable p
 
-pub read-one : {p left₀ right₀ left right : List ℕ} {header : Header} {l : Layout} → Bytes p → ProblemRead false p left₀ right₀ header left right → header ≡ Headers.Told l → ReadOne p l left right
+pub read-one : {p left₀ right₀ left right : List ℕ} {header : Header} {l : Layout} → Bytes p → ProblemRead desk-kinds p left₀ right₀ header left right → header ≡ Headers.Told l → ReadOne p l left right
 read-one {p} b r f =
-    let t = told-of false (r .result) f in
+    let t = told-of desk-kinds (r .result) f in
     record {
       bytes = b;
       within = t .within;
@@ -51,8 +53,8 @@ read-one {p} b r f =
       m-is = t .fits .m-is;
       n-most = t .fits .n-most;
       m-most = t .fits .m-most;
-      left-is = r .left-read (t .within) ∙ ap leftTable (asking-itself p 0 (t .within));
-      right-is = r .right-read (t .within) ∙ ap rightTable (asking-itself p 0 (t .within));
+      left-is = r .left-read (t .within) ∙ ap leftTable (asking-itself p 0 (desk-within p (t .within)));
+      right-is = r .right-read (t .within) ∙ ap rightTable (asking-itself p 0 (desk-within p (t .within)));
     }
 
 -- The problem's tables hold it.
@@ -69,7 +71,7 @@ tables-posed p b w = record { problem = problemOf p; stands = record { n-is = re
 module _ {p : List ℕ} {l : Layout} {left right : List ℕ} (read : ReadOne p l left right) where
   -- The tables are such as the search takes.
   pub read-tables : Coefficients (l .n) (l .m) left right
-  read-tables = rw (read .n-is, read .m-is, read .left-is, read .right-is) (posed-tables (tables-posed p (read .bytes) (read .within)))
+  read-tables = rw (read .n-is, read .m-is, read .left-is, read .right-is) (posed-tables (tables-posed p (read .bytes) (desk-within p (read .within))))
 
   -- A search begun.
   pub begun-open : {search : Search} → Opened (l .m + 1) search → BegunFor p (record { refused = 0; n = l .n; m = l .m; search = search })
@@ -88,7 +90,7 @@ module _ {p : List ℕ} {l : Layout} {left right : List ℕ} (read : ReadOne p l
   -- What one trial leaves.
   pub trial-for : {search : Search} {r : Trial} → TrialOf (l .n) (l .m) left right search r → TrialFor p search r
   trial-for {search} {r} t =
-      let held = tables-hold p (read .bytes) (read .within) in
+      let held = tables-hold p (read .bytes) (desk-within p (read .within)) in
       let u : TrialOf (nField p) (mField p) (leftTable p) (rightTable p) search r = rw (← read .n-is, ← read .m-is, ← read .left-is, ← read .right-is) t in
       record {
         goes-on = λ e.
@@ -104,11 +106,11 @@ module _ {p : List ℕ} {l : Layout} {left right : List ℕ} (read : ReadOne p l
       }
 
 -- A problem that is refused.
-pub begun-refused : {p : List ℕ} {header : Header} {k r n m : ℕ} {search : Search} → headerOf header ≡ problemOutcome false p → header ≡ Headers.Refused k → r ≡ problemRefused header
+pub begun-refused : {p : List ℕ} {header : Header} {k r n m : ℕ} {search : Search} → headerOf header ≡ problemOutcome desk-kinds p → header ≡ Headers.Refused k → r ≡ problemRefused header
     → BegunFor p (record { refused = r; n = n; m = m; search = search })
 unfolding problemOutcome problemRefused
 begun-refused {p} {header} {k} {r} e f g =
-    let h = answer-refused (problemRefusal p) (layoutOf p) e f in
+    let h = answer-refused (deskRefusal p) (layoutOf p) e f in
     let q : r ≡ k = g ∙ ap problemRefused f in
     record {
       refused-is = q ∙ sym (h .0);
@@ -118,14 +120,14 @@ begun-refused {p} {header} {k} {r} e f g =
       m-is = λ z. absurd (omega (arith, h .1));
     }
 
-pub never-refused-one : (p : List ℕ) {header : Header} {k : ℕ} → WithinLayout p → headerOf header ≡ problemOutcome false p → header ≡ Headers.Refused k → ⊥
+pub never-refused-one : (p : List ℕ) {header : Header} {k : ℕ} → WithinDesk p → headerOf header ≡ problemOutcome desk-kinds p → header ≡ Headers.Refused k → ⊥
 unfolding problemOutcome
-never-refused-one p w e f = let h = answer-refused (problemRefusal p) (layoutOf p) e f in omega (arith, h .0, h .1, w)
+never-refused-one p w e f = let h = answer-refused (deskRefusal p) (layoutOf p) e f in omega (arith, h .0, h .1, w)
 
 -- An answer of the problem can be written.
 pub settled-found : {s : List ℕ} {a : Answer} {n m room : ℕ} → Bytes s → SettledFor s a → n ≡ nField s → m ≡ mField s → answer-most ≤ room
     → FoundFor n m room (a .class) (a .span) (a .start) (a .stamps) (a .picks)
 unfolding problemOf
 settled-found {s} {a} {n} {m} {room} b g e f h =
-    let c = posed-tables (tables-posed s b (g .within)) in
+    let c = posed-tables (tables-posed s b (desk-within s (g .within))) in
     rw (e, f) (found-for (problemOf s) (nField s) (mField s) room (a .class) (a .span) (a .start) (a .trials) (a .stamps) (a .picks) refl refl (c .n-most) (c .m-most) h (g .answers))

@@ -5,7 +5,8 @@ use mathlib.Core.Bool.{true, false}
 use mathlib.Core.List.{List}
 use Rattle.definitions.specs.Tropical.{Trop}
 use Rattle.definitions.specs.Offset.{tropOf}
-use Rattle.definitions.specs.ProblemRecord.{problemRefusal, WithinLayout, problemOf, nField, mField}
+use Rattle.definitions.specs.ProblemRecord.{problemOf, nField, mField}
+use Rattle.definitions.specs.Desk.{deskRefusal, WithinDesk}
 use Rattle.definitions.specs.Solved.{Found, Answers}
 use Rattle.problem_records.specs.Tables.{leftTable, rightTable}
 use Rattle.least_span.specs.declared.state.Search.{Search}
@@ -17,17 +18,17 @@ use Rattle.engine.specs.declared.one_trial.Begun.{Begun}
 
 -- A search of the problem in the bytes, after so many trials as it has made.
 pub record PursuedFor (s : List ℕ) (search : Search) : Type 0 where
-  pub within : WithinLayout s
+  pub within : WithinDesk s
   pub pursued : Pursued (nField s) (mField s) (leftTable s) (rightTable s) search
 
 -- An answer that the engine may give for the problem in the bytes.
 pub record SettledFor (s : List ℕ) (a : Answer) : Type 0 where
-  pub within : WithinLayout s
+  pub within : WithinDesk s
   pub answers : Answers (problemOf s) (a .class) (tropOf (a .span)) (a .trials) (answerIn (nField s) (mField s) (a .class) (a .span) (a .start) (a .stamps) (a .picks))
 
 -- A search begun: the first of the problem's refusals, or a search without a trial.
 pub record BegunFor (s : List ℕ) (r : Begun) : Type 0 where
-  pub refused-is : r .refused ≡ problemRefusal s
+  pub refused-is : r .refused ≡ deskRefusal s
   pub pursued : r .refused ≡ 0 → PursuedFor s (r .search)
   pub none-made : r .refused ≡ 0 → r .search .made ≡ 0
   pub n-is : r .refused ≡ 0 → r .n ≡ nField s

@@ -5,6 +5,7 @@ use least_span::state::Search;
 use least_span::state::opened;
 use problem_records::reader::read_problem;
 use records::limits::TABLE;
+use records::problem::DESK_KINDS;
 use records::problem::Header;
 use records::problem::problem_refusal;
 use search_steps::steps::Trial;
@@ -25,7 +26,7 @@ pub fn begin(problem: &[u8]) -> Begun
 {
     let mut left = [0u32; TABLE];
     let mut right = [0u32; TABLE];
-    let header = read_problem(problem, false, &mut left, &mut right);
+    let header = read_problem(problem, DESK_KINDS, &mut left, &mut right);
     let Header::Told(layout) = header else {
         return Begun {
             refused: problem_refusal(header),
@@ -49,7 +50,7 @@ pub fn one_trial(problem: &[u8], search: Search) -> Trial
 {
     let mut left = [0u32; TABLE];
     let mut right = [0u32; TABLE];
-    let header = read_problem(problem, false, &mut left, &mut right);
+    let header = read_problem(problem, DESK_KINDS, &mut left, &mut right);
     let Header::Told(layout) = header else {
         return Trial {
             closed: false,

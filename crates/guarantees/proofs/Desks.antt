@@ -5,10 +5,13 @@ use mathlib.Core.List.{List}
 use lib.ListN.{take}
 use Rattle.definitions.specs.Tropical.{Trop}
 use Rattle.definitions.specs.AnswerRecord.{Answer}
+use Rattle.definitions.specs.ProblemRecord.{WithinLayout, problemOf}
+use Rattle.definitions.specs.Solved.{Answers}
 use Rattle.definitions.specs.Verdict.{accepted}
 use Rattle.definitions.specs.Demands.{Slice, Checker, CheckerJudges}
 use Rattle.definitions.specs.Desk as Desks
 use Rattle.definitions.specs.Desk.{Desk, answered, Stands, FromOpening, Collects, handed-over}
+use Rattle.definitions.proofs.Refusals.{desk-within}
 use Rattle.definitions.proofs.Solved.{record-stands}
 use Rattle.desk.proofs.Runs.{desk-holds}
 use Rattle.guarantees.proofs.Engine.{accepts-record}
@@ -27,7 +30,8 @@ pub collected-accepted : (check : Checker) → CheckerJudges check → {memory n
     → ((i n c o : ℕ) (s : Trop) (problem : List ℕ) (a : Answer) → Stands d i (answered n problem c s o a) → Slice problem)
     → Collects memory d number before (Desks.collected class span own size) e after → CollectedRight check d number class span (take size after)
 collected-accepted check judges {span = span} {d = d} {before = before} opening slices (handed-over {i = i} {class = class} {own = own} {problem = problem} {a = a} h st room) =
-    let w = desk-holds .answers-alone opening st in
+    let v = desk-holds .answers-alone opening st in
+    let w : WithinLayout problem × Answers (problemOf problem) class span own a = (desk-within problem (v .0), v .1) in
     record {
       place = i;
       problem = problem;
