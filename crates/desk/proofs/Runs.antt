@@ -13,12 +13,12 @@ use Rattle.definitions.specs.Limits.{desk-places, most-trials}
 use Rattle.definitions.specs.Tropical.{Trop}
 use Rattle.definitions.specs.ProblemRecord.{problemOf, meant}
 use Rattle.definitions.specs.AnswerRecord.{Answer}
-use Rattle.definitions.specs.Solved.{Answers}
+use Rattle.definitions.specs.Solved.{Found, Answers}
 use Rattle.definitions.specs.Bytes.{first, or-else}
 use Rattle.definitions.specs.Desk.{memoryRefused, fullRefused, deskRefusal, WithinDesk, Place, empty, waits, answered, Desk, opened, placeAt, Stands, ticketOf, FirstEmpty, TakenIn, TakesIn, taken, takeRefusal, Stepped, Steps, one-more, last-one, Collected, Collects, handed-over, Run, nothing, take-in, one-step, collect, FromOpening, StillWaits, DeskHolds}
 use Rattle.definitions.specs.Desk as Desks
 use Rattle.base.proofs.Numbers.{nat-le-or-lt}
-use Rattle.definitions.proofs.Refusals.{or-else-none}
+use Rattle.definitions.proofs.Refusals.{or-else-none, desk-within}
 use Rattle.duality.proofs.SmallLeads.{trials-few}
 use Rattle.duality.proofs.Classes.{found-one}
 use Rattle.desk.proofs.Line.{At, In, Line, at-kept, at-end, at-joined, at-next, joins, leaves, line-as, line-most}
@@ -29,6 +29,10 @@ pub record Waiting (d : Desk) (i : ℕ) : Type 0 where
   pub problem : List ℕ
   pub own : ℕ
   pub there : Stands d i (waits number problem own)
+
+-- A problem that the desk takes asks for at most 24 trials.
+desk-few : (p : List ℕ) → WithinDesk p → {class : ℕ} {span : Trop} {trials : ℕ} → Found (problemOf p) class span trials → trials ≤ most-trials
+desk-few p w f = trials-few p (desk-within p w) f
 
 -- What holds of a place: a problem that waits is within the layout and has made fewer than 24 trials, an answered one at most 24,
 -- and has an answer that the engine may give.
@@ -159,7 +163,7 @@ module _ {memory : ℕ} {d : Desk} (s : Sound d) where
   sound-stepped (one-more {i = i} {number = number} {own = own} {problem = problem} {rest = rest} h head st found more) =
       let inside : i < desk-places = waiting-inside (s .sixteen) (record { number = number; problem = problem; own = own; there = st }) in
       let fit = waits-fit s st in
-      let few = trials-few problem (fit .0) found in
+      let few = desk-few problem (fit .0) found in
       let others : Line (λ k. Waiting d k × (k ≡ i → ⊥)) rest = leaves (subst (Line (Waiting d)) head (s .line)) (λ k n w. (w, n)) (λ k w. w) in
       sound-moved d (d .given) (rest ++ (i ∷ [])) i (waits number problem (suc own)) s inside
       (joins i others (λ w. w .1 refl) (λ k w. waits-elsewhere d _ _ i _ k (w .1) (w .0))
@@ -266,7 +270,7 @@ module _ {memory : ℕ} {d : Desk} {number passed most : ℕ} (s : Sound d) (owe
           let same : suc own ≡ o = same-own now in
           let mine : n ≡ number = same-number now in
           let before = owed .due (record { is = st .is ∙ ap (λ (z : ℕ). waits z problem own) mine }) in
-          let few = trials-few problem (waits-fit s st .0) found in
+          let few = desk-few problem (waits-fit s st .0) found in
           let short : length (d .line) ≤ desk-places = line-few s in
           let long : length (d .line) ≡ suc (length rest) = ap (λ (l : List ℕ). length l) head in
           (length rest, subst (λ (z : ℕ). At (rest ++ (i ∷ [])) z (length rest)) (sym e) (at-end rest i), omega (arith, before .2))
@@ -356,7 +360,7 @@ taken-enough {memory} {d = d} {p = p} (taken h f) = or-else-none (first (memoryR
 pub desk-holds : DeskHolds
 desk-holds = record {
   own-trials = λ f st. waits-fit (from-opening-sound f) st .1;
-  trials-of-answered = λ f st. let h = answered-fit (from-opening-sound f) st in trials-few _ (h .0) (h .1 .found);
+  trials-of-answered = λ f st. let h = answered-fit (from-opening-sound f) st in desk-few _ (h .0) (h .1 .found);
   steps-after = λ f t run long w.
       let s = from-opening-sound f in
       let owed = due-run (taken-enough t) (sound-taken s t) (due-at-first s t) run .due (w .there) in
