@@ -32,7 +32,8 @@ pub fn told(tally: &mut Tally, random: &mut Random, problem: &[u8], answer: &[u8
         Err(refusal) => Err(refusal.number as u64),
     };
     tally.same("rules and round", &found, &expected, problem, answer);
-    let noise = |random: &mut Random, count: usize| -> Vec<u64> { (0..count).map(|_| random.below(1 << 30) as u64).collect() };
+    let noise =
+        |random: &mut Random, count: usize| -> Vec<u64> { (0..count).map(|_| random.below(1 << 30) as u64).collect() };
     let (places, turns) = ([0, 63, 64, 70][random.below(4)], [0, 31, 32, 40][random.below(4)]);
     let (mut rules, mut round) = (noise(random, places), noise(random, turns));
     let (mut rules_due, mut round_due) = (rules.clone(), round.clone());
@@ -50,14 +51,23 @@ pub fn told(tally: &mut Tally, random: &mut Random, problem: &[u8], answer: &[u8
             256 * due.rules.len() as u64 + 65_536 * moments.len() as u64
         }
     };
-    tally.same("the result as a number", span::raw::reasons(problem, answer, &mut rules, &mut round), number, problem, answer);
+    tally.same(
+        "the result as a number",
+        span::raw::reasons(problem, answer, &mut rules, &mut round),
+        number,
+        problem,
+        answer,
+    );
     tally.same("the places lent", (&rules, &round), (&rules_due, &round_due), problem, answer);
     expected
 }
 
 /// The problem with only these rules and the question.
 fn with_only(problem: &Problem, rules: &[usize]) -> Problem {
-    Problem { rules: rules.iter().map(|rule| problem.rules[rule - 1].clone()).collect(), question: problem.question.clone() }
+    Problem {
+        rules: rules.iter().map(|rule| problem.rules[rule - 1].clone()).collect(),
+        question: problem.question.clone(),
+    }
 }
 
 /// The round is a reached cycle of the table that goes through distinct moments, uses the question once, and weighs 0 at the span.
@@ -69,7 +79,8 @@ fn binds(tally: &mut Tally, problem: &Problem, answer: &Answer, round: &[usize])
     for (place, &moment) in round.iter().enumerate() {
         let next = round[(place + 1) % round.len()];
         let number = (answer.picks[moment] as usize).wrapping_sub(1);
-        let ends = (number <= problem.m()).then(|| problem.row(number)).and_then(|row| row.left[moment].zip(row.right[next]));
+        let ends =
+            (number <= problem.m()).then(|| problem.row(number)).and_then(|row| row.left[moment].zip(row.right[next]));
         let Some((left, right)) = ends else {
             return tally.fail(format!("no arc from {moment} to {next} in {round:?}"), &bytes, &record);
         };
@@ -84,7 +95,13 @@ fn binds(tally: &mut Tally, problem: &Problem, answer: &Answer, round: &[usize])
 
 /// An accepted answer of class 1 or 3: what the tool says, and that it holds. The class and span with only these rules are found by
 /// `solved`.
-fn accepted(tally: &mut Tally, random: &mut Random, problem: &Problem, answer: &Answer, solved: impl Fn(&Problem) -> Outcome) {
+fn accepted(
+    tally: &mut Tally,
+    random: &mut Random,
+    problem: &Problem,
+    answer: &Answer,
+    solved: impl Fn(&Problem) -> Outcome,
+) {
     let (bytes, record) = (problem.bytes(), answer.bytes(problem.n()));
     let Ok(found) = told(tally, random, &bytes, &record) else {
         return tally.fail("no reasons for an accepted answer".into(), &bytes, &record);
@@ -170,7 +187,11 @@ fn any_answers(tally: &mut Tally, random: &mut Random, problem: &Problem) {
             let due = if second::accepted(problem, &answer) { 16 } else { 14 };
             tally.same("16 after 14", expected(&bytes, &record), Err(due), &bytes, &record);
         }
-        let bad = if random.chance(1, 2) { (harmed(random, &bytes), record) } else { (bytes.clone(), harmed(random, &record)) };
+        let bad = if random.chance(1, 2) {
+            (harmed(random, &bytes), record)
+        } else {
+            (bytes.clone(), harmed(random, &record))
+        };
         match told(tally, random, &bad.0, &bad.1) {
             Ok(_) => tally.count("told of harmed bytes"),
             Err(refusal) => tally.count(&format!("refused {refusal}")),
@@ -194,7 +215,8 @@ pub fn program(tally: &mut Tally, input: &[u8]) {
 fn examples(tally: &mut Tally, random: &mut Random) {
     let of_e = Answer { class: 1, span: Some(30), start: 0, stamps: vec![Some(0), Some(30)], picks: vec![1, 2] };
     let of_a = Answer { class: 1, span: Some(3), start: 0, stamps: vec![Some(0)], picks: vec![1] };
-    let of_j = Answer { class: 1, span: Some(-10), start: 1, stamps: vec![Some(0), Some(-10), Some(0)], picks: vec![0, 2, 1] };
+    let of_j =
+        Answer { class: 1, span: Some(-10), start: 1, stamps: vec![Some(0), Some(-10), Some(0)], picks: vec![0, 2, 1] };
     let from_second = Answer { start: 1, ..of_e.clone() };
     for (problem, answer, lines) in [
         (e(), of_e, "rules 1\nround 0 1\n"),
@@ -217,7 +239,9 @@ fn examples(tally: &mut Tally, random: &mut Random) {
         program(tally, &input);
         let found = programs::reasons(&input).map(|output| String::from_utf8_lossy(&output).into_owned());
         match outcome {
-            Outcome::Bottomless => tally.same(&format!("example {name}"), found, Ok("refused 16\n".into()), &input, &record),
+            Outcome::Bottomless => {
+                tally.same(&format!("example {name}"), found, Ok("refused 16\n".into()), &input, &record)
+            }
             _ => any_answers(tally, random, &problem),
         }
     }
@@ -232,7 +256,12 @@ fn examples(tally: &mut Tally, random: &mut Random) {
 /// before it.
 fn ties(tally: &mut Tally, random: &mut Random) {
     for round in 0..3_000 {
-        let shape = Shape { n: 2 + round % 4, m: 1 + round % 5, w: 1 + (round % 2) as i64, filled: [6, 8, 10][random.below(3)] };
+        let shape = Shape {
+            n: 2 + round % 4,
+            m: 1 + round % 5,
+            w: 1 + (round % 2) as i64,
+            filled: [6, 8, 10][random.below(3)],
+        };
         let problem = if round % 2 == 0 { sparse(random, shape) } else { kept(random, shape) };
         if !problem.rules.iter().any(Row::says_nothing) {
             any_answers(tally, random, &problem);

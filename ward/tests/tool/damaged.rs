@@ -28,9 +28,11 @@ fn damaged(random: &mut Random, text: &str) -> String {
         _ => {
             let mut lines: Vec<&str> = text.lines().collect();
             let (place, other) = (random.below(lines.len()), random.below(lines.len()));
-            match random.below(3) {
+            let lifted = format!("suspended: {}", lines[place].trim_start());
+            match random.below(4) {
                 0 => lines.swap(place, other),
                 1 => lines.insert(place, lines[other]),
+                2 => lines[place] = &lifted,
                 _ => {
                     lines.remove(place);
                 }
@@ -60,7 +62,7 @@ fn judged(text: &str) -> bool {
 #[test]
 fn damaged_texts_are_never_read_wrongly() {
     let mut random = Random::new(35);
-    let (mut taken, mut told) = (0, 0);
+    let (mut taken, mut told, mut suspended) = (0, 0, 0);
     for _ in 0..400 {
         let Meant { text, record } = text(&mut random, 6, 6);
         assert_eq!(second::record(&text), Some(record), "{text}");
@@ -69,16 +71,19 @@ fn damaged_texts_are_never_read_wrongly() {
             while random.chance(1, 3) && !worse.is_empty() {
                 worse = damaged(&mut random, &worse);
             }
-            if worse.contains("suspended") {
-                continue;
-            }
             match judged(&worse) {
-                true => taken += 1,
+                true => {
+                    taken += 1;
+                    suspended += worse.contains("suspended:") as usize;
+                }
                 false => told += 1,
             }
         }
     }
-    assert!(taken > 1_000 && told > 2_000, "{taken} taken, {told} told");
+    assert!(
+        taken > 1_000 && told > 2_000 && suspended > 50,
+        "{taken} taken, {suspended} with suspended rules, {told} told"
+    );
 }
 
 /// Bytes of any kind are told, or are a text, and nothing panics.
@@ -86,8 +91,29 @@ fn damaged_texts_are_never_read_wrongly() {
 fn random_bytes_do_no_harm() {
     let mut random = Random::new(36);
     let words = [
-        "moments:", "span:", "from", "to", "later of", "<=", "a", "\"", "#", "+", "1:30", "\n", " ", "é", "anchor",
-        "expect:", "open:", "Mon", "-", "7:00", "\u{85}", "\u{2028}",
+        "moments:",
+        "span:",
+        "from",
+        "to",
+        "later of",
+        "<=",
+        "a",
+        "\"",
+        "#",
+        "+",
+        "1:30",
+        "\n",
+        " ",
+        "é",
+        "anchor",
+        "expect:",
+        "suspended:",
+        "open:",
+        "Mon",
+        "-",
+        "7:00",
+        "\u{85}",
+        "\u{2028}",
     ];
     for _ in 0..3_000 {
         let mut bytes: Vec<u8> = (0..random.below(30))

@@ -156,7 +156,7 @@ fn the_timeline_has_a_row_a_moment() {
     for width in ["40", "79", "1000", "0", "x"] {
         let told = crate::told(crate::tool().arg("examples/problems/day-ward.txt").env("COLUMNS", width));
         let most = width.parse().unwrap_or(80).clamp(40, 160);
-        let drawn = told.out.lines().filter(|line| line.contains(['●', '┬', '├']));
+        let drawn = told.out.lines().filter(|line| line.contains(['●', '◆', '┬', '├']));
         assert!(
             told.status == Some(0) && drawn.into_iter().all(|line| line.chars().count() <= most),
             "{width}: {told:?}"

@@ -73,7 +73,7 @@ fn side(names: &[String], parts: &[String]) -> Option<Vec<i32>> {
     Some(leads)
 }
 
-/// The record of a text without suspended rules.
+/// The record of a text; where rules are suspended, the records of its spans one after another.
 pub fn record(text: &str) -> Option<Vec<u8>> {
     if text.is_empty() {
         return Some(Vec::new());
@@ -85,7 +85,7 @@ pub fn record(text: &str) -> Option<Vec<u8>> {
     for line in lines.iter().filter(|line| line[0] == "moments:") {
         names.extend(line[1..].iter().filter(|part| *part != ",").map(|name| name.trim_start_matches('"').to_string()));
     }
-    let (mut rules, mut spans) = (Vec::new(), Vec::new());
+    let (mut rules, mut states, mut spans) = (Vec::new(), Vec::new(), Vec::new());
     for line in &lines {
         match line[0].as_str() {
             "moments:" | "anchor:" | "expect:" | "open:" | "admits:" => {}
@@ -94,19 +94,28 @@ pub fn record(text: &str) -> Option<Vec<u8>> {
                 (line.get(1)? == "from").then_some(())?;
                 spans.push([side(&names, &line[to + 1..])?, side(&names, line.get(2..to)?)?].concat());
             }
-            _ => {
+            key => {
+                let lifted = (key == "suspended:") as usize;
                 let middle = line.iter().position(|part| part == "<=")?;
-                rules.push([side(&names, &line[..middle])?, side(&names, &line[middle + 1..])?].concat());
+                rules.push([side(&names, line.get(lifted..middle)?)?, side(&names, &line[middle + 1..])?].concat());
+                states.push(1 - lifted);
             }
         }
     }
-    let mut head = vec![if spans.len() == 1 { 1 } else { 3 }, names.len() - 1, rules.len()];
-    if spans.len() != 1 {
-        head.push(spans.len());
+    let (n, m) = (names.len() - 1, rules.len());
+    if states.contains(&0) {
+        let head = [&[5, n, m], &states[..]].concat();
+        return Some(spans.iter().flat_map(|span| put_together(&head, rules.iter().chain([span]))).collect());
     }
+    let head = if spans.len() == 1 { vec![1, n, m] } else { vec![3, n, m, spans.len()] };
+    Some(put_together(&head, rules.iter().chain(&spans)))
+}
+
+/// Length, numbers of two bytes, and rows.
+fn put_together<'a>(head: &[usize], rows: impl Iterator<Item = &'a Vec<i32>>) -> Vec<u8> {
     let mut body: Vec<u8> = head.iter().flat_map(|&number| (number as u16).to_le_bytes()).collect();
-    body.extend(rules.iter().chain(&spans).flatten().flat_map(|lead| lead.to_le_bytes()));
-    Some([(body.len() as u32).to_le_bytes().to_vec(), body].concat())
+    body.extend(rows.flatten().flat_map(|lead| lead.to_le_bytes()));
+    [(body.len() as u32).to_le_bytes().to_vec(), body].concat()
 }
 
 /// A line whose first word, where a colon ends it, is one part of its own.
@@ -115,7 +124,7 @@ fn headed(mut line: Vec<String>) -> Vec<String> {
         let second = line.remove(1);
         line[0] += &second;
     }
-    let known = ["moments:", "span:", "expect:", "anchor:", "open:", "admits:"]
+    let known = ["moments:", "span:", "expect:", "anchor:", "open:", "admits:", "suspended:"]
         .into_iter()
         .find(|key| line[0].starts_with(key));
     if let Some(key) = known.filter(|key| line[0].len() > key.len()) {

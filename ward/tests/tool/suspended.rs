@@ -52,7 +52,11 @@ fn numbers(list: &str) -> Vec<usize> {
 fn times(json: &str) -> Vec<(String, Vec<String>, Vec<String>)> {
     let of = |part: &str| {
         let name = part.split('"').next().expect("a name").to_string();
-        (name, fields(part, "earliest").into_iter().take(1).collect(), fields(part, "latest").into_iter().take(1).collect())
+        (
+            name,
+            fields(part, "earliest").into_iter().take(1).collect(),
+            fields(part, "latest").into_iter().take(1).collect(),
+        )
     };
     let mut times: Vec<_> = json.split("\"moment\": \"").skip(1).map(of).collect();
     times.sort();
