@@ -1,6 +1,7 @@
 /* The span engine, release 4.2: its boundary to C.
  *
- * Link with target/staticlib/libcapi.a, which `rt staticlib capi` writes (x86-64, Linux).
+ * Link with target/staticlib/libcapi.a, which `rt staticlib capi` writes (x86-64, Linux). docs/RECORDS.md tells every record byte
+ * by byte, with the refusals and their order; span_records.h builds problems and takes answers apart.
  *
  * The words are those of documents 01 and 02. Records are bytes, little-endian. A function is handed a pointer and then a
  * number of bytes or places; a pointer must not be null, also where that number is 0. It reads and writes only there.
@@ -8,7 +9,8 @@
  *
  * BUFFERS MUST NOT OVERLAP: what a function writes must share no byte with what it reads.
  *
- * Nothing is kept between calls. Calls from several threads are fine, each with buffers of its own.
+ * Nothing is kept between calls but a desk's memory and state, which the caller lends. Calls from several threads are fine, each with
+ * buffers of its own.
  *
  * An offset number stands for a stamp or a span: 0 is blank, and v + 2147483648 is the minute v.
  *
@@ -31,7 +33,7 @@
  * questions is 0 or above 8; 16 (span_reasons) the answer is bottomless; 17 a rule, not the question, has an all-blank left
  * list (span_convert drops such rules); 18 (hours and minutes) the text is not of this form, a value is beyond 6,000,000 of
  * 0, or the writer's buffer is shorter than 10 bytes; 19 a week list or a minute to be looked up is not of its form
- * (span_first_open); 24 to 26 two plans cannot be merged (span_merge); 27 (span_census) w is 0 or above 20,160, n is above
+ * (span_first_open); 21 to 23 (a desk) no place or no ticket is left, no such ticket is held, the memory is too short; 24 to 26 two plans cannot be merged (span_merge); 27 (span_census) w is 0 or above 20,160, n is above
  * 31 or m above 63, or there are more than 65,536 problems; 20 a state of kind 5 is neither 0 nor 1. The first that applies is returned, in
  * this order, but 15 is
  * looked at after 4 and before 5, 16 after 14, 20 after 5 and before 6, and 17 after 6 and before 7; 6 and 17 look at suspended
@@ -70,7 +72,7 @@ extern "C" {
 #define SPAN_SILENT_RULE 17       /* span_solve, span_check, span_reasons only: a rule has an all-blank left list */
 #define SPAN_NO_TEXT 18           /* span_hours_read, span_hours_write only */
 #define SPAN_WRONG_STATE 20       /* span_solve, span_check only: a state is neither 0 nor 1 */
-#define SPAN_TOO_FEW_PLACES 255   /* span_read, span_reasons, span_marks_differ, span_census only */
+#define SPAN_TOO_FEW_PLACES 255   /* span_read, span_reasons, span_marks_differ, span_census, a desk only */
 
 #define SPAN_WINDOWS 14           /* the most windows of a week list, with two minutes each */
 #define SPAN_NEVER 0              /* span_first_open only: the week list is empty */
@@ -84,6 +86,18 @@ extern "C" {
 #define SPAN_NO_CENSUS 27         /* span_census only */
 
 #define SPAN_DIFFER 256           /* span_marks_differ only */
+
+#define SPAN_DESK_PLACES 16       /* the problems that a desk holds at most */
+#define SPAN_DESK_MEMORY 262304   /* bytes of memory to lend to a desk: 16 problems of SPAN_PROBLEM_SIZE */
+#define SPAN_DESK_WORDS 3348      /* words to lend to a desk for its state */
+#define SPAN_DESK_TICKET 3        /* the word of the state in which the ticket stands that a call tells */
+#define SPAN_DESK_FULL 21         /* span_desk_take only */
+#define SPAN_NO_TICKET 22         /* span_desk_collect only */
+#define SPAN_DESK_SHORT 23        /* all calls of a desk */
+#define SPAN_STILL_WAITS 0        /* span_desk_collect only */
+#define SPAN_NONE_WAITS 0         /* span_desk_step only */
+#define SPAN_GOES_ON 256          /* span_desk_step only */
+#define SPAN_DONE 512             /* span_desk_step only */
 
 /* Answers a problem of kind 1, 3 or 5: writes the answer record of its question, or of each of its questions one after another,
  * at the start of `answers`. Each record starts where the one before ended, which span_record_end tells, and is the answer to
@@ -175,6 +189,31 @@ uint64_t span_marks_differ(const uint8_t *before, size_t before_size, const uint
  * places. Nothing is then written. The longest census, 65,536 problems, takes a fifth of a second. */
 uint64_t span_census(uint64_t n, uint64_t m, uint64_t w, uint64_t *counts, size_t counts_count);
 
+/* A desk answers up to sixteen problems in turn, a trial at a time (document 02, 2.11). Lend SPAN_DESK_MEMORY bytes and SPAN_DESK_WORDS
+ * words; both may hold anything before span_desk_open, and AFTERWARDS EACH CALL MUST GET THEM AS THE CALL BEFORE LEFT THEM. All four
+ * calls look first at the memory, SPAN_DESK_SHORT, then at the words, SPAN_TOO_FEW_PLACES, and read nothing where one is too short. A
+ * refusal changes nothing.
+ *
+ * Opens a desk with nothing on it. Result: 0, or the refusal. */
+uint64_t span_desk_open(const uint8_t *memory, size_t memory_size, uint64_t *state, size_t state_count);
+
+/* Takes a problem of kind 1 in, or an idle day, at the end of the line. Result: 0, and its ticket stands in state[SPAN_DESK_TICKET];
+ * tickets count up from 1. Else the refusal: 1 to 6 or 17, then 21: all places hold a waiting or uncollected problem, or the tickets are
+ * used up. */
+uint64_t span_desk_take(uint8_t *memory, size_t memory_size, uint64_t *state, size_t state_count, const uint8_t *problem,
+                        size_t problem_size);
+
+/* Makes one trial for the problem at the head of the line. Result: SPAN_NONE_WAITS; or, with the ticket in state[SPAN_DESK_TICKET],
+ * SPAN_GOES_ON where it goes to the end of the line, SPAN_DONE where it is answered now. A problem is answered after at most 24 trials of its
+ * own, and at most 384 steps after it was taken in. */
+uint64_t span_desk_step(const uint8_t *memory, size_t memory_size, uint64_t *state, size_t state_count);
+
+/* Writes the answer of a ticket at the start of `buffer` and frees its place; the bytes after the record stay. Lend SPAN_ANSWER_SIZE bytes.
+ * Result: 256 * class + 65536 * own trials; or SPAN_STILL_WAITS; else the refusal: 22, no such ticket is held; 7, after which the answer can
+ * still be collected. */
+uint64_t span_desk_collect(const uint8_t *memory, size_t memory_size, uint64_t *state, size_t state_count, uint64_t ticket,
+                           uint8_t *buffer, size_t buffer_size);
+
 /* The size of a problem record of kind 1 or 3, with that many rules and questions (kind 1 has one); 0 for another kind. */
 static inline size_t span_record_size(unsigned kind, size_t n, size_t m, size_t count) {
     return kind == 1 ? 10 + 8 * (n + 1) * (m + 1) : kind == 3 ? 12 + 8 * (n + 1) * (m + count) : 0;
@@ -189,7 +228,8 @@ static inline size_t span_record_end(const uint8_t *records, size_t at) {
 /* What a result holds. */
 static inline unsigned span_refusal(uint64_t result) { return (unsigned)(result & 255); }
 static inline unsigned span_trials(uint64_t result) { return (unsigned)(result >> 8); }           /* span_solve */
-static inline unsigned span_class(uint64_t result) { return (unsigned)((result >> 8) & 255); }    /* span_check, span_read */
+static inline unsigned span_class(uint64_t result) { return (unsigned)((result >> 8) & 255); }    /* span_check, span_read, span_desk_collect */
+static inline unsigned span_own_trials(uint64_t result) { return (unsigned)(result >> 16); }      /* span_desk_collect */
 static inline unsigned span_start(uint64_t result) { return (unsigned)((result >> 16) & 65535); } /* span_read */
 static inline unsigned span_rules(uint64_t result) { return (unsigned)((result >> 8) & 255); }    /* span_reasons */
 static inline unsigned span_round(uint64_t result) { return (unsigned)((result >> 16) & 255); }   /* span_reasons */

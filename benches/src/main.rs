@@ -6,6 +6,7 @@
 
 mod agree;
 mod census;
+mod desk;
 mod engines;
 mod families;
 mod questions;

@@ -4,6 +4,7 @@ use std::hint::black_box;
 
 use crate::agree;
 use crate::census;
+use crate::desk;
 use crate::engines::{library, library_accepts, unproved_accepts, Solve, UNPROVED};
 use crate::families::{Family, FAMILIES};
 use crate::questions;
@@ -70,6 +71,7 @@ pub fn print(effort: Effort) {
     checking(effort, &sets, &solve_times);
     questions::print(effort);
     census::print(effort);
+    desk::print(effort);
     growth(effort);
 }
 

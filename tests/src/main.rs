@@ -40,7 +40,7 @@ fn main() {
     let long = words.iter().any(|word| word == "--long");
     words.retain(|word| word != "--long");
     println!("tests from outside, on {TRIED}");
-    let all: [Suite; 21] = [
+    let all: [Suite; 22] = [
         ("examples", suites::examples::run),
         ("all-small", suites::small::every_small_problem),
         ("random-small", suites::small::random_problems),
@@ -62,6 +62,7 @@ fn main() {
         ("census", suites::census::run),
         ("reasons", suites::reasons::run),
         ("suspended", suites::suspended::run),
+        ("desk", suites::desk::run),
     ];
     let mut failures = 0;
     let mut run = 0;

@@ -188,7 +188,7 @@ impl Report {
 }
 
 fn refused_words(refusal: span::Refusal) -> String {
-    format!("the archive says: {refusal}. {}", refusal.reason())
+    format!("the archive says: {refusal}")
 }
 
 impl Verdict {
@@ -196,7 +196,7 @@ impl Verdict {
     pub fn words(&self) -> String {
         match self {
             Verdict::Accepted(outcome) => format!("accepted {outcome}"),
-            Verdict::NotAccepted(refusal) => refusal.to_string(),
+            Verdict::NotAccepted(refusal) => refusal.line(),
         }
     }
 }

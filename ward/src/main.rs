@@ -219,7 +219,7 @@ fn text_of(words: &Words) -> io::Result<u8> {
     let told = bytes(&words.files[0]).map_err(|error| error.to_string()).and_then(|bytes| {
         let bytes = cut::from_hex(&bytes).unwrap_or(bytes);
         match archive::refusal(&bytes) {
-            Some(refusal) => Err(format!("the archive says: {refusal}. {}", refusal.reason())),
+            Some(refusal) => Err(format!("the archive says: {refusal}")),
             None => record::sheet(&bytes).ok_or_else(|| "the record cannot be told as a text".into()),
         }
     });

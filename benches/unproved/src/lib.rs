@@ -15,6 +15,7 @@ pub mod census;
 pub mod checker;
 pub mod converter;
 mod dense;
+pub mod desk;
 mod engine;
 mod hours;
 mod lists;

@@ -9,6 +9,12 @@ pub const STAMPS: usize = 32;
 pub const PICKS: usize = 64;
 /// Places that a census is lent for its counts.
 pub const COUNTS: usize = 4;
+/// Bytes of memory that a desk is lent: 16 problems of 16,394.
+pub const DESK_MEMORY: usize = 262_304;
+/// Words that a desk is lent for its state.
+pub const DESK_WORDS: usize = 3348;
+/// The word of a desk's state in which the ticket stands that a call tells.
+pub const DESK_TICKET: usize = 3;
 
 mod archive {
     extern "C" {
@@ -70,6 +76,25 @@ mod archive {
             count: u64,
         ) -> u64;
         pub fn span_census(n: u64, m: u64, w: u64, counts: *mut u64, counts_count: usize) -> u64;
+        pub fn span_desk_open(memory: *const u8, memory_size: usize, state: *mut u64, state_count: usize) -> u64;
+        pub fn span_desk_take(
+            memory: *mut u8,
+            memory_size: usize,
+            state: *mut u64,
+            state_count: usize,
+            problem: *const u8,
+            problem_size: usize,
+        ) -> u64;
+        pub fn span_desk_step(memory: *const u8, memory_size: usize, state: *mut u64, state_count: usize) -> u64;
+        pub fn span_desk_collect(
+            memory: *const u8,
+            memory_size: usize,
+            state: *mut u64,
+            state_count: usize,
+            ticket: u64,
+            buffer: *mut u8,
+            buffer_size: usize,
+        ) -> u64;
     }
 }
 
@@ -204,4 +229,58 @@ pub fn marks_differ(before: &[u8], after: &[u8], count: u64) -> u64 {
 pub fn census(n: u64, m: u64, w: u64, counts: &mut [u64]) -> u64 {
     // SAFETY: the part is valid for its length, and a `&mut` overlaps nothing.
     unsafe { archive::span_census(n, m, w, counts.as_mut_ptr(), counts.len()) }
+}
+
+/// Opens a desk in lent memory and words, whatever they hold: the refusal, 255 where fewer than [`DESK_WORDS`] words are lent, or 0.
+pub fn desk_open(memory: &[u8], state: &mut [u64]) -> u64 {
+    // SAFETY: both parts are valid for their lengths, and a `&mut` overlaps nothing.
+    unsafe { archive::span_desk_open(memory.as_ptr(), memory.len(), state.as_mut_ptr(), state.len()) }
+}
+
+/// Takes a problem in: the refusal, 255, or 0 with the ticket in word [`DESK_TICKET`].
+///
+/// # Safety
+/// Where memory and words are enough, they are as the call before on this desk left them.
+pub unsafe fn desk_take(memory: &mut [u8], state: &mut [u64], problem: &[u8]) -> u64 {
+    // SAFETY: the parts are valid for their lengths, and a `&mut` overlaps nothing; the rest is the caller's.
+    unsafe {
+        archive::span_desk_take(
+            memory.as_mut_ptr(),
+            memory.len(),
+            state.as_mut_ptr(),
+            state.len(),
+            problem.as_ptr(),
+            problem.len(),
+        )
+    }
+}
+
+/// Makes one trial for the problem at the head of the line: the refusal, 255, 0 where none waits, 256 where the ticket in word
+/// [`DESK_TICKET`] goes on waiting, 512 where it is answered now.
+///
+/// # Safety
+/// As [`desk_take`].
+pub unsafe fn desk_step(memory: &[u8], state: &mut [u64]) -> u64 {
+    // SAFETY: the parts are valid for their lengths, and a `&mut` overlaps nothing; the rest is the caller's.
+    unsafe { archive::span_desk_step(memory.as_ptr(), memory.len(), state.as_mut_ptr(), state.len()) }
+}
+
+/// Collects the answer of a ticket: the refusal, 255, 0 where it still waits, or 256 × class + 65,536 × own trials, with the record at the
+/// buffer's start.
+///
+/// # Safety
+/// As [`desk_take`].
+pub unsafe fn desk_collect(memory: &[u8], state: &mut [u64], ticket: u64, buffer: &mut [u8]) -> u64 {
+    // SAFETY: the parts are valid for their lengths, and a `&mut` overlaps nothing; the rest is the caller's.
+    unsafe {
+        archive::span_desk_collect(
+            memory.as_ptr(),
+            memory.len(),
+            state.as_mut_ptr(),
+            state.len(),
+            ticket,
+            buffer.as_mut_ptr(),
+            buffer.len(),
+        )
+    }
 }

@@ -132,55 +132,60 @@ impl fmt::Display for Certified {
     }
 }
 
-/// A refusal of document 01, "What is turned away", or of document 02.
+/// A refusal. `docs/RECORDS.md` has their order for each call. It is shown with its reason.
 #[derive(Clone, Copy, Debug, PartialEq, Eq)]
 pub struct Refusal {
-    /// Its number, 1 to 20 or 24 to 27.
+    /// Its number, 1 to 27.
     pub number: u8,
 }
 
 impl Refusal {
-    /// The refusal's sentence in document 01 or 02.
+    /// What is wrong.
     pub fn reason(self) -> &'static str {
         match self.number {
             1 => "The problem has 1 to 9 bytes.",
             2 => "Its length field is not its size − 4.",
-            3 => "Its kind is not 1 or 5, nor, for the engine, 3.",
+            3 => "Its kind is not one that this call takes.",
             4 => "n is above 31 or m above 63.",
             5 => "Its size does not fit its kind, n and m, and for kind 3 the count of questions.",
             6 => "A lead is neither blank nor within ±20,160.",
-            7 => "The answer buffer is shorter than 208 bytes a question, whichever class is due.",
+            7 => "The buffer is too short: 208 bytes an answer, 128 a merged plan, or the converted record.",
             8 => "The answer has fewer than 16 bytes.",
             9 => "Its length field is not its size − 4.",
-            10 => "Its kind is not 4, its class not 1 to 3, or its start above 1 (for bottomless: 0, or above the problem's n + 1).",
+            10 => "Its kind is not 4, its class not 1 to 3, or its start none of its class.",
             11 => "Its n is not the problem's, or its size does not fit its class.",
-            12 => "Its span or a stamp is outside the form of its class.",
+            12 => "The span or a stamp is outside its form.",
             13 => "A pick is above its highest value.",
-            14 => "The form is right and the answer is not accepted: not certified.",
+            14 => "The form is right and the answer is not accepted.",
             15 => "The count of questions is 0 or above 8.",
             16 => "The answer is bottomless.",
             17 => "A rule has an all-blank left list.",
-            18 => {
-                "The text is not of this form, a value read or to be written is beyond ±6,000,000, or the writer's \
-                 buffer is shorter than 10 bytes."
-            }
-            19 => "More than 14 windows, a closing not after its opening, an opening or closing outside its range, a window that starts before the last one closes, or a minute to be looked up beyond ±6,000,000.",
+            18 => "The text is not of its form, the value is beyond ±6,000,000, or the buffer is under 10 bytes.",
+            19 => "The week list is not of its form, or the minute is beyond ±6,000,000.",
             20 => "A state is neither 0 nor 1.",
+            21 => "All 16 places of the desk hold a problem, or its tickets are used up.",
+            22 => "The desk holds no such ticket.",
+            23 => "The desk's memory is shorter than 16 problems.",
             24 => "The shift is above 0.",
             25 => "A plan breaks a rule.",
             26 => "A merged stamp would be below −6,000,000.",
-            27 => "w is 0 or above 20,160, n or m is beyond its limit, or the total is above 65,536.",
-            _ => "No refusal of documents 01 and 02.",
+            27 => "w is 0 or above 20,160, n or m is beyond its limit, or there are more than 65,536 problems.",
+            _ => "No refusal has this number.",
+        }
+    }
+
+    /// The line that the programs print: `refused 3`, or `not certified` for 14.
+    pub fn line(self) -> String {
+        match self.number {
+            14 => "not certified".into(),
+            number => format!("refused {number}"),
         }
     }
 }
 
 impl fmt::Display for Refusal {
     fn fmt(&self, out: &mut fmt::Formatter) -> fmt::Result {
-        match self.number {
-            14 => write!(out, "not certified"),
-            number => write!(out, "refused {number}"),
-        }
+        write!(out, "{}: {}", self.line(), self.reason())
     }
 }
 

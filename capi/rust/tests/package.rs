@@ -86,17 +86,31 @@ fn no_product_is_switched_to_the_unproved_engine() {
     assert!(!good && errors.contains("stand-in"), "{errors}");
 }
 
+/// A command of cargo on the package in a folder of its own, where the archive is not there.
+fn without_archive(word: &str, scratch: &Scratch) -> Command {
+    let mut command = cargo(word, &package().join("Cargo.toml"));
+    command.arg("--target-dir").arg(scratch.path("target")).env("SPAN_ARCHIVE_FOLDER", scratch.path("none"));
+    command
+}
+
 /// Without the archive the build fails, and says how the archive is made and nothing else.
 #[test]
 fn the_build_error_knows_the_archive_alone() {
     let scratch = Scratch::new("missing");
-    let mut build = cargo("build", &package().join("Cargo.toml"));
-    build.arg("--target-dir").arg(scratch.path("target")).env("SPAN_ARCHIVE_FOLDER", scratch.path("none"));
-    let (good, _, errors) = ran(&mut build);
+    let (good, _, errors) = ran(without_archive("build", &scratch).arg("--quiet"));
     assert!(!good, "{errors}");
-    let message = errors.split("--- stderr").nth(1).expect("the build script's own message");
+    let message = errors.split("error: there is no").nth(1).expect("the package's own message");
     assert!(message.contains("libcapi.a") && message.contains("`rt staticlib capi`"), "{message}");
     for word in ["stand-in", "unproved", "feature"] {
         assert!(!message.contains(word), "{message}");
     }
+}
+
+/// The documentation needs no archive, and has no warning.
+#[test]
+fn the_documentation_builds_without_the_archive() {
+    let scratch = Scratch::new("documented");
+    let (good, _, errors) = ran(without_archive("doc", &scratch).env("RUSTDOCFLAGS", "-D warnings"));
+    assert!(good, "{errors}");
+    assert!(scratch.path("target/doc/span/struct.Problem.html").exists(), "{errors}");
 }

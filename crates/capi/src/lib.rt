@@ -3,6 +3,7 @@ pub mod behind;
 pub mod calls;
 pub mod census;
 pub mod conversion;
+pub mod desks;
 pub mod fields;
 pub mod marks;
 pub mod opening;

@@ -16,6 +16,8 @@ use Rattle.reach.specs.Spreading.{MarksOf}
 use Rattle.trial_tables.specs.declared.frame.Frame.{Frame}
 use Rattle.trial_tables.specs.Frames.{Holds}
 use Rattle.least_span.specs.declared.state.Search.{Search}
+use Rattle.least_span.specs.declared.halving.Least.{Least}
+use Rattle.least_span.specs.Halving.{LeastFound}
 use Rattle.class_answers.specs.declared.answer.Answer as Tables
 
 -- Stamps: each value less that of variable 0.
@@ -51,6 +53,18 @@ pub record Settled (f : Frame) (left right : List ℕ) (s : Search) (a : Tables.
       → Answers p (a .class) (tropOf (a .span)) (a .trials) (answerIn (f .n) (f .m) (a .class) (a .span) (a .start) (a .stamps) (a .picks))
   pub made-up : s .made ≤ a .made
   pub made-most : a .made ≤ most-trials
+
+-- A least span that some search found in the tables as they are.
+pub record LeastHere (f : Frame) (left right : List ℕ) (l : Least) : Type 0 where
+  pub search : Search
+  pub found : LeastFound f left right right search l
+
+-- An answer that shows it, with its trials.
+pub record LeastShown (f : Frame) (left right : List ℕ) (l : Least) (a : Tables.Answer) : Type 0 where
+  pub answers : (p : Problem) → Holds p f left right
+      → Answers p (a .class) (tropOf (a .span)) (a .trials) (answerIn (f .n) (f .m) (a .class) (a .span) (a .start) (a .stamps) (a .picks))
+  pub trials-is : a .trials ≡ l .trials
+  pub made-is : a .made ≡ l .made
 
 -- An answer of the problem in the tables.
 pub record Answered (n m : ℕ) (left right : List ℕ) (class span start trials : ℕ) (stamps picks : List ℕ) : Type 0 where

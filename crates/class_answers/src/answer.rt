@@ -7,9 +7,10 @@ ghost use Rattle.records.specs.Decoded.{Rewritten};
 ghost use Rattle.trials.specs.Tables.{Ranged};
 ghost use Rattle.trial_tables.specs.Frames.{zero-offset, top-offset, Coefficients, Ready, Reraised};
 ghost use Rattle.least_span.specs.State.{Searched};
-ghost use Rattle.class_answers.specs.Answered.{Stamps, StartMarks, Settled, AnswerOf, Answered};
+ghost use Rattle.class_answers.specs.Answered.{Stamps, StartMarks, Settled, LeastHere, LeastShown, AnswerOf, Answered};
 use least_span::advance::floored;
 use least_span::advance::settle;
+use least_span::halving::Least;
 use least_span::halving::halve;
 use least_span::state::Search;
 use least_span::state::TOP;
@@ -75,10 +76,15 @@ fn begun(objective: &[u32; STRIDE], start: u64) -> [u8; STRIDE]
     marks_of(objective)
 }
 
-// Class 3: the trial at 1,290,240 is not possible.
-fn infeasible(left: &[u32; TABLE], right: &mut [u32; TABLE], frame: Frame, search: Search) -> Answer
+// Class 3: the trial at 1,290,240 is not possible. Public for `search_steps::steps`.
+pub fn infeasible(
+    left: &[u32; TABLE],
+    right: &mut [u32; TABLE],
+    frame: Frame,
+    search: Search,
+) -> Answer
     requires { ⌜ Ready frame (now left) (now right) × Searched frame (now left) (now right) search × (search .blocked ≡ top-offset) ⌝ }
-    ensures { λ r. ⌜ Settled frame (now (left .entry)) (now (right .entry)) search r × Reraised frame (now (left .entry)) (now (right .entry)) (now (right .exit)) ⌝ }
+    ensures { λ r. ⌜ Settled frame (now (left .entry)) (now (right .entry)) search r × Reraised frame (now (left .entry)) (now (right .entry)) (now (right .exit)) × (r .made ≡ search .made) ⌝ }
 {
     let rows = frame.m + 1;
     let objective = frame.objective;
@@ -98,10 +104,15 @@ fn infeasible(left: &[u32; TABLE], right: &mut [u32; TABLE], frame: Frame, searc
 }
 
 // Class 2: the trial at the floor is possible, so that at −1,290,241 is; each row picks a variable that attains its largest there. The
-// start names a variable of the second list that has a value.
-fn unbounded(left: &[u32; TABLE], right: &mut [u32; TABLE], frame: Frame, search: Search) -> Answer
+// start names a variable of the second list that has a value. Public for `search_steps::steps`.
+pub fn unbounded(
+    left: &[u32; TABLE],
+    right: &mut [u32; TABLE],
+    frame: Frame,
+    search: Search,
+) -> Answer
     requires { ⌜ Ready frame (now left) (now right) × Searched frame (now left) (now right) search × (search .reached ≤ search .floor) × (search .reached ≤ top-offset) ⌝ }
-    ensures { λ r. ⌜ Settled frame (now (left .entry)) (now (right .entry)) search r × Reraised frame (now (left .entry)) (now (right .entry)) (now (right .exit)) ⌝ }
+    ensures { λ r. ⌜ Settled frame (now (left .entry)) (now (right .entry)) search r × Reraised frame (now (left .entry)) (now (right .entry)) (now (right .exit)) × (r .made ≡ search .made) ⌝ }
 {
     let rows = frame.m + 1;
     let width = frame.n + 1;
@@ -122,12 +133,16 @@ fn unbounded(left: &[u32; TABLE], right: &mut [u32; TABLE], frame: Frame, search
     }
 }
 
-// Class 1: the halving ends at the least span.
-fn optimal(left: &[u32; TABLE], right: &mut [u32; TABLE], frame: Frame, search: Search) -> Answer
-    requires { ⌜ Ready frame (now left) (now right) × Searched frame (now left) (now right) search × (search .reached ≤ top-offset) × (search .floor ≤ search .blocked) ⌝ }
-    ensures { λ r. ⌜ Settled frame (now (left .entry)) (now (right .entry)) search r × Reraised frame (now (left .entry)) (now (right .entry)) (now (right .exit)) ⌝ }
+// Class 1: the least span with its point, and the strategy that blocks one below it. Public for `search_steps::steps`.
+pub fn least_answer(
+    left: &[u32; TABLE],
+    right: &mut [u32; TABLE],
+    frame: Frame,
+    least: Least,
+) -> Answer
+    requires { ⌜ LeastHere frame (now left) (now right) least ⌝ }
+    ensures { λ r. ⌜ LeastShown frame (now (left .entry)) (now (right .entry)) least r × Reraised frame (now (left .entry)) (now (right .entry)) (now (right .exit)) ⌝ }
 {
-    let least = halve(left, right, frame, search);
     let rows = frame.m + 1;
     let width = frame.n + 1;
     let objective = frame.objective;
@@ -146,6 +161,15 @@ fn optimal(left: &[u32; TABLE], right: &mut [u32; TABLE], frame: Frame, search: 
         stamps: plan,
         picks: shown,
     }
+}
+
+// Class 1: the halving ends at the least span.
+fn optimal(left: &[u32; TABLE], right: &mut [u32; TABLE], frame: Frame, search: Search) -> Answer
+    requires { ⌜ Ready frame (now left) (now right) × Searched frame (now left) (now right) search × (search .reached ≤ top-offset) × (search .floor ≤ search .blocked) ⌝ }
+    ensures { λ r. ⌜ Settled frame (now (left .entry)) (now (right .entry)) search r × Reraised frame (now (left .entry)) (now (right .entry)) (now (right .exit)) ⌝ }
+{
+    let least = halve(left, right, frame, search);
+    least_answer(left, right, frame, least)
 }
 
 // The trials of document 01 in its order: the top, the lowest, then the middles. The lowest is settled at the floor, at which

@@ -31,25 +31,21 @@ unfoldable pub asRead : Example → Example
 asRead e =
     let p : Problem = problemOf (e .problem) in
     let a : Answer = answerOf (e .answer) (e .n) (e .m) in
-    record { n = p .n; m = p .m; rows = rowsOf p; problem = e .problem; answer = e .answer; class = a .class; span = a .span }
-
--- The whole table, M too.
-unfoldable pub table : List Example
-table = example-M ∷ examples
+    record { n = p .n; m = p .m; rows = rowsOf p; problem = e .problem; answer = e .answer; class = a .class; span = a .span; verdict = e .verdict }
 
 -- No problem and no answer of the table is refused.
-pub no-refusals : map (λ e. checkRefusal (e .problem) (e .answer)) table ≡ map (λ e. 0) table
-unfolding table examples example-A example-B example-C example-D example-E example-F example-G example-H example-I example-J example-K example-M checkRefusal refusalFor headerRefusal headerJudged leadsOf numAt numsAt all some-below blank-or-within tropField signed tropAt answerRefusal answerHeaderRefusal answerHeaderJudged answerOf formRefusal spanFits stampsFit picksFit is-zero is-blank whole-within
+pub no-refusals : map (λ e. checkRefusal (e .problem) (e .answer)) examples ≡ map (λ e. 0) examples
+unfolding examples example-A example-B example-C example-D example-E example-F example-G example-H example-I example-J example-K example-M checkRefusal refusalFor headerRefusal headerJudged leadsOf numAt numsAt all some-below blank-or-within tropField signed tropAt answerRefusal answerHeaderRefusal answerHeaderJudged answerOf formRefusal spanFits stampsFit picksFit is-zero is-blank whole-within
 no-refusals = refl
 
 -- The bytes of every problem mean the words, and the bytes of every answer the class and span.
-pub words-are-read : map asRead table ≡ table
-unfolding table examples example-A example-B example-C example-D example-E example-F example-G example-H example-I example-J example-K example-M asRead rowsOf listOf problemOf answerOf numAt numsAt tropField signed tropAt
+pub words-are-read : map asRead examples ≡ examples
+unfolding examples example-A example-B example-C example-D example-E example-F example-G example-H example-I example-J example-K example-M asRead rowsOf listOf problemOf answerOf numAt numsAt tropField signed tropAt
 words-are-read = refl
 
 -- Every problem of the table, written again, has the same bytes.
-pub written-again : map (λ e. problemBytes (problemOf (e .problem))) table ≡ map (λ e. e .problem) table
-unfolding table examples example-A example-B example-C example-D example-E example-F example-G example-H example-I example-J example-K example-M problemBytes headerBytes rowsBytes rowBytes listOf problemOf numAt tropField signed tropAt fieldOf fields le
+pub written-again : map (λ e. problemBytes (problemOf (e .problem))) examples ≡ map (λ e. e .problem) examples
+unfolding examples example-A example-B example-C example-D example-E example-F example-G example-H example-I example-J example-K example-M problemBytes headerBytes rowsBytes rowBytes listOf problemOf numAt tropField signed tropAt fieldOf fields le
 written-again = refl
 
 -- ---- values with blanks

@@ -13,7 +13,7 @@ use borrow.Author.Tests.{ltb-false, eqb-true, not-false, le-ltb, le-leb, eq-eqb}
 use Rattle.definitions.specs.Limits.{highest-n, highest-m, lead-limit, length-bytes, signed-bytes, problem-kind, questions-kind, states-kind, short-bytes, states-place, leads-latest, most-questions, answer-kind, problem-header, questions-header, answer-header, answer-most}
 use Rattle.definitions.specs.Tropical.{Trop, bot, fin}
 use Rattle.definitions.specs.Bytes.{numsAt, tropField, tropAt, all, blank-or-within, or-else}
-use Rattle.definitions.specs.ProblemRecord.{Kinds, engine-kinds, checker-kinds, converter-kinds, AsksOne, stateRefused, suspended, leadOf, leftFrom, rightFrom, problemSize, recordSize, lengthField, kindField, nField, mField, countField, leadsPlace, questionsAsked, leadsOf, known-kind, above-limits, wrong-count, headerRefusal, headerJudged, refusalFor, silentRefused, WithinLayout, problemOf, problemRefusal, recordRefusal}
+use Rattle.definitions.specs.ProblemRecord.{Kinds, engine-kinds, checker-kinds, converter-kinds, desk-kinds, AsksOne, stateRefused, suspended, leadOf, leftFrom, rightFrom, problemSize, recordSize, lengthField, kindField, nField, mField, countField, leadsPlace, questionsAsked, leadsOf, known-kind, above-limits, wrong-count, headerRefusal, headerJudged, refusalFor, silentRefused, WithinLayout, problemOf, problemRefusal, recordRefusal}
 use Rattle.definitions.specs.AnswerRecord.{Answer, known-class, startFits, stampCount, pickCount, highestPick, answerSize, spanFits, stampsFit, picksFit, formRefusal, rightCounts, classField, startField, answerOf, answerHeaderRefusal, answerHeaderJudged, answerRefusal, writerRefusal, writerJudged}
 use Rattle.definitions.proofs.Bytes.{all-numsAt}
 use Rattle.definitions.proofs.Offset.{within-size}
@@ -207,6 +207,14 @@ kind-stored kind e = go (eqb kind problem-kind) (eqb kind questions-kind) refl r
     go false true f g e = inr (eqb-true kind questions-kind g)
     go false false f g e = absurd (false≢true e)
 
+-- The one kind that the desk knows.
+pub kind-plain : (kind : ℕ) → known-kind desk-kinds kind ≡ true → kind ≡ problem-kind
+kind-plain kind e = go (eqb kind problem-kind) refl e
+  where
+    go : (t : Bool) → eqb kind problem-kind ≡ t → (t || false) ≡ true → kind ≡ problem-kind
+    go true f e = eqb-true kind problem-kind f
+    go false f e = absurd (false≢true e)
+
 -- Where the leads start: behind ten bytes at least, and 136 at most.
 pub leads-place-least : (kind m : ℕ) → KnownKind kind → problem-header ≤ leadsPlace kind m
 leads-place-least kind m (plain k) = rw k (omega arith)
@@ -329,6 +337,25 @@ plain-within s f = record-fits checker-kinds s .1 (record {
   leads-fit = f .leads-fit;
   rules-speak = f .rules-speak;
 })
+
+-- So it is where the desk takes it.
+pub plain-desk : (s : List ℕ) → refusalFor desk-kinds s ≡ 0 → PlainFits s
+plain-desk s w =
+    let r = record-fits desk-kinds s .0 w in
+    let k = kind-plain (kindField s) (r .header .kind-known) in
+    record {
+      size-enough = r .header .size-enough;
+      length-is = r .header .length-is;
+      kind-is = k;
+      n-most = r .header .n-most;
+      m-most = r .header .m-most;
+      size-is = r .header .size-is ∙ size-one (kindField s) (nField s) (mField s) (countField s) k;
+      leads-fit = r .leads-fit;
+      rules-speak = r .rules-speak;
+    }
+
+pub desk-within : (s : List ℕ) → refusalFor desk-kinds s ≡ 0 → WithinLayout s
+desk-within s w = plain-within s (plain-desk s w)
 
 -- ---- leads
 

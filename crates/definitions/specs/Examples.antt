@@ -1,10 +1,12 @@
 -- The starred examples of document 01, as one table: the problem in words and in bytes, an answer in bytes with a start and a pick
--- table, and their class and span, where document 02, 2.4, gives J least −10 and D none. The words are rows of leads, anchor first: left, then right.
+-- table, its class and span, where document 02, 2.4, gives J least −10 and D none, and what the checker says of it. The words are rows of
+-- leads, anchor first: left, then right.
 use Prim.Native.Nat.{ℕ}
 use mathlib.Core.List.{List, [], _∷_}
 use lib.IntN.{ℤ, pos, negℤ}
 use Rattle.definitions.specs.Limits.{class-optimal, class-unbounded, class-infeasible}
 use Rattle.definitions.specs.Tropical.{Trop, bot, fin}
+use Rattle.definitions.specs.Verdict.{Verdict, accepted, refused}
 
 -- Leads in words.
 abbrev pub blank : Trop
@@ -29,6 +31,7 @@ pub record Example : Type 0 where
   pub answer : List ℕ
   pub class : ℕ
   pub span : Trop
+  pub verdict : Verdict
 
 -- A. n = m = 0, first 5, second 2: least 3.
 unfoldable pub example-A : Example
@@ -43,6 +46,7 @@ example-A =
       answer = 18 ∷ 0 ∷ 0 ∷ 0 ∷ 4 ∷ 0 ∷ 0 ∷ 0 ∷ 1 ∷ 0 ∷ 3 ∷ 0 ∷ 0 ∷ 0 ∷ 0 ∷ 0 ∷ 0 ∷ 0 ∷ 0 ∷ 0 ∷ 1 ∷ 0 ∷ [];
       class = class-optimal;
       span = lead 3;
+      verdict = accepted class-optimal (lead 3);
     }
 
 -- B. First blank, second 2: bottomless.
@@ -58,6 +62,7 @@ example-B =
       answer = 14 ∷ 0 ∷ 0 ∷ 0 ∷ 4 ∷ 0 ∷ 0 ∷ 0 ∷ 2 ∷ 0 ∷ 0 ∷ 0 ∷ 0 ∷ 128 ∷ 1 ∷ 0 ∷ 0 ∷ 0 ∷ [];
       class = class-unbounded;
       span = blank;
+      verdict = accepted class-unbounded blank;
     }
 
 -- C. First 5, second blank: none.
@@ -73,6 +78,7 @@ example-C =
       answer = 14 ∷ 0 ∷ 0 ∷ 0 ∷ 4 ∷ 0 ∷ 0 ∷ 0 ∷ 3 ∷ 0 ∷ 0 ∷ 0 ∷ 0 ∷ 128 ∷ 0 ∷ 0 ∷ 1 ∷ 0 ∷ [];
       class = class-infeasible;
       span = blank;
+      verdict = accepted class-infeasible blank;
     }
 
 -- D. Both blank: none, as no plan counts.
@@ -88,6 +94,7 @@ example-D =
       answer = 14 ∷ 0 ∷ 0 ∷ 0 ∷ 4 ∷ 0 ∷ 0 ∷ 0 ∷ 3 ∷ 0 ∷ 0 ∷ 0 ∷ 0 ∷ 128 ∷ 1 ∷ 0 ∷ 0 ∷ 0 ∷ [];
       class = class-infeasible;
       span = blank;
+      verdict = accepted class-infeasible blank;
     }
 
 -- E. n = 1, rule anchor + 30 ≤ moment 1, span moment 1 − anchor: least 30.
@@ -104,6 +111,7 @@ example-E =
       answer = 24 ∷ 0 ∷ 0 ∷ 0 ∷ 4 ∷ 0 ∷ 1 ∷ 0 ∷ 1 ∷ 0 ∷ 30 ∷ 0 ∷ 0 ∷ 0 ∷ 0 ∷ 0 ∷ 0 ∷ 0 ∷ 0 ∷ 0 ∷ 30 ∷ 0 ∷ 0 ∷ 0 ∷ 1 ∷ 0 ∷ 2 ∷ 0 ∷ [];
       class = class-optimal;
       span = lead 30;
+      verdict = accepted class-optimal (lead 30);
     }
 
 -- F. E with span anchor − moment 1: bottomless.
@@ -120,6 +128,7 @@ example-F =
       answer = 16 ∷ 0 ∷ 0 ∷ 0 ∷ 4 ∷ 0 ∷ 1 ∷ 0 ∷ 2 ∷ 0 ∷ 0 ∷ 0 ∷ 0 ∷ 128 ∷ 2 ∷ 0 ∷ 2 ∷ 0 ∷ 2 ∷ 0 ∷ [];
       class = class-unbounded;
       span = blank;
+      verdict = accepted class-unbounded blank;
     }
 
 -- G. E and moment 1 ≤ anchor + 20: none.
@@ -137,6 +146,7 @@ example-G =
       answer = 16 ∷ 0 ∷ 0 ∷ 0 ∷ 4 ∷ 0 ∷ 1 ∷ 0 ∷ 3 ∷ 0 ∷ 0 ∷ 0 ∷ 0 ∷ 128 ∷ 0 ∷ 0 ∷ 1 ∷ 0 ∷ 2 ∷ 0 ∷ [];
       class = class-infeasible;
       span = blank;
+      verdict = accepted class-infeasible blank;
     }
 
 -- H. G with 30 for 20: least 30.
@@ -154,6 +164,7 @@ example-H =
       answer = 24 ∷ 0 ∷ 0 ∷ 0 ∷ 4 ∷ 0 ∷ 1 ∷ 0 ∷ 1 ∷ 0 ∷ 30 ∷ 0 ∷ 0 ∷ 0 ∷ 0 ∷ 0 ∷ 0 ∷ 0 ∷ 0 ∷ 0 ∷ 30 ∷ 0 ∷ 0 ∷ 0 ∷ 1 ∷ 0 ∷ 3 ∷ 0 ∷ [];
       class = class-optimal;
       span = lead 30;
+      verdict = accepted class-optimal (lead 30);
     }
 
 -- I. Anchor + 60 ≤ later of moment 1 and moment 2 + 15, span later of both − anchor: least 45.
@@ -170,6 +181,7 @@ example-I =
       answer = 30 ∷ 0 ∷ 0 ∷ 0 ∷ 4 ∷ 0 ∷ 2 ∷ 0 ∷ 1 ∷ 0 ∷ 45 ∷ 0 ∷ 0 ∷ 0 ∷ 0 ∷ 0 ∷ 0 ∷ 0 ∷ 0 ∷ 0 ∷ 0 ∷ 0 ∷ 0 ∷ 0 ∷ 45 ∷ 0 ∷ 0 ∷ 0 ∷ 1 ∷ 0 ∷ 2 ∷ 0 ∷ 2 ∷ 0 ∷ [];
       class = class-optimal;
       span = lead 45;
+      verdict = accepted class-optimal (lead 45);
     }
 
 -- J. Moment 2 − 10 ≤ moment 1, span moment 1 − moment 2: least −10.
@@ -186,6 +198,7 @@ example-J =
       answer = 30 ∷ 0 ∷ 0 ∷ 0 ∷ 4 ∷ 0 ∷ 2 ∷ 0 ∷ 1 ∷ 0 ∷ 246 ∷ 255 ∷ 255 ∷ 255 ∷ 1 ∷ 0 ∷ 0 ∷ 0 ∷ 0 ∷ 0 ∷ 246 ∷ 255 ∷ 255 ∷ 255 ∷ 0 ∷ 0 ∷ 0 ∷ 0 ∷ 0 ∷ 0 ∷ 2 ∷ 0 ∷ 1 ∷ 0 ∷ [];
       class = class-optimal;
       span = early 10;
+      verdict = accepted class-optimal (early 10);
     }
 
 -- K. E and a rule with moment 1 left, right all blank: none.
@@ -203,9 +216,10 @@ example-K =
       answer = 16 ∷ 0 ∷ 0 ∷ 0 ∷ 4 ∷ 0 ∷ 1 ∷ 0 ∷ 3 ∷ 0 ∷ 0 ∷ 0 ∷ 0 ∷ 128 ∷ 0 ∷ 0 ∷ 1 ∷ 0 ∷ 2 ∷ 0 ∷ [];
       class = class-infeasible;
       span = blank;
+      verdict = accepted class-infeasible blank;
     }
 
--- M. E with stamp and span 31, picks 1 and 2: not certified, a cycle weighs 0. Class and span are those of this answer.
+-- M. E with stamp and span 31, picks 1 and 2: not certified, a cycle weighs 0. Class and span are those of the answer, not of the problem.
 unfoldable pub example-M : Example
 example-M =
     record {
@@ -219,9 +233,10 @@ example-M =
       answer = 24 ∷ 0 ∷ 0 ∷ 0 ∷ 4 ∷ 0 ∷ 1 ∷ 0 ∷ 1 ∷ 0 ∷ 31 ∷ 0 ∷ 0 ∷ 0 ∷ 0 ∷ 0 ∷ 0 ∷ 0 ∷ 0 ∷ 0 ∷ 31 ∷ 0 ∷ 0 ∷ 0 ∷ 1 ∷ 0 ∷ 2 ∷ 0 ∷ [];
       class = class-optimal;
       span = lead 31;
+      verdict = refused 14;
     }
 
--- The examples with an answer that is accepted.
+-- The table.
 unfoldable pub examples : List Example
 examples =
     example-A
@@ -235,4 +250,5 @@ examples =
     ∷ example-I
     ∷ example-J
     ∷ example-K
+    ∷ example-M
     ∷ []

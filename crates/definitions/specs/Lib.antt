@@ -20,6 +20,7 @@ pub mod Selection
 pub mod Conversion
 pub mod Suspended
 pub mod Marks
+pub mod Desk
 pub mod Merging
 pub mod Census
 pub mod Reasons

@@ -1,6 +1,6 @@
 -- The numbers of documents 01 and 02, each once for what it limits; those that follow from others are derived. (Refusals 14, 18 and 19 are named in
 -- Verdict, Hours and Week, and the two outer trials are counted in Bisection.)
-use Prim.Native.Nat.{ℕ, suc, _+_, _*_}
+use Prim.Native.Nat.{ℕ, suc, _+_, _*_, _-_}
 use lib.IntN.{ℤ, pos, negsuc}
 
 -- The highest n (moments besides the anchor) and the highest m (rules).
@@ -208,6 +208,20 @@ most-windows = 14
 abbrev pub minute-limit : ℕ
 minute-limit = 6000000
 
+-- Document 02, 2.11: the desk's places, the memory that it asks for (16 problems of 16,394 bytes), the last ticket, 2⁶⁴ − 1, and
+-- the most steps after which a problem is answered, 384.
+abbrev pub desk-places : ℕ
+desk-places = 16
+
+abbrev pub desk-memory : ℕ
+desk-memory = desk-places * problem-most
+
+abbrev pub last-ticket : ℕ
+last-ticket = word-values - 1
+
+abbrev pub desk-steps : ℕ
+desk-steps = desk-places * most-trials
+
 -- Document 02, 2.13: a buffer of fewer bytes than the stamps of 32 moments, 128, is refused, whatever n is.
 abbrev pub merged-most : ℕ
 merged-most = signed-bytes * stride
@@ -278,6 +292,18 @@ refused-form = 12
 -- A pick is above its highest value.
 abbrev pub refused-pick : ℕ
 refused-pick = 13
+
+-- Document 02, 2.11: all 16 places hold a waiting or uncollected problem, or the tickets are used up.
+abbrev pub refused-full : ℕ
+refused-full = 21
+
+-- No such ticket is held.
+abbrev pub refused-ticket : ℕ
+refused-ticket = 22
+
+-- The memory is shorter than 16 problems of 16,394 bytes.
+abbrev pub refused-memory : ℕ
+refused-memory = 23
 
 -- Document 02, 2.13: the shift is above 0.
 abbrev pub refused-shift : ℕ

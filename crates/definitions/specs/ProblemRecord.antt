@@ -75,7 +75,8 @@ abbrev pub known-kind : Kinds → ℕ → Bool
 known-kind kinds kind =
     eqb kind problem-kind || ((kinds .several && eqb kind questions-kind) || (kinds .states && eqb kind states-kind))
 
--- Those of the engine and the problem reader: 1, 3 and 5; of the checker: 1 and 5; of the converter: 1 and 3, "also later".
+-- Those of the engine and the problem reader: 1, 3 and 5; of the checker: 1 and 5; of the converter: 1 and 3, "also later"; the desk "knows
+-- no kind but 1".
 abbrev pub engine-kinds : Kinds
 engine-kinds = record { several = true; states = true }
 
@@ -84,6 +85,9 @@ checker-kinds = record { several = false; states = true }
 
 abbrev pub converter-kinds : Kinds
 converter-kinds = record { several = true; states = false }
+
+abbrev pub desk-kinds : Kinds
+desk-kinds = record { several = false; states = false }
 
 -- n is above its limit, 31, or m above its, 63.
 abbrev pub above-limits : ℕ → ℕ → Bool

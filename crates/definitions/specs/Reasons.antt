@@ -152,7 +152,8 @@ pub data Hold (p : Problem) (a : Answer) : Reasons → Type 0 where
   least-holds :
       {rules round : List ℕ} {s : ℤ} → a .span ≡ fin s → SameClass p (onlyThese p rules) → Binds p a s round → Hold p a (of-least rules round)
 
--- Request 2.5 whole: for the bytes of a problem and of an answer there is one answer of the tool, and what document 02 says of it holds.
+-- Request 2.5 whole: for the bytes of a problem and of an answer the tool has no two answers, and what document 02 says of its answer
+-- holds. (That it has one is the contract of `grounds::reasons::reasons`.)
 pub record ReasonsKeep : Type 0 where
   pub one-answer : (p a : List ℕ) (r s : Reasons) → Reasoned p a r → Reasoned p a s → r ≡ s
   pub hold : (p a : List ℕ) (r : Reasons) → Reasoned p a r → Hold (problemOf p) (answerFor p a) r

@@ -32,7 +32,7 @@ pub data Accepted (p : Problem) (a : Answer) : Type 0 where
   infeasible :
       a .class ≡ class-infeasible → AcceptedInfeasible (startOf p (a .start)) p (strategyOf (a .picks)) → Accepted p a
 
--- The first of refusals 1 to 6 and 17 for the problem, then 8 to 13 for the answer, that applies; 0 where none does.
+-- The first of refusals 1 to 6, 17 and 20 for the problem, then 8 to 13 for the answer, that applies; 0 where none does.
 unfoldable pub checkRefusal : List ℕ → List ℕ → ℕ
 checkRefusal p a = or-else (problemRefusal p) (answerRefusal a (nField p) (mField p))
 

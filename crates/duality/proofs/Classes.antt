@@ -3,12 +3,16 @@
 -- decides. Exactly one of the three holds, and each is shown by some start with picks that the checker's list accepts. What the
 -- lists of classes 2 and 3 show is proved from any start; the classes themselves are about the anchor and the second list.
 use Prim.Native.Nat.{ℕ, zero, suc, _+_, _*_, _≤_}
-use mathlib.Core.Path.{_≡_, refl}
+use mathlib.Core.Path.{_≡_, refl, ap}
 use mathlib.Core.Logic.{_⊎_, inl, inr, ⊎-elim, _↔_, Iff·trans}
 use native.Mathlib.Omega.{arith}
 use native.Mathlib.Nat.{le-refl}
 use lib.IntN.{ℤ, pos, negsuc, natAbs, _-ℤ_}
 use lib.Signed.{_≤ℤ_, _<ℤ_}
+use Rattle.definitions.specs.Tropical.{Trop, fin}
+use Rattle.definitions.specs.Bisection.{trials-optimal}
+use Rattle.definitions.specs.Solved as Solved
+use Rattle.definitions.specs.Solved.{Found}
 use Rattle.definitions.specs.Problem as Problems
 use Rattle.definitions.specs.Problem.{Problem, Point, Feasible, Counts, value, _≼_, Attainable, Optimal, Unbounded, Infeasible}
 use Rattle.definitions.specs.Certificate.{Anchor, Second, startOf, AnchorAnd, PicksCount, BelowZero, AcceptedOptimal, AcceptedInfeasible, RowPicksCount, AtLeastZero, AcceptedUnbounded}
@@ -405,3 +409,15 @@ optimal-unique p s t a b =
     let h : s ≤ℤ t = whole-below (rw (b .value-is) at (a .least (b .point) (b .feasible) (b .counts))) in
     let k : t ≤ℤ s = whole-below (rw (a .value-is) at (b .least (a .point) (a .feasible) (a .counts))) in
     omega whole
+
+-- Class, span and trials of a problem are one.
+pub found-one : {p : Problem} {c z k l : ℕ} {s t : Trop} → Found p c s k → Found p z t l → (c ≡ z) × (s ≡ t) × (k ≡ l)
+found-one {p} (Solved.optimal {s = s} o) (Solved.optimal {s = t} q) = let e : s ≡ t = optimal-unique p s t o q in (refl, ap fin e, ap trials-optimal e)
+found-one {p} (Solved.optimal {s = s} o) (Solved.unbounded u) = absurd (unbounded-not-optimal p u (record { at = s; optimal = o }))
+found-one {p} (Solved.optimal {s = s} o) (Solved.infeasible n) = absurd (infeasible-not-optimal p n (record { at = s; optimal = o }))
+found-one {p} (Solved.unbounded u) (Solved.optimal {s = s} o) = absurd (unbounded-not-optimal p u (record { at = s; optimal = o }))
+found-one (Solved.unbounded u) (Solved.unbounded v) = (refl, refl, refl)
+found-one {p} (Solved.unbounded u) (Solved.infeasible n) = absurd (infeasible-not-unbounded p n u)
+found-one {p} (Solved.infeasible n) (Solved.optimal {s = s} o) = absurd (infeasible-not-optimal p n (record { at = s; optimal = o }))
+found-one {p} (Solved.infeasible n) (Solved.unbounded u) = absurd (infeasible-not-unbounded p n u)
+found-one (Solved.infeasible n) (Solved.infeasible o) = (refl, refl, refl)

@@ -1,3 +1,4 @@
 pub mod Outcomes
 pub mod Inputs
 pub mod Questions
+pub mod Trials

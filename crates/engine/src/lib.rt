@@ -2,4 +2,5 @@
 // Document 01, "The engine".
 pub mod input;
 pub mod made;
+pub mod one_trial;
 pub mod solve;

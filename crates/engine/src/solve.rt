@@ -45,8 +45,8 @@ struct One {
     size: usize,
 }
 
-// Writes the answer's record at the start of a buffer, and gives its length.
-fn write_found(found: Answer, n: usize, m: usize, answer: &mut [u8]) -> usize
+// Writes the answer's record at the start of a buffer, and gives its length. Public for `desk`.
+pub fn write_found(found: Answer, n: usize, m: usize, answer: &mut [u8]) -> usize
     requires { ⌜ FoundFor n m (length (now answer)) (found .class) (found .span) (found .start) (found .stamps) (found .picks) ⌝ }
     ensures { λ r. ⌜ (r ≡ answerSize (found .class) n m) × (now (answer .exit) ≡ written (now (answer .entry)) (answerBytes n (answerIn n m (found .class) (found .span) (found .start) (found .stamps) (found .picks)))) ⌝ }
 {

@@ -162,7 +162,7 @@ pub within-itself : (p : List ℕ) → WithinLayout p → meant p ≡ p
 within-itself p w = meant-some p (omega (arith, problem-fits p w .size-enough))
 
 -- so that a true checker accepts the bytes of an answer to it.
-accepts-record : (check : Checker) → CheckerJudges check → (p : List ℕ) → Slice p → WithinLayout p → {class : ℕ} {span : Trop} {trials : ℕ} (a : Answer)
+pub accepts-record : (check : Checker) → CheckerJudges check → (p : List ℕ) → Slice p → WithinLayout p → {class : ℕ} {span : Trop} {trials : ℕ} (a : Answer)
     → Answers (problemOf p) class span trials a → check p (answerBytes (nField p) a) ≡ accepted class span
 accepts-record check judges p b w a ans =
     verdict-on p w a ans

@@ -1,5 +1,6 @@
 pub mod Handing
 pub mod Engine
+pub mod Desks
 pub mod Records
 pub mod OwnAnswers
 pub mod Pipe

@@ -55,6 +55,12 @@ pub const CONVERTER_KINDS: Kinds = Kinds {
     states: false,
 };
 
+// Those of the desk: 1 alone.
+pub const DESK_KINDS: Kinds = Kinds {
+    several: false,
+    states: false,
+};
+
 // Where things stand in a problem record: its kind, n and m, where its leads start, and how many questions follow its rules.
 pub struct Layout {
     pub kind: u16,

@@ -3,6 +3,7 @@
 pub mod bytes;
 pub mod census;
 pub mod checker;
+pub mod desk;
 pub mod examples;
 pub mod fields;
 pub mod hours;

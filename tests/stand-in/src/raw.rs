@@ -1,6 +1,9 @@
 //! The functions of `raw` in the package `span`, by the unproved engine and checker.
 
-pub use unproved::boundary::{census, check, convert, hours_read, hours_write, marks_differ, merge, read, reasons, solve, write};
+pub use unproved::boundary::{
+    census, check, convert, hours_read, hours_write, marks_differ, merge, read, reasons, solve, write,
+};
+pub use unproved::desk::{desk_collect, desk_open, desk_step, desk_take, DESK_MEMORY, DESK_TICKET, DESK_WORDS};
 pub use unproved::week::first_open;
 
 /// Places that the reader is lent for stamps.

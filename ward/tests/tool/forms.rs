@@ -144,11 +144,12 @@ fn the_timeline_has_a_row_a_moment() {
             .find(|line| line.starts_with(&format!("  {name}")))
             .unwrap_or_else(|| panic!("{name}: {told:?}"))
     };
-    let place = |line: &str, sign: char| line.chars().position(|c| c == sign).unwrap_or_else(|| panic!("{line}"));
-    // Both are of the round that binds the span (document 02, 2.5).
-    assert!(place(row("anchor"), '◆') < place(row("bed"), '◆'), "{told:?}");
-    assert_eq!(place(row("span"), '├'), place(row("anchor"), '◆'), "{told:?}");
-    assert_eq!(place(row("span"), '┤'), place(row("bed"), '◆'), "{told:?}");
+    let place =
+        |line: &str, signs: &[char]| line.chars().position(|c| signs.contains(&c)).unwrap_or_else(|| panic!("{line}"));
+    let planned = ['●', '◆'];
+    assert!(place(row("anchor"), &planned) < place(row("bed"), &planned), "{told:?}");
+    assert_eq!(place(row("span"), &['├']), place(row("anchor"), &planned), "{told:?}");
+    assert_eq!(place(row("span"), &['┤']), place(row("bed"), &planned), "{told:?}");
     assert!(told.out.contains("8:00 ") && told.out.contains("8:30"), "{told:?}");
     let plain = ward(&["--plain", "-"], E);
     assert!(plain.out.is_ascii() && plain.out.contains('['), "{plain:?}");

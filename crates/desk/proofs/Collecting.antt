@@ -1,0 +1,131 @@
+-- Collecting, as the machine's transition.
+use Prim.Native.Nat.{ℕ, zero, suc, _+_, _*_, _≤_, _<_}
+use mathlib.Core.Path.{_≡_, refl, sym, ap, subst, _∙_}
+use mathlib.Core.Bool.{true, false}
+use mathlib.Core.Logic.{_⊎_, ⊎-elim}
+use mathlib.Core.List.{List}
+use native.Mathlib.Omega.{arith}
+use native.Mathlib.Nat.{eq-zero-or-pos}
+use lib.ListN.{length, getD, set, length-set}
+use Rattle.definitions.specs.Limits.{desk-places, desk-memory, problem-most, answer-most, refused-room, refused-ticket, refused-memory}
+use Rattle.definitions.specs.Bytes.{Bytes}
+use Rattle.definitions.specs.Offset.{tropOf}
+use Rattle.definitions.specs.ProblemRecord.{meant, nField, mField}
+use Rattle.definitions.specs.AnswerRecord.{answerSize, answerBytes, written}
+use Rattle.definitions.specs.Desk as Machine
+use Rattle.definitions.specs.Desk.{placeAt, Stands, ticketOf, NotHeld, FromOpening, Collects, handed-over}
+use Rattle.definitions.proofs.IdleDay.{meant-bytes}
+use Rattle.class_answers.specs.Answered.{answerIn}
+use Rattle.engine.specs.Outcome.{FoundFor}
+use Rattle.engine.proofs.Trials.{settled-found}
+use Rattle.desk.specs.declared.state.Place.{Place}
+use Rattle.desk.specs.declared.state.Desk.{Desk}
+use Rattle.desk.specs.declared.calls.Collected.{Collected}
+use Rattle.desk.specs.declared.calls.Collected.the-variants as Collections
+use Rattle.desk.specs.State.{Arrays, seatedAt, noPlace, placeIn, HoldsTicket, ring, bytesAt, Seated, PlaceIs, is-empty, Holds}
+use Rattle.desk.specs.Calls.{Left, collectedOf, NextCollected, DidCollect}
+use Rattle.desk.proofs.Runs.{beyond-empty}
+use Rattle.desk.proofs.Kept.{part-bytes}
+use Rattle.desk.proofs.Holding.{place-empty, place-ticket, place-open, AnsweredAs, place-closed, seated-places}
+use Rattle.desk.proofs.Taking.{memory-enough}
+
+pub collect-short : (d : Desk) (memory : List ℕ) (ticket : ℕ) (buffer : List ℕ) → length memory < desk-memory → DidCollect d memory ticket buffer (Collections.Refused refused-memory) d buffer
+collect-short d memory ticket buffer h = record { same-length = refl; short = λ _. (refl, refl, refl); moves = λ l. absurd (omega arith) }
+
+-- No place holds the ticket.
+pub collect-none : {d : Desk} {memory : List ℕ} {ticket at : ℕ} {buffer : List ℕ} → desk-memory ≤ length memory → HoldsTicket d ticket at → at ≡ desk-places
+    → DidCollect d memory ticket buffer (Collections.Refused refused-ticket) d buffer
+unfolding collectedOf
+collect-none {d} {memory} {ticket} {at} {buffer} h t e = record {
+  same-length = refl;
+  short = λ l. absurd (omega arith);
+  moves = λ _ state f g. record { next = state; collects = Collects.no-such-ticket (memory-enough (length memory) h) (not-held state g); holds = g };
+}
+  where
+    not-held : (state : Machine.Desk) → Holds d memory state → NotHeld state ticket
+    not-held state g i some same =
+        let inside = beyond-empty state i (g .places-size) some in
+        let is = g .places i inside in
+        let mine : placeIn d i .ticket ≡ ticket = sym (place-ticket is) ∙ same in
+        ⊎-elim
+        (λ (z : ticket ≡ 0). some (place-empty is (mine ∙ z)))
+        (λ (z : 0 < ticket). t .before i (omega arith) z mine)
+        (eq-zero-or-pos ticket)
+
+module _ (d : Desk) (memory : List ℕ) (ticket at : ℕ) (buffer : List ℕ) (h : desk-memory ≤ length memory) (t : HoldsTicket d ticket at) (n : at ≡ desk-places → ⊥) where
+  inside : at < desk-places
+  inside = omega (arith, t .most)
+
+  some : 0 < placeIn d at .ticket
+  some = let w = t .held inside in omega (arith, w .0, w .1)
+
+  -- It still waits.
+  pub collect-waits : placeIn d at .closed ≡ false → DidCollect d memory ticket buffer Collections.StillWaits d buffer
+  unfolding collectedOf
+  collect-waits e = record {
+    same-length = refl;
+    short = λ l. absurd (omega arith);
+    moves = λ _ state f g. record {
+      next = state;
+      collects = Collects.waits-yet {i = at} (memory-enough (length memory) h) (record { is = place-open (g .places at inside) some e ∙ ap (λ (k : ℕ). Machine.waits k (meant (bytesAt memory at (placeIn d at .size))) (placeIn d at .search .made)) (t .held inside .1) });
+      holds = g;
+    };
+  }
+
+  module _ (e : placeIn d at .closed ≡ true) where
+    answered : (state : Machine.Desk) → Holds d memory state → AnsweredAs (bytesAt memory at (placeIn d at .size)) (placeIn d at) (placeAt state at)
+    answered state g = place-closed (g .places at inside) some e
+
+    stands : (state : Machine.Desk) → Holds d memory state
+        → Stands state at (Machine.answered ticket (meant (bytesAt memory at (placeIn d at .size))) (placeIn d at .answer .class) (tropOf (placeIn d at .answer .span)) (placeIn d at .answer .trials)
+        (answerIn (nField (meant (bytesAt memory at (placeIn d at .size)))) (mField (meant (bytesAt memory at (placeIn d at .size)))) (placeIn d at .answer .class) (placeIn d at .answer .span) (placeIn d at .answer .start) (placeIn d at .answer .stamps) (placeIn d at .answer .picks)))
+    stands state g = record { is = rw (← t .held inside .1) (answered state g .is) }
+
+    -- The buffer is too short.
+    pub collect-room : length buffer < answer-most → DidCollect d memory ticket buffer (Collections.Refused refused-room) d buffer
+    unfolding collectedOf
+    collect-room b = record {
+      same-length = refl;
+      short = λ l. absurd (omega arith);
+      moves = λ _ state f g. record {
+        next = state;
+        collects = Collects.short-buffer {i = at} (memory-enough (length memory) h) (stands state g) b;
+        holds = g;
+      };
+    }
+
+    -- What the writer asks.
+    pub collect-found : Bytes memory → answer-most ≤ length buffer → Left d memory
+        → FoundFor (placeIn d at .n) (placeIn d at .m) (length buffer) (placeIn d at .answer .class) (placeIn d at .answer .span) (placeIn d at .answer .start) (placeIn d at .answer .stamps) (placeIn d at .answer .picks)
+    collect-found b room left =
+        let a = answered (left .state) (left .holds) in
+        settled-found (meant-bytes _ (part-bytes memory (at * problem-most) (placeIn d at .size) b (omega (arith, a .seated .size-most)))) (a .settled) (a .seated .n-is) (a .seated .m-is) room
+
+    -- It is handed over.
+    pub collected-all : {d′ : Desk} (c : Place) {buffer′ : List ℕ} {size : ℕ} → answer-most ≤ length buffer → c .ticket ≡ 0 → d′ ≡ seatedAt d at c → length buffer′ ≡ length buffer
+        → size ≡ answerSize (placeIn d at .answer .class) (placeIn d at .n) (placeIn d at .m)
+        → buffer′ ≡ written buffer (answerBytes (placeIn d at .n) (answerIn (placeIn d at .n) (placeIn d at .m) (placeIn d at .answer .class) (placeIn d at .answer .span) (placeIn d at .answer .start) (placeIn d at .answer .stamps) (placeIn d at .answer .picks)))
+        → DidCollect d memory ticket buffer (Collections.Handed (placeIn d at .answer .class) (placeIn d at .answer .span) (placeIn d at .answer .trials) size) d′ buffer′
+    unfolding collectedOf
+    collected-all {d′} c {buffer′} {size} room free desk-is same size-is buffer-is = record {
+      same-length = same;
+      short = λ l. absurd (omega arith);
+      moves = λ _ state f g.
+          let a = answered state g in
+          record {
+            next = record { given = state .given; line = state .line; places = set (state .places) at Machine.empty };
+            collects = rw (size-is, buffer-is, a .seated .n-is, a .seated .m-is) (handed-over {i = at} (memory-enough (length memory) h) (stands state g) room);
+            holds = rw desk-is (record {
+              arrays = record {
+                line-size = g .arrays .line-size;
+                places-size = length-set (d .places) at c ∙ g .arrays .places-size;
+                head-inside = g .arrays .head-inside;
+                few = g .arrays .few;
+              };
+              given-is = g .given-is;
+              line-is = g .line-is;
+              places-size = length-set (state .places) at Machine.empty ∙ g .places-size;
+              places = seated-places d memory memory state at c Machine.empty (g .arrays .places-size) (g .places-size) inside (λ k l n. g .places k l) (is-empty free);
+            });
+          };
+    }

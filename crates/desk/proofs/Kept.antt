@@ -1,0 +1,115 @@
+-- The problems in the memory: one that is copied to its place stands there, and those of the other places stay.
+use Prim.Native.Nat.{ℕ, suc, _+_, _*_, _-_, _≤_, _<_}
+use mathlib.Core.Path.{_≡_, refl, sym, ap, subst, _∙_}
+use mathlib.Core.Logic.{_⊎_, ⊎-elim}
+use mathlib.Core.List.{List, [], _∷_, _++_}
+use native.Mathlib.Omega.{arith}
+use native.Mathlib.Nat.{mul-le-mul-left, mul-le-mul-right}
+use lib.ListN.{length, getD, set, take, drop, length-set, List·getD-eq-default}
+use lib.Seq.{ext-getD, getD-take, take-at, getD-append-add, length-take-le, take-length}
+use Rattle.base.proofs.Numbers.{nat-le-or-lt}
+use Rattle.definitions.specs.Limits.{desk-places, desk-memory, problem-most}
+use Rattle.definitions.specs.Bytes.{Bytes, put}
+use Rattle.definitions.specs.ProblemRecord.{problemSize, meant}
+use Rattle.definitions.specs.Desk.{WithinDesk}
+use Rattle.definitions.specs.Questions.{part}
+use Rattle.definitions.proofs.Put.{take-put, length-put, getD-put-after, put-more, put-nil}
+use Rattle.definitions.proofs.Questions.{part-length, part-at}
+use Rattle.definitions.proofs.Refusals.{plain-desk}
+use Rattle.least_span.specs.declared.state.Search.{Search}
+use Rattle.search_steps.specs.declared.steps.Trial.{Trial}
+use Rattle.engine.specs.OneTrial.{TrialFor}
+use Rattle.desk.specs.State.{bytesAt}
+
+-- What a list with values put holds before them, and in them.
+module _ (l : List ℕ) (at : ℕ) (vs : List ℕ) (inside : at + length vs ≤ length l) where
+  put-front-at : (k : ℕ) → k < at + length vs → getD (put l at vs) k 0 ≡ getD (take at l ++ vs) k 0
+  put-front-at k h = sym (getD-take (at + length vs) (put l at vs) k 0 h) ∙ ap (λ (z : List ℕ). getD z k 0) (take-put l at vs (omega arith))
+
+  pub put-before-at : (k : ℕ) → k < at → getD (put l at vs) k 0 ≡ getD l k 0
+  put-before-at k h =
+      let long = length-take-le at l (omega arith) in
+      put-front-at k (omega arith) ∙ sym (getD-take at (take at l ++ vs) k 0 h) ∙ ap (λ (z : List ℕ). getD z k 0) (take-at (take at l) vs at long) ∙ getD-take at l k 0 h
+
+  pub put-in-at : (k : ℕ) → k < length vs → getD (put l at vs) (at + k) 0 ≡ getD vs k 0
+  put-in-at k h =
+      let long = length-take-le at l (omega arith) in
+      let e : at + k ≡ length (take at l) + k = omega arith in
+      put-front-at (at + k) (omega arith) ∙ ap (λ (z : ℕ). getD (take at l ++ vs) z 0) e ∙ getD-append-add (take at l) vs k 0
+
+-- The problem stands at its place.
+pub kept-here : (memory p : List ℕ) (i : ℕ) → desk-memory ≤ length memory → i < desk-places → length p ≤ problem-most
+    → bytesAt (put memory (i * problem-most) p) i (length p) ≡ p
+kept-here memory p i h b s =
+    let room : i * problem-most + length p ≤ length memory = omega arith in
+    let long = part-length (put memory (i * problem-most) p) (i * problem-most) (length p) (omega (arith, length-put memory (i * problem-most) p (omega arith) room)) in
+    ext-getD 0 (bytesAt (put memory (i * problem-most) p) i (length p)) p long
+    (λ k l. part-at (put memory (i * problem-most) p) (i * problem-most) (length p) k (omega arith) ∙ put-in-at memory (i * problem-most) p room k (omega arith))
+
+-- The others stay.
+pub kept-there : (memory p : List ℕ) (i k size : ℕ) → desk-memory ≤ length memory → i < desk-places → k < desk-places → (k ≡ i → ⊥) → length p ≤ problem-most
+    → size ≤ problem-most → bytesAt (put memory (i * problem-most) p) k size ≡ bytesAt memory k size
+kept-there memory p i k size h b c d s t =
+    let room : i * problem-most + length p ≤ length memory = omega arith in
+    let same = length-put memory (i * problem-most) p (omega arith) room in
+    let long = part-length (put memory (i * problem-most) p) (k * problem-most) size (omega arith) in
+    let old = part-length memory (k * problem-most) size (omega arith) in
+    ext-getD 0 (bytesAt (put memory (i * problem-most) p) k size) (bytesAt memory k size) (long ∙ sym old)
+    (λ j l. part-at (put memory (i * problem-most) p) (k * problem-most) size j (omega arith) ∙ each j (omega arith) room ∙ sym (part-at memory (k * problem-most) size j (omega arith)))
+  where
+    each : (j : ℕ) → j < size → i * problem-most + length p ≤ length memory → getD (put memory (i * problem-most) p) (k * problem-most + j) 0 ≡ getD memory (k * problem-most + j) 0
+    each j l room = ⊎-elim
+        (λ (g : suc i ≤ k). getD-put-after memory (i * problem-most) p (omega arith) (k * problem-most + j) (omega arith))
+        (λ (g : k < suc i). put-before-at memory (i * problem-most) p room (k * problem-most + j) (before (omega arith)))
+        (nat-le-or-lt (suc i) k)
+      where
+        before : k < i → k * problem-most + j < i * problem-most
+        before g = omega arith
+
+-- A problem that nothing refuses fits its place.
+pub fits-place : (p : List ℕ) → WithinDesk (meant p) → length p ≤ problem-most
+fits-place [] w = omega arith
+fits-place (b ∷ s) w = let f = plain-desk (b ∷ s) w in size-small (f .size-is) (f .n-most) (f .m-most)
+  where
+    size-small : {n m : ℕ} → length (b ∷ s) ≡ problemSize n m → n ≤ 31 → m ≤ 63 → length (b ∷ s) ≤ problem-most
+    size-small {n} {m} e h g =
+        let wide = mul-le-mul-right {m = suc n} {n = 32} (suc m) (omega arith) in
+        let high = mul-le-mul-left {m = suc m} {n = 64} 32 (omega arith) in
+        omega (arith, wide, high)
+
+-- The bytes of a part are bytes.
+pub part-bytes : (memory : List ℕ) (from size : ℕ) → Bytes memory → from + size ≤ length memory → Bytes (part memory from size)
+part-bytes memory from size b h = record {
+  byte = λ k. ⊎-elim
+      (λ (l : size ≤ k). let z : getD (part memory from size) k 0 ≡ 0 = List·getD-eq-default (part memory from size) 0 (omega (arith, part-length memory from size h)) in omega arith)
+      (λ (l : k < size). rw (part-at memory from size k l) (b .byte (from + k)))
+      (nat-le-or-lt size k);
+}
+
+-- ---- the copy's loop
+
+-- The first j bytes are copied.
+pub record Copied (before : List ℕ) (at : ℕ) (run : List ℕ) (j : ℕ) (after : List ℕ) : Type 0 where
+  pub is : after ≡ put before at (take j run)
+  pub same : length after ≡ length before
+
+pub copied-none : (before : List ℕ) (at : ℕ) (run : List ℕ) → Copied before at run 0 before
+copied-none before at run = record { is = sym (put-nil before at); same = refl }
+
+pub copied-more : {before after run : List ℕ} {at j : ℕ} → at + length run ≤ length before → j < length run → Copied before at run j after
+    → Copied before at run (j + 1) (set after (at + j) (getD run j 0))
+copied-more {before} {after} {run} {at} {j} h l c = record {
+  is = subst (λ (z : List ℕ). set z (at + j) (getD run j 0) ≡ put before at (take (j + 1) run)) (sym (c .is)) (put-more before at run j l (omega arith));
+  same = length-set after (at + j) (getD run j 0) ∙ c .same;
+}
+
+pub copied-all : {before after run : List ℕ} {at j : ℕ} → j ≡ length run → Copied before at run j after → after ≡ put before at run
+copied-all {before} {after} {run} {at} e c = c .is ∙ ap (λ (z : List ℕ). put before at z) (rw e (take-length run))
+
+-- The part of the memory up to its end.
+pub part-end : (memory : List ℕ) (from size : ℕ) → take (from + size - from) (drop from memory) ≡ part memory from size
+part-end memory from size = let e : from + size - from ≡ size = omega arith in rw e refl
+
+pub trial-part : (memory : List ℕ) (from size : ℕ) {search : Search} {r : Trial} → TrialFor (meant (take (from + size - from) (drop from memory))) search r
+    → TrialFor (meant (part memory from size)) search r
+trial-part memory from size {search} {r} t = subst (λ (z : List ℕ). TrialFor (meant z) search r) (part-end memory from size) t

@@ -1,0 +1,9 @@
+pub mod Line
+pub mod Runs
+pub mod Ring
+pub mod Kept
+pub mod Looking
+pub mod Holding
+pub mod Taking
+pub mod Steps
+pub mod Collecting

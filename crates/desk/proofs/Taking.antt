@@ -1,0 +1,184 @@
+-- Opening and taking in, as the machine's transitions.
+use Prim.Native.Nat.{ℕ, zero, suc, _+_, _*_, _-_, _%_, _≤_, _<_}
+use mathlib.Core.Path.{_≡_, refl, sym, ap, subst, _∙_}
+use mathlib.Core.Bool.{Bool, true, false, cond}
+use mathlib.Core.Logic.{_⊎_, ⊎-elim}
+use mathlib.Core.List.{List, [], _∷_, _++_}
+use native.Mathlib.Omega.{arith}
+use native.Mathlib.Numerals.{add-one}
+use lib.Dec.{leb, ltb}
+use lib.ListN.{length, getD, set, replicate, length-set, length-replicate, getD-replicate, length-append}
+use borrow.Author.Tests.{lt-ltb, le-ltb, le-leb, lt-leb}
+use Rattle.definitions.specs.Limits.{desk-places, desk-memory, problem-most, last-ticket, refused-memory, refused-full}
+use Rattle.definitions.specs.Bytes.{first, or-else, put}
+use Rattle.definitions.specs.ProblemRecord.{meant, nField, mField}
+use Rattle.definitions.specs.Desk as Machine
+use Rattle.definitions.specs.Desk.{memoryRefused, fullRefused, deskRefusal, WithinDesk, placeAt, held, FirstEmpty, FromOpening, takeRefusal, TakesIn, taken}
+use Rattle.definitions.proofs.Put.{length-put}
+use Rattle.least_span.specs.declared.state.Search.{Search}
+use Rattle.engine.specs.declared.one_trial.Begun.{Begun}
+use Rattle.engine.specs.OneTrial.{PursuedFor, BegunFor}
+use Rattle.desk.specs.declared.state.Place.{Place}
+use Rattle.desk.specs.declared.state.Desk.{Desk}
+use Rattle.desk.specs.declared.calls.TakenIn.{TakenIn}
+use Rattle.desk.specs.declared.calls.TakenIn.the-variants as Takings
+use Rattle.desk.specs.State.{Arrays, noPlace, placeIn, FirstFree, Entered, Room, ring, bytesAt, Seated, PlaceIs, is-empty, is-waiting, Holds}
+use Rattle.desk.specs.Calls.{Left, takenOf, OpenedBy, NextTaken, TookIn}
+use Rattle.desk.proofs.Runs.{Sound, from-opening-sound, sound-taken, line-few}
+use Rattle.desk.proofs.Ring.{ring-length, ring-join}
+use Rattle.desk.proofs.Kept.{kept-here, kept-there, fits-place}
+use Rattle.desk.proofs.Holding.{place-empty, seated-places, first-empty, held-sixteen, held-fewer, size-known}
+
+-- ---- 23
+
+pub memory-enough : (memory : ℕ) → desk-memory ≤ memory → first (memoryRefused memory ∷ []) ≡ 0
+memory-enough memory h = ap (λ (b : Bool). cond b refused-memory 0) (le-ltb memory desk-memory h)
+
+-- ---- opening
+
+pub opened-holds : (memory : List ℕ) (c : Place) → c .ticket ≡ 0
+    → Holds (record { given = 0; head = 0; waiting = 0; line = replicate 16 0; places = replicate 16 c }) memory Machine.opened
+unfolding ring
+opened-holds memory c e = record {
+  arrays = record { line-size = length-replicate {A = ℕ} 16 0; places-size = length-replicate {A = Place} 16 c; head-inside = omega arith; few = omega arith };
+  given-is = refl;
+  line-is = refl;
+  places-size = length-replicate {A = Machine.Place} desk-places Machine.empty;
+  places = λ i h. rw (getD-replicate {A = Place} 16 i c noPlace h, getD-replicate {A = Machine.Place} desk-places i Machine.empty Machine.empty h) (is-empty e);
+}
+
+pub opened-ready : {memory : List ℕ} (c : Place) → c .ticket ≡ 0 → desk-memory ≤ length memory
+    → OpenedBy memory 0 (record { given = 0; head = 0; waiting = 0; line = replicate 16 0; places = replicate 16 c })
+opened-ready {memory} c e h = record { short = λ l. absurd (omega arith); ready = λ _. (refl, opened-holds memory c e) }
+
+pub opened-short : {memory : List ℕ} {d : Desk} → length memory < desk-memory → OpenedBy memory refused-memory d
+opened-short h = record { short = λ _. refl; ready = λ l. absurd (omega arith) }
+
+-- ---- refusals of taking in
+
+pub took-short : (d : Desk) (memory p : List ℕ) → length memory < desk-memory → TookIn d memory p (Takings.Refused refused-memory) d memory
+took-short d memory p h = record { same-length = refl; still = λ e. (refl, refl); short = λ _. (refl, refl, refl); moves = λ l. absurd (omega arith) }
+
+-- A refusal changes nothing.
+took-nothing : (d : Desk) (memory p : List ℕ) (k : ℕ) → desk-memory ≤ length memory
+    → ((state : Machine.Desk) → FromOpening (length memory) state → Holds d memory state → takeRefusal (length memory) state p ≡ suc k) → TookIn d memory p (Takings.Refused (suc k)) d memory
+unfolding takenOf
+took-nothing d memory p k h refusal = record {
+  same-length = refl;
+  still = λ e. (refl, refl);
+  short = λ l. absurd (omega arith);
+  moves = λ _ state f g. record { next = state; takes = TakesIn.turned-away (refusal state f g); holds = g };
+}
+
+-- The problem's refusals come first,
+pub took-refused : {d : Desk} {memory p : List ℕ} {b : Begun} → desk-memory ≤ length memory → BegunFor (meant p) b → (b .refused ≡ 0 → ⊥)
+    → TookIn d memory p (Takings.Refused (b .refused)) d memory
+unfolding takeRefusal
+took-refused {d} {memory} {p} {b} h g n = go (b .refused) refl
+  where
+    go : (k : ℕ) → b .refused ≡ k → TookIn d memory p (Takings.Refused k) d memory
+    go zero e = absurd (n e)
+    go (suc k) e = took-nothing d memory p k h (λ state f holds. rw (memory-enough (length memory) h, sym (g .refused-is) ∙ e) refl)
+
+-- then 21: all places are held,
+pub took-full : {d : Desk} {memory p : List ℕ} {at : ℕ} → desk-memory ≤ length memory → WithinDesk (meant p) → FirstFree d at → at ≡ desk-places
+    → TookIn d memory p (Takings.Refused refused-full) d memory
+unfolding takeRefusal
+took-full {d} {memory} {p} {at} h w f e = took-nothing d memory p 20 h (λ state o g.
+    let all = held-sixteen g (subst (FirstFree d) e f) in
+    rw (memory-enough (length memory) h, w, le-leb desk-places (held (state .places)) (omega arith)) refl)
+
+-- or the tickets are used up.
+pub took-last : {d : Desk} {memory p : List ℕ} {at : ℕ} → desk-memory ≤ length memory → WithinDesk (meant p) → FirstFree d at → (at ≡ desk-places → ⊥) → d .given ≡ last-ticket
+    → TookIn d memory p (Takings.Refused refused-full) d memory
+unfolding takeRefusal
+took-last {d} {memory} {p} {at} h w f n e = took-nothing d memory p 20 h (λ state o g.
+    let some = held-fewer g f (omega (arith, f .most)) in
+    rw (memory-enough (length memory) h, w, lt-leb desk-places (held (state .places)) some, le-leb last-ticket (state .given) (omega (arith, g .given-is))) refl)
+
+-- ---- one taken in
+
+-- Nothing refuses it.
+not-refused : (d : Desk) (memory p : List ℕ) (at : ℕ) (state : Machine.Desk) → desk-memory ≤ length memory → WithinDesk (meant p) → FirstFree d at → at < desk-places → d .given < last-ticket
+    → Holds d memory state → takeRefusal (length memory) state p ≡ 0
+unfolding takeRefusal
+not-refused d memory p at state h w f b l g =
+    let some = held-fewer g f b in
+    rw (memory-enough (length memory) h, w, lt-leb desk-places (held (state .places)) some, lt-leb last-ticket (state .given) (omega (arith, g .given-is))) refl
+
+-- There is room for it: the line is shorter than 16.
+pub room-for : {d : Desk} {memory p : List ℕ} {at : ℕ} → desk-memory ≤ length memory → WithinDesk (meant p) → FirstFree d at → (at ≡ desk-places → ⊥) → (d .given ≡ last-ticket → ⊥)
+    → d .given ≤ last-ticket → Left d memory → Room d at p memory
+room-for {d} {memory} {p} {at} h w f n l most left =
+    let g = left .holds in
+    let state = left .state in
+    let inside : at < desk-places = omega (arith, f .most) in
+    let below : d .given < last-ticket = omega arith in
+    let s = sound-taken (from-opening-sound (left .from-opening)) (taken (not-refused d memory p at state h w f inside below g) (first-empty g f inside)) in
+    let few = line-few s in
+    let long : length (state .line) ≡ d .waiting = ap (λ (z : List ℕ). length z) (sym (g .line-is)) ∙ ring-length (d .line) (d .head) (d .waiting) in
+    record { arrays = g .arrays; inside = inside; few = omega (arith, length-append (state .line) (at ∷ [])); ticket-left = below; short = fits-place p w; memory-enough = h }
+
+-- It is taken in.
+pub took-in : {d r : Desk} {memory memory′ p : List ℕ} {at : ℕ} {b : Begun} {given : ℕ} → desk-memory ≤ length memory → BegunFor (meant p) b → b .refused ≡ 0 → FirstFree d at
+    → Room d at p memory → Entered d at p b r → memory′ ≡ put memory (at * problem-most) p → given ≡ d .given + 1 → TookIn d memory p (Takings.Ticket given) r memory′
+unfolding takenOf
+took-in {d} {r} {memory} {memory′} {p} {at} {b} {given} h g z f room e m t = record {
+  same-length = rw m (length-put memory (at * problem-most) p (omega arith) (omega (arith, room .short, room .inside)));
+  still = λ e. absurd (let z : _≡_ {A = ℕ} 0 1 = cc in omega arith);
+  short = λ l. absurd (omega arith);
+  moves = λ _ state o holds. record { next = next state; takes = rw t (takes state holds); holds = rw (e .desk-is, m) (held-after state holds) };
+}
+  where
+    c : Place
+    c = e .place
+
+    within : WithinDesk (meant p)
+    within = sym (g .refused-is) ∙ z
+
+    next : Machine.Desk → Machine.Desk
+    next state = record { given = suc (state .given); line = state .line ++ (at ∷ []); places = set (state .places) at (Machine.waits (suc (state .given)) (meant p) 0) }
+
+    takes : (state : Machine.Desk) → Holds d memory state → TakesIn (length memory) state p (Machine.ticket (d .given + 1)) (next state)
+    takes state holds =
+        let same : d .given + 1 ≡ suc (state .given) = omega (arith, holds .given-is) in
+        rw same (taken (not-refused d memory p at state h within f (room .inside) (room .ticket-left) holds) (first-empty holds f (room .inside)))
+
+    there : bytesAt (put memory (at * problem-most) p) at (c .size) ≡ p
+    there = rw (e .new .size-is) (kept-here memory p at h (room .inside) (room .short))
+
+    new : (state : Machine.Desk) → Holds d memory state → PlaceIs (bytesAt (put memory (at * problem-most) p) at (c .size)) c (Machine.waits (suc (state .given)) (meant p) 0)
+    new state holds =
+        let ticket : c .ticket ≡ suc (state .given) = omega (arith, e .new .ticket-is, holds .given-is) in
+        let none : c .search .made ≡ 0 = ap (λ (s : Search). s .made) (e .new .search-is) ∙ g .none-made z in
+        let w : PlaceIs p c (Machine.waits (c .ticket) (meant p) (c .search .made)) =
+        is-waiting
+        (record { some = omega arith; size-most = omega (arith, e .new .size-is, room .short); n-is = e .new .n-is ∙ g .n-is z; m-is = e .new .m-is ∙ g .m-is z })
+        (e .new .still-open) (subst (PursuedFor (meant p)) (sym (e .new .search-is)) (g .pursued z)) in
+        rw there (rw (← ticket, ← none) w)
+
+    others : (state : Machine.Desk) → Holds d memory state → (k : ℕ) → k < desk-places → (k ≡ at → ⊥)
+        → PlaceIs (bytesAt (put memory (at * problem-most) p) k (placeIn d k .size)) (placeIn d k) (placeAt state k)
+    others state holds k l n = ⊎-elim
+        (λ (free : placeIn d k .ticket ≡ 0). rw (place-empty (holds .places k l) free) (is-empty free))
+        (λ (size : placeIn d k .size ≤ problem-most). rw (kept-there memory p at k (placeIn d k .size) h (room .inside) l n (room .short) size) (holds .places k l))
+        (size-known (holds .places k l))
+
+    held-after : (state : Machine.Desk) → Holds d memory state
+        → Holds (record { given = d .given + 1; head = d .head; waiting = d .waiting + 1; line = set (d .line) ((d .head + d .waiting) % desk-places) at; places = set (d .places) at c }) (put memory (at * problem-most) p) (next state)
+    held-after state holds = record {
+      arrays = record {
+        line-size = length-set (d .line) ((d .head + d .waiting) % desk-places) at ∙ holds .arrays .line-size;
+        places-size = length-set (d .places) at c ∙ holds .arrays .places-size;
+        head-inside = holds .arrays .head-inside;
+        few = omega (arith, room .few);
+      };
+      given-is = omega (arith, holds .given-is);
+      line-is = ring-join (d .line) (d .head) (d .waiting) at (holds .arrays .line-size) (room .few) ∙ ap (λ (l : List ℕ). l ++ (at ∷ [])) (holds .line-is);
+      places-size = length-set (state .places) at (Machine.waits (suc (state .given)) (meant p) 0) ∙ holds .places-size;
+      places = seated-places d memory (put memory (at * problem-most) p) state at c _ (holds .arrays .places-size) (holds .places-size) (room .inside) (others state holds) (new state holds);
+    }
+
+-- Its ticket.
+pub entered-given : {d r : Desk} {at : ℕ} {p : List ℕ} {b : Begun} → Entered d at p b r → r .given ≡ d .given + 1
+entered-given e = ap (λ (z : Desk). z .given) (e .desk-is)

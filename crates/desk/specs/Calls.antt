@@ -1,0 +1,89 @@
+-- What the desk's calls leave, in the words of the machine. Document 02, 2.11.
+use Prim.Native.Nat.{ℕ, _≤_, _<_}
+use mathlib.Core.Path.{_≡_}
+use mathlib.Core.List.{List}
+use lib.ListN.{length}
+use Rattle.definitions.specs.Limits.{desk-memory, refused-memory}
+use Rattle.definitions.specs.Offset.{tropOf}
+use Rattle.definitions.specs.Desk as Machine
+use Rattle.definitions.specs.Desk.{FromOpening, Opens, TakesIn, Steps, Collects}
+use Rattle.desk.specs.declared.state.Desk.{Desk}
+use Rattle.desk.specs.declared.calls.TakenIn.{TakenIn}
+use Rattle.desk.specs.declared.calls.TakenIn.the-variants as Takings
+use Rattle.desk.specs.declared.calls.Stepped.{Stepped}
+use Rattle.desk.specs.declared.calls.Stepped.the-variants as Steppings
+use Rattle.desk.specs.declared.calls.Collected.{Collected}
+use Rattle.desk.specs.declared.calls.Collected.the-variants as Collections
+use Rattle.desk.specs.State.{Holds}
+
+-- ---- the premise
+
+-- "Each call gets memory and state as the call before left them": some sequence of calls from an opening on left them so. Where the memory
+-- is too short nothing is asked, and 23 is given.
+pub record Left (d : Desk) (memory : List ℕ) : Type 0 where
+  pub state : Machine.Desk
+  pub from-opening : FromOpening (length memory) state
+  pub holds : Holds d memory state
+
+abbrev pub AsLeft : Desk → List ℕ → Type 0
+AsLeft d memory = desk-memory ≤ length memory → Left d memory
+
+-- ---- the answers of the calls
+
+unfoldable pub takenOf : TakenIn → Machine.TakenIn
+takenOf (Takings.Refused k) = Machine.TakenIn.refused k
+takenOf (Takings.Ticket k) = Machine.ticket k
+
+unfoldable pub steppedOf : Stepped → Machine.Stepped
+steppedOf (Steppings.Refused k) = Machine.Stepped.refused k
+steppedOf Steppings.NoneWaits = Machine.none-waits
+steppedOf (Steppings.GoesOn k) = Machine.goes-on k
+steppedOf (Steppings.Done k) = Machine.done k
+
+unfoldable pub collectedOf : Collected → Machine.Collected
+collectedOf (Collections.Refused k) = Machine.Collected.refused k
+collectedOf Collections.StillWaits = Machine.still-waits
+collectedOf (Collections.Handed class span own size) = Machine.collected class (tropOf span) own size
+
+-- ---- what they leave
+
+-- An opening: 23, or a desk with nothing on it, whatever the memory holds.
+pub record OpenedBy (memory : List ℕ) (refused : ℕ) (d : Desk) : Type 0 where
+  pub short : length memory < desk-memory → refused ≡ refused-memory
+  pub ready : desk-memory ≤ length memory → (refused ≡ 0) × Holds d memory Machine.opened
+
+-- The machine's next state, held.
+pub record NextTaken (d : Desk) (memory p : List ℕ) (r : TakenIn) (d′ : Desk) (memory′ : List ℕ) (state : Machine.Desk) : Type 0 where
+  pub next : Machine.Desk
+  pub takes : TakesIn (length memory) state p (takenOf r) next
+  pub holds : Holds d′ memory′ next
+
+-- Taking in: 23 where the memory is too short, else the machine's transition; a refusal leaves memory and state as they were.
+pub record TookIn (d : Desk) (memory p : List ℕ) (r : TakenIn) (d′ : Desk) (memory′ : List ℕ) : Type 0 where
+  pub same-length : length memory′ ≡ length memory
+  pub still : {k : ℕ} → r ≡ Takings.Refused k → (d′ ≡ d) × (memory′ ≡ memory)
+  pub short : length memory < desk-memory → (r ≡ Takings.Refused refused-memory) × (d′ ≡ d) × (memory′ ≡ memory)
+  pub moves : desk-memory ≤ length memory → (state : Machine.Desk) → FromOpening (length memory) state → Holds d memory state
+      → NextTaken d memory p r d′ memory′ state
+
+pub record NextStep (d : Desk) (memory : List ℕ) (r : Stepped) (d′ : Desk) (state : Machine.Desk) : Type 0 where
+  pub next : Machine.Desk
+  pub steps : Steps (length memory) state (steppedOf r) next
+  pub holds : Holds d′ memory next
+
+-- A step.
+pub record DidStep (d : Desk) (memory : List ℕ) (r : Stepped) (d′ : Desk) : Type 0 where
+  pub short : length memory < desk-memory → (r ≡ Steppings.Refused refused-memory) × (d′ ≡ d)
+  pub moves : desk-memory ≤ length memory → (state : Machine.Desk) → FromOpening (length memory) state → Holds d memory state → NextStep d memory r d′ state
+
+pub record NextCollected (d : Desk) (memory : List ℕ) (ticket : ℕ) (buffer : List ℕ) (r : Collected) (d′ : Desk) (buffer′ : List ℕ) (state : Machine.Desk) : Type 0 where
+  pub next : Machine.Desk
+  pub collects : Collects (length memory) state ticket buffer (collectedOf r) next buffer′
+  pub holds : Holds d′ memory next
+
+-- Collecting.
+pub record DidCollect (d : Desk) (memory : List ℕ) (ticket : ℕ) (buffer : List ℕ) (r : Collected) (d′ : Desk) (buffer′ : List ℕ) : Type 0 where
+  pub same-length : length buffer′ ≡ length buffer
+  pub short : length memory < desk-memory → (r ≡ Collections.Refused refused-memory) × (d′ ≡ d) × (buffer′ ≡ buffer)
+  pub moves : desk-memory ≤ length memory → (state : Machine.Desk) → FromOpening (length memory) state → Holds d memory state
+      → NextCollected d memory ticket buffer r d′ buffer′ state
