@@ -33,8 +33,17 @@ use records::problem::problem_refusal;
 // record's length; to several, all answered with their count, the sum of the trials and the length of all records.
 pub enum Solved {
     Refused(usize),
-    Answered(u64, u64, u64, usize),
-    AllAnswered(usize, u64, usize),
+    Answered {
+        class: u64,
+        span: u64,
+        trials: u64,
+        size: usize,
+    },
+    AllAnswered {
+        count: usize,
+        trials: u64,
+        size: usize,
+    },
 }
 
 // One question's answer, written: its class, the span's offset number, its trials and the record's length.
@@ -110,7 +119,11 @@ fn solve_questions(
         at += one.size;
         trials += one.trials;
     }
-    Solved::AllAnswered(layout.questions, trials, at)
+    Solved::AllAnswered {
+        count: layout.questions,
+        trials,
+        size: at,
+    }
 }
 
 // The room that the answers to so many questions ask for, whichever classes are due.
@@ -139,5 +152,10 @@ pub fn solve(problem: &[u8], answer: &mut [u8]) -> Solved
         return solve_questions(problem, layout, &mut left, &mut right, answer);
     }
     let one = solve_one(&left, &mut right, layout.n, layout.m, answer);
-    Solved::Answered(one.class, one.span, one.trials, one.size)
+    Solved::Answered {
+        class: one.class,
+        span: one.span,
+        trials: one.trials,
+        size: one.size,
+    }
 }

@@ -30,7 +30,7 @@ use records::problem::problem_refusal;
 pub enum Told {
     Refused(usize),
     None(usize),
-    Least(usize, usize),
+    Least { rules: usize, turns: usize },
 }
 
 // What is told, the numbers of the rules, and the moments of the round in turn; the counts say how many of each are told.
@@ -55,7 +55,7 @@ pub fn refusal_of(verdict: Verdict) -> usize
     ensures { λ r. ⌜ r ≡ refusedBy verdict ⌝ }
 {
     match verdict {
-        Verdict::Accepted(_, _) => 0,
+        Verdict::Accepted { class: _, span: _ } => 0,
         Verdict::Refused(k) => k,
     }
 }
@@ -82,7 +82,10 @@ fn tell(
         return Grounds { told, rules, round };
     }
     let binding = binding_round(right, stamps, picks, n, m, head.start);
-    let told = Told::Least(behind.count, binding.count);
+    let told = Told::Least {
+        rules: behind.count,
+        turns: binding.count,
+    };
     let round = binding.moments;
     Grounds { told, rules, round }
 }
@@ -123,7 +126,7 @@ pub fn reasons(problem: &[u8], answer: &[u8]) -> Grounds
     ensures { λ r. ⌜ Reasoned (meant (now (problem .entry))) (now (answer .entry)) (reasonsOf r) × countsFit (r .told) ⌝ }
 {
     let verdict = check(problem, answer);
-    let Verdict::Accepted(class, _) = verdict else {
+    let Verdict::Accepted { class, span: _ } = verdict else {
         return refused(refusal_of(verdict));
     };
     accepted_reasons(problem, answer, class)

@@ -68,7 +68,10 @@ pub fn put_lines(lines: &mut [u8], reasons: Grounds) -> usize
     match told {
         Told::Refused(number) => write_verdict(lines, number, 0, 0),
         Told::None(count) => put_rules(lines, &rules, count),
-        Told::Least(count, turns) => {
+        Told::Least {
+            rules: count,
+            turns,
+        } => {
             let next = put_rules(lines, &rules, count);
             put_round(lines, next, &round, turns)
         }

@@ -43,8 +43,17 @@ fn put_out(out: &mut [u8], buffer: &[u8], solved: Solved) -> usize
 {
     match solved {
         Solved::Refused(number) => write_refused(out, number),
-        Solved::Answered(_, _, _, size) => put_records(out, buffer, size),
-        Solved::AllAnswered(_, _, size) => put_records(out, buffer, size),
+        Solved::Answered {
+            class: _,
+            span: _,
+            trials: _,
+            size,
+        } => put_records(out, buffer, size),
+        Solved::AllAnswered {
+            count: _,
+            trials: _,
+            size: all,
+        } => put_records(out, buffer, all),
     }
 }
 
