@@ -12,7 +12,7 @@ use Rattle.definitions.specs.AnswerRecord.{Answer, stampCount, pickCount, answe
 use Rattle.definitions.specs.Solved as Results
 use Rattle.definitions.specs.Solved.{Answers, AnswersInTurn, engineRefusal}
 use Rattle.records.specs.declared.problem.Layout.{Layout}
-use Rattle.records.specs.Decoded.{InTables}
+use Rattle.records.specs.Decoded.{InTables, Rewritten}
 use Rattle.problem_records.specs.Tables.{leftTable, rightTable}
 use Rattle.engine.specs.declared.solve.Solved.{Solved}
 use Rattle.engine.specs.declared.solve.Solved.the-variants.{Refused, Answered, AllAnswered}

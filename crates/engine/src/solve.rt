@@ -57,7 +57,8 @@ struct One {
 // Writes the answer's record at the start of a buffer, and gives its length. Public for `desk`.
 pub fn write_found(found: Answer, n: usize, m: usize, answer: &mut [u8]) -> usize
     requires { ⌜ FoundFor n m (length (now answer)) (found .class) (found .span) (found .start) (found .stamps) (found .picks) ⌝ }
-    ensures { λ r. ⌜ (r ≡ answerSize (found .class) n m) × (now (answer .exit) ≡ written (now (answer .entry)) (answerBytes n (answerIn n m (found .class) (found .span) (found .start) (found .stamps) (found .picks)))) ⌝ }
+    ensures size_is { λ r. ⌜ r ≡ answerSize (found .class) n m ⌝ }
+    ensures record_stands { λ r. ⌜ now (answer .exit) ≡ written (now (answer .entry)) (answerBytes n (answerIn n m (found .class) (found .span) (found .start) (found .stamps) (found .picks))) ⌝ }
 {
     let head = Head {
         class: found.class,
@@ -85,7 +86,8 @@ fn solve_one(
     answer: &mut [u8],
 ) -> One
     requires { ⌜ Posed n m (now left) (now right) × (answer-most ≤ length (now answer)) ⌝ }
-    ensures { λ r. ⌜ ((p : Problem) → InTables p n m (now (left .entry)) (now (right .entry)) → OneWrote p n m (r .class) (r .span) (r .trials) (r .size) (now (answer .entry)) (now (answer .exit))) × Rewritten m (now (right .entry)) (now (right .exit)) ⌝ }
+    ensures wrote { λ r. ⌜ ((p : Problem) → InTables p n m (now (left .entry)) (now (right .entry)) → OneWrote p n m (r .class) (r .span) (r .trials) (r .size) (now (answer .entry)) (now (answer .exit))) ⌝ }
+    ensures others_stay { λ r. ⌜ Rewritten m (now (right .entry)) (now (right .exit)) ⌝ }
 {
     let found = solve_tables(left, right, n, m);
     let class = found.class;
