@@ -11,7 +11,7 @@ use lib.Dec.{leb}
 use lib.ListN.{length}
 use borrow.Author.Tests.{le-leb}
 use Rattle.base.proofs.Numbers.{nat-le-or-lt}
-use Rattle.definitions.specs.Limits.{desk-places, desk-steps, last-ticket}
+use Rattle.definitions.specs.Limits.{desk-places, desk-steps, last-ticket, refused-full}
 use Rattle.definitions.specs.Tropical.{Trop}
 use Rattle.definitions.specs.ProblemRecord.{problemOf, meant}
 use Rattle.definitions.specs.AnswerRecord.{Answer}
@@ -24,14 +24,14 @@ use Rattle.desk.proofs.Runs.{Sound, desk-few, empty-not-waits, empty-no
 
 -- ---- one sequence after another
 
-run-after : {memory j k : ℕ} {d e f : Desk} → Run memory d j e → Run memory e k f → Run memory d (k + j) f
-run-after earlier nothing = earlier
-run-after earlier (take-in run t) = take-in (run-after earlier run) t
-run-after earlier (one-step run t) = one-step (run-after earlier run) t
-run-after earlier (collect run t) = collect (run-after earlier run) t
+pub from-run : {memory k : ℕ} {d e : Desk} → FromOpening memory d → Run memory d k e → FromOpening memory e
+from-run o nothing = o
+from-run o (take-in run t) = let g = from-run o run in record { steps = g .steps; run = take-in (g .run) t }
+from-run o (one-step run t) = let g = from-run o run in record { steps = suc (g .steps); run = one-step (g .run) t }
+from-run o (collect run t) = let g = from-run o run in record { steps = g .steps; run = collect (g .run) t }
 
 pub run-on : {memory k number : ℕ} {d e f : Desk} {p : List ℕ} → FromOpening memory d → TakesIn memory d p (Desks.ticket number) e → Run memory e k f → FromOpening memory f
-run-on {k = k} o t run = record { steps = k + o .steps; run = run-after (take-in (o .run) t) run }
+run-on o t run = from-run (record { steps = o .steps; run = take-in (o .run) t }) run
 
 -- ---- a ticket waits until a step reports it
 
@@ -42,7 +42,7 @@ pub record StillWaits (d : Desk) (number : ℕ) : Type 0 where
   pub own : ℕ
   pub there : Stands d place (waits number problem own)
 
-module _ {memory number : ℕ} {d : Desk} (w : StillWaits d number) where
+module _ {number : ℕ} {d : Desk} (w : StillWaits d number) where
   -- It stays where another place changes.
   waits-there : (given : ℕ) (line : List ℕ) (i : ℕ) (p : Place) → (w .place ≡ i → ⊥) → StillWaits (moved d given line i p) number
   waits-there given line i p n = record { place = w .place; problem = w .problem; own = w .own; there = record { is = elsewhere d given line i p (w .place) n ∙ w .there .is } }
@@ -50,11 +50,11 @@ module _ {memory number : ℕ} {d : Desk} (w : StillWaits d number) where
   at-place : {i : ℕ} → w .place ≡ i → placeAt d i ≡ waits number (w .problem) (w .own)
   at-place e = ap (λ (z : ℕ). placeAt d z) (sym e) ∙ w .there .is
 
-  waits-taken : {e : Desk} {p : List ℕ} {r : TakenIn} → TakesIn memory d p r e → StillWaits e number
+  waits-taken : {memory : ℕ} {e : Desk} {p : List ℕ} {r : TakenIn} → TakesIn memory d p r e → StillWaits e number
   waits-taken (Desks.TakesIn.turned-away h) = w
   waits-taken {p = p} (taken {i = i} h f) = waits-there (suc (d .given)) (d .line ++ (i ∷ [])) i (waits (suc (d .given)) (meant p) 0) (λ e. empty-not-waits (sym (f .is-empty) ∙ at-place e))
 
-  waits-stepped : {e : Desk} {r : Stepped} → Sound d → Steps memory d r e → StillWaits e number ⊎ (r ≡ Desks.done number)
+  waits-stepped : {memory : ℕ} {e : Desk} {r : Stepped} → Sound d → Steps memory d r e → StillWaits e number ⊎ (r ≡ Desks.done number)
   waits-stepped s (Desks.Steps.turned-away h) = inl w
   waits-stepped s (Desks.Steps.idle h none) = inl w
   waits-stepped s (one-more {i = i} {number = n} {own = own} {problem = problem} {rest = rest} h head st found more) = inl (at (ℕ-discrete (w .place) i))
@@ -76,7 +76,7 @@ module _ {memory number : ℕ} {d : Desk} (w : StillWaits d number) where
       at (yes e) = let mine : n ≡ number = same-number (sym (st .is) ∙ at-place e) in inr (ap (λ (z : ℕ). Desks.done z) mine)
       at (no k) = inl (waits-there (d .given) rest i (answered n problem class span trials a) k)
 
-  waits-collected : {e : Desk} {t : ℕ} {before after : List ℕ} {r : Collected} → Collects memory d t before r e after → StillWaits e number
+  waits-collected : {memory t : ℕ} {e : Desk} {before after : List ℕ} {r : Collected} → Collects memory d t before r e after → StillWaits e number
   waits-collected (Desks.Collects.turned-away h) = w
   waits-collected (Desks.Collects.no-such-ticket h n) = w
   waits-collected (Desks.Collects.waits-yet h st) = w
@@ -124,7 +124,7 @@ record Tied (d : Desk) (number : ℕ) (problem : List ℕ) : Type 0 where
   some : 0 < number
   given : number ≤ d .given
 
-module _ {memory number : ℕ} {q : List ℕ} {d : Desk} (s : Sound d) (t : Tied d number q) where
+module _ {number : ℕ} {q : List ℕ} {d : Desk} (s : Sound d) (t : Tied d number q) where
   tied-moved : (given : ℕ) (line : List ℕ) (i : ℕ) (p : Place) → i < desk-places → d .given ≤ given → TiedPlace number q p → Tied (moved d given line i p) number q
   tied-moved given line i p inside more new = record { places = λ k. at k (ℕ-discrete k i); some = t .some; given = let g = t .given in omega arith }
     where
@@ -136,13 +136,13 @@ module _ {memory number : ℕ} {q : List ℕ} {d : Desk} (s : Sound d) (t : Tied
   tied-at : {i : ℕ} {p : Place} → Stands d i p → TiedPlace number q p
   tied-at {i} st = subst (TiedPlace number q) (st .is) (t .places i)
 
-  tied-taken : {e : Desk} {p : List ℕ} {r : TakenIn} → TakesIn memory d p r e → Tied e number q
+  tied-taken : {memory : ℕ} {e : Desk} {p : List ℕ} {r : TakenIn} → TakesIn memory d p r e → Tied e number q
   unfolding ticketOf
   tied-taken (Desks.TakesIn.turned-away h) = t
   tied-taken {p = p} (taken {i = i} h f) =
       tied-moved (suc (d .given)) (d .line ++ (i ∷ [])) i (waits (suc (d .given)) (meant p) 0) (f .inside) (omega arith) (record { tie = λ e. absurd (let g = t .given in omega arith) })
 
-  tied-stepped : {e : Desk} {r : Stepped} → Steps memory d r e → Tied e number q
+  tied-stepped : {memory : ℕ} {e : Desk} {r : Stepped} → Steps memory d r e → Tied e number q
   unfolding ticketOf problemHeld
   tied-stepped (Desks.Steps.turned-away h) = t
   tied-stepped (Desks.Steps.idle h none) = t
@@ -153,7 +153,7 @@ module _ {memory number : ℕ} {q : List ℕ} {d : Desk} (s : Sound d) (t : Tied
       let inside : i < desk-places = waiting-inside (s .sixteen) (record { number = n; problem = problem; own = own; there = st }) in
       tied-moved (d .given) rest i (answered n problem class span trials a) inside (omega arith) (record { tie = tied-at st .tie })
 
-  tied-collected : {e : Desk} {n : ℕ} {before after : List ℕ} {r : Collected} → Collects memory d n before r e after → Tied e number q
+  tied-collected : {memory n : ℕ} {e : Desk} {before after : List ℕ} {r : Collected} → Collects memory d n before r e after → Tied e number q
   unfolding ticketOf
   tied-collected (Desks.Collects.turned-away h) = t
   tied-collected (Desks.Collects.no-such-ticket h n) = t
@@ -221,7 +221,7 @@ tickets-later : {memory : ℕ} {d e f g : Desk} {p q : List ℕ} {number later k
 tickets-later (taken h f) run (taken i g) = omega (arith, given-rises run)
 
 -- Where 21 is not given, a ticket is left.
-not-used-up : (a b : Bool) → cond a 21 (cond b 21 0) ≡ 0 → b ≡ true → ⊥
+not-used-up : (a b : Bool) → cond a refused-full (cond b refused-full 0) ≡ 0 → b ≡ true → ⊥
 not-used-up true b e f = omega arith
 not-used-up false true e f = omega arith
 not-used-up false false e f = let z : _≡_ {A = ℕ} 0 1 = ap (λ (b : Bool). cond b 1 0) f in omega arith
