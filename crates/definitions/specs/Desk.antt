@@ -234,10 +234,48 @@ pub record DeskHolds : Type 0 where
   pub steps-give-none : {memory : ℕ} {d e : Desk} {r : Stepped} → Steps memory d r e → e .given ≡ d .given
   pub collecting-gives-none :
       {memory number : ℕ} {d e : Desk} {before after : List ℕ} {r : Collected} → Collects memory d number before r e after → e .given ≡ d .given
+  -- no two places hold the same ticket, and one that was collected is held no more, so that it gets 22;
+  pub tickets-apart :
+      {memory : ℕ} {d : Desk} → FromOpening memory d → (i k : ℕ) → (placeAt d i ≡ empty → ⊥) → (placeAt d k ≡ empty → ⊥)
+      → ticketOf (placeAt d i) ≡ ticketOf (placeAt d k) → i ≡ k
+  pub collected-once :
+      {memory number class own size : ℕ} {span : Trop} {d e : Desk} {before after : List ℕ} → FromOpening memory d
+      → Collects memory d number before (collected class span own size) e after → NotHeld e number
   -- they "never come twice before the next" opening.
   pub tickets-rise :
       {memory : ℕ} {d e f g : Desk} {p q : List ℕ} {number later k : ℕ} → TakesIn memory d p (ticket number) e → Run memory e k f
       → TakesIn memory f q (ticket later) g → number < later
+
+-- ---- no call is stuck
+
+-- Some answer of a call, and what it leaves.
+pub record SomeOpening (memory : ℕ) : Type 0 where
+  pub result : Opening
+  pub next : Desk
+  pub moves : Opens memory result next
+
+pub record SomeTaking (memory : ℕ) (d : Desk) (p : List ℕ) : Type 0 where
+  pub result : TakenIn
+  pub next : Desk
+  pub moves : TakesIn memory d p result next
+
+pub record SomeStep (memory : ℕ) (d : Desk) : Type 0 where
+  pub result : Stepped
+  pub next : Desk
+  pub moves : Steps memory d result next
+
+pub record SomeCollecting (memory : ℕ) (d : Desk) (number : ℕ) (buffer : List ℕ) : Type 0 where
+  pub result : Collected
+  pub next : Desk
+  pub after : List ℕ
+  pub moves : Collects memory d number buffer result next after
+
+-- From every state that calls lead to from an opening on, each call has an answer.
+pub record NeverStuck : Type 0 where
+  pub opening : (memory : ℕ) → SomeOpening memory
+  pub taking-in : {memory : ℕ} {d : Desk} → FromOpening memory d → (p : List ℕ) → SomeTaking memory d p
+  pub stepping : {memory : ℕ} {d : Desk} → FromOpening memory d → SomeStep memory d
+  pub collecting : {memory : ℕ} {d : Desk} → FromOpening memory d → (number : ℕ) (buffer : List ℕ) → SomeCollecting memory d number buffer
 
 -- ---- the checker
 

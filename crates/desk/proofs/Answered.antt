@@ -16,11 +16,11 @@ use Rattle.definitions.specs.Tropical.{Trop}
 use Rattle.definitions.specs.ProblemRecord.{problemOf, meant}
 use Rattle.definitions.specs.AnswerRecord.{Answer}
 use Rattle.definitions.specs.Bytes.{first, or-else}
-use Rattle.definitions.specs.Desk.{memoryRefused, fullRefused, deskRefusal, Place, empty, waits, answered, Desk, opened, placeAt, Stands, ticketOf, held, TakenIn, TakesIn, taken, takeRefusal, Stepped, Steps, one-more, last-one, Collected, Collects, handed-over, Run, nothing, take-in, one-step, collect, FromOpening, Reported, DeskHolds}
+use Rattle.definitions.specs.Desk.{memoryRefused, fullRefused, deskRefusal, Place, empty, waits, answered, Desk, opened, placeAt, Stands, ticketOf, held, TakenIn, TakesIn, taken, takeRefusal, Stepped, Steps, one-more, last-one, Collected, NotHeld, Collects, handed-over, Run, nothing, take-in, one-step, collect, FromOpening, Reported, DeskHolds}
 use Rattle.definitions.specs.Desk as Desks
 use Rattle.definitions.proofs.Refusals.{or-else-none}
 use Rattle.duality.proofs.Classes.{found-one}
-use Rattle.desk.proofs.Runs.{Sound, desk-few, empty-not-waits, empty-not-answered, answered-not-waits, waits-fit, answered-fit, beyond-empty, waiting-inside, moved, here, elsewhere, sound-taken, sound-run, from-opening-sound, same-number, waits-no-longer}
+use Rattle.desk.proofs.Runs.{Sound, desk-few, empty-not-waits, empty-not-answered, answered-not-waits, waits-fit, answered-fit, beyond-empty, waiting-inside, moved, here, elsewhere, sound-opened, sixteen-empty, sound-taken, sound-run, from-opening-sound, same-number, waits-no-longer}
 
 -- ---- one sequence after another
 
@@ -193,6 +193,83 @@ module _ {memory : ℕ} {d e f : Desk} {p : List ℕ} {number k : ℕ} (o : From
   unfolding ticketOf problemHeld
   answered-mine st = tied-at sound-still tied-still st .tie refl
 
+-- ---- no two places hold the same ticket
+
+record Apart (d : Desk) : Type 0 where
+  apart : (i k : ℕ) → (placeAt d i ≡ empty → ⊥) → (placeAt d k ≡ empty → ⊥) → ticketOf (placeAt d i) ≡ ticketOf (placeAt d k) → i ≡ k
+
+module _ {d : Desk} (s : Sound d) (t : Apart d) where
+  -- One place changed, to a ticket that no other place holds, or to none.
+  apart-moved : (given : ℕ) (line : List ℕ) (i : ℕ) (p : Place) → i < desk-places
+      → ((k : ℕ) → (k ≡ i → ⊥) → (placeAt d k ≡ empty → ⊥) → (p ≡ empty → ⊥) → ticketOf p ≡ ticketOf (placeAt d k) → ⊥) → Apart (moved d given line i p)
+  apart-moved given line i p inside new = record { apart = λ j k a b e. at j k a b e (ℕ-discrete j i) (ℕ-discrete k i) }
+    where
+      there : (k : ℕ) → k ≡ i → placeAt (moved d given line i p) k ≡ p
+      there k e = ap (λ (z : ℕ). placeAt (moved d given line i p) z) e ∙ here d given line i p (s .sixteen) inside
+
+      at : (j k : ℕ) → (placeAt (moved d given line i p) j ≡ empty → ⊥) → (placeAt (moved d given line i p) k ≡ empty → ⊥)
+          → ticketOf (placeAt (moved d given line i p) j) ≡ ticketOf (placeAt (moved d given line i p) k) → Dec (j ≡ i) → Dec (k ≡ i) → j ≡ k
+      at j k a b e (yes y) (yes z) = y ∙ sym z
+      at j k a b e (yes y) (no n) = absurd (new k n (λ z. b (elsewhere d given line i p k n ∙ z)) (λ z. a (there j y ∙ z)) (ap ticketOf (sym (there j y)) ∙ e ∙ ap ticketOf (elsewhere d given line i p k n)))
+      at j k a b e (no m) (yes z) = absurd (new j m (λ y. a (elsewhere d given line i p j m ∙ y)) (λ y. b (there k z ∙ y)) (ap ticketOf (sym (there k z)) ∙ sym e ∙ ap ticketOf (elsewhere d given line i p j m)))
+      at j k a b e (no m) (no n) = t .apart j k (λ y. a (elsewhere d given line i p j m ∙ y)) (λ y. b (elsewhere d given line i p k n ∙ y)) (ap ticketOf (sym (elsewhere d given line i p j m)) ∙ e ∙ ap ticketOf (elsewhere d given line i p k n))
+
+  -- A place that keeps its ticket.
+  same-ticket : {i number own : ℕ} {problem : List ℕ} {p : Place} → Stands d i (waits number problem own) → ticketOf p ≡ number
+      → (k : ℕ) → (k ≡ i → ⊥) → (placeAt d k ≡ empty → ⊥) → (p ≡ empty → ⊥) → ticketOf p ≡ ticketOf (placeAt d k) → ⊥
+  unfolding ticketOf
+  same-ticket {i} st mine k n some _ e = n (sym (t .apart i k (λ z. empty-not-waits (sym z ∙ st .is)) some (ap ticketOf (st .is) ∙ sym mine ∙ e)))
+
+  apart-taken : {memory : ℕ} {e : Desk} {p : List ℕ} {r : TakenIn} → TakesIn memory d p r e → Apart e
+  unfolding ticketOf
+  apart-taken (Desks.TakesIn.turned-away h) = t
+  apart-taken {p = p} (taken {i = i} h f) =
+      apart-moved (suc (d .given)) (d .line ++ (i ∷ [])) i (waits (suc (d .given)) (meant p) 0) (f .inside) (λ k n some _ e. let old = s .tickets k in omega arith)
+
+  apart-stepped : {memory : ℕ} {e : Desk} {r : Stepped} → Steps memory d r e → Apart e
+  unfolding ticketOf
+  apart-stepped (Desks.Steps.turned-away h) = t
+  apart-stepped (Desks.Steps.idle h none) = t
+  apart-stepped (one-more {i = i} {number = n} {own = own} {problem = problem} {rest = rest} h head st found more) =
+      let inside : i < desk-places = waiting-inside (s .sixteen) (record { number = n; problem = problem; own = own; there = st }) in
+      apart-moved (d .given) (rest ++ (i ∷ [])) i (waits n problem (suc own)) inside (same-ticket st refl)
+  apart-stepped (last-one {i = i} {number = n} {own = own} {class = class} {trials = trials} {span = span} {problem = problem} {rest = rest} {a = a} h head st last ans) =
+      let inside : i < desk-places = waiting-inside (s .sixteen) (record { number = n; problem = problem; own = own; there = st }) in
+      apart-moved (d .given) rest i (answered n problem class span trials a) inside (same-ticket st refl)
+
+  apart-collected : {memory n : ℕ} {e : Desk} {before after : List ℕ} {r : Collected} → Collects memory d n before r e after → Apart e
+  apart-collected (Desks.Collects.turned-away h) = t
+  apart-collected (Desks.Collects.no-such-ticket h n) = t
+  apart-collected (Desks.Collects.waits-yet h st) = t
+  apart-collected (Desks.Collects.short-buffer h st b) = t
+  apart-collected (handed-over {i = i} h st b) =
+      let inside : i < desk-places = beyond-empty d i (s .sixteen) (λ z. empty-not-answered (sym z ∙ st .is)) in
+      apart-moved (d .given) (d .line) i empty inside (λ k n some nonempty e. nonempty refl)
+
+apart-run : {memory k : ℕ} {d e : Desk} → Sound d → Apart d → Run memory d k e → Apart e
+apart-run s t nothing = t
+apart-run s t (take-in run c) = apart-taken (sound-run run s) (apart-run s t run) c
+apart-run s t (one-step run c) = apart-stepped (sound-run run s) (apart-run s t run) c
+apart-run s t (collect run c) = apart-collected (sound-run run s) (apart-run s t run) c
+
+from-opening-apart : {memory : ℕ} {d : Desk} → FromOpening memory d → Apart d
+from-opening-apart o = apart-run sound-opened (record { apart = λ i k a b e. absurd (a (sixteen-empty i)) }) (o .run)
+
+-- So a ticket that was collected is held no more.
+collected-gone : {memory number class own size : ℕ} {span : Trop} {d e : Desk} {before after : List ℕ} → FromOpening memory d
+    → Collects memory d number before (Desks.collected class span own size) e after → NotHeld e number
+unfolding ticketOf
+collected-gone {number = number} {d = d} o (handed-over {i = i} h st b) k some is = at (ℕ-discrete k i)
+  where
+    at : Dec (k ≡ i) → ⊥
+    at (yes e) =
+        let s = from-opening-sound o in
+        let inside : i < desk-places = beyond-empty d i (s .sixteen) (λ z. empty-not-answered (sym z ∙ st .is)) in
+        some (ap (λ (z : ℕ). placeAt (moved d (d .given) (d .line) i empty) z) e ∙ here d (d .given) (d .line) i empty (s .sixteen) inside)
+    at (no n) =
+        let same = elsewhere d (d .given) (d .line) i empty k n in
+        n (from-opening-apart o .apart k i (λ z. some (same ∙ z)) (λ z. empty-not-answered (sym z ∙ st .is)) (ap ticketOf (sym same) ∙ is ∙ sym (ap ticketOf (st .is))))
+
 -- ---- tickets
 
 -- Neither a step nor collecting gives a ticket out.
@@ -229,11 +306,14 @@ not-used-up false false e f = let z : _≡_ {A = ℕ} 0 1 = ap (λ (b : Bool). c
 tickets-next : {memory : ℕ} {d e : Desk} {p : List ℕ} {number : ℕ} → TakesIn memory d p (Desks.ticket number) e → (number ≡ suc (d .given)) × (e .given ≡ number) × (number ≤ last-ticket)
 unfolding takeRefusal
 tickets-next {memory} {d = d} {p = p} (taken h f) =
-    let fit = or-else-none (deskRefusal (meant p)) (first (fullRefused d)) .0 (or-else-none (first (memoryRefused memory ∷ [])) (or-else (deskRefusal (meant p)) (first (fullRefused d))) .0 h .1) in
-    (refl, refl, ⊎-elim
-    (λ (l : last-ticket ≤ d .given). absurd (not-used-up (leb desk-places (held (d .places))) (leb last-ticket (d .given)) (fit .1) (le-leb last-ticket (d .given) l)))
-    (λ (l : d .given < last-ticket). omega arith)
-    (nat-le-or-lt last-ticket (d .given)))
+    let fit = or-else-none (deskRefusal (meant p)) (first (fullRefused d)) .0 (or-else-none (first (memoryRefused memory ∷ [])) (or-else (deskRefusal (meant p)) (first (fullRefused d))) .0 h .1) in (
+      refl,
+      refl,
+      ⊎-elim
+          (λ (l : last-ticket ≤ d .given). absurd (not-used-up (leb desk-places (held (d .places))) (leb last-ticket (d .given)) (fit .1) (le-leb last-ticket (d .given) l)))
+          (λ (l : d .given < last-ticket). omega arith)
+          (nat-le-or-lt last-ticket (d .given)),
+    )
 
 -- All that document 02 says of every sequence.
 pub desk-holds : DeskHolds
@@ -249,5 +329,7 @@ desk-holds = record {
   tickets-count = tickets-next;
   steps-give-none = stepped-given;
   collecting-gives-none = collected-given;
+  tickets-apart = λ o. from-opening-apart o .apart;
+  collected-once = collected-gone;
   tickets-rise = tickets-later;
 }

@@ -119,7 +119,7 @@ module _ (d : Desk) (given : ℕ) (line : List ℕ) (i : ℕ) (p : Place) where
 
 -- ---- each call keeps it
 
-sixteen-empty : (i : ℕ) → placeAt opened i ≡ empty
+pub sixteen-empty : (i : ℕ) → placeAt opened i ≡ empty
 sixteen-empty i = ⊎-elim (λ (h : desk-places ≤ i). List·getD-eq-default (opened .places) empty {n = i} (omega (arith, length-replicate {A = Place} desk-places empty))) (λ h. getD-replicate desk-places i empty empty h) (nat-le-or-lt desk-places i)
 
 no-ticket : ticketOf empty ≤ 0
