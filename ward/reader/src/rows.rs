@@ -87,6 +87,11 @@ impl Draft<'_> {
             "or" => {
                 fault.hint("a rule cannot say 'one of these is early enough'; 'later of' on the left means all of them")
             }
+            "before" | "after" if token.kind == Kind::Word => {
+                let rest = cursor.rest()[token.text.len()..].trim();
+                let (first, second) = if token.text == "before" { (written, rest) } else { (rest, written) };
+                fault.hint(format!("write '{first} <= {second}'"))
+            }
             _ => self.more(cursor, fault),
         }
     }
@@ -121,8 +126,11 @@ impl Draft<'_> {
         let Some(token) = cursor.peek(0) else { return fault };
         let word = token.text.to_lowercase();
         let digits = token.text.starts_with(|c: char| c.is_ascii_digit());
-        if ["min", "mins", "minute", "minutes", "m", "h", "hour", "hours"].contains(&word.as_str()) {
+        if ["min", "mins", "minute", "minutes", "m"].contains(&word.as_str()) {
             return fault.hint("leave it out: numbers are minutes, and 1:30 is an hour and a half");
+        }
+        if ["h", "hr", "hrs", "hour", "hours"].contains(&word.as_str()) {
+            return fault.hint("hours are written with a colon and minutes, as in 2:00; numbers alone are minutes");
         }
         if digits {
             return fault.hint(format!("a sign is missing: '+ {}' or '- {}'", token.text, token.text));
