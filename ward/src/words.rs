@@ -8,7 +8,8 @@ ward: a scheduler's text in, a judged plan out
 
   ward FILE..                 answers the texts; the checker judges each answer
   ward check FILE..           only reads the texts, and tells every mistake with its place
-  ward judge FILE ANSWERS     has the checker judge answer records from another engine
+  ward judge FILE ANSWERS     has the checker judge answer records from another engine, in bytes
+                              or in hexadecimal
   ward record FILE            the problem record of a text, in hexadecimal
   ward text RECORD            a problem record as a text
 
@@ -28,7 +29,7 @@ FILE is a path, or - for standard input. docs/SCHEDULERS.md teaches the text.
 Statuses
   0  every answer was accepted, and is the one that its text expects, if it says so
   1  a text has a mistake, or a file cannot be read or answered
-  2  the words are not understood
+  2  the words are not understood, or -o names a file that is read
   3  the checker does not accept an answer
   4  every answer was accepted, and a text expects another
   5  the output cannot be written
