@@ -16,7 +16,7 @@ ward: a scheduler's text in, a judged plan out
 FILE is a path, or - for standard input. docs/SCHEDULERS.md teaches the text.
 
   --json, --csv, --html       for programs, for tables, or a sheet to open or print
-  -o, --output FILE           writes there, and not to standard output
+  -o, --output FILE           writes there, and not to standard output, which is - here too
   --quick                     leaves out the earliest and latest times
   --plain                     no signs beyond ASCII in the timeline
   --binary                    with record: the bytes themselves
@@ -104,6 +104,7 @@ pub fn read(arguments: impl Iterator<Item = OsString>) -> Result<Words, String> 
             _ => words.files.push(argument),
         }
     }
+    words.output = words.output.filter(|file| file != "-");
     fits(&words)?;
     Ok(words)
 }
@@ -198,6 +199,7 @@ mod tests {
         assert_eq!(words.files, ["a.txt", "--html"]);
         assert_eq!(read_all("./check").expect("a file").command, Command::Answer);
         assert_eq!(read_all("--output=x -").expect("a file").output, Some("x".into()));
+        assert_eq!(read_all("-o - a").expect("a file").output, None);
         assert_eq!(read_all("--help").expect("no file").command, Command::Help);
         assert_eq!(read_all("check --version").expect("no file").command, Command::Version);
     }
