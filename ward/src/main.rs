@@ -200,6 +200,7 @@ fn judge(words: &Words) -> io::Result<u8> {
     let mut report = text(&words.files[0]);
     match bytes(&words.files[1]) {
         Ok(answers) => {
+            let answers = cut::from_hex(&answers).unwrap_or(answers);
             let count = report.sheet.as_ref().map_or(0, |sheet| sheet.questions.len());
             let parts: Vec<Vec<u8>> = cut::records(&answers, count).into_iter().map(<[u8]>::to_vec).collect();
             report.judge(&parts, Wishes { times: !words.quick });

@@ -51,6 +51,17 @@ pub fn relation(token: &Token, left: &str, right: &str) -> Fault {
 /// Minutes that are not written as a whole number or as hours and minutes.
 pub fn minutes(from: usize, to: usize, word: &str) -> Fault {
     let fault = |message: String| Fault::new(from, to, message);
+    let decimal = word.strip_suffix(['h', 'H']).and_then(|hours| hours.split_once('.'));
+    if let Some((hours, part)) = decimal.filter(|(hours, _)| hours.parse::<u32>().is_ok()) {
+        let minutes = match part {
+            "25" => "15",
+            "5" | "50" => "30",
+            "75" => "45",
+            _ => "..",
+        };
+        return fault(format!("'{word}' is no number of minutes"))
+            .hint(format!("hours and minutes are written '{hours}:{minutes}'"));
+    }
     if word.contains('.') {
         let parts: Vec<&str> = word.split('.').collect();
         let whole = parts[0];

@@ -267,7 +267,11 @@ fn no_minutes(cursor: &Cursor, moment: Token, sign: Token, token: Token) -> Faul
     if token.kind == Kind::Sign {
         let number = cursor.plain(1);
         let fault = Fault::new(sign.from, token.to, format!("'{signs}' are two signs"));
-        let sum = if sign.text == token.text { '+' } else { '-' };
+        let sum = match token.text {
+            "+" | "-" if sign.text == token.text => "+",
+            "+" | "-" => "-",
+            _ => sign.text,
+        };
         return if is_number(number) || is_hours(number) {
             fault.hint(format!("write '{sum} {number}'"))
         } else {
