@@ -58,7 +58,7 @@ mod tests {
         let told = terminal::report(&report, Look { width: 80, signs: true });
         for part in [
             "The rule behind it; with this one alone the least span is the same:\n  rule 1 (line 2): anchor + 30 <= bed\n",
-            "The round that binds it runs over anchor and bed.\n",
+            "The round that binds it runs over anchor and bed, by rule 1 and the span.\n",
             "◆ planned, and of the round",
         ] {
             assert!(told.contains(part), "{told}");
