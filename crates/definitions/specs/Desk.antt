@@ -221,7 +221,8 @@ pub record DeskHolds : Type 0 where
   pub answers-alone :
       {memory : ℕ} {d : Desk} → FromOpening memory d → {i number class own : ℕ} {span : Trop} {problem : List ℕ} {a : Answer}
       → Stands d i (answered number problem class span own a) → WithinDesk problem × Answers (problemOf problem) class span own a
-  -- "a problem's answer does not depend on the others": over two sequences the same problem has the same class, span and own trials;
+  -- "a problem's answer does not depend on the others": over two sequences the same problem has the same class, span and own trials
+  -- (start, stamps and picks are free);
   pub independent :
       {memory room : ℕ} {d e : Desk} → FromOpening memory d → FromOpening room e → {problem : List ℕ} {i k x y c z own trials : ℕ} {s t : Trop} {a b : Answer}
       → Stands d i (answered x problem c s own a) → Stands e k (answered y problem z t trials b) → (c ≡ z) × (s ≡ t) × (own ≡ trials)
@@ -234,7 +235,7 @@ pub record DeskHolds : Type 0 where
   pub steps-give-none : {memory : ℕ} {d e : Desk} {r : Stepped} → Steps memory d r e → e .given ≡ d .given
   pub collecting-gives-none :
       {memory number : ℕ} {d e : Desk} {before after : List ℕ} {r : Collected} → Collects memory d number before r e after → e .given ≡ d .given
-  -- no two places hold the same ticket, and one that was collected is held no more, so that it gets 22;
+  -- no two places hold the same ticket, and after its collection one is held no more, so that it gets 22 (and is given out no more, below);
   pub tickets-apart :
       {memory : ℕ} {d : Desk} → FromOpening memory d → (i k : ℕ) → (placeAt d i ≡ empty → ⊥) → (placeAt d k ≡ empty → ⊥)
       → ticketOf (placeAt d i) ≡ ticketOf (placeAt d k) → i ≡ k
