@@ -18,14 +18,14 @@
  * the rules, then that many question rows. One of kind 5 has, after m, a state of two bytes a rule: 1 in force, 0 suspended; its
  * rules keep their numbers, and the suspended ones are kept by every plan. span_solve takes all three; span_check, span_reasons and
  * span_merge kinds 1 and 5. A problem of 0 bytes is an idle day: n and m are 0, and so are both leads of the anchor; its answer is
- * least 0.
+ * least 0. (span_convert gives it 1.)
  *
  * A plan counts only if its second list is not blank, and classes and spans are about the plans that count. An answer has kind 4
  * and a start, which says where reach begins: in classes 1 and 3, 0 is the anchor and 1 all moments with a non-blank lead in the
  * second list; in class 2 it is 1 + the number of one such moment, and reach begins there and at the anchor.
  *
- * Refusals: 1 the problem has 1 to 9 bytes; 2 its length field is not its size - 4; 3 its kind is not 1 or 5, nor, in
- * span_solve, 3; 4 n is above 31 or m above 63; 5 its size does not fit its kind, n and m, and for kind 3 the count; 6 a lead is
+ * Refusals: 1 the problem has 1 to 9 bytes (in span_convert also none); 2 its length field is not its size - 4; 3 its kind is not one
+ * that the call takes; 4 n is above 31 or m above 63; 5 its size does not fit its kind, n and m, and for kind 3 the count; 6 a lead is
  * neither blank nor within 20,160 of 0; 7 the answer buffer is shorter than 208 bytes a question; 8 the answer has fewer
  * than 16 bytes; 9 its length field is not its size - 4; 10 its kind is not 4, its class not 1 to 3, or its start above 1
  * (in class 2: 0, or above the problem's n + 1); 11 its n is not the problem's, or its size does not fit its class; 12 its
@@ -33,12 +33,12 @@
  * questions is 0 or above 8; 16 (span_reasons) the answer is bottomless; 17 a rule, not the question, has an all-blank left
  * list (span_convert drops such rules); 18 (hours and minutes) the text is not of this form, a value is beyond 6,000,000 of
  * 0, or the writer's buffer is shorter than 10 bytes; 19 a week list or a minute to be looked up is not of its form
- * (span_first_open); 21 to 23 (a desk) no place or no ticket is left, no such ticket is held, the memory is too short; 24 to 26 two plans cannot be merged (span_merge); 27 (span_census) w is 0 or above 20,160, n is above
- * 31 or m above 63, or there are more than 65,536 problems; 20 a state of kind 5 is neither 0 nor 1. The first that applies is returned, in
- * this order, but 15 is
- * looked at after 4 and before 5, 16 after 14, 20 after 5 and before 6, and 17 after 6 and before 7; 6 and 17 look at suspended
- * rules too; a record of kind 3 that ends before its count
- * gets 5. span_convert takes kinds 1 and 3 alone. A refusal writes nothing.
+ * (span_first_open); 20 a state of kind 5 is neither 0 nor 1; 21 to 23 (a desk) no place or no ticket is left, no such ticket is held,
+ * the memory is too short; 24 to 26 two plans cannot be merged (span_merge); 27 (span_census) w is 0 or above 20,160, n is above 31 or
+ * m above 63, or there are more than 65,536 problems. The first that applies is returned, in this order, but 15 is looked at after 4 and
+ * before 5, 16 after 14, 20 after 5 and before 6, and 17 after 6 and before 7; a desk's calls have their own order, told there. 6 and 17
+ * look at suspended rules too; a record of kind 3 that ends before its count gets 5. span_convert takes kinds 1 and 3 alone, a desk
+ * kind 1. A refusal writes nothing.
  */
 #ifndef SPAN_H
 #define SPAN_H
@@ -67,11 +67,11 @@ extern "C" {
 #define SPAN_BOTTOMLESS 2
 #define SPAN_NONE 3
 #define SPAN_NOT_CERTIFIED 14
-#define SPAN_WRONG_COUNT 15       /* span_solve only: the count of questions is 0 or above SPAN_QUESTIONS */
+#define SPAN_WRONG_COUNT 15       /* span_solve, span_convert only: the count of questions is 0 or above SPAN_QUESTIONS */
 #define SPAN_NO_REASONS 16        /* span_reasons only: the answer is bottomless */
-#define SPAN_SILENT_RULE 17       /* span_solve, span_check, span_reasons only: a rule has an all-blank left list */
+#define SPAN_SILENT_RULE 17       /* the calls that take a problem, but span_convert: a rule has an all-blank left list */
 #define SPAN_NO_TEXT 18           /* span_hours_read, span_hours_write only */
-#define SPAN_WRONG_STATE 20       /* span_solve, span_check only: a state is neither 0 nor 1 */
+#define SPAN_WRONG_STATE 20       /* span_solve, span_check, span_reasons, span_merge only: a state is neither 0 nor 1 */
 #define SPAN_TOO_FEW_PLACES 255   /* span_read, span_reasons, span_marks_differ, span_census, a desk only */
 
 #define SPAN_WINDOWS 14           /* the most windows of a week list, with two minutes each */
@@ -110,7 +110,7 @@ uint64_t span_solve(const uint8_t *problem, size_t problem_size, uint8_t *answer
  * else the refusal, 1 to 6, 8 to 14, 17 or 20, where 14 is 'not certified'. */
 uint64_t span_check(const uint8_t *problem, size_t problem_size, const uint8_t *answer, size_t answer_size);
 
-/* Names the rules behind an accepted answer of class least or none to a problem of kind 1: those that reached moments pick, ascending,
+/* Names the rules behind an accepted answer of class least or none to a problem of kind 1 or 5, or an idle day: those that reached moments pick, ascending,
  * from 1 on. The problem with only these rules and the question has the same class and span. For least also the binding round,
  * moments in turn, which is a reached cycle of the answer's picks that uses the question once and weighs 0 at the least span: from
  * the start (the anchor, or the first planned moment of the second list) a moment yields to its pick and a rule to its first latest
@@ -141,16 +141,16 @@ uint64_t span_write(uint64_t class_number, uint64_t span, uint64_t start, const 
  * with the numbers closed up. Kind, n, the other rows and their order stay; a question may have a blank first list. The class and
  * the least span of each question are the same before and after. The bytes after the record stay. Lend as many bytes as the
  * stored record has, SPAN_QUESTIONS_SIZE at most.
- * Result: converted: 256 * the record's size. Else the refusal: 1 to 6 or 15 as span_solve gives them, then 7 where the buffer is
+ * Result: converted: 256 * the record's size. Else the refusal: 1 (here also for no bytes), 2, 3, 4, 15, 5, 6, then 7 where the buffer is
  * shorter than the record to be written. */
 uint64_t span_convert(const uint8_t *stored, size_t stored_size, uint8_t *buffer, size_t buffer_size);
 
-/* Merges two plans of a problem of kind 1, or of an idle day: each moment is the later of the first plan's and the second plan's plus
+/* Merges two plans of a problem of kind 1 or 5, or of an idle day: each moment is the later of the first plan's and the second plan's plus
  * `shift`, which is 0 or less. A plan is n + 1 stamps of 4 bytes, as in an answer record: -2147483648 is blank, the anchor's is 0, and
  * the others lie within the limit of stamps. The merged stamps are written the same way at the start of `buffer`; the bytes after them
  * stay. They keep the rules, and where both plans have a second list that is not blank, so has the merged one, and its span is at most
  * the greater of the two. Lend SPAN_PLAN_SIZE bytes, whatever n is.
- * Result: merged: 256 * the bytes written, 4 * (n + 1). Else the refusal: 1 to 6 or 17 as span_check gives them; 7 the buffer is shorter
+ * Result: merged: 256 * the bytes written, 4 * (n + 1). Else the refusal: 1 to 6, 17 or 20 as span_check gives them; 7 the buffer is shorter
  * than 128 bytes; 12 a plan is not n + 1 such stamps; 24 the shift is above 0; 25 a plan breaks a rule; 26 a merged stamp would be
  * below the limit of stamps. Nothing is then written. */
 uint64_t span_merge(const uint8_t *problem, size_t problem_size, const uint8_t *first, size_t first_size,
@@ -186,7 +186,7 @@ uint64_t span_marks_differ(const uint8_t *before, size_t before_size, const uint
 /* Counts by class all problems of kind 1 with this n and m whose leads are blank or -w to w: the first four places of `counts` become the
  * numbers of problems that are least, bottomless, none, and under refusal 17. They add up to (2w + 2) to the power 2 (n + 1)(m + 1).
  * Result: counted: 0. Else the refusal 27 (SPAN_NO_CENSUS); or, where it does not apply, SPAN_TOO_FEW_PLACES for fewer than SPAN_COUNTS
- * places. Nothing is then written. The longest census, 65,536 problems, takes a fifth of a second. */
+ * places. Nothing is then written. The longest census, 65,536 problems, takes up to half a second. */
 uint64_t span_census(uint64_t n, uint64_t m, uint64_t w, uint64_t *counts, size_t counts_count);
 
 /* A desk answers up to sixteen problems in turn, a trial at a time (document 02, 2.11). Lend SPAN_DESK_MEMORY bytes and SPAN_DESK_WORDS
@@ -209,14 +209,15 @@ uint64_t span_desk_take(uint8_t *memory, size_t memory_size, uint64_t *state, si
 uint64_t span_desk_step(const uint8_t *memory, size_t memory_size, uint64_t *state, size_t state_count);
 
 /* Writes the answer of a ticket at the start of `buffer` and frees its place; the bytes after the record stay. Lend SPAN_ANSWER_SIZE bytes.
- * Result: 256 * class + 65536 * own trials; or SPAN_STILL_WAITS; else the refusal: 22, no such ticket is held; 7, after which the answer can
- * still be collected. */
+ * Result: 256 * class + 65536 * own trials; or SPAN_STILL_WAITS; else the refusal. After the memory and the words, in this order: 22, no such ticket
+ * is held; SPAN_STILL_WAITS; 7, after which the answer can still be collected. */
 uint64_t span_desk_collect(const uint8_t *memory, size_t memory_size, uint64_t *state, size_t state_count, uint64_t ticket,
                            uint8_t *buffer, size_t buffer_size);
 
-/* The size of a problem record of kind 1 or 3, with that many rules and questions (kind 1 has one); 0 for another kind. */
+/* The size of a problem record of kind 1, 3 or 5, with that many rules and questions (kinds 1 and 5 have one); 0 for another kind. */
 static inline size_t span_record_size(unsigned kind, size_t n, size_t m, size_t count) {
-    return kind == 1 ? 10 + 8 * (n + 1) * (m + 1) : kind == 3 ? 12 + 8 * (n + 1) * (m + count) : 0;
+    return kind == 1 ? 10 + 8 * (n + 1) * (m + 1) : kind == 3 ? 12 + 8 * (n + 1) * (m + count)
+         : kind == 5 ? 10 + 2 * m + 8 * (n + 1) * (m + 1) : 0;
 }
 
 /* Where a record that starts at `at` ends, by its length field: of the answers of span_solve, where the next one starts. */

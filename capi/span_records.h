@@ -81,7 +81,7 @@ static inline size_t span_answer_size(unsigned class_number, size_t n, size_t m)
     return class_number < SPAN_LEAST || class_number > SPAN_NONE ? 0 : SPAN_AT_STAMPS + span_stamps_size(class_number, n) + picks;
 }
 
-/* A problem that is being built. The first fault stays: the refusal that such a record would get, with its row (rules from 1 on,
+/* A problem that is being built. The first fault stays: the number of the refusal nearest to it, with its row (rules from 1 on,
  * then the questions; 0 is the header) and, for a lead, its moment. */
 typedef struct span_problem {
     uint8_t *bytes;

@@ -244,7 +244,7 @@ fn least(
         return Err("the checker accepted a least span, and the record has no plan".into());
     };
     let slack = if wishes.times { times::at_span(sheet, question, minutes)? } else { Slack::NotAsked };
-    let reasons = reasons::behind(problem, answer);
+    let reasons = reasons::behind(sheet, problem, answer);
     let mut plan = plan(sheet, question, &stamps);
     for placed in &mut plan {
         placed.times = slack.of(placed.moment);

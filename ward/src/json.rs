@@ -161,7 +161,12 @@ fn body(report: &Report, span: &Span) -> Vec<(&'static str, Value)> {
                 fields.push(("no_times", text(*why)));
             }
             if let Some(reasons) = reasons {
-                fields.extend([("rules_behind", numbers(&reasons.rules)), ("round", names(&reasons.round))]);
+                let step = |step: &Option<usize>| step.map_or(Null, |place| Number(place as i64 + 1));
+                fields.extend([
+                    ("rules_behind", numbers(&reasons.rules)),
+                    ("round", names(&reasons.round)),
+                    ("round_rules", List(reasons.steps.iter().map(step).collect())),
+                ]);
             }
             fields
         }

@@ -49,6 +49,10 @@ fn main() -> ExitCode {
             return ExitCode::from(WORDS);
         }
     };
+    if let Some(path) = words.files.iter().find(|path| words.output.as_ref().is_some_and(|output| same(path, output))) {
+        tell(&format!("ward: the output would be written over '{}', which is read\n", name(path)));
+        return ExitCode::from(WORDS);
+    }
     let done = match words.command {
         Command::Help => put(&words, words::HELP.as_bytes()).map(|()| 0),
         Command::Version => put(&words, concat!("ward ", env!("CARGO_PKG_VERSION"), "\n").as_bytes()).map(|()| 0),
@@ -91,6 +95,12 @@ fn bytes(path: &OsStr) -> io::Result<Vec<u8>> {
         false => File::open(path)?.take(most).read_to_end(&mut bytes)?,
     };
     Ok(bytes)
+}
+
+/// Whether two paths name one file that is there; a device is none.
+fn same(one: &OsStr, other: &OsStr) -> bool {
+    let place = |path: &OsStr| std::fs::canonicalize(path).ok().filter(|path| path.is_file());
+    one != "-" && place(one).is_some_and(|one| place(other) == Some(one))
 }
 
 /// A file's name in messages.
@@ -190,6 +200,7 @@ fn judge(words: &Words) -> io::Result<u8> {
     let mut report = text(&words.files[0]);
     match bytes(&words.files[1]) {
         Ok(answers) => {
+            let answers = cut::from_hex(&answers).unwrap_or(answers);
             let count = report.sheet.as_ref().map_or(0, |sheet| sheet.questions.len());
             let parts: Vec<Vec<u8>> = cut::records(&answers, count).into_iter().map(<[u8]>::to_vec).collect();
             report.judge(&parts, Wishes { times: !words.quick });

@@ -328,20 +328,28 @@ fn legend(round: bool, slack: bool) -> String {
 
 fn explained(sheet: &Sheet, span: &Span) -> String {
     let mut page = String::new();
+    let steps = match &span.body {
+        Body::Least { reasons: Some(reasons), .. } => &reasons.steps[..],
+        _ => &[],
+    };
     for (words, rules) in told::explained(sheet, span) {
         let _ = writeln!(page, "<p>{}</p>", safe(&words));
         if !rules.is_empty() {
             page += "<ul class=\"rules\">\n";
-            rules.iter().for_each(|&place| page += &format!("<li>{}</li>\n", rule(sheet, place)));
+            rules
+                .iter()
+                .for_each(|&place| page += &format!("<li>{}</li>\n", rule(sheet, place, steps.contains(&Some(place)))));
             page += "</ul>\n";
         }
     }
     page
 }
 
-fn rule(sheet: &Sheet, place: usize) -> String {
+/// A rule, its number and line, and whether the round runs over it.
+fn rule(sheet: &Sheet, place: usize, of_round: bool) -> String {
     let rule = &sheet.rules[place];
-    format!("{} <span class=\"line\">rule {}, line {}</span>", safe(&rule.text), place + 1, rule.place.line)
+    let round = if of_round { ", of the round" } else { "" };
+    format!("{} <span class=\"line\">rule {}, line {}{round}</span>", safe(&rule.text), place + 1, rule.place.line)
 }
 
 /// All rules, at the end.

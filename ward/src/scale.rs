@@ -7,7 +7,7 @@ use crate::answer::Placed;
 use crate::times::Bound;
 
 /// Steps between marks, in minutes.
-const STEPS: [i64; 16] = [1, 2, 5, 10, 15, 30, 60, 120, 180, 360, 720, 1_440, 2_880, 10_080, 40_320, 403_200];
+const STEPS: [i64; 17] = [1, 2, 5, 10, 15, 30, 60, 120, 180, 360, 720, 1_440, 2_880, 10_080, 20_160, 40_320, 403_200];
 
 /// The minutes from `low` to `high`, which differ.
 #[derive(Clone, Debug, PartialEq, Eq)]

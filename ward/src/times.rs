@@ -79,6 +79,15 @@ pub fn latest_bound(outcome: Outcome) -> Bound {
     }
 }
 
+/// The times of a moment. One that every plan leaves out has neither: the span from the anchor to it is bottomless, and there is
+/// none from it to the anchor.
+fn times(earliest: Outcome, latest: Outcome) -> Times {
+    match latest_bound(latest) {
+        Bound::Never => Times { earliest: Bound::Never, latest: Bound::Never },
+        latest => Times { earliest: earliest_bound(earliest), latest },
+    }
+}
+
 /// The rule that a span is at most so many minutes: its end is at most its start plus the minutes. Where that is too much for
 /// the leads of one side, a part is taken off the other.
 fn at_most(question: &Row, span: i32) -> Option<Row> {
@@ -115,7 +124,7 @@ pub fn at_span(sheet: &Sheet, question: usize, span: i32) -> Result<Slack, Strin
     let count = sheet.moments.len();
     let questions: Vec<Row> = (1..count).flat_map(|moment| [earliest(moment, count), latest(moment, count)]).collect();
     let outcomes = archive::ask(&rules, &questions)?;
-    let both = |pair: &[Outcome]| Times { earliest: earliest_bound(pair[0]), latest: latest_bound(pair[1]) };
+    let both = |pair: &[Outcome]| times(pair[0], pair[1]);
     let anchor = Times { earliest: Bound::At(0), latest: Bound::At(0) };
     Ok(Slack::Known([anchor].into_iter().chain(outcomes.chunks(2).map(both)).collect()))
 }

@@ -114,7 +114,11 @@ pub fn explained(sheet: &Sheet, span: &Span) -> Vec<(String, Vec<usize>)> {
                 told.push((behind(reasons.rules.len()).into(), reasons.rules.clone()));
                 if !reasons.round.is_empty() {
                     told.push((
-                        format!("The round that binds it runs over {}.", names(sheet, &reasons.round)),
+                        format!(
+                            "The round that binds it runs over {}, by {}.",
+                            names(sheet, &reasons.round),
+                            list(&reasons.steps.iter().map(step).collect::<Vec<_>>())
+                        ),
                         Vec::new(),
                     ));
                 }
@@ -125,6 +129,11 @@ pub fn explained(sheet: &Sheet, span: &Span) -> Vec<(String, Vec<usize>)> {
         Body::None(blocked) => vec![blocked_words(blocked)],
         Body::Claim(..) => Vec::new(),
     }
+}
+
+/// A rule by which the round goes on, or the span itself.
+fn step(rule: &Option<usize>) -> String {
+    rule.map_or("the span".into(), |place| format!("rule {}", place + 1))
 }
 
 fn behind(rules: usize) -> &'static str {

@@ -8,14 +8,15 @@ ward: a scheduler's text in, a judged plan out
 
   ward FILE..                 answers the texts; the checker judges each answer
   ward check FILE..           only reads the texts, and tells every mistake with its place
-  ward judge FILE ANSWERS     has the checker judge answer records from another engine
+  ward judge FILE ANSWERS     has the checker judge answer records from another engine, in bytes
+                              or in hexadecimal
   ward record FILE            the problem record of a text, in hexadecimal
   ward text RECORD            a problem record as a text
 
 FILE is a path, or - for standard input. docs/SCHEDULERS.md teaches the text.
 
   --json, --csv, --html       for programs, for tables, or a sheet to open or print
-  -o, --output FILE           writes there, and not to standard output
+  -o, --output FILE           writes there, and not to standard output, which is - here too
   --quick                     leaves out the earliest and latest times
   --plain                     no signs beyond ASCII in the timeline
   --binary                    with record: the bytes themselves
@@ -28,7 +29,7 @@ FILE is a path, or - for standard input. docs/SCHEDULERS.md teaches the text.
 Statuses
   0  every answer was accepted, and is the one that its text expects, if it says so
   1  a text has a mistake, or a file cannot be read or answered
-  2  the words are not understood
+  2  the words are not understood, or -o names a file that is read
   3  the checker does not accept an answer
   4  every answer was accepted, and a text expects another
   5  the output cannot be written
@@ -103,6 +104,7 @@ pub fn read(arguments: impl Iterator<Item = OsString>) -> Result<Words, String> 
             _ => words.files.push(argument),
         }
     }
+    words.output = words.output.filter(|file| file != "-");
     fits(&words)?;
     Ok(words)
 }
@@ -197,6 +199,7 @@ mod tests {
         assert_eq!(words.files, ["a.txt", "--html"]);
         assert_eq!(read_all("./check").expect("a file").command, Command::Answer);
         assert_eq!(read_all("--output=x -").expect("a file").output, Some("x".into()));
+        assert_eq!(read_all("-o - a").expect("a file").output, None);
         assert_eq!(read_all("--help").expect("no file").command, Command::Help);
         assert_eq!(read_all("check --version").expect("no file").command, Command::Version);
     }

@@ -106,7 +106,7 @@ pub fn solve_all(problem: &[u8], answers: &mut [u8]) -> Result<SolvedAll, Refusa
 /// Judges an answer to a problem. It is accepted exactly when it is of the right form and all that document 01 lists
 /// for its class holds.
 ///
-/// Refusals: 1 to 6, 8 to 13, and 14 for 'not certified'.
+/// Refusals: 1 to 6, 17 and 20, 8 to 13, and 14 for 'not certified'.
 pub fn check(problem: &[u8], answer: &[u8]) -> Result<Certified, Refusal> {
     let result = raw::check(problem, answer);
     refusal(result)?;

@@ -12,7 +12,7 @@ fn bytes(plan: &[Option<i32>]) -> Vec<u8> {
     plan.iter().flat_map(|stamp| stamp.unwrap_or(i32::MIN).to_le_bytes()).collect()
 }
 
-/// Two plans of a problem of kind 1 (or of an idle day) merged: each moment is the later of the first plan's and the second plan's plus
+/// Two plans of a problem of kind 1 or 5 (or of an idle day) merged: each moment is the later of the first plan's and the second plan's plus
 /// `shift`, which is 0 or less. A plan has n + 1 stamps, the anchor's, 0, first; `None` is blank. The merged plan keeps the rules, and
 /// where both plans have a second list that is not blank, so has the merged one, and its span is at most the greater of the two.
 ///

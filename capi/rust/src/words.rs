@@ -143,7 +143,7 @@ impl Refusal {
     /// What is wrong.
     pub fn reason(self) -> &'static str {
         match self.number {
-            1 => "The problem has 1 to 9 bytes.",
+            1 => "The problem has fewer than 10 bytes.",
             2 => "Its length field is not its size − 4.",
             3 => "Its kind is not one that this call takes.",
             4 => "n is above 31 or m above 63.",

@@ -1,5 +1,5 @@
 -- Laws of natural numbers that case splits use, and of the larger of two.
-use Prim.Native.Nat.{ℕ, zero, suc, _+_, _≤_, _<_}
+use Prim.Native.Nat.{ℕ, zero, suc, _+_, _*_, _-_, _≤_, _<_}
 use mathlib.Core.Path.{_≡_, refl, sym, subst, _∙_}
 use mathlib.Core.Bool.{Bool, true, false, cond}
 use mathlib.Core.Logic.{_⊎_, inl, inr, ⊎-elim}
@@ -84,3 +84,20 @@ pub uppermost-most : (f : ℕ → ℕ) (k B : ℕ) → ((l : ℕ) → l < k → 
 unfolding uppermost
 uppermost-most f zero B h = omega arith
 uppermost-most f (suc k) B h = most-under (uppermost f k) (f k) B (uppermost-most f k B (λ l b. h l (omega arith))) (h k (omega arith))
+
+-- ---- dividing
+
+-- A number below d × c is some turns of d, fewer than c, and a rest below d.
+pub record Divided (d k c : ℕ) : Type 0 where
+  pub turns : ℕ
+  pub rest : ℕ
+  pub is : k ≡ turns * d + rest
+  pub few : turns < c
+  pub small : rest < d
+
+pub divided : (d k c : ℕ) → k < c * d → Divided d k c
+divided d k zero h = absurd (omega arith)
+divided d k (suc c) h = ⊎-elim
+    (λ (b : c * d ≤ k). record { turns = c; rest = k - c * d; is = omega arith; few = omega arith; small = omega arith })
+    (λ (b : k < c * d). let r = divided d k c b in record { turns = r .turns; rest = r .rest; is = r .is; few = omega (arith, r .few); small = r .small })
+    (nat-le-or-lt (c * d) k)

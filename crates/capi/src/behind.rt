@@ -65,8 +65,9 @@ pub extern "C" fn span_reasons(
     match told {
         Told::Refused(k) => k as u64,
         Told::None(count) => lend_numbers(&numbers, count, &moments, 0, rules, round),
-        Told::Least(count, turns) => {
-            lend_numbers(&numbers, count, &moments, turns, rules, round)
-        }
+        Told::Least {
+            rules: count,
+            turns,
+        } => { lend_numbers(&numbers, count, &moments, turns, rules, round) }
     }
 }

@@ -19,8 +19,17 @@ fn solved_number(solved: Solved) -> u64
 {
     match solved {
         Solved::Refused(k) => k as u64,
-        Solved::Answered(_, _, trials, _) => BYTE * trials,
-        Solved::AllAnswered(_, trials, _) => BYTE * trials,
+        Solved::Answered {
+            class: _,
+            span: _,
+            trials,
+            size: _,
+        } => BYTE * trials,
+        Solved::AllAnswered {
+            count: _,
+            trials: sum,
+            size: _,
+        } => BYTE * sum,
     }
 }
 
@@ -40,7 +49,7 @@ fn verdict_number(verdict: Verdict) -> u64
     ensures { λ r. ⌜ Numbered (verdictOf verdict) r ⌝ }
 {
     match verdict {
-        Verdict::Accepted(class, span) => BYTE * class + FULL * span,
+        Verdict::Accepted { class, span } => BYTE * class + FULL * span,
         Verdict::Refused(k) => k as u64,
     }
 }

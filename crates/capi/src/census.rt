@@ -29,7 +29,12 @@ pub extern "C" fn span_census(n: u64, m: u64, w: u64, counts: &mut [u64]) -> u64
 {
     let census = take_census(n, m, w);
     match census {
-        Census::Counted(a, b, c, d) => lend_counts(a, b, c, d, counts),
+        Census::Counted {
+            least: a,
+            bottomless: b,
+            none: c,
+            silent: d,
+        } => lend_counts(a, b, c, d, counts),
         Census::Refused(k) => k as u64,
     }
 }

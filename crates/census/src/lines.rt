@@ -45,7 +45,12 @@ pub fn census_line(n: u64, m: u64, w: u64, line: &mut [u8]) -> usize
     let census = take_census(n, m, w);
     match census {
         Census::Refused(number) => refused_line(line, number),
-        Census::Counted(a, b, c, d) => put_counts(line, 0, a, b, c, d),
+        Census::Counted {
+            least: a,
+            bottomless: b,
+            none: c,
+            silent: d,
+        } => put_counts(line, 0, a, b, c, d),
     }
 }
 
@@ -68,6 +73,11 @@ pub fn table_line(n: u64, m: u64, w: u64, line: &mut [u8]) -> usize
     let census = take_census(n, m, w);
     match census {
         Census::Refused(_) => 0,
-        Census::Counted(a, b, c, d) => put_row(line, n, m, w, a, b, c, d),
+        Census::Counted {
+            least: a,
+            bottomless: b,
+            none: c,
+            silent: d,
+        } => put_row(line, n, m, w, a, b, c, d),
     }
 }

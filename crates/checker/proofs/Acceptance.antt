@@ -25,10 +25,10 @@ use Rattle.duality.specs.Starts.{StartBelow}
 use Rattle.duality.specs.Within.{Within}
 use Rattle.duality.proofs.Starts.{optimal-from, infeasible-from, unbounded-from}
 use Rattle.duality.proofs.Numbers.{infeasible-below, below-infeasible, unbounded-above, above-unbounded, top-enough}
-use Rattle.records.specs.Decoded.{Near}
+use Rattle.records.specs.Decoded.{Near, InTables}
 use Rattle.records.specs.Stamps.{stampsPoint}
 use Rattle.reach.specs.Marks.{Begins, StartMarked}
-use Rattle.closed_walks.specs.Tables.{DecodedAs, Picked, Trial}
+use Rattle.closed_walks.specs.Tables.{Picked, Trial}
 use Rattle.answer_reader.specs.declared.answer.Head.{Head}
 use Rattle.checker.specs.Outcome.{Span, Formed, Meant}
 
@@ -38,13 +38,13 @@ use Rattle.checker.specs.Outcome.{Span, Formed, Meant}
 near-size : {d : ℕ} (k : ℕ) {x : Trop} {z : ℤ} → Near d k → tropOf k ≡ x → x ≡ fin z → natAbs z ≤ d
 near-size k {z = z} h e f = let r = trop-read k (e ∙ f) in abs-show z (omega (arith, h .hi)) (omega (arith, h .lo (r .0)))
 
-pub holds-within : {p : Problem} {left right : List ℕ} {n m : ℕ} → DecodedAs p left right n m → Within p lead-limit
+pub holds-within : {p : Problem} {left right : List ℕ} {n m : ℕ} → InTables p n m left right → Within p lead-limit
 holds-within {left = left} {right = right} h = record {
   left = λ i j a b c e. near-size (getD left (i * 32 + j) 0) (h .decoded .left-near (i * 32 + j)) (h .decoded .left-is i j b c) e;
   right = λ i j a b c e. near-size (getD right (i * 32 + j) 0) (h .decoded .right-near (i * 32 + j)) (h .decoded .right-is i j b c) e;
 }
 
-pub holds-enough : {p : Problem} {left right : List ℕ} {n m : ℕ} → DecodedAs p left right n m → 2 * (suc (p .n) * lead-limit) ≤ span-limit
+pub holds-enough : {p : Problem} {left right : List ℕ} {n m : ℕ} → InTables p n m left right → 2 * (suc (p .n) * lead-limit) ≤ span-limit
 holds-enough {p} h = top-enough (p .n) lead-limit (omega (arith, h .decoded .n-most))
 
 -- ---- class 1
@@ -61,7 +61,7 @@ trial-below-is span {z} s e =
     let r = trop-read span e in
     trop-show (span - 1) (z -ℤ pos 1) (omega (arith, s .near .lo (s .some))) (omega (arith, minus-read z (pos 1), s .near .lo (s .some)))
 
-module _ {Start : ℕ → Type 0} {p : Problem} {left right : List ℕ} {n m : ℕ} (holds : DecodedAs p left right n m) (stamps : List ℕ) {picks : Strategy} {z : ℤ} where
+module _ {Start : ℕ → Type 0} {p : Problem} {left right : List ℕ} {n m : ℕ} (holds : InTables p n m left right) (stamps : List ℕ) {picks : Strategy} {z : ℤ} where
   -- The rules are broken.
   pub optimal-broken : {c : Bool} → Decides ((i : ℕ) → i < m → Keeps p (stampsPoint stamps) i) c → c ≡ false
       → Decides (AcceptedOptimal Start p z (stampsPoint stamps) picks) false
@@ -116,7 +116,7 @@ none-above : {many width : ℕ} {picks : List ℕ} → Picked picks many → Non
 unfolding strategyOf
 none-above h j b = h .none-above j
 
-module _ {Start : ℕ → Type 0} {p : Problem} {left right : List ℕ} {n m : ℕ} (holds : DecodedAs p left right n m) (starts : (j : ℕ) → Start j → j ≤ p .n)
+module _ {Start : ℕ → Type 0} {p : Problem} {left right : List ℕ} {n m : ℕ} (holds : InTables p n m left right) (starts : (j : ℕ) → Start j → j ≤ p .n)
     {picks : List ℕ} {r : Bool} where
   pub infeasible-at : Picked picks (m + 1) → Decides (PicksCount Start p (strategyOf picks) × BelowZero Start p (strategyOf picks) (pos span-limit)) r
       → Decides (AcceptedInfeasible Start p (strategyOf picks)) r
@@ -139,7 +139,7 @@ module _ {Start : ℕ → Type 0} {p : Problem} {left right : List ℕ} {n m : �
 -- ---- from marks, and from the start that they mark
 
 -- A start as marks of the variables 0 to n lies inside the problem.
-pub begins-inside : {p : Problem} {left right start : List ℕ} {n m : ℕ} → DecodedAs p left right n m → (j : ℕ) → Begins start (n + 1) j → j ≤ p .n
+pub begins-inside : {p : Problem} {left right start : List ℕ} {n m : ℕ} → InTables p n m left right → (j : ℕ) → Begins start (n + 1) j → j ≤ p .n
 begins-inside holds j b = omega (arith, b .inside, holds .n-is)
 
 -- So does one below n + 1.

@@ -48,7 +48,8 @@ use Rattle.reach.specs.Marks.{Begins, StartMarked}
 use Rattle.reach.proofs.Existence.{MarksOf, reach-exists}
 use Rattle.closed_walks.specs.Gains.{matrix, anywhere, Table, NoneGains, Tested}
 use Rattle.records.specs.Stamps.{stampsPoint}
-use Rattle.closed_walks.specs.Tables.{Sized, DecodedAs, Picked, Trial}
+use Rattle.records.specs.Decoded.{InTables}
+use Rattle.closed_walks.specs.Tables.{Sized, Picked, Trial}
 use Rattle.closed_walks.specs.Arcs.{variableArc, VariableArcs, heaviest, RowArcs}
 use Rattle.strategy_tests.specs.Counts.{PickCounts, RowPickCounts, VariablesCount, RowsCount}
 use Rattle.checker.specs.Outcome.{Meant, Formed}
@@ -224,7 +225,7 @@ start-begun {Start} {width} w s = record { begin = marks; starts = record { flag
     only j b = flag-only (s .decided j) (rw (at j (omega (arith, b .inside))) at (b .marked))
 
 -- From any start, as marks.
-module _ {Start : ℕ → Type 0} {p : Problem} {left right begin : List ℕ} {n m : ℕ} (t : ℕ) {picks : List ℕ} {z : ℤ} (holds : DecodedAs p left right n m) (trial : Trial t)
+module _ {Start : ℕ → Type 0} {p : Problem} {left right begin : List ℕ} {n m : ℕ} (t : ℕ) {picks : List ℕ} {z : ℤ} (holds : InTables p n m left right) (trial : Trial t)
     (trial-is : tropOf t ≡ fin z) (starts : StartMarked Start (n + 1) begin) where
   pub strategy-decided : Picked picks (m + 1) → Decided (PicksCount Start p (strategyOf picks) × BelowZero Start p (strategyOf picks) z)
   strategy-decided picked = go (counts .answer) refl
@@ -291,7 +292,7 @@ value-decided (Problems.whole y) z = ⊎-elim
 
 -- ---- answers
 
-module _ {p : Problem} {left right : List ℕ} {n m : ℕ} (head : Head) {stamps picks : List ℕ} (holds : DecodedAs p left right n m)
+module _ {p : Problem} {left right : List ℕ} {n m : ℕ} (head : Head) {stamps picks : List ℕ} (holds : InTables p n m left right)
     (formed : Formed n m head stamps picks) where
   -- Any start below n + 1 as marks.
   begun : {Start : ℕ → Type 0} → StartBelow (suc (p .n)) Start → Begun Start (n + 1)
@@ -377,7 +378,7 @@ padded width xs h = record {
       (nat-le-or-lt width k);
 }
 
-held-by : (p : List ℕ) → Bytes p → WithinLayout p → DecodedAs (problemOf p) (leftTable p) (rightTable p) (nField p) (mField p)
+held-by : (p : List ℕ) → Bytes p → WithinLayout p → InTables (problemOf p) (nField p) (mField p) (leftTable p) (rightTable p)
 unfolding problemOf
 held-by p b w = record { n-is = refl; m-is = refl; decoded = problem-decoded p b w }
 
@@ -402,7 +403,7 @@ pub bytes-decided : (p a : List ℕ) → Bytes p → Bytes a → WithinLayout p 
     → Decided (Accepted (problemOf p) (answerOf a (nField p) (mField p)))
 bytes-decided p a b c w none = accepted-decided (headIn a) held (read-formed c read right) (read-means c read right)
   where
-    held : DecodedAs (problemOf p) (leftTable p) (rightTable p) (nField p) (mField p)
+    held : InTables (problemOf p) (nField p) (mField p) (leftTable p) (rightTable p)
     held = held-by p b w
 
     right : HeadRead a (nField p) (mField p) (headIn a)

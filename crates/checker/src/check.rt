@@ -48,7 +48,7 @@ use strategy_tests::starts::start_marks;
 
 // What the checker answers: accepted, with class and the span's offset number, or refused, with the number.
 pub enum Verdict {
-    Accepted(u64, u64),
+    Accepted { class: u64, span: u64 },
     Refused(usize),
 }
 
@@ -162,7 +162,10 @@ fn check_answer(problem: &[u8], n: usize, m: usize, answer: &[u8]) -> Verdict
         return Verdict::Refused(answer_refusal(read));
     };
     if certify(problem, n, m, head, &stamps, &picks) {
-        return Verdict::Accepted(head.class, head.span);
+        return Verdict::Accepted {
+            class: head.class,
+            span: head.span,
+        };
     }
     Verdict::Refused(NOT_CERTIFIED)
 }

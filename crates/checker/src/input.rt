@@ -30,7 +30,8 @@ use records::problem::read_header;
 // Where an input is cut: by its first length field where that is whole and reaches no further than the input. Public for
 // `grounds::input`.
 pub fn cut_place(input: &[u8]) -> usize
-    ensures { λ r. ⌜ (r ≡ cutPlace (now (input .entry))) × (r ≤ length (now (input .entry))) ⌝ }
+    ensures place { λ r. ⌜ r ≡ cutPlace (now (input .entry)) ⌝ }
+    ensures inside { λ r. ⌜ r ≤ length (now (input .entry)) ⌝ }
 {
     let size = input.len();
     if size < LENGTH_BYTES {

@@ -6,14 +6,15 @@ use Rattle.definitions.specs.Problem.{Problem}
 use Rattle.definitions.specs.ProblemRecord.{problemOf}
 use Rattle.problem_records.specs.Tables.{leftTable, rightTable, Laid}
 use Rattle.problem_records.proofs.LeadTables.{fit-decoded, laid-fit}
-use Rattle.closed_walks.specs.Tables.{Sized, DecodedAs}
+use Rattle.records.specs.Decoded.{InTables}
+use Rattle.closed_walks.specs.Tables.{Sized}
 
-pub laid-holds : {s : List ℕ} {n m : ℕ} → Laid s n m → DecodedAs (problemOf s) (leftTable s) (rightTable s) n m
+pub laid-holds : {s : List ℕ} {n m : ℕ} → Laid s n m → InTables (problemOf s) n m (leftTable s) (rightTable s)
 unfolding problemOf
 laid-holds {s} l = record { n-is = l .n-is; m-is = l .m-is; decoded = fit-decoded s (l .bytes) (laid-fit l) }
 
 -- Tables that hold a problem are sized for it.
-pub holds-sized : {p : Problem} {left right : List ℕ} {n m : ℕ} → DecodedAs p left right n m → Sized left right n m
+pub holds-sized : {p : Problem} {left right : List ℕ} {n m : ℕ} → InTables p n m left right → Sized left right n m
 holds-sized h =
     record {
       n-most = omega (arith, h .n-is, h .decoded .n-most);

@@ -4,8 +4,7 @@ use mathlib.Core.Path.{_≡_}
 use mathlib.Core.List.{List}
 use lib.ListN.{length, getD}
 use Rattle.definitions.specs.Limits.{highest-n, highest-m, lead-limit, span-limit, table-size, stride, table-rows}
-use Rattle.definitions.specs.Problem.{Problem}
-use Rattle.records.specs.Decoded.{Near, Decoded}
+use Rattle.records.specs.Decoded.{Near}
 
 -- Two tables of coefficients for n + 1 variables and m + 1 rows, whatever problem they hold.
 pub record Sized (left right : List ℕ) (n m : ℕ) : Type 0 where
@@ -15,12 +14,6 @@ pub record Sized (left right : List ℕ) (n m : ℕ) : Type 0 where
   pub right-length : length right ≡ table-size
   pub left-near : (k : ℕ) → Near lead-limit (getD left k 0)
   pub right-near : (k : ℕ) → Near lead-limit (getD right k 0)
-
--- The tables hold this problem of n + 1 variables and m + 1 rows.
-pub record DecodedAs (p : Problem) (left right : List ℕ) (n m : ℕ) : Type 0 where
-  pub n-is : p .n ≡ n
-  pub m-is : p .m ≡ m
-  pub decoded : Decoded p left right
 
 -- Picks, none above the highest.
 pub record Picked (picks : List ℕ) (highest : ℕ) : Type 0 where

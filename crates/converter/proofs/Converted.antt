@@ -10,7 +10,7 @@ use lib.Dec.{eqb, ltb, leb}
 use lib.ListN.{length, getD, length-append, List·getD-append}
 use lib.Seq.{getD-append-add}
 use borrow.Author.Tests.{lt-ltb, le-ltb, ne-eqb}
-use Rattle.base.proofs.Numbers.{nat-le-or-lt}
+use Rattle.base.proofs.Numbers.{nat-le-or-lt, divided}
 use Rattle.definitions.specs.Limits.{highest-n, highest-m, lead-limit, length-bytes, short-bytes, signed-bytes, kind-place, m-place, problem-header, questions-header, problem-kind, questions-kind, most-questions}
 use Rattle.definitions.specs.Bytes.{Bytes, numAt, le, tropField, tropAt, all, blank-or-within}
 use Rattle.definitions.specs.ProblemRecord.{Kinds, converter-kinds, engine-kinds, refusalFor, lengthField, kindField, nField, mField, countField, leadsPlace, questionsAsked, recordSize, wrong-count, rowPlace, blank-left, leadsOf, silentRefused, WithinLayouts}
@@ -33,21 +33,6 @@ few-right size count h g = rw (ne-eqb count 0 (omega arith), le-ltb most-questio
     neither : (t : Bool) → (t && (false || false)) ≡ false
     neither true = refl
     neither false = refl
-
--- A number below d × c is some turns of d, fewer than c, and a rest below d.
-record Divided (d k c : ℕ) : Type 0 where
-  turns : ℕ
-  rest : ℕ
-  is : k ≡ turns * d + rest
-  few : turns < c
-  small : rest < d
-
-divided : (d k c : ℕ) → k < c * d → Divided d k c
-divided d k zero h = absurd (omega arith)
-divided d k (suc c) h = ⊎-elim
-    (λ (b : c * d ≤ k). record { turns = c; rest = k - c * d; is = omega arith; few = omega arith; small = omega arith })
-    (λ (b : k < c * d). let r = divided d k c b in record { turns = r .turns; rest = r .rest; is = r .is; few = omega (arith, r .few); small = r .small })
-    (nat-le-or-lt (c * d) k)
 
 -- What stands before the leads, and what stands behind.
 pub converted-parts : (s : List ℕ) → converted s ≡ headLeft s (convertedSize s - length-bytes) (rulesLeft s (mField s)) ++ (rowsLeft s (mField s) ++ questionRows s)

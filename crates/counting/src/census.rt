@@ -16,7 +16,12 @@ use records::problem::lead_count;
 // What a census answers: the number of the refusal, or how many problems are least, bottomless, none, and under refusal 17.
 pub enum Census {
     Refused(usize),
-    Counted(u64, u64, u64, u64),
+    Counted {
+        least: u64,
+        bottomless: u64,
+        none: u64,
+        silent: u64,
+    },
 }
 
 // The largest record of a census has 8 leads.
@@ -52,7 +57,12 @@ pub fn take_census(n: u64, m: u64, w: u64) -> Census
     match total {
         Total::Problems(count) => {
             let tally = tally_all(n as usize, m as usize, w, count);
-            Census::Counted(tally.least, tally.bottomless, tally.none, tally.silent)
+            Census::Counted {
+                least: tally.least,
+                bottomless: tally.bottomless,
+                none: tally.none,
+                silent: tally.silent,
+            }
         }
         Total::Refused(k) => Census::Refused(k),
     }

@@ -71,7 +71,16 @@ pub fn counted_as(problem: &[u8]) -> u64
     let solved = solve(problem, &mut answer);
     match solved {
         Solved::Refused(k) => k as u64,
-        Solved::Answered(class, _, _, _) => class,
-        Solved::AllAnswered(_, _, _) => 0,
+        Solved::Answered {
+            class,
+            span: _,
+            trials: _,
+            size: _,
+        } => class,
+        Solved::AllAnswered {
+            count: _,
+            trials: _,
+            size: _,
+        } => 0,
     }
 }

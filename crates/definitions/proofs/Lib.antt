@@ -32,3 +32,4 @@ pub mod Suspended
 pub mod Marks
 pub mod Merging
 pub mod ReasonsFacts
+pub mod DeskFacts

@@ -14,7 +14,7 @@ use Rattle.definitions.specs.Tropical.{Trop}
 use Rattle.definitions.specs.Bytes.{Bytes, numAt, tropField, tropAt, all, blank-or-within}
 use Rattle.definitions.specs.ProblemRecord.{Kinds, engine-kinds, nField, mField, lengthField, kindField, countField, problemSize, leadsOf, leadsPlace, questionsAsked, headerRefusal, WithinLayout, WithinLayouts, rowPlace, headerBytes, blank-left, silentRefused}
 use Rattle.definitions.specs.Questions.{part, rowsSize, alone, asking, askedRow}
-use Rattle.base.proofs.Numbers.{nat-le-or-lt}
+use Rattle.base.proofs.Numbers.{nat-le-or-lt, divided}
 use Rattle.definitions.proofs.Bytes.{numAt-same, all-numsAt, bytes-append, bytes-le, bytes-take, bytes-drop}
 use Rattle.definitions.proofs.Refusals.{header-passes, few-questions, record-fits, plain-within, within-asks, leads-one}
 use Rattle.definitions.proofs.Silent.{some-same, run-same}
@@ -27,23 +27,6 @@ part-length s from size h = length-take-le size (drop from s) (rw (length-drop f
 
 pub part-at : (s : List ℕ) (from size k : ℕ) → k < size → getD (part s from size) k 0 ≡ getD s (from + k) 0
 part-at s from size k h = getD-take size (drop from s) k 0 h ∙ getD-drop from s k 0
-
--- ---- dividing
-
--- A number below d × c is some turns of d, fewer than c, and a rest below d.
-record Divided (d k c : ℕ) : Type 0 where
-  turns : ℕ
-  rest : ℕ
-  is : k ≡ turns * d + rest
-  few : turns < c
-  small : rest < d
-
-divided : (d k c : ℕ) → k < c * d → Divided d k c
-divided d k zero h = absurd (omega arith)
-divided d k (suc c) h = ⊎-elim
-    (λ (b : c * d ≤ k). record { turns = c; rest = k - c * d; is = omega arith; few = omega arith; small = omega arith })
-    (λ (b : k < c * d). let r = divided d k c b in record { turns = r .turns; rest = r .rest; is = r .is; few = omega (arith, r .few); small = r .small })
-    (nat-le-or-lt (c * d) k)
 
 -- ---- one question
 

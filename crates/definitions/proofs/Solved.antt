@@ -173,7 +173,7 @@ pub asked-takes : {p : List ℕ} {q : ℕ} → OneAsked p q → {class : ℕ} {s
     → WriterFits a (nField p) (mField p) answer-most
 asked-takes {p} {q} o a ans = subst₂ (λ (n m : ℕ). WriterFits a n m answer-most) (o .n-is) (o .m-is) (answer-takes (alone p q) (o .within) a ans)
 
--- Their bytes are at most 206 a question.
+-- Their bytes are at most 208 a question.
 pub turn-most : {p : List ℕ} → kindField p ≡ questions-kind → WithinLayouts p → {q trials : ℕ} {bytes : List ℕ} → AnswersInTurn p q bytes trials → q ≤ countField p → length bytes ≤ q * answer-most
 turn-most k w no-question h = omega arith
 turn-most {p} k w (one-more {q = q} {bytes = bytes} a turn ans) h =

@@ -165,7 +165,8 @@ pub record EachOnce (n m w : ℕ) : Type 0 where
 abbrev pub OneNumber : Type 1
 OneNumber = (A : Type 0) (P : A → Type 0) (xs : List A) (j k : ℕ) → Counted P xs j → Counted P xs k → j ≡ k
 
--- Request 2.14: there is one census, and it is about each problem once.
+-- Request 2.14: there are no two censuses (that there is one is the contract of `counting::census::take_census`), and it is about each problem
+-- once.
 pub record CensusHolds : Type 0 where
   pub one-census : (n m w : ℕ) (r q : Census) → Censuses n m w r → Censuses n m w q → r ≡ q
   pub each-once : (n m w : ℕ) → n ≤ highest-n → m ≤ highest-m → w ≤ lead-limit → EachOnce n m w

@@ -299,8 +299,8 @@ OwnAnswers engine check =
 
 -- ---- several questions
 
--- Document 02, 2.1: demands 2 and 3 for each question with its kind 1 problem, which is within the layout, so that all that they say of such a
--- problem holds of it. The answer to question q, in `size` bytes of the engine's buffer from `at` on: class and least span of the
+-- Document 02, 2.1: demands 2 and 3 for each question with its kind 1 problem, which is within the layout: what they say of every such problem
+-- holds of it. The answer to question q, in `size` bytes of the engine's buffer from `at` on: class and least span of the
 -- theory, by the plans that count, in at most 24 trials; it reads back as itself; and the checker accepts it.
 pub record QuestionAnswered (check : Checker) (read : Reader) (p buffer : List ℕ) (q at size trials : ℕ) : Type 0 where
   pub class : ℕ

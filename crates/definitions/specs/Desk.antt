@@ -2,15 +2,18 @@
 use Prim.Native.Nat.{ℕ, zero, suc, _+_, _*_, _≤_, _<_}
 use mathlib.Core.Path.{_≡_}
 use mathlib.Core.Bool.{cond}
+use mathlib.Core.Logic.{_⊎_}
 use mathlib.Core.List.{List, [], _∷_, _++_, map}
 use lib.Dec.{eqb, ltb, leb}
-use lib.ListN.{length, getD, set, replicate}
+use lib.ListN.{length, getD, set, take, replicate}
 use Rattle.definitions.specs.Limits.{most-trials, desk-places, desk-memory, desk-steps, last-ticket, answer-most, refused-room, refused-full, refused-ticket, refused-memory}
 use Rattle.definitions.specs.Tropical.{Trop}
 use Rattle.definitions.specs.Bytes.{Clause, first, or-else}
 use Rattle.definitions.specs.ProblemRecord.{desk-kinds, refusalFor, problemOf, meant, nField, mField}
 use Rattle.definitions.specs.AnswerRecord.{Answer, answerSize, answerBytes, written}
 use Rattle.definitions.specs.Solved.{Found, Answers}
+use Rattle.definitions.specs.Verdict.{accepted}
+use Rattle.definitions.specs.Demands.{Slice, Checker}
 
 -- ---- the state of the machine
 
@@ -76,10 +79,10 @@ pub data Opening : Type 0 where
   refused : ℕ → Opening
   ready : Opening
 
--- With a memory of so many bytes; what the memory holds does not matter.
-pub data Opens (memory : ℕ) : Opening → Type 0 where
-  turned-away : {k : ℕ} → first (memoryRefused memory ∷ []) ≡ suc k → Opens memory (refused (suc k))
-  opens : first (memoryRefused memory ∷ []) ≡ 0 → Opens memory ready
+-- With a memory of so many bytes; what the memory holds does not matter. A refused opening opens nothing: no state is told of.
+pub data Opens (memory : ℕ) : Opening → Desk → Type 0 where
+  turned-away : {k : ℕ} {d : Desk} → first (memoryRefused memory ∷ []) ≡ suc k → Opens memory (refused (suc k)) d
+  opens : first (memoryRefused memory ∷ []) ≡ 0 → Opens memory ready opened
 
 -- ---- taking in
 
@@ -186,12 +189,12 @@ pub record FromOpening (memory : ℕ) (d : Desk) : Type 0 where
 
 -- ---- what is proved of every sequence
 
--- The ticket still waits.
-pub record StillWaits (d : Desk) (number : ℕ) : Type 0 where
-  pub place : ℕ
-  pub problem : List ℕ
-  pub own : ℕ
-  pub there : Stands d place (waits number problem own)
+-- Some step of the sequence reported that the ticket is answered now.
+unfoldable pub Reported : (number : ℕ) {memory k : ℕ} {d e : Desk} → Run memory d k e → Type 0
+Reported number nothing = ⊥
+Reported number (take-in run t) = Reported number run
+Reported number (one-step {r = r} run s) = Reported number run ⊎ (r ≡ done number)
+Reported number (collect run c) = Reported number run
 
 -- "For every sequence of takings-in, steps and collections from an opening on".
 pub record DeskHolds : Type 0 where
@@ -202,19 +205,96 @@ pub record DeskHolds : Type 0 where
   pub trials-of-answered :
       {memory : ℕ} {d : Desk} → FromOpening memory d → {i number class own : ℕ} {span : Trop} {problem : List ℕ} {a : Answer}
       → Stands d i (answered number problem class span own a) → own ≤ most-trials
-  -- "and at most 384 steps after it was taken in";
+  -- "and at most 384 steps after it was taken in": of so many steps one reported it;
   pub steps-after :
       {memory : ℕ} {d e f : Desk} {p : List ℕ} {number k : ℕ} → FromOpening memory d → TakesIn memory d p (ticket number) e
-      → Run memory e k f → desk-steps ≤ k → StillWaits f number → ⊥
+      → (run : Run memory e k f) → desk-steps ≤ k → Reported number run
+  -- what waits or is answered with a ticket is the problem that got the ticket;
+  pub ticket-waits :
+      {memory : ℕ} {d e f : Desk} {p : List ℕ} {number k : ℕ} → FromOpening memory d → TakesIn memory d p (ticket number) e
+      → Run memory e k f → {i own : ℕ} {problem : List ℕ} → Stands f i (waits number problem own) → problem ≡ meant p
+  pub ticket-answered :
+      {memory : ℕ} {d e f : Desk} {p : List ℕ} {number k : ℕ} → FromOpening memory d → TakesIn memory d p (ticket number) e
+      → Run memory e k f → {i class own : ℕ} {span : Trop} {problem : List ℕ} {a : Answer}
+      → Stands f i (answered number problem class span own a) → problem ≡ meant p
   -- the answer is one that the engine may give for that problem alone, which is one that the desk takes;
   pub answers-alone :
       {memory : ℕ} {d : Desk} → FromOpening memory d → {i number class own : ℕ} {span : Trop} {problem : List ℕ} {a : Answer}
       → Stands d i (answered number problem class span own a) → WithinDesk problem × Answers (problemOf problem) class span own a
-  -- "a problem's answer does not depend on the others": over two sequences the same problem has the same class, span and own trials;
+  -- "a problem's answer does not depend on the others": over two sequences the same problem has the same class, span and own trials
+  -- (start, stamps and picks are free);
   pub independent :
       {memory room : ℕ} {d e : Desk} → FromOpening memory d → FromOpening room e → {problem : List ℕ} {i k x y c z own trials : ℕ} {s t : Trop} {a b : Answer}
       → Stands d i (answered x problem c s own a) → Stands e k (answered y problem z t trials b) → (c ≡ z) × (s ≡ t) × (own ≡ trials)
-  -- tickets "never come twice before the next" opening.
+  -- "tickets count up from 1 at each opening, in 64 bits": the first is 1, each is the one after the last given out, no other call gives one
+  -- out, and none is above 2⁶⁴ − 1;
+  pub first-ticket : {memory : ℕ} {e : Desk} {p : List ℕ} {number : ℕ} → TakesIn memory opened p (ticket number) e → number ≡ 1
+  pub tickets-count :
+      {memory : ℕ} {d e : Desk} {p : List ℕ} {number : ℕ} → TakesIn memory d p (ticket number) e
+      → (number ≡ suc (d .given)) × (e .given ≡ number) × (number ≤ last-ticket)
+  pub steps-give-none : {memory : ℕ} {d e : Desk} {r : Stepped} → Steps memory d r e → e .given ≡ d .given
+  pub collecting-gives-none :
+      {memory number : ℕ} {d e : Desk} {before after : List ℕ} {r : Collected} → Collects memory d number before r e after → e .given ≡ d .given
+  -- no two places hold the same ticket, and after its collection one is held no more, so that it gets 22 (and is given out no more, below);
+  pub tickets-apart :
+      {memory : ℕ} {d : Desk} → FromOpening memory d → (i k : ℕ) → (placeAt d i ≡ empty → ⊥) → (placeAt d k ≡ empty → ⊥)
+      → ticketOf (placeAt d i) ≡ ticketOf (placeAt d k) → i ≡ k
+  pub collected-once :
+      {memory number class own size : ℕ} {span : Trop} {d e : Desk} {before after : List ℕ} → FromOpening memory d
+      → Collects memory d number before (collected class span own size) e after → NotHeld e number
+  -- they "never come twice before the next" opening.
   pub tickets-rise :
       {memory : ℕ} {d e f g : Desk} {p q : List ℕ} {number later k : ℕ} → TakesIn memory d p (ticket number) e → Run memory e k f
       → TakesIn memory f q (ticket later) g → number < later
+
+-- ---- no call is stuck
+
+-- Some answer of a call, and what it leaves.
+pub record SomeOpening (memory : ℕ) : Type 0 where
+  pub result : Opening
+  pub next : Desk
+  pub moves : Opens memory result next
+
+pub record SomeTaking (memory : ℕ) (d : Desk) (p : List ℕ) : Type 0 where
+  pub result : TakenIn
+  pub next : Desk
+  pub moves : TakesIn memory d p result next
+
+pub record SomeStep (memory : ℕ) (d : Desk) : Type 0 where
+  pub result : Stepped
+  pub next : Desk
+  pub moves : Steps memory d result next
+
+pub record SomeCollecting (memory : ℕ) (d : Desk) (number : ℕ) (buffer : List ℕ) : Type 0 where
+  pub result : Collected
+  pub next : Desk
+  pub after : List ℕ
+  pub moves : Collects memory d number buffer result next after
+
+-- From every state that calls lead to from an opening on, each call has an answer.
+pub record NeverStuck : Type 0 where
+  pub opening : (memory : ℕ) → SomeOpening memory
+  pub taking-in : {memory : ℕ} {d : Desk} → FromOpening memory d → (p : List ℕ) → SomeTaking memory d p
+  pub stepping : {memory : ℕ} {d : Desk} → FromOpening memory d → SomeStep memory d
+  pub collecting : {memory : ℕ} {d : Desk} → FromOpening memory d → (number : ℕ) (buffer : List ℕ) → SomeCollecting memory d number buffer
+
+-- ---- the checker
+
+-- The problem that was collected, at its place; the checker, handed its bytes and the record, accepts it with the class and span that were told.
+pub record CollectedRight (check : Checker) (d : Desk) (number class : ℕ) (span : Trop) (own : ℕ) (bytes : List ℕ) : Type 0 where
+  pub place : ℕ
+  pub problem : List ℕ
+  pub answer : Answer
+  pub there : Stands d place (answered number problem class span own answer)
+  pub accepted-is : Slice problem → check problem bytes ≡ accepted class span
+
+-- "And the checker accepts it": every record that is collected, from an opening on; and a problem that was taken in and is collected later,
+-- handed to the checker as it was handed to the desk.
+pub record CollectedAccepted (check : Checker) : Type 0 where
+  pub each :
+      {memory number class own size : ℕ} {span : Trop} {d e : Desk} {before after : List ℕ} → FromOpening memory d
+      → Collects memory d number before (collected class span own size) e after → CollectedRight check d number class span own (take size after)
+  pub taken-in :
+      {memory number k class own size : ℕ} {span : Trop} {d e f g : Desk} {p before after : List ℕ} → FromOpening memory d
+      → TakesIn memory d p (ticket number) e → Run memory e k f → Collects memory f number before (collected class span own size) g after
+      → Slice p → check p (take size after) ≡ accepted class span

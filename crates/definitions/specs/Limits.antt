@@ -1,5 +1,5 @@
--- The numbers of documents 01 and 02, each once for what it limits; those that follow from others are derived. (Refusals 14, 18 and 19 are named in
--- Verdict, Hours and Week, and the two outer trials are counted in Bisection.)
+-- The numbers of documents 01 and 02, each once for what it limits; those that follow from others are derived. (Refusals 14, 16, 18 and 19 are named in
+-- Verdict, Reasons, Hours and Week, and the two outer trials are counted in Bisection.)
 use Prim.Native.Nat.{ℕ, suc, _+_, _*_, _-_}
 use lib.IntN.{ℤ, pos, negsuc}
 
@@ -265,7 +265,7 @@ abbrev pub refused-silent : ℕ
 refused-silent = 17
 
 -- The answer buffer is shorter than 208 bytes, in the engine than 208 for each question, whichever class is due; in the converter the
--- buffer is shorter than the record to be written.
+-- buffer is shorter than the record to be written, in merging than 128 bytes.
 abbrev pub refused-room : ℕ
 refused-room = 7
 
@@ -285,7 +285,7 @@ refused-answer-class = 10
 abbrev pub refused-answer-size : ℕ
 refused-answer-size = 11
 
--- Its span or a stamp is outside the form of its class.
+-- Its span or a stamp is outside the form of its class; in merging a plan is not n + 1 stamps of the form of class 1.
 abbrev pub refused-form : ℕ
 refused-form = 12
 

@@ -81,7 +81,7 @@ someEarly n a b t = some-below (λ j. early (mergedPlan n a b t j)) (suc n)
 
 -- ---- the entry
 
--- What merging answers for a problem, two plans, a shift and a lent buffer, the refusal or how many bytes are written, and the buffer
+-- What merging answers for a problem (the record p that the bytes mean, `meant`), two plans, a shift and a lent buffer, the refusal or how many bytes are written, and the buffer
 -- afterwards: as it was where something is refused; else the merged stamps stand at its start, and every byte after them is as it was.
 pub data Merges (p a b : List ℕ) (t : ℤ) (before : List ℕ) : Outcome ℕ → List ℕ → Type 0 where
   turned-away : {k : ℕ} → mergeRefusal p a b t (length before) ≡ suc k → Merges p a b t before (refusal (suc k)) before

@@ -1,4 +1,4 @@
--- The two programs: how the verdict program cuts its input, and what each program puts out for every input.
+-- The two programs of document 01: how the verdict program cuts its input, and what each program puts out for every input.
 -- Document 01, "Two programs". Text is in ASCII; every line ends with one newline, 0A.
 use Prim.Native.Nat.{ℕ, zero, suc, _+_, _*_, _/_, _%_, _≤_}
 use mathlib.Core.Path.{_≡_}
@@ -108,7 +108,7 @@ pub data SpanOutput (input : List ℕ) : List ℕ → Type 0 where
 
 -- ---- long inputs
 
--- Both programs count all input and keep the first 20,000 bytes of it. An input of this size whose first 20,000 bytes are
+-- The programs that read records count all input and keep the first 20,000 bytes of it. An input of this size whose first 20,000 bytes are
 -- the kept ones; of a shorter input only the first `size` kept bytes belong to it. So what a
 -- program puts out depends on the kept bytes and the size alone.
 pub record KeptOf (kept : List ℕ) (size : ℕ) (input : List ℕ) : Type 0 where

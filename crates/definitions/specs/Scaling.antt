@@ -40,7 +40,7 @@ pub record GainsNothing (d : ℕ) (p q : Problem) : Type 0 where
   pub none-exactly : Infeasible p ↔ Infeasible q
 
 -- Strings of bytes s and t, read as problem records of kind 1 of the same n and m (whatever refusals apply to them): each lead of t
--- is d times the lead there in s.
+-- is d times the lead there in s. (Problems of the other kinds are covered by `every-problem`.)
 pub record ScaledRecord (d : ℕ) (s t : List ℕ) : Type 0 where
   pub of-kind : kindField s ≡ problem-kind
   pub kind : kindField t ≡ problem-kind

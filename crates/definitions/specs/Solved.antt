@@ -70,7 +70,7 @@ pub data Solved : Type 0 where
   answered : ℕ → Trop → ℕ → ℕ → Solved
   all-answered : ℕ → ℕ → ℕ → Solved
 
--- The engine's result and its buffer for the bytes p and a lent buffer: a refusal leaves the buffer as it was; an
+-- The engine's result and its buffer for the record p that the bytes mean (`meant`) and a lent buffer: a refusal leaves the buffer as it was; an
 -- answer's record, or those of all answers one after another, stand at its start, and every byte after them is as it was.
 pub data Solves (p before : List ℕ) : Solved → List ℕ → Type 0 where
   turned-away : {k : ℕ} → engineRefusal p (length before) ≡ suc k → Solves p before (refused (suc k)) before

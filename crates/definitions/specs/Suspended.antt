@@ -11,7 +11,7 @@ use Rattle.definitions.specs.ProblemRecord.{mField, suspended, problemOf
 use Rattle.definitions.specs.Solved.{IdleRows}
 use Rattle.definitions.specs.Selection.{selected, leftBelow, leftAt}
 
--- How many rules are in force, and which is the i-th of them, both counted from 0.
+-- How many rules are in force, and which rule is the i-th of them; rules and i are counted from 0.
 abbrev pub rulesInForce : List ℕ → ℕ
 rulesInForce s = leftBelow (suspended s) (mField s)
 
@@ -22,7 +22,8 @@ ruleInForce s = leftAt (suspended s) (mField s)
 abbrev pub onlyInForce : List ℕ → Problem
 onlyInForce s = selected (problemOf s) (ruleInForce s) (rulesInForce s)
 
--- Rule i, counted from 0, of the problem p is suspended. "A suspended rule is kept by every plan";
+-- What holds of rule i, counted from 0, of the problem p where it is suspended (that it does, and that class and span are those of the rules in
+-- force, is `selection: Suspended.RulesInForce`). "A suspended rule is kept by every plan";
 pub record Lifted (p : Problem) (i : ℕ) : Type 1 where
   pub kept : (x : Point) → Keeps p x i
   -- "its row gives no arcs": nothing is led to by it, and no arc is by it, in each class;

@@ -54,7 +54,7 @@ accepts (refused k) = false
 abbrev pub answerFor : List ℕ → List ℕ → Answer
 answerFor p a = answerOf a (nField p) (mField p)
 
--- The verdict on the bytes p and a: refused with the first refusal; else accepted exactly when all that is listed
+-- The verdict on the record p that a problem's bytes mean (`meant`) and the bytes a: refused with the first refusal; else accepted exactly when all that is listed
 -- holds, and not certified exactly when not.
 pub data Judged (p a : List ℕ) : Verdict → Type 0 where
   turned-away : {k : ℕ} → checkRefusal p a ≡ suc k → Judged p a (refused (suc k))

@@ -7,6 +7,7 @@ use mathlib.Core.List.{List}
 use native.Mathlib.Omega.{arith}
 use native.Mathlib.Nat.{eq-zero-or-pos}
 use lib.ListN.{length, getD, set, length-set}
+use lib.Seq.{getD-set-other}
 use Rattle.definitions.specs.Limits.{desk-places, desk-memory, problem-most, answer-most, refused-room, refused-ticket, refused-memory}
 use Rattle.definitions.specs.Bytes.{Bytes}
 use Rattle.definitions.specs.Offset.{tropOf}
@@ -30,7 +31,7 @@ use Rattle.desk.proofs.Holding.{place-empty, place-ticket, place-open, 
 use Rattle.desk.proofs.Taking.{memory-enough}
 
 pub collect-short : (d : Desk) (memory : List ℕ) (ticket : ℕ) (buffer : List ℕ) → length memory < desk-memory → DidCollect d memory ticket buffer (Collections.Refused refused-memory) d buffer
-collect-short d memory ticket buffer h = record { same-length = refl; short = λ _. (refl, refl, refl); moves = λ l. absurd (omega arith) }
+collect-short d memory ticket buffer h = record { same-length = refl; refused-still = λ e. (refl, refl); waits-still = λ e. (refl, refl); frees = λ e. absurd (let z : _≡_ {A = ℕ} 0 1 = cc in omega arith); short = λ _. (refl, refl, refl); moves = λ l. absurd (omega arith) }
 
 -- No place holds the ticket.
 pub collect-none : {d : Desk} {memory : List ℕ} {ticket at : ℕ} {buffer : List ℕ} → desk-memory ≤ length memory → HoldsTicket d ticket at → at ≡ desk-places
@@ -38,6 +39,9 @@ pub collect-none : {d : Desk} {memory : List ℕ} {ticket at : ℕ} {buffer : Li
 unfolding collectedOf
 collect-none {d} {memory} {ticket} {at} {buffer} h t e = record {
   same-length = refl;
+  refused-still = λ e. (refl, refl);
+  waits-still = λ e. (refl, refl);
+  frees = λ e. absurd (let z : _≡_ {A = ℕ} 0 1 = cc in omega arith);
   short = λ l. absurd (omega arith);
   moves = λ _ state f g. record { next = state; collects = Collects.no-such-ticket (memory-enough (length memory) h) (not-held state g); holds = g };
 }
@@ -64,6 +68,9 @@ module _ (d : Desk) (memory : List ℕ) (ticket at : ℕ) (buffer : List ℕ) (h
   unfolding collectedOf
   collect-waits e = record {
     same-length = refl;
+    refused-still = λ e. (refl, refl);
+    waits-still = λ e. (refl, refl);
+    frees = λ e. absurd (let z : _≡_ {A = ℕ} 0 1 = cc in omega arith);
     short = λ l. absurd (omega arith);
     moves = λ _ state f g. record {
       next = state;
@@ -86,6 +93,9 @@ module _ (d : Desk) (memory : List ℕ) (ticket at : ℕ) (buffer : List ℕ) (h
     unfolding collectedOf
     collect-room b = record {
       same-length = refl;
+      refused-still = λ e. (refl, refl);
+      waits-still = λ e. (refl, refl);
+      frees = λ e. absurd (let z : _≡_ {A = ℕ} 0 1 = cc in omega arith);
       short = λ l. absurd (omega arith);
       moves = λ _ state f g. record {
         next = state;
@@ -109,6 +119,9 @@ module _ (d : Desk) (memory : List ℕ) (ticket at : ℕ) (buffer : List ℕ) (h
     unfolding collectedOf
     collected-all {d′} c {buffer′} {size} room free desk-is same size-is buffer-is = record {
       same-length = same;
+      refused-still = λ e. absurd (let z : _≡_ {A = ℕ} 0 1 = cc in omega arith);
+      waits-still = λ e. absurd (let z : _≡_ {A = ℕ} 0 1 = cc in omega arith);
+      frees = λ _. record { at = at; inside = inside; found = t; others = record { stay = λ k n. rw desk-is (getD-set-other (d .places) at k c noPlace n) } };
       short = λ l. absurd (omega arith);
       moves = λ _ state f g.
           let a = answered state g in

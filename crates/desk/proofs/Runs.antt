@@ -1,4 +1,4 @@
--- Every sequence of calls: own trials at most 24, an answer at most 384 steps after a problem was taken in, tickets that never come twice.
+-- Every sequence of calls: own trials at most 24, and no problem waits longer than 384 steps after it was taken in.
 -- A waiting problem's due falls by one at each step and rises at no call: its place in the line, and 16 for each trial of its own that may
 -- come after the next one.
 use Prim.Native.Nat.{ℕ, zero, suc, _+_, _*_, _-_, _≤_, _<_}
@@ -9,18 +9,17 @@ use native.Mathlib.Omega.{arith}
 use native.Mathlib.Decide.{ℕ-discrete}
 use lib.ListN.{length, getD, set, replicate, length-set, length-replicate, getD-replicate, List·getD-eq-default}
 use lib.Seq.{getD-set-same, getD-set-other}
-use Rattle.definitions.specs.Limits.{desk-places, most-trials}
+use Rattle.definitions.specs.Limits.{desk-places, desk-steps, most-trials}
 use Rattle.definitions.specs.Tropical.{Trop}
 use Rattle.definitions.specs.ProblemRecord.{problemOf, meant}
 use Rattle.definitions.specs.AnswerRecord.{Answer}
 use Rattle.definitions.specs.Solved.{Found, Answers}
 use Rattle.definitions.specs.Bytes.{first, or-else}
-use Rattle.definitions.specs.Desk.{memoryRefused, fullRefused, deskRefusal, WithinDesk, Place, empty, waits, answered, Desk, opened, placeAt, Stands, ticketOf, FirstEmpty, TakenIn, TakesIn, taken, takeRefusal, Stepped, Steps, one-more, last-one, Collected, Collects, handed-over, Run, nothing, take-in, one-step, collect, FromOpening, StillWaits, DeskHolds}
+use Rattle.definitions.specs.Desk.{memoryRefused, fullRefused, deskRefusal, WithinDesk, Place, empty, waits, answered, Desk, opened, placeAt, Stands, ticketOf, FirstEmpty, TakenIn, TakesIn, taken, takeRefusal, Stepped, Steps, one-more, last-one, Collected, Collects, handed-over, Run, nothing, take-in, one-step, collect, FromOpening}
 use Rattle.definitions.specs.Desk as Desks
 use Rattle.base.proofs.Numbers.{nat-le-or-lt}
 use Rattle.definitions.proofs.Refusals.{or-else-none, desk-within}
 use Rattle.duality.proofs.SmallLeads.{trials-few}
-use Rattle.duality.proofs.Classes.{found-one}
 use Rattle.desk.proofs.Line.{At, In, Line, at-kept, at-end, at-joined, at-next, joins, leaves, line-as, line-most}
 
 -- Something waits at this place.
@@ -31,7 +30,7 @@ pub record Waiting (d : Desk) (i : ℕ) : Type 0 where
   pub there : Stands d i (waits number problem own)
 
 -- A problem that the desk takes asks for at most 24 trials.
-desk-few : (p : List ℕ) → WithinDesk p → {class : ℕ} {span : Trop} {trials : ℕ} → Found (problemOf p) class span trials → trials ≤ most-trials
+pub desk-few : (p : List ℕ) → WithinDesk p → {class : ℕ} {span : Trop} {trials : ℕ} → Found (problemOf p) class span trials → trials ≤ most-trials
 desk-few p w f = trials-few p (desk-within p w) f
 
 -- What holds of a place: a problem that waits is within the layout and has made fewer than 24 trials, an answered one at most 24,
@@ -120,7 +119,7 @@ module _ (d : Desk) (given : ℕ) (line : List ℕ) (i : ℕ) (p : Place) where
 
 -- ---- each call keeps it
 
-sixteen-empty : (i : ℕ) → placeAt opened i ≡ empty
+pub sixteen-empty : (i : ℕ) → placeAt opened i ≡ empty
 sixteen-empty i = ⊎-elim (λ (h : desk-places ≤ i). List·getD-eq-default (opened .places) empty {n = i} (omega (arith, length-replicate {A = Place} desk-places empty))) (λ h. getD-replicate desk-places i empty empty h) (nat-le-or-lt desk-places i)
 
 no-ticket : ticketOf empty ≤ 0
@@ -222,7 +221,7 @@ record Due (d : Desk) (number passed most : ℕ) : Type 0 where
   due : {i own : ℕ} {problem : List ℕ} → Stands d i (waits number problem own) → (q : ℕ) × At (d .line) i q × (q + 1 + desk-places * (most-trials - 1 - own) + passed ≤ most)
   given : number ≤ d .given
 
-same-number : {number own : ℕ} {problem : List ℕ} {n o : ℕ} {p : List ℕ} → waits number problem own ≡ waits n p o → number ≡ n
+pub same-number : {number own : ℕ} {problem : List ℕ} {n o : ℕ} {p : List ℕ} → waits number problem own ≡ waits n p o → number ≡ n
 unfolding ticketOf
 same-number e = ap ticketOf e
 
@@ -331,41 +330,15 @@ due-at-first {memory} {d = d} {p = p} s (taken {i = i} h f) = record { due = λ 
         let high : suc (d .given) ≤ d .given = subst (λ (z : Place). ticketOf z ≤ d .given) old (s .tickets j) in
         absurd (omega arith)
 
--- ---- tickets, and answers of the same problem
-
-pub given-rises : {memory k : ℕ} {d e : Desk} → Run memory d k e → d .given ≤ e .given
-given-rises nothing = omega arith
-given-rises (take-in run (Desks.TakesIn.turned-away h)) = given-rises run
-given-rises (take-in run (taken h f)) = omega (arith, given-rises run)
-given-rises (one-step run (Desks.Steps.turned-away h)) = given-rises run
-given-rises (one-step run (Desks.Steps.idle h none)) = given-rises run
-given-rises (one-step run (one-more h head st found more)) = given-rises run
-given-rises (one-step run (last-one h head st last ans)) = given-rises run
-given-rises (collect run (Desks.Collects.turned-away h)) = given-rises run
-given-rises (collect run (Desks.Collects.no-such-ticket h n)) = given-rises run
-given-rises (collect run (Desks.Collects.waits-yet h st)) = given-rises run
-given-rises (collect run (Desks.Collects.short-buffer h st b)) = given-rises run
-given-rises (collect run (handed-over h st b)) = given-rises run
-
-tickets-later : {memory : ℕ} {d e f g : Desk} {p q : List ℕ} {number later k : ℕ} → TakesIn memory d p (Desks.ticket number) e → Run memory e k f
-    → TakesIn memory f q (Desks.ticket later) g → number < later
-tickets-later (taken h f) run (taken i g) = omega (arith, given-rises run)
-
 -- A taking-in with a ticket had memory enough.
 taken-enough : {memory number : ℕ} {d e : Desk} {p : List ℕ} → TakesIn memory d p (Desks.ticket number) e → first (memoryRefused memory ∷ []) ≡ 0
 unfolding takeRefusal
 taken-enough {memory} {d = d} {p = p} (taken h f) = or-else-none (first (memoryRefused memory ∷ [])) (or-else (deskRefusal (meant p)) (first (fullRefused d))) .0 h .0
 
--- All that document 02 says of every sequence.
-pub desk-holds : DeskHolds
-desk-holds = record {
-  own-trials = λ f st. waits-fit (from-opening-sound f) st .1;
-  trials-of-answered = λ f st. let h = answered-fit (from-opening-sound f) st in desk-few _ (h .0) (h .1 .found);
-  steps-after = λ f t run long w.
-      let s = from-opening-sound f in
-      let owed = due-run (taken-enough t) (sound-taken s t) (due-at-first s t) run .due (w .there) in
-      absurd (omega (arith, owed .2));
-  answers-alone = λ f st. answered-fit (from-opening-sound f) st;
-  independent = λ f g st tt. found-one (answered-fit (from-opening-sound f) st .1 .found) (answered-fit (from-opening-sound g) tt .1 .found);
-  tickets-rise = tickets-later;
-}
+-- So after 384 steps it waits no longer.
+pub waits-no-longer : {memory : ℕ} {d e f : Desk} {p : List ℕ} {number k : ℕ} → FromOpening memory d → TakesIn memory d p (Desks.ticket number) e → Run memory e k f → desk-steps ≤ k
+    → {i own : ℕ} {problem : List ℕ} → Stands f i (waits number problem own) → ⊥
+waits-no-longer o t run long st =
+    let s = from-opening-sound o in
+    let owed = due-run (taken-enough t) (sound-taken s t) (due-at-first s t) run .due st in
+    omega (arith, owed .2)

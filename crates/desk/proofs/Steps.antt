@@ -7,6 +7,7 @@ use mathlib.Core.List.{List, [], _∷_, _++_}
 use native.Mathlib.Omega.{arith}
 use native.Mathlib.Numerals.{add-one}
 use lib.ListN.{length, getD, set, length-set}
+use lib.Seq.{getD-set-other}
 use lib.IntN.{ℤ}
 use Rattle.definitions.specs.Limits.{desk-places, desk-memory, problem-most, refused-memory}
 use Rattle.definitions.specs.Tropical.{Trop, fin, bot}
@@ -48,11 +49,13 @@ classed p = ⊎-elim
 -- ---- nothing to do
 
 pub step-short : (d : Desk) (memory : List ℕ) → length memory < desk-memory → DidStep d memory (Steppings.Refused refused-memory) d
-step-short d memory h = record { short = λ _. (refl, refl); moves = λ l. absurd (omega arith) }
+step-short d memory h = record { still = λ e. refl; others = record { stay = λ k n. refl }; short = λ _. (refl, refl); moves = λ l. absurd (omega arith) }
 
 pub step-idle : {d : Desk} {memory : List ℕ} → desk-memory ≤ length memory → d .waiting ≡ 0 → DidStep d memory Steppings.NoneWaits d
 unfolding steppedOf
 step-idle {d} {memory} h e = record {
+  still = λ _. refl;
+  others = record { stay = λ k n. refl };
   short = λ l. absurd (omega arith);
   moves = λ _ state f g. record { next = state; steps = Steps.idle (memory-enough (length memory) h) (none-wait g e); holds = g };
 }
@@ -188,11 +191,16 @@ module _ (d : Desk) (memory : List ℕ) (r : Place) (enough : desk-memory ≤ le
 
   -- The step.
   pub did-done : {d′ : Desk} {ticket : ℕ} → d′ ≡ headGone (seatedAt d (getD (d .line) (d .head) 0) r) → ticket ≡ r .ticket → r .closed ≡ true → DidStep d memory (Steppings.Done ticket) d′
-  did-done e t z = record { short = λ l. absurd (omega arith); moves = λ _ state o g. rw (e, t) (step-done state o g z) }
+  did-done e t z = record { still = λ f. absurd (let z : _≡_ {A = ℕ} 0 1 = cc in omega arith); others = record { stay = λ k n. rw e (getD-set-other (d .places) (getD (d .line) (d .head) 0) k r noPlace n) }; short = λ l. absurd (omega arith); moves = λ _ state o g. rw (e, t) (step-done state o g z) }
 
   pub did-on : {seat gone d′ : Desk} {ticket : ℕ} → seat ≡ seatedAt d (getD (d .line) (d .head) 0) r → gone ≡ headGone seat → d′ ≡ joinedBy gone (getD (d .line) (d .head) 0)
       → ticket ≡ r .ticket → r .closed ≡ false → DidStep d memory (Steppings.GoesOn ticket) d′
   did-on {seat} {gone} {d′} a b e t z =
       let now : d′ ≡ joinedBy (headGone (seatedAt d (getD (d .line) (d .head) 0) r)) (getD (d .line) (d .head) 0) =
       e ∙ ap (λ (z : Desk). joinedBy z (getD (d .line) (d .head) 0)) (b ∙ ap headGone a) in
-      record { short = λ l. absurd (omega arith); moves = λ _ state o g. rw (now, t) (step-on state o g z) }
+      record {
+        still = λ f. absurd (let z : _≡_ {A = ℕ} 0 1 = cc in omega arith);
+        others = record { stay = λ k n. rw now (getD-set-other (d .places) (getD (d .line) (d .head) 0) k r noPlace n) };
+        short = λ l. absurd (omega arith);
+        moves = λ _ state o g. rw (now, t) (step-on state o g z);
+      }

@@ -8,6 +8,7 @@ use native.Mathlib.Omega.{arith}
 use native.Mathlib.Numerals.{add-one}
 use lib.Dec.{leb, ltb}
 use lib.ListN.{length, getD, set, replicate, length-set, length-replicate, getD-replicate, length-append}
+use lib.Seq.{getD-set-other}
 use borrow.Author.Tests.{lt-ltb, le-ltb, le-leb, lt-leb}
 use Rattle.definitions.specs.Limits.{desk-places, desk-memory, problem-most, last-ticket, refused-memory, refused-full}
 use Rattle.definitions.specs.Bytes.{first, or-else, put}
@@ -57,7 +58,7 @@ opened-short h = record { short = λ _. refl; ready = λ l. absurd (omega arith)
 -- ---- refusals of taking in
 
 pub took-short : (d : Desk) (memory p : List ℕ) → length memory < desk-memory → TookIn d memory p (Takings.Refused refused-memory) d memory
-took-short d memory p h = record { same-length = refl; still = λ e. (refl, refl); short = λ _. (refl, refl, refl); moves = λ l. absurd (omega arith) }
+took-short d memory p h = record { same-length = refl; still = λ e. (refl, refl); enters = λ e. absurd (let z : _≡_ {A = ℕ} 0 1 = cc in omega arith); short = λ _. (refl, refl, refl); moves = λ l. absurd (omega arith) }
 
 -- A refusal changes nothing.
 took-nothing : (d : Desk) (memory p : List ℕ) (k : ℕ) → desk-memory ≤ length memory
@@ -66,6 +67,7 @@ unfolding takenOf
 took-nothing d memory p k h refusal = record {
   same-length = refl;
   still = λ e. (refl, refl);
+  enters = λ e. absurd (let z : _≡_ {A = ℕ} 0 1 = cc in omega arith);
   short = λ l. absurd (omega arith);
   moves = λ _ state f g. record { next = state; takes = TakesIn.turned-away (refusal state f g); holds = g };
 }
@@ -126,6 +128,7 @@ unfolding takenOf
 took-in {d} {r} {memory} {memory′} {p} {at} {b} {given} h g z f room e m t = record {
   same-length = rw m (length-put memory (at * problem-most) p (omega arith) (omega (arith, room .short, room .inside)));
   still = λ e. absurd (let z : _≡_ {A = ℕ} 0 1 = cc in omega arith);
+  enters = λ _. record { at = at; inside = room .inside; free = f; memory-is = m; others = record { stay = λ k n. rw (e .desk-is) (getD-set-other (d .places) at k (e .place) noPlace n) } };
   short = λ l. absurd (omega arith);
   moves = λ _ state o holds. record { next = next state; takes = rw t (takes state holds); holds = rw (e .desk-is, m) (held-after state holds) };
 }

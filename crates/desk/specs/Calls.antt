@@ -1,9 +1,10 @@
 -- What the desk's calls leave, in the words of the machine. Document 02, 2.11.
-use Prim.Native.Nat.{ℕ, _≤_, _<_}
+use Prim.Native.Nat.{ℕ, _*_, _≤_, _<_}
 use mathlib.Core.Path.{_≡_}
 use mathlib.Core.List.{List}
 use lib.ListN.{length}
-use Rattle.definitions.specs.Limits.{desk-memory, refused-memory}
+use Rattle.definitions.specs.Limits.{desk-places, desk-memory, problem-most, refused-memory}
+use Rattle.definitions.specs.Bytes.{put}
 use Rattle.definitions.specs.Offset.{tropOf}
 use Rattle.definitions.specs.Desk as Machine
 use Rattle.definitions.specs.Desk.{FromOpening, Opens, TakesIn, Steps, Collects}
@@ -14,7 +15,7 @@ use Rattle.desk.specs.declared.calls.Stepped.{Stepped}
 use Rattle.desk.specs.declared.calls.Stepped.the-variants as Steppings
 use Rattle.desk.specs.declared.calls.Collected.{Collected}
 use Rattle.desk.specs.declared.calls.Collected.the-variants as Collections
-use Rattle.desk.specs.State.{Holds}
+use Rattle.desk.specs.State.{headOf, OthersStay, FirstFree, HoldsTicket, Holds}
 
 -- ---- the premise
 
@@ -58,10 +59,20 @@ pub record NextTaken (d : Desk) (memory p : List ℕ) (r : TakenIn) (d′ : Desk
   pub takes : TakesIn (length memory) state p (takenOf r) next
   pub holds : Holds d′ memory′ next
 
--- Taking in: 23 where the memory is too short, else the machine's transition; a refusal leaves memory and state as they were.
+-- A problem that got a ticket is put into the memory at the first free place; every other byte and every other place stays.
+pub record TakenAt (d : Desk) (memory p : List ℕ) (d′ : Desk) (memory′ : List ℕ) : Type 0 where
+  pub at : ℕ
+  pub inside : at < desk-places
+  pub free : FirstFree d at
+  pub memory-is : memory′ ≡ put memory (at * problem-most) p
+  pub others : OthersStay d at d′
+
+-- Taking in: 23 where the memory is too short, else the machine's transition; a refusal leaves memory and state as they were, a ticket all but
+-- one place.
 pub record TookIn (d : Desk) (memory p : List ℕ) (r : TakenIn) (d′ : Desk) (memory′ : List ℕ) : Type 0 where
   pub same-length : length memory′ ≡ length memory
   pub still : {k : ℕ} → r ≡ Takings.Refused k → (d′ ≡ d) × (memory′ ≡ memory)
+  pub enters : {number : ℕ} → r ≡ Takings.Ticket number → TakenAt d memory p d′ memory′
   pub short : length memory < desk-memory → (r ≡ Takings.Refused refused-memory) × (d′ ≡ d) × (memory′ ≡ memory)
   pub moves : desk-memory ≤ length memory → (state : Machine.Desk) → FromOpening (length memory) state → Holds d memory state
       → NextTaken d memory p r d′ memory′ state
@@ -71,8 +82,10 @@ pub record NextStep (d : Desk) (memory : List ℕ) (r : Stepped) (d′ : Desk) (
   pub steps : Steps (length memory) state (steppedOf r) next
   pub holds : Holds d′ memory next
 
--- A step.
+-- A step: with none waiting it changes nothing, and never another place than the head's.
 pub record DidStep (d : Desk) (memory : List ℕ) (r : Stepped) (d′ : Desk) : Type 0 where
+  pub still : r ≡ Steppings.NoneWaits → d′ ≡ d
+  pub others : OthersStay d (headOf d) d′
   pub short : length memory < desk-memory → (r ≡ Steppings.Refused refused-memory) × (d′ ≡ d)
   pub moves : desk-memory ≤ length memory → (state : Machine.Desk) → FromOpening (length memory) state → Holds d memory state → NextStep d memory r d′ state
 
@@ -81,9 +94,19 @@ pub record NextCollected (d : Desk) (memory : List ℕ) (ticket : ℕ) (buffer :
   pub collects : Collects (length memory) state ticket buffer (collectedOf r) next buffer′
   pub holds : Holds d′ memory next
 
--- Collecting.
+-- An answer that was handed over freed the place of its ticket; every other place stays.
+pub record FreedAt (d : Desk) (ticket : ℕ) (d′ : Desk) : Type 0 where
+  pub at : ℕ
+  pub inside : at < desk-places
+  pub found : HoldsTicket d ticket at
+  pub others : OthersStay d at d′
+
+-- Collecting: a refusal, and the word that the ticket still waits, change nothing.
 pub record DidCollect (d : Desk) (memory : List ℕ) (ticket : ℕ) (buffer : List ℕ) (r : Collected) (d′ : Desk) (buffer′ : List ℕ) : Type 0 where
   pub same-length : length buffer′ ≡ length buffer
+  pub refused-still : {k : ℕ} → r ≡ Collections.Refused k → (d′ ≡ d) × (buffer′ ≡ buffer)
+  pub waits-still : r ≡ Collections.StillWaits → (d′ ≡ d) × (buffer′ ≡ buffer)
+  pub frees : {class span own size : ℕ} → r ≡ Collections.Handed class span own size → FreedAt d ticket d′
   pub short : length memory < desk-memory → (r ≡ Collections.Refused refused-memory) × (d′ ≡ d) × (buffer′ ≡ buffer)
   pub moves : desk-memory ≤ length memory → (state : Machine.Desk) → FromOpening (length memory) state → Holds d memory state
       → NextCollected d memory ticket buffer r d′ buffer′ state

@@ -51,6 +51,14 @@ noPlace = record {
 abbrev pub placeIn : Desk → ℕ → Place
 placeIn d i = getD (d .places) i noPlace
 
+-- The place at the head of the line.
+abbrev pub headOf : Desk → ℕ
+headOf d = getD (d .line) (d .head) 0
+
+-- Every place but this one stands as it stood.
+pub record OthersStay (d : Desk) (at : ℕ) (d′ : Desk) : Type 0 where
+  pub stay : (k : ℕ) → (k ≡ at → ⊥) → placeIn d′ k ≡ placeIn d k
+
 -- The first empty place, or 16.
 pub record FirstFree (d : Desk) (r : ℕ) : Type 0 where
   pub most : r ≤ desk-places

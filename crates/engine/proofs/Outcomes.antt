@@ -37,7 +37,8 @@ use Rattle.engine.specs.declared.solve.Solved.the-variants as Results′
 use Rattle.class_answers.specs.Answered.{answerIn}
 use Rattle.class_answers.specs.Answered as Tables
 use Rattle.trial_tables.specs.Frames.{Coefficients}
-use Rattle.engine.specs.Outcome.{solvedOf, FoundFor, InTables, Posed, OneWrote, SeveralRead, TrialsMade}
+use Rattle.records.specs.Decoded.{InTables}
+use Rattle.engine.specs.Outcome.{solvedOf, FoundFor, Posed, OneWrote, SeveralRead, TrialsMade}
 
 -- ---- writing what was found
 

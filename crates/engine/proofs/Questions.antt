@@ -24,14 +24,14 @@ use Rattle.definitions.proofs.RoundTrip.{answer-length, answer-length-most}
 use Rattle.definitions.proofs.Solved.{OneAsked, one-asked, asked-takes, none-refused}
 use Rattle.duality.proofs.SmallLeads.{trials-few}
 use Rattle.records.specs.declared.problem.Layout.{Layout}
-use Rattle.records.specs.Decoded.{Rewritten}
+use Rattle.records.specs.Decoded.{Rewritten, InTables}
 use Rattle.records.proofs.Rewritten.{rewritten-refl, rewritten-trans}
 use Rattle.problem_records.specs.Tables.{leftTable, rightTable}
 use Rattle.problem_records.specs.Filling.{QuestionHeld}
 use Rattle.problem_records.proofs.LeadTables.{left-length, right-length, problem-decoded}
 use Rattle.problem_records.proofs.QuestionTables.{left-steady, right-steady}
 use Rattle.engine.specs.declared.solve.Solved.the-variants as Results′
-use Rattle.engine.specs.Outcome.{solvedOf, InTables, Posed, OneWrote, SeveralRead, Turns}
+use Rattle.engine.specs.Outcome.{solvedOf, Posed, OneWrote, SeveralRead, Turns}
 
 module _ {s : List ℕ} {l : Layout} {left₀ right₀ : List ℕ} (before : List ℕ) (read : SeveralRead s l left₀ right₀ (length before)) where
   within : WithinLayouts s

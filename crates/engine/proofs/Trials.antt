@@ -93,6 +93,7 @@ module _ {p : List ℕ} {l : Layout} {left right : List ℕ} (read : ReadOne p l
       let held = tables-hold p (read .bytes) (desk-within p (read .within)) in
       let u : TrialOf (nField p) (mField p) (leftTable p) (rightTable p) search r = rw (← read .n-is, ← read .m-is, ← read .left-is, ← read .right-is) t in
       record {
+        bracket = t .bracket;
         goes-on = λ e.
             let w = u .goes-on e in
             record {

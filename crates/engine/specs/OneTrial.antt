@@ -13,7 +13,7 @@ use Rattle.least_span.specs.declared.state.Search.{Search}
 use Rattle.class_answers.specs.declared.answer.Answer.{Answer}
 use Rattle.class_answers.specs.Answered.{answerIn}
 use Rattle.search_steps.specs.declared.steps.Trial.{Trial}
-use Rattle.search_steps.specs.Steps.{Pursued}
+use Rattle.search_steps.specs.Steps.{MovedNext, Pursued}
 use Rattle.engine.specs.declared.one_trial.Begun.{Begun}
 
 -- A search of the problem in the bytes, after so many trials as it has made.
@@ -40,7 +40,9 @@ pub record Onward (s : List ℕ) (own : ℕ) (search : Search) : Type 0 where
   pub made-is : search .made ≡ own + 1
   pub more : (class trials : ℕ) (span : Trop) → Found (problemOf s) class span trials → own + 1 < trials
 
--- What one trial leaves: the search goes on, or the problem is answered at the last trial that its class and span ask for.
+-- What one trial leaves: the bracket moved at document 01's next trial; the search goes on, or the problem is answered at the last trial that
+-- its class and span ask for.
 pub record TrialFor (s : List ℕ) (search : Search) (r : Trial) : Type 0 where
+  pub bracket : MovedNext search (r .search)
   pub goes-on : r .closed ≡ false → Onward s (search .made) (r .search)
   pub ends : r .closed ≡ true → SettledFor s (r .answer) × (r .answer .trials ≡ search .made + 1) × (r .answer .made ≡ search .made + 1)

@@ -12,7 +12,7 @@ use Rattle.definitions.specs.AnswerRecord.{Answer, stampCount, pickCount, answe
 use Rattle.definitions.specs.Solved as Results
 use Rattle.definitions.specs.Solved.{Answers, AnswersInTurn, engineRefusal}
 use Rattle.records.specs.declared.problem.Layout.{Layout}
-use Rattle.records.specs.Decoded.{Decoded, Rewritten}
+use Rattle.records.specs.Decoded.{InTables, Rewritten}
 use Rattle.problem_records.specs.Tables.{leftTable, rightTable}
 use Rattle.engine.specs.declared.solve.Solved.{Solved}
 use Rattle.engine.specs.declared.solve.Solved.the-variants.{Refused, Answered, AllAnswered}
@@ -33,13 +33,7 @@ pub record FoundFor (n m room class span start : ℕ) (stamps picks : List ℕ) 
   pub picks-enough : pickCount class n m ≤ length picks
   pub taken : writerRefusal (answerIn n m class span start stamps picks) n m room ≡ 0
 
--- The problem stands in the tables, with this n and m.
-pub record InTables (p : Problem) (n m : ℕ) (left right : List ℕ) : Type 0 where
-  pub n-is : p .n ≡ n
-  pub m-is : p .m ≡ m
-  pub decoded : Decoded p left right
-
--- Some problem does.
+-- Some problem stands in the tables, with this n and m.
 pub record Posed (n m : ℕ) (left right : List ℕ) : Type 0 where
   pub problem : Problem
   pub stands : InTables problem n m left right

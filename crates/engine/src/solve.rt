@@ -8,9 +8,9 @@ ghost use Rattle.definitions.specs.ProblemRecord.{meant};
 ghost use Rattle.definitions.specs.AnswerRecord.{answerSize, answerBytes, written};
 ghost use Rattle.definitions.specs.Problem.{Problem};
 ghost use Rattle.definitions.specs.Solved.{Solves};
-ghost use Rattle.records.specs.Decoded.{Rewritten};
+ghost use Rattle.records.specs.Decoded.{Rewritten, InTables};
 ghost use Rattle.class_answers.specs.Answered.{answerIn};
-ghost use Rattle.engine.specs.Outcome.{solvedOf, FoundFor, InTables, Posed, OneWrote, SeveralRead};
+ghost use Rattle.engine.specs.Outcome.{solvedOf, FoundFor, Posed, OneWrote, SeveralRead};
 use answer_reader::answer::Head;
 use answer_reader::class::pick_count;
 use answer_reader::class::stamp_count;
@@ -33,8 +33,17 @@ use records::problem::problem_refusal;
 // record's length; to several, all answered with their count, the sum of the trials and the length of all records.
 pub enum Solved {
     Refused(usize),
-    Answered(u64, u64, u64, usize),
-    AllAnswered(usize, u64, usize),
+    Answered {
+        class: u64,
+        span: u64,
+        trials: u64,
+        size: usize,
+    },
+    AllAnswered {
+        count: usize,
+        trials: u64,
+        size: usize,
+    },
 }
 
 // One question's answer, written: its class, the span's offset number, its trials and the record's length.
@@ -48,7 +57,8 @@ struct One {
 // Writes the answer's record at the start of a buffer, and gives its length. Public for `desk`.
 pub fn write_found(found: Answer, n: usize, m: usize, answer: &mut [u8]) -> usize
     requires { ⌜ FoundFor n m (length (now answer)) (found .class) (found .span) (found .start) (found .stamps) (found .picks) ⌝ }
-    ensures { λ r. ⌜ (r ≡ answerSize (found .class) n m) × (now (answer .exit) ≡ written (now (answer .entry)) (answerBytes n (answerIn n m (found .class) (found .span) (found .start) (found .stamps) (found .picks)))) ⌝ }
+    ensures size_is { λ r. ⌜ r ≡ answerSize (found .class) n m ⌝ }
+    ensures record_stands { λ r. ⌜ now (answer .exit) ≡ written (now (answer .entry)) (answerBytes n (answerIn n m (found .class) (found .span) (found .start) (found .stamps) (found .picks))) ⌝ }
 {
     let head = Head {
         class: found.class,
@@ -76,7 +86,8 @@ fn solve_one(
     answer: &mut [u8],
 ) -> One
     requires { ⌜ Posed n m (now left) (now right) × (answer-most ≤ length (now answer)) ⌝ }
-    ensures { λ r. ⌜ ((p : Problem) → InTables p n m (now (left .entry)) (now (right .entry)) → OneWrote p n m (r .class) (r .span) (r .trials) (r .size) (now (answer .entry)) (now (answer .exit))) × Rewritten m (now (right .entry)) (now (right .exit)) ⌝ }
+    ensures wrote { λ r. ⌜ ((p : Problem) → InTables p n m (now (left .entry)) (now (right .entry)) → OneWrote p n m (r .class) (r .span) (r .trials) (r .size) (now (answer .entry)) (now (answer .exit))) ⌝ }
+    ensures others_stay { λ r. ⌜ Rewritten m (now (right .entry)) (now (right .exit)) ⌝ }
 {
     let found = solve_tables(left, right, n, m);
     let class = found.class;
@@ -110,7 +121,11 @@ fn solve_questions(
         at += one.size;
         trials += one.trials;
     }
-    Solved::AllAnswered(layout.questions, trials, at)
+    Solved::AllAnswered {
+        count: layout.questions,
+        trials,
+        size: at,
+    }
 }
 
 // The room that the answers to so many questions ask for, whichever classes are due.
@@ -139,5 +154,10 @@ pub fn solve(problem: &[u8], answer: &mut [u8]) -> Solved
         return solve_questions(problem, layout, &mut left, &mut right, answer);
     }
     let one = solve_one(&left, &mut right, layout.n, layout.m, answer);
-    Solved::Answered(one.class, one.span, one.trials, one.size)
+    Solved::Answered {
+        class: one.class,
+        span: one.span,
+        trials: one.trials,
+        size: one.size,
+    }
 }

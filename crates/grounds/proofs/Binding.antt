@@ -23,7 +23,7 @@ use Rattle.definitions.proofs.Tropical.{⊑-antisym, ⊑-of-eq, ⊑-trans, larg
 use Rattle.definitions.proofs.ProblemBack.{listed-length, listed-at}
 use Rattle.records.specs.Stamps.{stampsPoint}
 use Rattle.closed_walks.specs.Tables.{Picked}
-use Rattle.grounds.specs.Tables.{rowIn, Held}
+use Rattle.grounds.specs.Tables.{rowIn, RightHeld}
 use Rattle.grounds.specs.Latest.{sumAt, FirstLatest}
 use Rattle.grounds.specs.Turns.{Next, MomentTurn, CameBack, firstOf}
 use Rattle.grounds.specs.Rounds.{MetAt, FirstMet, Beginning, Binding, RoundPart}
@@ -34,7 +34,7 @@ use Rattle.grounds.proofs.Turning.{first-of-none}
 
 -- ---- one turn
 
-module _ {p : Problem} {right : List ℕ} (stamps : List ℕ) {n m : ℕ} (held : Held p right n m) where
+module _ {p : Problem} {right : List ℕ} (stamps : List ℕ) {n m : ℕ} (held : RightHeld p right n m) where
   -- The first latest of a row is the one to which it yields,
   pub latest-yields : {i l : ℕ} → i ≤ m → FirstLatest (rowIn right i) stamps (n + 1) l → RowYields p (stampsPoint stamps) i l
   unfolding side stampsPoint
@@ -146,7 +146,7 @@ turn-out t i h = go (ltb i (t .count)) refl
     go true e = absurd (omega (arith, ltb-true i (t .count) e))
     go false e = refl
 
-module _ {p : Problem} {right : List ℕ} (stamps : List ℕ) {picks : List ℕ} {n m first : ℕ} {t : Turns} (held : Held p right n m) (above : Picked picks (m + 1))
+module _ {p : Problem} {right : List ℕ} (stamps : List ℕ) {picks : List ℕ} {n m first : ℕ} {t : Turns} (held : RightHeld p right n m) (above : Picked picks (m + 1))
     (c : CameBack right stamps picks n first t) where
   step-yields : (i : ℕ) → i < t .count → Yields p (stampsPoint stamps) (strategyOf picks) (turnOf t i) (turnOf t (suc i))
   step-yields i h = ⊎-elim
@@ -194,7 +194,7 @@ module _ {p : Problem} {right : List ℕ} (stamps : List ℕ) {picks : List ℕ}
 -- The round from where the turns begin.
 pub binding-is :
     {right stamps picks : List ℕ} {n m start j : ℕ} {t : Turns} {r : Round} → Binding right stamps picks n m start → Beginning right stamps n m start j
-    → CameBack right stamps picks n (firstOf (replicate 32 0) (n + 1 - (n + 1)) j) t → RoundPart t r → (p : Problem) → Held p right n m → start ≤ 1
+    → CameBack right stamps picks n (firstOf (replicate 32 0) (n + 1 - (n + 1)) j) t → RoundPart t r → (p : Problem) → RightHeld p right n m → start ≤ 1
     → Reasons.Round p (stampsPoint stamps) (strategyOf picks) start (take (r .count) (r .moments))
 binding-is {right} {stamps} {picks} {n} {m} {start} {j} {t} {r} b g c d p held h =
     let e : firstOf (replicate 32 0) (n + 1 - (n + 1)) j ≡ j = first-of-none (replicate 32 0) (n + 1 - (n + 1)) j (omega arith) in

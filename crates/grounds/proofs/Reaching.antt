@@ -21,7 +21,7 @@ use Rattle.reach.specs.Spreading.{MarksOf}
 use Rattle.reach.proofs.Marks.{anchored-marked, coefficients-marked, coefficients-flags}
 use Rattle.closed_walks.specs.Tables.{Picked}
 use Rattle.duality.proofs.Reach.{reach-keep, reach-map}
-use Rattle.grounds.specs.Tables.{rowIn, Held}
+use Rattle.grounds.specs.Tables.{rowIn, RightHeld}
 use Rattle.grounds.specs.Reached.{pickArc, arcCell}
 
 -- A number in the table is not blank exactly when the coefficient is a number.
@@ -49,7 +49,7 @@ arc-by right pick row l e = go (eqb pick 0) refl
     go true d = absurd (omega (arith, eqb-true pick 0 d))
     go false d = let q : pick - 1 ≡ row = omega arith in rw q refl
 
-module _ {p : Problem} {right picks arcs : List ℕ} {n m : ℕ} (small : n ≤ highest-n) (few : m ≤ highest-m) (held : Held p right n m) (above : Picked picks (m + 1))
+module _ {p : Problem} {right picks arcs : List ℕ} {n m : ℕ} (small : n ≤ highest-n) (few : m ≤ highest-m) (held : RightHeld p right n m) (above : Picked picks (m + 1))
     (filled : Filled (λ k v. v ≡ arcCell right picks k) arcs-size arcs-size arcs) where
   arc-at : (j l : ℕ) → j ≤ n → l ≤ n → getD arcs (j * stride + l) 0 ≡ pickArc right (getD picks j 0) l
   arc-at j l h k =
@@ -103,7 +103,7 @@ module _ {p : Problem} {right picks arcs : List ℕ} {n m : ℕ} (small : n ≤ 
 -- Marks of the start of an answer, for every problem that the table holds.
 abbrev pub Starting : List ℕ → ℕ → ℕ → List ℕ → Type 0
 Starting right m start begin =
-    Flags begin × ((p : Problem) (n : ℕ) → n ≤ highest-n → Held p right n m → StartMarked (startOf p start) (n + 1) begin)
+    Flags begin × ((p : Problem) (n : ℕ) → n ≤ highest-n → RightHeld p right n m → StartMarked (startOf p start) (n + 1) begin)
 
 pub starts-anchor : {right : List ℕ} {m : ℕ} (start : ℕ) {begin : List ℕ} → start ≡ 0 → Anchored begin → Starting right m start begin
 unfolding startOf
@@ -116,7 +116,7 @@ unfolding startOf
 starts-second zero d f k = absurd (d refl)
 starts-second {right} {row} {m} (suc start) {begin} d f k = (coefficients-flags row k, λ p n h held. marked p n h held)
   where
-    marked : (p : Problem) (n : ℕ) → n ≤ highest-n → Held p right n m → StartMarked (Second p) (n + 1) begin
+    marked : (p : Problem) (n : ℕ) → n ≤ highest-n → RightHeld p right n m → StartMarked (Second p) (n + 1) begin
     marked p n h held =
         record {
           flags = coefficients-flags row k;

@@ -26,7 +26,7 @@ use Rattle.closed_walks.specs.Tables.{Picked}
 use Rattle.answer_reader.specs.declared.answer.Head.{Head}
 use Rattle.binding.specs.Turns.{Live}
 use Rattle.binding.proofs.Turns.{live-picks, turn, live-on, begins-live}
-use Rattle.grounds.specs.Tables.{Held}
+use Rattle.grounds.specs.Tables.{RightHeld}
 use Rattle.grounds.specs.Rules.{PickedBy, PickedListed}
 use Rattle.grounds.specs.Turns.{Going}
 use Rattle.grounds.specs.Rounds.{Beginning, Binding}
@@ -192,7 +192,7 @@ module _ {p : Problem} {a : Answer} {right stamps picks : List ℕ} {n m : ℕ} 
 
     pub tells-least :
         {numbers : List ℕ} {count : ℕ} {round : List ℕ} → (head .class ≡ class-infeasible → ⊥) → PickedListed marks picks (n + 1) m numbers count
-        → ((p : Problem) → Held p right n m → head .start ≤ 1 → Round p (stampsPoint stamps) (strategyOf picks) (head .start) round)
+        → ((p : Problem) → RightHeld p right n m → head .start ≤ 1 → Round p (stampsPoint stamps) (strategyOf picks) (head .start) round)
         → Tells p a (Definitions.of-least (take count numbers) round)
     tells-least {round = round} d l r =
         Tells.least {round = round}

@@ -16,7 +16,7 @@ use Rattle.answer_reader.specs.declared.answer.Head.{Head}
 use Rattle.checker.specs.Outcome.{Formed, Meant}
 use Rattle.checker.specs.declared.check.Verdict.{Verdict}
 use Rattle.checker.specs.declared.check.Verdict.the-variants as Verdicts
-use Rattle.grounds.specs.Tables.{Held}
+use Rattle.grounds.specs.Tables.{RightHeld}
 use Rattle.grounds.specs.declared.reasons.Told.{Told}
 use Rattle.grounds.specs.declared.reasons.Told.the-variants.{Refused, None, Least}
 use Rattle.grounds.specs.declared.reasons.Grounds.{Grounds}
@@ -58,7 +58,7 @@ pub record Founded (p a : List ℕ) : Type 0 where
 pub record Certifies (p : Problem) (a : Answer) (right stamps picks : List ℕ) (n m : ℕ) (head : Head) : Type 0 where
   pub n-most : n ≤ highest-n
   pub m-most : m ≤ highest-m
-  pub held : Held p right n m
+  pub held : RightHeld p right n m
   pub near : (k : ℕ) → Near lead-limit (getD right k 0)
   pub formed : Formed n m head stamps picks
   pub meant : Meant a head stamps picks

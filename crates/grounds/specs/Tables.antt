@@ -12,7 +12,7 @@ abbrev pub rowIn : List ℕ → ℕ → ℕ → ℕ
 rowIn table i l = getD table (i * stride + l) 0
 
 -- The table holds the right coefficients of a problem of n + 1 variables and m + 1 rows.
-pub record Held (p : Problem) (right : List ℕ) (n m : ℕ) : Type 0 where
+pub record RightHeld (p : Problem) (right : List ℕ) (n m : ℕ) : Type 0 where
   pub n-is : p .n ≡ n
   pub m-is : p .m ≡ m
   pub right-is : (i j : ℕ) → i ≤ m → j ≤ n → tropOf (rowIn right i j) ≡ p .right i j

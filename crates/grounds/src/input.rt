@@ -18,7 +18,8 @@ use records::limits::KEPT;
 
 // The reasons for an input that was kept whole.
 fn whole_reasons(input: &[u8]) -> Grounds
-    ensures { λ r. ⌜ Reasoned (meant (problemPart (now (input .entry)))) (answerPart (now (input .entry))) (reasonsOf r) × countsFit (r .told) ⌝ }
+    ensures reasoned { λ r. ⌜ Reasoned (meant (problemPart (now (input .entry)))) (answerPart (now (input .entry))) (reasonsOf r) ⌝ }
+    ensures counted { λ r. ⌜ countsFit (r .told) ⌝ }
 {
     let cut = cut_place(input);
     reasons(&input[..cut], &input[cut..])
@@ -27,7 +28,8 @@ fn whole_reasons(input: &[u8]) -> Grounds
 // The reasons for an input of this size that was kept whole in a longer slice.
 fn kept_reasons(kept: &[u8], size: usize) -> Grounds
     requires { ⌜ (length (now kept) ≡ kept-bytes) × (size ≤ kept-bytes) ⌝ }
-    ensures { λ r. ⌜ ((input : List ℕ) → KeptOf (now (kept .entry)) size input → Reasoned (meant (problemPart input)) (answerPart input) (reasonsOf r)) × countsFit (r .told) ⌝ }
+    ensures reasoned { λ r. ⌜ ((input : List ℕ) → KeptOf (now (kept .entry)) size input → Reasoned (meant (problemPart input)) (answerPart input) (reasonsOf r)) ⌝ }
+    ensures counted { λ r. ⌜ countsFit (r .told) ⌝ }
 {
     whole_reasons(&kept[..size])
 }
@@ -35,7 +37,8 @@ fn kept_reasons(kept: &[u8], size: usize) -> Grounds
 // The reasons for every input of this size that begins with the kept bytes. One that is longer than what was kept is refused, as the
 // verdict program refuses it.
 pub fn input_reasons(kept: &[u8; KEPT], size: u64) -> Grounds
-    ensures { λ r. ⌜ ((input : List ℕ) → KeptOf (now (kept .entry)) size input → Reasoned (meant (problemPart input)) (answerPart input) (reasonsOf r)) × countsFit (r .told) ⌝ }
+    ensures reasoned { λ r. ⌜ ((input : List ℕ) → KeptOf (now (kept .entry)) size input → Reasoned (meant (problemPart input)) (answerPart input) (reasonsOf r)) ⌝ }
+    ensures counted { λ r. ⌜ countsFit (r .told) ⌝ }
 {
     if size <= KEPT as u64 {
         return kept_reasons(kept, size as usize);

@@ -8,7 +8,7 @@ ghost use Rattle.definitions.specs.Certificate.{startOf, Leads};
 ghost use Rattle.definitions.specs.Verdict.{strategyOf};
 ghost use Rattle.closed_walks.specs.Tables.{Picked};
 ghost use Rattle.reach.specs.Marks.{Flags, StartMarked, ReachedBy};
-ghost use Rattle.grounds.specs.Tables.{Held};
+ghost use Rattle.grounds.specs.Tables.{RightHeld};
 ghost use Rattle.grounds.specs.Reached.{pickArc, arcCell};
 use crate::latest::row_at;
 use reach::anchor;
@@ -45,7 +45,7 @@ fn pick_arcs(right: &[u32; TABLE], picks: &[u64; ROWS]) -> [u32; ARCS]
 // Marks of the moments where reach begins: the anchor for start 0, else all with a lead in the question's second list.
 fn start_marks(right: &[u32; TABLE], m: usize, start: u64) -> [u8; STRIDE]
     requires { ⌜ m ≤ highest-m ⌝ }
-    ensures { λ r. ⌜ Flags r × ((p : Problem) → (n : ℕ) → n ≤ highest-n → Held p (now (right .entry)) n m → StartMarked (startOf p start) (n + 1) r) ⌝ }
+    ensures { λ r. ⌜ Flags r × ((p : Problem) → (n : ℕ) → n ≤ highest-n → RightHeld p (now (right .entry)) n m → StartMarked (startOf p start) (n + 1) r) ⌝ }
 {
     if start == 0 {
         return anchor();
@@ -63,7 +63,7 @@ pub fn reached_moments(
     start: u64,
 ) -> [u8; STRIDE]
     requires { ⌜ (n ≤ highest-n) × (m ≤ highest-m) × Picked (now picks) (m + 1) ⌝ }
-    ensures { λ r. ⌜ ((p : Problem) → Held p (now (right .entry)) n m → ReachedBy (startOf p start) (Leads p (strategyOf (now (picks .entry)))) (n + 1) r) ⌝ }
+    ensures { λ r. ⌜ ((p : Problem) → RightHeld p (now (right .entry)) n m → ReachedBy (startOf p start) (Leads p (strategyOf (now (picks .entry)))) (n + 1) r) ⌝ }
 {
     let arcs = pick_arcs(right, picks);
     let begin = start_marks(right, m, start);

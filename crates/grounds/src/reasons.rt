@@ -30,7 +30,7 @@ use records::problem::problem_refusal;
 pub enum Told {
     Refused(usize),
     None(usize),
-    Least(usize, usize),
+    Least { rules: usize, turns: usize },
 }
 
 // What is told, the numbers of the rules, and the moments of the round in turn; the counts say how many of each are told.
@@ -42,7 +42,8 @@ pub struct Grounds {
 
 // A refusal. Public for `input`.
 pub fn refused(number: usize) -> Grounds
-    ensures { λ r. ⌜ (reasonsOf r ≡ turned number) × countsFit (r .told) ⌝ }
+    ensures told { λ r. ⌜ reasonsOf r ≡ turned number ⌝ }
+    ensures counted { λ r. ⌜ countsFit (r .told) ⌝ }
 {
     let told = Told::Refused(number);
     let rules = [0usize; ROWS];
@@ -55,7 +56,7 @@ pub fn refusal_of(verdict: Verdict) -> usize
     ensures { λ r. ⌜ r ≡ refusedBy verdict ⌝ }
 {
     match verdict {
-        Verdict::Accepted(_, _) => 0,
+        Verdict::Accepted { class: _, span: _ } => 0,
         Verdict::Refused(k) => k,
     }
 }
@@ -71,7 +72,8 @@ fn tell(
     head: Head,
 ) -> Grounds
     requires { ⌜ Certified (now right) (now stamps) (now picks) n m head ⌝ }
-    ensures { λ r. ⌜ ((p : Problem) → (a : Answer) → Certifies p a (now (right .entry)) (now (stamps .entry)) (now (picks .entry)) n m head → Tells p a (reasonsOf r)) × countsFit (r .told) ⌝ }
+    ensures tells { λ r. ⌜ ((p : Problem) → (a : Answer) → Certifies p a (now (right .entry)) (now (stamps .entry)) (now (picks .entry)) n m head → Tells p a (reasonsOf r)) ⌝ }
+    ensures counted { λ r. ⌜ countsFit (r .told) ⌝ }
 {
     let marks = reached_moments(right, picks, n, m, head.start);
     let behind = picked_rules(&marks, picks, n + 1, m);
@@ -82,7 +84,10 @@ fn tell(
         return Grounds { told, rules, round };
     }
     let binding = binding_round(right, stamps, picks, n, m, head.start);
-    let told = Told::Least(behind.count, binding.count);
+    let told = Told::Least {
+        rules: behind.count,
+        turns: binding.count,
+    };
     let round = binding.moments;
     Grounds { told, rules, round }
 }
@@ -90,7 +95,8 @@ fn tell(
 // The reasons for an accepted answer of class 1 or 3: both records are read, which the checker has not refused.
 fn read_reasons(problem: &[u8], answer: &[u8]) -> Grounds
     requires { ⌜ Founded (meant (now problem)) (now answer) ⌝ }
-    ensures { λ r. ⌜ Reasoned (meant (now (problem .entry))) (now (answer .entry)) (reasonsOf r) × countsFit (r .told) ⌝ }
+    ensures reasoned { λ r. ⌜ Reasoned (meant (now (problem .entry))) (now (answer .entry)) (reasonsOf r) ⌝ }
+    ensures counted { λ r. ⌜ countsFit (r .told) ⌝ }
 {
     let mut left = [0u32; TABLE];
     let mut right = [0u32; TABLE];
@@ -110,7 +116,8 @@ fn read_reasons(problem: &[u8], answer: &[u8]) -> Grounds
 // The reasons for an accepted answer of any class: 16 for bottomless. Public for `input`.
 pub fn accepted_reasons(problem: &[u8], answer: &[u8], class: u64) -> Grounds
     requires { ⌜ Passed (meant (now problem)) (now answer) class ⌝ }
-    ensures { λ r. ⌜ Reasoned (meant (now (problem .entry))) (now (answer .entry)) (reasonsOf r) × countsFit (r .told) ⌝ }
+    ensures reasoned { λ r. ⌜ Reasoned (meant (now (problem .entry))) (now (answer .entry)) (reasonsOf r) ⌝ }
+    ensures counted { λ r. ⌜ countsFit (r .told) ⌝ }
 {
     if class == UNBOUNDED {
         return refused(REFUSED_BOTTOMLESS);
@@ -120,10 +127,11 @@ pub fn accepted_reasons(problem: &[u8], answer: &[u8], class: u64) -> Grounds
 
 // The reasons for the bytes of a problem and of an answer; no bytes mean the idle day.
 pub fn reasons(problem: &[u8], answer: &[u8]) -> Grounds
-    ensures { λ r. ⌜ Reasoned (meant (now (problem .entry))) (now (answer .entry)) (reasonsOf r) × countsFit (r .told) ⌝ }
+    ensures reasoned { λ r. ⌜ Reasoned (meant (now (problem .entry))) (now (answer .entry)) (reasonsOf r) ⌝ }
+    ensures counted { λ r. ⌜ countsFit (r .told) ⌝ }
 {
     let verdict = check(problem, answer);
-    let Verdict::Accepted(class, _) = verdict else {
+    let Verdict::Accepted { class, span: _ } = verdict else {
         return refused(refusal_of(verdict));
     };
     accepted_reasons(problem, answer, class)

@@ -6,7 +6,7 @@ ghost use Rattle.definitions.specs.Problem.{Problem};
 ghost use Rattle.definitions.specs.Verdict.{strategyOf};
 ghost use Rattle.definitions.specs.Reasons.{Round as BindingRound};
 ghost use Rattle.records.specs.Stamps.{stampsPoint};
-ghost use Rattle.grounds.specs.Tables.{Held};
+ghost use Rattle.grounds.specs.Tables.{RightHeld};
 ghost use Rattle.grounds.specs.Rounds.{FirstMet, Beginning, Binding, RoundPart};
 use crate::latest::row_at;
 use crate::turns::Turns;
@@ -75,7 +75,7 @@ pub fn binding_round(
     start: u64,
 ) -> Round
     requires { ⌜ Binding (now right) (now stamps) (now picks) n m start ⌝ }
-    ensures { λ r. ⌜ ((p : Problem) → Held p (now (right .entry)) n m → start ≤ 1 → BindingRound p (stampsPoint (now (stamps .entry))) (strategyOf (now (picks .entry))) start (take (r .count) (r .moments))) × (r .count ≤ stride) ⌝ }
+    ensures { λ r. ⌜ ((p : Problem) → RightHeld p (now (right .entry)) n m → start ≤ 1 → BindingRound p (stampsPoint (now (stamps .entry))) (strategyOf (now (picks .entry))) start (take (r .count) (r .moments))) × (r .count ≤ stride) ⌝ }
 {
     let j = beginning(right, stamps, n, m, start);
     round_of(moment_turn(right, stamps, picks, n, [0usize; STRIDE], j, n + 1))

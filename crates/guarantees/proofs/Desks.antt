@@ -1,42 +1,45 @@
 -- The checker, by its own call, accepts every answer that is collected from the desk. Document 02, 2.11.
 use Prim.Native.Nat.{ℕ}
-use mathlib.Core.Path.{_≡_}
+use mathlib.Core.Path.{_≡_, subst}
 use mathlib.Core.List.{List}
 use lib.ListN.{take}
 use Rattle.definitions.specs.Tropical.{Trop}
 use Rattle.definitions.specs.AnswerRecord.{Answer}
-use Rattle.definitions.specs.ProblemRecord.{WithinLayout, problemOf}
+use Rattle.definitions.specs.ProblemRecord.{WithinLayout, problemOf, meant}
 use Rattle.definitions.specs.Solved.{Answers}
 use Rattle.definitions.specs.Verdict.{accepted}
 use Rattle.definitions.specs.Demands.{Slice, Checker, CheckerJudges}
 use Rattle.definitions.specs.Desk as Desks
-use Rattle.definitions.specs.Desk.{Desk, answered, Stands, FromOpening, Collects, handed-over}
+use Rattle.definitions.specs.Desk.{Desk, answered, Stands, FromOpening, TakesIn, Run, take-in, Collects, handed-over, CollectedRight, CollectedAccepted}
 use Rattle.definitions.proofs.Refusals.{desk-within}
 use Rattle.definitions.proofs.Solved.{record-stands}
-use Rattle.desk.proofs.Runs.{desk-holds}
-use Rattle.guarantees.proofs.Engine.{accepts-record}
+use Rattle.desk.proofs.Answered.{desk-holds, run-on}
+use Rattle.guarantees.proofs.Engine.{accepts-record, accepts-it}
 
--- The problem that was collected, and the verdict on its record.
-pub record CollectedRight (check : Checker) (d : Desk) (number class : ℕ) (span : Trop) (bytes : List ℕ) : Type 0 where
-  pub place : ℕ
-  pub problem : List ℕ
-  pub own : ℕ
-  pub answer : Answer
-  pub there : Stands d place (answered number problem class span own answer)
-  pub accepted-is : check problem bytes ≡ accepted class span
+module _ (check : Checker) (judges : CheckerJudges check) where
+  -- Of every sequence of calls from an opening on.
+  each-accepted : {memory number class own size : ℕ} {span : Trop} {d e : Desk} {before after : List ℕ} → FromOpening memory d → Collects memory d number before (Desks.collected class span own size) e after
+      → CollectedRight check d number class span own (take size after)
+  each-accepted {span = span} {before = before} opening (handed-over {i = i} {class = class} {own = own} {problem = problem} {a = a} h st room) =
+      let v = desk-holds .answers-alone opening st in
+      let w : WithinLayout problem × Answers (problemOf problem) class span own a = (desk-within problem (v .0), v .1) in
+      record {
+        place = i;
+        problem = problem;
+        answer = a;
+        there = st;
+        accepted-is = λ slice. rw (record-stands problem before (w .0) a (w .1)) (accepts-record check judges problem slice (w .0) a (w .1));
+      }
 
--- Of every sequence of calls from an opening on, with problems that can be handed over.
-pub collected-accepted : (check : Checker) → CheckerJudges check → {memory number class own size : ℕ} {span : Trop} {d e : Desk} {before after : List ℕ} → FromOpening memory d
-    → ((i n c o : ℕ) (s : Trop) (problem : List ℕ) (a : Answer) → Stands d i (answered n problem c s o a) → Slice problem)
-    → Collects memory d number before (Desks.collected class span own size) e after → CollectedRight check d number class span (take size after)
-collected-accepted check judges {span = span} {d = d} {before = before} opening slices (handed-over {i = i} {class = class} {own = own} {problem = problem} {a = a} h st room) =
-    let v = desk-holds .answers-alone opening st in
-    let w : WithinLayout problem × Answers (problemOf problem) class span own a = (desk-within problem (v .0), v .1) in
-    record {
-      place = i;
-      problem = problem;
-      own = own;
-      answer = a;
-      there = st;
-      accepted-is = rw (record-stands problem before (w .0) a (w .1)) (accepts-record check judges problem (slices i _ class own span problem a st) (w .0) a (w .1));
-    }
+  -- Of a problem that was taken in, by the bytes that were handed over.
+  taken-accepted : {memory number k class own size : ℕ} {span : Trop} {d e f g : Desk} {p before after : List ℕ} → FromOpening memory d → TakesIn memory d p (Desks.ticket number) e → Run memory e k f
+      → Collects memory f number before (Desks.collected class span own size) g after → Slice p → check p (take size after) ≡ accepted class span
+  taken-accepted {span = span} {p = p} {before = before} opening t run (handed-over {class = class} {own = own} {problem = problem} {a = a} h st room) slice =
+      let mine : problem ≡ meant p = desk-holds .ticket-answered opening t run st in
+      let v = desk-holds .answers-alone (run-on opening t run) st in
+      let w : WithinLayout problem × Answers (problemOf problem) class span own a = (desk-within problem (v .0), v .1) in
+      let u : WithinLayout (meant p) × Answers (problemOf (meant p)) class span own a = subst (λ (z : List ℕ). WithinLayout z × Answers (problemOf z) class span own a) mine w in
+      rw (record-stands problem before (w .0) a (w .1)) (rw mine (accepts-it check judges p slice (u .0) a (u .1)))
+
+  pub collected-accepted : CollectedAccepted check
+  collected-accepted = record { each = each-accepted; taken-in = taken-accepted }

@@ -13,4 +13,5 @@ pub mod Starred
 pub mod WrongPrograms
 pub mod Reached
 pub mod Solvable
+pub mod DeskGoes
 pub mod Inhabited

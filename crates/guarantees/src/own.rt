@@ -24,8 +24,17 @@ pub fn solve_then_check(problem: &[u8], answer: &mut [u8]) -> Verdict
     let solved = solve(problem, answer);
     match solved {
         Solved::Refused(k) => Verdict::Refused(k),
-        Solved::Answered(_, _, _, size) => check(problem, &answer[..size]),
-        Solved::AllAnswered(_, _, _) => Verdict::Refused(REFUSED_KIND),
+        Solved::Answered {
+            class: _,
+            span: _,
+            trials: _,
+            size,
+        } => check(problem, &answer[..size]),
+        Solved::AllAnswered {
+            count: _,
+            trials: _,
+            size: _,
+        } => Verdict::Refused(REFUSED_KIND),
     }
 }
 
@@ -60,7 +69,16 @@ pub fn solve_then_read(
     let solved = solve(problem, answer);
     match solved {
         Solved::Refused(k) => AnswerHead::Refused(k),
-        Solved::Answered(_, _, _, size) => read_own(problem, &answer[..size], stamps, picks),
-        Solved::AllAnswered(_, _, _) => AnswerHead::Refused(REFUSED_KIND),
+        Solved::Answered {
+            class: _,
+            span: _,
+            trials: _,
+            size,
+        } => read_own(problem, &answer[..size], stamps, picks),
+        Solved::AllAnswered {
+            count: _,
+            trials: _,
+            size: _,
+        } => AnswerHead::Refused(REFUSED_KIND),
     }
 }

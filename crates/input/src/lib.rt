@@ -52,7 +52,7 @@ fn read_some(kept: &mut [u8], size: u64) -> Input
 }
 
 // Reads standard input to its end, or until so much was counted that no outcome changes; keeps its first 20,000 bytes, and
-// gives its size. A failed read is no end: what came before it is not answered. Public for `span`, `verdict`.
+// gives its size. A failed read is no end: what came before it is not answered. Public for the programs that read records.
 pub fn read_all(kept: &mut [u8; KEPT]) -> Input
     ensures { λ r. ⌜ AllRead (now (kept .entry)) r (now (kept .exit)) ⌝ }
 {

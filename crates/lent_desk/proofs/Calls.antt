@@ -1,6 +1,6 @@
 -- The calls over lent words, from the calls over the desk that the words hold.
 use Prim.Native.Nat.{ℕ, _+_, _*_, _≤_, _<_}
-use mathlib.Core.Path.{_≡_, refl}
+use mathlib.Core.Path.{_≡_, refl, sym, subst}
 use mathlib.Core.List.{List}
 use native.Mathlib.Omega.{arith}
 use lib.ListN.{length}
@@ -18,9 +18,10 @@ use Rattle.desk.specs.declared.calls.Stepped.{Stepped}
 use Rattle.desk.specs.declared.calls.Stepped.the-variants as Steppings
 use Rattle.desk.specs.declared.calls.Collected.{Collected}
 use Rattle.desk.specs.declared.calls.Collected.the-variants as Collections
-use Rattle.desk.specs.State.{Arrays, Holds}
-use Rattle.desk.specs.Calls.{Left, takenOf, steppedOf, collectedOf, OpenedBy, TookIn, DidStep, DidCollect}
-use Rattle.desk.proofs.Runs.{desk-holds}
+use Rattle.desk.specs.State.{Arrays, headOf, OthersStay, Holds}
+use Rattle.desk.specs.Calls.{Left, takenOf, steppedOf, collectedOf, OpenedBy, TookIn, DidStep, FreedAt, DidCollect}
+use Rattle.desk.proofs.Answered.{desk-holds}
+use Rattle.desk.proofs.Holding.{first-empty}
 use Rattle.desk.proofs.Taking.{memory-enough}
 use Rattle.desk_words.specs.Words.{desk-words, deskFrom, DeskPut}
 use Rattle.lent_desk.specs.Entries.{AsLent, OpenedAs, TakenFrom, TakenAs, SteppedFrom, SteppedAs, CollectedFrom, CollectedAs, goes-on-number, done-number, handedNumber}
@@ -28,6 +29,18 @@ use Rattle.lent_desk.specs.Entries.{AsLent, OpenedAs, TakenFrom, TakenAs
 -- The premise of the desk's own calls.
 pub left-as : {memory words : List ℕ} {d : Desk} → AsLent memory words → desk-words ≤ length words → d ≡ deskFrom words → desk-memory ≤ length memory → Left d memory
 left-as lent w e h = rw e (lent .left w h)
+
+-- What stays of the desk stays of the words.
+stay-words : {words after : List ℕ} {d d′ : Desk} {told : ℕ} (at : Desk → ℕ) → d ≡ deskFrom words → DeskPut d′ told words after → OthersStay d (at d) d′
+    → OthersStay (deskFrom words) (at (deskFrom words)) (deskFrom after)
+stay-words {words} {after} {d} {d′} at e put s =
+    let old : OthersStay (deskFrom words) (at (deskFrom words)) d′ = subst (λ (z : Desk). OthersStay z (at z) d′) e s in
+    subst (λ (z : Desk). OthersStay (deskFrom words) (at (deskFrom words)) z) (sym (put .back)) old
+
+freed-words : {words after : List ℕ} {d d′ : Desk} {told ticket : ℕ} → d ≡ deskFrom words → DeskPut d′ told words after → FreedAt d ticket d′ → FreedAt (deskFrom words) ticket (deskFrom after)
+freed-words {words} {after} {d} {d′} {told} {ticket} e put s =
+    let old : FreedAt (deskFrom words) ticket d′ = subst (λ (z : Desk). FreedAt z ticket d′) e s in
+    subst (λ (z : Desk). FreedAt (deskFrom words) ticket z) (sym (put .back)) old
 
 -- ---- opening
 
@@ -64,7 +77,8 @@ module _ {memory words p memory′ : List ℕ} {d d′ : Desk} {r : TakenIn} (h 
       (TakenAs.moves h w
       (λ state o g.
       let s = t .moves h state o (rw e g) in
-      TakenFrom.taken (rw is at (s .takes)) (t .same-length) (record { desk = d′; holds = s .holds; stored = put })))
+      let a = t .enters f in
+      TakenFrom.taken (rw is at (s .takes)) (first-empty {d = d} {memory = memory} {state = state} (rw e g) (a .free) (a .inside)) (a .memory-is) (t .same-length) (stay-words (λ _. a .at) e put (a .others)) (record { desk = d′; holds = s .holds; stored = put })))
 
 -- ---- a step
 
@@ -101,13 +115,13 @@ module _ {memory words : List ℕ} {d d′ : Desk} {r : Stepped} (h : desk-memor
   unfolding steppedOf
   on-words {told} f n put =
       let is : steppedOf r ≡ Machine.goes-on told = rw f refl in
-      rw n (SteppedAs.moves h w (λ state o g. let s = t .moves h state o (rw e g) in SteppedFrom.goes-on (rw is at (s .steps)) (record { desk = d′; holds = s .holds; stored = put })))
+      rw n (SteppedAs.moves h w (λ state o g. let s = t .moves h state o (rw e g) in SteppedFrom.goes-on (rw is at (s .steps)) (stay-words headOf e put (t .others)) (record { desk = d′; holds = s .holds; stored = put })))
 
   pub done-words : {told number : ℕ} {after : List ℕ} → r ≡ Steppings.Done told → number ≡ done-number → DeskPut d′ told words after → SteppedAs memory words number after
   unfolding steppedOf
   done-words {told} f n put =
       let is : steppedOf r ≡ Machine.done told = rw f refl in
-      rw n (SteppedAs.moves h w (λ state o g. let s = t .moves h state o (rw e g) in SteppedFrom.done (rw is at (s .steps)) (record { desk = d′; holds = s .holds; stored = put })))
+      rw n (SteppedAs.moves h w (λ state o g. let s = t .moves h state o (rw e g) in SteppedFrom.done (rw is at (s .steps)) (stay-words headOf e put (t .others)) (record { desk = d′; holds = s .holds; stored = put })))
 
 -- ---- collecting
 
@@ -181,4 +195,4 @@ module _ {memory words : List ℕ} {ticket : ℕ} {buffer buffer′ : List ℕ} 
       (CollectedAs.moves h w
       (λ state o g.
       let s = t .moves h state o (rw e g) in
-      CollectedFrom.handed (rw is at (s .collects)) (record { desk = d′; holds = s .holds; stored = put })))
+      CollectedFrom.handed (rw is at (s .collects)) (freed-words e put (t .frees f)) (record { desk = d′; holds = s .holds; stored = put })))

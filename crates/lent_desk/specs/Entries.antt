@@ -3,13 +3,14 @@ use Prim.Native.Nat.{ℕ, _+_, _*_, _≤_, _<_}
 use mathlib.Core.Path.{_≡_}
 use mathlib.Core.List.{List}
 use lib.ListN.{length}
-use Rattle.definitions.specs.Limits.{desk-memory, refused-memory}
+use Rattle.definitions.specs.Limits.{desk-memory, problem-most, refused-memory}
+use Rattle.definitions.specs.Bytes.{put}
 use Rattle.definitions.specs.Tropical.{Trop}
 use Rattle.definitions.specs.Desk as Machine
-use Rattle.definitions.specs.Desk.{FromOpening, Opens, TakesIn, Steps, Collects}
+use Rattle.definitions.specs.Desk.{FirstEmpty, FromOpening, Opens, TakesIn, Steps, Collects}
 use Rattle.desk.specs.declared.state.Desk.{Desk}
-use Rattle.desk.specs.State.{Holds}
-use Rattle.desk.specs.Calls.{AsLeft}
+use Rattle.desk.specs.State.{headOf, OthersStay, Holds}
+use Rattle.desk.specs.Calls.{AsLeft, FreedAt}
 use Rattle.desk_words.specs.Words.{desk-words, deskFrom, DeskPut}
 
 -- ---- numbers
@@ -49,15 +50,17 @@ pub data OpenedAs (memory words : List ℕ) : ℕ → List ℕ → Type 0 where
   short : length memory < desk-memory → OpenedAs memory words refused-memory words
   too-few : desk-memory ≤ length memory → length words < desk-words → OpenedAs memory words few-words words
   opens :
-      {after : List ℕ} → desk-words ≤ length words → Opens (length memory) Machine.ready → Stored words memory Machine.opened 0 after
+      {after : List ℕ} → desk-words ≤ length words → Opens (length memory) Machine.ready Machine.opened → Stored words memory Machine.opened 0 after
       → OpenedAs memory words 0 after
 
--- Taking in, from the state of the machine that memory and words hold: the refusal, and both as they were; or 0, with the ticket told.
+-- Taking in, from the state of the machine that memory and words hold: the refusal, and both as they were; or 0, with the ticket told, the
+-- problem put into the memory at the first empty place, and every other byte and every other place as it was.
 pub data TakenFrom (memory words p : List ℕ) (state : Machine.Desk) : ℕ → List ℕ → List ℕ → Type 0 where
   refused : {k : ℕ} → TakesIn (length memory) state p (Machine.TakenIn.refused k) state → TakenFrom memory words p state k memory words
   taken :
-      {told : ℕ} {next : Machine.Desk} {memory′ after : List ℕ} → TakesIn (length memory) state p (Machine.ticket told) next
-      → length memory′ ≡ length memory → Stored words memory′ next told after → TakenFrom memory words p state 0 memory′ after
+      {told at : ℕ} {next : Machine.Desk} {memory′ after : List ℕ} → TakesIn (length memory) state p (Machine.ticket told) next
+      → FirstEmpty state at → memory′ ≡ put memory (at * problem-most) p → length memory′ ≡ length memory
+      → OthersStay (deskFrom words) at (deskFrom after) → Stored words memory′ next told after → TakenFrom memory words p state 0 memory′ after
 
 pub data TakenAs (memory words p : List ℕ) : ℕ → List ℕ → List ℕ → Type 0 where
   short : length memory < desk-memory → TakenAs memory words p refused-memory memory words
@@ -67,14 +70,16 @@ pub data TakenAs (memory words p : List ℕ) : ℕ → List ℕ → List ℕ →
       → ((state : Machine.Desk) → FromOpening (length memory) state → Holds (deskFrom words) memory state → TakenFrom memory words p state number memory′ after)
       → TakenAs memory words p number memory′ after
 
--- A step: 0 and the words as they were where none waits; else 256 or 512, with the ticket told.
+-- A step: 0 and the words as they were where none waits; else 256 or 512, with the ticket told, and every place but the head's as it was.
 pub data SteppedFrom (memory words : List ℕ) (state : Machine.Desk) : ℕ → List ℕ → Type 0 where
   idle : Steps (length memory) state Machine.none-waits state → SteppedFrom memory words state 0 words
   goes-on :
-      {told : ℕ} {next : Machine.Desk} {after : List ℕ} → Steps (length memory) state (Machine.goes-on told) next → Stored words memory next told after
+      {told : ℕ} {next : Machine.Desk} {after : List ℕ} → Steps (length memory) state (Machine.goes-on told) next
+      → OthersStay (deskFrom words) (headOf (deskFrom words)) (deskFrom after) → Stored words memory next told after
       → SteppedFrom memory words state goes-on-number after
   done :
-      {told : ℕ} {next : Machine.Desk} {after : List ℕ} → Steps (length memory) state (Machine.done told) next → Stored words memory next told after
+      {told : ℕ} {next : Machine.Desk} {after : List ℕ} → Steps (length memory) state (Machine.done told) next
+      → OthersStay (deskFrom words) (headOf (deskFrom words)) (deskFrom after) → Stored words memory next told after
       → SteppedFrom memory words state done-number after
 
 pub data SteppedAs (memory words : List ℕ) : ℕ → List ℕ → Type 0 where
@@ -86,7 +91,7 @@ pub data SteppedAs (memory words : List ℕ) : ℕ → List ℕ → Type 0 where
       → SteppedAs memory words number after
 
 -- Collecting: the refusal, or 0 where the ticket still waits, and words and buffer as they were; or class and own trials, with the record at
--- the buffer's start, and the place empty.
+-- the buffer's start, the place empty, and every other as it was.
 pub data CollectedFrom (memory words : List ℕ) (ticket : ℕ) (buffer : List ℕ) (state : Machine.Desk) : ℕ → List ℕ → List ℕ → Type 0 where
   refused :
       {k : ℕ} → Collects (length memory) state ticket buffer (Machine.Collected.refused k) state buffer
@@ -95,7 +100,8 @@ pub data CollectedFrom (memory words : List ℕ) (ticket : ℕ) (buffer : List �
       Collects (length memory) state ticket buffer Machine.still-waits state buffer → CollectedFrom memory words ticket buffer state 0 words buffer
   handed :
       {class own size : ℕ} {span : Trop} {next : Machine.Desk} {after buffer′ : List ℕ}
-      → Collects (length memory) state ticket buffer (Machine.collected class span own size) next buffer′ → Stored words memory next ticket after
+      → Collects (length memory) state ticket buffer (Machine.collected class span own size) next buffer′
+      → FreedAt (deskFrom words) ticket (deskFrom after) → Stored words memory next ticket after
       → CollectedFrom memory words ticket buffer state (handedNumber class own) after buffer′
 
 pub data CollectedAs (memory words : List ℕ) (ticket : ℕ) (buffer : List ℕ) : ℕ → List ℕ → List ℕ → Type 0 where

@@ -31,7 +31,7 @@ use Rattle.records.specs.declared.problem.Header.{Header}
 use Rattle.records.specs.declared.problem.Layout.{Layout}
 use Rattle.records.specs.declared.problem.Header.the-variants as Headers
 use Rattle.records.specs.ProblemHeader.{headerOf, problemRefused}
-use Rattle.records.specs.Decoded.{Near}
+use Rattle.records.specs.Decoded.{Near, InTables}
 use Rattle.records.specs.Stamps.{Stamped, stampsPoint}
 use Rattle.records.proofs.ProblemHeader.{answer-refused}
 use Rattle.problem_records.specs.Tables.{ProblemRead}
@@ -40,7 +40,7 @@ use Rattle.problem_records.proofs.ReadProblem.{told-of}
 use Rattle.answer_reader.specs.Fields.{Padded}
 use Rattle.answer_reader.proofs.Passing.{map-at}
 use Rattle.trials.specs.Tables.{raised-limit, Table, Tables}
-use Rattle.merging.specs.Plans.{numbersIn, plansJudged, pairJudged, backBy, InTables}
+use Rattle.merging.specs.Plans.{numbersIn, plansJudged, pairJudged, backBy}
 use Rattle.merging.specs.Outcome.{mergedOf, Read, Posed, Kept, Wrote, below, above, joined, joinedEarly}
 use Rattle.merging.specs.declared.merge.Merged.the-variants as Results
 use Rattle.merging.proofs.Plans.{PlanFits, plan-of-form, plan-point, plan-stamped}

@@ -10,7 +10,8 @@ use Rattle.definitions.specs.ProblemRecord.{nField, WithinLayout, problemOf, li
 use Rattle.definitions.specs.AnswerRecord.{written}
 use Rattle.definitions.specs.Merging.{planFits, merged, early}
 use Rattle.records.specs.Stamps.{Stamped, stampsPoint}
-use Rattle.merging.specs.Plans.{backBy, InTables}
+use Rattle.records.specs.Decoded.{InTables}
+use Rattle.merging.specs.Plans.{backBy}
 use Rattle.merging.specs.declared.merge.Merged.{Merged}
 use Rattle.merging.specs.declared.merge.Merged.the-variants.{Stamps, Refused}
 

@@ -9,11 +9,9 @@ use lib.IntN.{ℤ, pos, negℤ}
 use Rattle.base.specs.Filled.{Filled}
 use Rattle.definitions.specs.Limits.{signed-bytes, stride, merged-most, refused-room, refused-form, refused-shift, refused-rule}
 use Rattle.definitions.specs.Tropical.{Trop, fin, plus, larger}
-use Rattle.definitions.specs.Problem.{Problem}
 use Rattle.definitions.specs.Bytes.{numsAt, first}
 use Rattle.definitions.specs.Offset.{tropOf, off}
 use Rattle.definitions.specs.Merging.{planFits}
-use Rattle.records.specs.Decoded.{Decoded}
 use Rattle.trials.specs.Tables.{high}
 
 -- The offset numbers of the first stamps in the bytes of a plan.
@@ -44,9 +42,3 @@ laterOf back one other = larger (tropOf one) (plus (tropOf other) (fin (backBy b
 -- The first stamps as low numbers, the form in which rows are tested, then blanks.
 abbrev pub LowPlan : List ℕ → ℕ → List ℕ → Type 0
 LowPlan stamps count x = Filled (λ j v. high v ≡ getD stamps j 0) stride count x
-
--- The problem stands in the tables, with this n and m.
-pub record InTables (p : Problem) (n m : ℕ) (left right : List ℕ) : Type 0 where
-  pub n-is : p .n ≡ n
-  pub m-is : p .m ≡ m
-  pub decoded : Decoded p left right

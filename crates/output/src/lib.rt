@@ -1,2 +1,2 @@
-// What the two programs put out: records and lines, byte for byte. Document 01, "Two programs".
+// What the programs put out: records and lines, byte for byte. Document 01, "Two programs".
 pub mod writer;

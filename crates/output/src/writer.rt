@@ -62,7 +62,8 @@ pub fn write_record(buf: &mut [u8], answer: &[u8]) -> usize
 
 // What the span program puts out for a refusal: its line. Public for `span`.
 pub fn write_refused(buf: &mut [u8], number: usize) -> usize
-    ensures { λ r. ⌜ Output (now (buf .entry)) (refusedLine number) (now (buf .exit)) r × (length (refusedLine number) ≤ line-most) ⌝ }
+    ensures shown { λ r. ⌜ Output (now (buf .entry)) (refusedLine number) (now (buf .exit)) r ⌝ }
+    ensures short { λ r. ⌜ length (refusedLine number) ≤ line-most ⌝ }
 {
     let mut line: [u8; LINE_MOST] = [0; LINE_MOST];
     let size = refused_line(&mut line, number);
@@ -72,7 +73,8 @@ pub fn write_refused(buf: &mut [u8], number: usize) -> usize
 // What the verdict program puts out: the line of refusal `refusal`, or of class and span where it is 0. Public for
 // `verdict`.
 pub fn write_verdict(buf: &mut [u8], refusal: usize, class: u64, span: u64) -> usize
-    ensures { λ r. ⌜ Output (now (buf .entry)) (verdictLine (verdictBy refusal class span)) (now (buf .exit)) r × (length (verdictLine (verdictBy refusal class span)) ≤ line-most) ⌝ }
+    ensures shown { λ r. ⌜ Output (now (buf .entry)) (verdictLine (verdictBy refusal class span)) (now (buf .exit)) r ⌝ }
+    ensures short { λ r. ⌜ length (verdictLine (verdictBy refusal class span)) ≤ line-most ⌝ }
 {
     let mut line: [u8; LINE_MOST] = [0; LINE_MOST];
     let size = verdict_line(&mut line, refusal, class, span);

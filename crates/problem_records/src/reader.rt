@@ -136,8 +136,8 @@ pub fn row_place(n: usize, i: usize) -> usize
     PROBLEM_HEADER + 2 * LEAD_BYTES * (i * (n + 1))
 }
 
-// `count` leads from a place of the bytes, then blanks.
-fn row_of(bytes: &[u8], at: usize, count: usize) -> [u32; STRIDE]
+// `count` leads from a place of the bytes, then blanks. Public for `strategy_tests::starts`.
+pub fn row_of(bytes: &[u8], at: usize, count: usize) -> [u32; STRIDE]
     requires { ⌜ (count ≤ stride) × (at + signed-bytes * count ≤ length (now bytes)) ⌝ }
     ensures { λ r. ⌜ RowOf (λ j. leadAt (now (bytes .entry)) (at + signed-bytes * j)) count r ⌝ }
 {
@@ -151,8 +151,8 @@ fn row_of(bytes: &[u8], at: usize, count: usize) -> [u32; STRIDE]
 }
 
 // n + 1 leads from a place of the bytes, then blanks. Rows of the full width have a call of their own, which is compiled for
-// that length. Public for `strategy_tests::starts`.
-pub fn leads_of(bytes: &[u8], at: usize, n: usize) -> [u32; STRIDE]
+// that length. It has one caller, and is put in there: a row that is handed over is stored twice.
+fn leads_of(bytes: &[u8], at: usize, n: usize) -> [u32; STRIDE]
     requires { ⌜ (n ≤ highest-n) × (at + signed-bytes * (n + 1) ≤ length (now bytes)) ⌝ }
     ensures { λ r. ⌜ RowOf (λ j. leadAt (now (bytes .entry)) (at + signed-bytes * j)) (n + 1) r ⌝ }
 {

@@ -60,7 +60,8 @@ fn put_round(lines: &mut [u8], at: usize, round: &[usize; STRIDE], count: usize)
 // Puts the lines of the reasons at the front of a buffer, and gives their size.
 pub fn put_lines(lines: &mut [u8], reasons: Grounds) -> usize
     requires { ⌜ (length (now lines) ≡ lines-most) × countsFit (reasons .told) ⌝ }
-    ensures { λ r. ⌜ (r ≤ lines-most) × ((reasonsOf reasons ≡ refused 0 → ⊥) → take r (now (lines .exit)) ≡ reasonsLines (reasonsOf reasons)) ⌝ }
+    ensures inside { λ r. ⌜ r ≤ lines-most ⌝ }
+    ensures lines_are { λ r. ⌜ ((reasonsOf reasons ≡ refused 0 → ⊥) → take r (now (lines .exit)) ≡ reasonsLines (reasonsOf reasons)) ⌝ }
 {
     let rules = reasons.rules;
     let round = reasons.round;
@@ -68,7 +69,10 @@ pub fn put_lines(lines: &mut [u8], reasons: Grounds) -> usize
     match told {
         Told::Refused(number) => write_verdict(lines, number, 0, 0),
         Told::None(count) => put_rules(lines, &rules, count),
-        Told::Least(count, turns) => {
+        Told::Least {
+            rules: count,
+            turns,
+        } => {
             let next = put_rules(lines, &rules, count);
             put_round(lines, next, &round, turns)
         }

@@ -22,7 +22,8 @@ use records::limits::KEPT;
 // What the program puts out for every input of which this was read: so many bytes of the buffer.
 fn answer(kept: &[u8; KEPT], size: u64, lines: &mut [u8]) -> usize
     requires { ⌜ length (now lines) ≡ lines-most ⌝ }
-    ensures { λ r. ⌜ (r ≤ lines-most) × ((input : List ℕ) → ReadFrom (now (kept .entry)) size input → ReasonsOutput input (take r (now (lines .exit)))) ⌝ }
+    ensures inside { λ r. ⌜ r ≤ lines-most ⌝ }
+    ensures lines_are { λ r. ⌜ ((input : List ℕ) → ReadFrom (now (kept .entry)) size input → ReasonsOutput input (take r (now (lines .exit)))) ⌝ }
 {
     put_lines(lines, input_reasons(kept, size))
 }

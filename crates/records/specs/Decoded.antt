@@ -23,6 +23,12 @@ pub record Decoded (p : Problem) (left right : List ℕ) : Type 0 where
   pub left-near : (k : ℕ) → Near lead-limit (getD left k 0)
   pub right-near : (k : ℕ) → Near lead-limit (getD right k 0)
 
+-- The tables hold this problem, with this n and m.
+pub record InTables (p : Problem) (n m : ℕ) (left right : List ℕ) : Type 0 where
+  pub n-is : p .n ≡ n
+  pub m-is : p .m ≡ m
+  pub decoded : Decoded p left right
+
 -- Two tables that agree in every row but the objective's.
 pub record Steady (m : ℕ) (before after : List ℕ) : Type 0 where
   pub above : (k : ℕ) → k < m * stride → getD after k 0 ≡ getD before k 0

@@ -1,4 +1,4 @@
-// Problem records: bytes to tables, and what answers share with them. Document 01, "Records" and "What is turned away".
+// Fields in bytes, offset numbers, the numbers of documents 01 and 02, and a problem's header. Document 01, "Records" and "What is turned away".
 pub mod bytes;
 pub mod idle;
 pub mod limits;

@@ -17,13 +17,23 @@ use Rattle.least_span.specs.Halving.{Counted, Bracketed, LeastFound}
 use Rattle.least_span.proofs.Budget.{paid}
 use Rattle.least_span.proofs.Halves.{middle-whole, next-possible, next-impossible, counted-on, wider, bracketed-end}
 use Rattle.class_answers.specs.Answered.{LeastHere}
-use Rattle.search_steps.specs.Steps.{Between, Underway, NextIs, leastOf}
+use Rattle.search_steps.specs.Steps.{Between, Underway, NextIs, MovedNext, leastOf}
 
 -- None, one, or more trials made.
 few-or-more : (k : ℕ) → (k ≡ 0) ⊎ ((k ≡ 1) ⊎ (2 ≤ k))
 few-or-more zero = inl refl
 few-or-more (suc zero) = inr (inl refl)
 few-or-more (suc (suc k)) = inr (inr (omega arith))
+
+-- ---- which trial it is
+
+-- There is one next trial,
+next-one : {s : Search} {t u : ℕ} → NextIs s t → NextIs s u → t ≡ u
+next-one {s} i k = ⊎-elim (λ e. i .top e ∙ sym (k .top e)) (⊎-elim (λ e. i .lowest e ∙ sym (k .lowest e)) (λ e. i .middle e ∙ sym (k .middle e))) (few-or-more (s .made))
+
+-- and the bracket moved at it.
+pub moved-next : {f : Frame} {left before after : List ℕ} {s r : Search} {t : ℕ} → NextIs s t → TrialMade f left before after s t r → MovedNext s r
+moved-next i made = record { moved = λ u k. rw (next-one k i) (made .moved) }
 
 -- ---- the trial can be paid for
 

@@ -2,6 +2,7 @@
 use Prim.Native.Nat.{ℕ, _+_, _/_, _≤_, _<_}
 use mathlib.Core.Path.{_≡_}
 use mathlib.Core.Bool.{true, false}
+use mathlib.Core.Logic.{_⊎_}
 use mathlib.Core.List.{List}
 use Rattle.definitions.specs.Problem.{Problem}
 use Rattle.definitions.specs.Offset.{tropOf}
@@ -36,6 +37,10 @@ pub record NextIs (s : Search) (t : ℕ) : Type 0 where
   pub lowest : s .made ≡ 1 → t ≡ lowest-offset
   pub middle : 2 ≤ s .made → t ≡ (s .blocked + s .reached + 1) / 2
 
+-- The bracket moved at that trial: it is reached now, or blocked.
+pub record MovedNext (s r : Search) : Type 0 where
+  pub moved : (t : ℕ) → NextIs s t → ((r .reached ≡ t) × (r .blocked ≡ s .blocked)) ⊎ ((r .reached ≡ s .reached) × (r .blocked ≡ t))
+
 -- What is reached, as the least span.
 abbrev pub leastOf : Search → Least
 leastOf s = record { span = s .reached; trials = s .made; made = s .made; point = s .point; blocking = s .blocking; start = s .start }
@@ -47,8 +52,9 @@ pub record ClosedBy (Stands : Problem → Type 0) (n m own : ℕ) (a : Answer) :
   pub trials-is : a .trials ≡ own + 1
   pub made-is : a .made ≡ own + 1
 
--- What one trial leaves, on tables with their frame: a search, open still, or an answer.
+-- What one trial leaves, on tables with their frame: the bracket moved at document 01's next trial; a search, open still, or an answer.
 pub record TrialOn (f : Frame) (left right : List ℕ) (s : Search) (r : Trial) : Type 0 where
+  pub bracket : MovedNext s (r .search)
   pub goes-on : r .closed ≡ false → Searched f left right (r .search) × Underway (r .search) × (r .search .made ≡ s .made + 1)
   pub ends : r .closed ≡ true → ClosedBy (λ p. Holds p f left right) (f .n) (f .m) (s .made) (r .answer)
 
@@ -60,5 +66,6 @@ pub record Pursued (n m : ℕ) (left right : List ℕ) (s : Search) : Type 0 whe
 
 -- What one trial leaves, on tables.
 pub record TrialOf (n m : ℕ) (left right : List ℕ) (s : Search) (r : Trial) : Type 0 where
+  pub bracket : MovedNext s (r .search)
   pub goes-on : r .closed ≡ false → Pursued n m left right (r .search) × (r .search .made ≡ s .made + 1)
   pub ends : r .closed ≡ true → ClosedBy (λ p. Held p n m left right) n m (s .made) (r .answer)

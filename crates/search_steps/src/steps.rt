@@ -28,7 +28,9 @@ pub struct Trial {
 }
 
 // An answer that says nothing, of a search that is open. Public for the engine's `one_trial`.
-pub fn no_answer() -> Answer {
+pub fn no_answer() -> Answer
+    ensures { λ r. ⌜ (r .class ≡ 0) × (r .span ≡ 0) × (r .trials ≡ 0) × (r .made ≡ 0) ⌝ }
+{
     Answer {
         class: 0,
         span: 0,

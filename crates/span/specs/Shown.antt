@@ -8,7 +8,7 @@ use Rattle.definitions.specs.Programs.{refusedLine}
 use Rattle.engine.specs.declared.solve.Solved.{Solved}
 use Rattle.engine.specs.declared.solve.Solved.the-variants.{Refused, Answered, AllAnswered}
 
--- Room for what is put out: 206 bytes for each of eight questions.
+-- Room for what is put out: 208 bytes for each of eight questions.
 abbrev pub out-most : ℕ
 out-most = most-questions * answer-most
 

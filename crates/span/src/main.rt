@@ -39,19 +39,30 @@ fn put_records(out: &mut [u8], buffer: &[u8], size: usize) -> usize
 // Puts what a result shows at the front of the buffer for output, and gives its size.
 fn put_out(out: &mut [u8], buffer: &[u8], solved: Solved) -> usize
     requires { ⌜ length (now out) ≡ out-most ⌝ }
-    ensures { λ r. ⌜ (r ≤ out-most) × Shown solved (now (buffer .entry)) (take r (now (out .exit))) ⌝ }
+    ensures inside { λ r. ⌜ r ≤ out-most ⌝ }
+    ensures shown { λ r. ⌜ Shown solved (now (buffer .entry)) (take r (now (out .exit))) ⌝ }
 {
     match solved {
         Solved::Refused(number) => write_refused(out, number),
-        Solved::Answered(_, _, _, size) => put_records(out, buffer, size),
-        Solved::AllAnswered(_, _, size) => put_records(out, buffer, size),
+        Solved::Answered {
+            class: _,
+            span: _,
+            trials: _,
+            size,
+        } => put_records(out, buffer, size),
+        Solved::AllAnswered {
+            count: _,
+            trials: _,
+            size: all,
+        } => put_records(out, buffer, all),
     }
 }
 
 // What the program puts out for every input of which this was read: so many bytes of the buffer.
 fn answer(kept: &[u8; KEPT], size: u64, out: &mut [u8]) -> usize
     requires { ⌜ length (now out) ≡ out-most ⌝ }
-    ensures { λ r. ⌜ (r ≤ out-most) × ((input : List ℕ) → ReadFrom (now (kept .entry)) size input → SpanOutput (meant input) (take r (now (out .exit)))) ⌝ }
+    ensures inside { λ r. ⌜ r ≤ out-most ⌝ }
+    ensures shown { λ r. ⌜ ((input : List ℕ) → ReadFrom (now (kept .entry)) size input → SpanOutput (meant input) (take r (now (out .exit)))) ⌝ }
 {
     let mut buffer = [0u8; OUT_MOST];
     let solved = solve_input(kept, size, &mut buffer);

@@ -21,10 +21,10 @@ use Rattle.definitions.specs.Certificate.{Reachable, raise, ArcBy, RowLeads, Ro
 use Rattle.definitions.specs.Verdict.{strategyOf}
 use Rattle.definitions.proofs.Whole.{whole, subℕ-read, plus-read, minus-read}
 use Rattle.definitions.proofs.Offset.{trop-read}
-use Rattle.records.specs.Decoded.{Near}
+use Rattle.records.specs.Decoded.{Near, InTables}
 use Rattle.reach.specs.Marks.{Marked, StartMarked, Reached}
 use Rattle.closed_walks.specs.Gains.{arc-zero, arc-most, weightOf, Table, Tested}
-use Rattle.closed_walks.specs.Tables.{Sized, DecodedAs, Picked, Trial}
+use Rattle.closed_walks.specs.Tables.{Sized, Picked, Trial}
 use Rattle.closed_walks.specs.Arcs.{raisedBy, least-lead, fall, fallen, looseArc, rowArc, heaviest, RowArcs}
 use Rattle.strategy_tests.specs.Counts.{RowsCount}
 use Rattle.closed_walks.proofs.ArcTables.{heaviest-more}
@@ -134,7 +134,7 @@ module _ {left right : List ℕ} {n m t : ℕ} {picks arcs : List ℕ} (sized : 
           rw (r .is, e) (loose-small _ _ _ (sized .left-near (r .row * 32 + j)) (sized .right-near (r .row * 32 + l)) (raise-near m (r .row) trial) (raise-some (r .row))))
           (eq-zero-or-pos (heaviest left right m t picks (m + 1) j l))
 
-  module _ {p : Problem} {z : ℤ} (holds : DecodedAs p left right n m) (trial-is : tropOf t ≡ fin z) where
+  module _ {p : Problem} {z : ℤ} (holds : InTables p n m left right) (trial-is : tropOf t ≡ fin z) where
     target-inside : (i l : ℕ) → strategyOf picks i ≡ suc l → l < n + 1
     unfolding strategyOf
     target-inside i l e = omega (arith, picked .none-above i)

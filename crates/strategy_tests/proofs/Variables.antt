@@ -21,10 +21,10 @@ use Rattle.definitions.specs.Certificate.{raise, ArcBy, Leads, Arc, HasPick, Pi
 use Rattle.definitions.specs.Verdict.{strategyOf}
 use Rattle.definitions.proofs.Whole.{whole, plus-read, minus-read}
 use Rattle.definitions.proofs.Offset.{trop-fin, trop-read, trop-show}
-use Rattle.records.specs.Decoded.{Near}
+use Rattle.records.specs.Decoded.{Near, InTables}
 use Rattle.reach.specs.Marks.{Marked, StartMarked, Reached}
 use Rattle.closed_walks.specs.Gains.{arc-zero, arc-most, weightOf, Table, Tested}
-use Rattle.closed_walks.specs.Tables.{Sized, DecodedAs, Picked, Trial}
+use Rattle.closed_walks.specs.Tables.{Sized, Picked, Trial}
 use Rattle.closed_walks.specs.Arcs.{raisedBy, least-lead, lift, lifted, strictArc, variableArc, VariableArcs}
 use Rattle.strategy_tests.specs.Counts.{VariablesCount}
 use Rattle.strategy_tests.proofs.Certified.{weight-show, strict, strict-read, strict-scale, Behind, ShownArcs, certified-not, certified-both}
@@ -105,7 +105,7 @@ module _ {left right : List ℕ} {n m t : ℕ} {picks arcs : List ℕ} (sized : 
       small j l zero = omega arith
       small j l (suc i) = strict-small _ _ _ (sized .left-near (i * 32 + j)) (sized .right-near (i * 32 + l)) (raise-near m i trial)
 
-  module _ {p : Problem} {z : ℤ} (holds : DecodedAs p left right n m) (trial-is : tropOf t ≡ fin z) where
+  module _ {p : Problem} {z : ℤ} (holds : InTables p n m left right) (trial-is : tropOf t ≡ fin z) where
     row-inside : (j i : ℕ) → strategyOf picks j ≡ suc i → i ≤ p .m
     unfolding strategyOf
     row-inside j i e = omega (arith, picked .none-above j, holds .m-is)

@@ -15,7 +15,8 @@ ghost use Rattle.definitions.specs.ProblemRecord.{problemOf};
 ghost use Rattle.definitions.specs.Verdict.{strategyOf};
 ghost use Rattle.problem_records.specs.Tables.{leftTable, Laid};
 ghost use Rattle.reach.specs.Marks.{Flags, Begins};
-ghost use Rattle.closed_walks.specs.Tables.{Sized, DecodedAs, Picked, Trial};
+ghost use Rattle.records.specs.Decoded.{InTables};
+ghost use Rattle.closed_walks.specs.Tables.{Sized, Picked, Trial};
 ghost use Rattle.strategy_tests.specs.Counts.{PickCounts, RowPickCounts, PlacesCount, Idle, Stands, RowsCount};
 use closed_walks::arcs::row_arcs;
 use closed_walks::arcs::variable_arcs;
@@ -164,7 +165,7 @@ pub fn certify_rows(
     start: [u8; STRIDE],
 ) -> bool
     requires { ⌜ Sized (now left) (now right) n m × Trial t × Picked (now picks) (n + 1) × Flags start ⌝ }
-    ensures { λ r. ⌜ ((p : Problem) (z : ℤ) → DecodedAs p (now (left .entry)) (now (right .entry)) n m → tropOf t ≡ fin z → Decides (RowPicksCount (Begins start (n + 1)) p (strategyOf (now (picks .entry))) × AtLeastZero (Begins start (n + 1)) p (strategyOf (now (picks .entry))) z) r) ⌝ }
+    ensures { λ r. ⌜ ((p : Problem) (z : ℤ) → InTables p n m (now (left .entry)) (now (right .entry)) → tropOf t ≡ fin z → Decides (RowPicksCount (Begins start (n + 1)) p (strategyOf (now (picks .entry))) × AtLeastZero (Begins start (n + 1)) p (strategyOf (now (picks .entry))) z) r) ⌝ }
 {
     let width = n + 1;
     let mut arcs = [0u32; ARCS];

@@ -6,7 +6,7 @@ ghost use Rattle.definitions.specs.ProblemRecord.{problemOf};
 ghost use Rattle.problem_records.specs.Tables.{Laid};
 ghost use Rattle.reach.specs.Marks.{StartMarked};
 use problem_records::reader::lead_in;
-use problem_records::reader::leads_of;
+use problem_records::reader::row_of;
 use problem_records::reader::row_place;
 use reach::anchor;
 use reach::marks_of;
@@ -18,7 +18,7 @@ fn second_marks(bytes: &[u8], n: usize, m: usize) -> [u8; STRIDE]
     requires { ⌜ Laid (now bytes) n m ⌝ }
     ensures { λ r. ⌜ StartMarked (Second (problemOf (now (bytes .entry)))) (n + 1) r ⌝ }
 {
-    let row = leads_of(bytes, row_place(n, m) + LEAD_BYTES * (n + 1), n);
+    let row = row_of(bytes, row_place(n, m) + LEAD_BYTES * (n + 1), n + 1);
     marks_of(&row)
 }
 

@@ -44,12 +44,21 @@ pub fn run(line: &[u8], problem: &[u8], room: usize) {
     print::edge(b"engine", line);
     let solved = solve_whole(problem, &mut buffer, room);
     match solved {
-        Solved::Answered(class, span, trials, size) => {
+        Solved::Answered {
+            class,
+            span,
+            trials,
+            size,
+        } => {
             found(class, span, trials);
             noise::show_written(size, &buffer);
             judged(problem, &buffer, size);
         }
-        Solved::AllAnswered(count, trials, size) => {
+        Solved::AllAnswered {
+            count,
+            trials,
+            size,
+        } => {
             several(count, trials);
             noise::show_written(size, &buffer);
         }

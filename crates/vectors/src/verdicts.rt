@@ -36,7 +36,7 @@ fn refused(number: usize) {
 
 fn show(verdict: Verdict) {
     match verdict {
-        Verdict::Accepted(class, span) => accepted(class, span),
+        Verdict::Accepted { class, span } => accepted(class, span),
         Verdict::Refused(number) => refused(number),
     }
 }

@@ -24,7 +24,7 @@ fn put_line(line: &mut [u8], verdict: Verdict) -> usize
     ensures { λ r. ⌜ (r ≤ line-most) × ((verdictOf verdict ≡ refused 0 → ⊥) → take r (now (line .exit)) ≡ verdictLine (verdictOf verdict)) ⌝ }
 {
     match verdict {
-        Verdict::Accepted(class, span) => write_verdict(line, 0, class, span),
+        Verdict::Accepted { class, span } => write_verdict(line, 0, class, span),
         Verdict::Refused(number) => write_verdict(line, number, 0, 0),
     }
 }

@@ -83,6 +83,27 @@ struct Stock {
     bad: Vec<(Vec<u8>, u64)>,
 }
 
+/// The refusal of a problem on a desk, which "knows no kind but 1": as in the checker, but kind 5 gets 3, once 1 and 2 do not apply.
+fn refusal_on_desk(bytes: &[u8]) -> Option<u64> {
+    let stated = bytes.len() >= 10 && bytes[4..6] == [5, 0];
+    if stated && u32::from_le_bytes([bytes[0], bytes[1], bytes[2], bytes[3]]) as usize + 4 == bytes.len() {
+        return Some(3);
+    }
+    paper::read_problem(bytes).err()
+}
+
+/// A record of kind 1 as one of kind 5, all of its rules in force.
+fn with_states(bytes: &[u8]) -> Vec<u8> {
+    let rules = u16::from_le_bytes([bytes[8], bytes[9]]);
+    let mut stated = bytes[..10].to_vec();
+    stated[4] = 5;
+    stated.extend((0..rules).flat_map(|_| [1, 0]));
+    stated.extend(&bytes[10..]);
+    let length = stated.len() as u32 - 4;
+    stated[..4].copy_from_slice(&length.to_le_bytes());
+    stated
+}
+
 fn stock(tally: &mut Tally, random: &mut Random, count: usize) -> Stock {
     let mut good = vec![(Vec::new(), Outcome::Least(0))];
     while good.len() < count {
@@ -102,11 +123,13 @@ fn stock(tally: &mut Tally, random: &mut Random, count: usize) -> Stock {
     while bad.len() < count / 4 {
         let bytes = if random.chance(1, 4) {
             any_questions(random, 2, 2, 2).bytes()
+        } else if random.chance(1, 8) {
+            with_states(&any(random, 3, 3).bytes())
         } else {
             let bytes = any(random, 3, 3).bytes();
             harmed(random, &bytes)
         };
-        if let Err(number) = paper::read_problem(&bytes) {
+        if let Some(number) = refusal_on_desk(&bytes) {
             bad.push((bytes, number));
         }
     }

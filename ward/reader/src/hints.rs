@@ -51,6 +51,17 @@ pub fn relation(token: &Token, left: &str, right: &str) -> Fault {
 /// Minutes that are not written as a whole number or as hours and minutes.
 pub fn minutes(from: usize, to: usize, word: &str) -> Fault {
     let fault = |message: String| Fault::new(from, to, message);
+    let decimal = word.strip_suffix(['h', 'H']).and_then(|hours| hours.split_once('.'));
+    if let Some((hours, part)) = decimal.filter(|(hours, _)| hours.parse::<u32>().is_ok()) {
+        let minutes = match part {
+            "25" => "15",
+            "5" | "50" => "30",
+            "75" => "45",
+            _ => "..",
+        };
+        return fault(format!("'{word}' is no number of minutes"))
+            .hint(format!("hours and minutes are written '{hours}:{minutes}'"));
+    }
     if word.contains('.') {
         let parts: Vec<&str> = word.split('.').collect();
         let whole = parts[0];
@@ -62,6 +73,16 @@ pub fn minutes(from: usize, to: usize, word: &str) -> Fault {
         return fault(format!("'{word}' is no whole number of minutes"))
             .hint(format!("minutes are whole: write '{whole}'{hours}"));
     }
+    if let Some(hours) = with_letter(word) {
+        return fault(format!("'{word}' is no number of minutes"))
+            .hint(format!("hours and minutes are written '{hours}'"));
+    }
+    if let Some(bare) = word.strip_prefix('0').filter(|bare| bare.contains(':') && !bare.starts_with(':')) {
+        let bare = bare.trim_start_matches('0');
+        let bare = if bare.starts_with(':') { format!("0{bare}") } else { bare.into() };
+        return fault(format!("'{word}' is no text of hours and minutes"))
+            .hint(format!("hours have no leading zero: write '{bare}'"));
+    }
     if word.contains(':') {
         return fault(format!("'{word}' is no text of hours and minutes"))
             .hint("hours without a leading zero, a colon, and two digits of minutes below 60, as in 1:30 or 0:05");
@@ -72,6 +93,14 @@ pub fn minutes(from: usize, to: usize, word: &str) -> Fault {
             .hint(format!("write '{digits}' for minutes, or hours and minutes as in 1:30"));
     }
     fault(format!("minutes are expected, not '{word}'"))
+}
+
+/// Hours with a letter behind them, as in `2h` and `1h30`, the way they are written here.
+fn with_letter(word: &str) -> Option<String> {
+    let (hours, rest) = word.split_once(['h', 'H'])?;
+    let digits = |text: &str| text.bytes().all(|byte| byte.is_ascii_digit());
+    let good = !hours.is_empty() && digits(hours) && (rest.is_empty() || rest.len() == 2 && digits(rest));
+    good.then(|| format!("{hours}:{}", if rest.is_empty() { "00" } else { rest }))
 }
 
 #[cfg(test)]

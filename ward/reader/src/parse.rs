@@ -48,6 +48,7 @@ pub fn read(bytes: &[u8], clock: &Clock) -> Read {
         remarks: source.remarks,
         spans: 0,
         unknown: BTreeMap::new(),
+        unread: false,
         expected: Vec::new(),
     };
     if bytes.is_empty() {
@@ -87,6 +88,8 @@ pub(crate) struct Draft<'c> {
     spans: usize,
     /// Names that no line declares, with their places.
     unknown: BTreeMap<String, Vec<Place>>,
+    /// Whether a line of moments could not be read, so that nobody knows which names it has.
+    unread: bool,
     /// Lines `expect:`: of which span, on which line, and what.
     expected: Vec<(usize, usize, Expected)>,
 }
@@ -110,6 +113,7 @@ impl Draft<'_> {
             let end = match tokens::comment(line) {
                 Ok(end) => end,
                 Err(fault) if wanted(Key::Rule) => {
+                    self.unread |= headed(line, fault.from).key == Some(Key::Moments);
                     self.wrong(number, line, fault);
                     continue;
                 }
@@ -139,6 +143,7 @@ impl Draft<'_> {
             self.wrong(number, line, fault);
         }
         let Some(key) = headed.key else { return };
+        self.unread |= key == Key::Moments && tokens.is_err();
         let done = tokens.and_then(|tokens| {
             let mut cursor = Cursor::new(line, tokens, end);
             let done = self.take(key, number, &mut cursor);
@@ -215,6 +220,9 @@ impl Draft<'_> {
             return None;
         }
         let quotable = sides::quoted_fault(written).is_none() && !written.contains('"');
+        if written.contains(';') {
+            return Some(cannot().hint("names have commas between them"));
+        }
         Some(match quotable {
             true => cannot().hint(format!("put it into quotes: \"{written}\"")),
             false => cannot().hint("a name starts with a letter; one with spaces, hyphens or signs goes into quotes"),
@@ -260,7 +268,9 @@ impl Draft<'_> {
 
     /// What is wrong with the text as a whole.
     fn whole(&mut self, lines: &[String]) {
-        self.unknown_names();
+        if !self.unread {
+            self.unknown_names();
+        }
         let Sheet { moments, rules, questions, .. } = &self.sheet;
         let moment = moments.get(limits::MOMENTS + 1).map(|moment| moment.place);
         let rule = rules.get(limits::RULES).map(|rule| rule.place);

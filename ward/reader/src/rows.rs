@@ -87,6 +87,11 @@ impl Draft<'_> {
             "or" => {
                 fault.hint("a rule cannot say 'one of these is early enough'; 'later of' on the left means all of them")
             }
+            "before" | "after" if token.kind == Kind::Word => {
+                let rest = cursor.rest()[token.text.len()..].trim();
+                let (first, second) = if token.text == "before" { (written, rest) } else { (rest, written) };
+                fault.hint(format!("write '{first} <= {second}'"))
+            }
             _ => self.more(cursor, fault),
         }
     }
@@ -102,8 +107,10 @@ impl Draft<'_> {
         let right = cursor.line[middle..token.from].trim();
         match token.text {
             "and" | "&" => {
-                let next = cursor.line[token.to..].split_whitespace().next().unwrap_or("..");
-                fault.hint(format!("write two rules, each on its line: '{left} <= {right}' and '{left} <= {next} ..'"))
+                let rest = cursor.rest()[token.text.len()..].trim();
+                let next = rest.split_whitespace().next().unwrap_or("..");
+                let second = if rest.contains("<=") { rest.into() } else { format!("{left} <= {next} ..") };
+                fault.hint(format!("write two rules, each on its line: '{left} <= {right}' and '{second}'"))
             }
             "," if decimal(cursor, token) => fault.hint("minutes are whole, and commas stand between moments"),
             "or" | "," => {
@@ -121,8 +128,11 @@ impl Draft<'_> {
         let Some(token) = cursor.peek(0) else { return fault };
         let word = token.text.to_lowercase();
         let digits = token.text.starts_with(|c: char| c.is_ascii_digit());
-        if ["min", "mins", "minute", "minutes", "m", "h", "hour", "hours"].contains(&word.as_str()) {
+        if ["min", "mins", "minute", "minutes", "m"].contains(&word.as_str()) {
             return fault.hint("leave it out: numbers are minutes, and 1:30 is an hour and a half");
+        }
+        if ["h", "hr", "hrs", "hour", "hours"].contains(&word.as_str()) {
+            return fault.hint("hours are written with a colon and minutes, as in 2:00; numbers alone are minutes");
         }
         if digits {
             return fault.hint(format!("a sign is missing: '+ {}' or '- {}'", token.text, token.text));
@@ -170,6 +180,7 @@ impl Draft<'_> {
         let fault = cursor.fault(expected);
         match cursor.peek(0).map(|token| token.text) {
             Some("and" | "or" | "&" | ",") => fault.hint("a group of several moments is written 'later of a, b'"),
+            Some("To" | "TO") => fault.hint("write 'to' in small letters"),
             Some(_) => self.more(cursor, fault),
             None => fault.hint("a span is written 'span: from .. to ..'"),
         }
@@ -178,6 +189,9 @@ impl Draft<'_> {
     /// How a span that does not begin with `from` is written.
     fn no_from(&self, cursor: &mut Cursor, from: usize, text: &str) -> Fault {
         let fault = |message: &str| Fault::new(from, from + text.len(), message);
+        if cursor.peek(0).is_some_and(|token| token.text.to_lowercase() == "from") {
+            return fault("a span is written 'span: from .. to ..'").hint("write 'from' and 'to' in small letters");
+        }
         let Some((end, start)) = sides::difference(cursor, &self.sheet.moments, self.clock) else {
             return fault("a span is written 'span: from .. to ..'")
                 .hint("as in 'span: from later of ready, cleaned to arrival + 5'");

@@ -127,6 +127,7 @@ impl<'a> Cursor<'a> {
 pub fn read(cursor: &mut Cursor, moments: &[Moment], clock: &Clock) -> Result<Vec<Lead>, Fault> {
     let mut leads = vec![None; moments.len()];
     capital_word(cursor)?;
+    earlier_of(cursor)?;
     if cursor.takes("nothing") {
         return Ok(leads);
     }
@@ -161,14 +162,30 @@ fn capital_word(cursor: &Cursor) -> Result<(), Fault> {
     Ok(())
 }
 
+/// A group that this language does not have.
+fn earlier_of(cursor: &Cursor) -> Result<(), Fault> {
+    let word = cursor.plain(0).to_lowercase();
+    let such = ["earlier", "earliest", "first"].contains(&word.as_str()) && cursor.plain(1).to_lowercase() == "of";
+    match such {
+        true => Err(cursor.fault("a moment's name or 'later of' is expected").hint(
+            "there is 'later of' alone; that something is not later than any of a and b is two rules, one with each",
+        )),
+        false => Ok(()),
+    }
+}
+
 /// A moment, with minutes if any. A moment that nobody declared is noted, and the rest of the line is still read.
 fn term(cursor: &mut Cursor, moments: &[Moment], clock: &Clock) -> Result<(Option<usize>, i32), Fault> {
     let Some(token) = cursor.peek(0) else { return Err(cursor.fault("a moment's name is expected")) };
     if token.kind != Kind::Quoted && !is_name(token.text) {
         return Err(no_name(cursor, token));
     }
-    cursor.take();
     let moment = moments.iter().position(|known| known.name == token.text);
+    if let Some(name) = without_quotes(cursor.line, token, moments).filter(|_| moment.is_none()) {
+        let message = format!("'{name}' stands without its quotes");
+        return Err(Fault::new(token.from, token.from + name.len(), message).hint(format!("write \"{name}\"")));
+    }
+    cursor.take();
     if moment.is_none() {
         cursor.unknown.push(Unknown { name: token.text.into(), from: token.from, to: token.to });
     }
@@ -177,13 +194,30 @@ fn term(cursor: &mut Cursor, moments: &[Moment], clock: &Clock) -> Result<(Optio
         "-" => -1,
         _ => return Ok((moment, 0)),
     };
+    let hyphen = sign < 0 && cursor.peek(1).is_some_and(|next| next.kind == Kind::Word && is_name(next.text));
+    if hyphen && moment.is_none() {
+        // A name with a hyphen and no quotes: its first half is no name that is missing.
+        cursor.unknown.pop();
+    }
     let lead = lead(cursor, token, sign, clock)?;
     Ok((moment, lead))
+}
+
+/// The declared name of several words or with hyphens that starts where a word does, the longest of them.
+fn without_quotes<'a>(line: &str, token: Token, moments: &'a [Moment]) -> Option<&'a str> {
+    let ends = |name: &str| !line[token.from + name.len()..].starts_with(char::is_alphanumeric);
+    let names = moments.iter().map(|known| known.name.as_str());
+    let such = names.filter(|name| token.kind == Kind::Word && !is_name(name) && line[token.from..].starts_with(name));
+    such.filter(|name| ends(name)).max_by_key(|name| name.len())
 }
 
 /// What stands where a moment's name belongs.
 fn no_name(cursor: &Cursor, token: Token) -> Fault {
     let fault = cursor.fault("a moment's name is expected");
+    if is_hours(token.text) && cursor.plain(1) != "+" {
+        return fault
+            .hint("times of day are counted from the anchor: where that is 8:00, write 'anchor + 0:40' for 8:40");
+    }
     if is_number(token.text) || is_hours(token.text) {
         return match cursor.peek(2) {
             Some(name) if cursor.plain(1) == "+" => {
@@ -233,7 +267,11 @@ fn no_minutes(cursor: &Cursor, moment: Token, sign: Token, token: Token) -> Faul
     if token.kind == Kind::Sign {
         let number = cursor.plain(1);
         let fault = Fault::new(sign.from, token.to, format!("'{signs}' are two signs"));
-        let sum = if sign.text == token.text { '+' } else { '-' };
+        let sum = match token.text {
+            "+" | "-" if sign.text == token.text => "+",
+            "+" | "-" => "-",
+            _ => sign.text,
+        };
         return if is_number(number) || is_hours(number) {
             fault.hint(format!("write '{sum} {number}'"))
         } else {

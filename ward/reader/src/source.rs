@@ -51,6 +51,11 @@ fn no_text(bytes: &[u8]) -> Option<(&'static str, &'static str)> {
     if bytes.starts_with(b"\xFF\xFE") || bytes.starts_with(b"\xFE\xFF") {
         return Some(("the file is in UTF-16", "save it as UTF-8"));
     }
+    let inner = bytes.strip_suffix(b"\r").unwrap_or(bytes);
+    if inner.contains(&b'\r') && !inner.contains(&b'\n') {
+        let hint = "save it with the line ends of Windows or Unix";
+        return Some(("the lines end with the character U+000D alone, as on old Macs", hint));
+    }
     if bytes.contains(&0) {
         return Some(("this is no text: the file holds a byte 0", "`ward text FILE` tells a problem record as a text"));
     }
@@ -93,7 +98,7 @@ mod tests {
         let latin = first("ok\nK\u{FC}che\n".chars().map(|c| c as u8).collect::<Vec<_>>().as_slice());
         assert_eq!((latin.weight, latin.place.line, latin.place.column), (Weight::Mistake, 2, 2));
         assert!(latin.hint.is_some_and(|hint| hint.contains("'ü'")));
-        for bytes in [&b"\xFF\xFEa\0"[..], b"\xFE\xFF\0a", b"\x0E\0\0\0\x01\0", &[b'a'; 1_000_001]] {
+        for bytes in [&b"a\rb\r"[..], b"\xFF\xFEa\0", b"\xFE\xFF\0a", b"\x0E\0\0\0\x01\0", &[b'a'; 1_000_001]] {
             assert!(!lines(bytes).readable);
             assert_eq!(first(bytes).weight, Weight::Mistake);
         }

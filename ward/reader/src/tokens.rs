@@ -70,7 +70,7 @@ pub fn tokens(line: &str, from: usize, to: usize) -> Result<Vec<Token<'_>>, Faul
             '"' => (Kind::Quoted, quoted(rest).ok_or_else(|| open_quote(line, at, to))?),
             c if SIGNS.contains(c) => (Kind::Sign, 1),
             c if RELATIONS.contains(c) => (Kind::Relation, run(&|c| !RELATIONS.contains(c))),
-            c if DASHES.contains(c) || QUOTES.contains(c) => return Err(looks_like(at, c)),
+            c if DASHES.contains(c) || QUOTES.contains(c) => return Err(looks_like(&line[..to], at, c)),
             c => (Kind::Word, run(&ends_word).max(c.len_utf8())),
         };
         let (inner_from, inner_to) = if kind == Kind::Quoted { (at + 1, at + length - 1) } else { (at, at + length) };
@@ -98,9 +98,13 @@ fn open_quote(line: &str, at: usize, to: usize) -> Fault {
 }
 
 /// A sign that looks like another.
-fn looks_like(at: usize, c: char) -> Fault {
-    let plain = if DASHES.contains(c) { '-' } else { '"' };
-    Fault::new(at, at + c.len_utf8(), format!("'{c}' is not the sign '{plain}'")).hint(format!("write '{plain}'"))
+fn looks_like(line: &str, at: usize, c: char) -> Fault {
+    let (plain, such) = if DASHES.contains(c) { ('-', DASHES) } else { ('"', QUOTES) };
+    let fault = Fault::new(at, at + c.len_utf8(), format!("'{c}' is not the sign '{plain}'"));
+    match line[at..].chars().filter(|&c| such.contains(c)).count() {
+        1 => fault.hint(format!("write '{plain}'")),
+        count => fault.hint(format!("write '{plain}' here, and where such a sign stands again: {count} on this line")),
+    }
 }
 
 /// Where a line's comment starts, or its end. A comment starts at the line's start or after a space, outside quotes.

@@ -45,6 +45,19 @@ fn an_accepted_answer_is_told() {
     );
 }
 
+/// As `--json` gives an answer.
+#[test]
+fn answers_may_be_in_hexadecimal() {
+    let text = format!("{E}span: from bed to anchor\n");
+    let records = answers(&text).iter().map(|record| ward_reader::record::hex(record) + "\n").collect::<String>();
+    let told = judge(&text, &[records.as_bytes()]);
+    assert_eq!((told.status, told.err.as_str()), (Some(0), ""), "{told:?}");
+    assert!(
+        told.out.contains("says: accepted least 30\n") && told.out.contains("says: accepted bottomless"),
+        "{told:?}"
+    );
+}
+
 /// Nothing is told as a fact of an answer that is not accepted.
 #[test]
 fn what_is_not_accepted_is_a_claim() {

@@ -65,6 +65,22 @@ fn files_that_cannot_be_read_are_told() {
     assert!(endless.status == Some(1) && endless.err.contains("more than 1,000,000 bytes"), "{endless:?}");
 }
 
+/// A text that is read is not written over, by whichever path.
+#[test]
+fn the_output_is_none_of_the_files_that_are_read() {
+    let scratch = Scratch::new("over");
+    let text = scratch.file("e.txt", E);
+    let around = text.parent().expect("a folder").join("./e.txt");
+    for output in [&text, &around] {
+        let told = told(tool().arg("--html").arg(&text).arg("-o").arg(output));
+        assert_eq!((told.status, told.out.as_str()), (Some(2), ""), "{told:?}");
+        assert!(told.err.contains("would be written over"), "{told:?}");
+        assert_eq!(std::fs::read_to_string(&text).expect("the text"), E);
+    }
+    let told = ward(&["-", "-o", "/dev/null"], E);
+    assert_eq!(told.status, Some(0), "{told:?}");
+}
+
 /// A closed pipe and a full device end the tool without a panic.
 #[test]
 fn outputs_that_fail_are_no_panic() {

@@ -58,7 +58,20 @@ fn every_mistake_has_its_place_and_a_hint() {
         ("ready + -30 <= cleaned", 7, "'+ -' are two signs", "write '- 30'"),
         ("ready - -30 <= cleaned", 7, "'- -' are two signs", "write '+ 30'"),
         ("ready + 1:75 <= cleaned", 9, "'1:75' is no text of hours", "1:30"),
-        ("ready + 01:30 <= cleaned", 9, "'01:30' is no text of hours", "without a leading zero"),
+        ("ready + 01:30 <= cleaned", 9, "'01:30' is no text of hours", "no leading zero: write '1:30'"),
+        ("ready + 00:30 <= cleaned", 9, "'00:30' is no text of hours", "no leading zero: write '0:30'"),
+        ("ready + 1h30 <= cleaned", 9, "'1h30' is no number of minutes", "written '1:30'"),
+        ("ready + 2h <= cleaned", 9, "'2h' is no number of minutes", "written '2:00'"),
+        ("ready + 2 hours <= cleaned", 11, "not 'hours'", "as in 2:00"),
+        ("8:40 <= ready", 1, "a moment's name is expected, not '8:40'", "write 'anchor + 0:40' for 8:40"),
+        ("ready <= 8:45", 10, "a moment's name is expected, not '8:45'", "where that is 8:00"),
+        ("earlier of ready, cleaned <= anchor", 1, "not 'earlier'", "two rules"),
+        ("ready before cleaned + 5", 7, "not 'before'", "write 'ready <= cleaned + 5'"),
+        ("ready + 5 after cleaned", 11, "not 'after'", "write 'cleaned <= ready + 5'"),
+        ("anchor <= bed 4-B + 10", 11, "'bed 4-B' stands without its quotes", "write \"bed 4-B\""),
+        ("bed 4-B <= ready", 1, "'bed 4-B' stands without its quotes", "write \"bed 4-B\""),
+        ("bed-clean <= ready", 5, "minutes are expected, not 'clean'", "into quotes: \"bed-clean\""),
+        ("moments: nurse; porter", 10, "'nurse; porter' cannot be a moment's name", "commas between them"),
         ("ready + 30min <= cleaned", 9, "'30min' is no number", "write '30'"),
         ("ready + 30 min <= cleaned", 12, "not 'min'", "leave it out"),
         ("ready 30 <= cleaned", 7, "not '30'", "a sign is missing: '+ 30'"),
@@ -77,7 +90,18 @@ fn every_mistake_has_its_place_and_a_hint() {
             "a name with a hyphen goes into quotes: \"cleaned-early\"",
         ),
         ("ready – 5 <= cleaned", 7, "'–' is not the sign '-'", "write '-'"),
-        ("“bed 4-B” <= ready", 1, "'“' is not the sign '\"'", "write '\"'"),
+        (
+            "“bed 4-B” <= ready",
+            1,
+            "'“' is not the sign '\"'",
+            "write '\"' here, and where such a sign stands again: 2 on",
+        ),
+        ("ready <= cleaned and cleaned <= ready", 18, "'and' is too much", "'ready <= cleaned' and 'cleaned <= ready'"),
+        ("ready + (30) <= cleaned", 7, "'+ (' are two signs", "write '+ 30'"),
+        ("ready - (30) <= cleaned", 7, "'- (' are two signs", "write '- 30'"),
+        ("ready + 1.5h <= cleaned", 9, "'1.5h' is no number of minutes", "written '1:30'"),
+        ("span: From ready To cleaned", 7, "a span is written", "in small letters"),
+        ("span: from ready To cleaned", 18, "'to' is expected, not 'To'", "in small letters"),
         ("\"bed 4-B <= ready", 1, "is not closed", "another quote"),
         ("'bed 4-B' <= ready", 1, "a moment's name is expected", "double quotes"),
         ("nothing <= ready", 1, "says nothing, and is refused (17)", "half filled"),
@@ -113,6 +137,17 @@ fn all_mistakes_of_a_text_are_told_in_order() {
     assert_eq!(places, at(&["1:16", "2:3", "3:6", "3:10", "4:6", "6:16", "7:9"]), "{told:?}");
     assert!(told.err.contains("no moment is called 'c'; also on line 4\n"), "{told:?}");
     assert!(told.err.ends_with("standard input: 7 mistakes\n"), "{told:?}");
+}
+
+/// Names of a line that cannot be read are not told as unknown where rules use them.
+#[test]
+fn a_line_of_moments_that_cannot_be_read_is_the_one_mistake() {
+    for moments in ["moments: “bed 4”, ready", "moments: bed#4, ready", "moments: \"bed 4, ready"] {
+        let told = check(format!("{moments}\nanchor + 5 <= ready\nspan: from anchor to ready\n"));
+        assert_eq!(told.status, Some(1), "{told:?}");
+        assert_eq!(told.err.matches(": mistake: ").count(), 1, "{told:?}");
+        assert!(told.err.starts_with("standard input:1:"), "{told:?}");
+    }
 }
 
 #[test]

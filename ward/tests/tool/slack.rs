@@ -82,7 +82,8 @@ fn compared(seed: u64, count: usize, held: &str) -> (usize, usize) {
             let stamps = || good.iter().filter_map(|plan| plan[moment]);
             let earliest = match stamps().min() {
                 Some(minute) if minute > -13 && !blank => minute.to_string(),
-                _ => "any".into(),
+                Some(_) => "any".into(),
+                None => "never".into(),
             };
             let latest = match stamps().max() {
                 Some(minute) if minute < 13 => minute.to_string(),

@@ -4,7 +4,7 @@ use mathlib.Core.List.{List}
 use Rattle.definitions.specs.ProblemRecord.{problemOf}
 use Rattle.problem_records.specs.Tables.{Laid}
 use Rattle.problem_records.specs.Filling.{Tabled}
-use Rattle.closed_walks.specs.Tables.{DecodedAs}
+use Rattle.records.specs.Decoded.{InTables}
 use Rattle.problem_records.proofs.ReadProblem.{laid-framed, left-tabled, right-tabled}
 use Rattle.closed_walks.proofs.Holding.{laid-holds, holds-sized}
 use Rattle.checker.proofs.Acceptance.{lowest-trial-is, unbounded-at, begins-inside}
@@ -13,7 +13,7 @@ use Rattle.checker.proofs.check.certify_unbounded.Statement.{statement}
 use Rattle.checker.proofs.check.certify_unbounded.Tie as tie
 
 -- Tables that were filled from the bytes of a problem hold it.
-tables-held : {s : List ℕ} {n m : ℕ} {left right : List ℕ} → Laid s n m → Tabled s n m 2048 left right → DecodedAs (problemOf s) left right n m
+tables-held : {s : List ℕ} {n m : ℕ} {left right : List ℕ} → Laid s n m → Tabled s n m 2048 left right → InTables (problemOf s) n m left right
 tables-held l t = rw (left-tabled l t, right-tabled l t) (laid-holds l)
 
 pub certify-unbounded-spec : {M : Type 1} → statement M

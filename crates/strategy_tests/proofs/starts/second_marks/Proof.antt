@@ -14,7 +14,8 @@ second-marks-spec =
     (λ c. search needs)
     (λ c. search needs)
     (λ c. search needs)
+    (λ c. search needs)
     (λ c κs. let start = c .before .before in (omega (arith, start .pre .n-most), omega (arith, row-inside (start .pre) (start .args .m) (omega arith))))
-    (λ c κs. c .before .leads-of .ensures .size-is)
+    (λ c κs. c .before .row-of .ensures .size-is)
     (λ c. let start = c .before .before .before .before .before in
-    seconds-marked (start .pre) (c .before .before .before .row-place .result + 4 * (start .args .n + 1)) _ (omega (arith, c .before .before .before .row-place .ensures .0)) (c .before .before .leads-of .ensures) (c .marks-of .ensures)))
+    seconds-marked (start .pre) (c .before .before .before .row-place .result + 4 * (start .args .n + 1)) _ (omega (arith, c .before .before .before .row-place .ensures .0)) (c .before .before .row-of .ensures) (c .marks-of .ensures)))
