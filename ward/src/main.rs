@@ -81,7 +81,7 @@ fn bytes(path: &OsStr) -> io::Result<Vec<u8>> {
     let mut bytes = Vec::new();
     let most = limits::TEXT as u64 + 1;
     match path == "-" {
-        true => io::stdin().lock().take(most).read_to_end(&mut bytes)?,
+        true => io::stdin().lock().take(most).read_to_end(&mut bytes).map_err(output::unread)?,
         false => File::open(path)?.take(most).read_to_end(&mut bytes)?,
     };
     Ok(bytes)

@@ -102,6 +102,14 @@ extern "C" fn hold_closed() {
     }
 }
 
+/// What is said of a standard input in whose place a folder stands.
+pub fn unread(error: io::Error) -> io::Error {
+    match error.kind() {
+        ErrorKind::IsADirectory => io::Error::other("it is closed, or a folder"),
+        _ => error,
+    }
+}
+
 /// The linker's list of what runs before the runtime.
 #[used]
 #[link_section = ".init_array"]

@@ -73,7 +73,7 @@ fn a_closed_standard_input_is_no_idle_day() {
     let scratch = Scratch::new("no-input");
     let closed = by_shell("exec \"$@\" <&-", &scratch.path(""), &["-"]);
     assert_eq!((closed.status, closed.out.as_str()), (Some(1), ""), "{closed:?}");
-    assert!(closed.err.starts_with("standard input: "), "{closed:?}");
+    assert!(closed.err.starts_with("standard input: it is closed, or a folder"), "{closed:?}");
     assert_eq!(by_shell("exec \"$@\" < /dev/null", &scratch.path(""), &["-"]).status, Some(0));
 }
 
