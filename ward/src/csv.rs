@@ -1,10 +1,11 @@
-//! Reports as CSV (RFC 4180): a line a moment of each plan, and one for a span that has no plan.
+//! Reports as CSV (RFC 4180): a line a moment of each plan, and one for a span that has no plan. The last cell is the answer that
+//! the text expects, where it is another.
 
 use crate::answer::{Body, Placed, Report, Span};
 use crate::times::Bound;
 use crate::told;
 
-const HEAD: &str = "file,span,from,to,verdict,moment,minute,time,earliest,latest,note";
+const HEAD: &str = "file,span,from,to,verdict,moment,minute,time,earliest,latest,note,expected";
 
 /// All reports.
 pub fn all(reports: &[Report]) -> String {
@@ -52,6 +53,8 @@ fn line(report: &Report, number: usize, span: &Span, placed: Option<&Placed>, ou
         }
         _ => {}
     }
+    cells.resize(11, String::new());
+    cells.push(span.expected.map_or(String::new(), |expected| expected.to_string()));
     out.push_str(&cells.iter().map(|cell| quoted(cell)).collect::<Vec<_>>().join(","));
     out.push_str("\r\n");
 }

@@ -10,6 +10,7 @@ mod csv;
 mod cut;
 mod json;
 mod opening;
+mod output;
 mod page;
 mod reasons;
 mod scale;
@@ -72,18 +73,7 @@ fn main() -> ExitCode {
 
 /// Writes to the output that the words name.
 fn put(words: &Words, bytes: &[u8]) -> io::Result<()> {
-    match &words.output {
-        Some(path) => {
-            let mut file = File::create(path)?;
-            file.write_all(bytes)?;
-            file.sync_all().or_else(|error| if error.kind() == ErrorKind::InvalidInput { Ok(()) } else { Err(error) })
-        }
-        None => {
-            let mut out = io::stdout().lock();
-            out.write_all(bytes)?;
-            out.flush()
-        }
-    }
+    output::put(words.output.as_deref(), bytes)
 }
 
 /// A file's bytes, or those of standard input; no more than a text may have, and one.
@@ -91,7 +81,7 @@ fn bytes(path: &OsStr) -> io::Result<Vec<u8>> {
     let mut bytes = Vec::new();
     let most = limits::TEXT as u64 + 1;
     match path == "-" {
-        true => io::stdin().lock().take(most).read_to_end(&mut bytes)?,
+        true => io::stdin().lock().take(most).read_to_end(&mut bytes).map_err(output::unread)?,
         false => File::open(path)?.take(most).read_to_end(&mut bytes)?,
     };
     Ok(bytes)

@@ -1,5 +1,6 @@
 //! What a writer may have meant.
 
+use crate::sides::is_name;
 use crate::tokens::{Fault, Token};
 
 /// The candidate that a word was probably meant to be, if one is near.
@@ -44,8 +45,24 @@ pub fn relation(token: &Token, left: &str, right: &str) -> Fault {
         }
         "<" => format!("write '{left} <= {right}'; where they must not be at the same minute, add 1 on the left"),
         ">" => format!("write '{right} <= {left}'; where they must not be at the same minute, add 1 on the left"),
+        "<>" => unequal(left, right),
+        sign if sign.starts_with(['!', '≠']) => unequal(left, right),
         _ => format!("write '{left} <= {right}'"),
     })
+}
+
+/// What to write for two sides that must not be at the same minute.
+fn unequal(left: &str, right: &str) -> String {
+    let moment = |side: &str| {
+        let quoted = side.strip_prefix('"').and_then(|side| side.strip_suffix('"'));
+        quoted.map_or(is_name(side), |name| !name.contains('"'))
+    };
+    match moment(left) && moment(right) {
+        true => format!(
+            "a rule cannot say that two moments differ: choose which comes first, and write '{left} + 1 <= {right}' or '{right} + 1 <= {left}'"
+        ),
+        false => "a rule cannot say that its sides differ: choose which is earlier, as in 'a + 1 <= b'".into(),
+    }
 }
 
 /// Minutes that are not written as a whole number or as hours and minutes.

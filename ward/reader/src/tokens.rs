@@ -25,7 +25,7 @@ pub enum Kind {
     /// A name between quotes; its text is without them.
     Quoted,
     Sign,
-    /// A run of `<`, `>` and `=`, also as one character.
+    /// A run of `<`, `>` and `=`, also as one character; `!=` and `≠` too.
     Relation,
 }
 
@@ -50,6 +50,11 @@ fn invisible(c: char) -> bool {
         || matches!(c, '\u{200B}'..='\u{200F}' | '\u{202A}'..='\u{202E}' | '\u{2060}'..='\u{2069}' | '\u{FEFF}')
 }
 
+/// Whether a sign stands here that says "not equal". Within a name `≠` may stand.
+fn unequal(rest: &str) -> bool {
+    rest.starts_with("!=") || rest.starts_with('≠')
+}
+
 /// Where a word ends.
 fn ends_word(c: char) -> bool {
     c.is_whitespace() || c == '"' || [SIGNS, RELATIONS, DASHES, QUOTES].iter().any(|set| set.contains(c))
@@ -70,8 +75,9 @@ pub fn tokens(line: &str, from: usize, to: usize) -> Result<Vec<Token<'_>>, Faul
             '"' => (Kind::Quoted, quoted(rest).ok_or_else(|| open_quote(line, at, to))?),
             c if SIGNS.contains(c) => (Kind::Sign, 1),
             c if RELATIONS.contains(c) => (Kind::Relation, run(&|c| !RELATIONS.contains(c))),
+            '!' | '≠' if unequal(rest) => (Kind::Relation, run(&|c| !RELATIONS.contains(c) && c != first)),
             c if DASHES.contains(c) || QUOTES.contains(c) => return Err(looks_like(&line[..to], at, c)),
-            c => (Kind::Word, run(&ends_word).max(c.len_utf8())),
+            c => (Kind::Word, run(&ends_word).min(rest.find("!=").unwrap_or(rest.len())).max(c.len_utf8())),
         };
         let (inner_from, inner_to) = if kind == Kind::Quoted { (at + 1, at + length - 1) } else { (at, at + length) };
         let text = &line[inner_from..inner_to];

@@ -124,17 +124,37 @@ fn csv_has_a_line_a_moment() {
     let out = ward(&["--csv", "-"], STRANGE).out;
     let lines: Vec<Vec<String>> = out.lines().map(cells).collect();
     assert_eq!(lines.len(), 4, "{out}");
-    assert!(lines.iter().all(|line| line.len() == 11), "{out}");
+    assert!(lines.iter().all(|line| line.len() == 12), "{out}");
     assert_eq!(lines[0][..2], ["file", "span"]);
+    assert_eq!(lines[0][10..], ["note", "expected"]);
     let bed = lines.iter().find(|line| line[5] == "bed, <4> & co").expect("the bed");
     assert_eq!(bed[4..10], ["accepted least 30", "bed, <4> & co", "30", "0:30", "30", "30"]);
     let out = ward(&["--csv", "-"], "moments: a\nanchor <= a\nspan: from a to anchor\n").out;
     let lines: Vec<Vec<String>> = out.lines().map(cells).collect();
-    assert_eq!((lines.len(), lines[1][4].as_str(), lines[1].len()), (2, "accepted bottomless", 11), "{out}");
+    assert_eq!((lines.len(), lines[1][4].as_str(), lines[1].len()), (2, "accepted bottomless", 12), "{out}");
     let out = ward(&["--csv", "-"], "moments: a\nanchor + 5 <= a\na <= anchor + 4\nspan: from anchor to a\n").out;
     let lines: Vec<Vec<String>> = out.lines().map(cells).collect();
     let named = "others: rule 1 (line 2): anchor + 5 <= a; rule 2 (line 3): a <= anchor + 4";
-    assert!(lines[1].len() == 11 && lines[1][10].ends_with(named), "{out}");
+    assert!(lines[1].len() == 12 && lines[1][10].ends_with(named), "{out}");
+}
+
+/// The last cell of a line is the answer that the text expects, where it is another.
+#[test]
+fn csv_has_what_was_expected() {
+    let back = "span: from bed to anchor\n";
+    for (text, status, expected) in [
+        (E.to_string(), 0, ["", ""].as_slice()),
+        (format!("{E}expect: least 0:30\n"), 0, &["", ""]),
+        (format!("{E}expect: least 29\n"), 4, &["least 29", "least 29"]),
+        (format!("{E}expect: bottomless\n{back}expect: bottomless\n"), 4, &["bottomless", "bottomless", ""]),
+        (format!("{E}expect: least 30\n{back}expect: none\n"), 4, &["", "", "none"]),
+    ] {
+        let told = ward(&["--csv", "-"], &text);
+        assert_eq!((told.status, told.err.as_str()), (Some(status), ""), "{told:?}");
+        let lines: Vec<Vec<String>> = told.out.lines().skip(1).map(cells).collect();
+        assert!(lines.iter().all(|line| line.len() == 12), "{told:?}");
+        assert_eq!(lines.iter().map(|line| line[11].as_str()).collect::<Vec<_>>(), expected, "{told:?}");
+    }
 }
 
 #[test]

@@ -9,6 +9,7 @@ mod forms;
 mod line;
 mod mistakes;
 mod opening;
+mod outputs;
 mod programs;
 mod random_texts;
 mod run;

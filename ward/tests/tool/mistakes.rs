@@ -38,6 +38,13 @@ fn every_mistake_has_its_place_and_a_hint() {
         ("ready = cleaned", 7, "not '='", "two rules, each on its line: 'ready <= cleaned' and 'cleaned <= ready'"),
         ("ready ≤ cleaned", 7, "not '≤'", "write '<='"),
         ("ready < cleaned", 7, "not '<'", "'ready <= cleaned'"),
+        ("ready != cleaned", 7, "not '!='", "write 'ready + 1 <= cleaned' or 'cleaned + 1 <= ready'"),
+        ("ready!=\"bed 4-B\"", 6, "not '!='", "write 'ready + 1 <= \"bed 4-B\"' or '\"bed 4-B\" + 1 <= ready'"),
+        ("ready ≠ cleaned", 7, "not '≠'", "write 'ready + 1 <= cleaned' or 'cleaned + 1 <= ready'"),
+        ("ready <> cleaned", 7, "not '<>'", "write 'ready + 1 <= cleaned' or 'cleaned + 1 <= ready'"),
+        ("ready + 5 != later of cleaned, anchor", 11, "not '!='", "which is earlier, as in 'a + 1 <= b'"),
+        ("ready != nothing", 7, "not '!='", "which is earlier, as in 'a + 1 <= b'"),
+        ("ready <= cleaned != anchor", 18, "'!=' is too much", "one '<=' a rule"),
         ("ready and cleaned <= anchor", 7, "not 'and'", "'later of ready, cleaned'"),
         ("anchor <= ready or cleaned", 17, "'or' is too much", "'later of ready, cleaned'"),
         ("anchor <= ready and cleaned", 17, "'and' is too much", "'anchor <= ready' and 'anchor <= cleaned"),
@@ -121,6 +128,13 @@ fn every_mistake_has_its_place_and_a_hint() {
         assert!(found.1.contains(message), "{line}: {found:?}");
         assert!(found.2.contains(hint) && (hint.is_empty() || !found.2.is_empty()), "{line}: {found:?}");
     }
+}
+
+/// A sign of "not equal" is one where no name can have it.
+#[test]
+fn names_may_end_with_an_exclamation_mark() {
+    let told = check("moments: go!, a≠b\ngo!<=a≠b\nanchor <= go!\nspan: from go! to a≠b\n");
+    assert_eq!((told.status, told.err.as_str()), (Some(0), ""), "{told:?}");
 }
 
 #[test]
