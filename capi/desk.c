@@ -21,9 +21,10 @@
 static uint8_t memory[SPAN_DESK_MEMORY];
 static uint64_t state[SPAN_DESK_WORDS];
 
+/* The ticket, or 0 where the problem was refused: tickets count from 1. */
 static uint64_t taken(const uint8_t *problem, size_t size) {
-    span_desk_take(memory, sizeof memory, state, SPAN_DESK_WORDS, problem, size);
-    return state[SPAN_DESK_TICKET];
+    uint64_t refused = span_desk_take(memory, sizeof memory, state, SPAN_DESK_WORDS, problem, size);
+    return refused ? 0 : state[SPAN_DESK_TICKET];
 }
 
 static uint64_t collected(uint64_t ticket) {

@@ -192,7 +192,8 @@ uint64_t span_census(uint64_t n, uint64_t m, uint64_t w, uint64_t *counts, size_
 /* A desk answers up to sixteen problems in turn, a trial at a time (document 02, 2.11). Lend SPAN_DESK_MEMORY bytes and SPAN_DESK_WORDS
  * words; both may hold anything before span_desk_open, and AFTERWARDS EACH CALL MUST GET THEM AS THE CALL BEFORE LEFT THEM. All four
  * calls look first at the memory, SPAN_DESK_SHORT, then at the words, SPAN_TOO_FEW_PLACES, and read nothing where one is too short. A
- * refusal changes nothing.
+ * refusal, SPAN_STILL_WAITS and SPAN_NONE_WAITS change nothing: state[SPAN_DESK_TICKET] holds then what an earlier call told. With memory or
+ * words that another hand changed a call's behaviour is undefined. What was collected may stand in both until it is overwritten.
  *
  * Opens a desk with nothing on it. Result: 0, or the refusal. */
 uint64_t span_desk_open(const uint8_t *memory, size_t memory_size, uint64_t *state, size_t state_count);
@@ -209,7 +210,7 @@ uint64_t span_desk_take(uint8_t *memory, size_t memory_size, uint64_t *state, si
 uint64_t span_desk_step(const uint8_t *memory, size_t memory_size, uint64_t *state, size_t state_count);
 
 /* Writes the answer of a ticket at the start of `buffer` and frees its place; the bytes after the record stay. Lend SPAN_ANSWER_SIZE bytes.
- * Result: 256 * class + 65536 * own trials; or SPAN_STILL_WAITS; else the refusal. After the memory and the words, in this order: 22, no such ticket
+ * Result: 256 * class + 65536 * own trials; or SPAN_STILL_WAITS, which is 0 and no refusal either; else the refusal. After the memory and the words, in this order: 22, no such ticket
  * is held; SPAN_STILL_WAITS; 7, after which the answer can still be collected. */
 uint64_t span_desk_collect(const uint8_t *memory, size_t memory_size, uint64_t *state, size_t state_count, uint64_t ticket,
                            uint8_t *buffer, size_t buffer_size);

@@ -15,7 +15,7 @@ use Rattle.definitions.specs.AnswerRecord.{Answer, stampCount, pickCount, answe
 use Rattle.definitions.proofs.Put.{take-put, length-put}
 use Rattle.definitions.proofs.Outcomes.{outcome-some, outcome-gives, outcome-refusal}
 use Rattle.definitions.proofs.Offset.{tropOf-injective}
-use Rattle.definitions.proofs.Refusals.{answer-fits}
+use Rattle.definitions.proofs.AnswerFits.{answer-fits}
 use Rattle.definitions.proofs.RoundTrip.{answer-bytes, write-read, read-write}
 use Rattle.answer_reader.specs.Fields.{fieldsOf, bodyOf, stampsAt, picksAt, stampsOf, picksOf}
 use Rattle.answer_reader.specs.AnswerReading.{toldBy, headOf, HeadAt, AnswerRead}

@@ -17,7 +17,8 @@ use Rattle.definitions.specs.AnswerRecord.{known-class, startFits, stampCount, 
 use Rattle.definitions.proofs.Bytes.{length-le, length-fields}
 use Rattle.definitions.proofs.Outcomes.{outcome-some}
 use Rattle.definitions.proofs.Offset.{trop-off, off-off, off-bound, fieldOf-tropField, within-iff}
-use Rattle.definitions.proofs.Refusals.{writer-fits, limits-clause}
+use Rattle.definitions.proofs.Refusals.{limits-clause}
+use Rattle.definitions.proofs.AnswerFits.{writer-fits}
 use Rattle.definitions.proofs.RoundTrip.{span-within, stamps-within, size-most}
 use Rattle.definitions.proofs.Put.{put-nil, put-one, put-put, length-put}
 use Rattle.answer_writer.specs.AnswerWriting.{stored, headerBytes, recordBytes, writtenOf, unlessRefused, AnswerWritten}

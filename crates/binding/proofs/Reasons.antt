@@ -18,7 +18,8 @@ use Rattle.definitions.specs.AnswerRecord.{Answer, highestPick, picksFit, answe
 use Rattle.definitions.specs.Verdict.{Accepted, optimal, unbounded, infeasible, checkRefusal, strategyOf, answerFor}
 use Rattle.definitions.specs.Reasons as Reasons
 use Rattle.definitions.specs.Reasons.{RulesBehind, Reasoned, Hold}
-use Rattle.definitions.proofs.Refusals.{or-else-none, answer-fits}
+use Rattle.definitions.proofs.Refusals.{or-else-none}
+use Rattle.definitions.proofs.AnswerFits.{answer-fits}
 use Rattle.definitions.proofs.RoundTrip.{picks-below}
 use Rattle.definitions.proofs.Selection.{row-chosen, row-objective}
 use Rattle.duality.specs.Picks.{NoneAbove}

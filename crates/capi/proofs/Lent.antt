@@ -10,7 +10,7 @@ use Rattle.definitions.specs.Limits.{signed-bytes, span-place}
 use Rattle.definitions.specs.Bytes.{Bytes, put, numAt}
 use Rattle.definitions.specs.AnswerRecord.{answerRefusal, answerOutcome, answerOf, classField, spanField, startField}
 use Rattle.definitions.proofs.Offset.{off-bound, tropOf-injective}
-use Rattle.definitions.proofs.Refusals.{answer-fits}
+use Rattle.definitions.proofs.AnswerFits.{answer-fits}
 use Rattle.definitions.proofs.RoundTrip.{class-most, start-most}
 use Rattle.definitions.proofs.Put.{put-nil, put-more, length-put}
 use Rattle.answer_reader.specs.declared.answer.Head.{Head}

@@ -17,7 +17,8 @@ use Rattle.definitions.specs.Verdict as Verdicts
 use Rattle.definitions.specs.Verdict.{checkRefusal, answerFor, Judged}
 use Rattle.definitions.specs.Solved.{Solves}
 use Rattle.definitions.proofs.Offset.{within-iff}
-use Rattle.definitions.proofs.Refusals.{or-else-none, answer-fits, writer-fits}
+use Rattle.definitions.proofs.Refusals.{or-else-none}
+use Rattle.definitions.proofs.AnswerFits.{answer-fits, writer-fits}
 use Rattle.definitions.proofs.Solved.{asked-few}
 use Rattle.definitions.proofs.RoundTrip.{class-most, span-within, size-most}
 use Rattle.duality.proofs.SmallLeads.{trials-few, turn-few}

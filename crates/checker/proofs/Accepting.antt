@@ -10,7 +10,8 @@ use Rattle.definitions.specs.ProblemRecord.{nField, mField, problemRefusal, Wit
 use Rattle.definitions.specs.AnswerRecord.{Answer, answerRefusal, answerBytes}
 use Rattle.definitions.specs.Verdict.{Verdict, accepts, Accepted, optimal, unbounded, infeasible, checkRefusal, answerFor, Judged, turned-away, certified, uncertified}
 use Rattle.definitions.specs.Demands.{Slice, Checker, Accepts, CheckerJudges, CheckerRefuses, AcceptsExactly, PlanHolds, NeverBroken}
-use Rattle.definitions.proofs.Refusals.{or-else-none, WriterFits}
+use Rattle.definitions.proofs.Refusals.{or-else-none}
+use Rattle.definitions.proofs.AnswerFits.{WriterFits}
 use Rattle.definitions.proofs.RoundTrip.{answer-bytes, answer-back, answer-accepted, answer-length-most}
 use Rattle.checker.proofs.Judgement.{judged-unique}
 

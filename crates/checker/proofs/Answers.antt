@@ -17,7 +17,7 @@ use Rattle.definitions.specs.AnswerRecord.{is-zero, stampsFit, picksFit, spanFi
 use Rattle.definitions.specs.Verdict.{pointOf, strategyOf}
 use Rattle.definitions.proofs.Bytes.{all-true, length-numsAt}
 use Rattle.definitions.proofs.Offset.{zero-offset, whole-offset}
-use Rattle.definitions.proofs.Refusals.{AnswerFits, answer-fits}
+use Rattle.definitions.proofs.AnswerFits.{AnswerFits, answer-fits}
 use Rattle.definitions.proofs.RoundTrip.{stamps-within}
 use Rattle.answer_reader.specs.declared.answer.Head.{Head}
 use Rattle.answer_reader.specs.declared.answer.AnswerHead.{AnswerHead}

@@ -28,7 +28,7 @@ use Rattle.definitions.proofs.Whole as Whole
 use Rattle.definitions.proofs.Whole.{le-or-lt}
 use Rattle.definitions.proofs.Tropical.{fin-injective, ⊑-or-above, finite-above}
 use Rattle.definitions.proofs.Offset.{trop-fin}
-use Rattle.definitions.proofs.Refusals.{answer-fits}
+use Rattle.definitions.proofs.AnswerFits.{answer-fits}
 use Rattle.definitions.proofs.Counts.{second-decided}
 use Rattle.duality.specs.Values.{valueAt}
 use Rattle.duality.specs.Starts.{StartBelow}

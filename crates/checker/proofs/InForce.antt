@@ -13,7 +13,7 @@ use Rattle.definitions.specs.ProblemRecord.{problemOf}
 use Rattle.definitions.specs.Verdict.{Verdict, Accepted, optimal, unbounded, infeasible, strategyOf}
 use Rattle.definitions.proofs.Agree.{Agree, agree-sym}
 use Rattle.definitions.proofs.Bytes.{length-numsAt}
-use Rattle.definitions.proofs.Refusals.{answer-fits}
+use Rattle.definitions.proofs.AnswerFits.{answer-fits}
 use Rattle.duality.specs.Picks.{NoneAbove}
 use Rattle.duality.proofs.AgreeCertificates.{optimal-over, infeasible-over, unbounded-over}
 use Rattle.problem_records.specs.InForce.{StatesHeld, InForce}

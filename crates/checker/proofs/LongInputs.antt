@@ -18,7 +18,9 @@ use Rattle.definitions.specs.ProblemRecord.{checker-kinds, lengthField, kindFie
 use Rattle.definitions.specs.AnswerRecord.{known-class, startFits, classField, spanField, startField, answerSize, answerHeaderRefusal, answerHeaderJudged, answerHeaderOutcome, answerRefusal}
 use Rattle.definitions.specs.Verdict.{Verdict, refused, checkRefusal, Judged}
 use Rattle.definitions.specs.Programs.{cutPlace, problemPart, answerPart, KeptOf}
-use Rattle.definitions.proofs.Refusals.{or-else-suc, limits-clause, enough-clause, equal-clause, both-clause, problem-fits, within-asks, leads-place-most, KnownKind, OneKind}
+use Rattle.definitions.proofs.Refusals.{or-else-suc, limits-clause, enough-clause, equal-clause, both-clause}
+use Rattle.definitions.proofs.KnownKinds.{leads-place-most, KnownKind, OneKind}
+use Rattle.definitions.proofs.Layouts.{problem-fits, within-asks}
 use Rattle.definitions.proofs.Inputs.{kept-at, length-agrees, one-agrees, answer-agrees, header-short, header-length, cut-past, cut-inside, part-meant}
 use Rattle.definitions.proofs.RoundTrip.{size-most}
 use Rattle.definitions.proofs.Outcomes.{outcome-gives, outcome-refusal}

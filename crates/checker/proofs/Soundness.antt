@@ -17,7 +17,8 @@ use Rattle.definitions.specs.AnswerRecord.{startFits, spanFits, is-blank, stamp
 use Rattle.definitions.specs.Verdict.{Accepted, optimal, unbounded, infeasible, pointOf, strategyOf}
 use Rattle.definitions.specs.Demands.{Slice, Checker, CheckerJudges, SomeTable, Fits, leastAnswer, blankAnswer}
 use Rattle.definitions.proofs.Tropical.{fin-injective}
-use Rattle.definitions.proofs.Refusals.{problem-fits, WriterFits}
+use Rattle.definitions.proofs.Layouts.{problem-fits}
+use Rattle.definitions.proofs.AnswerFits.{WriterFits}
 use Rattle.definitions.proofs.ProblemBack.{listed-length}
 use Rattle.duality.proofs.Classes.{optimal-accepted, accepted-infeasible, accepted-unbounded}
 use Rattle.checker.proofs.Agreeing.{fit-above}

@@ -15,7 +15,7 @@ use Rattle.definitions.specs.Verdict as Verdict
 use Rattle.definitions.specs.Solved as Solved
 use Rattle.definitions.specs.Solved.{Answers, IdleVariables}
 use Rattle.definitions.proofs.Offset.{trop-zero}
-use Rattle.definitions.proofs.Refusals.{form-fits}
+use Rattle.definitions.proofs.AnswerFits.{form-fits}
 use Rattle.duality.specs.System.{Blocks, systemAt}
 use Rattle.duality.specs.Within.{upper}
 use Rattle.duality.specs.Picks.{picksFrom}

@@ -24,7 +24,7 @@ use Rattle.definitions.specs.Solved.{Found, Answers, IdleVariables}
 use Rattle.definitions.proofs.Whole.{whole, minus-read, subℕ-read}
 use Rattle.definitions.proofs.Tropical.{bot-plus}
 use Rattle.definitions.proofs.Offset.{trop-zero, trop-fin}
-use Rattle.definitions.proofs.Refusals.{form-fits}
+use Rattle.definitions.proofs.AnswerFits.{form-fits}
 use Rattle.duality.specs.System.{Solves, Blocks, systemAt}
 use Rattle.duality.specs.Values.{difference}
 use Rattle.duality.specs.Picks.{picksFrom}

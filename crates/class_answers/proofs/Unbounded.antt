@@ -24,7 +24,7 @@ use Rattle.definitions.specs.Solved.{Answers, IdleRows}
 use Rattle.definitions.proofs.Whole.{whole, subℕ-read}
 use Rattle.definitions.proofs.Tropical.{⊑-trans, ⊑-of-eq}
 use Rattle.definitions.proofs.Offset.{trop-zero}
-use Rattle.definitions.proofs.Refusals.{form-fits}
+use Rattle.definitions.proofs.AnswerFits.{form-fits}
 use Rattle.duality.specs.System.{System, Saves, systemAt}
 use Rattle.duality.specs.Within.{lower}
 use Rattle.duality.specs.Induced.{Induced}

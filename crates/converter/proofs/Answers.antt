@@ -1,26 +1,27 @@
 -- What the converter answers: refused, too little room, converted; and on inputs of which the first bytes were kept.
 use Prim.Native.Nat.{ℕ, zero, suc, _≤_, _<_}
 use mathlib.Core.Path.{_≡_, refl, ap, sym, subst, _∙_}
-use mathlib.Core.Bool.{true, false}
+use mathlib.Core.Bool.{false}
 use mathlib.Core.Logic.{⊎-elim}
 use mathlib.Core.List.{List}
 use native.Mathlib.Omega.{arith}
 use lib.ListN.{length, take}
 use borrow.Author.Tests.{lt-ltb, le-ltb}
 use Rattle.definitions.specs.Limits.{problem-kind, questions-kind, kept-bytes}
-use Rattle.definitions.specs.Bytes.{or-else, Outcome, refusal, gives, outcome, put}
+use Rattle.definitions.specs.Bytes.{Outcome, refusal, gives, put}
 use Rattle.definitions.specs.ProblemRecord.{converter-kinds, kindField, stateRefused, headerRefusal, headerOutcome, layoutOf}
 use Rattle.definitions.specs.AnswerRecord.{written}
 use Rattle.definitions.specs.Programs.{KeptOf}
 use Rattle.definitions.specs.Conversion.{storedRefusal, convertedSize, converted, convertRefusal, Converts}
 use Rattle.definitions.proofs.Outcomes.{outcome-none, outcome-some}
-use Rattle.definitions.proofs.Refusals.{or-else-suc, or-else-none, header-passes, kind-stored}
-use Rattle.definitions.proofs.Inputs.{kept-whole, kept-at, header-agrees, header-most}
+use Rattle.definitions.proofs.Refusals.{or-else-suc, header-passes}
+use Rattle.definitions.proofs.KnownKinds.{kind-stored}
+use Rattle.definitions.proofs.Inputs.{kept-whole}
 use Rattle.records.specs.declared.problem.Header.{Header}
 use Rattle.records.specs.declared.problem.Header.the-variants as Headers
 use Rattle.records.specs.declared.problem.Layout.{Layout}
 use Rattle.records.specs.ProblemHeader.{problemRefused, headerOf}
-use Rattle.records.proofs.ProblemHeader.{header-fits, header-refuses, answer-refused}
+use Rattle.records.proofs.ProblemHeader.{answer-refused, long-header}
 use Rattle.problem_records.specs.Tables.{statesRefusal, leadsRefusal, leadsOutcome}
 use Rattle.problem_records.proofs.ReadProblem.{Leads-told}
 use Rattle.converter.specs.declared.convert.Conversion.the-variants.{Record, Refused}
@@ -89,16 +90,7 @@ kept-converts kept {before = before} {r} {after} s input k h = subst (λ (x : Li
 -- A longer one is refused by its header: no record is that long.
 pub long-refused : {kept input : List ℕ} {size : ℕ} {before : List ℕ} (header : Header) {r : ℕ} → KeptOf kept size input → kept-bytes < size
     → headerOf header ≡ headerOutcome converter-kinds kept size → r ≡ problemRefused header → Converts input before (conversionOf (Refused r)) before
-unfolding problemRefused storedRefusal
-long-refused {kept} {input} {size} {before} header {r} k h e g = go header refl
-  where
-    go : (x : Header) → header ≡ x → Converts input before (conversionOf (Refused r)) before
-    go (Headers.Told l) f =
-        let q = header-fits converter-kinds kept size e f in
-        absurd (omega (arith, header-most converter-kinds kept size (q .none)))
-    go (Headers.Refused j) f =
-        let q = header-refuses converter-kinds kept size e f in
-        let same : headerRefusal converter-kinds input (length input) ≡ j = ap (headerRefusal converter-kinds input) (k .size-is) ∙ header-agrees converter-kinds input kept (λ i b. kept-at k h i (omega arith)) size ∙ q .0 in
-        let some : 0 < headerRefusal converter-kinds input (length input) = omega (arith, q .1) in
-        let number : r ≡ j = g ∙ ap problemRefused f in
-        refuses-by input before r (stored-first input (length before) r (or-else-suc (headerRefusal converter-kinds input (length input)) _ some ∙ same ∙ sym number) (omega (arith, q .1))) (omega (arith, q .1))
+unfolding storedRefusal
+long-refused {input = input} {before = before} header {r} k h e g =
+    let q = long-header converter-kinds header k h e g in
+    refuses-by input before r (stored-first input (length before) r (or-else-suc (headerRefusal converter-kinds input (length input)) _ (omega (arith, q .0, q .1)) ∙ q .0) (q .1)) (q .1)

@@ -18,7 +18,8 @@ use Rattle.definitions.specs.Questions.{part, rowsSize}
 use Rattle.definitions.specs.Selection.{leftAt}
 use Rattle.definitions.specs.Conversion.{storedRefusal, rulesLeft, rowsLeft, convertedSize, questionRows, converted}
 use Rattle.definitions.proofs.Bytes.{numAt-same, numAt-back, length-le, all-numsAt, bytes-append, bytes-le, bytes-take, bytes-drop}
-use Rattle.definitions.proofs.Refusals.{HeaderPasses, header-passes, record-fits, few-questions, kind-stored, or-else-none, passes-clause}
+use Rattle.definitions.proofs.Refusals.{HeaderPasses, header-passes, record-fits, or-else-none, passes-clause}
+use Rattle.definitions.proofs.KnownKinds.{few-questions, kind-stored}
 use Rattle.definitions.proofs.RoundTrip.{num-here}
 use Rattle.definitions.proofs.Silent.{none-below, run-same}
 use Rattle.definitions.proofs.Questions.{part-length, part-at}

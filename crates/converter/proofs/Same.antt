@@ -17,7 +17,8 @@ use Rattle.definitions.specs.ProblemRecord.{converter-kinds, kindField, nField,
 use Rattle.definitions.specs.Questions.{rowsSize, alone, asking, askedRow}
 use Rattle.definitions.specs.Selection.{leftAt, rowOf, selected, Choice, LeftOut, BlankLeft, SameClass}
 use Rattle.definitions.specs.Conversion.{rulesLeft, converted}
-use Rattle.definitions.proofs.Refusals.{HeaderPasses, kind-stored, header-passes}
+use Rattle.definitions.proofs.Refusals.{HeaderPasses, header-passes}
+use Rattle.definitions.proofs.KnownKinds.{kind-stored}
 use Rattle.definitions.proofs.Silent.{run-blank}
 use Rattle.definitions.proofs.Selection.{row-chosen, row-objective}
 use Rattle.definitions.proofs.Agree.{Agree, agree-sym, agree-optimal, agree-unbounded, agree-infeasible}

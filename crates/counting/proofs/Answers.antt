@@ -3,7 +3,7 @@ use Prim.Native.Nat.{ℕ, zero, suc, _<_}
 use mathlib.Core.Path.{_≡_, refl, ap, sym, subst, _∙_}
 use native.Mathlib.Omega.{arith}
 use Rattle.definitions.specs.Bytes.{Outcome, outcome}
-use Rattle.definitions.specs.Census.{censusTotal, censusRefusal, Counts, Censuses, turned-away, counts}
+use Rattle.definitions.specs.Census.{censusTotal, censusRefusal, FourCounts, Censuses, turned-away, counts}
 use Rattle.definitions.proofs.Outcomes.{outcome-gives, outcome-refusal}
 use Rattle.counting.specs.Steps.{CensusFits, censusOf, totalOf}
 use Rattle.counting.specs.declared.total.Total.{Total}
@@ -18,7 +18,7 @@ total-told {n} {m} {w} {t} {r} h e =
     let told = outcome-gives (censusRefusal n m w) (censusTotal n m w) t (sym h ∙ rw e refl) in
     (census-fits n m w .0 (told .0), sym (told .1))
 
-pub census-told : {n m w t a b c d : ℕ} {r : Total} → totalOf r ≡ outcome (censusRefusal n m w) (censusTotal n m w) → r ≡ Problems t → Counts n m w a b c d → Censuses n m w (censusOf (Told a b c d))
+pub census-told : {n m w t a b c d : ℕ} {r : Total} → totalOf r ≡ outcome (censusRefusal n m w) (censusTotal n m w) → r ≡ Problems t → FourCounts n m w a b c d → Censuses n m w (censusOf (Told a b c d))
 unfolding totalOf censusOf
 census-told {n} {m} {w} {t} h e k = counts (outcome-gives (censusRefusal n m w) (censusTotal n m w) t (sym h ∙ rw e refl) .0) k
 

@@ -18,7 +18,7 @@ use Rattle.definitions.proofs.Bytes.{length-numsAt, numsAt-below}
 use Rattle.definitions.proofs.Whole.{up, down, whole, subℕ-read, abs-read, eq-read, eq-show}
 use Rattle.definitions.proofs.Tropical.{fin-injective, bot-not-fin}
 use Rattle.definitions.proofs.Offset.{within-size}
-use Rattle.definitions.proofs.Refusals.{leads-one}
+use Rattle.definitions.proofs.Layouts.{leads-one}
 use Rattle.definitions.proofs.RoundTrip.{fields-back, le-then, fields-then}
 use Rattle.counting.proofs.Counting.{counted-unique, counted-append, Each, no-more, one-more, each-append, each-map, counted-map, counted-none}
 use Rattle.counting.proofs.Leads.{lead-small}

@@ -20,7 +20,9 @@ use Rattle.definitions.specs.ProblemRecord.{checker-kinds, problemSize, problem
 use Rattle.definitions.specs.Solved as Results
 use Rattle.definitions.specs.Solved.{Solved, Found, Solves, solved, all-solved, engineRefusal}
 use Rattle.definitions.proofs.Bytes.{length-le, length-fields, nums-fields, bytes-append, bytes-le, bytes-fields}
-use Rattle.definitions.proofs.Refusals.{header-passes, one-question, size-one, leads-one}
+use Rattle.definitions.proofs.Refusals.{header-passes}
+use Rattle.definitions.proofs.KnownKinds.{size-one}
+use Rattle.definitions.proofs.Layouts.{one-question, leads-one}
 use Rattle.definitions.proofs.RoundTrip.{trops-back, trops-below}
 use Rattle.definitions.proofs.ProblemBack.{length-header, read-length, read-kind, read-n, read-m}
 use Rattle.definitions.proofs.Put.{take-put, length-put}

@@ -11,7 +11,7 @@ use Rattle.definitions.specs.Limits.{class-optimal, class-unbounded, class-infe
 use Rattle.definitions.specs.ProblemRecord.{problemOf, listOf}
 use Rattle.base.proofs.Numbers.{same-or-not}
 use Rattle.duality.proofs.Classes.{infeasible-not-unbounded, infeasible-not-optimal, unbounded-not-optimal}
-use Rattle.definitions.specs.Census.{Counted, nothing, holds, holds-not, CountsAs, Counts, problems, censusTotal}
+use Rattle.definitions.specs.Census.{Counted, nothing, holds, holds-not, CountsAs, FourCounts, problems, censusTotal}
 use Rattle.definitions.specs.Census as Papers
 use Rattle.counting.specs.Steps.{hit, OneMore, Tallied, recordAt}
 use Rattle.counting.specs.declared.tally.Tally.{Tally}
@@ -74,7 +74,7 @@ tallied-more {n} {m} {w} {c} {r} d s o = rw (add-one c)
     })
 
 -- All of them.
-pub tallied-all : {n m w c : ℕ} {t : Tally} → Tallied n m w c t → c ≡ censusTotal n m w → Counts n m w (t .least) (t .bottomless) (t .none) (t .silent)
+pub tallied-all : {n m w c : ℕ} {t : Tally} → Tallied n m w c t → c ≡ censusTotal n m w → FourCounts n m w (t .least) (t .bottomless) (t .none) (t .silent)
 tallied-all {n} {m} {w} d e =
     let same : problems n m w ≡ listOf (recordAt n m w) _ = problems-listed n m w in
     record {

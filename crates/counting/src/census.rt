@@ -1,6 +1,6 @@
 // The census: each problem made by its number, solved, and counted.
 ghost use mathlib.Core.Path.{_≡_};
-ghost use Rattle.definitions.specs.Census.{censusTotal, Counts, Censuses};
+ghost use Rattle.definitions.specs.Census.{censusTotal, FourCounts, Censuses};
 ghost use Rattle.counting.specs.Steps.{CensusFits, censusOf};
 use crate::small::counted_as;
 use crate::small::put_head;
@@ -30,7 +30,7 @@ const SMALL_MOST: usize = PROBLEM_HEADER + LEAD_BYTES * 8;
 // The tally of all problems.
 fn tally_all(n: usize, m: usize, w: u64, total: u64) -> Tally
     requires { ⌜ CensusFits n m w × (total ≡ censusTotal n m w) ⌝ }
-    ensures { λ r. ⌜ Counts n m w (r .least) (r .bottomless) (r .none) (r .silent) ⌝ }
+    ensures { λ r. ⌜ FourCounts n m w (r .least) (r .bottomless) (r .none) (r .silent) ⌝ }
 {
     let leads = lead_count(n, m + 1);
     let size = PROBLEM_HEADER + LEAD_BYTES * leads;

@@ -22,7 +22,9 @@ use Rattle.definitions.specs.Programs as Programs
 use Rattle.definitions.proofs.Bytes.{numAt-same, numAt-bound, bytes-take, bytes-drop, bytes-put, zero-bytes}
 use Rattle.definitions.proofs.Put.{take-put, length-put}
 use Rattle.definitions.proofs.IdleDay.{meant-some}
-use Rattle.definitions.proofs.Refusals.{or-else-suc, or-else-none, limits-clause, enough-clause, equal-clause, problem-fits, HeaderPasses, header-passes, kind-known, one-or-several, leads-place-most, few-questions}
+use Rattle.definitions.proofs.Refusals.{or-else-suc, or-else-none, limits-clause, enough-clause, equal-clause, HeaderPasses, header-passes}
+use Rattle.definitions.proofs.KnownKinds.{kind-known, one-or-several, leads-place-most, few-questions}
+use Rattle.definitions.proofs.Layouts.{problem-fits}
 
 -- ---- what was kept
 

@@ -8,6 +8,9 @@ pub mod Put
 pub mod Offset
 pub mod Outcomes
 pub mod Refusals
+pub mod KnownKinds
+pub mod Layouts
+pub mod AnswerFits
 pub mod IdleDay
 pub mod Silent
 pub mod RoundTrip

@@ -15,7 +15,7 @@ use Rattle.definitions.specs.Problem.{Problem}
 use Rattle.definitions.specs.Bytes.{numAt, numsAt, le, fields, tropField, fieldOf, tropAt, all, blank-or-within}
 use Rattle.definitions.specs.ProblemRecord.{WithinLayout, problemOf, problemSize, headerBytes, problemBytes, rowBytes, rowsBytes, leadsOf, listOf, nField, mField, lengthField, kindField, leadsPlace, rowPlace, blank-left, leftPlace, rightPlace, silentRefused}
 use Rattle.definitions.proofs.Bytes.{length-le, length-fields, fields-append, nums-fields, Below, getD-numsAt, all-true}
-use Rattle.definitions.proofs.Refusals.{plain-within, leads-one}
+use Rattle.definitions.proofs.Layouts.{plain-within, leads-one}
 use Rattle.definitions.proofs.Silent.{none-below, run-speaks}
 use Rattle.definitions.proofs.RoundTrip.{trops-back, trops-below, num-here, num-past}
 

@@ -16,7 +16,9 @@ use Rattle.definitions.specs.ProblemRecord.{Kinds, engine-kinds, nField,
 use Rattle.definitions.specs.Questions.{part, rowsSize, alone, asking, askedRow}
 use Rattle.base.proofs.Numbers.{nat-le-or-lt, divided}
 use Rattle.definitions.proofs.Bytes.{numAt-same, all-numsAt, bytes-append, bytes-le, bytes-take, bytes-drop}
-use Rattle.definitions.proofs.Refusals.{header-passes, few-questions, record-fits, plain-within, within-asks, leads-one}
+use Rattle.definitions.proofs.Refusals.{header-passes, record-fits}
+use Rattle.definitions.proofs.KnownKinds.{few-questions}
+use Rattle.definitions.proofs.Layouts.{plain-within, within-asks, leads-one}
 use Rattle.definitions.proofs.Silent.{some-same, run-same}
 use Rattle.definitions.proofs.ProblemBack.{length-header, read-length, read-kind, read-n, read-m}
 

@@ -16,7 +16,7 @@ use Rattle.definitions.specs.ProblemRecord.{lengthField, kindField, nFie
 use Rattle.definitions.specs.AnswerRecord.{Answer, known-class, by-class, startFits, stampCount, pickCount, highestPick, answerSize, is-zero, is-blank, spanFits, stampsFit, picksFit, classField, spanField, startField, answerOf, answerBytes, answerRefusal, writerRefusal}
 use Rattle.definitions.proofs.Bytes.{length-le, length-fields, length-numsAt, numAt-back, num-le, numAt-bound, le-num, Below, numsAt-below, nums-fields, fields-nums, all-true, bytes-append, bytes-le, bytes-fields}
 use Rattle.definitions.proofs.Offset.{FitsField, within-fits, fieldOf-bound, tropField-fieldOf, fieldOf-tropField}
-use Rattle.definitions.proofs.Refusals.{WriterFits, answer-fits, writer-fits}
+use Rattle.definitions.proofs.AnswerFits.{WriterFits, answer-fits, writer-fits}
 
 -- ---- numbers of a run, as tropical numbers and back
 

@@ -12,7 +12,7 @@ use Rattle.definitions.specs.ProblemRecord.{nField, mField, leadsOf, lef
 use Rattle.definitions.specs.Scaling.{times, scaled, GainsNothing, ScaledRecord}
 use Rattle.definitions.specs.Examples.{example-E}
 use Rattle.definitions.proofs.Whole.{whole, neg-read}
-use Rattle.definitions.proofs.Refusals.{lead-inside, leads-one}
+use Rattle.definitions.proofs.Layouts.{lead-inside, leads-one}
 use Rattle.definitions.proofs.Agree.{Agree}
 
 -- Field by field: where the leads of a run are d times those of another, each is.

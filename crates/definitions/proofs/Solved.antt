@@ -17,7 +17,10 @@ use Rattle.definitions.specs.Questions.{alone, asking}
 use Rattle.definitions.specs.AnswerRecord.{Answer, known-class, rightCounts, stampCount, pickCount, answerSize, answerBytes, written}
 use Rattle.definitions.specs.Solved as Results
 use Rattle.definitions.specs.Solved.{Solved, answered, all-answered, Found, optimal, unbounded, infeasible, Answers, AnswersInTurn, no-question, one-more, Solves, solved, all-solved, engineRefusal}
-use Rattle.definitions.proofs.Refusals.{WriterFits, form-fits, or-else-none, enough-clause, problem-fits, header-passes, record-fits, one-or-several, few-questions, one-question}
+use Rattle.definitions.proofs.Refusals.{or-else-none, enough-clause, header-passes, record-fits}
+use Rattle.definitions.proofs.KnownKinds.{one-or-several, few-questions}
+use Rattle.definitions.proofs.Layouts.{problem-fits, one-question}
+use Rattle.definitions.proofs.AnswerFits.{WriterFits, form-fits}
 use Rattle.definitions.proofs.Questions.{several-passes, alone-n, alone-m, alone-within, alone-bytes}
 use Rattle.definitions.proofs.RoundTrip.{answer-length, answer-length-most, size-most}
 use Rattle.definitions.proofs.Put.{take-put, length-put}

@@ -71,7 +71,7 @@ pub data CountsAs (s : List ℕ) : ℕ → Type 0 where
   silent : problemRefusal s ≡ refused-silent → CountsAs s refused-silent
 
 -- "Each count equals the number by definition; the four add up to" the total.
-pub record Counts (n m w of-least of-bottomless of-none of-silent : ℕ) : Type 0 where
+pub record FourCounts (n m w of-least of-bottomless of-none of-silent : ℕ) : Type 0 where
   pub least-is : Counted (λ s. CountsAs s class-optimal) (problems n m w) of-least
   pub bottomless-is : Counted (λ s. CountsAs s class-unbounded) (problems n m w) of-bottomless
   pub none-is : Counted (λ s. CountsAs s class-infeasible) (problems n m w) of-none
@@ -97,7 +97,7 @@ pub data Census : Type 0 where
 
 pub data Censuses (n m w : ℕ) : Census → Type 0 where
   turned-away : {k : ℕ} → censusRefusal n m w ≡ suc k → Censuses n m w (refused (suc k))
-  counts : {a b c d : ℕ} → censusRefusal n m w ≡ 0 → Counts n m w a b c d → Censuses n m w (counted a b c d)
+  counts : {a b c d : ℕ} → censusRefusal n m w ≡ 0 → FourCounts n m w a b c d → Censuses n m w (counted a b c d)
 
 -- ---- what the program puts out
 

@@ -18,7 +18,7 @@ use Rattle.definitions.specs.ProblemRecord.{recordRefusal, WithinLayout,
 use Rattle.definitions.specs.Questions.{part, alone, asking}
 use Rattle.definitions.specs.AnswerRecord.{Answer, answerRefusal, writerRefusal, answerOf, answerBytes, answerSize, startFits, pickCount, highestPick, picksFit, spanFits, stampsFit, written}
 use Rattle.definitions.specs.Verdict.{Verdict, accepted, refused, accepts, checkRefusal, Accepted, answerFor, pointOf, Judged}
-use Rattle.definitions.specs.Solved.{Solved, answered, all-answered, Found, engineRefusal, Solves}
+use Rattle.definitions.specs.Solved.{Solved, answered, all-answered, Found, Answers, engineRefusal, Solves}
 use Rattle.definitions.specs.Programs.{VerdictOutput, SpanOutput, ReadFrom}
 
 -- ---- what can be handed over
@@ -299,31 +299,32 @@ OwnAnswers engine check =
 
 -- ---- several questions
 
--- Document 02, 2.1: demands 2 and 3 for each question with its kind 1 problem, which is within the layout: what they say of every such problem
--- holds of it. The answer to question q, in `size` bytes of the engine's buffer from `at` on: class and least span of the
--- theory, by the plans that count, in at most 24 trials; it reads back as itself; and the checker accepts it.
-pub record QuestionAnswered (check : Checker) (read : Reader) (p buffer : List ℕ) (q at size trials : ℕ) : Type 0 where
+-- Document 02, 2.1: demands 2 and 3 for each question with its kind 1 problem, which can be handed over, is within the layout and means itself:
+-- what they say of every such problem holds of it. The answer to question q, counted from 0, in `size` bytes of the engine's buffer from `at` on
+-- is one that the engine may give to that problem: class and least span of the theory, by the plans that count (2.4), in at most 24
+-- trials of its own (2.2); it reads back as itself; and the checker accepts it.
+pub record QuestionAnswered (check : Checker) (read : Reader) (p after : List ℕ) (q at size own : ℕ) : Type 0 where
   pub class : ℕ
   pub span : Trop
   pub answer : Answer
+  pub slice : Slice (alone p q)
   pub within : WithinLayout (alone p q)
-  pub found : Found (problemOf (alone p q)) class span trials
-  pub few : trials ≤ most-trials
+  pub itself : meant (alone p q) ≡ alone p q
+  pub answers : Answers (problemOf (alone p q)) class span own answer
+  pub few : own ≤ most-trials
   pub size-is : size ≡ answerSize class (nField p) (mField p)
-  pub bytes-are : part buffer at size ≡ answerBytes (nField p) answer
-  pub reads : read .reading (part buffer at size) (nField p) (mField p) ≡ gives answer
-  pub class-is : answer .class ≡ class
-  pub span-is : answer .span ≡ span
-  pub accepted-is : check (alone p q) (part buffer at size) ≡ accepted class span
+  pub bytes-are : part after at size ≡ answerBytes (nField p) answer
+  pub reads : read .reading (part after at size) (nField p) (mField p) ≡ gives answer
+  pub accepted-is : check (alone p q) (part after at size) ≡ accepted class span
 
 -- The answers to the first questions: each starts where the one before ended; the bytes and the trials of all of them.
-pub data QuestionsAnswered (check : Checker) (read : Reader) (p buffer : List ℕ) : ℕ → ℕ → ℕ → Type 0 where
-  no-question : QuestionsAnswered check read p buffer 0 0 0
+pub data QuestionsAnswered (check : Checker) (read : Reader) (p after : List ℕ) : ℕ → ℕ → ℕ → Type 0 where
+  no-question : QuestionsAnswered check read p after 0 0 0
   one-more :
-      {q at size trials own : ℕ} → QuestionsAnswered check read p buffer q at trials → QuestionAnswered check read p buffer q at size own
-      → QuestionsAnswered check read p buffer (suc q) (at + size) (trials + own)
+      {q at size trials own : ℕ} → QuestionsAnswered check read p after q at trials → QuestionAnswered check read p after q at size own
+      → QuestionsAnswered check read p after (suc q) (at + size) (trials + own)
 
--- Where several questions are asked, and the buffer has 208 bytes for each, all of them are answered; bytes after the last answer stay.
+-- All of them are answered, and bytes after the last answer stay.
 pub record AllAnswered (engine : Engine) (check : Checker) (read : Reader) (p buffer : List ℕ) : Type 0 where
   pub trials : ℕ
   pub size : ℕ
@@ -331,6 +332,7 @@ pub record AllAnswered (engine : Engine) (check : Checker) (read : Reader) (p bu
   pub each : QuestionsAnswered check read p (engine .buffer p buffer) (countField p) size trials
   pub stay : drop size (engine .buffer p buffer) ≡ drop size buffer
 
+-- So it is where a record of kind 3 is not refused and the buffer has 208 bytes for each question.
 abbrev pub EachQuestion : Engine → Checker → Reader → Type 0
 EachQuestion engine check read =
     (p buffer : List ℕ) → Slice p → Slice buffer → WithinLayouts p → kindField p ≡ questions-kind → countField p * answer-most ≤ length buffer

@@ -1,9 +1,9 @@
 -- A desk for sixteen problems above the engine: a machine of tickets, a line and places. Document 02, 2.11.
-use Prim.Native.Nat.{ℕ, zero, suc, _+_, _*_, _≤_, _<_}
+use Prim.Native.Nat.{ℕ, suc, _+_, _*_, _≤_, _<_}
 use mathlib.Core.Path.{_≡_}
 use mathlib.Core.Bool.{cond}
 use mathlib.Core.Logic.{_⊎_}
-use mathlib.Core.List.{List, [], _∷_, _++_, map}
+use mathlib.Core.List.{List, [], _∷_, _++_}
 use lib.Dec.{eqb, ltb, leb}
 use lib.ListN.{length, getD, set, take, replicate}
 use Rattle.definitions.specs.Limits.{most-trials, desk-places, desk-memory, desk-steps, last-ticket, answer-most, refused-room, refused-full, refused-ticket, refused-memory}
@@ -14,6 +14,9 @@ use Rattle.definitions.specs.AnswerRecord.{Answer, answerSize, answerByt
 use Rattle.definitions.specs.Solved.{Found, Answers}
 use Rattle.definitions.specs.Verdict.{accepted}
 use Rattle.definitions.specs.Demands.{Slice, Checker}
+
+-- Each call is a move from a desk to the next (`Opens`, `TakesIn`, `Steps`, `Collects`) with what it answers (`Opening`, `TakenIn`, `Stepped`,
+-- `Collected`).
 
 -- ---- the state of the machine
 
@@ -35,7 +38,7 @@ pub record Desk : Type 0 where
 abbrev pub opened : Desk
 opened = record { given = 0; line = []; places = replicate desk-places empty }
 
--- What stands at the place with this number.
+-- What stands at the place with this number; there is nothing past the last place.
 abbrev pub placeAt : Desk → ℕ → Place
 placeAt d i = getD (d .places) i empty
 
@@ -53,7 +56,7 @@ ticketOf (answered ticket problem class span own answer) = ticket
 pub record FirstEmpty (d : Desk) (i : ℕ) : Type 0 where
   pub inside : i < desk-places
   pub is-empty : placeAt d i ≡ empty
-  pub first : (k : ℕ) → k < i → placeAt d k ≡ empty → ⊥
+  pub before : (k : ℕ) → k < i → placeAt d k ≡ empty → ⊥
 
 -- How many places hold a waiting or uncollected problem.
 unfoldable pub held : List Place → ℕ
@@ -79,7 +82,7 @@ pub data Opening : Type 0 where
   refused : ℕ → Opening
   ready : Opening
 
--- With a memory of so many bytes; what the memory holds does not matter. A refused opening opens nothing: no state is told of.
+-- With a memory of so many bytes; what the memory holds does not matter. A refused opening opens nothing: nothing is said of the state then.
 pub data Opens (memory : ℕ) : Opening → Desk → Type 0 where
   turned-away : {k : ℕ} {d : Desk} → first (memoryRefused memory ∷ []) ≡ suc k → Opens memory (refused (suc k)) d
   opens : first (memoryRefused memory ∷ []) ≡ 0 → Opens memory ready opened
@@ -91,7 +94,7 @@ pub data TakenIn : Type 0 where
   refused : ℕ → TakenIn
   ticket : ℕ → TakenIn
 
--- The problem's refusals on a desk, and a problem that it takes: of kind 1, within the layout.
+-- The refusals on a desk of the record that a problem's bytes mean, and a record that it takes: of kind 1, within the layout.
 abbrev pub deskRefusal : List ℕ → ℕ
 deskRefusal s = refusalFor desk-kinds s
 
@@ -119,7 +122,7 @@ pub data Stepped : Type 0 where
   goes-on : ℕ → Stepped
   done : ℕ → Stepped
 
--- A step settles the next trial of the problem at the head of the line. Its class and span give how many trials it takes (1 for none, 2 for
+-- A step makes the next trial of the problem at the head of the line, of which the state counts that it was made. The problem's class and span give how many trials it takes (1 for none, 2 for
 -- bottomless, 2 + the halvings for least): at the last of them it is answered and leaves the line, at another it goes to the end of the
 -- line. The other places stay as they are.
 pub data Steps (memory : ℕ) (d : Desk) : Stepped → Desk → Type 0 where
@@ -173,7 +176,7 @@ pub data Collects (memory : ℕ) (d : Desk) (number : ℕ) (buffer : List ℕ) :
 -- ---- sequences
 
 -- Every sequence of takings-in, steps and collections that leads from one state to another, with a memory of so many bytes; the number counts
--- its steps.
+-- its steps, also those with none waiting.
 pub data Run (memory : ℕ) : Desk → ℕ → Desk → Type 0 where
   nothing : {d : Desk} → Run memory d 0 d
   take-in : {d e f : Desk} {k : ℕ} {p : List ℕ} {r : TakenIn} → Run memory d k e → TakesIn memory e p r f → Run memory d k f
@@ -182,7 +185,7 @@ pub data Run (memory : ℕ) : Desk → ℕ → Desk → Type 0 where
       {d e f : Desk} {k number : ℕ} {before after : List ℕ} {r : Collected} → Run memory d k e → Collects memory e number before r f after
       → Run memory d k f
 
--- A state that some sequence of calls leads to from an opening on.
+-- A state that some sequence of calls leads to from an opening on; with a memory that is too short only the opened state is one.
 pub record FromOpening (memory : ℕ) (d : Desk) : Type 0 where
   pub steps : ℕ
   pub run : Run memory opened steps d
@@ -196,6 +199,50 @@ Reported number (take-in run t) = Reported number run
 Reported number (one-step {r = r} run s) = Reported number run ⊎ (r ≡ done number)
 Reported number (collect run c) = Reported number run
 
+-- A collection of ticket n that answers so hands the ticket's answer over.
+unfoldable pub HandsOver : (number n : ℕ) → Collected → Type 0
+HandsOver number n (refused k) = ⊥
+HandsOver number n still-waits = ⊥
+HandsOver number n (collected class span own size) = n ≡ number
+
+-- Some collection of the sequence handed the ticket's answer over.
+unfoldable pub HandedOver : (number : ℕ) {memory k : ℕ} {d e : Desk} → Run memory d k e → Type 0
+HandedOver number nothing = ⊥
+HandedOver number (take-in run t) = HandedOver number run
+HandedOver number (one-step run s) = HandedOver number run
+HandedOver number (collect {number = n} {r = r} run c) = HandedOver number run ⊎ HandsOver number n r
+
+-- The trials that a step's answer reports for the ticket, one or none, and those of a sequence.
+unfoldable pub turn : ℕ → Stepped → ℕ
+turn number (refused k) = 0
+turn number none-waits = 0
+turn number (goes-on n) = cond (eqb n number) 1 0
+turn number (done n) = cond (eqb n number) 1 0
+
+unfoldable pub turns : (number : ℕ) {memory k : ℕ} {d e : Desk} → Run memory d k e → ℕ
+turns number nothing = 0
+turns number (take-in run t) = turns number run
+turns number (one-step {r = r} run s) = turns number run + turn number r
+turns number (collect run c) = turns number run
+
+-- A place holds the problem with its ticket, waiting or answered.
+pub record HeldWaiting (d : Desk) (number : ℕ) (problem : List ℕ) : Type 0 where
+  pub place : ℕ
+  pub own : ℕ
+  pub there : Stands d place (waits number problem own)
+
+pub record HeldAnswered (d : Desk) (number : ℕ) (problem : List ℕ) : Type 0 where
+  pub place : ℕ
+  pub class : ℕ
+  pub span : Trop
+  pub own : ℕ
+  pub answer : Answer
+  pub there : Stands d place (answered number problem class span own answer)
+
+-- No place holds a problem that waits.
+abbrev pub NoneWaiting : Desk → Type 0
+NoneWaiting d = (i number own : ℕ) (problem : List ℕ) → Stands d i (waits number problem own) → ⊥
+
 -- "For every sequence of takings-in, steps and collections from an opening on".
 pub record DeskHolds : Type 0 where
   -- "a problem is answered within 24 trials of its own": one that waits has made fewer, one that is answered at most so many,
@@ -205,11 +252,27 @@ pub record DeskHolds : Type 0 where
   pub trials-of-answered :
       {memory : ℕ} {d : Desk} → FromOpening memory d → {i number class own : ℕ} {span : Trop} {problem : List ℕ} {a : Answer}
       → Stands d i (answered number problem class span own a) → own ≤ most-trials
-  -- "and at most 384 steps after it was taken in": of so many steps one reported it;
+  -- which are the steps that reported it,
+  pub own-waiting :
+      {memory : ℕ} {d e f : Desk} {p : List ℕ} {number k : ℕ} → FromOpening memory d → TakesIn memory d p (ticket number) e
+      → (run : Run memory e k f) → {i own : ℕ} {problem : List ℕ} → Stands f i (waits number problem own) → turns number run ≡ own
+  pub own-answered :
+      {memory : ℕ} {d e f : Desk} {p : List ℕ} {number k : ℕ} → FromOpening memory d → TakesIn memory d p (ticket number) e
+      → (run : Run memory e k f) → {i class own : ℕ} {span : Trop} {problem : List ℕ} {a : Answer}
+      → Stands f i (answered number problem class span own a) → turns number run ≡ own
+  -- "and at most 384 steps after it was taken in": of so many steps one reported it as answered;
   pub steps-after :
       {memory : ℕ} {d e f : Desk} {p : List ℕ} {number k : ℕ} → FromOpening memory d → TakesIn memory d p (ticket number) e
       → (run : Run memory e k f) → desk-steps ≤ k → Reported number run
-  -- what waits or is answered with a ticket is the problem that got the ticket;
+  -- "short problems answered while long ones run": of 16 steps for each trial that it takes one did;
+  pub steps-by-trials :
+      {memory : ℕ} {d e f : Desk} {p : List ℕ} {number k class trials : ℕ} {span : Trop} → FromOpening memory d
+      → TakesIn memory d p (ticket number) e → Found (problemOf (meant p)) class span trials → (run : Run memory e k f) → desk-places * trials ≤ k
+      → Reported number run
+  -- until then it is held, waiting; and what waits or is answered with a ticket is the problem that got the ticket;
+  pub held-until-reported :
+      {memory : ℕ} {d e f : Desk} {p : List ℕ} {number k : ℕ} → FromOpening memory d → TakesIn memory d p (ticket number) e
+      → (run : Run memory e k f) → Reported number run ⊎ HeldWaiting f number (meant p)
   pub ticket-waits :
       {memory : ℕ} {d e f : Desk} {p : List ℕ} {number k : ℕ} → FromOpening memory d → TakesIn memory d p (ticket number) e
       → Run memory e k f → {i own : ℕ} {problem : List ℕ} → Stands f i (waits number problem own) → problem ≡ meant p
@@ -222,10 +285,48 @@ pub record DeskHolds : Type 0 where
       {memory : ℕ} {d : Desk} → FromOpening memory d → {i number class own : ℕ} {span : Trop} {problem : List ℕ} {a : Answer}
       → Stands d i (answered number problem class span own a) → WithinDesk problem × Answers (problemOf problem) class span own a
   -- "a problem's answer does not depend on the others": over two sequences the same problem has the same class, span and own trials
-  -- (start, stamps and picks are free);
+  -- (start, stamps and picks are free, and that they do not depend on the others is not said here);
   pub independent :
-      {memory room : ℕ} {d e : Desk} → FromOpening memory d → FromOpening room e → {problem : List ℕ} {i k x y c z own trials : ℕ} {s t : Trop} {a b : Answer}
+      {memory other : ℕ} {d e : Desk} → FromOpening memory d → FromOpening other e → {problem : List ℕ} {i k x y c z own trials : ℕ} {s t : Trop} {a b : Answer}
       → Stands d i (answered x problem c s own a) → Stands e k (answered y problem z t trials b) → (c ≡ z) × (s ≡ t) × (own ≡ trials)
+  -- "collecting a ticket that still waits says so and changes nothing, as does a step with none waiting", where the memory is long enough;
+  pub waiting-says-so :
+      {memory number i own : ℕ} {problem : List ℕ} {d e : Desk} {before after : List ℕ} {r : Collected} → FromOpening memory d
+      → first (memoryRefused memory ∷ []) ≡ 0 → Stands d i (waits number problem own) → Collects memory d number before r e after
+      → (r ≡ still-waits) × (e ≡ d) × (after ≡ before)
+  pub idle-says-so :
+      {memory : ℕ} {d e : Desk} {r : Stepped} → first (memoryRefused memory ∷ []) ≡ 0 → NoneWaiting d → Steps memory d r e
+      → (r ≡ none-waits) × (e ≡ d)
+  -- collecting a ticket that is not held gets 22, one that is answered its answer, or 7 where the buffer is short;
+  pub unheld-says-so :
+      {memory number : ℕ} {d e : Desk} {before after : List ℕ} {r : Collected} → FromOpening memory d → first (memoryRefused memory ∷ []) ≡ 0
+      → NotHeld d number → Collects memory d number before r e after → (r ≡ refused refused-ticket) × (e ≡ d) × (after ≡ before)
+  pub answered-handed :
+      {memory number i class own : ℕ} {span : Trop} {problem : List ℕ} {a : Answer} {d e : Desk} {before after : List ℕ} {r : Collected}
+      → FromOpening memory d → first (memoryRefused memory ∷ []) ≡ 0 → Stands d i (answered number problem class span own a)
+      → answer-most ≤ length before → Collects memory d number before r e after
+      → (r ≡ collected class span own (answerSize class (nField problem) (mField problem))) × (after ≡ written before (answerBytes (nField problem) a))
+  pub short-says-so :
+      {memory number i class own : ℕ} {span : Trop} {problem : List ℕ} {a : Answer} {d e : Desk} {before after : List ℕ} {r : Collected}
+      → FromOpening memory d → first (memoryRefused memory ∷ []) ≡ 0 → Stands d i (answered number problem class span own a)
+      → length before < answer-most → Collects memory d number before r e after → (r ≡ refused refused-room) × (e ≡ d) × (after ≡ before)
+  -- where a place is empty and a ticket is left, a problem that the desk takes gets a ticket; and "a collected place is usable again": right after a
+  -- collection 21 is given only where the tickets are used up;
+  pub room-taken :
+      {memory i : ℕ} {d e : Desk} {p : List ℕ} {r : TakenIn} → FromOpening memory d → first (memoryRefused memory ∷ []) ≡ 0
+      → WithinDesk (meant p) → i < desk-places → placeAt d i ≡ empty → d .given < last-ticket → TakesIn memory d p r e
+      → r ≡ ticket (suc (d .given))
+  pub usable-again :
+      {memory number class own size : ℕ} {span : Trop} {d e : Desk} {before after : List ℕ} → FromOpening memory d
+      → Collects memory d number before (collected class span own size) e after → e .given < last-ticket → first (fullRefused e) ≡ 0
+  -- no answer is lost: once it was reported the problem is held, answered, until its answer is handed over, and that answer stays as it is;
+  pub reported-held :
+      {memory : ℕ} {d e f : Desk} {p : List ℕ} {number k : ℕ} → FromOpening memory d → TakesIn memory d p (ticket number) e
+      → (run : Run memory e k f) → Reported number run → HandedOver number run ⊎ HeldAnswered f number (meant p)
+  pub kept-until-handed :
+      {memory : ℕ} {d e : Desk} {i number class own k : ℕ} {span : Trop} {problem : List ℕ} {a : Answer}
+      → Stands d i (answered number problem class span own a) → (run : Run memory d k e)
+      → HandedOver number run ⊎ Stands e i (answered number problem class span own a)
   -- "tickets count up from 1 at each opening, in 64 bits": the first is 1, each is the one after the last given out, no other call gives one
   -- out, and none is above 2⁶⁴ − 1;
   pub first-ticket : {memory : ℕ} {e : Desk} {p : List ℕ} {number : ℕ} → TakesIn memory opened p (ticket number) e → number ≡ 1
@@ -235,13 +336,21 @@ pub record DeskHolds : Type 0 where
   pub steps-give-none : {memory : ℕ} {d e : Desk} {r : Stepped} → Steps memory d r e → e .given ≡ d .given
   pub collecting-gives-none :
       {memory number : ℕ} {d e : Desk} {before after : List ℕ} {r : Collected} → Collects memory d number before r e after → e .given ≡ d .given
-  -- no two places hold the same ticket, and after its collection one is held no more, so that it gets 22 (and is given out no more, below);
+  -- nor does a refusal, which changes nothing, and every ticket that is held was given out;
+  pub refused-still :
+      {memory k : ℕ} {d e : Desk} {p : List ℕ} → TakesIn memory d p (refused k) e → e ≡ d
+  pub refused-collecting :
+      {memory number k : ℕ} {d e : Desk} {before after : List ℕ} → Collects memory d number before (refused k) e after → (e ≡ d) × (after ≡ before)
+  pub held-given :
+      {memory : ℕ} {d : Desk} → FromOpening memory d → (i : ℕ) → (placeAt d i ≡ empty → ⊥)
+      → (0 < ticketOf (placeAt d i)) × (ticketOf (placeAt d i) ≤ d .given)
+  -- no two places hold the same ticket, and after its collection one is never held again, so that it gets 22 (and is given out no more, below);
   pub tickets-apart :
       {memory : ℕ} {d : Desk} → FromOpening memory d → (i k : ℕ) → (placeAt d i ≡ empty → ⊥) → (placeAt d k ≡ empty → ⊥)
       → ticketOf (placeAt d i) ≡ ticketOf (placeAt d k) → i ≡ k
   pub collected-once :
-      {memory number class own size : ℕ} {span : Trop} {d e : Desk} {before after : List ℕ} → FromOpening memory d
-      → Collects memory d number before (collected class span own size) e after → NotHeld e number
+      {memory number class own size k : ℕ} {span : Trop} {d e f : Desk} {before after : List ℕ} → FromOpening memory d
+      → Collects memory d number before (collected class span own size) e after → Run memory e k f → NotHeld f number
   -- they "never come twice before the next" opening.
   pub tickets-rise :
       {memory : ℕ} {d e f g : Desk} {p q : List ℕ} {number later k : ℕ} → TakesIn memory d p (ticket number) e → Run memory e k f
@@ -278,14 +387,32 @@ pub record NeverStuck : Type 0 where
   pub stepping : {memory : ℕ} {d : Desk} → FromOpening memory d → SomeStep memory d
   pub collecting : {memory : ℕ} {d : Desk} → FromOpening memory d → (number : ℕ) (buffer : List ℕ) → SomeCollecting memory d number buffer
 
+-- ---- each call has one answer
+
+-- What the call answers and leaves is settled by what it gets, but for start, stamps and picks of an answer: after a problem's last trial two
+-- states have the same line and the same tickets at each place.
+pub record OneOutcome : Type 0 where
+  pub opening : {memory : ℕ} {r q : Opening} {d e : Desk} → Opens memory r d → Opens memory q e → (r ≡ q) × (r ≡ ready → d ≡ e)
+  pub taking-in :
+      {memory : ℕ} {d e f : Desk} {p : List ℕ} {r q : TakenIn} → TakesIn memory d p r e → TakesIn memory d p q f → (r ≡ q) × (e ≡ f)
+  pub stepping :
+      {memory : ℕ} {d e f : Desk} {r q : Stepped} → FromOpening memory d → Steps memory d r e → Steps memory d q f
+      → (r ≡ q) × (((number : ℕ) → r ≡ done number → ⊥) → e ≡ f) × (e .given ≡ f .given) × (e .line ≡ f .line)
+      × ((i : ℕ) → ticketOf (placeAt e i) ≡ ticketOf (placeAt f i))
+  pub collecting :
+      {memory number : ℕ} {d e f : Desk} {buffer after other : List ℕ} {r q : Collected} → FromOpening memory d
+      → Collects memory d number buffer r e after → Collects memory d number buffer q f other → (r ≡ q) × (e ≡ f) × (after ≡ other)
+
 -- ---- the checker
 
--- The problem that was collected, at its place; the checker, handed its bytes and the record, accepts it with the class and span that were told.
+-- The problem whose answer is collected, at its place before; the bytes are its answer's record, and the checker, handed the problem's bytes and
+-- the record, accepts it with the class and span that were given.
 pub record CollectedRight (check : Checker) (d : Desk) (number class : ℕ) (span : Trop) (own : ℕ) (bytes : List ℕ) : Type 0 where
   pub place : ℕ
   pub problem : List ℕ
   pub answer : Answer
   pub there : Stands d place (answered number problem class span own answer)
+  pub bytes-are : bytes ≡ answerBytes (nField problem) answer
   pub accepted-is : Slice problem → check problem bytes ≡ accepted class span
 
 -- "And the checker accepts it": every record that is collected, from an opening on; and a problem that was taken in and is collected later,

@@ -23,9 +23,9 @@ use Rattle.desk.specs.declared.state.Place.{Place}
 use Rattle.desk.specs.declared.state.Desk.{Desk}
 use Rattle.desk.specs.declared.calls.Collected.{Collected}
 use Rattle.desk.specs.declared.calls.Collected.the-variants as Collections
-use Rattle.desk.specs.State.{Arrays, seatedAt, noPlace, placeIn, HoldsTicket, ring, bytesAt, Seated, PlaceIs, is-empty, Holds}
+use Rattle.desk.specs.State.{Arrays, seatedAt, noPlace, placeIn, HoldsTicket, ring, bytesAt, Seated, blankPlace, PlaceIs, is-empty, Holds}
 use Rattle.desk.specs.Calls.{Left, collectedOf, NextCollected, DidCollect}
-use Rattle.desk.proofs.Runs.{beyond-empty}
+use Rattle.tickets.proofs.Sound.{beyond-empty}
 use Rattle.desk.proofs.Kept.{part-bytes}
 use Rattle.desk.proofs.Holding.{place-empty, place-ticket, place-open, AnsweredAs, place-closed, seated-places}
 use Rattle.desk.proofs.Taking.{memory-enough}
@@ -112,7 +112,7 @@ module _ (d : Desk) (memory : List ℕ) (ticket at : ℕ) (buffer : List ℕ) (h
         settled-found (meant-bytes _ (part-bytes memory (at * problem-most) (placeIn d at .size) b (omega (arith, a .seated .size-most)))) (a .settled) (a .seated .n-is) (a .seated .m-is) room
 
     -- It is handed over.
-    pub collected-all : {d′ : Desk} (c : Place) {buffer′ : List ℕ} {size : ℕ} → answer-most ≤ length buffer → c .ticket ≡ 0 → d′ ≡ seatedAt d at c → length buffer′ ≡ length buffer
+    pub collected-all : {d′ : Desk} (c : Place) {buffer′ : List ℕ} {size : ℕ} → answer-most ≤ length buffer → c ≡ blankPlace → d′ ≡ seatedAt d at c → length buffer′ ≡ length buffer
         → size ≡ answerSize (placeIn d at .answer .class) (placeIn d at .n) (placeIn d at .m)
         → buffer′ ≡ written buffer (answerBytes (placeIn d at .n) (answerIn (placeIn d at .n) (placeIn d at .m) (placeIn d at .answer .class) (placeIn d at .answer .span) (placeIn d at .answer .start) (placeIn d at .answer .stamps) (placeIn d at .answer .picks)))
         → DidCollect d memory ticket buffer (Collections.Handed (placeIn d at .answer .class) (placeIn d at .answer .span) (placeIn d at .answer .trials) size) d′ buffer′

@@ -1,32 +1,27 @@
 -- Which state of the machine the desk holds: what stands at a place, the head of the line, a place that changed.
-use Prim.Native.Nat.{ℕ, zero, suc, _+_, _*_, _-_, _%_, _≤_, _<_}
-use mathlib.Core.Path.{_≡_, refl, sym, ap, subst, _∙_}
+use Prim.Native.Nat.{ℕ, _+_, _-_, _%_, _≤_, _<_}
+use mathlib.Core.Path.{_≡_, refl, sym, ap, _∙_}
 use mathlib.Core.Bool.{Bool, true, false, cond}
-use mathlib.Core.Logic.{_⊎_, inl, inr, ⊎-elim}
-use mathlib.Core.List.{List, [], _∷_, _++_}
+use mathlib.Core.Logic.{_⊎_, inl, inr}
+use mathlib.Core.List.{List, [], _∷_}
 use native.Mathlib.Omega.{arith}
 use native.Mathlib.Decide.{ℕ-discrete}
-use native.Mathlib.Nat.{eq-zero-or-pos}
-use lib.Dec.{eqb, leb}
-use lib.ListN.{length, getD, set, replicate, length-set, length-replicate, getD-replicate}
+use lib.ListN.{length, getD, set}
 use lib.Seq.{getD-set-same, getD-set-other}
-use borrow.Author.Tests.{eq-eqb, ne-eqb}
-use Rattle.base.proofs.Numbers.{nat-le-or-lt}
-use Rattle.definitions.specs.Limits.{desk-places, desk-memory, problem-most}
-use Rattle.definitions.specs.Tropical.{Trop}
+use Rattle.definitions.specs.Limits.{desk-places, problem-most}
 use Rattle.definitions.specs.Offset.{tropOf}
 use Rattle.definitions.specs.ProblemRecord.{meant, nField, mField}
-use Rattle.definitions.specs.AnswerRecord.{Answer}
 use Rattle.definitions.specs.Desk as Machine
-use Rattle.definitions.specs.Desk.{placeAt, Stands, ticketOf, held, FirstEmpty, FromOpening}
+use Rattle.definitions.specs.Desk.{placeAt, Stands, ticketOf, held, FirstEmpty}
 use Rattle.class_answers.specs.Answered.{answerIn}
 use Rattle.engine.specs.OneTrial.{PursuedFor, SettledFor}
 use Rattle.desk.specs.declared.state.Place.{Place}
 use Rattle.desk.specs.declared.state.Desk.{Desk}
-use Rattle.desk.specs.State.{Arrays, seatedAt, noPlace, placeIn, FirstFree, HoldsTicket, ring, bytesAt, Seated, PlaceIs, is-empty, is-waiting, is-answered, Holds}
-use Rattle.desk.proofs.Line.{At}
-use Rattle.desk.proofs.Runs.{Sound, Waiting, from-opening-sound, waiting-inside, empty-not-waits, empty-not-answered, answered-not-waits}
-use Rattle.desk.proofs.Ring.{ring-length, ring-head}
+use Rattle.desk.specs.State.{noPlace, placeIn, FirstFree, ring, bytesAt, Seated, blankPlace, PlaceIs, is-empty, is-waiting, is-answered, Holds}
+use Rattle.tickets.proofs.Line.{At}
+use Rattle.tickets.proofs.Sound.{Sound, Waiting, waiting-inside, empty-not-waits, answered-not-waits, problemHeld, ownHeld}
+use Rattle.tickets.proofs.Places.{held-less, held-all}
+use Rattle.desk.proofs.Ring.{ring-head}
 
 true-not-false : true ≡ false → ⊥
 true-not-false e = let z : _≡_ {A = ℕ} 1 0 = ap (λ (b : Bool). cond b 1 0) e in omega arith
@@ -36,14 +31,14 @@ true-not-false e = let z : _≡_ {A = ℕ} 1 0 = ap (λ (b : Bool). cond b 1 0) 
 -- A place without a ticket is empty,
 pub place-empty : {bytes : List ℕ} {c : Place} {p : Machine.Place} → PlaceIs bytes c p → c .ticket ≡ 0 → p ≡ Machine.empty
 place-empty (is-empty z) e = refl
-place-empty (is-waiting s n g) e = absurd (let some = s .some in omega arith)
+place-empty (is-waiting s n b g) e = absurd (let some = s .some in omega arith)
 place-empty (is-answered s n g) e = absurd (let some = s .some in omega arith)
 
 -- and one with a ticket holds it.
 pub place-ticket : {bytes : List ℕ} {c : Place} {p : Machine.Place} → PlaceIs bytes c p → ticketOf p ≡ c .ticket
 unfolding ticketOf
-place-ticket (is-empty z) = sym z
-place-ticket (is-waiting s n g) = refl
+place-ticket (is-empty z) = sym (ap (λ (c : Place). c .ticket) z)
+place-ticket (is-waiting s n b g) = refl
 place-ticket (is-answered s n g) = refl
 
 pub place-some : {bytes : List ℕ} {c : Place} {p : Machine.Place} → PlaceIs bytes c p → 0 < c .ticket → p ≡ Machine.empty → ⊥
@@ -59,28 +54,18 @@ pub record WaitsAs (bytes : List ℕ) (c : Place) (number : ℕ) (problem : List
   pub problem-is : meant bytes ≡ problem
   pub own-is : c .search .made ≡ own
 
-unfoldable problemIn : Machine.Place → List ℕ
-problemIn Machine.empty = []
-problemIn (Machine.waits number problem own) = problem
-problemIn (Machine.answered number problem class span own a) = problem
-
-unfoldable ownIn : Machine.Place → ℕ
-ownIn Machine.empty = 0
-ownIn (Machine.waits number problem own) = own
-ownIn (Machine.answered number problem class span own a) = own
-
 pub place-waits : {bytes : List ℕ} {c : Place} {p : Machine.Place} {number own : ℕ} {problem : List ℕ} → PlaceIs bytes c p → p ≡ Machine.waits number problem own
     → WaitsAs bytes c number problem own
-unfolding ticketOf problemIn ownIn
+unfolding ticketOf problemHeld ownHeld
 place-waits (is-empty z) e = absurd (empty-not-waits e)
-place-waits (is-waiting s n g) e = record { seated = s; not-closed = n; pursued = g; number-is = ap ticketOf e; problem-is = ap problemIn e; own-is = ap ownIn e }
+place-waits (is-waiting s n b g) e = record { seated = s; not-closed = n; pursued = g; number-is = ap ticketOf e; problem-is = ap problemHeld e; own-is = ap ownHeld e }
 place-waits (is-answered s n g) e = absurd (answered-not-waits e)
 
 -- A place with a ticket that is not closed waits; one that is closed is answered.
 pub place-open : {bytes : List ℕ} {c : Place} {p : Machine.Place} → PlaceIs bytes c p → 0 < c .ticket → c .closed ≡ false
     → p ≡ Machine.waits (c .ticket) (meant bytes) (c .search .made)
-place-open (is-empty z) some e = absurd (omega arith)
-place-open (is-waiting s n g) some e = refl
+place-open (is-empty z) some e = absurd (omega (arith, ap (λ (c : Place). c .ticket) z))
+place-open (is-waiting s n b g) some e = refl
 place-open (is-answered s n g) some e = absurd (true-not-false (sym n ∙ e))
 
 pub record AnsweredAs (bytes : List ℕ) (c : Place) (p : Machine.Place) : Type 0 where
@@ -90,14 +75,14 @@ pub record AnsweredAs (bytes : List ℕ) (c : Place) (p : Machine.Place) : Type 
       (answerIn (nField (meant bytes)) (mField (meant bytes)) (c .answer .class) (c .answer .span) (c .answer .start) (c .answer .stamps) (c .answer .picks))
 
 pub place-closed : {bytes : List ℕ} {c : Place} {p : Machine.Place} → PlaceIs bytes c p → 0 < c .ticket → c .closed ≡ true → AnsweredAs bytes c p
-place-closed (is-empty z) some e = absurd (omega arith)
-place-closed (is-waiting s n g) some e = absurd (true-not-false (sym e ∙ n))
+place-closed (is-empty z) some e = absurd (omega (arith, ap (λ (c : Place). c .ticket) z))
+place-closed (is-waiting s n b g) some e = absurd (true-not-false (sym e ∙ n))
 place-closed (is-answered s n g) some e = record { seated = s; settled = g; is = refl }
 
 -- The size that a place tells fits, unless it is empty.
-pub size-known : {bytes : List ℕ} {c : Place} {p : Machine.Place} → PlaceIs bytes c p → (c .ticket ≡ 0) ⊎ (c .size ≤ problem-most)
+pub size-known : {bytes : List ℕ} {c : Place} {p : Machine.Place} → PlaceIs bytes c p → (c ≡ blankPlace) ⊎ (c .size ≤ problem-most)
 size-known (is-empty z) = inl z
-size-known (is-waiting s n g) = inr (s .size-most)
+size-known (is-waiting s n b g) = inr (s .size-most)
 size-known (is-answered s n g) = inr (s .size-most)
 
 -- ---- the line
@@ -143,35 +128,6 @@ seated-places d memory memory′ state i c p e f b others new k l = at (ℕ-disc
     at (yes z) = rw (z, getD-set-same (d .places) i c noPlace (omega arith), getD-set-same (state .places) i p Machine.empty (omega arith)) new
     at (no n) = rw (getD-set-other (d .places) i k c noPlace n, getD-set-other (state .places) i k p Machine.empty n) (others k l n)
 
--- ---- how many places are held
-
--- With an empty place fewer are held than there are, without one all are.
-held-few : (places : List Machine.Place) → held places ≤ length places
-unfolding held
-held-few [] = omega arith
-held-few (p ∷ places) = ⊎-elim
-    (λ (e : ticketOf p ≡ 0). rw (eq-eqb (ticketOf p) 0 e) (omega (arith, held-few places)))
-    (λ (h : 0 < ticketOf p). rw (ne-eqb (ticketOf p) 0 (λ e. omega arith)) (omega (arith, held-few places)))
-    (eq-zero-or-pos (ticketOf p))
-
-pub held-less : (places : List Machine.Place) (i : ℕ) → i < length places → ticketOf (getD places i Machine.empty) ≡ 0 → held places < length places
-unfolding held
-held-less [] i h e = absurd (omega arith)
-held-less (p ∷ places) zero h e = rw (eq-eqb (ticketOf p) 0 e) (omega (arith, held-few places))
-held-less (p ∷ places) (suc i) h e =
-    let less = held-less places i (omega arith) e in
-    ⊎-elim
-    (λ (z : ticketOf p ≡ 0). rw (eq-eqb (ticketOf p) 0 z) (omega arith))
-    (λ (z : 0 < ticketOf p). rw (ne-eqb (ticketOf p) 0 (λ e. omega arith)) (omega arith))
-    (eq-zero-or-pos (ticketOf p))
-
-pub held-all : (places : List Machine.Place) → ((i : ℕ) → i < length places → ticketOf (getD places i Machine.empty) ≡ 0 → ⊥) → held places ≡ length places
-unfolding held
-held-all [] h = refl
-held-all (p ∷ places) h =
-    let rest = held-all places (λ i b e. h (suc i) (omega arith) e) in
-    rw (ne-eqb (ticketOf p) 0 (λ e. h 0 (omega arith) e)) (omega arith)
-
 -- ---- looking
 
 empty-ticket : ticketOf Machine.empty ≡ 0
@@ -187,7 +143,7 @@ module _ {d : Desk} {memory : List ℕ} {state : Machine.Desk} (h : Holds d memo
   first-empty {r} f b = record {
     inside = b;
     is-empty = place-empty (h .places r b) (f .free b);
-    first = λ k l e. f .before k l (sym (ticket-at k (omega arith)) ∙ rw e (empty-ticket));
+    before = λ k l e. f .before k l (sym (ticket-at k (omega arith)) ∙ rw e (empty-ticket));
   }
 
   -- and where there is none, all are held.

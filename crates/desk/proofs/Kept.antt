@@ -15,7 +15,7 @@ use Rattle.definitions.specs.Desk.{WithinDesk}
 use Rattle.definitions.specs.Questions.{part}
 use Rattle.definitions.proofs.Put.{take-put, length-put, getD-put-after, put-more, put-nil}
 use Rattle.definitions.proofs.Questions.{part-length, part-at}
-use Rattle.definitions.proofs.Refusals.{plain-desk}
+use Rattle.definitions.proofs.Layouts.{plain-desk}
 use Rattle.least_span.specs.declared.state.Search.{Search}
 use Rattle.search_steps.specs.declared.steps.Trial.{Trial}
 use Rattle.engine.specs.OneTrial.{TrialFor}

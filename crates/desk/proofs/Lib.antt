@@ -1,6 +1,3 @@
-pub mod Line
-pub mod Runs
-pub mod Answered
 pub mod Ring
 pub mod Kept
 pub mod Looking

@@ -1,61 +1,39 @@
 -- A step, as the machine's transition: the head's next trial.
-use Prim.Native.Nat.{ℕ, zero, suc, _+_, _*_, _-_, _%_, _≤_, _<_}
+use Prim.Native.Nat.{ℕ, suc, _+_, _-_, _%_, _≤_, _<_}
 use mathlib.Core.Path.{_≡_, refl, sym, ap, subst, _∙_}
 use mathlib.Core.Bool.{Bool, true, false}
-use mathlib.Core.Logic.{_⊎_, ⊎-elim}
 use mathlib.Core.List.{List, [], _∷_, _++_}
 use native.Mathlib.Omega.{arith}
 use native.Mathlib.Numerals.{add-one}
 use lib.ListN.{length, getD, set, length-set}
-use lib.Seq.{getD-set-other}
-use lib.IntN.{ℤ}
-use Rattle.definitions.specs.Limits.{desk-places, desk-memory, problem-most, refused-memory}
-use Rattle.definitions.specs.Tropical.{Trop, fin, bot}
+use lib.Seq.{getD-set-same, getD-set-other}
+use Rattle.definitions.specs.Limits.{desk-places, desk-memory, refused-memory}
 use Rattle.definitions.specs.Offset.{tropOf}
-use Rattle.definitions.specs.Problem.{Problem}
-use Rattle.definitions.specs.ProblemRecord.{problemOf, meant, nField, mField}
-use Rattle.definitions.specs.AnswerRecord.{Answer}
-use Rattle.definitions.specs.Solved.{Found, optimal, unbounded, infeasible}
+use Rattle.definitions.specs.ProblemRecord.{problemOf, meant}
 use Rattle.definitions.specs.Desk as Machine
 use Rattle.definitions.specs.Desk.{placeAt, Stands, FromOpening, Steps, one-more, last-one}
-use Rattle.duality.specs.Classes.{HasOptimal}
-use Rattle.duality.proofs.Classes.{classified}
-use Rattle.search_steps.specs.declared.steps.Trial.{Trial}
-use Rattle.engine.specs.OneTrial.{PursuedFor, SettledFor, TrialFor}
+use Rattle.engine.specs.OneTrial.{TrialFor}
 use Rattle.desk.specs.declared.state.Place.{Place}
 use Rattle.desk.specs.declared.state.Desk.{Desk}
-use Rattle.desk.specs.declared.calls.Stepped.{Stepped}
 use Rattle.desk.specs.declared.calls.Stepped.the-variants as Steppings
-use Rattle.desk.specs.State.{Arrays, seatedAt, joinedBy, headGone, noPlace, placeIn, ring, bytesAt, Seated, PlaceIs, is-empty, is-waiting, is-answered, Holds, Tryable, Tried}
-use Rattle.desk.specs.Calls.{Left, steppedOf, NextStep, DidStep}
-use Rattle.desk.proofs.Runs.{Sound, from-opening-sound}
+use Rattle.desk.specs.State.{Arrays, seatedAt, joinedBy, headGone, noPlace, placeIn, ring, bytesAt, Seated, PlaceIs, is-waiting, is-answered, Holds, Tryable, Tried}
+use Rattle.desk.specs.Calls.{Left, steppedOf, NextStep, HeadTried, DidStep}
+use Rattle.tickets.proofs.Sound.{classed, from-opening-sound}
 use Rattle.desk.proofs.Ring.{ring-join}
-use Rattle.desk.proofs.Holding.{WaitsAs, place-open, none-wait, line-head, HeadAs, head-as, seated-places}
+use Rattle.desk.proofs.Holding.{place-open, none-wait, line-head, HeadAs, head-as, seated-places}
 use Rattle.desk.proofs.Taking.{memory-enough}
-
--- Every problem has a class, with span and trials.
-pub record Classed (p : Problem) : Type 0 where
-  pub class : ℕ
-  pub span : Trop
-  pub trials : ℕ
-  pub found : Found p class span trials
-
-pub classed : (p : Problem) → Classed p
-classed p = ⊎-elim
-    (λ i. record { class = 3; span = bot; trials = 1; found = infeasible i })
-    (λ o. ⊎-elim (λ h. record { class = 1; span = fin (h .at); trials = _; found = optimal (h .optimal) }) (λ u. record { class = 2; span = bot; trials = 2; found = unbounded u }) o)
-    (classified p)
 
 -- ---- nothing to do
 
 pub step-short : (d : Desk) (memory : List ℕ) → length memory < desk-memory → DidStep d memory (Steppings.Refused refused-memory) d
-step-short d memory h = record { still = λ e. refl; others = record { stay = λ k n. refl }; short = λ _. (refl, refl); moves = λ l. absurd (omega arith) }
+step-short d memory h = record { still = λ e. refl; others = record { stay = λ k n. refl }; trial = λ l n. absurd (omega arith); short = λ _. (refl, refl); moves = λ l. absurd (omega arith) }
 
 pub step-idle : {d : Desk} {memory : List ℕ} → desk-memory ≤ length memory → d .waiting ≡ 0 → DidStep d memory Steppings.NoneWaits d
 unfolding steppedOf
 step-idle {d} {memory} h e = record {
   still = λ _. refl;
   others = record { stay = λ k n. refl };
+  trial = λ l n. absurd (n refl);
   short = λ l. absurd (omega arith);
   moves = λ _ state f g. record { next = state; steps = Steps.idle (memory-enough (length memory) h) (none-wait g e); holds = g };
 }
@@ -171,7 +149,7 @@ module _ (d : Desk) (memory : List ℕ) (r : Place) (enough : desk-memory ≤ le
         let made : r .search .made ≡ suc (placeIn d at .search .made) = g .made-is ∙ add-one (placeIn d at .search .made) in
         let k = classed (problemOf (meant (bytesAt memory at (r .size)))) in
         let more : suc (placeIn d at .search .made) < k .trials = omega (arith, g .more (k .class) (k .trials) (k .span) (k .found)) in
-        let new : PlaceIs (bytesAt memory at (r .size)) r (Machine.waits (r .ticket) (meant (bytesAt memory at (r .size))) (suc (placeIn d at .search .made))) = rw (← made) (is-waiting seated e (g .pursued)) in
+        let new : PlaceIs (bytesAt memory at (r .size)) r (Machine.waits (r .ticket) (meant (bytesAt memory at (r .size))) (suc (placeIn d at .search .made))) = rw (← made) (is-waiting seated e (trial .unanswered e) (g .pursued)) in
         record {
           next = record { given = state .given; line = rest ++ (at ∷ []); places = set (state .places) at (Machine.waits (r .ticket) (meant (bytesAt memory at (r .size))) (suc (placeIn d at .search .made))) };
           steps = one-more (memory-enough (length memory) enough) line-is stands (k .found) more;
@@ -189,18 +167,31 @@ module _ (d : Desk) (memory : List ℕ) (r : Place) (enough : desk-memory ≤ le
           };
         }
 
-  -- The step.
-  pub did-done : {d′ : Desk} {ticket : ℕ} → d′ ≡ headGone (seatedAt d (getD (d .line) (d .head) 0) r) → ticket ≡ r .ticket → r .closed ≡ true → DidStep d memory (Steppings.Done ticket) d′
-  did-done e t z = record { still = λ f. absurd (let z : _≡_ {A = ℕ} 0 1 = cc in omega arith); others = record { stay = λ k n. rw e (getD-set-other (d .places) (getD (d .line) (d .head) 0) k r noPlace n) }; short = λ l. absurd (omega arith); moves = λ _ state o g. rw (e, t) (step-done state o g z) }
+  -- The head's place was tried.
+  head-tried : (d′ : Desk) → Head d memory → d′ .places ≡ set (d .places) (getD (d .line) (d .head) 0) r → HeadTried d memory d′
+  head-tried d′ h e =
+      let same = ap (λ (l : List Place). getD l at noPlace) e ∙ getD-set-same (d .places) at r noPlace (omega (arith, h .inside, h .arrays .places-size)) in
+      subst (Tried (bytesAt memory at (placeIn d at .size)) (placeIn d at)) (sym same) tried
 
-  pub did-on : {seat gone d′ : Desk} {ticket : ℕ} → seat ≡ seatedAt d (getD (d .line) (d .head) 0) r → gone ≡ headGone seat → d′ ≡ joinedBy gone (getD (d .line) (d .head) 0)
+  -- The step.
+  pub did-done : {d′ : Desk} {ticket : ℕ} → Head d memory → d′ ≡ headGone (seatedAt d (getD (d .line) (d .head) 0) r) → ticket ≡ r .ticket → r .closed ≡ true → DidStep d memory (Steppings.Done ticket) d′
+  did-done {d′} h e t z = record {
+    still = λ f. absurd (let z : _≡_ {A = ℕ} 0 1 = cc in omega arith);
+    others = record { stay = λ k n. rw e (getD-set-other (d .places) (getD (d .line) (d .head) 0) k r noPlace n) };
+    trial = λ _ _. head-tried d′ h (ap (λ (z : Desk). z .places) e);
+    short = λ l. absurd (omega arith);
+    moves = λ _ state o g. rw (e, t) (step-done state o g z);
+  }
+
+  pub did-on : {seat gone d′ : Desk} {ticket : ℕ} → Head d memory → seat ≡ seatedAt d (getD (d .line) (d .head) 0) r → gone ≡ headGone seat → d′ ≡ joinedBy gone (getD (d .line) (d .head) 0)
       → ticket ≡ r .ticket → r .closed ≡ false → DidStep d memory (Steppings.GoesOn ticket) d′
-  did-on {seat} {gone} {d′} a b e t z =
+  did-on {seat} {gone} {d′} h a b e t z =
       let now : d′ ≡ joinedBy (headGone (seatedAt d (getD (d .line) (d .head) 0) r)) (getD (d .line) (d .head) 0) =
       e ∙ ap (λ (z : Desk). joinedBy z (getD (d .line) (d .head) 0)) (b ∙ ap headGone a) in
       record {
         still = λ f. absurd (let z : _≡_ {A = ℕ} 0 1 = cc in omega arith);
         others = record { stay = λ k n. rw now (getD-set-other (d .places) (getD (d .line) (d .head) 0) k r noPlace n) };
+        trial = λ _ _. head-tried d′ h (ap (λ (z : Desk). z .places) now);
         short = λ l. absurd (omega arith);
         moves = λ _ state o g. rw (now, t) (step-on state o g z);
       }

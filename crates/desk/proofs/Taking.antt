@@ -8,7 +8,7 @@ use native.Mathlib.Omega.{arith}
 use native.Mathlib.Numerals.{add-one}
 use lib.Dec.{leb, ltb}
 use lib.ListN.{length, getD, set, replicate, length-set, length-replicate, getD-replicate, length-append}
-use lib.Seq.{getD-set-other}
+use lib.Seq.{getD-set-same, getD-set-other}
 use borrow.Author.Tests.{lt-ltb, le-ltb, le-leb, lt-leb}
 use Rattle.definitions.specs.Limits.{desk-places, desk-memory, problem-most, last-ticket, refused-memory, refused-full}
 use Rattle.definitions.specs.Bytes.{first, or-else, put}
@@ -23,9 +23,9 @@ use Rattle.desk.specs.declared.state.Place.{Place}
 use Rattle.desk.specs.declared.state.Desk.{Desk}
 use Rattle.desk.specs.declared.calls.TakenIn.{TakenIn}
 use Rattle.desk.specs.declared.calls.TakenIn.the-variants as Takings
-use Rattle.desk.specs.State.{Arrays, noPlace, placeIn, FirstFree, Entered, Room, ring, bytesAt, Seated, PlaceIs, is-empty, is-waiting, Holds}
-use Rattle.desk.specs.Calls.{Left, takenOf, OpenedBy, NextTaken, TookIn}
-use Rattle.desk.proofs.Runs.{Sound, from-opening-sound, sound-taken, line-few}
+use Rattle.desk.specs.State.{Arrays, noPlace, placeIn, FirstFree, Entered, Room, ring, bytesAt, Seated, blankPlace, PlaceIs, is-empty, is-waiting, Holds}
+use Rattle.desk.specs.Calls.{Left, takenOf, OpenedBy, NextTaken, SearchBegun, TookIn}
+use Rattle.tickets.proofs.Sound.{Sound, from-opening-sound, sound-taken, line-few}
 use Rattle.desk.proofs.Ring.{ring-length, ring-join}
 use Rattle.desk.proofs.Kept.{kept-here, kept-there, fits-place}
 use Rattle.desk.proofs.Holding.{place-empty, seated-places, first-empty, held-sixteen, held-fewer, size-known}
@@ -37,7 +37,7 @@ memory-enough memory h = ap (λ (b : Bool). cond b refused-memory 0) (le-ltb mem
 
 -- ---- opening
 
-pub opened-holds : (memory : List ℕ) (c : Place) → c .ticket ≡ 0
+pub opened-holds : (memory : List ℕ) (c : Place) → c ≡ blankPlace
     → Holds (record { given = 0; head = 0; waiting = 0; line = replicate 16 0; places = replicate 16 c }) memory Machine.opened
 unfolding ring
 opened-holds memory c e = record {
@@ -48,7 +48,7 @@ opened-holds memory c e = record {
   places = λ i h. rw (getD-replicate {A = Place} 16 i c noPlace h, getD-replicate {A = Machine.Place} desk-places i Machine.empty Machine.empty h) (is-empty e);
 }
 
-pub opened-ready : {memory : List ℕ} (c : Place) → c .ticket ≡ 0 → desk-memory ≤ length memory
+pub opened-ready : {memory : List ℕ} (c : Place) → c ≡ blankPlace → desk-memory ≤ length memory
     → OpenedBy memory 0 (record { given = 0; head = 0; waiting = 0; line = replicate 16 0; places = replicate 16 c })
 opened-ready {memory} c e h = record { short = λ l. absurd (omega arith); ready = λ _. (refl, opened-holds memory c e) }
 
@@ -128,13 +128,18 @@ unfolding takenOf
 took-in {d} {r} {memory} {memory′} {p} {at} {b} {given} h g z f room e m t = record {
   same-length = rw m (length-put memory (at * problem-most) p (omega arith) (omega (arith, room .short, room .inside)));
   still = λ e. absurd (let z : _≡_ {A = ℕ} 0 1 = cc in omega arith);
-  enters = λ _. record { at = at; inside = room .inside; free = f; memory-is = m; others = record { stay = λ k n. rw (e .desk-is) (getD-set-other (d .places) at k (e .place) noPlace n) } };
+  enters = λ _. record { at = at; inside = room .inside; free = f; memory-is = m; begun = begun; others = record { stay = λ k n. rw (e .desk-is) (getD-set-other (d .places) at k (e .place) noPlace n) } };
   short = λ l. absurd (omega arith);
   moves = λ _ state o holds. record { next = next state; takes = rw t (takes state holds); holds = rw (e .desk-is, m) (held-after state holds) };
 }
   where
     c : Place
     c = e .place
+
+    begun : SearchBegun p at r
+    begun =
+        let here : placeIn r at ≡ e .place = ap (λ (x : Desk). placeIn x at) (e .desk-is) ∙ getD-set-same (d .places) at (e .place) noPlace (omega (arith, room .inside, room .arrays .places-size)) in
+        ap (λ (x : Place). x .search) here ∙ e .new .search-is ∙ g .search-is z
 
     within : WithinDesk (meant p)
     within = sym (g .refused-is) ∙ z
@@ -153,17 +158,17 @@ took-in {d} {r} {memory} {memory′} {p} {at} {b} {given} h g z f room e m t = r
     new : (state : Machine.Desk) → Holds d memory state → PlaceIs (bytesAt (put memory (at * problem-most) p) at (c .size)) c (Machine.waits (suc (state .given)) (meant p) 0)
     new state holds =
         let ticket : c .ticket ≡ suc (state .given) = omega (arith, e .new .ticket-is, holds .given-is) in
-        let none : c .search .made ≡ 0 = ap (λ (s : Search). s .made) (e .new .search-is) ∙ g .none-made z in
+        let none : c .search .made ≡ 0 = ap (λ (s : Search). s .made) (e .new .search-is) ∙ ap (λ (s : Search). s .made) (g .search-is z) in
         let w : PlaceIs p c (Machine.waits (c .ticket) (meant p) (c .search .made)) =
         is-waiting
         (record { some = omega arith; size-most = omega (arith, e .new .size-is, room .short); n-is = e .new .n-is ∙ g .n-is z; m-is = e .new .m-is ∙ g .m-is z })
-        (e .new .still-open) (subst (PursuedFor (meant p)) (sym (e .new .search-is)) (g .pursued z)) in
+        (e .new .still-open) (e .new .answer-is) (subst (PursuedFor (meant p)) (sym (e .new .search-is)) (g .pursued z)) in
         rw there (rw (← ticket, ← none) w)
 
     others : (state : Machine.Desk) → Holds d memory state → (k : ℕ) → k < desk-places → (k ≡ at → ⊥)
         → PlaceIs (bytesAt (put memory (at * problem-most) p) k (placeIn d k .size)) (placeIn d k) (placeAt state k)
     others state holds k l n = ⊎-elim
-        (λ (free : placeIn d k .ticket ≡ 0). rw (place-empty (holds .places k l) free) (is-empty free))
+        (λ (free : placeIn d k ≡ blankPlace). rw (place-empty (holds .places k l) (ap (λ (x : Place). x .ticket) free)) (is-empty free))
         (λ (size : placeIn d k .size ≤ problem-most). rw (kept-there memory p at k (placeIn d k .size) h (room .inside) l n (room .short) size) (holds .places k l))
         (size-known (holds .places k l))
 

@@ -1,13 +1,15 @@
 -- What the desk's calls leave, in the words of the machine. Document 02, 2.11.
-use Prim.Native.Nat.{ℕ, _*_, _≤_, _<_}
+use Prim.Native.Nat.{ℕ, _+_, _*_, _≤_, _<_}
 use mathlib.Core.Path.{_≡_}
 use mathlib.Core.List.{List}
 use lib.ListN.{length}
 use Rattle.definitions.specs.Limits.{desk-places, desk-memory, problem-most, refused-memory}
 use Rattle.definitions.specs.Bytes.{put}
 use Rattle.definitions.specs.Offset.{tropOf}
+use Rattle.definitions.specs.ProblemRecord.{meant, mField}
 use Rattle.definitions.specs.Desk as Machine
-use Rattle.definitions.specs.Desk.{FromOpening, Opens, TakesIn, Steps, Collects}
+use Rattle.definitions.specs.Desk.{FromOpening, TakesIn, Steps, Collects}
+use Rattle.least_span.specs.State.{blankSearch}
 use Rattle.desk.specs.declared.state.Desk.{Desk}
 use Rattle.desk.specs.declared.calls.TakenIn.{TakenIn}
 use Rattle.desk.specs.declared.calls.TakenIn.the-variants as Takings
@@ -15,7 +17,7 @@ use Rattle.desk.specs.declared.calls.Stepped.{Stepped}
 use Rattle.desk.specs.declared.calls.Stepped.the-variants as Steppings
 use Rattle.desk.specs.declared.calls.Collected.{Collected}
 use Rattle.desk.specs.declared.calls.Collected.the-variants as Collections
-use Rattle.desk.specs.State.{headOf, OthersStay, FirstFree, HoldsTicket, Holds}
+use Rattle.desk.specs.State.{placeIn, headOf, bytesAt, OthersStay, FirstFree, HoldsTicket, Holds, Tried}
 
 -- ---- the premise
 
@@ -59,12 +61,17 @@ pub record NextTaken (d : Desk) (memory p : List ℕ) (r : TakenIn) (d′ : Desk
   pub takes : TakesIn (length memory) state p (takenOf r) next
   pub holds : Holds d′ memory′ next
 
--- A problem that got a ticket is put into the memory at the first free place; every other byte and every other place stays.
+-- The place of a problem that was taken in has a search that knows nothing yet.
+abbrev pub SearchBegun : List ℕ → ℕ → Desk → Type 0
+SearchBegun p at d = placeIn d at .search ≡ blankSearch (mField (meant p) + 1)
+
+-- A problem that got a ticket is put into the memory at the first free place, its search begun; every other byte and every other place stays.
 pub record TakenAt (d : Desk) (memory p : List ℕ) (d′ : Desk) (memory′ : List ℕ) : Type 0 where
   pub at : ℕ
   pub inside : at < desk-places
   pub free : FirstFree d at
   pub memory-is : memory′ ≡ put memory (at * problem-most) p
+  pub begun : SearchBegun p at d′
   pub others : OthersStay d at d′
 
 -- Taking in: 23 where the memory is too short, else the machine's transition; a refusal leaves memory and state as they were, a ticket all but
@@ -82,10 +89,15 @@ pub record NextStep (d : Desk) (memory : List ℕ) (r : Stepped) (d′ : Desk) (
   pub steps : Steps (length memory) state (steppedOf r) next
   pub holds : Holds d′ memory next
 
--- A step: with none waiting it changes nothing, and never another place than the head's.
+-- The head's place after the next trial of its search, the one that document 01 makes next.
+abbrev pub HeadTried : Desk → List ℕ → Desk → Type 0
+HeadTried d memory d′ = Tried (bytesAt memory (headOf d) (placeIn d (headOf d) .size)) (placeIn d (headOf d)) (placeIn d′ (headOf d))
+
+-- A step: with none waiting it changes nothing, else the head's place by that trial, and never another.
 pub record DidStep (d : Desk) (memory : List ℕ) (r : Stepped) (d′ : Desk) : Type 0 where
   pub still : r ≡ Steppings.NoneWaits → d′ ≡ d
   pub others : OthersStay d (headOf d) d′
+  pub trial : desk-memory ≤ length memory → (r ≡ Steppings.NoneWaits → ⊥) → HeadTried d memory d′
   pub short : length memory < desk-memory → (r ≡ Steppings.Refused refused-memory) × (d′ ≡ d)
   pub moves : desk-memory ≤ length memory → (state : Machine.Desk) → FromOpening (length memory) state → Holds d memory state → NextStep d memory r d′ state
 

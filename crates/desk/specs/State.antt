@@ -11,6 +11,8 @@ use Rattle.definitions.specs.Questions.{part}
 use Rattle.definitions.specs.Desk as Machine
 use Rattle.class_answers.specs.Answered.{answerIn}
 use Rattle.engine.specs.declared.one_trial.Begun.{Begun}
+use Rattle.least_span.specs.State.{blankSearch}
+use Rattle.search_steps.specs.Steps.{blankAnswer}
 use Rattle.engine.specs.OneTrial.{PursuedFor, SettledFor, TrialFor}
 use Rattle.desk.specs.declared.state.Place.{Place}
 use Rattle.desk.specs.declared.state.Desk.{Desk}
@@ -81,6 +83,7 @@ pub record NewPlace (ticket size : ℕ) (b : Begun) (place : Place) : Type 0 whe
   pub m-is : place .m ≡ b .m
   pub still-open : place .closed ≡ false
   pub search-is : place .search ≡ b .search
+  pub answer-is : place .answer ≡ blankAnswer
 
 -- It is entered at a place, with the next ticket, at the end of the line.
 pub record Entered (d : Desk) (at : ℕ) (p : List ℕ) (b : Begun) (r : Desk) : Type 0 where
@@ -115,10 +118,16 @@ pub record Seated (bytes : List ℕ) (c : Place) : Type 0 where
   pub n-is : c .n ≡ nField (meant bytes)
   pub m-is : c .m ≡ mField (meant bytes)
 
+-- A place with nothing on it.
+abbrev pub blankPlace : Place
+blankPlace = record { ticket = 0; size = 0; n = 0; m = 0; closed = false; search = blankSearch 1; answer = blankAnswer }
+
 -- What a place with these bytes holds.
 pub data PlaceIs (bytes : List ℕ) (c : Place) : Machine.Place → Type 0 where
-  is-empty : c .ticket ≡ 0 → PlaceIs bytes c Machine.empty
-  is-waiting : Seated bytes c → c .closed ≡ false → PursuedFor (meant bytes) (c .search) → PlaceIs bytes c (Machine.waits (c .ticket) (meant bytes) (c .search .made))
+  is-empty : c ≡ blankPlace → PlaceIs bytes c Machine.empty
+  is-waiting :
+      Seated bytes c → c .closed ≡ false → c .answer ≡ blankAnswer → PursuedFor (meant bytes) (c .search)
+      → PlaceIs bytes c (Machine.waits (c .ticket) (meant bytes) (c .search .made))
   is-answered :
       Seated bytes c → c .closed ≡ true → SettledFor (meant bytes) (c .answer)
       → PlaceIs bytes c (Machine.answered (c .ticket) (meant bytes) (c .answer .class) (tropOf (c .answer .span)) (c .answer .trials)

@@ -7,7 +7,7 @@ ghost use Rattle.definitions.specs.Bytes.{put};
 ghost use Rattle.definitions.specs.ProblemRecord.{meant};
 ghost use Rattle.definitions.specs.Questions.{part};
 ghost use Rattle.engine.specs.OneTrial.{PursuedFor, TrialFor};
-ghost use Rattle.desk.specs.State.{bytesAt, NewPlace, Entered, Room, Tryable, Tried};
+ghost use Rattle.desk.specs.State.{bytesAt, blankPlace, NewPlace, Entered, Room, Tryable, Tried};
 ghost use Rattle.desk.specs.declared.calls.TakenIn.the-variants as TakenIn;
 ghost use Rattle.desk.specs.Calls.{AsLeft, OpenedBy, TookIn, DidStep, DidCollect};
 use crate::limits::LAST_TICKET;
@@ -89,7 +89,7 @@ fn refused_in(desk: Desk, number: usize) -> Taking
 
 // A place with nothing on it.
 fn no_place() -> Place
-    ensures { λ r. ⌜ r .ticket ≡ 0 ⌝ }
+    ensures { λ r. ⌜ r ≡ blankPlace ⌝ }
 {
     let search = opened(1);
     let answer = no_answer();

@@ -12,7 +12,7 @@ use Rattle.definitions.specs.Questions.{alone}
 use Rattle.definitions.specs.Solved.{Found, optimal, unbounded, infeasible, AnswersInTurn, no-question, one-more}
 use Rattle.definitions.proofs.Bisection.{few-trials}
 use Rattle.definitions.proofs.Offset.{within-size}
-use Rattle.definitions.proofs.Refusals.{problem-fits, within-asks, left-limited, right-limited}
+use Rattle.definitions.proofs.Layouts.{problem-fits, within-asks, left-limited, right-limited}
 use Rattle.definitions.proofs.Solved.{one-asked}
 use Rattle.duality.specs.Within.{Within, Enough}
 use Rattle.duality.proofs.Classes.{optimal-range}

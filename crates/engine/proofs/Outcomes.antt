@@ -17,7 +17,9 @@ use Rattle.definitions.specs.Solved as Results
 use Rattle.definitions.specs.Solved.{Answers, Solves, turned-away, solved, engineRefusal}
 use Rattle.definitions.proofs.Questions.{asking-itself}
 use Rattle.definitions.proofs.IdleDay.{several-itself}
-use Rattle.definitions.proofs.Refusals.{or-else-suc, WriterFits, writer-fits, one-question}
+use Rattle.definitions.proofs.Refusals.{or-else-suc}
+use Rattle.definitions.proofs.Layouts.{one-question}
+use Rattle.definitions.proofs.AnswerFits.{WriterFits, writer-fits}
 use Rattle.definitions.proofs.Outcomes.{outcome-none}
 use Rattle.definitions.proofs.Solved.{answers-taken, none-refused, Wrote, wrote, WroteAll, wrote-all}
 use Rattle.records.specs.declared.problem.Header.{Header}

@@ -23,7 +23,7 @@ use Rattle.least_span.specs.State.{Opened}
 use Rattle.class_answers.specs.declared.answer.Answer.{Answer}
 use Rattle.search_steps.specs.declared.steps.Trial.{Trial}
 use Rattle.definitions.specs.Desk.{deskRefusal, WithinDesk}
-use Rattle.definitions.proofs.Refusals.{desk-within}
+use Rattle.definitions.proofs.Layouts.{desk-within}
 use Rattle.search_steps.specs.Steps.{Pursued, TrialOf}
 use Rattle.search_steps.proofs.Found.{open-more}
 use Rattle.search_steps.proofs.Closing.{opened-pursued}
@@ -78,7 +78,7 @@ module _ {p : List ℕ} {l : Layout} {left right : List ℕ} (read : ReadOne p l
   begun-open {search} o = record {
     refused-is = sym (read .within);
     pursued = λ e. record { within = read .within; pursued = rw (← read .n-is, ← read .m-is, ← read .left-is, ← read .right-is) (opened-pursued read-tables o) };
-    none-made = λ e. o .made-is;
+    search-is = λ e. rw (← read .m-is) (o .is);
     n-is = λ e. read .n-is;
     m-is = λ e. read .m-is;
   }
@@ -94,6 +94,7 @@ module _ {p : List ℕ} {l : Layout} {left right : List ℕ} (read : ReadOne p l
       let u : TrialOf (nField p) (mField p) (leftTable p) (rightTable p) search r = rw (← read .n-is, ← read .m-is, ← read .left-is, ← read .right-is) t in
       record {
         bracket = t .bracket;
+        unanswered = t .unanswered;
         goes-on = λ e.
             let w = u .goes-on e in
             record {
@@ -116,7 +117,7 @@ begun-refused {p} {header} {k} {r} e f g =
     record {
       refused-is = q ∙ sym (h .0);
       pursued = λ z. absurd (omega (arith, h .1));
-      none-made = λ z. absurd (omega (arith, h .1));
+      search-is = λ z. absurd (omega (arith, h .1));
       n-is = λ z. absurd (omega (arith, h .1));
       m-is = λ z. absurd (omega (arith, h .1));
     }

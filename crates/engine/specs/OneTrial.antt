@@ -10,10 +10,11 @@ use Rattle.definitions.specs.Desk.{deskRefusal, WithinDesk}
 use Rattle.definitions.specs.Solved.{Found, Answers}
 use Rattle.problem_records.specs.Tables.{leftTable, rightTable}
 use Rattle.least_span.specs.declared.state.Search.{Search}
+use Rattle.least_span.specs.State.{blankSearch}
 use Rattle.class_answers.specs.declared.answer.Answer.{Answer}
 use Rattle.class_answers.specs.Answered.{answerIn}
 use Rattle.search_steps.specs.declared.steps.Trial.{Trial}
-use Rattle.search_steps.specs.Steps.{MovedNext, Pursued}
+use Rattle.search_steps.specs.Steps.{MovedNext, blankAnswer, Pursued}
 use Rattle.engine.specs.declared.one_trial.Begun.{Begun}
 
 -- A search of the problem in the bytes, after so many trials as it has made.
@@ -26,11 +27,11 @@ pub record SettledFor (s : List ℕ) (a : Answer) : Type 0 where
   pub within : WithinDesk s
   pub answers : Answers (problemOf s) (a .class) (tropOf (a .span)) (a .trials) (answerIn (nField s) (mField s) (a .class) (a .span) (a .start) (a .stamps) (a .picks))
 
--- A search begun: the first of the problem's refusals, or a search without a trial.
+-- A search begun: the first of the problem's refusals, or the search that knows nothing yet.
 pub record BegunFor (s : List ℕ) (r : Begun) : Type 0 where
   pub refused-is : r .refused ≡ deskRefusal s
   pub pursued : r .refused ≡ 0 → PursuedFor s (r .search)
-  pub none-made : r .refused ≡ 0 → r .search .made ≡ 0
+  pub search-is : r .refused ≡ 0 → r .search ≡ blankSearch (mField s + 1)
   pub n-is : r .refused ≡ 0 → r .n ≡ nField s
   pub m-is : r .refused ≡ 0 → r .m ≡ mField s
 
@@ -45,4 +46,5 @@ pub record Onward (s : List ℕ) (own : ℕ) (search : Search) : Type 0 where
 pub record TrialFor (s : List ℕ) (search : Search) (r : Trial) : Type 0 where
   pub bracket : MovedNext search (r .search)
   pub goes-on : r .closed ≡ false → Onward s (search .made) (r .search)
+  pub unanswered : r .closed ≡ false → r .answer ≡ blankAnswer
   pub ends : r .closed ≡ true → SettledFor s (r .answer) × (r .answer .trials ≡ search .made + 1) × (r .answer .made ≡ search .made + 1)

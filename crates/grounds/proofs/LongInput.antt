@@ -12,7 +12,8 @@ use Rattle.definitions.specs.Verdict.{checkRefusal, Judged, turned-away, certif
 use Rattle.definitions.specs.Programs.{cutPlace, problemPart, answerPart}
 use Rattle.definitions.specs.Reasons as Definitions
 use Rattle.definitions.specs.Reasons.{Reasoned}
-use Rattle.definitions.proofs.Refusals.{or-else-none, answer-fits}
+use Rattle.definitions.proofs.Refusals.{or-else-none}
+use Rattle.definitions.proofs.AnswerFits.{answer-fits}
 use Rattle.definitions.proofs.RoundTrip.{size-most}
 use Rattle.definitions.proofs.Inputs.{part-meant}
 use Rattle.checker.specs.Outcome.{verdictOf}

@@ -3,28 +3,28 @@ use Prim.Native.Nat.{ℕ, zero, suc, _+_, _≤_, _<_}
 use mathlib.Core.Path.{_≡_, refl, sym, ap, subst, _∙_}
 use mathlib.Core.Bool.{Bool, true, false, cond}
 use mathlib.Core.Logic.{_⊎_, inl, inr, ⊎-elim}
-use mathlib.Core.List.{List, [], _∷_, _++_}
+use mathlib.Core.List.{List, [], _∷_}
 use native.Mathlib.Omega.{arith}
 use native.Mathlib.Decide.{ℕ-discrete}
-use lib.Dec.{eqb, leb}
+use lib.Dec.{leb}
 use lib.ListN.{length, getD}
 use borrow.Author.Tests.{ne-eqb, le-leb}
 use Rattle.base.proofs.Numbers.{nat-le-or-lt}
-use Rattle.definitions.specs.Limits.{desk-places, last-ticket, answer-most, refused-full, refused-room, refused-ticket}
+use Rattle.definitions.specs.Limits.{desk-places, last-ticket, answer-most, refused-full}
 use Rattle.definitions.specs.Tropical.{Trop}
-use Rattle.definitions.specs.Problem.{Problem}
 use Rattle.definitions.specs.Bytes.{first, or-else}
-use Rattle.definitions.specs.Bisection.{trials-optimal}
 use Rattle.definitions.specs.ProblemRecord.{problemOf, meant}
 use Rattle.definitions.specs.AnswerRecord.{Answer}
-use Rattle.definitions.specs.Solved.{Found, optimal, unbounded, infeasible}
-use Rattle.definitions.specs.Desk.{memoryRefused, fullRefused, deskRefusal, WithinDesk, Place, empty, waits, answered, Desk, opened, placeAt, Stands, ticketOf, FirstEmpty, held, TakenIn, TakesIn, taken, takeRefusal, Stepped, Steps, one-more, last-one, NotHeld, Collected, Collects, handed-over, Run, nothing, take-in, one-step, collect, FromOpening, SomeOpening, SomeTaking, SomeStep, SomeCollecting, NeverStuck}
+use Rattle.definitions.specs.Solved.{Found}
+use Rattle.definitions.specs.Desk.{memoryRefused, fullRefused, deskRefusal, Place, empty, waits, answered, Desk, opened, placeAt, Stands, ticketOf, held, TakesIn, taken, takeRefusal, Steps, one-more, last-one, NotHeld, Collects, handed-over, FromOpening, SomeOpening, SomeTaking, SomeStep, SomeCollecting, NeverStuck}
 use Rattle.definitions.specs.Desk as Desks
-use Rattle.definitions.proofs.Refusals.{or-else-none, problem-fits, desk-within}
+use Rattle.definitions.proofs.Refusals.{or-else-none}
+use Rattle.definitions.proofs.Layouts.{problem-fits, desk-within}
 use Rattle.duality.proofs.SmallLeads.{layout-within}
 use Rattle.duality.proofs.Classes.{found-one}
-use Rattle.desk.proofs.Line.{At}
-use Rattle.desk.proofs.Runs.{Sound, Waiting, empty-not-waits, empty-not-answered, waits-fit, beyond-empty, waiting-inside, moved, here, elsewhere, sound-opened, sixteen-empty, sound-run, from-opening-sound}
+use Rattle.tickets.proofs.Line.{At}
+use Rattle.tickets.proofs.Sound.{found-some, Sound, Waiting, empty-not-waits, empty-not-answered, waits-fit, beyond-empty, sound-opened, sixteen-empty, from-opening-sound}
+use Rattle.tickets.proofs.Changes.{Becomes, enters, goes-on, closes, frees, Each, each-run}
 use Rattle.guarantees.proofs.Solvable.{SomeAnswer, answer-exists}
 
 -- ---- what holds of every place
@@ -37,65 +37,18 @@ data Going : Place → Type 0 where
       → Going (waits number problem own)
   going-answered : {number class own : ℕ} {span : Trop} {problem : List ℕ} {a : Answer} → 0 < number → Going (answered number problem class span own a)
 
-record AllGoing (d : Desk) : Type 0 where
-  places : (i : ℕ) → Going (placeAt d i)
-
 of-waits : {number own : ℕ} {problem : List ℕ} → Going (waits number problem own)
     → (0 < number) × ((class trials : ℕ) (span : Trop) → Found (problemOf problem) class span trials → own < trials)
 of-waits (going-waits some more) = (some, more)
 
--- Every class and span asks for a trial.
-found-some : {p : Problem} {class trials : ℕ} {span : Trop} → Found p class span trials → 0 < trials
-unfolding trials-optimal
-found-some (optimal o) = omega arith
-found-some (unbounded u) = omega arith
-found-some (infeasible i) = omega arith
+going-becomes : (given : ℕ) (was p : Place) → 0 ≤ given → Becomes given was p → Going was → Going p
+going-becomes given was p l enters g = going-waits {number = suc given} (omega arith) (λ class trials span found. found-some found)
+going-becomes given was p l (goes-on {own = own} found more) g = going-waits {own = suc own} (of-waits g .0) (λ class trials span f. let e = found-one found f in omega (arith, e .2))
+going-becomes given was p l closes g = going-answered (of-waits g .0)
+going-becomes given was p l frees g = going-empty
 
-going-opened : AllGoing opened
-going-opened = record { places = λ i. rw (sixteen-empty i) going-empty }
-
-module _ {d : Desk} (s : Sound d) (g : AllGoing d) where
-  going-moved : (given : ℕ) (line : List ℕ) (i : ℕ) (p : Place) → i < desk-places → Going p → AllGoing (moved d given line i p)
-  going-moved given line i p inside new = record { places = λ k. at k (ℕ-discrete k i) }
-    where
-      at : (k : ℕ) → Dec (k ≡ i) → Going (placeAt (moved d given line i p) k)
-      at k (yes e) = rw (e, here d given line i p (s .sixteen) inside) new
-      at k (no n) = rw (elsewhere d given line i p k n) (g .places k)
-
-  going-taken : {memory : ℕ} {e : Desk} {p : List ℕ} {r : TakenIn} → TakesIn memory d p r e → AllGoing e
-  going-taken (Desks.TakesIn.turned-away h) = g
-  going-taken {p = p} (taken {i = i} h f) =
-      going-moved (suc (d .given)) (d .line ++ (i ∷ [])) i (waits (suc (d .given)) (meant p) 0) (f .inside) (going-waits (omega arith) (λ class trials span found. found-some found))
-
-  going-stepped : {memory : ℕ} {e : Desk} {r : Stepped} → Steps memory d r e → AllGoing e
-  going-stepped (Desks.Steps.turned-away h) = g
-  going-stepped (Desks.Steps.idle h none) = g
-  going-stepped (one-more {i = i} {number = n} {own = own} {problem = problem} {rest = rest} h head st found more) =
-      let inside : i < desk-places = waiting-inside (s .sixteen) (record { number = n; problem = problem; own = own; there = st }) in
-      let old = of-waits (subst Going (st .is) (g .places i)) in
-      going-moved (d .given) (rest ++ (i ∷ [])) i (waits n problem (suc own)) inside (going-waits (old .0) (λ class trials span f. let e = found-one found f in omega (arith, e .2)))
-  going-stepped (last-one {i = i} {number = n} {own = own} {class = class} {trials = trials} {span = span} {problem = problem} {rest = rest} {a = a} h head st last ans) =
-      let inside : i < desk-places = waiting-inside (s .sixteen) (record { number = n; problem = problem; own = own; there = st }) in
-      let old = of-waits (subst Going (st .is) (g .places i)) in
-      going-moved (d .given) rest i (answered n problem class span trials a) inside (going-answered (old .0))
-
-  going-collected : {memory n : ℕ} {e : Desk} {before after : List ℕ} {r : Collected} → Collects memory d n before r e after → AllGoing e
-  going-collected (Desks.Collects.turned-away h) = g
-  going-collected (Desks.Collects.no-such-ticket h n) = g
-  going-collected (Desks.Collects.waits-yet h st) = g
-  going-collected (Desks.Collects.short-buffer h st b) = g
-  going-collected (handed-over {i = i} h st b) =
-      let inside : i < desk-places = beyond-empty d i (s .sixteen) (λ z. empty-not-answered (sym z ∙ st .is)) in
-      going-moved (d .given) (d .line) i empty inside going-empty
-
-going-run : {memory k : ℕ} {d e : Desk} → Sound d → AllGoing d → Run memory d k e → AllGoing e
-going-run s g nothing = g
-going-run s g (take-in run c) = going-taken (sound-run run s) (going-run s g run) c
-going-run s g (one-step run c) = going-stepped (sound-run run s) (going-run s g run) c
-going-run s g (collect run c) = going-collected (sound-run run s) (going-run s g run) c
-
-from-opening-going : {memory : ℕ} {d : Desk} → FromOpening memory d → AllGoing d
-from-opening-going o = going-run sound-opened going-opened (o .run)
+from-opening-going : {memory : ℕ} {d : Desk} → FromOpening memory d → Each Going d
+from-opening-going o = each-run 0 (omega arith) going-becomes sound-opened (record { at = λ i. rw (sixteen-empty i) going-empty }) (o .run)
 
 -- ---- taking in
 
@@ -134,13 +87,13 @@ not-full true b e f = omega arith
 not-full false b e f = let z : _≡_ {A = ℕ} 0 1 = ap (λ (c : Bool). cond c 1 0) f in omega arith
 
 -- Nothing refuses it: there is an empty place.
-room-left : (memory : ℕ) {d : Desk} (p : List ℕ) → Sound d → AllGoing d → takeRefusal memory d p ≡ 0 → EmptyIn (d .places)
+room-left : (memory : ℕ) {d : Desk} (p : List ℕ) → Sound d → Each Going d → takeRefusal memory d p ≡ 0 → EmptyIn (d .places)
 unfolding takeRefusal
 room-left memory {d} p s g h =
     let fit = or-else-none (deskRefusal (meant p)) (first (fullRefused d)) .0 (or-else-none (first (memoryRefused memory ∷ [])) (or-else (deskRefusal (meant p)) (first (fullRefused d))) .0 h .1) in
     ⊎-elim
     (λ (l : desk-places ≤ held (d .places)). absurd (not-full (leb desk-places (held (d .places))) (leb last-ticket (d .given)) (fit .1) (le-leb desk-places (held (d .places)) l)))
-    (λ (l : held (d .places) < desk-places). empty-in (d .places) (g .places) (omega (arith, s .sixteen)))
+    (λ (l : held (d .places) < desk-places). empty-in (d .places) (g .at) (omega (arith, s .sixteen)))
     (nat-le-or-lt desk-places (held (d .places)))
 
 some-taking : {memory : ℕ} {d : Desk} → FromOpening memory d → (p : List ℕ) → SomeTaking memory d p
@@ -150,7 +103,7 @@ some-taking {memory} {d} o p = go (takeRefusal memory d p) refl
     go zero e =
         let s = from-opening-sound o in
         let w = room-left memory p s (from-opening-going o) e in
-        record { result = _; next = _; moves = taken {i = w .at} e (record { inside = omega (arith, w .inside, s .sixteen); is-empty = w .is-empty; first = w .before }) }
+        record { result = _; next = _; moves = taken {i = w .at} e (record { inside = omega (arith, w .inside, s .sixteen); is-empty = w .is-empty; before = w .before }) }
     go (suc k) e = record { result = _; next = d; moves = TakesIn.turned-away e }
 
 -- ---- a step
@@ -170,7 +123,7 @@ head-step {memory} {i} {d} {rest} o enough head =
     let at : At (d .line) i 0 = rw head (record { inside = omega arith; is = refl }) in
     let w : Waiting d i = s .line .wait at in
     let within = desk-within (w .problem) (waits-fit s (w .there) .0) in
-    let more = of-waits (subst Going (w .there .is) (from-opening-going o .places i)) .1 in
+    let more = of-waits (subst Going (w .there .is) (from-opening-going o .at i)) .1 in
     let go : SomeAnswer (problemOf (w .problem)) → SomeStep memory d = λ a. next-step enough head (w .there) a (more (a .class) (a .trials) (a .span) (a .answers .found)) in
     go (answer-exists (problemOf (w .problem)) (problem-fits (w .problem) within .n-most) (layout-within (w .problem) within))
 

@@ -11,9 +11,10 @@ use Rattle.definitions.specs.Verdict.{accepted}
 use Rattle.definitions.specs.Demands.{Slice, Checker, CheckerJudges}
 use Rattle.definitions.specs.Desk as Desks
 use Rattle.definitions.specs.Desk.{Desk, answered, Stands, FromOpening, TakesIn, Run, take-in, Collects, handed-over, CollectedRight, CollectedAccepted}
-use Rattle.definitions.proofs.Refusals.{desk-within}
+use Rattle.definitions.proofs.Layouts.{desk-within}
 use Rattle.definitions.proofs.Solved.{record-stands}
-use Rattle.desk.proofs.Answered.{desk-holds, run-on}
+use Rattle.tickets.proofs.Reported.{run-on}
+use Rattle.tickets.proofs.Holds.{desk-holds}
 use Rattle.guarantees.proofs.Engine.{accepts-record, accepts-it}
 
 module _ (check : Checker) (judges : CheckerJudges check) where
@@ -28,6 +29,7 @@ module _ (check : Checker) (judges : CheckerJudges check) where
         problem = problem;
         answer = a;
         there = st;
+        bytes-are = record-stands problem before (w .0) a (w .1);
         accepted-is = λ slice. rw (record-stands problem before (w .0) a (w .1)) (accepts-record check judges problem slice (w .0) a (w .1));
       }
 

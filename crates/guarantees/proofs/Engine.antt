@@ -26,7 +26,8 @@ use Rattle.definitions.proofs.Put.{put-front, drop-put}
 use Rattle.definitions.proofs.IdleDay.{meant-some, several-meant}
 use Rattle.definitions.proofs.Inputs.{header-most, header-none}
 use Rattle.definitions.proofs.Questions.{alone-bytes}
-use Rattle.definitions.proofs.Refusals.{or-else-none, problem-fits, within-asks}
+use Rattle.definitions.proofs.Refusals.{or-else-none}
+use Rattle.definitions.proofs.Layouts.{problem-fits, within-asks}
 use Rattle.definitions.proofs.RoundTrip.{answer-back, answer-accepted, answer-length}
 use Rattle.definitions.proofs.Solved.{answer-takes, record-stands, result-parts, none-refused, one-refused, OneAsked, one-asked, asked-takes}
 use Rattle.checker.proofs.Accepting.{record-slice}
@@ -184,14 +185,14 @@ module _ (check : Checker) (judges : CheckerJudges check) (read : Reader) (reads
         class = _;
         span = _;
         answer = a;
+        slice = alone-slice p b o;
         within = o .within;
-        found = ans .found;
+        itself = within-itself (alone p q) (o .within);
+        answers = ans;
         few = trials-few (alone p q) (o .within) (ans .found);
         size-is = answer-length a (nField p) (mField p) answer-most (asked-takes o a ans) ∙ ap (λ (i : ℕ). answerSize i (nField p) (mField p)) (ans .class-is);
         bytes-are = own;
         reads = rw own (rw (o .n-is, o .m-is) at (reads-itself read reads (alone p q) (o .within) a ans));
-        class-is = ans .class-is;
-        span-is = ans .span-is;
         accepted-is = rw own (rw (o .n-is) at (accepts-record check judges (alone p q) (alone-slice p b o) (o .within) a ans));
       }
 

@@ -17,7 +17,7 @@ use Rattle.definitions.specs.Demands.{Word, Words, Numbered, Handed}
 use Rattle.definitions.proofs.Whole.{up, down}
 use Rattle.definitions.proofs.Tropical.{bot-not-fin}
 use Rattle.definitions.proofs.Offset.{trop-fin, trop-read, within-fits, trop-fieldOf, off-bound}
-use Rattle.definitions.proofs.Refusals.{WriterFits}
+use Rattle.definitions.proofs.AnswerFits.{WriterFits}
 use Rattle.definitions.proofs.RoundTrip.{class-most, start-most, span-within, stamps-within, size-most, highest-most}
 use Rattle.answer_reader.specs.Fields.{fieldsOf}
 use Rattle.answer_reader.proofs.ByClass.{stamps-most, picks-most}

@@ -13,7 +13,7 @@ use Rattle.definitions.specs.AnswerRecord.{is-blank, startFits, spanFits, pickC
 use Rattle.definitions.specs.Verdict.{Accepted, optimal, unbounded, infeasible, answerFor, strategyOf}
 use Rattle.definitions.specs.Demands.{Slice, Checker, Accepts, CheckerJudges}
 use Rattle.definitions.proofs.Bytes.{length-numsAt}
-use Rattle.definitions.proofs.Refusals.{AnswerFits, answer-fits}
+use Rattle.definitions.proofs.AnswerFits.{AnswerFits, answer-fits}
 use Rattle.duality.specs.Picks.{NoneAbove}
 use Rattle.duality.proofs.Classes.{accepted-optimal, accepted-infeasible, accepted-unbounded}
 use Rattle.guarantees.specs.ClassHolds as Classes

@@ -25,7 +25,10 @@ use Rattle.definitions.specs.Programs as Programs
 use Rattle.definitions.specs.Programs.{SpanOutput, VerdictOutput, KeptOf, ReadFrom, problemPart, answerPart, cutPlace, refusedLine, verdictLine}
 use Rattle.definitions.specs.Demands.{Slice, Numbered, Demands}
 use Rattle.definitions.proofs.Bytes.{bytes-take, bytes-drop}
-use Rattle.definitions.proofs.Refusals.{or-else-none, or-else-suc, record-fits, one-or-several, one-question, problem-fits, answer-fits, form-fits}
+use Rattle.definitions.proofs.Refusals.{or-else-none, or-else-suc, record-fits}
+use Rattle.definitions.proofs.KnownKinds.{one-or-several}
+use Rattle.definitions.proofs.Layouts.{one-question, problem-fits}
+use Rattle.definitions.proofs.AnswerFits.{answer-fits, form-fits}
 use Rattle.definitions.proofs.RoundTrip.{span-within}
 use Rattle.definitions.proofs.IdleDay.{meant-some}
 use Rattle.definitions.proofs.Inputs.{kept-whole, kept-at, header-agrees, header-most, n-agrees, m-agrees, span-read, verdict-read}

@@ -16,7 +16,7 @@ use Rattle.definitions.specs.Programs.{SpanOutput, VerdictOutput, ReadFrom, ver
 use Rattle.definitions.specs.Demands.{Word, Program, ProgramsAnswer}
 use Rattle.definitions.proofs.Bytes.{numAt-front}
 use Rattle.definitions.proofs.Inputs.{cut-inside}
-use Rattle.definitions.proofs.Refusals.{problem-fits, within-asks, one-question}
+use Rattle.definitions.proofs.Layouts.{problem-fits, within-asks, one-question}
 use Rattle.guarantees.specs.Pipe.{Piped}
 use Rattle.guarantees.proofs.Engine.{verdict-on, within-itself}
 

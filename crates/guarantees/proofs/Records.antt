@@ -10,7 +10,7 @@ use Rattle.definitions.specs.Limits.{answer-most}
 use Rattle.definitions.specs.Bytes.{Outcome, refusal, gives}
 use Rattle.definitions.specs.AnswerRecord.{Answer, answerRefusal, answerOf, answerSize, answerBytes, written, writerRefusal}
 use Rattle.definitions.specs.Demands.{Word, Slice, Reader, Writer, ReaderRefuses, ReadsFields, WriterRefuses, WritesRecord, ReadsBack, WritesBack}
-use Rattle.definitions.proofs.Refusals.{writer-fits}
+use Rattle.definitions.proofs.AnswerFits.{writer-fits}
 use Rattle.definitions.proofs.RoundTrip.{write-read, read-write}
 use Rattle.definitions.proofs.Put.{take-put}
 use Rattle.checker.proofs.Accepting.{record-slice}

@@ -24,7 +24,7 @@ use Rattle.definitions.specs.Verdict.{strategyOf}
 use Rattle.definitions.specs.Solved as Results
 use Rattle.definitions.specs.Solved.{Found, Answers, IdleVariables, IdleRows}
 use Rattle.definitions.proofs.Whole.{up, down, whole, plus-read, neg-read, abs-show}
-use Rattle.definitions.proofs.Refusals.{form-fits}
+use Rattle.definitions.proofs.AnswerFits.{form-fits}
 use Rattle.definitions.proofs.ProblemBack.{listed-length, listed-at}
 use Rattle.duality.specs.Starts.{StartBelow}
 use Rattle.duality.specs.System.{Solves, Solution, Meets, systemAt}

@@ -31,7 +31,7 @@ use Rattle.definitions.proofs.Tropical.{bot-not-fin, fin-injective, fin-below}
 use Rattle.definitions.proofs.Offset.{trop-zero}
 use Rattle.definitions.proofs.Values.{infinite-not-below, whole-below}
 use Rattle.definitions.proofs.Counts.{whole-counts}
-use Rattle.definitions.proofs.Refusals.{answer-fits, writer-fits}
+use Rattle.definitions.proofs.AnswerFits.{answer-fits, writer-fits}
 use Rattle.definitions.proofs.RoundTrip.{writer-accepts, answer-length, answer-bytes, size-most}
 use Rattle.checker.proofs.Answers.{picks-at}
 use Rattle.definitions.proofs.Examples.{anchor-only, not-accepted-M}

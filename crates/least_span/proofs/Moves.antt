@@ -34,7 +34,7 @@ use Rattle.guesses.specs.Guess.{Stamped}
 use Rattle.guesses.proofs.Stamping.{stamped-lows}
 use Rattle.trial_tables.proofs.Raising.{agree-raised, raised-reraised, holds-before, holds-after, holds-within, reraised-refl, reraised-trans}
 use Rattle.least_span.specs.declared.state.Search.{Search}
-use Rattle.least_span.specs.State.{PointAt, Known, Budgeted, Searched, Affordable, Possible, reachedAt, blockedAt, MovedTo, TrialMade, Opened, Advanced, Fallen, Stepped, floorAt}
+use Rattle.least_span.specs.State.{PointAt, Known, Budgeted, Searched, Affordable, Possible, reachedAt, blockedAt, MovedTo, TrialMade, blankSearch, Opened, Advanced, Fallen, Stepped, floorAt}
 use Rattle.least_span.proofs.Trials.{kept-none, kept-down, trial-found, trial-ranged, trial-anchored, tried-blocked, blocked-few, met-second, tried-point}
 use Rattle.least_span.proofs.Budget.{room-after, inside-trialled}
 
@@ -44,18 +44,9 @@ zeros-ranged : Ranged (replicate 32 0)
 zeros-ranged = record { size = length-replicate {A = ℕ} 32 0; near = λ k. rw (zeros 32 k) (near-zero value-limit) }
 
 -- Nothing is known at first.
-pub opening : (rows : ℕ) → Opened rows (record {
-  reached = top-offset + 1;
-  blocked = lowest-offset - 1;
-  floor = lowest-offset;
-  made = 0;
-  room = 2 ^ most-trials;
-  point = replicate 32 0;
-  kept = replicate 32 rows;
-  blocking = replicate 32 rows;
-  start = 0;
-})
+pub opening : (rows : ℕ) → Opened rows (blankSearch rows)
 opening rows = record {
+  is = refl;
   searched = λ f left right e y. record {
     numbers = record {
       lowest = omega arith;
@@ -129,7 +120,7 @@ module _ (f : Frame) (t : ℕ) (left right right′ x picks : List ℕ) (s : Sea
     counted = refl;
     halved = refl;
     floor-same = refl;
-    moved = inl (refl, refl);
+    moved = inl (refl, refl, refl, refl);
   }
 
   -- One that is not.
@@ -162,7 +153,7 @@ module _ (f : Frame) (t : ℕ) (left right right′ x picks : List ℕ) (s : Sea
     counted = refl;
     halved = refl;
     floor-same = refl;
-    moved = inr (refl, refl);
+    moved = inr (refl, refl, refl, refl);
   }
 
   -- The search after a trial.

@@ -5,7 +5,7 @@ use mathlib.Core.Bool.{Bool, true, false, cond}
 use mathlib.Core.Logic.{_⊎_}
 use mathlib.Core.List.{List}
 use lib.Dec.{eqb}
-use lib.ListN.{length, getD}
+use lib.ListN.{length, getD, replicate}
 use Rattle.definitions.specs.Limits.{stamp-limit, most-trials, stride}
 use Rattle.definitions.specs.Problem.{Problem}
 use Rattle.definitions.specs.Certificate.{Second, startOf}
@@ -115,6 +115,12 @@ blockedAt s t values picks = record {
 pub record MovedTo (s : Search) (t : ℕ) (objective : List ℕ) (width : ℕ) (values picks : List ℕ) (r : Search) : Type 0 where
   pub moved : ((Possible objective values width) × (r ≡ reachedAt s t values picks)) ⊎ ((Possible objective values width → ⊥) × (r ≡ blockedAt s t values picks))
 
+-- The bracket moved at t: t is reached now, and what blocks stays; or t is blocked now, and what reached stays.
+abbrev pub BracketMoved : Search → ℕ → Search → Type 0
+BracketMoved s t r =
+    ((r .reached ≡ t) × (r .blocked ≡ s .blocked) × (r .blocking ≡ s .blocking) × (r .start ≡ s .start))
+    ⊎ ((r .reached ≡ s .reached) × (r .blocked ≡ t) × (r .point ≡ s .point) × (r .kept ≡ s .kept))
+
 -- A trial was made at t: the count of trials rose by one, and `reached` or `blocked` is now t.
 pub record TrialMade (f : Frame) (left before after : List ℕ) (s : Search) (t : ℕ) (r : Search) : Type 0 where
   pub raised : Reraised f left before after
@@ -122,12 +128,26 @@ pub record TrialMade (f : Frame) (left before after : List ℕ) (s : Search) (t 
   pub counted : r .made ≡ s .made + 1
   pub halved : r .room ≡ s .room / 2
   pub floor-same : r .floor ≡ s .floor
-  pub moved : ((r .reached ≡ t) × (r .blocked ≡ s .blocked)) ⊎ ((r .reached ≡ s .reached) × (r .blocked ≡ t))
+  pub moved : BracketMoved s t r
 
 -- ---- the opening
 
--- Nothing is known, and no trial made.
+-- Nothing is known, and no trial made: the point is blank, and the strategy has no picks.
+abbrev pub blankSearch : ℕ → Search
+blankSearch rows = record {
+  reached = top-offset + 1;
+  blocked = lowest-offset - 1;
+  floor = lowest-offset;
+  made = 0;
+  room = 2 ^ most-trials;
+  point = replicate stride 0;
+  kept = replicate stride rows;
+  blocking = replicate stride rows;
+  start = 0;
+}
+
 pub record Opened (rows : ℕ) (s : Search) : Type 0 where
+  pub is : s ≡ blankSearch rows
   pub searched : (f : Frame) (left right : List ℕ) → f .m + 1 ≡ rows → Ready f left right → Searched f left right s
   pub reached-is : s .reached ≡ top-offset + 1
   pub blocked-is : s .blocked + 1 ≡ lowest-offset

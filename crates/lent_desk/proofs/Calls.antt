@@ -19,8 +19,8 @@ use Rattle.desk.specs.declared.calls.Stepped.the-variants as Steppings
 use Rattle.desk.specs.declared.calls.Collected.{Collected}
 use Rattle.desk.specs.declared.calls.Collected.the-variants as Collections
 use Rattle.desk.specs.State.{Arrays, headOf, OthersStay, Holds}
-use Rattle.desk.specs.Calls.{Left, takenOf, steppedOf, collectedOf, OpenedBy, TookIn, DidStep, FreedAt, DidCollect}
-use Rattle.desk.proofs.Answered.{desk-holds}
+use Rattle.desk.specs.Calls.{Left, takenOf, steppedOf, collectedOf, OpenedBy, TookIn, SearchBegun, HeadTried, DidStep, FreedAt, DidCollect}
+use Rattle.tickets.proofs.Holds.{desk-holds}
 use Rattle.desk.proofs.Holding.{first-empty}
 use Rattle.desk.proofs.Taking.{memory-enough}
 use Rattle.desk_words.specs.Words.{desk-words, deskFrom, DeskPut}
@@ -30,17 +30,9 @@ use Rattle.lent_desk.specs.Entries.{AsLent, OpenedAs, TakenFrom, TakenAs
 pub left-as : {memory words : List ℕ} {d : Desk} → AsLent memory words → desk-words ≤ length words → d ≡ deskFrom words → desk-memory ≤ length memory → Left d memory
 left-as lent w e h = rw e (lent .left w h)
 
--- What stays of the desk stays of the words.
-stay-words : {words after : List ℕ} {d d′ : Desk} {told : ℕ} (at : Desk → ℕ) → d ≡ deskFrom words → DeskPut d′ told words after → OthersStay d (at d) d′
-    → OthersStay (deskFrom words) (at (deskFrom words)) (deskFrom after)
-stay-words {words} {after} {d} {d′} at e put s =
-    let old : OthersStay (deskFrom words) (at (deskFrom words)) d′ = subst (λ (z : Desk). OthersStay z (at z) d′) e s in
-    subst (λ (z : Desk). OthersStay (deskFrom words) (at (deskFrom words)) z) (sym (put .back)) old
-
-freed-words : {words after : List ℕ} {d d′ : Desk} {told ticket : ℕ} → d ≡ deskFrom words → DeskPut d′ told words after → FreedAt d ticket d′ → FreedAt (deskFrom words) ticket (deskFrom after)
-freed-words {words} {after} {d} {d′} {told} {ticket} e put s =
-    let old : FreedAt (deskFrom words) ticket d′ = subst (λ (z : Desk). FreedAt z ticket d′) e s in
-    subst (λ (z : Desk). FreedAt (deskFrom words) ticket z) (sym (put .back)) old
+-- What is said of a desk before and after is said of the words.
+over-words : {words after : List ℕ} {d d′ : Desk} {told : ℕ} (P : Desk → Desk → Type 0) → d ≡ deskFrom words → DeskPut d′ told words after → P d d′ → P (deskFrom words) (deskFrom after)
+over-words {words} {after} {d} {d′} P e put s = subst (P (deskFrom words)) (sym (put .back)) (subst (λ (z : Desk). P z d′) e s)
 
 -- ---- opening
 
@@ -78,7 +70,7 @@ module _ {memory words p memory′ : List ℕ} {d d′ : Desk} {r : TakenIn} (h 
       (λ state o g.
       let s = t .moves h state o (rw e g) in
       let a = t .enters f in
-      TakenFrom.taken (rw is at (s .takes)) (first-empty {d = d} {memory = memory} {state = state} (rw e g) (a .free) (a .inside)) (a .memory-is) (t .same-length) (stay-words (λ _. a .at) e put (a .others)) (record { desk = d′; holds = s .holds; stored = put })))
+      TakenFrom.taken (rw is at (s .takes)) (first-empty {d = d} {memory = memory} {state = state} (rw e g) (a .free) (a .inside)) (a .memory-is) (t .same-length) (over-words (λ z w. SearchBegun p (a .at) w) e put (a .begun)) (over-words (λ z w. OthersStay z (a .at) w) e put (a .others)) (record { desk = d′; holds = s .holds; stored = put })))
 
 -- ---- a step
 
@@ -115,13 +107,13 @@ module _ {memory words : List ℕ} {d d′ : Desk} {r : Stepped} (h : desk-memor
   unfolding steppedOf
   on-words {told} f n put =
       let is : steppedOf r ≡ Machine.goes-on told = rw f refl in
-      rw n (SteppedAs.moves h w (λ state o g. let s = t .moves h state o (rw e g) in SteppedFrom.goes-on (rw is at (s .steps)) (stay-words headOf e put (t .others)) (record { desk = d′; holds = s .holds; stored = put })))
+      rw n (SteppedAs.moves h w (λ state o g. let s = t .moves h state o (rw e g) in SteppedFrom.goes-on (rw is at (s .steps)) (over-words (λ z w. HeadTried z memory w) e put (t .trial h (λ z. absurd (let e : _≡_ {A = ℕ} 0 1 = cc in omega arith)))) (over-words (λ z w. OthersStay z (headOf z) w) e put (t .others)) (record { desk = d′; holds = s .holds; stored = put })))
 
   pub done-words : {told number : ℕ} {after : List ℕ} → r ≡ Steppings.Done told → number ≡ done-number → DeskPut d′ told words after → SteppedAs memory words number after
   unfolding steppedOf
   done-words {told} f n put =
       let is : steppedOf r ≡ Machine.done told = rw f refl in
-      rw n (SteppedAs.moves h w (λ state o g. let s = t .moves h state o (rw e g) in SteppedFrom.done (rw is at (s .steps)) (stay-words headOf e put (t .others)) (record { desk = d′; holds = s .holds; stored = put })))
+      rw n (SteppedAs.moves h w (λ state o g. let s = t .moves h state o (rw e g) in SteppedFrom.done (rw is at (s .steps)) (over-words (λ z w. HeadTried z memory w) e put (t .trial h (λ z. absurd (let e : _≡_ {A = ℕ} 0 1 = cc in omega arith)))) (over-words (λ z w. OthersStay z (headOf z) w) e put (t .others)) (record { desk = d′; holds = s .holds; stored = put })))
 
 -- ---- collecting
 
@@ -195,4 +187,4 @@ module _ {memory words : List ℕ} {ticket : ℕ} {buffer buffer′ : List ℕ} 
       (CollectedAs.moves h w
       (λ state o g.
       let s = t .moves h state o (rw e g) in
-      CollectedFrom.handed (rw is at (s .collects)) (freed-words e put (t .frees f)) (record { desk = d′; holds = s .holds; stored = put })))
+      CollectedFrom.handed (rw is at (s .collects)) (over-words (λ z w. FreedAt z ticket w) e put (t .frees f)) (record { desk = d′; holds = s .holds; stored = put })))

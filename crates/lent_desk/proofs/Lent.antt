@@ -21,7 +21,7 @@ opened-lent (OpenedAs.opens w o s) = record { left = λ _ _. stored-left s (reco
 
 taken-next : {memory words p memory′ after : List ℕ} {state : Machine.Desk} {number : ℕ} → AsLent memory words → FromOpening (length memory) state → TakenFrom memory words p state number memory′ after → AsLent memory′ after
 taken-next lent o (TakenFrom.refused t) = lent
-taken-next {memory = memory} lent o (TakenFrom.taken {next = next} t first m e others s) =
+taken-next {memory = memory} lent o (TakenFrom.taken {next = next} t first m e begun others s) =
     record { left = λ _ _. stored-left s (subst (λ (n : ℕ). FromOpening n next) (sym e) (record { steps = o .steps; run = Run.take-in (o .run) t })) }
 
 pub taken-lent : {memory words p memory′ after : List ℕ} {number : ℕ} → AsLent memory words → TakenAs memory words p number memory′ after → AsLent memory′ after
@@ -31,8 +31,8 @@ taken-lent lent (TakenAs.moves h w m) = let l = lent .left w h in taken-next len
 
 stepped-next : {memory words after : List ℕ} {state : Machine.Desk} {number : ℕ} → AsLent memory words → FromOpening (length memory) state → SteppedFrom memory words state number after → AsLent memory after
 stepped-next lent o (SteppedFrom.idle t) = lent
-stepped-next lent o (SteppedFrom.goes-on t others s) = record { left = λ _ _. stored-left s (record { steps = suc (o .steps); run = Run.one-step (o .run) t }) }
-stepped-next lent o (SteppedFrom.done t others s) = record { left = λ _ _. stored-left s (record { steps = suc (o .steps); run = Run.one-step (o .run) t }) }
+stepped-next lent o (SteppedFrom.goes-on t tried others s) = record { left = λ _ _. stored-left s (record { steps = suc (o .steps); run = Run.one-step (o .run) t }) }
+stepped-next lent o (SteppedFrom.done t tried others s) = record { left = λ _ _. stored-left s (record { steps = suc (o .steps); run = Run.one-step (o .run) t }) }
 
 pub stepped-lent : {memory words after : List ℕ} {number : ℕ} → AsLent memory words → SteppedAs memory words number after → AsLent memory after
 stepped-lent lent (SteppedAs.short h) = lent

@@ -10,7 +10,7 @@ use Rattle.definitions.specs.Desk as Machine
 use Rattle.definitions.specs.Desk.{FirstEmpty, FromOpening, Opens, TakesIn, Steps, Collects}
 use Rattle.desk.specs.declared.state.Desk.{Desk}
 use Rattle.desk.specs.State.{headOf, OthersStay, Holds}
-use Rattle.desk.specs.Calls.{AsLeft, FreedAt}
+use Rattle.desk.specs.Calls.{AsLeft, SearchBegun, HeadTried, FreedAt}
 use Rattle.desk_words.specs.Words.{desk-words, deskFrom, DeskPut}
 
 -- ---- numbers
@@ -54,12 +54,12 @@ pub data OpenedAs (memory words : List ℕ) : ℕ → List ℕ → Type 0 where
       → OpenedAs memory words 0 after
 
 -- Taking in, from the state of the machine that memory and words hold: the refusal, and both as they were; or 0, with the ticket told, the
--- problem put into the memory at the first empty place, and every other byte and every other place as it was.
+-- problem put into the memory at the first empty place, its search begun there, and every other byte and every other place as it was.
 pub data TakenFrom (memory words p : List ℕ) (state : Machine.Desk) : ℕ → List ℕ → List ℕ → Type 0 where
   refused : {k : ℕ} → TakesIn (length memory) state p (Machine.TakenIn.refused k) state → TakenFrom memory words p state k memory words
   taken :
       {told at : ℕ} {next : Machine.Desk} {memory′ after : List ℕ} → TakesIn (length memory) state p (Machine.ticket told) next
-      → FirstEmpty state at → memory′ ≡ put memory (at * problem-most) p → length memory′ ≡ length memory
+      → FirstEmpty state at → memory′ ≡ put memory (at * problem-most) p → length memory′ ≡ length memory → SearchBegun p at (deskFrom after)
       → OthersStay (deskFrom words) at (deskFrom after) → Stored words memory′ next told after → TakenFrom memory words p state 0 memory′ after
 
 pub data TakenAs (memory words p : List ℕ) : ℕ → List ℕ → List ℕ → Type 0 where
@@ -70,16 +70,17 @@ pub data TakenAs (memory words p : List ℕ) : ℕ → List ℕ → List ℕ →
       → ((state : Machine.Desk) → FromOpening (length memory) state → Holds (deskFrom words) memory state → TakenFrom memory words p state number memory′ after)
       → TakenAs memory words p number memory′ after
 
--- A step: 0 and the words as they were where none waits; else 256 or 512, with the ticket told, and every place but the head's as it was.
+-- A step: 0 and the words as they were where none waits; else 256 or 512, with the ticket told, the head's place after its next trial, and
+-- every other as it was.
 pub data SteppedFrom (memory words : List ℕ) (state : Machine.Desk) : ℕ → List ℕ → Type 0 where
   idle : Steps (length memory) state Machine.none-waits state → SteppedFrom memory words state 0 words
   goes-on :
       {told : ℕ} {next : Machine.Desk} {after : List ℕ} → Steps (length memory) state (Machine.goes-on told) next
-      → OthersStay (deskFrom words) (headOf (deskFrom words)) (deskFrom after) → Stored words memory next told after
+      → HeadTried (deskFrom words) memory (deskFrom after) → OthersStay (deskFrom words) (headOf (deskFrom words)) (deskFrom after) → Stored words memory next told after
       → SteppedFrom memory words state goes-on-number after
   done :
       {told : ℕ} {next : Machine.Desk} {after : List ℕ} → Steps (length memory) state (Machine.done told) next
-      → OthersStay (deskFrom words) (headOf (deskFrom words)) (deskFrom after) → Stored words memory next told after
+      → HeadTried (deskFrom words) memory (deskFrom after) → OthersStay (deskFrom words) (headOf (deskFrom words)) (deskFrom after) → Stored words memory next told after
       → SteppedFrom memory words state done-number after
 
 pub data SteppedAs (memory words : List ℕ) : ℕ → List ℕ → Type 0 where

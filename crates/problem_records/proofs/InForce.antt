@@ -20,7 +20,7 @@ use Rattle.definitions.specs.ProblemRecord.{kindField, nField, mField, stateFie
 use Rattle.definitions.specs.Questions.{rowsSize}
 use Rattle.definitions.proofs.Bytes.{numAt-same}
 use Rattle.definitions.proofs.Agree.{Agree}
-use Rattle.definitions.proofs.Refusals.{left-within, right-within}
+use Rattle.definitions.proofs.Layouts.{left-within, right-within}
 use Rattle.definitions.proofs.Suspended.{plain-left, plain-right}
 use Rattle.definitions.proofs.ProblemBack.{read-kind, read-n, read-m}
 use Rattle.problem_records.specs.Tables.{cell, cellOf, leadAt, leftTable, rightTable, Laid}

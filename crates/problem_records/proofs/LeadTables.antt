@@ -17,7 +17,7 @@ use Rattle.definitions.specs.Offset.{tropOf}
 use Rattle.definitions.specs.ProblemRecord.{kindField, nField, mField, leadsPlace, leftFrom, rightFrom, leftPlace, rightPlace, suspended, listOf, WithinLayout, problemOf}
 use Rattle.definitions.proofs.Bytes.{numAt-bound}
 use Rattle.definitions.proofs.Offset.{trop-off, trop-zero}
-use Rattle.definitions.proofs.Refusals.{problem-fits, left-within, right-within}
+use Rattle.definitions.proofs.Layouts.{problem-fits, left-within, right-within}
 use Rattle.definitions.proofs.Suspended.{plain-left, plain-right, stands-left, stands-right}
 use Rattle.problem_records.specs.Tables.{cell, cellOf, leadAt, leftTable, rightTable, Laid}
 use Rattle.records.specs.Decoded.{Near, Decoded}

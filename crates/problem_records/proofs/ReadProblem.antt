@@ -15,7 +15,9 @@ use Rattle.definitions.specs.ProblemRecord as Problems
 use Rattle.definitions.specs.ProblemRecord.{Kinds, checker-kinds, kindField, nField, mField, countField, leadsPlace, questionsAsked, layoutOf, rowPlace, leftPlace, rightPlace, leadsOf, headerRefusal, headerOutcome, wrong-state, stateRefused, leadRefused, blank-left, silentRefused, refusalFor, problemRefusal, problemOutcome}
 use Rattle.definitions.specs.Questions.{alone, asking}
 use Rattle.definitions.proofs.Inputs.{header-none}
-use Rattle.definitions.proofs.Refusals.{or-else-suc, or-else-none, problem-fits, header-passes, KnownKind, kind-known, OneKind, size-one, within-one, left-within, right-within}
+use Rattle.definitions.proofs.Refusals.{or-else-suc, or-else-none, header-passes}
+use Rattle.definitions.proofs.KnownKinds.{kind-known, KnownKind, OneKind, size-one}
+use Rattle.definitions.proofs.Layouts.{problem-fits, within-one, left-within, right-within}
 use Rattle.definitions.proofs.Suspended.{plain-left, plain-right}
 use Rattle.definitions.proofs.Silent.{some-same}
 use Rattle.definitions.proofs.Questions.{several-passes}

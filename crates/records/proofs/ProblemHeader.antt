@@ -2,22 +2,26 @@
 use Prim.Native.Nat.{ℕ, zero, suc, _+_, _*_, _≤_, _<_}
 use mathlib.Core.Path.{_≡_, refl, ap, sym, _∙_}
 use mathlib.Core.List.{List}
+use lib.ListN.{length}
 use native.Mathlib.Omega.{arith}
 use native.Mathlib.Nat.{mul-le-mul-left, mul-le-mul-right}
 use mathlib.Core.Bool.{Bool, true, false, _&&_, _||_}
 use borrow.Author.Tests.{ne-eqb, eq-eqb}
 use mathlib.Core.Logic.{_⊎_, inl, inr, ⊎-elim}
-use Rattle.definitions.specs.Limits.{highest-n, highest-m, stride, table-rows, table-size, signed-bytes, short-bytes, problem-kind, questions-kind, states-kind, states-place, most-questions, problem-header, questions-header, leads-latest}
+use Rattle.definitions.specs.Limits.{highest-n, highest-m, kept-bytes, stride, table-rows, table-size, signed-bytes, short-bytes, problem-kind, questions-kind, states-kind, states-place, most-questions, problem-header, questions-header, leads-latest}
 use Rattle.definitions.specs.Bytes.{Outcome, outcome}
 use Rattle.definitions.specs.ProblemRecord.{Kinds, checker-kinds, AsksOne, lengthField, kindField, nField, mField, countField, leadsPlace, questionsAsked, known-kind, wrong-count, layoutOf, headerRefusal, headerJudged, headerOutcome}
 use Rattle.definitions.specs.ProblemRecord as Problems
+use Rattle.definitions.specs.Programs.{KeptOf}
+use Rattle.definitions.proofs.Inputs.{kept-at, header-agrees, header-most}
 use Rattle.definitions.proofs.Outcomes.{outcome-none, outcome-some, outcome-gives, outcome-refusal}
-use Rattle.definitions.proofs.Refusals.{header-passes, few-questions, kind-known, kind-one, one-asks, one-or-several, leads-place-least, leads-place-most}
+use Rattle.definitions.proofs.Refusals.{header-passes}
+use Rattle.definitions.proofs.KnownKinds.{kind-known, few-questions, kind-one, one-asks, one-or-several, leads-place-least, leads-place-most}
 use Rattle.records.specs.declared.problem.Layout.{Layout}
 use Rattle.records.specs.declared.problem.Fields.{Fields}
 use Rattle.records.specs.declared.problem.Header.{Header}
 use Rattle.records.specs.declared.problem.Header.the-variants.{Told, Refused}
-use Rattle.records.specs.ProblemHeader.{layoutIn, layoutBy, headerOf, FieldsAt}
+use Rattle.records.specs.ProblemHeader.{layoutIn, layoutBy, problemRefused, headerOf, FieldsAt}
 
 -- No refusal: the layout.
 pub header-told : (refusal : ℕ) (l : Layout) → refusal ≡ 0 → headerOf (Told l) ≡ outcome refusal (layoutIn l)
@@ -117,6 +121,17 @@ header-fits kinds s size e f = let g = answer-told (headerRefusal kinds s size) 
 pub header-refuses : (kinds : Kinds) (s : List ℕ) (size : ℕ) {r : Header} {k : ℕ} → headerOf r ≡ headerOutcome kinds s size → r ≡ Refused k → (headerRefusal kinds s size ≡ k) × (0 < k)
 unfolding headerOutcome
 header-refuses kinds s size e f = answer-refused (headerRefusal kinds s size) (layoutOf s) e f
+
+-- ---- an input of which the first bytes were kept
+
+-- One that is longer is refused by its header: no record is that long.
+pub long-header : (kinds : Kinds) {kept input : List ℕ} {size : ℕ} (header : Header) {r : ℕ} → KeptOf kept size input → kept-bytes < size
+    → headerOf header ≡ headerOutcome kinds kept size → r ≡ problemRefused header → (headerRefusal kinds input (length input) ≡ r) × (0 < r)
+unfolding problemRefused
+long-header kinds {kept} {input} {size} (Told l) k h e g = absurd (omega (arith, header-most kinds kept size (header-fits kinds kept size e refl .none)))
+long-header kinds {kept} {input} {size} (Refused j) k h e g =
+    let q = header-refuses kinds kept size e refl in
+    (ap (headerRefusal kinds input) (k .size-is) ∙ header-agrees kinds input kept (λ i b. kept-at k h i (omega arith)) size ∙ q .0 ∙ sym g, omega (arith, q .1))
 
 -- ---- by kind
 

@@ -23,7 +23,7 @@ use Rattle.class_answers.specs.declared.answer.Answer.{Answer}
 use Rattle.class_answers.specs.Answered.{Settled, LeastShown}
 use Rattle.class_answers.proofs.Shared.{enough}
 use Rattle.search_steps.specs.declared.steps.Trial.{Trial}
-use Rattle.search_steps.specs.Steps.{Underway, NextIs, MovedNext, leastOf, ClosedBy, TrialOn, Pursued, TrialOf}
+use Rattle.search_steps.specs.Steps.{Underway, NextIs, MovedNext, leastOf, blankAnswer, ClosedBy, TrialOn, Pursued, TrialOf}
 use Rattle.search_steps.proofs.Trying.{stays-open, top-first, lowest-second}
 use Rattle.search_steps.proofs.Found.{top-trials, lowest-trials}
 
@@ -101,6 +101,7 @@ pursued-searched o g = record { numbers = g .numbers; known = λ p q. g .known p
 pub trial-of : {f : Frame} {n m : ℕ} {left right : List ℕ} {s : Search} {r : Trial} → FrameOf n m left right f → TrialOn f left right s r → TrialOf n m left right s r
 trial-of {f} {n} {m} {left} {right} {s} {r} o g = record {
   bracket = g .bracket;
+  unanswered = g .unanswered;
   goes-on = λ e. let w = g .goes-on e in (record { numbers = w .0 .numbers; underway = w .1; known = λ p q. w .0 .known p (held-holds o q) }, w .2);
   ends = λ e. let w = g .ends e in record { answers = λ p q. rw (← o .n-is, ← o .m-is) (w .answers p (held-holds o q)); trials-is = w .trials-is; made-is = w .made-is };
 }
@@ -108,11 +109,11 @@ trial-of {f} {n} {m} {left} {right} {s} {r} o g = record {
 -- A trial that closed the search, and one that left it open.
 pub trial-closed : {f : Frame} {left right : List ℕ} {s now : Search} {a : Answer} → MovedNext s now → ClosedBy (λ p. Holds p f left right) (f .n) (f .m) (s .made) a
     → TrialOn f left right s (record { closed = true; search = now; answer = a })
-trial-closed m g = record { bracket = m; goes-on = λ e. absurd (true-not-false e); ends = λ e. g }
+trial-closed m g = record { bracket = m; goes-on = λ e. absurd (true-not-false e); unanswered = λ e. absurd (true-not-false e); ends = λ e. g }
 
-pub trial-open : {f : Frame} {left right : List ℕ} {s now : Search} {a : Answer} → MovedNext s now → Searched f left right now × Underway now × (now .made ≡ s .made + 1)
+pub trial-open : {f : Frame} {left right : List ℕ} {s now : Search} {a : Answer} → MovedNext s now → Searched f left right now × Underway now × (now .made ≡ s .made + 1) → a ≡ blankAnswer
     → TrialOn f left right s (record { closed = false; search = now; answer = a })
-trial-open m g = record { bracket = m; goes-on = λ e. g; ends = λ e. absurd (true-not-false (sym e)) }
+trial-open m g b = record { bracket = m; goes-on = λ e. g; unanswered = λ e. b; ends = λ e. absurd (true-not-false (sym e)) }
 
 -- ---- at first
 

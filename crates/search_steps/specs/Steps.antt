@@ -4,6 +4,8 @@ use mathlib.Core.Path.{_≡_}
 use mathlib.Core.Bool.{true, false}
 use mathlib.Core.Logic.{_⊎_}
 use mathlib.Core.List.{List}
+use lib.ListN.{replicate}
+use Rattle.definitions.specs.Limits.{stride, table-rows}
 use Rattle.definitions.specs.Problem.{Problem}
 use Rattle.definitions.specs.Offset.{tropOf}
 use Rattle.definitions.specs.Solved.{Answers}
@@ -11,7 +13,7 @@ use Rattle.trial_tables.specs.declared.frame.Frame.{Frame}
 use Rattle.trial_tables.specs.Frames.{top-offset, lowest-offset, Holds, Held}
 use Rattle.least_span.specs.declared.state.Search.{Search}
 use Rattle.least_span.specs.declared.halving.Least.{Least}
-use Rattle.least_span.specs.State.{Known, Budgeted, Searched}
+use Rattle.least_span.specs.State.{Known, Budgeted, Searched, BracketMoved}
 use Rattle.least_span.specs.Halving.{Counted}
 use Rattle.class_answers.specs.declared.answer.Answer.{Answer}
 use Rattle.class_answers.specs.Answered.{answerIn}
@@ -39,11 +41,15 @@ pub record NextIs (s : Search) (t : ℕ) : Type 0 where
 
 -- The bracket moved at that trial: it is reached now, or blocked.
 pub record MovedNext (s r : Search) : Type 0 where
-  pub moved : (t : ℕ) → NextIs s t → ((r .reached ≡ t) × (r .blocked ≡ s .blocked)) ⊎ ((r .reached ≡ s .reached) × (r .blocked ≡ t))
+  pub moved : (t : ℕ) → NextIs s t → BracketMoved s t r
 
 -- What is reached, as the least span.
 abbrev pub leastOf : Search → Least
 leastOf s = record { span = s .reached; trials = s .made; made = s .made; point = s .point; blocking = s .blocking; start = s .start }
+
+-- An answer that says nothing, of a search that is open.
+abbrev pub blankAnswer : Answer
+blankAnswer = record { class = 0; span = 0; start = 0; trials = 0; made = 0; stamps = replicate stride 0; picks = replicate table-rows 0 }
 
 -- An answer after one trial more, the last that its class and span ask for.
 pub record ClosedBy (Stands : Problem → Type 0) (n m own : ℕ) (a : Answer) : Type 0 where
@@ -56,6 +62,7 @@ pub record ClosedBy (Stands : Problem → Type 0) (n m own : ℕ) (a : Answer) :
 pub record TrialOn (f : Frame) (left right : List ℕ) (s : Search) (r : Trial) : Type 0 where
   pub bracket : MovedNext s (r .search)
   pub goes-on : r .closed ≡ false → Searched f left right (r .search) × Underway (r .search) × (r .search .made ≡ s .made + 1)
+  pub unanswered : r .closed ≡ false → r .answer ≡ blankAnswer
   pub ends : r .closed ≡ true → ClosedBy (λ p. Holds p f left right) (f .n) (f .m) (s .made) (r .answer)
 
 -- A search of every problem that the tables hold.
@@ -68,4 +75,5 @@ pub record Pursued (n m : ℕ) (left right : List ℕ) (s : Search) : Type 0 whe
 pub record TrialOf (n m : ℕ) (left right : List ℕ) (s : Search) (r : Trial) : Type 0 where
   pub bracket : MovedNext s (r .search)
   pub goes-on : r .closed ≡ false → Pursued n m left right (r .search) × (r .search .made ≡ s .made + 1)
+  pub unanswered : r .closed ≡ false → r .answer ≡ blankAnswer
   pub ends : r .closed ≡ true → ClosedBy (λ p. Held p n m left right) n m (s .made) (r .answer)

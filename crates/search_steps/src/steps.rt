@@ -4,7 +4,7 @@ ghost use mathlib.Core.Bool.{true};
 ghost use Prim.Native.Nat.{_+_};
 ghost use Rattle.trial_tables.specs.Frames.{Coefficients, Ready};
 ghost use Rattle.least_span.specs.State.{Budgeted, Searched};
-ghost use Rattle.search_steps.specs.Steps.{Underway, NextIs, leastOf, Pursued, TrialOn, TrialOf};
+ghost use Rattle.search_steps.specs.Steps.{Underway, NextIs, leastOf, blankAnswer, Pursued, TrialOn, TrialOf};
 use class_answers::answer::Answer;
 use class_answers::answer::infeasible;
 use class_answers::answer::least_answer;
@@ -29,7 +29,7 @@ pub struct Trial {
 
 // An answer that says nothing, of a search that is open. Public for the engine's `one_trial`.
 pub fn no_answer() -> Answer
-    ensures { λ r. ⌜ (r .class ≡ 0) × (r .span ≡ 0) × (r .trials ≡ 0) × (r .made ≡ 0) ⌝ }
+    ensures { λ r. ⌜ r ≡ blankAnswer ⌝ }
 {
     Answer {
         class: 0,

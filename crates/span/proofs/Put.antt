@@ -12,7 +12,8 @@ use Rattle.definitions.specs.AnswerRecord.{written}
 use Rattle.definitions.specs.Programs.{SpanOutput, refusal, answer, answers, refusedLine}
 use Rattle.definitions.specs.Solved as Results
 use Rattle.definitions.specs.Solved.{Solves, turned-away, solved, all-solved, engineRefusal}
-use Rattle.definitions.proofs.Refusals.{or-else-suc, one-question}
+use Rattle.definitions.proofs.Refusals.{or-else-suc}
+use Rattle.definitions.proofs.Layouts.{one-question}
 use Rattle.definitions.proofs.Solved.{none-refused, asked-few}
 use Rattle.definitions.proofs.Put.{length-put}
 use Rattle.engine.specs.Outcome.{solvedOf}

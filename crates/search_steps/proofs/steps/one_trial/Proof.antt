@@ -22,4 +22,4 @@ one-trial-spec =
     (λ c κs. search needs)
     (λ c. let p = c .before .before .before .before .before .before .before .before .before .before .before .before .before .pre in let i = c .before .before .before .before .before .before .before .before .before .before .before .before .next-trial .ensures in let t = c .before .before .before .before .before .before .before .before .before .before .try-at .ensures in rw (c .closed3 .ensures) (trial-closed (moved-next i t) (closed-least (p .1 .numbers) (p .2) i t (c .before .before .before .least-of .ensures) (c .before .least-answer .ensures .0))))
     (λ c κs. search needs)
-    (λ c. let p = c .before .before .before .before .before .before .before .before .before .before .pre in let i = c .before .before .before .before .before .before .before .before .before .next-trial .ensures in let t = c .before .before .before .before .before .before .before .try-at .ensures in trial-open (moved-next i t) (open-still (p .1 .numbers) (p .2) i t (stays-open (p .1 .numbers) (p .2) i t (c .before .before .before .before .before .if1 .left) (c .before .before .before .if2 .left) (c .before .if3 .left)))))
+    (λ c. let p = c .before .before .before .before .before .before .before .before .before .before .pre in let i = c .before .before .before .before .before .before .before .before .before .next-trial .ensures in let t = c .before .before .before .before .before .before .before .try-at .ensures in trial-open (moved-next i t) (open-still (p .1 .numbers) (p .2) i t (stays-open (p .1 .numbers) (p .2) i t (c .before .before .before .before .before .if1 .left) (c .before .before .before .if2 .left) (c .before .if3 .left))) (c .no-answer .ensures)))

@@ -4,11 +4,10 @@ use mathlib.Core.Path.{_≡_, refl, sym, subst, _∙_}
 use mathlib.Core.Logic.{_⊎_, inl, inr, ⊎-elim}
 use mathlib.Core.List.{List, [], _∷_, _++_}
 use native.Mathlib.Omega.{arith}
-use native.Mathlib.Decide.{ℕ-discrete}
 use lib.ListN.{length, getD, length-append, List·getD-append}
 use lib.Seq.{getD-append-add}
 use Rattle.base.proofs.Numbers.{nat-le-or-lt}
-use Rattle.duality.proofs.Pigeonhole.{Repeat, pigeonhole}
+use Rattle.duality.proofs.Pigeonhole.{pigeonhole}
 
 -- Number i stands at place q of the line.
 pub record At (line : List ℕ) (i q : ℕ) : Type 0 where

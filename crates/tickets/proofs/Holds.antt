@@ -1,0 +1,44 @@
+-- All that document 02 says of every sequence of calls on a desk.
+use Rattle.definitions.specs.Desk.{DeskHolds}
+use Rattle.duality.proofs.Classes.{found-one}
+use Rattle.tickets.proofs.Sound.{desk-few, waits-fit, answered-fit, from-opening-sound}
+use Rattle.tickets.proofs.Reported.{reported-by-trials, reported-within, waiting-or-reported}
+use Rattle.tickets.proofs.Turns.{turns-waiting, turns-answered}
+use Rattle.tickets.proofs.Changes.{stepped-given, collected-given}
+use Rattle.tickets.proofs.Tickets.{waits-mine, answered-mine, held-some, from-opening-apart, collected-gone, tickets-later, tickets-next}
+use Rattle.tickets.proofs.Places.{freed-usable, room-ticket, kept-or-handed, reported-answered}
+use Rattle.tickets.proofs.Outcomes.{waiting-still, idle-still, unheld-still, handed-so, short-still, refused-taking, refused-collects}
+
+pub desk-holds : DeskHolds
+desk-holds = record {
+  own-trials = λ f st. waits-fit (from-opening-sound f) st .1;
+  trials-of-answered = λ f st. let h = answered-fit (from-opening-sound f) st in desk-few _ (h .0) (h .1 .found);
+  own-waiting = turns-waiting;
+  own-answered = turns-answered;
+  steps-after = reported-within;
+  steps-by-trials = reported-by-trials;
+  held-until-reported = waiting-or-reported;
+  ticket-waits = waits-mine;
+  ticket-answered = answered-mine;
+  answers-alone = λ f st. answered-fit (from-opening-sound f) st;
+  independent = λ f g st same. found-one (answered-fit (from-opening-sound f) st .1 .found) (answered-fit (from-opening-sound g) same .1 .found);
+  waiting-says-so = waiting-still;
+  idle-says-so = idle-still;
+  unheld-says-so = unheld-still;
+  answered-handed = λ o h st room c. handed-so o h st room c;
+  short-says-so = λ o h st room c. short-still o h st room c;
+  room-taken = room-ticket;
+  usable-again = freed-usable;
+  reported-held = reported-answered;
+  kept-until-handed = kept-or-handed;
+  first-ticket = λ t. tickets-next t .0;
+  tickets-count = tickets-next;
+  steps-give-none = stepped-given;
+  collecting-gives-none = collected-given;
+  refused-still = refused-taking;
+  refused-collecting = refused-collects;
+  held-given = held-some;
+  tickets-apart = λ o. from-opening-apart o .apart;
+  collected-once = collected-gone;
+  tickets-rise = tickets-later;
+}

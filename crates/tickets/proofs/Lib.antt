@@ -1,0 +1,10 @@
+pub mod Line
+pub mod Sound
+pub mod Changes
+pub mod Tickets
+pub mod Due
+pub mod Reported
+pub mod Turns
+pub mod Places
+pub mod Outcomes
+pub mod Holds
