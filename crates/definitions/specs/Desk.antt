@@ -94,7 +94,7 @@ pub data TakenIn : Type 0 where
   refused : ℕ → TakenIn
   ticket : ℕ → TakenIn
 
--- The refusals on a desk of the record that a problem's bytes mean, and a record that it takes: of kind 1, within the layout.
+-- The desk's refusal, 0 for none, of the record that a problem's bytes mean, and a record that it takes: of kind 1, within the layout.
 abbrev pub deskRefusal : List ℕ → ℕ
 deskRefusal s = refusalFor desk-kinds s
 
@@ -122,9 +122,9 @@ pub data Stepped : Type 0 where
   goes-on : ℕ → Stepped
   done : ℕ → Stepped
 
--- A step makes the next trial of the problem at the head of the line, of which the state counts that it was made. The problem's class and span give how many trials it takes (1 for none, 2 for
--- bottomless, 2 + the halvings for least): at the last of them it is answered and leaves the line, at another it goes to the end of the
--- line. The other places stay as they are.
+-- A step makes the next trial of the problem at the head of the line, and the state counts it. The problem's class and span give how many
+-- trials it takes (1 for none, 2 for bottomless, 2 + the halvings for least): at the last of them it is answered and leaves the line, at
+-- another it goes to the end of the line. The other places stay as they are.
 pub data Steps (memory : ℕ) (d : Desk) : Stepped → Desk → Type 0 where
   turned-away : {k : ℕ} → first (memoryRefused memory ∷ []) ≡ suc k → Steps memory d (refused (suc k)) d
   idle : first (memoryRefused memory ∷ []) ≡ 0 → d .line ≡ [] → Steps memory d none-waits d
@@ -199,20 +199,20 @@ Reported number (take-in run t) = Reported number run
 Reported number (one-step {r = r} run s) = Reported number run ⊎ (r ≡ done number)
 Reported number (collect run c) = Reported number run
 
--- A collection of ticket n that answers so hands the ticket's answer over.
+-- A collection of ticket n with this answer hands over the answer of ticket `number`.
 unfoldable pub HandsOver : (number n : ℕ) → Collected → Type 0
 HandsOver number n (refused k) = ⊥
 HandsOver number n still-waits = ⊥
 HandsOver number n (collected class span own size) = n ≡ number
 
--- Some collection of the sequence handed the ticket's answer over.
+-- Some collection of the sequence did.
 unfoldable pub HandedOver : (number : ℕ) {memory k : ℕ} {d e : Desk} → Run memory d k e → Type 0
 HandedOver number nothing = ⊥
 HandedOver number (take-in run t) = HandedOver number run
 HandedOver number (one-step run s) = HandedOver number run
 HandedOver number (collect {number = n} {r = r} run c) = HandedOver number run ⊎ HandsOver number n r
 
--- The trials that a step's answer reports for the ticket, one or none, and those of a sequence.
+-- The trials that a step's answer tells of the ticket, one or none, and those of a sequence.
 unfoldable pub turn : ℕ → Stepped → ℕ
 turn number (refused k) = 0
 turn number none-waits = 0
@@ -239,11 +239,18 @@ pub record HeldAnswered (d : Desk) (number : ℕ) (problem : List ℕ) : Type 0 
   pub answer : Answer
   pub there : Stands d place (answered number problem class span own answer)
 
+-- A step's answer tells a ticket that waits.
+unfoldable pub TellsWaiting : Desk → Stepped → Type 0
+TellsWaiting d (refused k) = ⊥
+TellsWaiting d none-waits = ⊥
+TellsWaiting d (goes-on number) = (problem : List ℕ) × HeldWaiting d number problem
+TellsWaiting d (done number) = (problem : List ℕ) × HeldWaiting d number problem
+
 -- No place holds a problem that waits.
 abbrev pub NoneWaiting : Desk → Type 0
 NoneWaiting d = (i number own : ℕ) (problem : List ℕ) → Stands d i (waits number problem own) → ⊥
 
--- "For every sequence of takings-in, steps and collections from an opening on".
+-- "For every sequence of takings-in, steps and collections from an opening on"; a field without `FromOpening` holds from every state.
 pub record DeskHolds : Type 0 where
   -- "a problem is answered within 24 trials of its own": one that waits has made fewer, one that is answered at most so many,
   pub own-trials :
@@ -252,7 +259,7 @@ pub record DeskHolds : Type 0 where
   pub trials-of-answered :
       {memory : ℕ} {d : Desk} → FromOpening memory d → {i number class own : ℕ} {span : Trop} {problem : List ℕ} {a : Answer}
       → Stands d i (answered number problem class span own a) → own ≤ most-trials
-  -- which are the steps that reported it,
+  -- and these are the steps since it was taken in that told its ticket, as going on or as answered,
   pub own-waiting :
       {memory : ℕ} {d e f : Desk} {p : List ℕ} {number k : ℕ} → FromOpening memory d → TakesIn memory d p (ticket number) e
       → (run : Run memory e k f) → {i own : ℕ} {problem : List ℕ} → Stands f i (waits number problem own) → turns number run ≡ own
@@ -264,7 +271,7 @@ pub record DeskHolds : Type 0 where
   pub steps-after :
       {memory : ℕ} {d e f : Desk} {p : List ℕ} {number k : ℕ} → FromOpening memory d → TakesIn memory d p (ticket number) e
       → (run : Run memory e k f) → desk-steps ≤ k → Reported number run
-  -- "short problems answered while long ones run": of 16 steps for each trial that it takes one did;
+  -- "short problems answered while long ones run": of 16 steps for each trial that it takes, one did;
   pub steps-by-trials :
       {memory : ℕ} {d e f : Desk} {p : List ℕ} {number k class trials : ℕ} {span : Trop} → FromOpening memory d
       → TakesIn memory d p (ticket number) e → Found (problemOf (meant p)) class span trials → (run : Run memory e k f) → desk-places * trials ≤ k
@@ -289,6 +296,16 @@ pub record DeskHolds : Type 0 where
   pub independent :
       {memory other : ℕ} {d e : Desk} → FromOpening memory d → FromOpening other e → {problem : List ℕ} {i k x y c z own trials : ℕ} {s t : Trop} {a b : Answer}
       → Stands d i (answered x problem c s own a) → Stands e k (answered y problem z t trials b) → (c ≡ z) × (s ≡ t) × (own ≡ trials)
+  -- 23, "looked at first in every call", where the memory is too short; it changes nothing;
+  pub short-taking : {memory : ℕ} {d e : Desk} {p : List ℕ} {r : TakenIn} → memory < desk-memory → TakesIn memory d p r e → (r ≡ refused refused-memory) × (e ≡ d)
+  pub short-step : {memory : ℕ} {d e : Desk} {r : Stepped} → memory < desk-memory → Steps memory d r e → (r ≡ refused refused-memory) × (e ≡ d)
+  pub short-collecting :
+      {memory number : ℕ} {d e : Desk} {before after : List ℕ} {r : Collected} → memory < desk-memory → Collects memory d number before r e after
+      → (r ≡ refused refused-memory) × (e ≡ d) × (after ≡ before)
+  -- where somebody waits, a step tells a ticket that waits;
+  pub busy-tells :
+      {memory i number own : ℕ} {d e : Desk} {problem : List ℕ} {r : Stepped} → FromOpening memory d → first (memoryRefused memory ∷ []) ≡ 0
+      → Stands d i (waits number problem own) → Steps memory d r e → TellsWaiting d r
   -- "collecting a ticket that still waits says so and changes nothing, as does a step with none waiting", where the memory is long enough;
   pub waiting-says-so :
       {memory number i own : ℕ} {problem : List ℕ} {d e : Desk} {before after : List ℕ} {r : Collected} → FromOpening memory d
@@ -297,7 +314,8 @@ pub record DeskHolds : Type 0 where
   pub idle-says-so :
       {memory : ℕ} {d e : Desk} {r : Stepped} → first (memoryRefused memory ∷ []) ≡ 0 → NoneWaiting d → Steps memory d r e
       → (r ≡ none-waits) × (e ≡ d)
-  -- collecting a ticket that is not held gets 22, one that is answered its answer, or 7 where the buffer is short;
+  -- collecting a ticket that is not held gets 22, one that is answered its answer, or 7 where the buffer is short; 22 and 7 change nothing, so
+  -- that the answer can still be collected;
   pub unheld-says-so :
       {memory number : ℕ} {d e : Desk} {before after : List ℕ} {r : Collected} → FromOpening memory d → first (memoryRefused memory ∷ []) ≡ 0
       → NotHeld d number → Collects memory d number before r e after → (r ≡ refused refused-ticket) × (e ≡ d) × (after ≡ before)
@@ -310,8 +328,8 @@ pub record DeskHolds : Type 0 where
       {memory number i class own : ℕ} {span : Trop} {problem : List ℕ} {a : Answer} {d e : Desk} {before after : List ℕ} {r : Collected}
       → FromOpening memory d → first (memoryRefused memory ∷ []) ≡ 0 → Stands d i (answered number problem class span own a)
       → length before < answer-most → Collects memory d number before r e after → (r ≡ refused refused-room) × (e ≡ d) × (after ≡ before)
-  -- where a place is empty and a ticket is left, a problem that the desk takes gets a ticket; and "a collected place is usable again": right after a
-  -- collection 21 is given only where the tickets are used up;
+  -- where the memory is long enough, a place is empty and a ticket is left, a problem that the desk takes gets the next ticket; and "a collected
+  -- place is usable again": right after a collection 21 applies only where the tickets are used up;
   pub room-taken :
       {memory i : ℕ} {d e : Desk} {p : List ℕ} {r : TakenIn} → FromOpening memory d → first (memoryRefused memory ∷ []) ≡ 0
       → WithinDesk (meant p) → i < desk-places → placeAt d i ≡ empty → d .given < last-ticket → TakesIn memory d p r e
@@ -336,9 +354,10 @@ pub record DeskHolds : Type 0 where
   pub steps-give-none : {memory : ℕ} {d e : Desk} {r : Stepped} → Steps memory d r e → e .given ≡ d .given
   pub collecting-gives-none :
       {memory number : ℕ} {d e : Desk} {before after : List ℕ} {r : Collected} → Collects memory d number before r e after → e .given ≡ d .given
-  -- nor does a refusal, which changes nothing, and every ticket that is held was given out;
+  -- nor does a refused taking-in; no refusal changes anything, and every ticket that is held was given out;
   pub refused-still :
       {memory k : ℕ} {d e : Desk} {p : List ℕ} → TakesIn memory d p (refused k) e → e ≡ d
+  pub refused-step : {memory k : ℕ} {d e : Desk} → Steps memory d (refused k) e → e ≡ d
   pub refused-collecting :
       {memory number k : ℕ} {d e : Desk} {before after : List ℕ} → Collects memory d number before (refused k) e after → (e ≡ d) × (after ≡ before)
   pub held-given :
@@ -389,8 +408,9 @@ pub record NeverStuck : Type 0 where
 
 -- ---- each call has one answer
 
--- What the call answers and leaves is settled by what it gets, but for start, stamps and picks of an answer: after a problem's last trial two
--- states have the same line and the same tickets at each place.
+-- What a call answers is settled by what it gets, and so is what it leaves, but for what a refused opening leaves and, after a problem's last
+-- trial, for its answer: two such states have the same tickets given out, the same line and the same ticket at each place (class, span and own trials:
+-- `independent`).
 pub record OneOutcome : Type 0 where
   pub opening : {memory : ℕ} {r q : Opening} {d e : Desk} → Opens memory r d → Opens memory q e → (r ≡ q) × (r ≡ ready → d ≡ e)
   pub taking-in :
@@ -405,8 +425,8 @@ pub record OneOutcome : Type 0 where
 
 -- ---- the checker
 
--- The problem whose answer is collected, at its place before; the bytes are its answer's record, and the checker, handed the problem's bytes and
--- the record, accepts it with the class and span that were given.
+-- The problem whose answer is collected, at its place before; the bytes are its answer's record, and the checker, handed the record that the problem's
+-- bytes mean and the answer's, accepts it with the class and span that were given.
 pub record CollectedRight (check : Checker) (d : Desk) (number class : ℕ) (span : Trop) (own : ℕ) (bytes : List ℕ) : Type 0 where
   pub place : ℕ
   pub problem : List ℕ

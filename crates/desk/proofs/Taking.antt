@@ -139,7 +139,7 @@ took-in {d} {r} {memory} {memory′} {p} {at} {b} {given} h g z f room e m t = r
     begun : SearchBegun p at r
     begun =
         let here : placeIn r at ≡ e .place = ap (λ (x : Desk). placeIn x at) (e .desk-is) ∙ getD-set-same (d .places) at (e .place) noPlace (omega (arith, room .inside, room .arrays .places-size)) in
-        ap (λ (x : Place). x .search) here ∙ e .new .search-is ∙ g .search-is z
+        (ap (λ (x : Place). x .size) here ∙ e .new .size-is, ap (λ (x : Place). x .search) here ∙ e .new .search-is ∙ g .search-is z)
 
     within : WithinDesk (meant p)
     within = sym (g .refused-is) ∙ z

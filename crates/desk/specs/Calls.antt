@@ -61,9 +61,9 @@ pub record NextTaken (d : Desk) (memory p : List ℕ) (r : TakenIn) (d′ : Desk
   pub takes : TakesIn (length memory) state p (takenOf r) next
   pub holds : Holds d′ memory′ next
 
--- The place of a problem that was taken in has a search that knows nothing yet.
+-- The place of a problem that was taken in has its size, and a search that knows nothing yet.
 abbrev pub SearchBegun : List ℕ → ℕ → Desk → Type 0
-SearchBegun p at d = placeIn d at .search ≡ blankSearch (mField (meant p) + 1)
+SearchBegun p at d = (placeIn d at .size ≡ length p) × (placeIn d at .search ≡ blankSearch (mField (meant p) + 1))
 
 -- A problem that got a ticket is put into the memory at the first free place, its search begun; every other byte and every other place stays.
 pub record TakenAt (d : Desk) (memory p : List ℕ) (d′ : Desk) (memory′ : List ℕ) : Type 0 where
@@ -74,8 +74,8 @@ pub record TakenAt (d : Desk) (memory p : List ℕ) (d′ : Desk) (memory′ : L
   pub begun : SearchBegun p at d′
   pub others : OthersStay d at d′
 
--- Taking in: 23 where the memory is too short, else the machine's transition; a refusal leaves memory and state as they were, a ticket all but
--- one place.
+-- Taking in: 23 where the memory is too short, else the machine's transition; a refusal leaves memory and state as they were, a ticket every
+-- other place.
 pub record TookIn (d : Desk) (memory p : List ℕ) (r : TakenIn) (d′ : Desk) (memory′ : List ℕ) : Type 0 where
   pub same-length : length memory′ ≡ length memory
   pub still : {k : ℕ} → r ≡ Takings.Refused k → (d′ ≡ d) × (memory′ ≡ memory)
@@ -93,7 +93,7 @@ pub record NextStep (d : Desk) (memory : List ℕ) (r : Stepped) (d′ : Desk) (
 abbrev pub HeadTried : Desk → List ℕ → Desk → Type 0
 HeadTried d memory d′ = Tried (bytesAt memory (headOf d) (placeIn d (headOf d) .size)) (placeIn d (headOf d)) (placeIn d′ (headOf d))
 
--- A step: with none waiting it changes nothing, else the head's place by that trial, and never another.
+-- A step: with none waiting it changes nothing, else the head's place by that trial, and never another place.
 pub record DidStep (d : Desk) (memory : List ℕ) (r : Stepped) (d′ : Desk) : Type 0 where
   pub still : r ≡ Steppings.NoneWaits → d′ ≡ d
   pub others : OthersStay d (headOf d) d′
@@ -106,7 +106,7 @@ pub record NextCollected (d : Desk) (memory : List ℕ) (ticket : ℕ) (buffer :
   pub collects : Collects (length memory) state ticket buffer (collectedOf r) next buffer′
   pub holds : Holds d′ memory next
 
--- An answer that was handed over freed the place of its ticket; every other place stays.
+-- The place of the ticket whose answer was handed over; every other place stays.
 pub record FreedAt (d : Desk) (ticket : ℕ) (d′ : Desk) : Type 0 where
   pub at : ℕ
   pub inside : at < desk-places

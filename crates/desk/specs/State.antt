@@ -37,7 +37,7 @@ headGone d = record { given = d .given; head = (d .head + 1) % desk-places; wait
 
 -- ---- looking
 
--- A place that is not there is empty.
+-- Past the last place: no ticket.
 abbrev pub noPlace : Place
 noPlace = record {
   ticket = 0;
@@ -67,7 +67,7 @@ pub record FirstFree (d : Desk) (r : ℕ) : Type 0 where
   pub free : r < desk-places → placeIn d r .ticket ≡ 0
   pub before : (k : ℕ) → k < r → placeIn d k .ticket ≡ 0 → ⊥
 
--- The first place with the ticket, or 16.
+-- The first place with the ticket, or 16; 16 for ticket 0, which none has.
 pub record HoldsTicket (d : Desk) (ticket r : ℕ) : Type 0 where
   pub most : r ≤ desk-places
   pub held : r < desk-places → (0 < ticket) × (placeIn d r .ticket ≡ ticket)
@@ -91,7 +91,7 @@ pub record Entered (d : Desk) (at : ℕ) (p : List ℕ) (b : Begun) (r : Desk) :
   pub new : NewPlace (d .given + 1) (length p) b place
   pub desk-is : r ≡ record { given = d .given + 1; head = d .head; waiting = d .waiting + 1; line = set (d .line) ((d .head + d .waiting) % desk-places) at; places = set (d .places) at place }
 
--- There is room for it.
+-- There is room for it, where the place is free.
 pub record Room (d : Desk) (at : ℕ) (p memory : List ℕ) : Type 0 where
   pub arrays : Arrays d
   pub inside : at < desk-places

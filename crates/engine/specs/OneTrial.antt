@@ -17,7 +17,7 @@ use Rattle.search_steps.specs.declared.steps.Trial.{Trial}
 use Rattle.search_steps.specs.Steps.{MovedNext, blankAnswer, Pursued}
 use Rattle.engine.specs.declared.one_trial.Begun.{Begun}
 
--- A search of the problem in the bytes, after so many trials as it has made.
+-- A search of the problem in the bytes, after as many trials as it has made.
 pub record PursuedFor (s : List ℕ) (search : Search) : Type 0 where
   pub within : WithinDesk s
   pub pursued : Pursued (nField s) (mField s) (leftTable s) (rightTable s) search

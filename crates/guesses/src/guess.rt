@@ -185,6 +185,7 @@ fn guess_with(
 // The variable of the objective's right list that attains its side at a point; 32 where that is blank.
 fn start_of(right: &[u32; TABLE], row: usize, x: &[u32; STRIDE], width: usize) -> usize
     requires { ⌜ (row < table-rows) × (width ≤ stride) × Table raised-limit (now right) × Lows width (now x) ⌝ }
+    ensures { λ r. ⌜ r ≤ stride ⌝ }
 {
     let best = full_side(right, row, x, width);
     target(right, row, x, best, 0)

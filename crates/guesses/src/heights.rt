@@ -69,6 +69,7 @@ pub fn lowered(point: &[u64; STRIDE], width: usize) -> [u32; STRIDE]
 // The first place of a row, from one on, at which coefficient and value have this sum; 32 where there is none.
 fn place(right: &[u32; TABLE], row: usize, x: &[u32; STRIDE], sum: u32, from: usize) -> usize
     requires { ⌜ (row < table-rows) × Table raised-limit (now right) × Ranged (highs (now x)) × (length (now x) ≡ stride) ⌝ }
+    ensures { λ r. ⌜ r ≤ stride ⌝ }
 {
     let base = row * STRIDE;
     let mut l = from;
@@ -84,6 +85,7 @@ fn place(right: &[u32; TABLE], row: usize, x: &[u32; STRIDE], sum: u32, from: us
 // A right variable, from a place on, that attains the right side of a row; 32 where that is blank. Public for `guess`.
 pub fn target(right: &[u32; TABLE], row: usize, x: &[u32; STRIDE], best: u32, from: usize) -> usize
     requires { ⌜ (row < table-rows) × Table raised-limit (now right) × Ranged (highs (now x)) × (length (now x) ≡ stride) × (best ≤ side-most) ⌝ }
+    ensures { λ r. ⌜ r ≤ stride ⌝ }
 {
     if best == 0 {
         return STRIDE;

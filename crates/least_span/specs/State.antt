@@ -121,7 +121,7 @@ BracketMoved s t r =
     ((r .reached ≡ t) × (r .blocked ≡ s .blocked) × (r .blocking ≡ s .blocking) × (r .start ≡ s .start))
     ⊎ ((r .reached ≡ s .reached) × (r .blocked ≡ t) × (r .point ≡ s .point) × (r .kept ≡ s .kept))
 
--- A trial was made at t: the count of trials rose by one, and `reached` or `blocked` is now t.
+-- A trial was made at t: the count of trials rose by one, and the bracket moved at t.
 pub record TrialMade (f : Frame) (left before after : List ℕ) (s : Search) (t : ℕ) (r : Search) : Type 0 where
   pub raised : Reraised f left before after
   pub searched : Searched f left after r
@@ -132,7 +132,7 @@ pub record TrialMade (f : Frame) (left before after : List ℕ) (s : Search) (t 
 
 -- ---- the opening
 
--- Nothing is known, and no trial made: the point is blank, and the strategy has no picks.
+-- Nothing is known, and no trial was made: the point is blank, and the strategy has no picks.
 abbrev pub blankSearch : ℕ → Search
 blankSearch rows = record {
   reached = top-offset + 1;
@@ -191,7 +191,7 @@ pub record SettledIs (s : Search) (t : ℕ) (r : Bool) : Type 0 where
   pub yes : r ≡ true → SettledAt s t
   pub no : r ≡ false → (s .blocked < t) × (t < s .reached)
 
--- A search with another floor, of which nothing below is tried.
+-- A search with another floor, below which nothing is tried.
 abbrev pub floorAt : Search → ℕ → Search
 floorAt s floor = record {
   reached = s .reached;

@@ -15,7 +15,7 @@ use Rattle.desk_words.specs.Words.{desk-words, deskFrom, DeskPut}
 
 -- ---- numbers
 
--- Fewer words are lent than a desk has; looked at behind 23.
+-- Fewer words are lent than a desk has; looked at after 23.
 abbrev pub few-words : ℕ
 few-words = 255
 

@@ -2,7 +2,6 @@
 use Prim.Native.Nat.{ℕ, _+_, _/_, _≤_, _<_}
 use mathlib.Core.Path.{_≡_}
 use mathlib.Core.Bool.{true, false}
-use mathlib.Core.Logic.{_⊎_}
 use mathlib.Core.List.{List}
 use lib.ListN.{replicate}
 use Rattle.definitions.specs.Limits.{stride, table-rows}
@@ -52,8 +51,8 @@ abbrev pub blankAnswer : Answer
 blankAnswer = record { class = 0; span = 0; start = 0; trials = 0; made = 0; stamps = replicate stride 0; picks = replicate table-rows 0 }
 
 -- An answer after one trial more, the last that its class and span ask for.
-pub record ClosedBy (Stands : Problem → Type 0) (n m own : ℕ) (a : Answer) : Type 0 where
-  pub answers : (p : Problem) → Stands p
+pub record ClosedBy (Given : Problem → Type 0) (n m own : ℕ) (a : Answer) : Type 0 where
+  pub answers : (p : Problem) → Given p
       → Answers p (a .class) (tropOf (a .span)) (a .trials) (answerIn n m (a .class) (a .span) (a .start) (a .stamps) (a .picks))
   pub trials-is : a .trials ≡ own + 1
   pub made-is : a .made ≡ own + 1

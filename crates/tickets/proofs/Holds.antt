@@ -7,7 +7,7 @@ use Rattle.tickets.proofs.Turns.{turns-waiting, turns-answered}
 use Rattle.tickets.proofs.Changes.{stepped-given, collected-given}
 use Rattle.tickets.proofs.Tickets.{waits-mine, answered-mine, held-some, from-opening-apart, collected-gone, tickets-later, tickets-next}
 use Rattle.tickets.proofs.Places.{freed-usable, room-ticket, kept-or-handed, reported-answered}
-use Rattle.tickets.proofs.Outcomes.{waiting-still, idle-still, unheld-still, handed-so, short-still, refused-taking, refused-collects}
+use Rattle.tickets.proofs.Outcomes.{waiting-still, idle-still, unheld-still, handed-so, short-still, refused-taking, refused-steps, refused-collects, taking-short, step-short, collecting-short, busy}
 
 pub desk-holds : DeskHolds
 desk-holds = record {
@@ -22,6 +22,10 @@ desk-holds = record {
   ticket-answered = answered-mine;
   answers-alone = λ f st. answered-fit (from-opening-sound f) st;
   independent = λ f g st same. found-one (answered-fit (from-opening-sound f) st .1 .found) (answered-fit (from-opening-sound g) same .1 .found);
+  short-taking = taking-short;
+  short-step = step-short;
+  short-collecting = collecting-short;
+  busy-tells = busy;
   waiting-says-so = waiting-still;
   idle-says-so = idle-still;
   unheld-says-so = unheld-still;
@@ -36,6 +40,7 @@ desk-holds = record {
   steps-give-none = stepped-given;
   collecting-gives-none = collected-given;
   refused-still = refused-taking;
+  refused-step = refused-steps;
   refused-collecting = refused-collects;
   held-given = held-some;
   tickets-apart = λ o. from-opening-apart o .apart;

@@ -2,19 +2,22 @@
 use Prim.Native.Nat.{ℕ, suc, _+_, _≤_, _<_}
 use mathlib.Core.Path.{_≡_, refl, sym, ap, subst, _∙_}
 use mathlib.Core.Logic.{_⊎_, ⊎-elim}
+use mathlib.Core.Bool.{Bool, cond}
 use mathlib.Core.List.{List, [], _∷_, _++_}
 use native.Mathlib.Omega.{arith}
 use native.Mathlib.Decide.{ℕ-discrete}
+use borrow.Author.Tests.{lt-ltb}
 use lib.ListN.{length, set}
 use Rattle.base.proofs.Numbers.{nat-le-or-lt}
-use Rattle.definitions.specs.Limits.{desk-places, answer-most, refused-ticket, refused-room}
+use Rattle.definitions.specs.Limits.{desk-places, desk-memory, answer-most, refused-ticket, refused-room, refused-memory}
 use Rattle.definitions.specs.Tropical.{Trop}
 use Rattle.definitions.specs.Bytes.{first}
 use Rattle.definitions.specs.ProblemRecord.{problemOf, meant, nField, mField}
 use Rattle.definitions.specs.AnswerRecord.{Answer, answerSize, answerBytes, written}
 use Rattle.definitions.specs.Solved.{Found}
-use Rattle.definitions.specs.Desk.{memoryRefused, Place, empty, waits, answered, Desk, placeAt, Stands, ticketOf, FirstEmpty, Opening, Opens, TakenIn, TakesIn, taken, Stepped, Steps, one-more, last-one, NotHeld, Collected, Collects, handed-over, FromOpening, NoneWaiting, OneOutcome}
+use Rattle.definitions.specs.Desk.{memoryRefused, Place, empty, waits, answered, Desk, placeAt, Stands, ticketOf, FirstEmpty, Opening, Opens, TakenIn, TakesIn, taken, takeRefusal, Stepped, Steps, one-more, last-one, NotHeld, Collected, Collects, handed-over, FromOpening, TellsWaiting, NoneWaiting, OneOutcome}
 use Rattle.definitions.specs.Desk as Desks
+use Rattle.definitions.proofs.Refusals.{or-else-suc, or-else-none}
 use Rattle.duality.proofs.Classes.{found-one}
 use Rattle.tickets.proofs.Sound.{Sound, empty-not-waits, empty-not-answered, answered-not-waits, same-number, same-problem, same-own, waiting-inside, moved, here, elsewhere, from-opening-sound}
 use Rattle.tickets.proofs.Tickets.{from-opening-apart}
@@ -245,3 +248,44 @@ pub refused-collects : {memory number k : ℕ} {d e : Desk} {before after : List
 refused-collects (Desks.Collects.turned-away h) = (refl, refl)
 refused-collects (Desks.Collects.no-such-ticket h n) = (refl, refl)
 refused-collects (Desks.Collects.short-buffer h st b) = (refl, refl)
+
+pub refused-steps : {memory k : ℕ} {d e : Desk} → Steps memory d (Desks.Stepped.refused k) e → e ≡ d
+refused-steps (Desks.Steps.turned-away h) = refl
+
+-- ---- 23 comes first
+
+memory-short : (memory : ℕ) → memory < desk-memory → first (memoryRefused memory ∷ []) ≡ refused-memory
+memory-short memory h = ap (λ (b : Bool). cond b refused-memory 0) (lt-ltb memory desk-memory h)
+
+pub taking-short : {memory : ℕ} {d e : Desk} {p : List ℕ} {r : TakenIn} → memory < desk-memory → TakesIn memory d p r e → (r ≡ Desks.TakenIn.refused refused-memory) × (e ≡ d)
+unfolding takeRefusal
+taking-short {memory} h (Desks.TakesIn.turned-away g) =
+    let z = memory-short memory h in
+    (ap (λ (k : ℕ). Desks.TakenIn.refused k) (sym g ∙ or-else-suc (first (memoryRefused memory ∷ [])) _ (omega (arith, z)) ∙ z), refl)
+taking-short {memory} h (taken g f) = let z = memory-short memory h in absurd (omega (arith, or-else-none (first (memoryRefused memory ∷ [])) _ .0 g .0, z))
+
+pub step-short : {memory : ℕ} {d e : Desk} {r : Stepped} → memory < desk-memory → Steps memory d r e → (r ≡ Desks.Stepped.refused refused-memory) × (e ≡ d)
+step-short {memory} h (Desks.Steps.turned-away g) = (ap (λ (k : ℕ). Desks.Stepped.refused k) (sym g ∙ memory-short memory h), refl)
+step-short {memory} h (Desks.Steps.idle g l) = absurd (omega (arith, memory-short memory h))
+step-short {memory} h (one-more g l st f m) = absurd (omega (arith, memory-short memory h))
+step-short {memory} h (last-one g l st e a) = absurd (omega (arith, memory-short memory h))
+
+pub collecting-short : {memory number : ℕ} {d e : Desk} {before after : List ℕ} {r : Collected} → memory < desk-memory → Collects memory d number before r e after
+    → (r ≡ Desks.Collected.refused refused-memory) × (e ≡ d) × (after ≡ before)
+collecting-short {memory} h (Desks.Collects.turned-away g) = (ap (λ (k : ℕ). Desks.Collected.refused k) (sym g ∙ memory-short memory h), refl, refl)
+collecting-short {memory} h (Desks.Collects.no-such-ticket g n) = absurd (omega (arith, memory-short memory h))
+collecting-short {memory} h (Desks.Collects.waits-yet g st) = absurd (omega (arith, memory-short memory h))
+collecting-short {memory} h (Desks.Collects.short-buffer g st b) = absurd (omega (arith, memory-short memory h))
+collecting-short {memory} h (handed-over g st b) = absurd (omega (arith, memory-short memory h))
+
+-- ---- where somebody waits
+
+pub busy : {memory i number own : ℕ} {d e : Desk} {problem : List ℕ} {r : Stepped} → FromOpening memory d → first (memoryRefused memory ∷ []) ≡ 0 → Stands d i (waits number problem own)
+    → Steps memory d r e → TellsWaiting d r
+unfolding TellsWaiting
+busy o h st (Desks.Steps.turned-away g) = absurd (omega arith)
+busy {number = number} {own = own} {problem = problem} o h st (Desks.Steps.idle g l) =
+    let place = from-opening-sound o .line .all (record { number = number; problem = problem; own = own; there = st }) in
+    absurd (omega (arith, place .there .inside, ap (λ (k : List ℕ). length k) l))
+busy o h st (one-more {i = i} {own = own} {problem = problem} g l there f m) = (problem, record { place = i; own = own; there = there })
+busy o h st (last-one {i = i} {own = own} {problem = problem} g l there e a) = (problem, record { place = i; own = own; there = there })
