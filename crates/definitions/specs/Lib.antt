@@ -21,6 +21,7 @@ pub mod Conversion
 pub mod Suspended
 pub mod Marks
 pub mod Desk
+pub mod DeskLaws
 pub mod Merging
 pub mod Census
 pub mod Reasons

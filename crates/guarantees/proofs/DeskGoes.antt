@@ -16,7 +16,8 @@ use Rattle.definitions.specs.Bytes.{first, or-else}
 use Rattle.definitions.specs.ProblemRecord.{problemOf, meant}
 use Rattle.definitions.specs.AnswerRecord.{Answer}
 use Rattle.definitions.specs.Solved.{Found}
-use Rattle.definitions.specs.Desk.{memoryRefused, fullRefused, deskRefusal, Place, empty, waits, answered, Desk, opened, placeAt, Stands, ticketOf, held, TakesIn, taken, takeRefusal, Steps, one-more, last-one, NotHeld, Collects, handed-over, FromOpening, SomeOpening, SomeTaking, SomeStep, SomeCollecting, NeverStuck}
+use Rattle.definitions.specs.Desk.{memoryRefused, fullRefused, deskRefusal, Place, empty, waits, answered, Desk, opened, placeAt, Stands, ticketOf, held, TakesIn, taken, takeRefusal, Steps, one-more, last-one, NotHeld, Collects, handed-over, FromOpening}
+use Rattle.definitions.specs.DeskLaws.{SomeOpening, SomeTaking, SomeStep, SomeCollecting, NeverStuck}
 use Rattle.definitions.specs.Desk as Desks
 use Rattle.definitions.proofs.Refusals.{or-else-none}
 use Rattle.definitions.proofs.Layouts.{problem-fits, desk-within}

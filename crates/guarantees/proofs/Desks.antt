@@ -10,7 +10,8 @@ use Rattle.definitions.specs.Solved.{Answers}
 use Rattle.definitions.specs.Verdict.{accepted}
 use Rattle.definitions.specs.Demands.{Slice, Checker, CheckerJudges}
 use Rattle.definitions.specs.Desk as Desks
-use Rattle.definitions.specs.Desk.{Desk, answered, Stands, FromOpening, TakesIn, Run, take-in, Collects, handed-over, CollectedRight, CollectedAccepted}
+use Rattle.definitions.specs.Desk.{Desk, answered, Stands, FromOpening, TakesIn, Run, take-in, Collects, handed-over}
+use Rattle.definitions.specs.DeskLaws.{CollectedRight, CollectedAccepted}
 use Rattle.definitions.proofs.Layouts.{desk-within}
 use Rattle.definitions.proofs.Solved.{record-stands}
 use Rattle.tickets.proofs.Reported.{run-on}

@@ -1,5 +1,5 @@
 -- All that document 02 says of every sequence of calls on a desk.
-use Rattle.definitions.specs.Desk.{DeskHolds}
+use Rattle.definitions.specs.DeskLaws.{DeskHolds}
 use Rattle.duality.proofs.Classes.{found-one}
 use Rattle.tickets.proofs.Sound.{desk-few, waits-fit, answered-fit, from-opening-sound}
 use Rattle.tickets.proofs.Reported.{reported-by-trials, reported-within, waiting-or-reported}

@@ -15,7 +15,8 @@ use Rattle.definitions.specs.Bytes.{first}
 use Rattle.definitions.specs.ProblemRecord.{problemOf, meant, nField, mField}
 use Rattle.definitions.specs.AnswerRecord.{Answer, answerSize, answerBytes, written}
 use Rattle.definitions.specs.Solved.{Found}
-use Rattle.definitions.specs.Desk.{memoryRefused, Place, empty, waits, answered, Desk, placeAt, Stands, ticketOf, FirstEmpty, Opening, Opens, TakenIn, TakesIn, taken, takeRefusal, Stepped, Steps, one-more, last-one, NotHeld, Collected, Collects, handed-over, FromOpening, TellsWaiting, NoneWaiting, OneOutcome}
+use Rattle.definitions.specs.Desk.{memoryRefused, Place, empty, waits, answered, Desk, placeAt, Stands, ticketOf, FirstEmpty, Opening, Opens, TakenIn, TakesIn, taken, takeRefusal, Stepped, Steps, one-more, last-one, NotHeld, Collected, Collects, handed-over, FromOpening}
+use Rattle.definitions.specs.DeskLaws.{TellsWaiting, NoneWaiting, OneOutcome}
 use Rattle.definitions.specs.Desk as Desks
 use Rattle.definitions.proofs.Refusals.{or-else-suc, or-else-none}
 use Rattle.duality.proofs.Classes.{found-one}

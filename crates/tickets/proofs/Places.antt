@@ -13,7 +13,8 @@ use Rattle.definitions.specs.Tropical.{Trop}
 use Rattle.definitions.specs.AnswerRecord.{Answer}
 use Rattle.definitions.specs.ProblemRecord.{meant}
 use Rattle.definitions.specs.Bytes.{first}
-use Rattle.definitions.specs.Desk.{memoryRefused, fullRefused, WithinDesk, takeRefusal, Place, empty, answered, Desk, placeAt, Stands, ticketOf, held, TakenIn, TakesIn, taken, Stepped, Steps, one-more, last-one, Collected, Collects, handed-over, Run, nothing, take-in, one-step, collect, FromOpening, Reported, HandsOver, HandedOver, HeldAnswered}
+use Rattle.definitions.specs.Desk.{memoryRefused, fullRefused, WithinDesk, takeRefusal, Place, empty, answered, Desk, placeAt, Stands, ticketOf, held, TakenIn, TakesIn, taken, Stepped, Steps, one-more, last-one, Collected, Collects, handed-over, Run, nothing, take-in, one-step, collect, FromOpening}
+use Rattle.definitions.specs.DeskLaws.{Reported, HandsOver, HandedOver, HeldAnswered}
 use Rattle.definitions.specs.Desk as Desks
 use Rattle.tickets.proofs.Sound.{Sound, empty-not-answered, answered-not-waits, beyond-empty, waiting-inside, moved, here, elsewhere, sound-taken, sound-run, from-opening-sound}
 use Rattle.tickets.proofs.Tickets.{answered-mine}

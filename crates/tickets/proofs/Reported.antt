@@ -9,7 +9,8 @@ use Rattle.definitions.specs.Limits.{desk-places, desk-steps}
 use Rattle.definitions.specs.Tropical.{Trop}
 use Rattle.definitions.specs.ProblemRecord.{problemOf, meant}
 use Rattle.definitions.specs.Solved.{Found}
-use Rattle.definitions.specs.Desk.{Place, empty, waits, answered, Desk, placeAt, Stands, TakenIn, TakesIn, taken, Stepped, Steps, one-more, last-one, Collected, Collects, handed-over, Run, nothing, take-in, one-step, collect, FromOpening, Reported, HeldWaiting}
+use Rattle.definitions.specs.Desk.{Place, empty, waits, answered, Desk, placeAt, Stands, TakenIn, TakesIn, taken, Stepped, Steps, one-more, last-one, Collected, Collects, handed-over, Run, nothing, take-in, one-step, collect, FromOpening}
+use Rattle.definitions.specs.DeskLaws.{Reported, HeldWaiting}
 use Rattle.definitions.specs.Desk as Desks
 use Rattle.tickets.proofs.Sound.{Sound, desk-few, classed, empty-not-waits, answered-not-waits, same-number, waiting-inside, moved, here, elsewhere, sound-taken, sound-run, from-opening-sound}
 use Rattle.tickets.proofs.Tickets.{taken-within, waits-mine}

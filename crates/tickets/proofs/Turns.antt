@@ -11,7 +11,8 @@ use Rattle.definitions.specs.Limits.{desk-places}
 use Rattle.definitions.specs.Tropical.{Trop}
 use Rattle.definitions.specs.ProblemRecord.{meant}
 use Rattle.definitions.specs.AnswerRecord.{Answer}
-use Rattle.definitions.specs.Desk.{Place, empty, waits, answered, Desk, placeAt, Stands, ticketOf, TakenIn, TakesIn, taken, Stepped, Steps, one-more, last-one, Collected, Collects, handed-over, Run, nothing, take-in, one-step, collect, FromOpening, turn, turns}
+use Rattle.definitions.specs.Desk.{Place, empty, waits, answered, Desk, placeAt, Stands, ticketOf, TakenIn, TakesIn, taken, Stepped, Steps, one-more, last-one, Collected, Collects, handed-over, Run, nothing, take-in, one-step, collect, FromOpening}
+use Rattle.definitions.specs.DeskLaws.{turn, turns}
 use Rattle.definitions.specs.Desk as Desks
 use Rattle.tickets.proofs.Sound.{Sound, empty-not-waits, empty-not-answered, ownHeld, beyond-empty, waiting-inside, moved, here, elsewhere, from-opening-sound}
 use Rattle.tickets.proofs.Changes.{run-given, Each, each-moved}
