@@ -16,19 +16,7 @@ use Rattle.definitions.proofs.Values.{≼-trans, minus-raised, raised-minus}
 use Rattle.definitions.proofs.Counts.{counts-met, met-counts}
 use Rattle.definitions.proofs.Raise.{raised, unraised}
 use Rattle.duality.specs.System.{System, Solves, Meets, Joint, systemAt}
-use Rattle.duality.proofs.Solutions.{solves-moved}
-
--- ---- raising
-
--- Coefficients raised by d raise the side by d.
-side-raised : (c : ℕ → Trop) (x : Point) (d : Trop) (k : ℕ)
-    → largest (λ j. plus (plus (c j) d) (x j)) k ≡ plus (largest (λ j. plus (c j) (x j)) k) d
-side-raised c x d k =
-    largest-ext (λ j. plus (plus (c j) d) (x j)) (λ j. plus (plus (c j) (x j)) d) k (λ j _. swap (c j) (x j))
-    ∙ largest-plus (λ j. plus (c j) (x j)) d k
-  where
-    swap : (a b : Trop) → plus (plus a d) b ≡ plus (plus a b) d
-    swap a b = plus-assoc a d b ∙ ap (plus a) (plus-comm d b) ∙ sym (plus-assoc a b d)
+use Rattle.duality.proofs.Solutions.{side-raised, solves-moved}
 
 -- ---- rows of the system and of the problem
 

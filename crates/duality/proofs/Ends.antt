@@ -27,7 +27,7 @@ unfolding idle
 idle-still s h stop = omega arith
 idle-still s h (step a r) = let p : s .rows < s .rows = a .picked in omega arith
 
--- It is kept: nothing moves, and every value is zero.
+-- It is kept: nothing moves, and every value is the cap.
 pub empty-policy : (s : System) → Policy s (idle s)
 unfolding idle values
 empty-policy s = record {

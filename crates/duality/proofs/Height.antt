@@ -1,10 +1,10 @@
--- The policy iteration ends: with coefficients within ±C no value lies below −(variables · 2C), ranks above that floor
+-- The policy iteration ends: with coefficients and caps within ±C no value lies below −(C + variables · 2C), ranks above that floor
 -- fall with the values, and every step lowers their sum.
 use Prim.Native.Nat.{ℕ, zero, suc, _+_, _*_, _≤_, _<_}
 use mathlib.Core.Path.{_≡_, refl}
 use mathlib.Core.Logic.{⊎-elim}
 use native.Mathlib.Omega.{arith}
-use lib.IntN.{ℤ}
+use lib.IntN.{ℤ, natAbs}
 use lib.Signed.{_<ℤ_}
 use Rattle.base.proofs.Numbers.{nat-le-or-lt}
 use Rattle.definitions.specs.Tropical.{Trop, bot, fin, plus, _⊑_, blank-least, whole-least, larger, largest}
@@ -13,7 +13,7 @@ use Rattle.definitions.proofs.Whole.{up, down, whole, eq-read, plus-read, minus
 use Rattle.definitions.proofs.Tropical.{bot-not-fin, fin-injective, larger-one}
 use Rattle.duality.specs.System.{System, Arc}
 use Rattle.duality.specs.Values.{valueAt, exitBy, weights, exits, values, Policy, Switched, Switch}
-use Rattle.duality.specs.Height.{Bounded, rank, total, height}
+use Rattle.duality.specs.Height.{Bounded, rank, total, depth, height}
 use Rattle.duality.proofs.Weights.{entry-arc, exit-picked, exit-terminal}
 use Rattle.duality.proofs.Policy.{next-falls, next-strict}
 
@@ -89,20 +89,20 @@ unfolding largest
 floored-largest {c} f zero h = floored-bot c
 floored-largest f (suc n) h = floored-larger (largest f n) (f n) (floored-largest f n (λ j i. h j (omega arith))) (h n (omega arith))
 
--- Entries of at least −D and exits of at least 0: the values after k rounds are at least −(k · D).
-pub value-floor : (W : ℕ → ℕ → Trop) (exits : ℕ → Trop) (N D : ℕ) → ((j l : ℕ) → j < N → l < N → Floored D (W j l))
-    → ((j : ℕ) → j < N → Floored 0 (exits j)) → (k j : ℕ) → j < N → Floored (k * D) (valueAt W exits N k j)
+-- Entries of at least −D and exits of at least −E: the values after k rounds are at least −(E + k · D).
+pub value-floor : (W : ℕ → ℕ → Trop) (exits : ℕ → Trop) (N D E : ℕ) → ((j l : ℕ) → j < N → l < N → Floored D (W j l))
+    → ((j : ℕ) → j < N → Floored E (exits j)) → (k j : ℕ) → j < N → Floored (E + k * D) (valueAt W exits N k j)
 unfolding valueAt
-value-floor W exits N D a x zero j h = floored-more (omega arith) (x j h)
-value-floor W exits N D a x (suc k) j h =
+value-floor W exits N D E a x zero j h = floored-more (omega arith) (x j h)
+value-floor W exits N D E a x (suc k) j h =
     floored-larger _ _ (floored-more (omega arith) (x j h))
-    (floored-largest _ N (λ l i. floored-more (omega arith) (floored-plus (W j l) (valueAt W exits N k l) (a j l h i) (value-floor W exits N D a x k l i))))
+    (floored-largest _ N (λ l i. floored-more (omega arith) (floored-plus (W j l) (valueAt W exits N k l) (a j l h i) (value-floor W exits N D E a x k l i))))
 
--- An exit is blank or zero.
-pub exit-floor : (s : System) (i : ℕ) → Floored 0 (exitBy s i)
-exit-floor s i = ⊎-elim
-    (λ h. rw (exit-terminal s i h) (record { floor = λ v e. omega (arith, eq-read (fin-injective e)) }))
-    (λ h. rw (exit-picked s i h) (floored-bot 0))
+-- An exit is blank or the cap.
+pub exit-floor : (s : System) (E i j : ℕ) → natAbs (s .caps j) ≤ E → Floored E (exitBy s i j)
+exit-floor s E i j b = ⊎-elim
+    (λ h. rw (exit-terminal s i j h) (record { floor = λ v e. omega (arith, b, abs-read (s .caps j), eq-read (fin-injective e)) }))
+    (λ h. rw (exit-picked s i j h) (floored-bot E))
     (nat-le-or-lt (s .rows) i)
 
 module _ (s : System) (C : ℕ) (bounded : Bounded s C) where
@@ -120,15 +120,15 @@ module _ (s : System) (C : ℕ) (bounded : Bounded s C) where
         bounded .right (τ j) l (a .b) (a .picked) i (a .right-is),
       )
 
-  -- No value lies below −(variables · 2C).
-  pub values-floor : (τ : Strategy) (j : ℕ) → j < s .variables → Floored (s .variables * (2 * C)) (values s τ j)
+  -- No value lies below −(C + variables · 2C).
+  pub values-floor : (τ : Strategy) (j : ℕ) → j < s .variables → Floored (depth s C) (values s τ j)
   unfolding values
-  values-floor τ j h = value-floor (weights s τ) (exits s τ) (s .variables) (2 * C) (weight-floor τ) (λ j _. exit-floor s (τ j)) (s .variables) j h
+  values-floor τ j h = value-floor (weights s τ) (exits s τ) (s .variables) (2 * C) C (weight-floor τ) (λ j h. exit-floor s C (τ j) j (bounded .caps j h)) (s .variables) j h
 
   -- A step that switches a variable lowers the height.
   pub height-falls : (τ τ′ : Strategy) → Policy s τ → Switch s τ τ′ → (j : ℕ) → j < s .variables → Switched s τ τ′ j
       → height s C τ′ < height s C τ
   unfolding height
   height-falls τ τ′ policy switch j h c =
-      total-falls _ _ (s .variables) j (λ j i. rank-mono (s .variables * (2 * C)) (next-falls s τ τ′ policy switch j i)) h
-      (rank-strict (s .variables * (2 * C)) _ _ (values-floor τ j h) (next-strict s τ τ′ policy switch j h c))
+      total-falls _ _ (s .variables) j (λ j i. rank-mono (depth s C) (next-falls s τ τ′ policy switch j i)) h
+      (rank-strict (depth s C) _ _ (values-floor τ j h) (next-strict s τ τ′ policy switch j h c))

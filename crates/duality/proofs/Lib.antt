@@ -8,7 +8,7 @@ pub mod Sweeps
 pub mod Weights
 pub mod Policy
 pub mod Ends
-pub mod Warm
+pub mod Look
 pub mod Height
 pub mod Strong
 pub mod Solutions

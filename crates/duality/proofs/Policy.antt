@@ -104,7 +104,7 @@ module _ (s : System) (τ τ′ : Strategy) (policy : Policy s τ) (switch : Swi
 
   -- and its entries fall below the old value.
   switched-lowered : (j : ℕ) → Switched s τ τ′ j → Lowered (weights s τ′) (exits s τ′) (s .variables) (values s τ) j
-  switched-lowered j c = record { falls = falls; closed = exit-picked s (τ′ j) (c .picked) }
+  switched-lowered j c = record { falls = falls; closed = exit-picked s (τ′ j) j (c .picked) }
     where
       falls : (l : ℕ) → l < s .variables → (values s τ j ⊑ plus (weights s τ′ j l) (values s τ l)) → ⊥
       falls l i b =
@@ -118,7 +118,7 @@ module _ (s : System) (τ τ′ : Strategy) (policy : Policy s τ) (switch : Swi
   changes : (j : ℕ) → j < s .variables
       → Same (weights s τ) (weights s τ′) (exits s τ) (exits s τ′) j ⊎ Lowered (weights s τ′) (exits s τ′) (s .variables) (values s τ) j
   changes j h =
-      ⊎-elim (λ e. inl (record { entries = λ l. ap (λ i. weightBy s i j l) e; exit = ap (exitBy s) e })) (λ c. inr (switched-lowered j c)) (switch j h)
+      ⊎-elim (λ e. inl (record { entries = λ l. ap (λ i. weightBy s i j l) e; exit = ap (λ i. exitBy s i j) e })) (λ c. inr (switched-lowered j c)) (switch j h)
 
   -- Values fall,
   pub next-falls : (j : ℕ) → j < s .variables → values s τ′ j ⊑ values s τ j

@@ -2,12 +2,12 @@
 -- another in another, both are in a third. The values of a kept strategy are finite at every variable that is finite in some
 -- solution; where one is blank the strategy blocks from it.
 use Prim.Native.Nat.{ℕ, _<_}
-use mathlib.Core.Path.{_≡_, sym, _∙_}
+use mathlib.Core.Path.{_≡_, ap, sym, _∙_}
 use mathlib.Core.Logic.{⊎-elim, _↔_}
 use Rattle.definitions.specs.Tropical.{Trop, bot, plus, larger, largest, _⊑_, Finite}
 use Rattle.definitions.specs.Problem.{Point}
 use Rattle.definitions.specs.Certificate.{Strategy}
-use Rattle.definitions.proofs.Tropical.{blank-or-finite, finite-above, ⊑-refl, ⊑-trans, ⊑-of-eq, plus-assoc, plus-mono, larger-left, larger-right, larger-one, largest-above, largest-least, largest-mono, largest-ext, largest-plus}
+use Rattle.definitions.proofs.Tropical.{blank-or-finite, finite-above, ⊑-refl, ⊑-trans, ⊑-of-eq, plus-comm, plus-assoc, plus-mono, larger-left, larger-right, larger-one, largest-above, largest-least, largest-mono, largest-ext, largest-plus}
 use Rattle.duality.specs.Starts.{Only}
 use Rattle.duality.specs.System.{System, sideOf, Solves, Solution, AllSolved, Meets, Joint, Blocks, Saves}
 use Rattle.duality.specs.Values.{values, Policy}
@@ -16,6 +16,17 @@ use Rattle.duality.proofs.Weak.{solution-saves, weak}
 use Rattle.duality.proofs.Ends.{started-solution, blank-blocks}
 
 -- ---- shifts
+
+-- A whole number may be added first or last.
+pub plus-swap : (a d b : Trop) → plus (plus a d) b ≡ plus (plus a b) d
+plus-swap a d b = plus-assoc a d b ∙ ap (plus a) (plus-comm d b) ∙ sym (plus-assoc a b d)
+
+-- Coefficients raised by d raise the side by d.
+pub side-raised : (c : ℕ → Trop) (x : Point) (d : Trop) (k : ℕ)
+    → largest (λ j. plus (plus (c j) d) (x j)) k ≡ plus (largest (λ j. plus (c j) (x j)) k) d
+side-raised c x d k =
+    largest-ext (λ j. plus (plus (c j) d) (x j)) (λ j. plus (plus (c j) (x j)) d) k (λ j _. plus-swap (c j) d (x j))
+    ∙ largest-plus (λ j. plus (c j) (x j)) d k
 
 -- A point moved by d moves each side by d.
 side-moved : (c : ℕ → Trop) (x : Point) (d : Trop) (k : ℕ)

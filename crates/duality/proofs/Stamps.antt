@@ -218,7 +218,7 @@ module _ (p : Problem) (t : ℤ) (τ : Strategy) (L : ℕ) (within : Within p L)
   unfolding systemAt values
   stamps-floor j h =
       once-floor (weights (systemAt p t) τ) (exits (systemAt p t) τ) (suc (p .n)) (2 * L) (natAbs t) ByObjective ToObjective kinds jump
-      (λ j. exit-floor (systemAt p t) (τ j)) (suc (p .n)) j (omega arith)
+      (λ j. exit-floor (systemAt p t) 0 (τ j) j (omega arith)) (suc (p .n)) j (omega arith)
 
 -- Stamps: a whole value of a kept strategy lies between −((n + 1) · 2L + |t|) and 0.
 pub stamps-small : (p : Problem) (t : ℤ) (τ : Strategy) (L : ℕ) → Within p L → Policy (systemAt p t) τ

@@ -48,9 +48,9 @@ unfoldable pub size : Trop → ℕ
 size bot = 0
 size (fin a) = natAbs a
 
--- The sizes of all coefficients, summed.
+-- The sizes of all coefficients and caps, summed.
 unfoldable pub bound : System → ℕ
-bound s = total (λ i. total (λ j. size (s .left i j) + size (s .right i j)) (s .variables)) (s .rows)
+bound s = total (λ i. total (λ j. size (s .left i j) + size (s .right i j)) (s .variables)) (s .rows) + total (λ j. natAbs (s .caps j)) (s .variables)
 
 bound-above : (s : System) (i j : ℕ) → i < s .rows → j < s .variables → size (s .left i j) + size (s .right i j) ≤ bound s
 unfolding bound
@@ -60,12 +60,17 @@ bound-above s i j h k = omega (
   total-above (λ j. size (s .left i j) + size (s .right i j)) (s .variables) j k,
 )
 
+cap-above : (s : System) (j : ℕ) → j < s .variables → natAbs (s .caps j) ≤ bound s
+unfolding bound
+cap-above s j h = omega (arith, total-above (λ j. natAbs (s .caps j)) (s .variables) j h)
+
 -- Every system has a bound.
 pub bounded : (s : System) → Bounded s (bound s)
 unfolding size
 bounded s = record {
   left = λ i j a h k e. omega (arith, bound-above s i j h k, ap size e);
   right = λ i j b h k e. omega (arith, bound-above s i j h k, ap size e);
+  caps = λ j h. cap-above s j h;
 }
 
 -- ---- the iteration

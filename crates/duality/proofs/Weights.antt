@@ -80,23 +80,23 @@ module _ (s : System) where
   weight-picked i j l h = rw (lt-ltb i (s .rows) h)
 
   -- and there is no exit.
-  pub exit-picked : (i : ℕ) → i < s .rows → exitBy s i ≡ bot
+  pub exit-picked : (i j : ℕ) → i < s .rows → exitBy s i j ≡ bot
   unfolding exitBy
-  exit-picked i h = rw (lt-ltb i (s .rows) h)
+  exit-picked i j h = rw (lt-ltb i (s .rows) h)
 
   -- By none there is no arc,
   pub weight-terminal : (i j l : ℕ) → s .rows ≤ i → weightBy s i j l ≡ bot
   unfolding weightBy
   weight-terminal i j l h = rw (le-ltb i (s .rows) h)
 
-  -- and the exit is zero.
-  pub exit-terminal : (i : ℕ) → s .rows ≤ i → exitBy s i ≡ fin (pos 0)
+  -- and the exit is the cap.
+  pub exit-terminal : (i j : ℕ) → s .rows ≤ i → exitBy s i j ≡ fin (s .caps j)
   unfolding exitBy
-  exit-terminal i h = rw (le-ltb i (s .rows) h)
+  exit-terminal i j h = rw (le-ltb i (s .rows) h)
 
-  -- An exit is at most zero.
-  pub exit-below : (i : ℕ) → exitBy s i ⊑ fin (pos 0)
-  exit-below i = ⊎-elim (λ h. ⊑-of-eq (exit-terminal i h)) (λ h. rw (exit-picked i h) blank-least) (nat-le-or-lt (s .rows) i)
+  -- An exit is at most the cap.
+  pub exit-below : (i j : ℕ) → exitBy s i j ⊑ fin (s .caps j)
+  exit-below i j = ⊎-elim (λ h. ⊑-of-eq (exit-terminal i j h)) (λ h. rw (exit-picked i j h) blank-least) (nat-le-or-lt (s .rows) i)
 
 module _ (s : System) (τ : Strategy) where
   -- ---- a round
@@ -106,18 +106,18 @@ module _ (s : System) (τ : Strategy) where
       → valuesAfter s τ (suc k) j ≡ difference (sideOf s (s .right (τ j)) (valuesAfter s τ k)) (s .left (τ j) j)
   unfolding valueAt larger
   round-picked k j h =
-      rw (exit-picked s (τ j) h)
+      rw (exit-picked s (τ j) j h)
       (largest-ext _ _ (s .variables) (λ l i. ap (λ z. plus z (valuesAfter s τ k l)) (weight-picked s (τ j) j l h))
       ∙ difference-largest (s .right (τ j)) (valuesAfter s τ k) (s .left (τ j) j) (s .variables))
 
-  -- A variable without a pick is worth zero.
-  pub round-terminal : (k j : ℕ) → s .rows ≤ τ j → valuesAfter s τ k j ≡ fin (pos 0)
+  -- A variable without a pick is worth its cap.
+  pub round-terminal : (k j : ℕ) → s .rows ≤ τ j → valuesAfter s τ k j ≡ fin (s .caps j)
   unfolding valueAt
-  round-terminal zero j h = exit-terminal s (τ j) h
+  round-terminal zero j h = exit-terminal s (τ j) j h
   round-terminal (suc k) j h = ⊑-antisym
-      (round-least (weights s τ) (exits s τ) (s .variables) k j (exit-below s (τ j))
+      (round-least (weights s τ) (exits s τ) (s .variables) k j (exit-below s (τ j) j)
       (λ l i. rw (weight-terminal s (τ j) j l h, bot-plus) blank-least))
-      (subst (λ z. z ⊑ valuesAfter s τ (suc k) j) (exit-terminal s (τ j) h) (exit-value (weights s τ) (exits s τ) (s .variables) (suc k) j))
+      (subst (λ z. z ⊑ valuesAfter s τ (suc k) j) (exit-terminal s (τ j) j h) (exit-value (weights s τ) (exits s τ) (s .variables) (suc k) j))
 
   -- ---- entries and arcs
 

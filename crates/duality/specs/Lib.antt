@@ -10,3 +10,4 @@ pub mod Classes
 pub mod Gains
 pub mod Sweeps
 pub mod OlderProblems
+pub mod Look

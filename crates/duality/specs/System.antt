@@ -11,12 +11,14 @@ use Rattle.definitions.specs.Certificate.{Strategy, Reachable, raise}
 use Rattle.duality.specs.Circuits.{Circuit}
 use Rattle.duality.specs.Starts.{Only}
 
--- Variables 0 to variables − 1, rows 0 to rows − 1, coefficients by row and variable.
+-- Variables 0 to variables − 1, rows 0 to rows − 1, coefficients by row and variable; and a cap for each variable, below which
+-- the policy iteration looks for solutions. Solutions and strategies that block or save know nothing of caps.
 pub record System : Type 0 where
   pub variables : ℕ
   pub rows : ℕ
   pub left : ℕ → ℕ → Trop
   pub right : ℕ → ℕ → Trop
+  pub caps : ℕ → ℤ
 
 -- One side of a row at a point.
 abbrev pub sideOf : System → (ℕ → Trop) → Point → Trop
@@ -119,6 +121,16 @@ pub record Saved (s : System) (Start : ℕ → Type 0) : Type 0 where
 
 -- ---- the system of a problem at t
 
--- The inequalities, and the objective as one more row whose right side is raised by t.
+-- The inequalities, and the objective as one more row whose right side is raised by t; every cap is 0.
 unfoldable pub systemAt : Problem → ℤ → System
-systemAt p t = record { variables = suc (p .n); rows = suc (p .m); left = p .left; right = λ i l. plus (p .right i l) (fin (raise p t i)) }
+systemAt p t = record {
+  variables = suc (p .n);
+  rows = suc (p .m);
+  left = p .left;
+  right = λ i l. plus (p .right i l) (fin (raise p t i));
+  caps = λ j. pos 0;
+}
+
+-- The inequalities alone, with any caps.
+unfoldable pub rulesOf : Problem → (ℕ → ℤ) → System
+rulesOf p caps = record { variables = suc (p .n); rows = p .m; left = p .left; right = p .right; caps = caps }

@@ -28,9 +28,9 @@ difference (fin b) (fin a) = fin (b -ℤ a)
 unfoldable pub weightBy : System → ℕ → ℕ → ℕ → Trop
 weightBy s i j l = cond (ltb i (s .rows)) (difference (s .right i l) (s .left i j)) bot
 
--- The exit of a variable that picks i: 0 where i is no row (the variable is terminal), else none.
-unfoldable pub exitBy : System → ℕ → Trop
-exitBy s i = cond (ltb i (s .rows)) bot (fin (pos 0))
+-- The exit of variable j that picks i: its cap where i is no row (the variable is terminal), else none.
+unfoldable pub exitBy : System → ℕ → ℕ → Trop
+exitBy s i j = cond (ltb i (s .rows)) bot (fin (s .caps j))
 
 -- The matrix of a strategy.
 abbrev pub weights : System → Strategy → ℕ → ℕ → Trop
@@ -38,7 +38,7 @@ weights s τ j l = weightBy s (τ j) j l
 
 -- The exits of a strategy.
 abbrev pub exits : System → Strategy → ℕ → Trop
-exits s τ j = exitBy s (τ j)
+exits s τ j = exitBy s (τ j) j
 
 -- The value of each variable after k rounds.
 abbrev pub valuesAfter : System → Strategy → ℕ → Point
@@ -48,11 +48,11 @@ valuesAfter s τ k = valueAt (weights s τ) (exits s τ) (s .variables) k
 unfoldable pub values : System → Strategy → Point
 values s τ = valuesAfter s τ (s .variables)
 
--- A strategy that the iteration keeps: its picks count, every closed walk weighs below zero, no value is above zero.
+-- A strategy that the iteration keeps: its picks count, every closed walk weighs below zero, no value is above its cap.
 pub record Policy (s : System) (τ : Strategy) : Type 0 where
   pub valid : (j : ℕ) → j < s .variables → τ j < s .rows → Finite (s .left (τ j) j)
   pub negative : (j n : ℕ) (w : ℤ) → Walk (Arc s τ) j j (suc n) w → w <ℤ pos 0
-  pub below : (j : ℕ) → j < s .variables → values s τ j ⊑ fin (pos 0)
+  pub below : (j : ℕ) → j < s .variables → values s τ j ⊑ fin (s .caps j)
 
 -- Row i fails at variable j: its left term there is above its right side.
 abbrev pub Fails : System → Point → ℕ → ℕ → Type 0
