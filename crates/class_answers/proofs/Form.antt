@@ -17,8 +17,8 @@ use Rattle.definitions.specs.Bytes.{all, blank-or-within}
 use Rattle.definitions.specs.AnswerRecord.{is-zero, stampsFit, picksFit}
 use Rattle.definitions.specs.Verdict.{pointOf, strategyOf}
 use Rattle.definitions.proofs.Offset.{trop-zero}
-use Rattle.trials.specs.Tables as Tables
-use Rattle.trials.specs.Tables.{pickOf}
+use Rattle.policy_iteration.specs.Tables as Tables
+use Rattle.policy_iteration.specs.Tables.{pickOf}
 
 -- ---- a list cut where only zeros follow
 

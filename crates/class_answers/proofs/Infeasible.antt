@@ -25,7 +25,7 @@ use Rattle.duality.proofs.Numbers.{below-infeasible}
 use Rattle.duality.proofs.Classes.{starts-inside, infeasible-exactly}
 use Rattle.duality.proofs.Unused.{infeasible-unused}
 use Rattle.reach.specs.Marks.{StartMarked}
-use Rattle.trials.specs.Tables.{pickOf}
+use Rattle.policy_iteration.specs.Tables.{pickOf}
 use Rattle.trial_tables.specs.declared.frame.Frame.{Frame}
 use Rattle.trial_tables.specs.Frames.{wholeOf, zero-offset, top-offset, Raised, Holds, Ready}
 use Rattle.trial_tables.proofs.Raising.{raised-held, holds-within}

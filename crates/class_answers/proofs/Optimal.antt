@@ -35,7 +35,7 @@ use Rattle.duality.proofs.Picks.{picks-joined, block-picks}
 use Rattle.duality.proofs.Classes.{starts-inside, value-exactly, optimal-exactly, optimal-range}
 use Rattle.duality.proofs.Unused.{optimal-unused}
 use Rattle.reach.specs.Marks.{StartMarked}
-use Rattle.trials.specs.Tables.{pointOf, pickOf}
+use Rattle.policy_iteration.specs.Tables.{pointOf, pickOf}
 use Rattle.trial_tables.specs.declared.frame.Frame.{Frame}
 use Rattle.trial_tables.specs.Frames.{wholeOf, zero-offset, Raised, Holds, Ready}
 use Rattle.trial_tables.proofs.Raising.{raised-held, holds-within}

@@ -14,7 +14,7 @@ use Rattle.definitions.specs.Certificate.{Reachable, start, onward, RowLeads}
 use Rattle.definitions.specs.Solved.{IdleRows}
 use Rattle.duality.specs.Picks.{picksFrom, AgreeInUse}
 use Rattle.duality.proofs.Reach.{reach-keep, reach-map}
-use Rattle.trials.specs.Tables.{pickOf}
+use Rattle.policy_iteration.specs.Tables.{pickOf}
 use Rattle.trial_tables.specs.Frames.{LeftHeld}
 use Rattle.reach.specs.Marks.{Led, StartMarked}
 use Rattle.reach.proofs.Marks.{reached-from, from-reached}

@@ -25,7 +25,7 @@ use Rattle.duality.proofs.Classes.{unsolved-unattainable}
 use Rattle.duality.proofs.Numbers.{top-enough}
 use Rattle.reach.specs.Marks.{StartMarked}
 use Rattle.reach.proofs.Marks.{anchored-marked, coefficients-marked}
-use Rattle.trials.specs.Tables.{pointOf, pickOf}
+use Rattle.policy_iteration.specs.Tables.{pointOf, pickOf}
 use Rattle.trial_tables.specs.declared.frame.Frame.{Frame}
 use Rattle.trial_tables.specs.Frames.{wholeOf, Holds}
 use Rattle.trial_tables.proofs.SecondList.{second-held}

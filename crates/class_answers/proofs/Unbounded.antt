@@ -37,7 +37,7 @@ use Rattle.duality.proofs.Classes.{starts-inside, unbounded-exactly}
 use Rattle.duality.proofs.Unused.{unbounded-unused}
 use Rattle.reach.specs.Marks.{StartMarked, AnchoredAnd}
 use Rattle.reach.proofs.Marks.{anchored-and-marked}
-use Rattle.trials.specs.Tables.{systemOf, pointOf, pickOf}
+use Rattle.policy_iteration.specs.Tables.{systemOf, pointOf, pickOf}
 use Rattle.trial_tables.specs.declared.frame.Frame.{Frame}
 use Rattle.trial_tables.specs.Frames.{wholeOf, top-offset, Trialled, Raised, Holds, Ready}
 use Rattle.trial_tables.specs.Floor.{FloorIs}

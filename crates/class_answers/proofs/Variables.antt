@@ -20,7 +20,7 @@ use Rattle.definitions.proofs.Tropical.{not-finite-bot}
 use Rattle.definitions.proofs.Offset.{trop-zero, trop-fin}
 use Rattle.duality.specs.Picks.{picksFrom, AgreeReached}
 use Rattle.duality.proofs.Reach.{reach-keep, reach-map}
-use Rattle.trials.specs.Tables.{entryOf, pickOf}
+use Rattle.policy_iteration.specs.Tables.{entryOf, pickOf}
 use Rattle.trial_tables.specs.Frames.{Held}
 use Rattle.reach.specs.Marks.{Led, StartMarked}
 use Rattle.reach.proofs.Marks.{reached-from, from-reached}

@@ -4,7 +4,7 @@ ghost use Prim.Native.Nat.{_+_, _<_, _≤_};
 ghost use lib.ListN.{length, getD};
 ghost use Rattle.definitions.specs.Limits.{most-trials, stride};
 ghost use Rattle.records.specs.Decoded.{Rewritten};
-ghost use Rattle.trials.specs.Tables.{Ranged};
+ghost use Rattle.policy_iteration.specs.Tables.{Ranged};
 ghost use Rattle.trial_tables.specs.Frames.{zero-offset, top-offset, Coefficients, Ready, Reraised};
 ghost use Rattle.least_span.specs.State.{Searched};
 ghost use Rattle.class_answers.specs.Answered.{Stamps, StartMarks, Settled, LeastHere, LeastShown, AnswerOf, Answered};
@@ -19,6 +19,7 @@ use least_span::state::try_at;
 use pick_tables::tables::induced;
 use pick_tables::tables::row_picks;
 use pick_tables::tables::variable_picks;
+use policy_iteration::values::gap;
 use reach::anchor;
 use reach::anchor_and;
 use reach::marks_of;
@@ -36,7 +37,6 @@ use trial_tables::frame::Frame;
 use trial_tables::frame::frame_of;
 use trial_tables::frame::raise;
 use trial_tables::second::second_met;
-use trials::values::gap;
 
 // Class (1 least, 2 bottomless, 3 none), span and stamps as offset numbers, the start, the trials of the definition, those that were
 // made, and picks. Stamps and picks count as far as the class has them.

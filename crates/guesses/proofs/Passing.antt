@@ -12,9 +12,9 @@ use Rattle.definitions.specs.Problem.{Point}
 use Rattle.definitions.proofs.Tropical.{⊑-trans, ⊑-of-eq}
 use Rattle.definitions.proofs.Offset.{trop-order}
 use Rattle.duality.specs.System.{System, Solves, sideOf}
-use Rattle.trials.specs.Tables.{systemOf, pointOf, high, highs}
-use Rattle.trials.specs.Rounds.{SideIs}
-use Rattle.trials.proofs.Low.{high-zero, high-mono, high-whole}
+use Rattle.policy_iteration.specs.Tables.{systemOf, pointOf, high, highs}
+use Rattle.policy_iteration.specs.Rounds.{SideIs}
+use Rattle.policy_iteration.proofs.Low.{high-zero, high-mono, high-whole}
 use Rattle.guesses.specs.Guess.{Stand}
 
 -- The first n rows stand.

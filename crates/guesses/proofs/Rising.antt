@@ -11,8 +11,8 @@ use Rattle.base.proofs.Numbers.{nat-le-or-lt}
 use Rattle.base.proofs.Filled.{zeros}
 use Rattle.records.specs.Decoded.{Near}
 use Rattle.records.proofs.Near.{near-zero}
-use Rattle.trials.specs.Tables.{value-limit, low-half, high, highs, Ranged, Lows}
-use Rattle.trials.proofs.Low.{high-zero, high-whole, highs-at, highs-size}
+use Rattle.policy_iteration.specs.Tables.{value-limit, low-half, high, highs, Ranged, Lows}
+use Rattle.policy_iteration.proofs.Low.{high-zero, high-whole, highs-at, highs-size}
 
 -- A height that is kept: blank, or within the limit of values of the low number of 0.
 pub near-blank : Near value-limit (high 0)

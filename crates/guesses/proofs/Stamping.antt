@@ -11,8 +11,8 @@ use Rattle.base.proofs.Filled.{zeros, filled-map, filled-end}
 use Rattle.definitions.specs.Limits.{stamp-limit}
 use Rattle.records.specs.Decoded.{Near}
 use Rattle.records.proofs.Near.{near-zero}
-use Rattle.trials.specs.Tables.{value-limit, low-half, high, highs, Lows}
-use Rattle.trials.proofs.Low.{high-zero, high-whole, highs-at}
+use Rattle.policy_iteration.specs.Tables.{value-limit, low-half, high, highs, Lows}
+use Rattle.policy_iteration.proofs.Low.{high-zero, high-whole, highs-at}
 use Rattle.guesses.specs.Guess.{StampIs, Joined, Stamped}
 use Rattle.guesses.proofs.Rising.{lows-filled}
 

@@ -9,7 +9,7 @@ use Rattle.definitions.specs.Limits.{stamp-limit, stride}
 use Rattle.definitions.specs.Problem.{Point}
 use Rattle.duality.specs.System.{System, Solves}
 use Rattle.records.specs.Decoded.{Near}
-use Rattle.trials.specs.Tables.{value-limit, low-half, high}
+use Rattle.policy_iteration.specs.Tables.{value-limit, low-half, high}
 use Rattle.guesses.specs.declared.guess.Guess.{Guess}
 
 -- The point solves the system, or does not.

@@ -4,7 +4,7 @@
 ghost use Prim.Native.Nat.{ℕ, _+_, _<_, _≤_};
 ghost use Rattle.definitions.specs.Limits.{lead-limit, stride, table-rows};
 ghost use Rattle.records.specs.Decoded.{Near};
-ghost use Rattle.trials.specs.Tables.{raised-limit, value-limit, side-most, side-least, high, Table, Ranged, Lows};
+ghost use Rattle.policy_iteration.specs.Tables.{raised-limit, value-limit, side-most, side-least, high, Table, Ranged, Lows};
 ghost use Rattle.trial_tables.specs.Frames.{Ready};
 ghost use Rattle.guesses.specs.Guess.{StampIs, Joined, Stamped, Guessed};
 use crate::heights::in_range;
@@ -12,16 +12,16 @@ use crate::heights::lowered;
 use crate::heights::risen;
 use crate::heights::target;
 use crate::heights::targets_of;
+use policy_iteration::policy::high_of;
+use policy_iteration::values::LOW;
+use policy_iteration::values::full_side;
+use policy_iteration::values::plus;
+use policy_iteration::values::side;
 use records::limits::OFFSET;
 use records::limits::STAMP_LIMIT;
 use records::limits::STRIDE;
 use records::limits::TABLE;
 use trial_tables::frame::Frame;
-use trials::policy::high_of;
-use trials::values::LOW;
-use trials::values::full_side;
-use trials::values::plus;
-use trials::values::side;
 
 // Stamps are blank or within this of 0.
 const FARTHEST_STAMP: u32 = STAMP_LIMIT as u32;

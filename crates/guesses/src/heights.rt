@@ -5,16 +5,16 @@ ghost use Prim.Native.Nat.{_+_, _<_, _≤_};
 ghost use lib.ListN.{length};
 ghost use Rattle.definitions.specs.Limits.{stride, table-rows};
 ghost use Rattle.records.specs.Decoded.{Near};
-ghost use Rattle.trials.specs.Ends.{EndsOf};
-ghost use Rattle.trials.specs.Tables.{raised-limit, value-limit, side-most, side-least, high, highs, Table, Ranged, Lows, Tables};
+ghost use Rattle.policy_iteration.specs.Ends.{EndsOf};
+ghost use Rattle.policy_iteration.specs.Tables.{raised-limit, value-limit, side-most, side-least, high, highs, Table, Ranged, Lows, Tables};
+use policy_iteration::values::FARTHEST;
+use policy_iteration::values::HALF;
+use policy_iteration::values::LOW;
+use policy_iteration::values::side;
 use records::limits::ROWS;
 use records::limits::STRIDE;
 use records::limits::STRIDE_32;
 use records::limits::TABLE;
-use trials::values::FARTHEST;
-use trials::values::HALF;
-use trials::values::LOW;
-use trials::values::side;
 
 // The low number of a value.
 fn low_of(k: u64) -> u32

@@ -1,11 +1,11 @@
 // A pass over the rows: whether a point solves the system in two tables.
-ghost use Rattle.trials.specs.Ends.{EndsOf};
-ghost use Rattle.trials.specs.Tables.{systemOf, pointOf, highs, Lows, Tables};
+ghost use Rattle.policy_iteration.specs.Ends.{EndsOf};
+ghost use Rattle.policy_iteration.specs.Tables.{systemOf, pointOf, highs, Lows, Tables};
 ghost use Rattle.guesses.specs.Guess.{Stand};
+use policy_iteration::values::side;
 use records::limits::ROWS;
 use records::limits::STRIDE;
 use records::limits::TABLE;
-use trials::values::side;
 
 // Every row stands at the point: its left side is at most its right side. Public for `least_span::advance`.
 pub fn rows_stand(

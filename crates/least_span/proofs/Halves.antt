@@ -16,7 +16,7 @@ use Rattle.definitions.specs.Bisection.{Bracket, Brackets, opening, middle, nex
 use Rattle.definitions.proofs.Whole.{whole, plus-read, subℕ-read}
 use Rattle.definitions.proofs.Bisection.{half-up-is, width-is, Inside, middle-inside, halved-stop, halved-on, following}
 use Rattle.duality.specs.System.{Blocks, systemAt}
-use Rattle.trials.specs.Tables.{pickOf}
+use Rattle.policy_iteration.specs.Tables.{pickOf}
 use Rattle.trial_tables.specs.declared.frame.Frame.{Frame}
 use Rattle.trial_tables.specs.Frames.{wholeOf, top-offset, lowest-offset, Trialled, Reraised}
 use Rattle.least_span.specs.declared.state.Search.{Search}

@@ -22,10 +22,10 @@ use Rattle.duality.specs.System.{Solves, Meets, systemAt}
 use Rattle.duality.specs.Values.{Policy, difference}
 use Rattle.records.specs.Decoded.{Near}
 use Rattle.records.proofs.Near.{near-zero}
-use Rattle.trials.specs.Tables.{systemOf, pointOf, pickOf, value-limit, low-half, high, highs, Ranged}
-use Rattle.trials.specs.Steps.{Tried}
-use Rattle.trials.proofs.Low.{high-zero, high-whole, highs-at}
-use Rattle.trials.proofs.Rounds.{low-zero-is}
+use Rattle.policy_iteration.specs.Tables.{systemOf, pointOf, pickOf, value-limit, low-half, high, highs, Ranged}
+use Rattle.policy_iteration.specs.Steps.{Tried}
+use Rattle.policy_iteration.proofs.Low.{high-zero, high-whole, highs-at}
+use Rattle.policy_iteration.proofs.Rounds.{low-zero-is}
 use Rattle.trial_tables.specs.declared.frame.Frame.{Frame}
 use Rattle.trial_tables.specs.Frames.{wholeOf, zero-offset, top-offset, lowest-offset, Trialled, Raised, Holds, Ready, Reraised}
 use Rattle.trial_tables.specs.Floor.{Floored, FloorFor}

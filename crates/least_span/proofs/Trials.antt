@@ -29,10 +29,10 @@ use Rattle.duality.specs.Within.{Within}
 use Rattle.duality.proofs.Ends.{idle, empty-policy, blank-blocks}
 use Rattle.duality.proofs.Warm.{stays-down-at}
 use Rattle.duality.proofs.Stamps.{stamps-at-most-32}
-use Rattle.trials.specs.Tables.{systemOf, pointOf, pickOf, Ranged}
-use Rattle.trials.specs.Steps.{Tried}
-use Rattle.trials.proofs.Rounds.{zero-is}
-use Rattle.trials.proofs.Steps.{values-ranged}
+use Rattle.policy_iteration.specs.Tables.{systemOf, pointOf, pickOf, Ranged}
+use Rattle.policy_iteration.specs.Steps.{Tried}
+use Rattle.policy_iteration.proofs.Rounds.{zero-is}
+use Rattle.policy_iteration.proofs.Steps.{values-ranged}
 use Rattle.trial_tables.specs.declared.frame.Frame.{Frame}
 use Rattle.trial_tables.specs.Frames.{wholeOf, zero-offset, Trialled, Raised, Holds, Ready}
 use Rattle.trial_tables.proofs.Agree.{Agree, agree-sym, agree-solves, agree-values, agree-policy}

@@ -9,7 +9,7 @@ use Rattle.definitions.specs.Problem.{Problem}
 use Rattle.definitions.specs.Certificate.{startOf}
 use Rattle.definitions.specs.Bisection.{Bracket, Brackets, halved, trials-unbounded, trials-optimal}
 use Rattle.duality.specs.System.{Blocks, systemAt}
-use Rattle.trials.specs.Tables.{pickOf, Ranged}
+use Rattle.policy_iteration.specs.Tables.{pickOf, Ranged}
 use Rattle.trial_tables.specs.declared.frame.Frame.{Frame}
 use Rattle.trial_tables.specs.Frames.{wholeOf, zero-offset, top-offset, lowest-offset, Trialled, Holds, Reraised}
 use Rattle.least_span.specs.declared.state.Search.{Search}

@@ -12,7 +12,7 @@ use Rattle.definitions.specs.Certificate.{Second, startOf}
 use Rattle.definitions.specs.Bytes.{blank-or-within}
 use Rattle.duality.specs.System.{Solves, Meets, Blocks, systemAt}
 use Rattle.duality.specs.Values.{Policy, difference}
-use Rattle.trials.specs.Tables.{pointOf, pickOf, highs, Ranged}
+use Rattle.policy_iteration.specs.Tables.{pointOf, pickOf, highs, Ranged}
 use Rattle.trial_tables.specs.declared.frame.Frame.{Frame}
 use Rattle.trial_tables.specs.Frames.{wholeOf, zero-offset, top-offset, lowest-offset, Holds, Ready, Reraised}
 use Rattle.trial_tables.specs.Floor.{Floored}

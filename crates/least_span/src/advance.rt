@@ -11,10 +11,10 @@ use crate::state::try_at;
 use guesses::guess::Guess;
 use guesses::guess::guess_at;
 use guesses::pass::rows_stand;
+use policy_iteration::policy::highs_of;
 use records::limits::TABLE;
 use trial_tables::frame::Frame;
 use trial_tables::frame::raise;
-use trials::policy::highs_of;
 
 // A floor closer than the lowest trial: nothing has to be tried below it. Public for `class_answers::answer`.
 pub fn floored(search: Search, floor: u64) -> Search

@@ -8,6 +8,8 @@ ghost use Rattle.trial_tables.specs.Frames.{Ready};
 ghost use Rattle.trial_tables.specs.Floor.{FloorFor};
 ghost use Rattle.base.specs.Decides.{Decides};
 ghost use Rattle.least_span.specs.State.{Searched, Affordable, Possible, blockedFrom, MovedTo, TrialMade, Opened};
+use policy_iteration::policy::Outcome;
+use policy_iteration::policy::trial;
 use records::limits::MOST_TRIALS;
 use records::limits::OFFSET;
 use records::limits::SPAN_LIMIT;
@@ -16,8 +18,6 @@ use records::limits::TABLE;
 use trial_tables::frame::Frame;
 use trial_tables::frame::raise;
 use trial_tables::second::second_met;
-use trials::policy::Outcome;
-use trials::policy::trial;
 
 // The two outer trials as offset numbers: 1,290,240 and −1,290,241.
 pub const TOP: u64 = OFFSET + SPAN_LIMIT;

@@ -39,7 +39,7 @@ use Rattle.problem_records.proofs.LeadTables.{problem-decoded}
 use Rattle.problem_records.proofs.ReadProblem.{told-of}
 use Rattle.answer_reader.specs.Fields.{Padded}
 use Rattle.answer_reader.proofs.Passing.{map-at}
-use Rattle.trials.specs.Tables.{raised-limit, Table, Tables}
+use Rattle.policy_iteration.specs.Tables.{raised-limit, Table, Tables}
 use Rattle.merging.specs.Plans.{numbersIn, plansJudged, pairJudged, backBy}
 use Rattle.merging.specs.Outcome.{mergedOf, Read, Posed, Kept, Wrote, below, above, joined, joinedEarly}
 use Rattle.merging.specs.declared.merge.Merged.the-variants as Results

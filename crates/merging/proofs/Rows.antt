@@ -19,7 +19,7 @@ use Rattle.definitions.proofs.Tropical.{largest-ext}
 use Rattle.duality.specs.System.{sideOf, Solves}
 use Rattle.records.specs.Decoded.{Near, Decoded, InTables}
 use Rattle.records.specs.Stamps.{Stamped, stampsPoint}
-use Rattle.trials.specs.Tables.{entryOf, systemOf, pointOf, value-limit, low-half, high, highs, Table, Lows, Tables}
+use Rattle.policy_iteration.specs.Tables.{entryOf, systemOf, pointOf, value-limit, low-half, high, highs, Table, Lows, Tables}
 use Rattle.guesses.specs.Guess.{Stand}
 use Rattle.guesses.proofs.Rising.{lows-filled}
 use Rattle.merging.specs.Plans.{LowPlan}

@@ -12,7 +12,7 @@ use Rattle.definitions.specs.Tropical.{Trop, fin, plus, larger}
 use Rattle.definitions.specs.Bytes.{numsAt, first}
 use Rattle.definitions.specs.Offset.{tropOf, off}
 use Rattle.definitions.specs.Merging.{planFits}
-use Rattle.trials.specs.Tables.{high}
+use Rattle.policy_iteration.specs.Tables.{high}
 
 -- The offset numbers of the first stamps in the bytes of a plan.
 unfoldable pub numbersIn : List ℕ → ℕ → List ℕ

@@ -7,13 +7,13 @@ ghost use Rattle.definitions.specs.Problem.{Problem};
 ghost use Rattle.definitions.specs.Merging.{KeepsRules};
 ghost use Rattle.records.specs.Decoded.{Near, InTables};
 ghost use Rattle.records.specs.Stamps.{Stamped, stampsPoint};
-ghost use Rattle.trials.specs.Tables.{high, Tables};
+ghost use Rattle.policy_iteration.specs.Tables.{high, Tables};
 ghost use Rattle.merging.specs.Plans.{LowPlan};
 use guesses::pass::rows_stand;
+use policy_iteration::ends::ends_of;
+use policy_iteration::values::LOW;
 use records::limits::STRIDE;
 use records::limits::TABLE;
-use trials::ends::ends_of;
-use trials::values::LOW;
 
 // A stamp as the low number of a value, the form in which rows are tested.
 fn low_stamp(stamp: u64) -> u32

@@ -17,11 +17,11 @@ use Rattle.definitions.proofs.Tropical.{not-finite-bot, below-bot, ⊑-of-eq, l
 use Rattle.definitions.proofs.Offset.{trop-zero, trop-order}
 use Rattle.reach.specs.Spreading.{markOf}
 use Rattle.reach.proofs.Marks.{mark-same, mark-arc}
-use Rattle.trials.specs.Tables.{entryOf, pointOf, raised-limit, fold-limit, Table, Ranged}
-use Rattle.trials.specs.Rounds.{foldedAt, sums}
+use Rattle.policy_iteration.specs.Tables.{entryOf, pointOf, raised-limit, fold-limit, Table, Ranged}
+use Rattle.policy_iteration.specs.Rounds.{foldedAt, sums}
 use Rattle.pick_tables.specs.Shown.{shownPick, arcBy, VariableArcs, RowArcIs, RowArcs, Column, BothAre, UsedIs, blank-most, Highest, BestIs}
-use Rattle.trials.proofs.Fold.{folded-low, folded-offsets, folded-mono}
-use Rattle.trials.proofs.Rounds.{false-not-true}
+use Rattle.policy_iteration.proofs.Fold.{folded-low, folded-offsets, folded-mono}
+use Rattle.policy_iteration.proofs.Rounds.{false-not-true}
 
 -- ---- one pick
 

@@ -10,8 +10,8 @@ use Rattle.definitions.specs.Limits.{stride, arcs-size, table-rows}
 use Rattle.definitions.specs.Tropical.{plus, largest, _⊑_, Finite}
 use Rattle.reach.specs.Marks.{Marked, Reached}
 use Rattle.reach.specs.Spreading.{markOf}
-use Rattle.trials.specs.Tables.{entryOf, pointOf}
-use Rattle.trials.specs.Rounds.{sums}
+use Rattle.policy_iteration.specs.Tables.{entryOf, pointOf}
+use Rattle.policy_iteration.specs.Rounds.{sums}
 
 -- The record's form of a pick below `many`, 0 where its mark is 0 or it is none.
 unfoldable pub shownPick : ℕ → ℕ → ℕ → ℕ

@@ -5,15 +5,15 @@ ghost use lib.ListN.{length};
 ghost use Rattle.definitions.specs.Limits.{table-rows, table-size, stride, arcs-size};
 ghost use Rattle.reach.specs.Marks.{Flags};
 ghost use Rattle.reach.specs.Spreading.{markOf};
-ghost use Rattle.trials.specs.Tables.{raised-limit, Table, Ranged};
+ghost use Rattle.policy_iteration.specs.Tables.{raised-limit, Table, Ranged};
 ghost use Rattle.pick_tables.specs.Shown.{BothAre, shownPick, arcBy, VariableArcs, ShownVariables, VariablePicks, Column, RowArcs, UsedIs, ShownRows, RowPicks, BestIs, InducedRows};
+use policy_iteration::values::plus;
 use reach::reach;
 use records::limits::ARCS;
 use records::limits::OFFSET;
 use records::limits::ROWS;
 use records::limits::STRIDE;
 use records::limits::TABLE;
-use trials::values::plus;
 
 // One less than three quarters of 2³²: a sum of two offset numbers is above it exactly if both are whole.
 const BLANK_MOST: u64 = OFFSET + OFFSET / 2 - 1;

@@ -16,7 +16,7 @@ pub fn offset(w: u64) -> u64
     (w % FULL + OFFSET) % FULL
 }
 
-// The same in 32 bits. Public for `problem_records::reader`, `answer_reader::answer`, `trials::values`, `closed_walks::gains`,
+// The same in 32 bits. Public for `problem_records::reader`, `answer_reader::answer`, `policy_iteration::values`, `closed_walks::gains`,
 // `plan_tests`.
 pub fn offset_32(w: u32) -> u32
     requires { ⌜ w < signed-full ⌝ }

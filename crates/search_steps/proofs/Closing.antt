@@ -11,7 +11,7 @@ use Rattle.definitions.specs.Problem.{Problem}
 use Rattle.definitions.specs.Offset.{tropOf}
 use Rattle.definitions.specs.Questions.{part}
 use Rattle.definitions.proofs.Questions.{part-length, part-at}
-use Rattle.trials.specs.Ends.{EndsOf}
+use Rattle.policy_iteration.specs.Ends.{EndsOf}
 use Rattle.trial_tables.specs.declared.frame.Frame.{Frame}
 use Rattle.trial_tables.specs.Frames.{top-offset, lowest-offset, Copied, Coefficients, Holds, Held, Ready, FrameOf, Reraised}
 use Rattle.trial_tables.proofs.Framing.{framed}

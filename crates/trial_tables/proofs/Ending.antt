@@ -6,7 +6,7 @@ use mathlib.Core.List.{List}
 use native.Mathlib.Omega.{arith}
 use lib.ListN.{length, getD}
 use Rattle.base.proofs.Numbers.{nat-le-or-lt}
-use Rattle.trials.specs.Ends.{RowEnds, EndsOf}
+use Rattle.policy_iteration.specs.Ends.{RowEnds, EndsOf}
 use Rattle.trial_tables.specs.Frames.{shifted, Raised, Copied}
 
 -- Ends are those of every row that is blank where this one is.

@@ -10,9 +10,9 @@ use Rattle.base.specs.Numbers.{most}
 use Rattle.base.proofs.Numbers.{nat-le-or-lt, same-or-not, most-left, most-right, most-under}
 use Rattle.definitions.specs.Limits.{signed-half, lead-limit}
 use Rattle.records.specs.Decoded.{Near}
-use Rattle.trials.specs.Ends.{RowEnds}
+use Rattle.policy_iteration.specs.Ends.{RowEnds}
 use Rattle.records.proofs.Near.{near-zero}
-use Rattle.trials.proofs.Small.{near-small}
+use Rattle.policy_iteration.proofs.Small.{near-small}
 use Rattle.trial_tables.specs.declared.frame.Frame.{Frame}
 use Rattle.trial_tables.specs.Frames.{zero-offset, Raised, Ready}
 use Rattle.trial_tables.specs.Floor.{SizeIs, RowNear, RowsNear, FloorFor}

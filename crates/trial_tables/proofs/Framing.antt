@@ -11,8 +11,8 @@ use Rattle.definitions.specs.Problem.{Problem}
 use Rattle.definitions.specs.Offset.{tropOf}
 use Rattle.records.specs.Decoded.{Near, Decoded}
 use Rattle.records.proofs.Near.{near-zero}
-use Rattle.trials.specs.Ends.{EndsOf}
-use Rattle.trials.proofs.Steps.{table-raised}
+use Rattle.policy_iteration.specs.Ends.{EndsOf}
+use Rattle.policy_iteration.proofs.Steps.{table-raised}
 use Rattle.trial_tables.specs.declared.frame.Frame.{Frame}
 use Rattle.trial_tables.specs.Frames.{Copied, Coefficients, Holds, Ready, FrameOf}
 use Rattle.trial_tables.proofs.Ending.{copied-ends}

@@ -26,10 +26,10 @@ use Rattle.duality.specs.System.{System, systemAt}
 use Rattle.duality.specs.Within.{Within}
 use Rattle.records.specs.Decoded.{Near, Decoded, Steady, Rewritten}
 use Rattle.records.proofs.Rewritten.{steady-refl, steady-trans}
-use Rattle.trials.specs.Tables.{entryOf, systemOf, pointOf, raised-limit, Table}
-use Rattle.trials.specs.Ends.{EndsOf}
-use Rattle.trials.proofs.Small.{near-small}
-use Rattle.trials.proofs.Steps.{table-raised}
+use Rattle.policy_iteration.specs.Tables.{entryOf, systemOf, pointOf, raised-limit, Table}
+use Rattle.policy_iteration.specs.Ends.{EndsOf}
+use Rattle.policy_iteration.proofs.Small.{near-small}
+use Rattle.policy_iteration.proofs.Steps.{table-raised}
 use Rattle.trial_tables.specs.declared.frame.Frame.{Frame}
 use Rattle.trial_tables.specs.Frames.{wholeOf, zero-offset, Trialled, shifted, Raised, Copied, Coefficients, Holds, Ready, FrameOf, Reraised, At, LeftHeld, Held}
 use Rattle.trial_tables.proofs.Agree.{Agree}

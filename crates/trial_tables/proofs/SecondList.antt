@@ -11,7 +11,7 @@ use Rattle.definitions.specs.Problem.{Problem}
 use Rattle.definitions.specs.Certificate.{Second}
 use Rattle.definitions.specs.Offset.{tropOf}
 use Rattle.definitions.proofs.Offset.{trop-fin, trop-read}
-use Rattle.trials.specs.Tables.{pointOf}
+use Rattle.policy_iteration.specs.Tables.{pointOf}
 use Rattle.trial_tables.specs.declared.frame.Frame.{Frame}
 use Rattle.trial_tables.specs.Frames.{wholeOf, Holds}
 

@@ -14,8 +14,8 @@ use Rattle.definitions.specs.Tropical.{plus, fin}
 use Rattle.definitions.specs.Problem.{Problem}
 use Rattle.definitions.specs.Certificate.{raise}
 use Rattle.records.specs.Decoded.{Near, Steady}
-use Rattle.trials.specs.Tables.{entryOf, pointOf, Table, Tables}
-use Rattle.trials.specs.Ends.{RowEnds, EndsOf}
+use Rattle.policy_iteration.specs.Tables.{entryOf, pointOf, Table, Tables}
+use Rattle.policy_iteration.specs.Ends.{RowEnds, EndsOf}
 use Rattle.trial_tables.specs.declared.frame.Frame.{Frame}
 
 -- The whole number that an offset number above 0 stands for.

@@ -5,12 +5,13 @@ ghost use Prim.Native.Nat.{_+_, _*_, _/_, _%_, _<_, _≤_};
 ghost use lib.ListN.{length};
 ghost use Rattle.definitions.specs.Limits.{lead-limit, table-size, table-rows, stride};
 ghost use Rattle.records.specs.Decoded.{Near};
-ghost use Rattle.trials.specs.Ends.{wide, RowEnds, EndsOf};
+ghost use Rattle.policy_iteration.specs.Ends.{wide, RowEnds, EndsOf};
 ghost use Rattle.trial_tables.specs.Frames.{Ready, Reraised};
 ghost use Rattle.trial_tables.specs.Floor.{SizeIs, RowNear, RowsNear, FloorFor};
 use crate::frame::Frame;
 use crate::frame::raise;
 use base::larger;
+use policy_iteration::ends::WIDE;
 use records::limits::OFFSET;
 use records::limits::OFFSET_32;
 use records::limits::ROWS;
@@ -18,7 +19,6 @@ use records::limits::STRIDE;
 use records::limits::STRIDE_32;
 use records::limits::STRIDE_64;
 use records::limits::TABLE;
-use trials::ends::WIDE;
 
 // Two coefficients for each of 32 variables: so many weigh a walk at most.
 const A_WALK: u64 = 2 * STRIDE_64;

@@ -5,11 +5,11 @@ ghost use lib.ListN.{length, getD};
 ghost use Rattle.definitions.specs.Limits.{lead-limit, table-size, table-rows, stride};
 ghost use Rattle.records.specs.Decoded.{Near};
 ghost use Rattle.trial_tables.specs.Frames.{Trialled, shifted, Raised, Copied, Coefficients, FrameOf};
+use policy_iteration::ends::ends_of;
 use records::limits::OFFSET;
 use records::limits::ROWS;
 use records::limits::STRIDE;
 use records::limits::TABLE;
-use trials::ends::ends_of;
 
 // What stays of a problem through a search: n and m, the ends of the rows of both tables, and the objective's right
 // coefficients, from which each trial writes its raised row into the right table.

@@ -1,4 +1,4 @@
-use Rattle.trials.proofs.Low.{high-whole}
+use Rattle.policy_iteration.proofs.Low.{high-whole}
 use native.Mathlib.Omega.{arith}
 use borrow.Author.Needs.{needs}
 use Rattle.guesses.proofs.guess.guess_from.Statement.{statement}

@@ -1,5 +1,5 @@
 use Rattle.base.proofs.Numbers.{positive}
-use Rattle.trials.proofs.Steps.{table-raised}
+use Rattle.policy_iteration.proofs.Steps.{table-raised}
 use native.Mathlib.Omega.{arith}
 use borrow.Author.Needs.{needs}
 use Rattle.guesses.proofs.guess.guess_with.Statement.{statement}

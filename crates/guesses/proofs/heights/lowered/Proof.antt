@@ -3,7 +3,7 @@ use native.Mathlib.Omega.{arith}
 use Rattle.base.specs.Filled.{Filled}
 use Rattle.base.proofs.Filled.{filled-none, filled-more}
 use Rattle.records.specs.Decoded.{Near}
-use Rattle.trials.specs.Tables.{value-limit, high}
+use Rattle.policy_iteration.specs.Tables.{value-limit, high}
 use Rattle.guesses.proofs.Rising.{lows-filled}
 use borrow.Author.Needs.{needs}
 use Rattle.guesses.proofs.heights.lowered.Statement.{statement}

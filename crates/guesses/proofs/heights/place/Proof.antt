@@ -1,6 +1,6 @@
 use Prim.Native.Nat.{_≤_, _-_}
 use native.Mathlib.Omega.{arith}
-use Rattle.trials.proofs.Fold.{sum-most}
+use Rattle.policy_iteration.proofs.Fold.{sum-most}
 use borrow.Author.Needs.{needs}
 use Rattle.guesses.proofs.heights.place.Statement.{statement}
 use Rattle.guesses.proofs.heights.place.Tie as tie

@@ -1,9 +1,9 @@
 use Prim.Native.Nat.{_≤_, _-_}
 use native.Mathlib.Omega.{arith}
 use mathlib.Core.Logic.{⊎-elim}
-use Rattle.trials.specs.Tables.{Lows}
+use Rattle.policy_iteration.specs.Tables.{Lows}
 use Rattle.guesses.proofs.Rising.{lows-rise}
-use Rattle.trials.proofs.Steps.{table-raised}
+use Rattle.policy_iteration.proofs.Steps.{table-raised}
 use borrow.Author.Needs.{needs}
 use Rattle.guesses.proofs.heights.rise.Statement.{statement}
 use Rattle.guesses.proofs.heights.rise.Tie as tie

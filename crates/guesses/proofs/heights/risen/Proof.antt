@@ -1,6 +1,6 @@
 use Prim.Native.Nat.{_≤_, _-_}
 use native.Mathlib.Omega.{arith}
-use Rattle.trials.specs.Tables.{Lows}
+use Rattle.policy_iteration.specs.Tables.{Lows}
 use Rattle.guesses.proofs.Rising.{lows-start}
 use borrow.Author.Needs.{needs}
 use Rattle.guesses.proofs.heights.risen.Statement.{statement}

@@ -1,6 +1,6 @@
-use Rattle.trials.proofs.Steps.{table-raised}
+use Rattle.policy_iteration.proofs.Steps.{table-raised}
 use Rattle.guesses.proofs.Passing.{StandTo, stand-more, stand-not, stand-all}
-use Rattle.trials.specs.Tables.{systemOf, pointOf, highs}
+use Rattle.policy_iteration.specs.Tables.{systemOf, pointOf, highs}
 use native.Mathlib.Omega.{arith}
 use Prim.Native.Nat.{_≤_, _-_}
 use borrow.Author.Needs.{needs}

@@ -1,8 +1,0 @@
-use Rattle.trials.proofs.Lowering.{lesser-first, lesser-second}
-use Rattle.trials.proofs.policy.smaller.Statement.{statement}
-use Rattle.trials.proofs.policy.smaller.Tie as tie
-
-pub smaller-spec : {M : Type 1} → statement M
-smaller-spec = tie.close (tie.spec
-    (λ c. search lesser-first)
-    (λ c. search lesser-second))
