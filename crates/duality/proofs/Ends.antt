@@ -13,8 +13,8 @@ use Rattle.definitions.specs.Certificate.{Strategy, Walk, stop, step, Reachable
 use Rattle.definitions.proofs.Tropical.{bot-not-fin, not-finite-bot, finite-above, blank-or-finite, ⊑-of-eq, plus-fin, largest-least}
 use Rattle.duality.specs.System.{System, sideOf, Solves, Solution, Leads, Arc, Blocks}
 use Rattle.duality.specs.Values.{weights, exits, values, Policy}
-use Rattle.duality.proofs.Longest.{stable-potential}
-use Rattle.duality.proofs.Weights.{round-terminal, arc-entry, values-stable}
+use Rattle.duality.proofs.Longest.{entries-end, stable-potential}
+use Rattle.duality.proofs.Weights.{round-terminal, arc-entry, arcs-entries, values-stable}
 
 -- ---- the start
 
@@ -22,19 +22,22 @@ use Rattle.duality.proofs.Weights.{round-terminal, arc-entry, values-st
 unfoldable pub idle : System → Strategy
 idle s j = s .rows
 
-idle-still : (s : System) {j k n : ℕ} {w : ℤ} → 0 < n → Walk (Arc s (idle s)) j k n w → ⊥
-unfolding idle
-idle-still s h stop = omega arith
-idle-still s h (step a r) = let p : s .rows < s .rows = a .picked in omega arith
+idle-still : (s : System) (τ : Strategy) → ((j : ℕ) → j < s .variables → s .rows ≤ τ j) → {j k n : ℕ} {w : ℤ} → 0 < n → j < s .variables → Walk (Arc s τ) j k n w → ⊥
+idle-still s τ none h b stop = omega arith
+idle-still s τ none h b (step {j = j} a r) = omega (arith, a .picked, none j b)
 
--- It is kept: nothing moves, and every value is the cap.
-pub empty-policy : (s : System) → Policy s (idle s)
-unfolding idle values
-empty-policy s = record {
-  valid = λ j h p. absurd (omega arith);
-  negative = λ j n w r. absurd (idle-still s (omega arith) r);
-  below = λ j h. ⊑-of-eq (round-terminal s (idle s) (s .variables) j (omega arith));
+-- A strategy without picks is kept: nothing moves, and every value is the cap.
+pub none-policy : (s : System) (τ : Strategy) → ((j : ℕ) → j < s .variables → s .rows ≤ τ j) → Policy s τ
+unfolding values
+none-policy s τ none = record {
+  valid = λ j h p. absurd (omega (arith, none j h));
+  negative = λ j n w r. absurd (idle-still s τ none (omega arith) (entries-end (omega arith) (arcs-entries s τ r)) r);
+  below = λ j h. ⊑-of-eq (round-terminal s τ (s .variables) j (none j h));
 }
+
+pub empty-policy : (s : System) → Policy s (idle s)
+unfolding idle
+empty-policy s = none-policy s (idle s) (λ j h. omega arith)
 
 -- ---- the end
 

@@ -5,7 +5,7 @@ use mathlib.Core.Bool.{true, false}
 use mathlib.Core.Logic.{_⊎_, ⊎-elim}
 use mathlib.Core.List.{List, []}
 use native.Mathlib.Omega.{arith}
-use native.Mathlib.Nat.{mul-le-mul-right, eq-zero-or-pos}
+use native.Mathlib.Nat.{mul-le-mul-right}
 use native.Mathlib.Numerals.{add-one}
 use lib.ListN.{getD}
 use lib.IntN.{ℤ, pos, subℕ, _-ℤ_}
@@ -72,10 +72,10 @@ less-zero k h =
 
 -- A cap is at least this.
 pub cap-least : {width : ℕ} {caps : List ℕ} → Caps width caps → (j : ℕ) → j < width → low-half ≤ getD caps j 0 + cap-limit
-cap-least {caps = caps} c j h = let p = c .whole j h in omega (arith, c .near j .lo (omega (arith, high-whole (getD caps j 0) p)), high-whole (getD caps j 0) p)
+cap-least {caps = caps} c j h = let p = c .whole j h in omega (arith, c .near j h .lo (omega (arith, high-whole (getD caps j 0) p)), high-whole (getD caps j 0) p)
 
-pub cap-most : {width : ℕ} {caps : List ℕ} → Caps width caps → (j : ℕ) → getD caps j 0 ≤ low-half + cap-limit
-cap-most {caps = caps} c j = ⊎-elim (λ (e : getD caps j 0 ≡ 0). omega arith) (λ (p : 0 < getD caps j 0). omega (arith, c .near j .hi, high-whole (getD caps j 0) p)) (eq-zero-or-pos (getD caps j 0))
+pub cap-most : {width : ℕ} {caps : List ℕ} → Caps width caps → (j : ℕ) → j < width → getD caps j 0 ≤ low-half + cap-limit
+cap-most {caps = caps} c j h = omega (arith, c .near j h .hi, high-whole (getD caps j 0) (c .whole j h))
 
 -- The row that a variable picks, or none: what the round makes of it.
 round-at : (left right caps x : List ℕ) (width rows i j s l r : ℕ) → 0 < getD caps j 0 → low-half ≤ getD caps j 0 + cap-limit → PickedSum right x width rows (getD caps j 0) i s → PickedLeft left rows i j l
@@ -107,7 +107,7 @@ module _ (left right caps picks x : List ℕ) (width rows : ℕ) (t : Tables lef
       let e : getD sums j 0 ≡ signed-half + getD caps j 0 = p .each j b .none n in
       let l = cap-least g j b in
       let f : folded (getD sums j 0) ≡ getD caps j 0 = omega (arith, folded-high {limit = low-fold} (getD sums j 0) (omega arith)) in
-      (omega (arith, cap-most g j), λ z. omega arith, omega (arith, q .each j b .none n)))
+      (omega (arith, cap-most g j b), λ z. omega arith, omega (arith, q .each j b .none n)))
       (λ (n : pickOf picks j < rows).
       let s = p .each j b .row n in
       (s .most, s .least, omega (arith, q .each j b .row n, t .lefts .near (pickOf picks j * 32 + j) .hi)))
@@ -174,7 +174,7 @@ level-ranged left right caps picks x width rows i t g h f = record { size = f .s
         (rounds-small (systemOf left right caps width rows) lead-limit raised-limit cap-limit
         (λ i j. near-small lead-limit _ (t .lefts .near (i * 32 + j)))
         (λ i j. near-small raised-limit _ (t .rights .near (i * 32 + j)))
-        (λ j b. near-abs cap-limit (high (getD caps j 0)) (omega (arith, high-whole (getD caps j 0) (g .whole j b), g .whole j b)) (g .near j))
+        (λ j b. near-abs cap-limit (high (getD caps j 0)) (omega (arith, high-whole (getD caps j 0) (g .whole j b), g .whole j b)) (g .near j b))
         (pickOf picks) i k b)))
 
 -- The same of an array of low values.

@@ -226,7 +226,7 @@ pub tables-bounded : (left right caps : List ℕ) (width rows : ℕ) → Tables 
 tables-bounded left right caps width rows t g = record {
   left = λ i j a h k e. omega (arith, near-small lead-limit _ (t .lefts .near (i * 32 + j)) .size a e);
   right = λ i j b h k e. omega (arith, near-small raised-limit _ (t .rights .near (i * 32 + j)) .size b e);
-  caps = λ j h. near-abs cap-limit (high (getD caps j 0)) (omega (arith, high-whole (getD caps j 0) (g .whole j h), g .whole j h)) (g .near j);
+  caps = λ j h. near-abs cap-limit (high (getD caps j 0)) (omega (arith, high-whole (getD caps j 0) (g .whole j h), g .whole j h)) (g .near j h);
 }
 
 -- Values are within their limit.
@@ -279,16 +279,17 @@ step-lower left right caps x picks next width rows moved t g p v i e =
     (m .place) (m .inside) (fails-values s x picks v (m .place) (m .inside) (m .now))
 
 -- Each pick is a row, or as it was.
-abbrev pub PickedFrom : ℕ → ℕ → List ℕ → List ℕ → Type 0
-PickedFrom width rows from picks = (j : ℕ) → j < width → (pickOf picks j < rows) ⊎ (pickOf picks j ≡ pickOf from j)
+abbrev pub PickedFrom : ℕ → List ℕ → List ℕ → Type 0
+PickedFrom rows from picks = (j : ℕ) → (pickOf picks j < rows) ⊎ (pickOf picks j ≡ pickOf from j)
 
-pub step-picked : (left right x from picks next : List ℕ) (width rows : ℕ) (moved : Bool) → PickedFrom width rows from picks
-    → Improved (systemOf left right [] width rows) (pointOf x) (pickOf picks) (pickOf next) moved width → PickedFrom width rows from next
-step-picked left right x from picks next width rows moved p i j h =
-    ⊎-elim (λ e. ⊎-elim (λ (b : pickOf picks j < rows). inl (rw e b)) (λ b. inr (e ∙ b)) (p j h)) (λ f. inl (f .picked)) (i .switch j h)
+pub step-picked : (left right x from picks next : List ℕ) (width rows : ℕ) (moved : Bool) → PickedFrom rows from picks
+    → Improved (systemOf left right [] width rows) (pointOf x) (pickOf picks) (pickOf next) moved width → PickedFrom rows from next
+step-picked left right x from picks next width rows moved p i j =
+    ⊎-elim (λ e. ⊎-elim (λ (b : pickOf picks j < rows). inl (rw e b)) (λ b. inr (e ∙ b)) (p j)) (λ f. inl (f .picked))
+    (⊎-elim (λ (h : width ≤ j). inl (i .later j h)) (λ (h : j < width). i .switch j h) (nat-le-or-lt width j))
 
 -- Where nothing moved the values solve the system.
-pub step-tried : (left right caps x picks next : List ℕ) (width rows : ℕ) (moved : Bool) (from : List ℕ) → length picks ≡ 32 → PickedFrom width rows from picks
+pub step-tried : (left right caps x picks next : List ℕ) (width rows : ℕ) (moved : Bool) (from : List ℕ) → length picks ≡ 32 → PickedFrom rows from picks
     → Policy (systemOf left right caps width rows) (pickOf picks) → ValuesIs (systemOf left right caps width rows) (pickOf picks) x
     → Improved (systemOf left right [] width rows) (pointOf x) (pickOf picks) (pickOf next) moved width → moved ≡ false
     → Iterated (systemOf left right caps width rows) from x picks
@@ -301,7 +302,7 @@ step-tried left right caps x picks next width rows moved from l o p v i e = reco
 }
 
 -- Where variable 0 has no value left the iteration may stop.
-pub stop-tried : (s : System) (x from picks : List ℕ) → length picks ≡ 32 → PickedFrom (s .variables) (s .rows) from picks → Policy s (pickOf picks) → ValuesIs s (pickOf picks) (highs x) → getD x 0 0 ≡ 0
+pub stop-tried : (s : System) (x from picks : List ℕ) → length picks ≡ 32 → PickedFrom (s .rows) from picks → Policy s (pickOf picks) → ValuesIs s (pickOf picks) (highs x) → getD x 0 0 ≡ 0
     → Iterated s from (highs x) picks
 stop-tried s x from picks l o p v e = record { size = l; picked = o; policy = p; values-are = v; solves = λ h. absurd (omega (arith, blank)) }
   where

@@ -159,7 +159,7 @@ pub record Improved (s : System) (x : Point) (τ τ′ : Strategy) (moved : Bool
 -- system, where that of variable 0 is not blank.
 pub record Iterated (s : System) (from x picks : List ℕ) : Type 0 where
   pub size : length picks ≡ stride
-  pub picked : (j : ℕ) → j < s .variables → (pickOf picks j < s .rows) ⊎ (pickOf picks j ≡ pickOf from j)
+  pub picked : (j : ℕ) → (pickOf picks j < s .rows) ⊎ (pickOf picks j ≡ pickOf from j)
   pub policy : Policy s (pickOf picks)
   pub values-are : ValuesIs s (pickOf picks) x
   pub solves : 0 < getD x 0 0 → Solves s (pointOf x)

@@ -95,7 +95,7 @@ pub record Lows (width : ℕ) (x : List ℕ) : Type 0 where
 pub record Caps (width : ℕ) (caps : List ℕ) : Type 0 where
   pub size : length caps ≡ stride
   pub whole : (j : ℕ) → j < width → 0 < getD caps j 0
-  pub near : (k : ℕ) → Near cap-limit (high (getD caps k 0))
+  pub near : (j : ℕ) → j < width → Near cap-limit (high (getD caps j 0))
 
 -- The two tables of a system of at most 32 variables and 64 rows.
 pub record Tables (left right : List ℕ) (width rows : ℕ) : Type 0 where

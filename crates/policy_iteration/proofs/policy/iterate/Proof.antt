@@ -11,7 +11,7 @@ use Rattle.policy_iteration.proofs.policy.iterate.Statement.{statement}
 use Rattle.policy_iteration.proofs.policy.iterate.Tie as tie
 
 abbrev Inv-loop : tie.InvT-loop
-Inv-loop left right lefts rights caps width rows kept₀ kept = Policy (systemOf left right caps width rows) (pickOf kept) × (length kept ≡ 32) × PickedFrom width rows kept₀ kept
+Inv-loop left right lefts rights caps width rows kept₀ kept = Policy (systemOf left right caps width rows) (pickOf kept) × (length kept ≡ 32) × PickedFrom rows kept₀ kept
 
 abbrev μ-loop : tie.MeasureT-loop
 μ-loop left right lefts rights caps width rows kept₀ kept = height (systemOf left right caps width rows) cap-limit (pickOf kept)
@@ -22,7 +22,7 @@ iterate-spec =
     (tie.spec
     Inv-loop
     μ-loop
-    (λ c. (c .pre .1, search needs, λ j h. inr refl))
+    (λ c. (c .pre .1, search needs, λ j. inr refl))
     (λ c κs. (c .before .before .pre .0, c .before .loop .inv .1, c .before .before .pre .3, c .before .before .pre .4))
     (λ c. search needs)
     (λ c.

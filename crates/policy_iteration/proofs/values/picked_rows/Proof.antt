@@ -24,7 +24,7 @@ picked-rows-spec =
     (λ c. search needs)
     (λ c. search needs)
     (λ c. search needs)
-    (λ c κs. let p = c .before .before .before .before .pre in (omega (arith, cap-most (p .4) (c .before .before .before .loop .j)), p .0 .rows-most, p .0 .width-most, p .0 .rights, p .2, p .3))
+    (λ c κs. let p = c .before .before .before .before .pre in (omega (arith, cap-most (p .4) (c .before .before .before .loop .j) (omega arith)), p .0 .rows-most, p .0 .width-most, p .0 .rights, p .2, p .3))
     (λ c. search needs)
     (λ c. search needs)
     (λ c κs. let p = c .before .before .before .before .before .pre in (p .0 .rows-most, p .0 .lefts, omega (arith, p .0 .width-most)))

@@ -1,0 +1,4 @@
+pub mod Agree
+pub mod Tables
+pub mod SecondList
+pub mod Looking

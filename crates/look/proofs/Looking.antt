@@ -1,0 +1,272 @@
+-- Laws of a look on tables: what the iteration under caps ends with, and that its second side decides every trial of each problem in
+-- the tables.
+use Prim.Native.Nat.{ℕ, suc, _+_, _*_, _≤_, _<_}
+use mathlib.Core.Path.{_≡_, refl, sym, ap, ap₂, subst, _∙_}
+use mathlib.Core.Logic.{_⊎_, inl, inr, ⊎-elim}
+use mathlib.Core.List.{List}
+use native.Mathlib.Omega.{arith}
+use native.Mathlib.Nat.{eq-zero-or-pos}
+use native.Mathlib.Numerals.{add-one}
+use lib.ListN.{length, getD, replicate, length-replicate, getD-replicate}
+use lib.IntN.{ℤ, pos, negℤ, subℕ}
+use lib.Signed.{_≤ℤ_}
+use Rattle.base.proofs.Numbers.{nat-le-or-lt}
+use Rattle.definitions.specs.Limits.{signed-half, signed-full, lead-limit, span-limit}
+use Rattle.definitions.specs.Tropical.{Trop, bot, fin, plus, largest, _⊑_, whole-least, Finite}
+use Rattle.definitions.specs.Problem.{Problem, Point, side, Attainable}
+use Rattle.definitions.specs.Certificate.{Strategy, Anchor, Second, startOf}
+use Rattle.definitions.specs.Offset.{tropOf}
+use Rattle.definitions.proofs.Whole.{whole, neg-read, subℕ-read}
+use Rattle.definitions.proofs.Tropical.{bot-not-fin, not-finite-bot, blank-or-finite, finite-above, fin-below, ⊑-trans, ⊑-of-eq, below-bot, plus-fin, plus-parts, largest-above, largest-ext, largest-at}
+use Rattle.definitions.proofs.Offset.{trop-zero, trop-fin}
+use Rattle.duality.specs.System.{System, sideOf, Solves, Meets, Blocks, systemAt, rulesOf}
+use Rattle.duality.specs.Values.{values, Policy}
+use Rattle.duality.specs.Within.{Within, lower}
+use Rattle.duality.specs.Look.{Capped, Far, secondAt}
+use Rattle.duality.proofs.Ends.{none-policy}
+use Rattle.duality.proofs.Attain.{joint-attainable}
+use Rattle.duality.proofs.Look.{look-solves, look-blocks, look-blank, kept-at}
+use Rattle.policy_iteration.specs.Tables.{entryOf, systemOf, pointOf, pickOf, capOf, cap-limit, side-most, high, highs, Tables}
+use Rattle.policy_iteration.specs.Rounds.{SideIs}
+use Rattle.policy_iteration.specs.Steps.{Iterated}
+use Rattle.policy_iteration.proofs.Low.{high-zero, high-whole, highs-at}
+use Rattle.search.specs.Trials.{wholeOf, Trialled, PossibleBy}
+use Rattle.look.specs.declared.frame.Frame.{Frame}
+use Rattle.look.specs.declared.greatest.GreatestPoint.{GreatestPoint}
+use Rattle.look.specs.declared.greatest.Look.{Look}
+use Rattle.look.specs.Frames.{Coefficients, Ready, Held}
+use Rattle.look.specs.Look.{level, CapsFor, rulesIn, secondIn, Under, Decided, Looked}
+use Rattle.look.proofs.Agree.{Agree, agree-sym, agree-solves, agree-values, agree-policy}
+use Rattle.look.proofs.Tables.{held-within, caps-capped, agree-rules, agree-level}
+use Rattle.look.proofs.SecondList.{second-coefficient}
+
+-- ---- the iteration under caps
+
+-- It starts without picks.
+pub none-kept : (f : Frame) (left right caps : List ℕ) (none : ℕ) → f .n ≤ 31 → f .m ≤ none → Policy (rulesIn f left right caps) (pickOf (replicate 32 none))
+none-kept f left right caps none b h =
+    none-policy (rulesIn f left right caps) (pickOf (replicate 32 none)) (λ j i. omega (arith, getD-replicate {A = ℕ} 32 j none 0 (omega arith)))
+
+module _ (f : Frame) (left right caps : List ℕ) (none : ℕ) (x picks : List ℕ)
+    (d : Iterated (rulesIn f left right caps) (replicate 32 none) (highs x) picks) where
+  pick-from : (j : ℕ) → j < 32 → (pickOf picks j < f .m) ⊎ (pickOf picks j ≡ none)
+  pick-from j h = ⊎-elim (λ b. inl b) (λ e. inr (e ∙ getD-replicate {A = ℕ} 32 j none 0 h)) (d .picked j)
+
+  value-is : (j : ℕ) → j < f .n + 1 → values (rulesIn f left right caps) (pickOf picks) j ≡ tropOf (high (getD x j 0))
+  value-is j h = sym (d .values-are .each j h) ∙ ap tropOf (highs-at x j)
+
+  -- Variable 0 has no value left: the strategy blocks from it.
+  pub under-blank : getD x 0 0 ≡ 0 → Under f left right caps none (record { start = 0; second = 0; picks = picks })
+  under-blank e = record {
+    size = d .size;
+    picked = pick-from;
+    policy = d .policy;
+    second-most = omega arith;
+    whole-start = λ h. absurd (omega arith);
+    whole-anchor = λ h. absurd (omega arith);
+    whole-second = λ h. absurd (omega arith);
+    whole-solves = λ h. absurd (omega arith);
+    blank = λ _. inl (refl, value-is 0 (omega arith) ∙ rw (e, high-zero) trop-zero);
+  }
+
+  -- Else the second side is told.
+  pub under-second : (r : ℕ) → (getD x 0 0 ≡ 0 → ⊥) → SideIs right (f .m) (highs x) (f .n + 1) r
+      → Under f left right caps none (record { start = 1; second = high r; picks = picks })
+  under-second r h s = record {
+    size = d .size;
+    picked = pick-from;
+    policy = d .policy;
+    second-most = most;
+    whole-start = λ _. refl;
+    whole-anchor = λ _ b. absurd (bot-not-fin (sym b ∙ value-is 0 (omega arith) ∙ trop-fin (high (getD x 0 0)) first));
+    whole-second = λ _. side-is;
+    whole-solves = λ _ i b. solves i b;
+    blank = λ e. inr (refl, sym side-is ∙ rw e trop-zero);
+  }
+    where
+      first : 0 < high (getD x 0 0)
+      first = ⊎-elim (λ (e : getD x 0 0 ≡ 0). absurd (h e)) (λ (p : 0 < getD x 0 0). omega (arith, high-whole (getD x 0 0) p)) (eq-zero-or-pos (getD x 0 0))
+
+      most : high r < signed-full
+      most = ⊎-elim (λ (e : r ≡ 0). omega (arith, ap high e ∙ high-zero)) (λ (p : 0 < r). omega (arith, high-whole r p, s .most)) (eq-zero-or-pos r)
+
+      same-side : (c : ℕ → Trop) → sideOf (rulesIn f left right caps) c (pointOf (highs x)) ≡ sideOf (rulesIn f left right caps) c (values (rulesIn f left right caps) (pickOf picks))
+      same-side c = largest-ext _ _ (f .n + 1) (λ l b. ap (plus (c l)) (d .values-are .each l b))
+
+      side-is : tropOf (high r) ≡ secondIn f left right caps (values (rulesIn f left right caps) (pickOf picks))
+      side-is = s .is ∙ same-side (entryOf right (f .m))
+
+      solves : Solves (rulesIn f left right caps) (values (rulesIn f left right caps) (pickOf picks))
+      solves i b = rw (← same-side (entryOf left i), ← same-side (entryOf right i)) (d .solves (rw (highs-at x 0) first) i b)
+
+-- ---- the problem in the tables
+
+module _ {p : Problem} {left right : List ℕ} (f : Frame) (caps : List ℕ) (q : Held p (f .n) (f .m) left right) (τ : Strategy) where
+  values-rules : (j : ℕ) → j ≤ p .n → values (rulesIn f left right caps) τ j ≡ values (rulesOf p (capOf caps)) τ j
+  values-rules j h = agree-values (rulesIn f left right caps) (rulesOf p (capOf caps)) τ τ (agree-rules q caps) (λ j h. refl) j (omega (arith, q .n-is))
+
+  policy-rules : Policy (rulesIn f left right caps) τ → Policy (rulesOf p (capOf caps)) τ
+  policy-rules k = agree-policy (rulesIn f left right caps) (rulesOf p (capOf caps)) τ τ (agree-rules q caps) (λ j h. refl) k
+
+  second-rules : secondIn f left right caps (values (rulesIn f left right caps) τ) ≡ secondAt p (values (rulesOf p (capOf caps)) τ)
+  unfolding side
+  second-rules =
+      largest-ext _ (λ l. plus (p .right (p .m) l) (values (rulesOf p (capOf caps)) τ l)) (f .n + 1)
+      (λ l b. ap₂ plus (second-coefficient q l (omega (arith, q .n-is))) (values-rules l (omega (arith, q .n-is))))
+      ∙ ap (largest (λ l. plus (p .right (p .m) l) (values (rulesOf p (capOf caps)) τ l))) (sym (rw (add-one, q .n-is)))
+
+  solves-rules : Solves (rulesIn f left right caps) (values (rulesIn f left right caps) τ) → Solves (rulesOf p (capOf caps)) (values (rulesOf p (capOf caps)) τ)
+  unfolding rulesOf
+  solves-rules k i b =
+      rw (← same (p .left i), ← same (p .right i)) (agree-solves (values (rulesIn f left right caps) τ) (agree-rules q caps) k i b)
+    where
+      same : (c : ℕ → Trop) → largest (λ l. plus (c l) (values (rulesIn f left right caps) τ l)) (suc (p .n)) ≡ largest (λ l. plus (c l) (values (rulesOf p (capOf caps)) τ l)) (suc (p .n))
+      same c = largest-ext _ _ (suc (p .n)) (λ l b. ap (plus (c l)) (values-rules l (omega arith)))
+
+-- ---- none: the strategy blocks at every t
+
+-- A blank second side leaves every variable of the second list blank.
+second-blank : (p : Problem) (x : Point) → secondAt p x ≡ bot → (j : ℕ) → Second p j → x j ≡ bot
+unfolding side
+second-blank p x e j s = ⊎-elim (λ z. z) (λ g. absurd (not-finite-bot (clash g))) (blank-or-finite (x j))
+  where
+    clash : Finite (x j) → Finite bot
+    clash g =
+        let b : plus (p .right (p .m) j) (x j) ⊑ largest (λ l. plus (p .right (p .m) l) (x l)) (suc (p .n)) = largest-above (λ l. plus (p .right (p .m) l) (x l)) (suc (p .n)) j (omega (arith, s .inside)) in
+        finite-above (rw (s .right .is, g .is, plus-fin, e) at b)
+
+module _ {p : Problem} {f : Frame} {left right caps : List ℕ} {none : ℕ} {g : GreatestPoint} (q : Held p (f .n) (f .m) left right)
+    (u : Under f left right caps none g) where
+  pub under-blocks : g .second ≡ 0 → (t : ℤ) → Blocks (systemAt p t) (startOf p (g .start)) (pickOf (g .picks))
+  unfolding startOf
+  under-blocks e t = ⊎-elim
+      (λ b. rw (b .0) (look-blank p (capOf caps) (pickOf (g .picks)) kept Anchor (λ j a. (omega (arith, a), rw a (sym (value 0 (omega arith)) ∙ b .1))) t))
+      (λ b. rw (b .0) (look-blank p (capOf caps) (pickOf (g .picks)) kept (Second p)
+      (λ j a. (a .inside, second-blank p _ (sym (second-rules f caps q (pickOf (g .picks))) ∙ b .1) j a)) t))
+      (u .blank e)
+    where
+      kept : Policy (rulesOf p (capOf caps)) (pickOf (g .picks))
+      kept = policy-rules f caps q (pickOf (g .picks)) (u .policy)
+
+      value : (j : ℕ) → j ≤ p .n → values (rulesIn f left right caps) (pickOf (g .picks)) j ≡ values (rulesOf p (capOf caps)) (pickOf (g .picks)) j
+      value j h = values-rules f caps q (pickOf (g .picks)) j h
+
+-- ---- every trial
+
+-- The comparison in offset numbers is that of −t with the second side.
+possible-shows : (second t : ℕ) → PossibleBy second t → Trialled t → (0 < second) × (fin (negℤ (wholeOf t)) ⊑ tropOf second)
+possible-shows second t h b =
+    let p : 0 < second = omega (arith, b .highest) in
+    let r : negℤ (wholeOf t) ≤ℤ wholeOf second = omega (whole, neg-read (wholeOf t), subℕ-read t signed-half, subℕ-read second signed-half) in
+    (p, rw (trop-fin second p) (whole-least r))
+
+shows-possible : (second t : ℕ) → fin (negℤ (wholeOf t)) ⊑ tropOf second → PossibleBy second t
+shows-possible second t h = ⊎-elim
+    (λ (e : second ≡ 0). absurd (not-finite-bot (finite-above (rw (e, trop-zero) at h))))
+    (λ (p : 0 < second). let r : negℤ (wholeOf t) ≤ℤ wholeOf second = fin-below (rw (trop-fin second p) at h) in
+    omega (whole, neg-read (wholeOf t), subℕ-read t signed-half, subℕ-read second signed-half))
+    (eq-zero-or-pos second)
+
+trial-lowest : (t : ℕ) → Trialled t → lower span-limit ≤ℤ wholeOf t
+trial-lowest t b = omega (whole, subℕ-read t signed-half, b .lowest)
+
+module _ {p : Problem} {f : Frame} {left right caps : List ℕ} {g : GreatestPoint} (q : Held p (f .n) (f .m) left right)
+    (c : Coefficients (f .n) (f .m) left right) (s : CapsFor left (f .m) 32 caps) (u : Under f left right caps (f .m) g) where
+  kept : Policy (rulesOf p (capOf caps)) (pickOf (g .picks))
+  kept = policy-rules f caps q (pickOf (g .picks)) (u .policy)
+
+  second-is : 0 < g .second → tropOf (g .second) ≡ secondAt p (values (rulesOf p (capOf caps)) (pickOf (g .picks)))
+  second-is h = u .whole-second h ∙ second-rules f caps q (pickOf (g .picks))
+
+  -- A trial that the second side shows possible is.
+  capped-possible : (t : ℕ) → Trialled t → PossibleBy (g .second) t → Attainable p (wholeOf t)
+  unfolding systemAt rulesOf side
+  capped-possible t b h =
+      let r = possible-shows (g .second) t h b in
+      let e = second-is (r .0) in
+      let x = values (rulesOf p (capOf caps)) (pickOf (g .picks)) in
+      let z : fin (negℤ (wholeOf t)) ⊑ secondAt p x = ⊑-trans (r .1) (⊑-of-eq e) in
+      let a = largest-at (λ l. plus (p .right (p .m) l) (values (rulesOf p (capOf caps)) (pickOf (g .picks)) l)) (suc (p .n)) (finite-above z) in
+      let m = plus-parts (subst Finite (a .same) (finite-above z)) in
+      joint-attainable p (wholeOf t) (record {
+        point = x;
+        solves = look-solves p cap-limit (capOf caps) (caps-capped q c s) x (λ j i. kept .below j (omega arith)) (solves-rules f caps q (pickOf (g .picks)) (u .whole-solves (r .0))) (wholeOf t) z;
+        first = record { at = 0; inside = omega arith; started = refl; finite = anchor (r .0) };
+        second = record { at = a .place; inside = a .inside; started = record { inside = omega (arith, a .inside); right = m .0 }; finite = m .1 };
+      })
+    where
+      anchor : 0 < g .second → Finite (values (rulesOf p (capOf caps)) (pickOf (g .picks)) 0)
+      anchor h = ⊎-elim
+          (λ z. absurd (u .whole-anchor h (values-rules f caps q (pickOf (g .picks)) 0 (omega arith) ∙ z)))
+          (λ z. z)
+          (blank-or-finite (values (rulesOf p (capOf caps)) (pickOf (g .picks)) 0))
+
+  -- Where it does not, the strategy blocks from the start.
+  capped-impossible : (t : ℕ) → Trialled t → (PossibleBy (g .second) t → ⊥) → Blocks (systemAt p (wholeOf t)) (startOf p (g .start)) (pickOf (g .picks))
+  unfolding startOf
+  capped-impossible t b d = ⊎-elim
+      (λ (e : g .second ≡ 0). under-blocks q u e (wholeOf t))
+      (λ (h : 0 < g .second). rw (u .whole-start h)
+      (look-blocks p lead-limit span-limit cap-limit (capOf caps) (held-within q c) far (caps-capped q c s) (pickOf (g .picks)) kept picks (wholeOf t) (trial-lowest t b)
+      (λ z. d (shows-possible (g .second) t (⊑-trans z (⊑-of-eq (sym (second-is h))))))))
+      (eq-zero-or-pos (g .second))
+    where
+      far : Far (p .n) lead-limit span-limit cap-limit
+      far = omega (arith, c .n-most, q .n-is)
+
+      picks : (j : ℕ) → j ≤ p .n → pickOf (g .picks) j ≤ p .m
+      picks j h = ⊎-elim (λ (b : pickOf (g .picks) j < f .m). omega (arith, q .m-is)) (λ (e : pickOf (g .picks) j ≡ f .m). omega (arith, q .m-is)) (u .picked j (omega (arith, c .n-most, q .n-is)))
+
+-- ---- the look
+
+-- The strategy of level caps is kept at every t.
+level-kept : {p : Problem} {f : Frame} {left right : List ℕ} {g : GreatestPoint} → Held p (f .n) (f .m) left right → f .n ≤ 31
+    → Under f left right level (f .m + 1) g → (t : ℤ) → Policy (systemAt p t) (pickOf (g .picks))
+level-kept {p} {f} {left} {right} {g} q b u t =
+    kept-at p t (pickOf (g .picks)) (agree-policy (rulesIn f left right level) (rulesOf p (λ j. pos 0)) (pickOf (g .picks)) (pickOf (g .picks)) (agree-level q b) (λ j h. refl) (u .policy))
+    (λ j h. ⊎-elim (λ (z : pickOf (g .picks) j < f .m). inl (omega (arith, q .m-is))) (λ (z : pickOf (g .picks) j ≡ f .m + 1). inr (omega (arith, q .m-is))) (u .picked j (omega (arith, q .n-is))))
+
+picks-few : {f : Frame} {left right caps : List ℕ} {none : ℕ} {g : GreatestPoint} → none ≤ f .m + 1 → Under f left right caps none g
+    → (j : ℕ) → j < 32 → pickOf (g .picks) j ≤ f .m + 1
+picks-few {f} {none = none} {g = g} h u j b = ⊎-elim (λ (z : pickOf (g .picks) j < f .m). omega arith) (λ (z : pickOf (g .picks) j ≡ none). omega arith) (u .picked j b)
+
+start-few : {f : Frame} {left right caps : List ℕ} {none : ℕ} {g : GreatestPoint} → Under f left right caps none g → g .start ≤ 1
+start-few {g = g} u = ⊎-elim
+    (λ (e : g .second ≡ 0). ⊎-elim (λ z. omega (arith, z .0)) (λ z. omega (arith, z .0)) (u .blank e))
+    (λ (h : 0 < g .second). omega (arith, u .whole-start h))
+    (eq-zero-or-pos (g .second))
+
+-- No span is possible.
+pub looked-none : {f : Frame} {left right : List ℕ} {g : GreatestPoint} → Ready f left right → Under f left right level (f .m + 1) g → g .second ≡ 0
+    → Looked (f .n) (f .m) left right (record { start = g .start; second = 0; picks = g .picks; kept = g .picks })
+looked-none {f} {left} {right} {g} y u e = record {
+  picks-size = u .size;
+  kept-size = u .size;
+  picks-most = picks-few (omega arith) u;
+  kept-most = picks-few (omega arith) u;
+  start-most = start-few u;
+  second-most = omega arith;
+  decided = λ p q. record {
+    possible = λ t b h. absurd (omega (arith, b .highest));
+    impossible = λ t b d. under-blocks q u e (wholeOf t);
+    kept-at = level-kept q (y .coefficients .n-most) u;
+  };
+}
+
+-- The second side under the caps of the first list decides.
+pub looked-capped : {f : Frame} {left right caps : List ℕ} {g h : GreatestPoint} → Ready f left right → Under f left right level (f .m + 1) g
+    → CapsFor left (f .m) 32 caps → Under f left right caps (f .m) h
+    → Looked (f .n) (f .m) left right (record { start = h .start; second = h .second; picks = h .picks; kept = g .picks })
+looked-capped {f} {left} {right} {caps} {g} {h} y u s v = record {
+  picks-size = v .size;
+  kept-size = u .size;
+  picks-most = picks-few (omega arith) v;
+  kept-most = picks-few (omega arith) u;
+  start-most = start-few v;
+  second-most = v .second-most;
+  decided = λ p q. record {
+    possible = capped-possible q (y .coefficients) s v;
+    impossible = capped-impossible q (y .coefficients) s v;
+    kept-at = level-kept q (y .coefficients .n-most) u;
+  };
+}

@@ -1,0 +1,4 @@
+pub mod Frames
+pub mod Look
+pub mod Point
+pub mod SecondList

@@ -1,0 +1,98 @@
+// One look: the greatest point that keeps the inequalities under the caps of the first list. Its second side S decides every trial:
+// a span of at most t is possible exactly when −t is at most S.
+ghost use mathlib.Core.Path.{_≡_};
+ghost use Prim.Native.Nat.{_+_, _≤_};
+ghost use Rattle.policy_iteration.specs.Tables.{Caps};
+ghost use Rattle.look.specs.Frames.{Ready};
+ghost use Rattle.look.specs.Look.{Under, Looked};
+use crate::caps::caps_of;
+use crate::caps::level_caps;
+use crate::frame::Frame;
+use policy_iteration::policy::high_of;
+use policy_iteration::policy::iterate;
+use policy_iteration::values::side;
+use records::limits::STRIDE;
+use records::limits::TABLE;
+
+// The greatest point under caps, by the strategy that it ends with, and its second side as an offset number. 0 stands for a blank side, or
+// for a point without a value of variable 0; the strategy then blocks from the start: 0 the anchor, 1 the second list.
+pub struct GreatestPoint {
+    pub start: u64,
+    pub second: u64,
+    pub picks: [usize; STRIDE],
+}
+
+// The greatest point that keeps the inequalities under caps. A variable without a pick has the number `none`.
+fn greatest_under(
+    left: &[u32; TABLE],
+    right: &[u32; TABLE],
+    frame: Frame,
+    caps: &[u32; STRIDE],
+    none: usize,
+) -> GreatestPoint
+    requires { ⌜ Ready frame (now left) (now right) × Caps (frame .n + 1) (now caps) × (frame .m ≤ none) ⌝ }
+    ensures { λ r. ⌜ Under frame (now (left .entry)) (now (right .entry)) (now (caps .entry)) none r ⌝ }
+{
+    let lefts = frame.lefts;
+    let rights = frame.rights;
+    let end = iterate(
+        left,
+        right,
+        &lefts,
+        &rights,
+        caps,
+        [none; STRIDE],
+        frame.n + 1,
+        frame.m,
+    );
+    let values = end.values;
+    let picks = end.picks;
+    if values[0] == 0 {
+        return GreatestPoint {
+            start: 0,
+            second: 0,
+            picks,
+        };
+    }
+    let row = frame.m;
+    let second = high_of(side(right, rights[row], row, &values, frame.n + 1));
+    GreatestPoint {
+        start: 1,
+        second,
+        picks,
+    }
+}
+
+// What a look finds: the second side as an offset number, 0 where no span is possible; the strategy that blocks every trial that
+// is not possible, from the start, its row m being the objective's; and a strategy by which plans are found.
+pub struct Look {
+    pub start: u64,
+    pub second: u64,
+    pub picks: [usize; STRIDE],
+    pub kept: [usize; STRIDE],
+}
+
+// A look at the problem in two tables. Level caps tell first whether any span is possible.
+pub fn look_at(left: &[u32; TABLE], right: &[u32; TABLE], frame: Frame) -> Look
+    requires { ⌜ Ready frame (now left) (now right) ⌝ }
+    ensures { λ r. ⌜ Looked (frame .n) (frame .m) (now (left .entry)) (now (right .entry)) r ⌝ }
+{
+    let free = greatest_under(left, right, frame, &level_caps(), frame.m + 1);
+    let kept = free.picks;
+    if free.second == 0 {
+        return Look {
+            start: free.start,
+            second: 0,
+            picks: kept,
+            kept,
+        };
+    }
+    let capped = greatest_under(left, right, frame, &caps_of(left, frame.m), frame.m);
+    let picks = capped.picks;
+    Look {
+        start: capped.start,
+        second: capped.second,
+        picks,
+        kept,
+    }
+}

@@ -1,0 +1,1 @@
+// Document 01 trials.
