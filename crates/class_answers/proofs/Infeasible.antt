@@ -1,4 +1,4 @@
--- Class 3: what the trial at 1,290,240 found is an answer that the checker's list accepts.
+-- Class 3: where the top trial is not possible, the look's strategy is an answer that the checker's list accepts.
 use Prim.Native.Nat.{ℕ, suc, _+_, _≤_}
 use mathlib.Core.Path.{_≡_, refl, sym, subst}
 use mathlib.Core.Bool.{true}
@@ -26,16 +26,17 @@ use Rattle.duality.proofs.Classes.{starts-inside, infeasible-exactly}
 use Rattle.duality.proofs.Unused.{infeasible-unused}
 use Rattle.reach.specs.Marks.{StartMarked}
 use Rattle.policy_iteration.specs.Tables.{pickOf}
-use Rattle.trial_tables.specs.declared.frame.Frame.{Frame}
-use Rattle.trial_tables.specs.Frames.{wholeOf, zero-offset, top-offset, Raised, Holds, Ready}
-use Rattle.trial_tables.proofs.Raising.{raised-held, holds-within}
-use Rattle.least_span.specs.declared.state.Search.{Search}
-use Rattle.least_span.specs.State.{Searched}
-use Rattle.pick_tables.specs.Shown.{VariablePicks}
-use Rattle.class_answers.specs.Answered.{StartMarks, answerIn, Settled}
+use Rattle.search.specs.Trials.{top-offset, PossibleBy, FoundBy}
+use Rattle.search.specs.declared.search.Found.{Found}
+use Rattle.search.proofs.Trials.{found-none, none-span}
+use Rattle.look.specs.declared.greatest.Look.{Look}
+use Rattle.look.specs.Frames.{Coefficients, Held}
+use Rattle.look.specs.Look.{Looked}
+use Rattle.look.proofs.Tables.{held-within}
+use Rattle.class_answers.specs.Answered.{ShownPicks, answerIn, AnswerOf}
 use Rattle.class_answers.proofs.Variables.{variables-agree, variables-idle, variables-most}
 use Rattle.class_answers.proofs.Form.{picks-fit, stamps-fit, no-stamps-fit, cut-count}
-use Rattle.class_answers.proofs.Shared.{enough, start-marked, blocked-unattainable, same-count, cut-64, fits-64}
+use Rattle.class_answers.proofs.Shared.{enough, top-trialled, start-marked, blocked-unattainable, same-count, cut-64, fits-64}
 
 none-form : (n m start : ℕ) (stamps out : List ℕ) → n ≤ 31 → length out ≡ 64 → picksFit (suc m) (take (suc n) out) ≡ true
     → (rightCounts (answerIn n m 3 0 start stamps out) n m ≡ true) × (formRefusal (answerIn n m 3 0 start stamps out) n m ≡ 0)
@@ -45,48 +46,47 @@ none-form n m start stamps out h l f = (
   form-fits (answerIn n m 3 0 start stamps out) n m .1 (record { span-fits = rw trop-zero refl; stamps-fit = no-stamps-fit; picks-fit = f }),
 )
 
--- The trial at 1,290,240 is not possible: none.
-pub infeasible-settled : (f : Frame) (left right right′ : List ℕ) (s : Search) (begin out stamps : List ℕ) → Ready f left right
-    → Searched f left right s → s .blocked ≡ top-offset
-    → Raised right (f .objective) (f .m) zero-offset 32 right′ → StartMarks (f .objective) (s .start) begin
-    → VariablePicks right′ (s .blocking) begin (f .n + 1) (f .m + 1) out
-    → Settled f left right s (record { class = 3; span = 0; start = s .start; trials = 1; made = s .made; stamps = stamps; picks = out })
-infeasible-settled f left right right′ s begin out stamps y z e r marks v = record { answers = answers; made-up = omega arith; made-most = z .numbers .made-most }
+-- No span is possible: none.
+pub infeasible-answer : {n m : ℕ} {left right : List ℕ} {l : Look} {found : Found} {out stamps : List ℕ} → Coefficients n m left right → Looked n m left right l
+    → FoundBy (l .second) (found .class) (found .span) (found .trials) → found .class ≡ 3
+    → ShownPicks n m right (l .start) (l .picks) out → length stamps ≡ 32
+    → AnswerOf n m left right found (record { class = 3; span = 0; start = l .start; trials = found .trials; stamps = stamps; picks = out })
+infeasible-answer {n} {m} {left} {right} {l} {found} {out} {stamps} y look f e s size =
+    record {
+      class-is = sym e;
+      span-is = sym (none-span f e .0);
+      trials-is = refl;
+      stamps-size = size;
+      picks-size = s .shown .shown .size-is;
+      answers = λ p q. rw (none-span f e .1) (answers p q (found-none f e));
+    }
   where
-    n : ℕ
-    n = f .n
-
-    m : ℕ
-    m = f .m
-
-    answers : (p : Problem) → Holds p f left right → Answers p 3 (tropOf 0) 1 (answerIn n m 3 0 (s .start) stamps out)
-    answers p q =
-        let Start = startOf p (s .start) in
-        let below = start-below p (s .start) in
-        let starts : StartMarked Start (n + 1) begin = start-marked (s .start) q (y .n-most) marks in
-        let w = holds-within q y in
-        let held = raised-held p f left right right′ q y r in
-        let b : Blocks (systemAt p (upper span-limit)) Start (pickOf (s .blocking)) =
-        subst (λ (t : ℕ). Blocks (systemAt p (wholeOf t)) Start (pickOf (s .blocking))) e (z .known p q .impossible (omega (arith, z .known p q .floored .is))) in
-        let c = block-picks p (upper span-limit) (picks-joined (pickOf (s .blocking)) (suc (p .m)) (suc (p .n))) (starts-inside p below) b in
-        let g = below-infeasible p lead-limit span-limit (picksFrom (pickOf (s .blocking)) (suc (p .m))) (starts-inside p below) w (enough p n (q .n-is) (y .n-most))
-        (picks-none-above (pickOf (s .blocking)) (suc (p .m)) (suc (p .n))) (c .0) (c .1) in
-        let k : AcceptedInfeasible Start p (picksFrom (pickOf (s .blocking)) (m + 1)) =
-        subst (λ (i : ℕ). AcceptedInfeasible Start p (picksFrom (pickOf (s .blocking)) i)) (sym (same-count (p .m) m (q .m-is))) g in
-        let a = infeasible-unused (variables-agree p n m left right′ (s .blocking) begin out held (y .n-most) starts v) k in
+    answers : (p : Problem) → Held p n m left right → (PossibleBy (l .second) top-offset → ⊥) → Answers p 3 (tropOf 0) 1 (answerIn n m 3 0 (l .start) stamps out)
+    answers p q d =
+        let Start = startOf p (l .start) in
+        let below = start-below p (l .start) in
+        let starts : StartMarked Start (n + 1) (s .begin) = start-marked (l .start) q (y .n-most) (s .copied) (s .marks) in
+        let w = held-within q y in
+        let b : Blocks (systemAt p (upper span-limit)) Start (pickOf (l .picks)) = look .decided p q .impossible top-offset top-trialled d in
+        let c = block-picks p (upper span-limit) (picks-joined (pickOf (l .picks)) (suc (p .m)) (suc (p .n))) (starts-inside p below) b in
+        let g = below-infeasible p lead-limit span-limit (picksFrom (pickOf (l .picks)) (suc (p .m))) (starts-inside p below) w (enough p n (q .n-is) (y .n-most))
+        (picks-none-above (pickOf (l .picks)) (suc (p .m)) (suc (p .n))) (c .0) (c .1) in
+        let k : AcceptedInfeasible Start p (picksFrom (pickOf (l .picks)) (m + 1)) =
+        subst (λ (i : ℕ). AcceptedInfeasible Start p (picksFrom (pickOf (l .picks)) i)) (sym (same-count (p .m) m (q .m-is))) g in
+        let a = infeasible-unused (variables-agree p n m left right (l .picks) (s .begin) out q (y .n-most) starts (s .shown)) k in
         let i : Infeasible p = infeasible-exactly p lead-limit span-limit w (enough p n (q .n-is) (y .n-most)) .1
-        (blocked-unattainable p (upper span-limit) (s .start) (pickOf (s .blocking)) b) in
-        let cut = cut-64 n out (omega (arith, y .n-most)) (v .shown) in
-        let form = none-form n m (s .start) stamps out (y .n-most) (v .shown .size-is)
-        (fits-64 (suc m) n out (omega (arith, y .n-most)) (v .shown) (λ j. omega (arith, variables-most p n m left right′ (s .blocking) begin out held (y .n-most) starts v j))) in
+        (blocked-unattainable p (upper span-limit) (l .start) (pickOf (l .picks)) b) in
+        let cut = cut-64 n out (omega (arith, y .n-most)) (s .shown .shown) in
+        let form = none-form n m (l .start) stamps out (y .n-most) (s .shown .shown .size-is)
+        (fits-64 (suc m) n out (omega (arith, y .n-most)) (s .shown .shown) (λ j. omega (arith, variables-most p n m left right (l .picks) (s .begin) out q (y .n-most) starts (s .shown) j))) in
         record {
           found = rw trop-zero (Solved.infeasible i);
           class-is = refl;
           span-is = refl;
           counts = rw (q .n-is, q .m-is) (form .0);
-          start-fits = le-leb (s .start) 1 (z .numbers .started);
+          start-fits = le-leb (l .start) 1 (look .start-most);
           form = rw (q .n-is, q .m-is) (form .1);
-          idle-variables = λ _. subst (λ (s : Strategy). IdleVariables Start p s) (sym cut) (variables-idle p n m left right′ (s .blocking) begin out held (y .n-most) starts v);
+          idle-variables = λ _. subst (λ (s : Strategy). IdleVariables Start p s) (sym cut) (variables-idle p n m left right (l .picks) (s .begin) out q (y .n-most) starts (s .shown));
           idle-rows = λ e. absurd (omega arith);
           accepted = Verdict.infeasible refl (subst (AcceptedInfeasible Start p) (sym cut) a);
         }

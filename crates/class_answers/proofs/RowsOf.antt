@@ -15,14 +15,14 @@ use Rattle.definitions.specs.Solved.{IdleRows}
 use Rattle.duality.specs.Picks.{picksFrom, AgreeInUse}
 use Rattle.duality.proofs.Reach.{reach-keep, reach-map}
 use Rattle.policy_iteration.specs.Tables.{pickOf}
-use Rattle.trial_tables.specs.Frames.{LeftHeld}
+use Rattle.look.specs.Frames.{Held}
 use Rattle.reach.specs.Marks.{Led, StartMarked}
 use Rattle.reach.proofs.Marks.{reached-from, from-reached}
 use Rattle.pick_tables.specs.Shown.{RowTo, RowArcIs, UsedBy, RowShown, RowPicks}
 use Rattle.pick_tables.proofs.Shown.{shown-unmarked}
 use Rattle.class_answers.proofs.Variables.{finite-offset, offset-finite, full-picked, full-read, shown-full, shown-most}
 
-module _ {Start : ℕ → Type 0} (p : Problem) (n m : ℕ) (left picks begin out : List ℕ) (held : LeftHeld p n m left) (small : n ≤ 31)
+module _ {Start : ℕ → Type 0} (p : Problem) (n m : ℕ) (left right picks begin out : List ℕ) (held : Held p n m left right) (small : n ≤ 31)
     (starts : StartMarked Start (n + 1) begin) (v : RowPicks left picks begin (n + 1) (m + 1) out) where
   arcs-at : (j l : ℕ) → j < n + 1 → l < 32 → RowArcIs left picks (m + 1) j l (getD (v .arcs) (j * 32 + l) 0)
   arcs-at j l h k =

@@ -26,35 +26,38 @@ use Rattle.duality.proofs.Numbers.{top-enough}
 use Rattle.reach.specs.Marks.{StartMarked}
 use Rattle.reach.proofs.Marks.{anchored-marked, coefficients-marked}
 use Rattle.policy_iteration.specs.Tables.{pointOf, pickOf}
-use Rattle.trial_tables.specs.declared.frame.Frame.{Frame}
-use Rattle.trial_tables.specs.Frames.{wholeOf, Holds}
-use Rattle.trial_tables.proofs.SecondList.{second-held}
-use Rattle.least_span.specs.State.{PointAt}
-use Rattle.class_answers.specs.Answered.{StartMarks}
+use Rattle.search.specs.Trials.{wholeOf, top-offset, lowest-offset, Trialled}
+use Rattle.look.specs.Frames.{Copied, Held}
+use Rattle.look.proofs.SecondList.{second-held}
+use Rattle.class_answers.specs.Answered.{StartMarks, PointAt}
 use Rattle.class_answers.proofs.Form.{cut-at, cut-strategy, picks-fit}
 
--- 64 times the largest size is enough.
-pub enough-of : (p : Problem) (n b : ℕ) → p .n ≡ n → n ≤ 31 → Enough (p .n) b (64 * b)
-enough-of p n b e h = top-enough (p .n) b (omega (arith, e))
-
+-- The outer trials are enough.
 pub enough : (p : Problem) (n : ℕ) → p .n ≡ n → n ≤ 31 → Enough (p .n) lead-limit span-limit
-enough p n e h = enough-of p n lead-limit e h
+enough p n e h = top-enough (p .n) lead-limit (omega (arith, e))
+
+-- They are trials.
+pub top-trialled : Trialled top-offset
+top-trialled = record { lowest = omega arith; highest = omega arith }
+
+pub lowest-trialled : Trialled lowest-offset
+lowest-trialled = record { lowest = omega arith; highest = omega arith }
 
 pub first-inside : (p : Problem) (t : ℤ) → 0 < systemAt p t .variables
 unfolding systemAt
 first-inside p t = omega arith
 
 -- The marks of a start are those of what it means.
-pub start-marked : {p : Problem} {f : Frame} {left right : List ℕ} (start : ℕ) {begin : List ℕ} → Holds p f left right → f .n ≤ 31 → StartMarks (f .objective) start begin
-    → StartMarked (startOf p start) (f .n + 1) begin
+pub start-marked : {p : Problem} {n m : ℕ} {left right row : List ℕ} (start : ℕ) {begin : List ℕ} → Held p n m left right → n ≤ 31 → Copied right m 32 row
+    → StartMarks row start begin → StartMarked (startOf p start) (n + 1) begin
 unfolding startOf
-start-marked zero q h m = anchored-marked (m .anchored refl) (omega arith)
-start-marked {f = f} (suc k) q h m =
+start-marked zero q h c m = anchored-marked (m .anchored refl) (omega arith)
+start-marked {n = n} {row = row} (suc k) q h c m =
     let g = m .second (λ e. omega arith) in
     record {
       flags = m .flags;
-      marked = λ j s. coefficients-marked {width = f .n + 1} (f .objective) g (omega arith) j .1 (second-held q j .0 s);
-      only = λ j b. second-held q j .1 (coefficients-marked {width = f .n + 1} (f .objective) g (omega arith) j .0 b);
+      marked = λ j s. coefficients-marked {width = n + 1} row g (omega arith) j .1 (second-held q h c j .0 s);
+      only = λ j b. second-held q h c j .1 (coefficients-marked {width = n + 1} row g (omega arith) j .0 b);
     }
 
 -- Where a strategy blocks from one, nothing is attainable.

@@ -21,7 +21,7 @@ use Rattle.definitions.proofs.Offset.{trop-zero, trop-fin}
 use Rattle.duality.specs.Picks.{picksFrom, AgreeReached}
 use Rattle.duality.proofs.Reach.{reach-keep, reach-map}
 use Rattle.policy_iteration.specs.Tables.{entryOf, pickOf}
-use Rattle.trial_tables.specs.Frames.{Held}
+use Rattle.look.specs.Frames.{Held}
 use Rattle.reach.specs.Marks.{Led, StartMarked}
 use Rattle.reach.proofs.Marks.{reached-from, from-reached}
 use Rattle.pick_tables.specs.Shown.{shownPick, arcBy, VariablePicks}

@@ -1,23 +1,27 @@
 -- The engine's answer, on tables.
-use Prim.Native.Nat.{ℕ, _≤_, _<_}
+use Prim.Native.Nat.{ℕ, _+_, _≤_, _<_}
 use mathlib.Core.Path.{_≡_}
+use mathlib.Core.Bool.{true}
 use mathlib.Core.List.{List, map}
-use lib.ListN.{getD, take}
+use lib.ListN.{length, getD, take}
 use Rattle.base.specs.Filled.{Filled}
-use Rattle.definitions.specs.Limits.{most-trials, stride}
+use Rattle.definitions.specs.Limits.{stamp-limit, table-rows, stride}
 use Rattle.definitions.specs.Problem.{Problem}
+use Rattle.definitions.specs.Certificate.{Second}
+use Rattle.definitions.specs.Bytes.{blank-or-within}
 use Rattle.definitions.specs.Offset.{tropOf}
 use Rattle.definitions.specs.AnswerRecord.{Answer, stampCount, pickCount}
 use Rattle.definitions.specs.Solved.{Answers}
+use Rattle.duality.specs.System.{Solves, Meets, systemAt}
 use Rattle.duality.specs.Values.{difference}
 use Rattle.records.specs.Decoded.{Decoded}
 use Rattle.reach.specs.Marks.{Flags, Anchored}
 use Rattle.reach.specs.Spreading.{MarksOf}
-use Rattle.trial_tables.specs.declared.frame.Frame.{Frame}
-use Rattle.trial_tables.specs.Frames.{Holds}
-use Rattle.least_span.specs.declared.state.Search.{Search}
-use Rattle.least_span.specs.declared.halving.Least.{Least}
-use Rattle.least_span.specs.Halving.{LeastFound}
+use Rattle.policy_iteration.specs.Tables.{pointOf}
+use Rattle.search.specs.Trials.{wholeOf}
+use Rattle.search.specs.declared.search.Found.{Found}
+use Rattle.look.specs.Frames.{Copied, Held}
+use Rattle.pick_tables.specs.Shown.{VariablePicks}
 use Rattle.class_answers.specs.declared.answer.Answer as Tables
 
 -- Stamps: each value less that of variable 0.
@@ -25,10 +29,27 @@ abbrev pub Stamps : List ℕ → ℕ → List ℕ → Type 0
 Stamps point n out = Filled (λ j v. tropOf v ≡ difference (tropOf (getD point j 0)) (tropOf (getD point 0 0))) stride n out
 
 -- The marks of a start of class 1 or 3: 0 the anchor's, another those of the objective's right coefficients.
-pub record StartMarks (objective : List ℕ) (start : ℕ) (r : List ℕ) : Type 0 where
+pub record StartMarks (row : List ℕ) (start : ℕ) (r : List ℕ) : Type 0 where
   pub flags : Flags r
   pub anchored : start ≡ 0 → Anchored r
-  pub second : (start ≡ 0 → ⊥) → MarksOf objective stride r
+  pub second : (start ≡ 0 → ⊥) → MarksOf row stride r
+
+-- The picks of a strategy of variables, as far as its start reaches.
+pub record ShownPicks (n m : ℕ) (right : List ℕ) (start : ℕ) (picks out : List ℕ) : Type 0 where
+  pub row : List ℕ
+  pub begin : List ℕ
+  pub copied : Copied right m stride row
+  pub marks : StartMarks row start begin
+  pub shown : VariablePicks right picks begin (n + 1) (m + 1) out
+
+-- A point that shows t possible: it is finite at variable 0 and at a variable of the second list, it solves the system at t, its stamps
+-- (each value less that of variable 0) have class 1's form, and past the variables it is blank.
+pub record PointAt (p : Problem) (t : ℕ) (x : List ℕ) : Type 0 where
+  pub finite : 0 < getD x 0 0
+  pub second : Meets (systemAt p (wholeOf t)) (Second p) (pointOf x)
+  pub solves : Solves (systemAt p (wholeOf t)) (pointOf x)
+  pub stamps : (k : ℕ) → blank-or-within stamp-limit (difference (pointOf x k) (pointOf x 0)) ≡ true
+  pub rest : (k : ℕ) → p .n < k → getD x k 0 ≡ 0
 
 -- The answer in these fields: stamps and picks are cut to the counts of the class.
 abbrev pub answerIn : ℕ → ℕ → ℕ → ℕ → ℕ → List ℕ → List ℕ → Answer
@@ -40,31 +61,15 @@ answerIn n m class span start stamps picks = record {
   picks = take (pickCount class n m) picks;
 }
 
--- An answer of the problem that stands in the tables and the frame, by at least one trial and few.
-pub record AnswerOf (f : Frame) (left right : List ℕ) (a : Tables.Answer) : Type 0 where
-  pub answers : (p : Problem) → Holds p f left right
-      → Answers p (a .class) (tropOf (a .span)) (a .trials) (answerIn (f .n) (f .m) (a .class) (a .span) (a .start) (a .stamps) (a .picks))
-  pub made-some : 0 < a .made
-  pub made-most : a .made ≤ most-trials
-
--- An answer that goes on from a search: no trial of it is forgotten.
-pub record Settled (f : Frame) (left right : List ℕ) (s : Search) (a : Tables.Answer) : Type 0 where
-  pub answers : (p : Problem) → Holds p f left right
-      → Answers p (a .class) (tropOf (a .span)) (a .trials) (answerIn (f .n) (f .m) (a .class) (a .span) (a .start) (a .stamps) (a .picks))
-  pub made-up : s .made ≤ a .made
-  pub made-most : a .made ≤ most-trials
-
--- A least span that some search found in the tables as they are.
-pub record LeastHere (f : Frame) (left right : List ℕ) (l : Least) : Type 0 where
-  pub search : Search
-  pub found : LeastFound f left right right search l
-
--- An answer that shows it, with its trials.
-pub record LeastShown (f : Frame) (left right : List ℕ) (l : Least) (a : Tables.Answer) : Type 0 where
-  pub answers : (p : Problem) → Holds p f left right
-      → Answers p (a .class) (tropOf (a .span)) (a .trials) (answerIn (f .n) (f .m) (a .class) (a .span) (a .start) (a .stamps) (a .picks))
-  pub trials-is : a .trials ≡ l .trials
-  pub made-is : a .made ≡ l .made
+-- An answer of every problem that the tables hold, with what the trials found.
+pub record AnswerOf (n m : ℕ) (left right : List ℕ) (found : Found) (a : Tables.Answer) : Type 0 where
+  pub class-is : a .class ≡ found .class
+  pub span-is : a .span ≡ found .span
+  pub trials-is : a .trials ≡ found .trials
+  pub stamps-size : length (a .stamps) ≡ stride
+  pub picks-size : length (a .picks) ≡ table-rows
+  pub answers : (p : Problem) → Held p n m left right
+      → Answers p (a .class) (tropOf (a .span)) (a .trials) (answerIn n m (a .class) (a .span) (a .start) (a .stamps) (a .picks))
 
 -- An answer of the problem in the tables.
 pub record Answered (n m : ℕ) (left right : List ℕ) (class span start trials : ℕ) (stamps picks : List ℕ) : Type 0 where

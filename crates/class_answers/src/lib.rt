@@ -1,3 +1,3 @@
-// The answer to the problem in two tables: the outer trials, the search, and the answer of each class. Document 01, "The
+// The answer to the problem in two tables: a look, the trials by what it found, and the answer of each class. Document 01, "The
 // engine".
 pub mod answer;

@@ -22,8 +22,8 @@ use Rattle.duality.specs.Gains.{Entry}
 use Rattle.duality.specs.Within.{Within, lower}
 use Rattle.duality.specs.Look.{Capped, Far, secondAt}
 use Rattle.duality.proofs.Walks.{Brief, brief, walk-append, walk-keep}
-use Rattle.duality.proofs.Longest.{Stable, value-mono, entries-end, potential-walk, stable-potential}
-use Rattle.duality.proofs.Weights.{difference-bot, difference-back, weight-picked, weight-terminal, exit-picked, exit-terminal, round-terminal, entry-arc, arc-entry, entries-arcs, arcs-entries, values-stable}
+use Rattle.duality.proofs.Longest.{Stable, potential-walk, stable-potential}
+use Rattle.duality.proofs.Weights.{difference-bot, difference-back, weight-picked, exit-picked, round-terminal, entry-arc, arc-entry, entries-arcs, arcs-entries, values-stable}
 use Rattle.duality.proofs.Policy.{Same, Lowered, closed-negative}
 use Rattle.duality.proofs.Ends.{blank-blocks}
 use Rattle.duality.proofs.Solutions.{plus-swap, side-raised}
@@ -90,43 +90,6 @@ pub look-blank : (p : Problem) (caps : ℕ → ℤ) (τ : Strategy) → Policy (
 unfolding rulesOf
 look-blank p caps τ policy Start blank t =
     rules-block p caps t (blank-blocks (rulesOf p caps) τ policy Start (λ j h. (omega (arith, blank j h .0), blank j h .1)))
-
--- A strategy that is kept for the inequalities with caps of 0, and has no pick of the objective, is kept at every t.
-module _ (p : Problem) (t : ℤ) (τ : Strategy) (policy : Policy (rulesOf p (λ j. pos 0)) τ)
-    (picks : (j : ℕ) → j ≤ p .n → (τ j < p .m) ⊎ (p .m < τ j)) where
-  kept-weight : (j l : ℕ) → j ≤ p .n → weights (systemAt p t) τ j l ≡ weights (rulesOf p (λ j. pos 0)) τ j l
-  unfolding rulesOf systemAt
-  kept-weight j l h = ⊎-elim
-      (λ (b : τ j < p .m). weight-picked (systemAt p t) (τ j) j l (omega arith) ∙ ap (λ z. difference z (p .left (τ j) j)) (right-at p (λ j. pos 0) t (τ j) l b) ∙ sym (weight-picked (rulesOf p (λ j. pos 0)) (τ j) j l b))
-      (λ (b : p .m < τ j). weight-terminal (systemAt p t) (τ j) j l (omega arith) ∙ sym (weight-terminal (rulesOf p (λ j. pos 0)) (τ j) j l (omega arith)))
-      (picks j h)
-
-  kept-exit : (j : ℕ) → j ≤ p .n → exits (systemAt p t) τ j ≡ exits (rulesOf p (λ j. pos 0)) τ j
-  unfolding rulesOf systemAt
-  kept-exit j h = ⊎-elim
-      (λ (b : τ j < p .m). exit-picked (systemAt p t) (τ j) j (omega arith) ∙ sym (exit-picked (rulesOf p (λ j. pos 0)) (τ j) j b))
-      (λ (b : p .m < τ j). exit-terminal (systemAt p t) (τ j) j (omega arith) ∙ sym (exit-terminal (rulesOf p (λ j. pos 0)) (τ j) j (omega arith)))
-      (picks j h)
-
-  kept-values : (j : ℕ) → j ≤ p .n → values (systemAt p t) τ j ⊑ values (rulesOf p (λ j. pos 0)) τ j
-  unfolding values rulesOf systemAt
-  kept-values j h = value-mono (weights (systemAt p t) τ) (weights (rulesOf p (λ j. pos 0)) τ) (exits (systemAt p t) τ) (exits (rulesOf p (λ j. pos 0)) τ) (suc (p .n))
-      (λ j l b c. ⊑-of-eq (kept-weight j l (omega arith))) (λ j b. ⊑-of-eq (kept-exit j (omega arith))) (suc (p .n)) j (omega arith)
-
-  kept-entry : (j l : ℕ) (w : ℤ) → j < suc (p .n) → Entry (weights (systemAt p t) τ) (suc (p .n)) j l w
-      → Entry (weights (rulesOf p (λ j. pos 0)) τ) (suc (p .n)) j l w × (l < suc (p .n))
-  kept-entry j l w h e = (record { inside = e .inside; entry = sym (kept-weight j l (omega arith)) ∙ e .entry }, e .inside)
-
-  pub kept-at : Policy (systemAt p t) τ
-  unfolding rulesOf systemAt
-  kept-at = record {
-    valid = λ j h b. policy .valid j h (⊎-elim (λ (c : τ j < p .m). c) (λ (c : p .m < τ j). absurd (omega arith)) (picks j (omega arith)));
-    negative = λ j n w r.
-        let q = arcs-entries (systemAt p t) τ r in
-        policy .negative j n w (entries-arcs (rulesOf p (λ j. pos 0)) τ
-        (walk-keep {B = Entry (weights (rulesOf p (λ j. pos 0)) τ) (suc (p .n))} (λ j. j < suc (p .n)) kept-entry (entries-end (omega arith) q) q .0));
-    below = λ j h. ⊑-trans (kept-values j (omega arith)) (policy .below j h);
-  }
 
 -- ---- where the trial is possible
 

@@ -25,38 +25,37 @@ use Rattle.duality.specs.Within.{Within, lower}
 use Rattle.duality.specs.Look.{Capped, Far, secondAt}
 use Rattle.duality.proofs.Ends.{none-policy}
 use Rattle.duality.proofs.Attain.{joint-attainable}
-use Rattle.duality.proofs.Look.{look-solves, look-blocks, look-blank, kept-at}
+use Rattle.duality.proofs.Look.{look-solves, look-blocks, look-blank}
 use Rattle.policy_iteration.specs.Tables.{entryOf, systemOf, pointOf, pickOf, capOf, cap-limit, side-most, high, highs, Tables}
 use Rattle.policy_iteration.specs.Rounds.{SideIs}
 use Rattle.policy_iteration.specs.Steps.{Iterated}
 use Rattle.policy_iteration.proofs.Low.{high-zero, high-whole, highs-at}
 use Rattle.search.specs.Trials.{wholeOf, Trialled, PossibleBy}
 use Rattle.look.specs.declared.frame.Frame.{Frame}
-use Rattle.look.specs.declared.greatest.GreatestPoint.{GreatestPoint}
 use Rattle.look.specs.declared.greatest.Look.{Look}
 use Rattle.look.specs.Frames.{Coefficients, Ready, Held}
-use Rattle.look.specs.Look.{level, CapsFor, rulesIn, secondIn, Under, Decided, Looked}
+use Rattle.look.specs.Look.{CapsFor, rulesIn, secondIn, Under, Decided, Looked}
 use Rattle.look.proofs.Agree.{Agree, agree-sym, agree-solves, agree-values, agree-policy}
-use Rattle.look.proofs.Tables.{held-within, caps-capped, agree-rules, agree-level}
+use Rattle.look.proofs.Tables.{held-within, caps-capped, agree-rules}
 use Rattle.look.proofs.SecondList.{second-coefficient}
 
 -- ---- the iteration under caps
 
 -- It starts without picks.
-pub none-kept : (f : Frame) (left right caps : List ℕ) (none : ℕ) → f .n ≤ 31 → f .m ≤ none → Policy (rulesIn f left right caps) (pickOf (replicate 32 none))
-none-kept f left right caps none b h =
-    none-policy (rulesIn f left right caps) (pickOf (replicate 32 none)) (λ j i. omega (arith, getD-replicate {A = ℕ} 32 j none 0 (omega arith)))
+pub none-kept : (left right caps : List ℕ) (width rows : ℕ) → width ≤ 32 → Policy (systemOf left right caps width rows) (pickOf (replicate 32 rows))
+none-kept left right caps width rows b =
+    none-policy (systemOf left right caps width rows) (pickOf (replicate 32 rows)) (λ j i. omega (arith, getD-replicate {A = ℕ} 32 j rows 0 (omega arith)))
 
-module _ (f : Frame) (left right caps : List ℕ) (none : ℕ) (x picks : List ℕ)
-    (d : Iterated (rulesIn f left right caps) (replicate 32 none) (highs x) picks) where
-  pick-from : (j : ℕ) → j < 32 → (pickOf picks j < f .m) ⊎ (pickOf picks j ≡ none)
-  pick-from j h = ⊎-elim (λ b. inl b) (λ e. inr (e ∙ getD-replicate {A = ℕ} 32 j none 0 h)) (d .picked j)
+module _ (f : Frame) (left right caps : List ℕ) (x picks : List ℕ)
+    (d : Iterated (rulesIn f left right caps) (replicate 32 (f .m)) (highs x) picks) where
+  pick-from : (j : ℕ) → j < 32 → pickOf picks j ≤ f .m
+  pick-from j h = ⊎-elim (λ (b : pickOf picks j < f .m). omega arith) (λ e. omega (arith, e ∙ getD-replicate {A = ℕ} 32 j (f .m) 0 h)) (d .picked j)
 
   value-is : (j : ℕ) → j < f .n + 1 → values (rulesIn f left right caps) (pickOf picks) j ≡ tropOf (high (getD x j 0))
   value-is j h = sym (d .values-are .each j h) ∙ ap tropOf (highs-at x j)
 
   -- Variable 0 has no value left: the strategy blocks from it.
-  pub under-blank : getD x 0 0 ≡ 0 → Under f left right caps none (record { start = 0; second = 0; picks = picks })
+  pub under-blank : getD x 0 0 ≡ 0 → Under f left right caps (record { start = 0; second = 0; picks = picks })
   under-blank e = record {
     size = d .size;
     picked = pick-from;
@@ -71,7 +70,7 @@ module _ (f : Frame) (left right caps : List ℕ) (none : ℕ) (x picks : List �
 
   -- Else the second side is told.
   pub under-second : (r : ℕ) → (getD x 0 0 ≡ 0 → ⊥) → SideIs right (f .m) (highs x) (f .n + 1) r
-      → Under f left right caps none (record { start = 1; second = high r; picks = picks })
+      → Under f left right caps (record { start = 1; second = high r; picks = picks })
   under-second r h s = record {
     size = d .size;
     picked = pick-from;
@@ -135,8 +134,8 @@ second-blank p x e j s = ⊎-elim (λ z. z) (λ g. absurd (not-finite-bot (clash
         let b : plus (p .right (p .m) j) (x j) ⊑ largest (λ l. plus (p .right (p .m) l) (x l)) (suc (p .n)) = largest-above (λ l. plus (p .right (p .m) l) (x l)) (suc (p .n)) j (omega (arith, s .inside)) in
         finite-above (rw (s .right .is, g .is, plus-fin, e) at b)
 
-module _ {p : Problem} {f : Frame} {left right caps : List ℕ} {none : ℕ} {g : GreatestPoint} (q : Held p (f .n) (f .m) left right)
-    (u : Under f left right caps none g) where
+module _ {p : Problem} {f : Frame} {left right caps : List ℕ} {g : Look} (q : Held p (f .n) (f .m) left right)
+    (u : Under f left right caps g) where
   pub under-blocks : g .second ≡ 0 → (t : ℤ) → Blocks (systemAt p t) (startOf p (g .start)) (pickOf (g .picks))
   unfolding startOf
   under-blocks e t = ⊎-elim
@@ -170,8 +169,8 @@ shows-possible second t h = ⊎-elim
 trial-lowest : (t : ℕ) → Trialled t → lower span-limit ≤ℤ wholeOf t
 trial-lowest t b = omega (whole, subℕ-read t signed-half, b .lowest)
 
-module _ {p : Problem} {f : Frame} {left right caps : List ℕ} {g : GreatestPoint} (q : Held p (f .n) (f .m) left right)
-    (c : Coefficients (f .n) (f .m) left right) (s : CapsFor left (f .m) 32 caps) (u : Under f left right caps (f .m) g) where
+module _ {p : Problem} {f : Frame} {left right caps : List ℕ} {g : Look} (q : Held p (f .n) (f .m) left right)
+    (c : Coefficients (f .n) (f .m) left right) (s : CapsFor left (f .m) 32 caps) (u : Under f left right caps g) where
   kept : Policy (rulesOf p (capOf caps)) (pickOf (g .picks))
   kept = policy-rules f caps q (pickOf (g .picks)) (u .policy)
 
@@ -215,58 +214,39 @@ module _ {p : Problem} {f : Frame} {left right caps : List ℕ} {g : GreatestPoi
       far = omega (arith, c .n-most, q .n-is)
 
       picks : (j : ℕ) → j ≤ p .n → pickOf (g .picks) j ≤ p .m
-      picks j h = ⊎-elim (λ (b : pickOf (g .picks) j < f .m). omega (arith, q .m-is)) (λ (e : pickOf (g .picks) j ≡ f .m). omega (arith, q .m-is)) (u .picked j (omega (arith, c .n-most, q .n-is)))
+      picks j h = omega (arith, q .m-is, u .picked j (omega (arith, c .n-most, q .n-is)))
 
 -- ---- the look
 
--- The strategy of level caps is kept at every t.
-level-kept : {p : Problem} {f : Frame} {left right : List ℕ} {g : GreatestPoint} → Held p (f .n) (f .m) left right → f .n ≤ 31
-    → Under f left right level (f .m + 1) g → (t : ℤ) → Policy (systemAt p t) (pickOf (g .picks))
-level-kept {p} {f} {left} {right} {g} q b u t =
-    kept-at p t (pickOf (g .picks)) (agree-policy (rulesIn f left right level) (rulesOf p (λ j. pos 0)) (pickOf (g .picks)) (pickOf (g .picks)) (agree-level q b) (λ j h. refl) (u .policy))
-    (λ j h. ⊎-elim (λ (z : pickOf (g .picks) j < f .m). inl (omega (arith, q .m-is))) (λ (z : pickOf (g .picks) j ≡ f .m + 1). inr (omega (arith, q .m-is))) (u .picked j (omega (arith, q .n-is))))
-
-picks-few : {f : Frame} {left right caps : List ℕ} {none : ℕ} {g : GreatestPoint} → none ≤ f .m + 1 → Under f left right caps none g
-    → (j : ℕ) → j < 32 → pickOf (g .picks) j ≤ f .m + 1
-picks-few {f} {none = none} {g = g} h u j b = ⊎-elim (λ (z : pickOf (g .picks) j < f .m). omega arith) (λ (z : pickOf (g .picks) j ≡ none). omega arith) (u .picked j b)
-
-start-few : {f : Frame} {left right caps : List ℕ} {none : ℕ} {g : GreatestPoint} → Under f left right caps none g → g .start ≤ 1
+start-few : {f : Frame} {left right caps : List ℕ} {g : Look} → Under f left right caps g → g .start ≤ 1
 start-few {g = g} u = ⊎-elim
     (λ (e : g .second ≡ 0). ⊎-elim (λ z. omega (arith, z .0)) (λ z. omega (arith, z .0)) (u .blank e))
     (λ (h : 0 < g .second). omega (arith, u .whole-start h))
     (eq-zero-or-pos (g .second))
 
 -- No span is possible.
-pub looked-none : {f : Frame} {left right : List ℕ} {g : GreatestPoint} → Ready f left right → Under f left right level (f .m + 1) g → g .second ≡ 0
-    → Looked (f .n) (f .m) left right (record { start = g .start; second = 0; picks = g .picks; kept = g .picks })
-looked-none {f} {left} {right} {g} y u e = record {
+pub looked-none : {f : Frame} {left right caps : List ℕ} {g : Look} → Under f left right caps g → g .second ≡ 0 → Looked (f .n) (f .m) left right g
+looked-none {f} {left} {right} {caps} {g} u e = record {
   picks-size = u .size;
-  kept-size = u .size;
-  picks-most = picks-few (omega arith) u;
-  kept-most = picks-few (omega arith) u;
+  picks-most = u .picked;
   start-most = start-few u;
-  second-most = omega arith;
+  second-most = u .second-most;
   decided = λ p q. record {
     possible = λ t b h. absurd (omega (arith, b .highest));
     impossible = λ t b d. under-blocks q u e (wholeOf t);
-    kept-at = level-kept q (y .coefficients .n-most) u;
   };
 }
 
 -- The second side under the caps of the first list decides.
-pub looked-capped : {f : Frame} {left right caps : List ℕ} {g h : GreatestPoint} → Ready f left right → Under f left right level (f .m + 1) g
-    → CapsFor left (f .m) 32 caps → Under f left right caps (f .m) h
-    → Looked (f .n) (f .m) left right (record { start = h .start; second = h .second; picks = h .picks; kept = g .picks })
-looked-capped {f} {left} {right} {caps} {g} {h} y u s v = record {
-  picks-size = v .size;
-  kept-size = u .size;
-  picks-most = picks-few (omega arith) v;
-  kept-most = picks-few (omega arith) u;
-  start-most = start-few v;
-  second-most = v .second-most;
+pub looked-capped : {f : Frame} {left right caps : List ℕ} {g : Look} → Ready f left right → CapsFor left (f .m) 32 caps → Under f left right caps g
+    → Looked (f .n) (f .m) left right g
+looked-capped {f} {left} {right} {caps} {g} y s u = record {
+  picks-size = u .size;
+  picks-most = u .picked;
+  start-most = start-few u;
+  second-most = u .second-most;
   decided = λ p q. record {
-    possible = capped-possible q (y .coefficients) s v;
-    impossible = capped-impossible q (y .coefficients) s v;
-    kept-at = level-kept q (y .coefficients .n-most) u;
+    possible = capped-possible q (y .coefficients) s u;
+    impossible = capped-impossible q (y .coefficients) s u;
   };
 }

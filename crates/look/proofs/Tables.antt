@@ -263,17 +263,6 @@ module _ {p : Problem} {n m : ℕ} {left right : List ℕ} (q : Held p n m left 
     caps = λ j k. refl;
   }
 
-  -- The inequalities, with level caps.
-  pub agree-level : n ≤ 31 → Agree (systemOf left right level (n + 1) m) (rulesOf p (λ j. pos 0))
-  unfolding rulesOf
-  agree-level b = record {
-    variables = rw (add-one, q .n-is);
-    rows = rw (q .m-is);
-    left = λ i j h k. q .left-is i j (omega arith) (omega arith);
-    right = λ i j h k. q .right-is i j (omega arith) (omega arith);
-    caps = λ j k. level-cap j (omega arith);
-  }
-
   -- All rows, the objective's raised by t.
   pub agree-at : {t : ℕ} {raised′ : List ℕ} → Coefficients n m left right → Trialled t → Raised right m t 32 raised′
       → Agree (systemOf left raised′ level (n + 1) (m + 1)) (systemAt p (wholeOf t))

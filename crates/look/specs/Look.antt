@@ -6,19 +6,17 @@ use mathlib.Core.Logic.{_⊎_}
 use mathlib.Core.List.{List}
 use lib.Dec.{eqb}
 use lib.ListN.{length, getD, replicate}
-use lib.IntN.{ℤ}
 use Rattle.base.specs.Filled.{Filled}
 use Rattle.definitions.specs.Limits.{signed-half, signed-full, stride}
 use Rattle.definitions.specs.Tropical.{Trop, bot}
 use Rattle.definitions.specs.Problem.{Problem, Point, Attainable}
-use Rattle.definitions.specs.Certificate.{Strategy, startOf}
+use Rattle.definitions.specs.Certificate.{startOf}
 use Rattle.definitions.specs.Offset.{tropOf}
 use Rattle.duality.specs.System.{System, sideOf, Solves, Blocks, systemAt}
 use Rattle.duality.specs.Values.{values, Policy}
 use Rattle.policy_iteration.specs.Tables.{entryOf, systemOf, pickOf, low-half, cap-limit}
 use Rattle.search.specs.Trials.{wholeOf, Trialled, PossibleBy}
 use Rattle.look.specs.declared.frame.Frame.{Frame}
-use Rattle.look.specs.declared.greatest.GreatestPoint.{GreatestPoint}
 use Rattle.look.specs.declared.greatest.Look.{Look}
 use Rattle.look.specs.Frames.{Held}
 
@@ -46,11 +44,11 @@ rulesIn f left right caps = systemOf left right caps (f .n + 1) (f .m)
 abbrev pub secondIn : Frame → List ℕ → List ℕ → List ℕ → Point → Trop
 secondIn f left right caps x = sideOf (rulesIn f left right caps) (entryOf right (f .m)) x
 
--- The greatest point under caps, as the values of a strategy that is kept: a pick is an inequality, or `none`. Where the second side is not
+-- The greatest point under caps, as the values of a strategy that is kept: a pick is an inequality, or m for none. Where the second side is not
 -- blank, and variable 0 has a value, the point solves the inequalities; else the second side is told as blank, 0.
-pub record Under (f : Frame) (left right caps : List ℕ) (none : ℕ) (g : GreatestPoint) : Type 0 where
+pub record Under (f : Frame) (left right caps : List ℕ) (g : Look) : Type 0 where
   pub size : length (g .picks) ≡ stride
-  pub picked : (j : ℕ) → j < stride → (pickOf (g .picks) j < f .m) ⊎ (pickOf (g .picks) j ≡ none)
+  pub picked : (j : ℕ) → j < stride → pickOf (g .picks) j ≤ f .m
   pub policy : Policy (rulesIn f left right caps) (pickOf (g .picks))
   pub second-most : g .second < signed-full
   pub whole-start : 0 < g .second → g .start ≡ 1
@@ -63,19 +61,15 @@ pub record Under (f : Frame) (left right caps : List ℕ) (none : ℕ) (g : Grea
 
 -- ---- every trial, decided
 
--- A trial that the second side shows possible is; where it does not, the strategy blocks from the start. The strategy that is kept is
--- kept at every t.
-pub record Decided (p : Problem) (start second : ℕ) (picks kept : List ℕ) : Type 0 where
+-- A trial that the second side shows possible is; where it does not, the strategy blocks from the start.
+pub record Decided (p : Problem) (start second : ℕ) (picks : List ℕ) : Type 0 where
   pub possible : (t : ℕ) → Trialled t → PossibleBy second t → Attainable p (wholeOf t)
   pub impossible : (t : ℕ) → Trialled t → (PossibleBy second t → ⊥) → Blocks (systemAt p (wholeOf t)) (startOf p start) (pickOf picks)
-  pub kept-at : (t : ℤ) → Policy (systemAt p t) (pickOf kept)
 
--- What a look at the problem in two tables finds; picks are numbers of rows, or one more than the last.
+-- What a look at the problem in two tables finds.
 pub record Looked (n m : ℕ) (left right : List ℕ) (l : Look) : Type 0 where
   pub picks-size : length (l .picks) ≡ stride
-  pub kept-size : length (l .kept) ≡ stride
-  pub picks-most : (j : ℕ) → j < stride → pickOf (l .picks) j ≤ m + 1
-  pub kept-most : (j : ℕ) → j < stride → pickOf (l .kept) j ≤ m + 1
+  pub picks-most : (j : ℕ) → j < stride → pickOf (l .picks) j ≤ m
   pub start-most : l .start ≤ 1
   pub second-most : l .second < signed-full
-  pub decided : (p : Problem) → Held p n m left right → Decided p (l .start) (l .second) (l .picks) (l .kept)
+  pub decided : (p : Problem) → Held p n m left right → Decided p (l .start) (l .second) (l .picks)

@@ -1,9 +1,10 @@
 -- A point that shows a possible span, by policy iteration over all rows.
 use Prim.Native.Nat.{ℕ, _+_}
 use mathlib.Core.List.{List}
+use lib.ListN.{replicate}
+use Rattle.definitions.specs.Limits.{stride}
 use Rattle.duality.specs.System.{System}
-use Rattle.duality.specs.Values.{Policy}
-use Rattle.policy_iteration.specs.Tables.{systemOf, pickOf, Tables}
+use Rattle.policy_iteration.specs.Tables.{systemOf, Tables}
 use Rattle.policy_iteration.specs.Ends.{EndsOf}
 use Rattle.policy_iteration.specs.Steps.{Iterated}
 use Rattle.look.specs.declared.frame.Frame.{Frame}
@@ -13,14 +14,13 @@ use Rattle.look.specs.Look.{level}
 abbrev pub rowsIn : Frame → List ℕ → List ℕ → System
 rowsIn f left raised = systemOf left raised level (f .n + 1) (f .m + 1)
 
--- Tables with their ends, and a strategy that is kept there.
-pub record Keepable (f : Frame) (left raised kept : List ℕ) : Type 0 where
+-- The tables of all rows, with their ends.
+pub record AllRows (f : Frame) (left raised : List ℕ) : Type 0 where
   pub tables : Tables left raised (f .n + 1) (f .m + 1)
   pub left-ends : EndsOf left (f .m + 1) (f .lefts)
   pub right-ends : EndsOf raised (f .m + 1) (f .rights)
-  pub policy : Policy (rowsIn f left raised) (pickOf kept)
 
--- The values that the iteration from it ends with.
-pub record PointFor (f : Frame) (left raised kept x : List ℕ) : Type 0 where
+-- The values that the iteration ends with, from the strategy without picks.
+pub record PointFor (f : Frame) (left raised x : List ℕ) : Type 0 where
   pub picks : List ℕ
-  pub iterated : Iterated (rowsIn f left raised) kept x picks
+  pub iterated : Iterated (rowsIn f left raised) (replicate stride (f .m + 1)) x picks

@@ -14,24 +14,24 @@ use policy_iteration::values::side;
 use records::limits::STRIDE;
 use records::limits::TABLE;
 
-// The greatest point under caps, by the strategy that it ends with, and its second side as an offset number. 0 stands for a blank side, or
-// for a point without a value of variable 0; the strategy then blocks from the start: 0 the anchor, 1 the second list.
-pub struct GreatestPoint {
+// What a look finds: the second side of the greatest point under caps as an offset number, 0 where it is blank or variable 0 has no
+// value; the strategy that the point ends with, which blocks from the start every trial that is not possible, row m being the objective's;
+// and that start: 0 the anchor, 1 the second list.
+pub struct Look {
     pub start: u64,
     pub second: u64,
     pub picks: [usize; STRIDE],
 }
 
-// The greatest point that keeps the inequalities under caps. A variable without a pick has the number `none`.
+// The greatest point that keeps the inequalities under caps. A variable without a pick has the number m.
 fn greatest_under(
     left: &[u32; TABLE],
     right: &[u32; TABLE],
     frame: Frame,
     caps: &[u32; STRIDE],
-    none: usize,
-) -> GreatestPoint
-    requires { ⌜ Ready frame (now left) (now right) × Caps (frame .n + 1) (now caps) × (frame .m ≤ none) ⌝ }
-    ensures { λ r. ⌜ Under frame (now (left .entry)) (now (right .entry)) (now (caps .entry)) none r ⌝ }
+) -> Look
+    requires { ⌜ Ready frame (now left) (now right) × Caps (frame .n + 1) (now caps) ⌝ }
+    ensures { λ r. ⌜ Under frame (now (left .entry)) (now (right .entry)) (now (caps .entry)) r ⌝ }
 {
     let lefts = frame.lefts;
     let rights = frame.rights;
@@ -41,14 +41,14 @@ fn greatest_under(
         &lefts,
         &rights,
         caps,
-        [none; STRIDE],
+        [frame.m; STRIDE],
         frame.n + 1,
         frame.m,
     );
     let values = end.values;
     let picks = end.picks;
     if values[0] == 0 {
-        return GreatestPoint {
+        return Look {
             start: 0,
             second: 0,
             picks,
@@ -56,20 +56,11 @@ fn greatest_under(
     }
     let row = frame.m;
     let second = high_of(side(right, rights[row], row, &values, frame.n + 1));
-    GreatestPoint {
+    Look {
         start: 1,
         second,
         picks,
     }
-}
-
-// What a look finds: the second side as an offset number, 0 where no span is possible; the strategy that blocks every trial that
-// is not possible, from the start, its row m being the objective's; and a strategy by which plans are found.
-pub struct Look {
-    pub start: u64,
-    pub second: u64,
-    pub picks: [usize; STRIDE],
-    pub kept: [usize; STRIDE],
 }
 
 // A look at the problem in two tables. Level caps tell first whether any span is possible.
@@ -77,22 +68,9 @@ pub fn look_at(left: &[u32; TABLE], right: &[u32; TABLE], frame: Frame) -> Look
     requires { ⌜ Ready frame (now left) (now right) ⌝ }
     ensures { λ r. ⌜ Looked (frame .n) (frame .m) (now (left .entry)) (now (right .entry)) r ⌝ }
 {
-    let free = greatest_under(left, right, frame, &level_caps(), frame.m + 1);
-    let kept = free.picks;
+    let free = greatest_under(left, right, frame, &level_caps());
     if free.second == 0 {
-        return Look {
-            start: free.start,
-            second: 0,
-            picks: kept,
-            kept,
-        };
+        return free;
     }
-    let capped = greatest_under(left, right, frame, &caps_of(left, frame.m), frame.m);
-    let picks = capped.picks;
-    Look {
-        start: capped.start,
-        second: capped.second,
-        picks,
-        kept,
-    }
+    greatest_under(left, right, frame, &caps_of(left, frame.m))
 }

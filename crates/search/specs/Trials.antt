@@ -3,7 +3,7 @@
 use Prim.Native.Nat.{ℕ, _+_, _-_, _/_, _≤_, _<_}
 use mathlib.Core.Path.{_≡_}
 use lib.IntN.{ℤ, subℕ}
-use Rattle.definitions.specs.Limits.{signed-half, signed-full, span-limit, class-optimal, class-unbounded, class-infeasible}
+use Rattle.definitions.specs.Limits.{signed-half, span-limit, class-optimal, class-unbounded, class-infeasible}
 use Rattle.definitions.specs.Bisection.{Bracket, Brackets, halved, trials-infeasible, trials-unbounded, trials-optimal}
 
 -- The whole number that an offset number above 0 stands for.
@@ -25,7 +25,8 @@ pub record Trialled (t : ℕ) : Type 0 where
   pub lowest : signed-half ≤ t + (span-limit + 1)
   pub highest : t ≤ signed-half + span-limit
 
--- A span of at most t is possible, by what a look found: −t is at most the second side. A blank side, 0, makes none possible.
+-- A span of at most t is possible, by what a look found: −t is at most the second side. A blank side, 0, makes no t
+-- below 2³² possible.
 abbrev pub PossibleBy : ℕ → ℕ → Type 0
 PossibleBy second t = signed-half + signed-half ≤ t + second
 

@@ -15,10 +15,10 @@ greatest-under-spec =
     (tie.spec
     (λ c. omega (arith, c .before .before .before .before .before .pre .0 .coefficients .n-most))
     (λ c κs. let start = c .before .before .before .before .before in let a = start .args in let y = start .pre .0 in
-    (rules-tables y, none-kept (a .frame) (a .left .now) (a .right .now) (a .caps .now) (a .none) (y .coefficients .n-most) (start .pre .2), ends-fewer (omega arith) (y .left-ends), ends-fewer (omega arith) (y .right-ends), start .pre .1))
+    (rules-tables y, none-kept (a .left .now) (a .right .now) (a .caps .now) (a .frame .n + 1) (a .frame .m) (omega (arith, y .coefficients .n-most)), ends-fewer (omega arith) (y .left-ends), ends-fewer (omega arith) (y .right-ends), start .pre .1))
     (λ c. search needs)
     (λ c. let a = c .before .before .before .before .before .before .before .before .before .args in let end = c .before .before .before .iterate in
-    under-blank (a .frame) (a .left .now) (a .right .now) (a .caps .now) (a .none) (end .result .values) (end .result .picks) (end .ensures) (c .if1 .taken))
+    under-blank (a .frame) (a .left .now) (a .right .now) (a .caps .now) (end .result .values) (end .result .picks) (end .ensures) (c .if1 .taken))
     (λ c. search needs)
     (λ c. search needs)
     (λ c. omega (arith, c .before .before .before .before .before .before .before .before .before .before .before .pre .0 .coefficients .n-most))
@@ -31,4 +31,4 @@ greatest-under-spec =
     ))
     (λ c κs. search needs)
     (λ c. let a = c .before .before .before .before .before .before .before .before .before .before .before .before .before .args in let end = c .before .before .before .before .before .before .before .iterate in
-    rw (c .high-of .ensures) (under-second (a .frame) (a .left .now) (a .right .now) (a .caps .now) (a .none) (end .result .values) (end .result .picks) (end .ensures) (c .before .side .result) (c .before .before .before .before .if1 .left) (c .before .side .ensures))))
+    rw (c .high-of .ensures) (under-second (a .frame) (a .left .now) (a .right .now) (a .caps .now) (end .result .values) (end .result .picks) (end .ensures) (c .before .side .result) (c .before .before .before .before .if1 .left) (c .before .side .ensures))))
