@@ -1,4 +1,4 @@
--- Class 1: what the search found is an answer that the checker's list accepts, with its span and trials.
+-- Class 1: the least span with a plan that shows it, and the look's strategy, are an answer that the checker's list accepts.
 use Prim.Native.Nat.{ℕ, suc, _+_, _*_, _-_, _≤_, _<_}
 use mathlib.Core.Path.{_≡_, refl, sym, ap, subst, fun-ext, _∙_}
 use mathlib.Core.Bool.{true, and-eq-true-iff}
@@ -20,7 +20,7 @@ use Rattle.definitions.specs.Bytes.{whole-within, blank-or-within}
 use Rattle.definitions.specs.AnswerRecord.{is-zero, spanFits, stampsFit, picksFit, rightCounts, formRefusal}
 use Rattle.definitions.specs.Verdict as Verdict
 use Rattle.definitions.specs.Solved as Solved
-use Rattle.definitions.specs.Solved.{Found, Answers, IdleVariables}
+use Rattle.definitions.specs.Solved.{Answers, IdleVariables}
 use Rattle.definitions.proofs.Whole.{whole, minus-read, subℕ-read}
 use Rattle.definitions.proofs.Tropical.{bot-plus}
 use Rattle.definitions.proofs.Offset.{trop-zero, trop-fin}
@@ -36,15 +36,17 @@ use Rattle.duality.proofs.Classes.{starts-inside, value-exactly, optimal-exactl
 use Rattle.duality.proofs.Unused.{optimal-unused}
 use Rattle.reach.specs.Marks.{StartMarked}
 use Rattle.policy_iteration.specs.Tables.{pointOf, pickOf}
-use Rattle.trial_tables.specs.declared.frame.Frame.{Frame}
-use Rattle.trial_tables.specs.Frames.{wholeOf, zero-offset, Raised, Holds, Ready}
-use Rattle.trial_tables.proofs.Raising.{raised-held, holds-within}
-use Rattle.least_span.specs.declared.state.Search.{Search}
-use Rattle.least_span.specs.declared.halving.Least.{Least}
-use Rattle.least_span.specs.State.{PointAt}
-use Rattle.least_span.specs.Halving.{LeastFound}
-use Rattle.pick_tables.specs.Shown.{VariablePicks}
-use Rattle.class_answers.specs.Answered.{Stamps, StartMarks, answerIn, Settled}
+use Rattle.search.specs.Trials.{wholeOf, Trialled, LeastBy, FoundBy}
+use Rattle.search.specs.declared.search.Found.{Found}
+use Rattle.search.proofs.Trials.{found-least, least-trials, least-trialled, below-trialled}
+use Rattle.look.specs.declared.frame.Frame.{Frame}
+use Rattle.look.specs.declared.greatest.Look.{Look}
+use Rattle.look.specs.Frames.{Raised, Coefficients, Ready, Held}
+use Rattle.look.specs.Look.{Looked}
+use Rattle.look.specs.Point.{PointFor}
+use Rattle.look.proofs.Tables.{held-within}
+use Rattle.class_answers.specs.Answered.{Stamps, ShownPicks, PointAt, answerIn, AnswerOf}
+use Rattle.class_answers.proofs.Points.{point-shows}
 use Rattle.class_answers.proofs.Variables.{variables-agree, variables-idle, variables-most}
 use Rattle.class_answers.proofs.Form.{cut-point, picks-fit, stamps-fit, cut-count, cut-count-map}
 use Rattle.class_answers.proofs.Shared.{enough, start-marked, blocked-unattainable, same-count, cut-64, fits-64}
@@ -82,109 +84,107 @@ moved-within p t point k f =
     rw (← difference-plus (pointOf point k) (wholeOf (getD point 0 0)))
     (subst (λ (z : Trop). blank-or-within stamp-limit (difference (pointOf point k) z) ≡ true) (trop-fin (getD point 0 0) (f .finite)) (f .stamps k))
 
--- The halving ended: least.
-pub optimal-settled : (f : Frame) (left before right right′ : List ℕ) (s : Search) (least : Least) (begin out stamps : List ℕ) → LeastFound f left before right s least
-    → Raised right (f .objective) (f .m) zero-offset 32 right′ → StartMarks (f .objective) (least .start) begin
-    → VariablePicks right′ (least .blocking) begin (f .n + 1) (f .m + 1) out → Stamps (least .point) (f .n + 1) stamps
-    → Settled f left right s (record { class = 1; span = least .span; start = least .start; trials = least .trials; made = least .made; stamps = stamps; picks = out })
-unfolding is-zero Verdict.pointOf
-optimal-settled f left before right right′ s l begin out stamps g r marks v d = record { answers = answers; made-up = g .made-up; made-most = g .made-most }
-  where
-    n : ℕ
-    n = f .n
+-- The least span with its point: least.
+module _ {f : Frame} {left right raised : List ℕ} {l : Look} {found : Found} {x out stamps : List ℕ} (y : Ready f left right) (look : Looked (f .n) (f .m) left right l)
+    (some : FoundBy (l .second) (found .class) (found .span) (found .trials)) (class : found .class ≡ 1) (r : Raised right (f .m) (found .span) 32 raised)
+    (d : PointFor f left raised x) (s : ShownPicks (f .n) (f .m) right (l .start) (l .picks) out) (z : Stamps x (f .n + 1) stamps) where
+  c : Coefficients (f .n) (f .m) left right
+  c = y .coefficients
 
-    m : ℕ
-    m = f .m
+  least : LeastBy (l .second) (found .span)
+  least = found-least some class
 
-    span : ℕ
-    span = l .span
+  positive : 0 < found .span
+  positive = omega (arith, least .lowest)
 
-    point : List ℕ
-    point = l .point
+  trialled : Trialled (found .span)
+  trialled = least-trialled least
 
-    blocking : List ℕ
-    blocking = l .blocking
+  module _ (p : Problem) (q : Held p (f .n) (f .m) left right) where
+    shows : PointAt p (found .span) x
+    shows = point-shows q y trialled r d (look .decided p q .possible (found .span) trialled (least .possible))
 
-    y : Ready f left right
-    y = g .raised .ready
+    starts : StartMarked (startOf p (l .start)) (f .n + 1) (s .begin)
+    starts = start-marked (l .start) q (c .n-most) (s .copied) (s .marks)
 
-    starts : (p : Problem) → Holds p f left right → StartMarked (startOf p (l .start)) (n + 1) begin
-    starts p q = start-marked (l .start) q (y .n-most) marks
+    blocks : Blocks (systemAt p (wholeOf (found .span) -ℤ pos 1)) (startOf p (l .start)) (pickOf (l .picks))
+    blocks = subst (λ (t : ℤ). Blocks (systemAt p t) (startOf p (l .start)) (pickOf (l .picks))) (below-whole (found .span) positive)
+        (look .decided p q .impossible (found .span - 1) (below-trialled least) (least .impossible))
 
-    some : 0 < span
-    some = omega (arith, g .span-trialled .lowest)
+    solves : Solves (systemAt p (wholeOf (found .span))) (moved (pointOf x) (wholeOf (getD x 0 0)))
+    solves = moved-solves (systemAt p (wholeOf (found .span))) (pointOf x) (wholeOf (getD x 0 0)) (shows .solves)
 
-    shown : (p : Problem) → Holds p f left right → PointAt p span point
-    shown p q = g .least p q .possible
+    anchored : moved (pointOf x) (wholeOf (getD x 0 0)) 0 ≡ fin (pos 0)
+    anchored = moved-anchored (pointOf x) (wholeOf (getD x 0 0)) (trop-fin (getD x 0 0) (shows .finite))
 
-    blocks : (p : Problem) → Holds p f left right → Blocks (systemAt p (wholeOf span -ℤ pos 1)) (startOf p (l .start)) (pickOf blocking)
-    blocks p q = subst (λ (t : ℤ). Blocks (systemAt p t) (startOf p (l .start)) (pickOf blocking)) (below-whole span some) (g .least p q .impossible)
+    feasible : Feasible p (moved (pointOf x) (wholeOf (getD x 0 0)))
+    feasible = solves-feasible p (wholeOf (found .span)) _ anchored solves
 
-    solves : (p : Problem) → Holds p f left right → Solves (systemAt p (wholeOf span)) (moved (pointOf point) (wholeOf (getD point 0 0)))
-    solves p q = moved-solves (systemAt p (wholeOf span)) (pointOf point) (wholeOf (getD point 0 0)) (shown p q .solves)
+    counts : Counts p (moved (pointOf x) (wholeOf (getD x 0 0)))
+    counts = moved-counts p (pointOf x) (wholeOf (getD x 0 0)) (shows .second .started) (shows .second .finite)
 
-    feasible : (p : Problem) → Holds p f left right → Feasible p (moved (pointOf point) (wholeOf (getD point 0 0)))
-    feasible p q = solves-feasible p (wholeOf span) _ (moved-anchored (pointOf point) (wholeOf (getD point 0 0)) (trop-fin (getD point 0 0) (shown p q .finite))) (solves p q)
+    unattainable : Attainable p (wholeOf (found .span) -ℤ pos 1) → ⊥
+    unattainable = blocked-unattainable p (wholeOf (found .span) -ℤ pos 1) (l .start) (pickOf (l .picks)) blocks
 
-    counts : (p : Problem) → Holds p f left right → Counts p (moved (pointOf point) (wholeOf (getD point 0 0)))
-    counts p q = moved-counts p (pointOf point) (wholeOf (getD point 0 0)) (shown p q .second .started) (shown p q .second .finite)
-
-    unattainable : (p : Problem) → Holds p f left right → Attainable p (wholeOf span -ℤ pos 1) → ⊥
-    unattainable p q = blocked-unattainable p (wholeOf span -ℤ pos 1) (l .start) (pickOf blocking) (blocks p q)
-
-    optimal : (p : Problem) → Holds p f left right → Optimal p (wholeOf span)
-    optimal p q = optimal-exactly p (wholeOf span) .1 (
-      record { point = moved (pointOf point) (wholeOf (getD point 0 0)); feasible = feasible p q; counts = counts p q; within = solves-within p (wholeOf span) _ (solves p q) },
-      unattainable p q,
+    optimal : Optimal p (wholeOf (found .span))
+    optimal = optimal-exactly p (wholeOf (found .span)) .1 (
+      record { point = moved (pointOf x) (wholeOf (getD x 0 0)); feasible = feasible; counts = counts; within = solves-within p (wholeOf (found .span)) _ solves },
+      unattainable,
     )
 
-    accepted : (p : Problem) → Holds p f left right → AcceptedOptimal (startOf p (l .start)) p (wholeOf span) (moved (pointOf point) (wholeOf (getD point 0 0))) (pickOf out)
-    accepted p q =
-        let held = raised-held p f left right right′ q y r in
-        let c = block-picks p (wholeOf span -ℤ pos 1) (picks-joined (pickOf blocking) (suc (p .m)) (suc (p .n))) (starts-inside p (start-below p (l .start))) (blocks p q) in
-        let a : AcceptedOptimal (startOf p (l .start)) p (wholeOf span) (moved (pointOf point) (wholeOf (getD point 0 0))) (picksFrom (pickOf blocking) (suc (p .m))) = record {
-          feasible = feasible p q;
-          value-is = value-exactly p (wholeOf span) _ (feasible p q) (counts p q) (solves-within p (wholeOf span) _ (solves p q)) (unattainable p q);
-          picks-count = c .0;
-          below-zero = c .1;
+    accepted : AcceptedOptimal (startOf p (l .start)) p (wholeOf (found .span)) (moved (pointOf x) (wholeOf (getD x 0 0))) (pickOf out)
+    accepted =
+        let b = block-picks p (wholeOf (found .span) -ℤ pos 1) (picks-joined (pickOf (l .picks)) (suc (p .m)) (suc (p .n))) (starts-inside p (start-below p (l .start))) blocks in
+        let a : AcceptedOptimal (startOf p (l .start)) p (wholeOf (found .span)) (moved (pointOf x) (wholeOf (getD x 0 0))) (picksFrom (pickOf (l .picks)) (suc (p .m))) = record {
+          feasible = feasible;
+          value-is = value-exactly p (wholeOf (found .span)) _ feasible counts (solves-within p (wholeOf (found .span)) _ solves) unattainable;
+          picks-count = b .0;
+          below-zero = b .1;
         } in
-        let b : AcceptedOptimal (startOf p (l .start)) p (wholeOf span) (moved (pointOf point) (wholeOf (getD point 0 0))) (picksFrom (pickOf blocking) (m + 1)) =
-        subst (λ (i : ℕ). AcceptedOptimal (startOf p (l .start)) p (wholeOf span) (moved (pointOf point) (wholeOf (getD point 0 0))) (picksFrom (pickOf blocking) i)) (sym (same-count (p .m) m (q .m-is))) a in
-        optimal-unused (variables-agree p n m left right′ blocking begin out held (y .n-most) (starts p q) v) (wholeOf span) _ b
+        let k : AcceptedOptimal (startOf p (l .start)) p (wholeOf (found .span)) (moved (pointOf x) (wholeOf (getD x 0 0))) (picksFrom (pickOf (l .picks)) (f .m + 1)) =
+        subst (λ (i : ℕ). AcceptedOptimal (startOf p (l .start)) p (wholeOf (found .span)) (moved (pointOf x) (wholeOf (getD x 0 0))) (picksFrom (pickOf (l .picks)) i)) (sym (same-count (p .m) (f .m) (q .m-is))) a in
+        optimal-unused (variables-agree p (f .n) (f .m) left right (l .picks) (s .begin) out q (c .n-most) starts (s .shown)) (wholeOf (found .span)) _ k
 
-    stamps-point : (p : Problem) → Holds p f left right
-        → Verdict.pointOf (map tropOf (take (suc n) stamps)) ≡ moved (pointOf point) (wholeOf (getD point 0 0))
-    stamps-point p q =
-        cut-point (suc n) stamps (omega (arith, d .size-is, y .n-most)) (λ j h. d .rest j (omega arith))
-        ∙ stamps-moved p span n point stamps (q .n-is) (shown p q) d
+    stamps-point : Verdict.pointOf (map tropOf (take (suc (f .n)) stamps)) ≡ moved (pointOf x) (wholeOf (getD x 0 0))
+    stamps-point =
+        cut-point (suc (f .n)) stamps (omega (arith, z .size-is, c .n-most)) (λ j h. z .rest j (omega arith))
+        ∙ stamps-moved p (found .span) (f .n) x stamps (q .n-is) shows z
 
-    range : (p : Problem) → Holds p f left right → natAbs (wholeOf span) ≤ span-limit
-    range p q = optimal-range p lead-limit span-limit (holds-within q y) (enough p n (q .n-is) (y .n-most)) (wholeOf span) (optimal p q)
+    range : natAbs (wholeOf (found .span)) ≤ span-limit
+    range = optimal-range p lead-limit span-limit (held-within q c) (enough p (f .n) (q .n-is) (c .n-most)) (wholeOf (found .span)) optimal
 
-    fit : (p : Problem) → Holds p f left right → stampsFit (map tropOf (take (suc n) stamps)) ≡ true
-    fit p q = stamps-fit (map tropOf (take (suc n) stamps))
-        (rw (at 0, moved-anchored (pointOf point) (wholeOf (getD point 0 0)) (trop-fin (getD point 0 0) (shown p q .finite))) refl)
-        (λ k. rw (at k) (moved-within p span point k (shown p q)))
+    fit : stampsFit (map tropOf (take (suc (f .n)) stamps)) ≡ true
+    unfolding is-zero Verdict.pointOf
+    fit = stamps-fit (map tropOf (take (suc (f .n)) stamps)) (rw (at 0, anchored) refl) (λ k. rw (at k) (moved-within p (found .span) x k shows))
       where
-        at : (k : ℕ) → getD (map tropOf (take (suc n) stamps)) k bot ≡ moved (pointOf point) (wholeOf (getD point 0 0)) k
-        at k = ap (λ (h : Point). h k) (stamps-point p q)
+        at : (k : ℕ) → getD (map tropOf (take (suc (f .n)) stamps)) k bot ≡ moved (pointOf x) (wholeOf (getD x 0 0)) k
+        at k = ap (λ (h : Point). h k) stamps-point
 
-    answers : (p : Problem) → Holds p f left right → Answers p 1 (tropOf span) (l .trials) (answerIn n m 1 span (l .start) stamps out)
-    answers p q =
-        let held = raised-held p f left right right′ q y r in
-        let cut = cut-64 n out (omega (arith, y .n-most)) (v .shown) in
-        let form = optimal-form n m span (l .start) stamps out (y .n-most) (d .size-is) (v .shown .size-is) some (range p q) (fit p q)
-        (fits-64 (suc m) n out (omega (arith, y .n-most)) (v .shown) (λ j. omega (arith, variables-most p n m left right′ blocking begin out held (y .n-most) (starts p q) v j))) in
+    answers : Answers p 1 (tropOf (found .span)) (found .trials) (answerIn (f .n) (f .m) 1 (found .span) (l .start) stamps out)
+    answers =
+        let cut = cut-64 (f .n) out (omega (arith, c .n-most)) (s .shown .shown) in
+        let form = optimal-form (f .n) (f .m) (found .span) (l .start) stamps out (c .n-most) (z .size-is) (s .shown .shown .size-is) positive range fit
+        (fits-64 (suc (f .m)) (f .n) out (omega (arith, c .n-most)) (s .shown .shown) (λ j. omega (arith, variables-most p (f .n) (f .m) left right (l .picks) (s .begin) out q (c .n-most) starts (s .shown) j))) in
         record {
-          found = rw (trop-fin span some) (subst (Found p 1 (fin (wholeOf span))) (g .count) (Solved.optimal (optimal p q)));
+          found = rw (trop-fin (found .span) positive) (subst (Solved.Found p 1 (fin (wholeOf (found .span)))) (sym (least-trials some class)) (Solved.optimal optimal));
           class-is = refl;
           span-is = refl;
           counts = rw (q .n-is, q .m-is) (form .0);
-          start-fits = le-leb (l .start) 1 (g .started);
+          start-fits = le-leb (l .start) 1 (look .start-most);
           form = rw (q .n-is, q .m-is) (form .1);
-          idle-variables = λ _. subst (λ (s : Strategy). IdleVariables (startOf p (l .start)) p s) (sym cut) (variables-idle p n m left right′ blocking begin out held (y .n-most) (starts p q) v);
+          idle-variables = λ _. subst (λ (s : Strategy). IdleVariables (startOf p (l .start)) p s) (sym cut) (variables-idle p (f .n) (f .m) left right (l .picks) (s .begin) out q (c .n-most) starts (s .shown));
           idle-rows = λ e. absurd (omega arith);
-          accepted = Verdict.optimal refl (trop-fin span some)
-              (subst (AcceptedOptimal (startOf p (l .start)) p (wholeOf span) (Verdict.pointOf (map tropOf (take (suc n) stamps)))) (sym cut)
-              (subst (λ (z : Point). AcceptedOptimal (startOf p (l .start)) p (wholeOf span) z (pickOf out)) (sym (stamps-point p q)) (accepted p q)));
+          accepted = Verdict.optimal refl (trop-fin (found .span) positive)
+              (subst (AcceptedOptimal (startOf p (l .start)) p (wholeOf (found .span)) (Verdict.pointOf (map tropOf (take (suc (f .n)) stamps)))) (sym cut)
+              (subst (λ (z : Point). AcceptedOptimal (startOf p (l .start)) p (wholeOf (found .span)) z (pickOf out)) (sym stamps-point) accepted));
         }
+
+  pub optimal-answer : AnswerOf (f .n) (f .m) left right found (record { class = 1; span = found .span; start = l .start; trials = found .trials; stamps = stamps; picks = out })
+  optimal-answer = record {
+    class-is = sym class;
+    span-is = refl;
+    trials-is = refl;
+    stamps-size = z .size-is;
+    picks-size = s .shown .shown .size-is;
+    answers = answers;
+  }

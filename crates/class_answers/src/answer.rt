@@ -81,7 +81,13 @@ fn shown(right: &[u32; TABLE], frame: Frame, look: Look) -> [u64; ROWS]
 }
 
 // Class 3: no span is possible.
-fn infeasible(left: &[u32; TABLE], right: &[u32; TABLE], frame: Frame, look: Look, found: Found) -> Answer
+fn infeasible(
+    left: &[u32; TABLE],
+    right: &[u32; TABLE],
+    frame: Frame,
+    look: Look,
+    found: Found,
+) -> Answer
     requires { ⌜ Ready frame (now left) (now right) × Looked (frame .n) (frame .m) (now left) (now right) look × FoundBy (look .second) (found .class) (found .span) (found .trials) × (found .class ≡ class-infeasible) ⌝ }
     ensures { λ r. ⌜ AnswerOf (frame .n) (frame .m) (now (left .entry)) (now (right .entry)) found r ⌝ }
 {
@@ -98,7 +104,13 @@ fn infeasible(left: &[u32; TABLE], right: &[u32; TABLE], frame: Frame, look: Loo
 
 // Class 2: each row picks a variable that attains its largest at a point of the lowest trial. The start names a variable of the second list
 // that has a value there.
-fn unbounded(left: &[u32; TABLE], right: &[u32; TABLE], frame: Frame, look: Look, found: Found) -> Answer
+fn unbounded(
+    left: &[u32; TABLE],
+    right: &[u32; TABLE],
+    frame: Frame,
+    look: Look,
+    found: Found,
+) -> Answer
     requires { ⌜ Ready frame (now left) (now right) × Looked (frame .n) (frame .m) (now left) (now right) look × FoundBy (look .second) (found .class) (found .span) (found .trials) × (found .class ≡ class-unbounded) ⌝ }
     ensures { λ r. ⌜ AnswerOf (frame .n) (frame .m) (now (left .entry)) (now (right .entry)) found r ⌝ }
 {
@@ -120,7 +132,13 @@ fn unbounded(left: &[u32; TABLE], right: &[u32; TABLE], frame: Frame, look: Look
 }
 
 // Class 1: a plan of the least span, and the strategy that blocks one below it.
-fn optimal(left: &[u32; TABLE], right: &[u32; TABLE], frame: Frame, look: Look, found: Found) -> Answer
+fn optimal(
+    left: &[u32; TABLE],
+    right: &[u32; TABLE],
+    frame: Frame,
+    look: Look,
+    found: Found,
+) -> Answer
     requires { ⌜ Ready frame (now left) (now right) × Looked (frame .n) (frame .m) (now left) (now right) look × FoundBy (look .second) (found .class) (found .span) (found .trials) × (found .class ≡ class-optimal) ⌝ }
     ensures { λ r. ⌜ AnswerOf (frame .n) (frame .m) (now (left .entry)) (now (right .entry)) found r ⌝ }
 {
@@ -139,7 +157,13 @@ fn optimal(left: &[u32; TABLE], right: &[u32; TABLE], frame: Frame, look: Look, 
 }
 
 // The answer that shows what the trials found, by the look that decided them.
-pub fn answer_of(left: &[u32; TABLE], right: &[u32; TABLE], frame: Frame, look: Look, found: Found) -> Answer
+pub fn answer_of(
+    left: &[u32; TABLE],
+    right: &[u32; TABLE],
+    frame: Frame,
+    look: Look,
+    found: Found,
+) -> Answer
     requires { ⌜ Ready frame (now left) (now right) × Looked (frame .n) (frame .m) (now left) (now right) look × FoundBy (look .second) (found .class) (found .span) (found .trials) ⌝ }
     ensures { λ r. ⌜ AnswerOf (frame .n) (frame .m) (now (left .entry)) (now (right .entry)) found r ⌝ }
 {

@@ -8,4 +8,4 @@ begun-spec = tie.close (tie.spec
     (λ c κs. search needs)
     (λ c. record { flags = c .anchor .ensures .flags; anchored = λ _. c .anchor .ensures; second = λ d. absurd (d (c .before .if1 .taken)) })
     (λ c κs. search needs)
-    (λ c. record { flags = coefficients-flags (c .before .before .args .objective .now) (c .marks-of .ensures); anchored = λ e. absurd (c .before .if1 .left e); second = λ _. c .marks-of .ensures }))
+    (λ c. record { flags = coefficients-flags (c .before .before .args .row .now) (c .marks-of .ensures); anchored = λ e. absurd (c .before .if1 .left e); second = λ _. c .marks-of .ensures }))

@@ -1,11 +1,15 @@
-use Rattle.class_answers.proofs.Final.{settled-answered}
-use Rattle.trial_tables.proofs.Raising.{rewritten}
+use Rattle.look.proofs.Tables.{decoded-held}
 use borrow.Author.Needs.{needs}
 use Rattle.class_answers.proofs.answer.solve_tables.Statement.{statement}
 use Rattle.class_answers.proofs.answer.solve_tables.Tie as tie
 
 pub solve-tables-spec : {M : Type 1} → statement M
-solve-tables-spec = tie.close (tie.spec
+solve-tables-spec =
+    tie.close
+    (tie.spec
     (λ c κs. search needs)
-    (λ c κs. search needs)
-    (λ c. let o = c .before .before .frame-of .ensures in let s = c .solve-framed .ensures in (settled-answered o (s .0), s .0 .made-some, s .0 .made-most, rewritten o (s .1))))
+    (λ c κs. c .frame-of .ensures .ready)
+    (λ c κs. c .look-at .ensures .second-most)
+    (λ c κs. (c .before .before .frame-of .ensures .ready, c .before .look-at .ensures, c .search .ensures))
+    (λ c. let o = c .before .before .before .frame-of .ensures in
+    record { answers = λ p d e g. rw (← o .n-is, ← o .m-is) (c .answer-of .ensures .answers p (rw (o .n-is, o .m-is) (decoded-held e g d))) }))

@@ -1,7 +1,10 @@
-use mathlib.Core.Path.{refl}
-use Rattle.class_answers.proofs.Unbounded.{point-second, unbounded-settled}
-use Rattle.trial_tables.proofs.Raising.{raised-ready, raised-reraised}
+use Prim.Native.Nat.{ℕ}
 use native.Mathlib.Omega.{arith}
+use lib.ListN.{length-replicate}
+use Rattle.look.proofs.Tables.{raised-tables}
+use Rattle.class_answers.proofs.Shared.{lowest-trialled}
+use Rattle.class_answers.proofs.Points.{all-rows, point-ranged}
+use Rattle.class_answers.proofs.Unbounded.{second-inside, unbounded-answer}
 use borrow.Author.Needs.{needs}
 use Rattle.class_answers.proofs.answer.unbounded.Statement.{statement}
 use Rattle.class_answers.proofs.answer.unbounded.Tie as tie
@@ -10,15 +13,18 @@ pub unbounded-spec : {M : Type 1} → statement M
 unbounded-spec =
     tie.close
     (tie.spec
-    (λ c. search needs)
-    (λ c. search needs)
-    (λ c κs. search needs)
-    (λ c κs. let start = c .before .before .before .before .before .before .before .before .before in let a = start .args in let p = start .pre in let r = c .before .before .before .raise in
-    let y = raised-ready (a .frame) (a .search .reached) (a .left .now) (a .right .now) (r .last .0) (p .0) (record { lowest = omega (arith, p .1 .numbers .lowest, p .1 .numbers .low, p .1 .numbers .apart); highest = omega (arith, p .3) }) (r .ensures) in
-    (y .tables .width-most, y .tables .rows-most, y .tables .rights, p .1 .numbers .ranged))
-    (λ c κs. let p = c .before .before .before .before .before .before .before .before .before .before .before .before .pre in (p .0 .objective-size, p .1 .numbers .ranged .size, omega (arith, p .0 .n-most)))
-    (λ c κs. let p = c .before .before .before .before .before .before .before .before .before .before .before .before .before .before .pre in let h = point-second (p .1) (p .3) (c .before .second-met .ensures) in omega (arith, h, p .0 .n-most))
-    (λ c κs. search needs)
-    (λ c. let p = c .before .before .before .before .before .before .before .before .before .before .before .before .before .before .before .before .pre in let h = point-second (p .1) (p .3) (c .before .before .before .second-met .ensures) in omega (arith, h, p .0 .n-most))
-    (λ c. let start = c .before .before .before .before .before .before .before .before .before .before .before .before .before .before .before .before in let a = start .args in let p = start .pre in let r = c .before .before .before .before .before .before .before .before .before .before .raise in let i = c .before .before .before .before .before .before .induced in let k = c .before .before .before .second-met in let g = c .before .anchor-and in
-    (unbounded-settled (a .frame) (a .left .now) (a .right .now) (r .last .0) (a .search) (i .result) (g .result) (c .row-picks .result) _ (k .result) (p .0) (p .1) (p .2) (p .3) (r .ensures) (i .ensures) (k .ensures) (g .ensures) (c .row-picks .ensures), raised-reraised (a .frame) (a .search .reached) (a .left .now) (a .right .now) (r .last .0) (p .0) (record { lowest = omega (arith, p .1 .numbers .lowest, p .1 .numbers .low, p .1 .numbers .apart); highest = omega (arith, p .3) }) (r .ensures), refl)))
+    (λ c. omega (arith, c .before .pre .0 .coefficients .n-most))
+    (λ c. omega (arith, c .before .before .pre .0 .coefficients .m-most))
+    (λ c κs. let y = c .before .before .pre .0 .coefficients in (y .rights, omega (arith, y .m-most), lowest-trialled))
+    (λ c κs. all-rows (c .before .before .before .before .pre .0) lowest-trialled (c .before .raised .ensures))
+    (λ c κs. let p = c .before .before .before .before .before .before .before .pre in let y = p .0 .coefficients in let r = c .before .before .before .before .raised .ensures in
+    (omega (arith, y .n-most), omega (arith, y .m-most), raised-tables (p .0) lowest-trialled r .rights, point-ranged (p .0) lowest-trialled r (c .before .before .point-at .ensures)))
+    (λ c κs. let y = c .before .before .before .before .before .before .before .before .pre .0 .coefficients in (y .rights .size, omega (arith, y .m-most)))
+    (λ c κs. let p = c .before .before .before .before .before .before .before .before .before .before .before .pre in (c .before .before .row-of .ensures .size-is, point-ranged (p .0) lowest-trialled (c .before .before .before .before .before .before .before .before .raised .ensures) (c .before .before .before .before .before .before .point-at .ensures) .size, omega (arith, p .0 .coefficients .n-most)))
+    (λ c κs. let p = c .before .before .before .before .before .before .before .before .before .before .before .before .before .pre in
+    omega (arith, p .0 .coefficients .n-most, second-inside (p .0) (p .1) (p .2) (p .3) (c .before .before .before .before .before .before .before .before .before .before .raised .ensures) (c .before .before .before .before .before .before .before .before .point-at .ensures) (c .before .before .before .before .before .induced .ensures) (c .before .before .before .before .row-of .ensures) (c .before .second-met .ensures)))
+    (λ c κs. let y = c .before .before .before .before .before .before .before .before .before .before .before .before .before .before .pre .0 .coefficients in (y .lefts .size, c .before .before .before .before .before .before .induced .ensures .size-is, c .anchor-and .ensures .flags, omega (arith, y .n-most), omega (arith, y .m-most)))
+    (λ c. let p = c .before .before .before .before .before .before .before .before .before .before .before .before .before .before .before .pre in
+    omega (arith, p .0 .coefficients .n-most, second-inside (p .0) (p .1) (p .2) (p .3) (c .before .before .before .before .before .before .before .before .before .before .before .before .raised .ensures) (c .before .before .before .before .before .before .before .before .before .before .point-at .ensures) (c .before .before .before .before .before .before .before .induced .ensures) (c .before .before .before .before .before .before .row-of .ensures) (c .before .before .before .second-met .ensures)))
+    (λ c. let p = c .before .before .before .before .before .before .before .before .before .before .before .before .before .before .before .pre in
+    unbounded-answer (p .0) (p .1) (p .2) (p .3) (c .before .before .before .before .before .before .before .before .before .before .before .before .raised .ensures) (c .before .before .before .before .before .before .before .before .before .before .point-at .ensures) (c .before .before .before .before .before .before .before .induced .ensures) (c .before .before .before .before .before .before .row-of .ensures) (c .before .before .before .second-met .ensures) (c .before .anchor-and .ensures) (c .row-picks .ensures) _ (length-replicate {A = ℕ} 32 0)))
