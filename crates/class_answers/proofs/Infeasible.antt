@@ -36,7 +36,7 @@ use Rattle.look.proofs.Tables.{held-within}
 use Rattle.class_answers.specs.Answered.{ShownPicks, answerIn, AnswerOf}
 use Rattle.class_answers.proofs.Variables.{variables-agree, variables-idle, variables-most}
 use Rattle.class_answers.proofs.Form.{picks-fit, stamps-fit, no-stamps-fit, cut-count}
-use Rattle.class_answers.proofs.Shared.{enough, top-trialled, start-marked, blocked-unattainable, same-count, cut-64, fits-64}
+use Rattle.class_answers.proofs.Shared.{enough, top-trialled, start-marked, blocked-unattainable, same-count, cut-64, fits-64, shown-few}
 
 none-form : (n m start : ℕ) (stamps out : List ℕ) → n ≤ 31 → length out ≡ 64 → picksFit (suc m) (take (suc n) out) ≡ true
     → (rightCounts (answerIn n m 3 0 start stamps out) n m ≡ true) × (formRefusal (answerIn n m 3 0 start stamps out) n m ≡ 0)
@@ -49,15 +49,17 @@ none-form n m start stamps out h l f = (
 -- No span is possible: none.
 pub infeasible-answer : {n m : ℕ} {left right : List ℕ} {l : Look} {found : Found} {out stamps : List ℕ} → Coefficients n m left right → Looked n m left right l
     → FoundBy (l .second) (found .class) (found .span) (found .trials) → found .class ≡ 3
-    → ShownPicks n m right (l .start) (l .picks) out → length stamps ≡ 32
+    → ShownPicks n m right (l .start) (l .picks) out → length stamps ≡ 32 → ((j : ℕ) → getD stamps j 0 ≡ 0)
     → AnswerOf n m left right found (record { class = 3; span = 0; start = l .start; trials = found .trials; stamps = stamps; picks = out })
-infeasible-answer {n} {m} {left} {right} {l} {found} {out} {stamps} y look f e s size =
+infeasible-answer {n} {m} {left} {right} {l} {found} {out} {stamps} y look f e s size zero =
     record {
       class-is = sym e;
       span-is = sym (none-span f e .0);
       trials-is = refl;
       stamps-size = size;
       picks-size = s .shown .shown .size-is;
+      stamps-most = λ j. omega (arith, zero j);
+      picks-most = shown-few y s;
       answers = λ p q. rw (none-span f e .1) (answers p q (found-none f e));
     }
   where

@@ -6,3 +6,4 @@ pub mod RowsOf
 pub mod Infeasible
 pub mod Unbounded
 pub mod Optimal
+pub mod Found

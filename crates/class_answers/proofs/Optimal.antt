@@ -44,12 +44,12 @@ use Rattle.look.specs.declared.greatest.Look.{Look}
 use Rattle.look.specs.Frames.{Raised, Coefficients, Ready, Held}
 use Rattle.look.specs.Look.{Looked}
 use Rattle.look.specs.Point.{PointFor}
-use Rattle.look.proofs.Tables.{held-within}
+use Rattle.look.proofs.Tables.{problem-in, held-within}
 use Rattle.class_answers.specs.Answered.{Stamps, ShownPicks, PointAt, answerIn, AnswerOf}
 use Rattle.class_answers.proofs.Points.{point-shows}
 use Rattle.class_answers.proofs.Variables.{variables-agree, variables-idle, variables-most}
 use Rattle.class_answers.proofs.Form.{cut-point, picks-fit, stamps-fit, cut-count, cut-count-map}
-use Rattle.class_answers.proofs.Shared.{enough, start-marked, blocked-unattainable, same-count, cut-64, fits-64}
+use Rattle.class_answers.proofs.Shared.{enough, start-marked, blocked-unattainable, same-count, cut-64, fits-64, shown-few, number-within}
 
 optimal-form : (n m span start : ℕ) (stamps out : List ℕ) → n ≤ 31 → length stamps ≡ 32 → length out ≡ 64 → 0 < span → natAbs (wholeOf span) ≤ span-limit
     → stampsFit (map tropOf (take (suc n) stamps)) ≡ true → picksFit (suc m) (take (suc n) out) ≡ true
@@ -61,7 +61,7 @@ optimal-form n m span start stamps out h l l′ z b g f = (
   form-fits (answerIn n m 1 span start stamps out) n m .1 (record { span-fits = rw (trop-fin span z) (le-leb _ span-limit b); stamps-fit = g; picks-fit = f }),
 )
 
-below-whole : (k : ℕ) → 0 < k → wholeOf (k - 1) ≡ wholeOf k -ℤ pos 1
+pub below-whole : (k : ℕ) → 0 < k → wholeOf (k - 1) ≡ wholeOf k -ℤ pos 1
 below-whole k h = omega (whole, minus-read (wholeOf k) (pos 1), subℕ-read k signed-half, subℕ-read (k - 1) signed-half)
 
 -- The stamps are the point, moved so that variable 0 stands at 0.
@@ -186,5 +186,10 @@ module _ {f : Frame} {left right raised : List ℕ} {l : Look} {found : Found} {
     trials-is = refl;
     stamps-size = z .size-is;
     picks-size = s .shown .shown .size-is;
+    stamps-most = λ j. ⊎-elim
+        (λ (h : f .n + 1 ≤ j). omega (arith, z .rest j h))
+        (λ (h : j < f .n + 1). number-within (getD stamps j 0) (rw (z .each j h) (shows _ (problem-in (f .n) (f .m) left right) .stamps j)))
+        (nat-le-or-lt (f .n + 1) j);
+    picks-most = shown-few c s;
     answers = answers;
   }

@@ -6,9 +6,15 @@ use mathlib.Core.List.{List}
 use native.Mathlib.Omega.{arith}
 use native.Mathlib.Numerals.{add-one}
 use lib.ListN.{getD, take}
-use lib.IntN.{ℤ}
+use lib.IntN.{ℤ, subℕ, natAbs}
+use native.Mathlib.Nat.{eq-zero-or-pos}
+use mathlib.Core.Logic.{⊎-elim}
+use borrow.Author.Tests.{leb-true}
+use Rattle.definitions.specs.Bytes.{blank-or-within}
+use Rattle.definitions.specs.Offset.{tropOf}
+use Rattle.definitions.proofs.Whole.{abs-read, subℕ-read}
 use Rattle.base.specs.Filled.{Filled}
-use Rattle.definitions.specs.Limits.{lead-limit, span-limit}
+use Rattle.definitions.specs.Limits.{signed-half, signed-full, lead-limit, span-limit, stamp-limit}
 use Rattle.definitions.specs.Tropical.{Finite}
 use Rattle.definitions.specs.Problem.{Problem, Attainable}
 use Rattle.definitions.specs.Certificate.{Strategy, startOf}
@@ -27,9 +33,11 @@ use Rattle.reach.specs.Marks.{StartMarked}
 use Rattle.reach.proofs.Marks.{anchored-marked, coefficients-marked}
 use Rattle.policy_iteration.specs.Tables.{pointOf, pickOf}
 use Rattle.search.specs.Trials.{wholeOf, top-offset, lowest-offset, Trialled}
-use Rattle.look.specs.Frames.{Copied, Held}
+use Rattle.look.specs.Frames.{Copied, Coefficients, Held}
+use Rattle.look.proofs.Tables.{problem-in}
 use Rattle.look.proofs.SecondList.{second-held}
-use Rattle.class_answers.specs.Answered.{StartMarks, PointAt}
+use Rattle.class_answers.specs.Answered.{StartMarks, ShownPicks, PointAt}
+use Rattle.class_answers.proofs.Variables.{variables-most}
 use Rattle.class_answers.proofs.Form.{cut-at, cut-strategy, picks-fit}
 
 -- The outer trials are enough.
@@ -90,3 +98,19 @@ pub fits-64 : {P : ℕ → ℕ → Type 0} (highest n : ℕ) (out : List ℕ) �
     → picksFit highest (take (suc n) out) ≡ true
 fits-64 highest n out h f b =
     picks-fit highest (take (suc n) out) (λ j. rw (cut-at (suc n) out (omega (arith, f .size-is)) (λ j k. f .rest j (omega arith)) j) (b j))
+
+-- Shown picks are few, whatever the problem.
+pub shown-few : {n m : ℕ} {left right : List ℕ} {start : ℕ} {picks out : List ℕ} → Coefficients n m left right → ShownPicks n m right start picks out
+    → (j : ℕ) → getD out j 0 ≤ 64
+shown-few {n} {m} {left} {right} {start} {picks} {out} c s j =
+    let q = problem-in n m left right in
+    omega (arith, c .m-most, variables-most _ n m left right picks (s .begin) out q (c .n-most) (start-marked start q (c .n-most) (s .copied) (s .marks)) (s .shown) j)
+
+-- A number within a stamp's limit has 32 bits.
+pub number-within : (v : ℕ) → blank-or-within stamp-limit (tropOf v) ≡ true → v < signed-full
+unfolding blank-or-within
+number-within v h = ⊎-elim
+    (λ (e : v ≡ 0). omega arith)
+    (λ (p : 0 < v). let b : natAbs (subℕ v signed-half) ≤ stamp-limit = leb-true _ stamp-limit (rw (trop-fin v p) at h) in
+    omega (arith, abs-read (subℕ v signed-half), subℕ-read v signed-half))
+    (eq-zero-or-pos v)

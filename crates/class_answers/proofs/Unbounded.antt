@@ -154,12 +154,14 @@ module _ {f : Frame} {left right raised : List ℕ} {l : Look} {found : Found} {
           accepted = Verdict.unbounded refl (add-one k) second (subst (AcceptedUnbounded (AnchorAnd k) p) (sym cut) a);
         }
 
-    pub unbounded-answer : (stamps : List ℕ) → length stamps ≡ 32 → AnswerOf (f .n) (f .m) left right found (record { class = 2; span = 0; start = k + 1; trials = found .trials; stamps = stamps; picks = out })
-    unbounded-answer stamps size = record {
+    pub unbounded-answer : (stamps : List ℕ) → length stamps ≡ 32 → ((j : ℕ) → getD stamps j 0 ≡ 0) → AnswerOf (f .n) (f .m) left right found (record { class = 2; span = 0; start = k + 1; trials = found .trials; stamps = stamps; picks = out })
+    unbounded-answer stamps size zero = record {
       class-is = sym class;
       span-is = sym (bottomless-span some class .0);
       trials-is = refl;
       stamps-size = size;
       picks-size = v .shown .size-is;
+      stamps-most = λ j. omega (arith, zero j);
+      picks-most = λ j. omega (arith, c .n-most, rows-most _ (f .n) (f .m) left right rows begin out (problem-in (f .n) (f .m) left right) (c .n-most) starts v j);
       answers = λ p q. rw (bottomless-span some class .1) (answers stamps p q);
     }

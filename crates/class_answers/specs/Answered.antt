@@ -5,7 +5,7 @@ use mathlib.Core.Bool.{true}
 use mathlib.Core.List.{List, map}
 use lib.ListN.{length, getD, take}
 use Rattle.base.specs.Filled.{Filled}
-use Rattle.definitions.specs.Limits.{stamp-limit, table-rows, stride}
+use Rattle.definitions.specs.Limits.{stamp-limit, signed-full, table-rows, stride}
 use Rattle.definitions.specs.Problem.{Problem}
 use Rattle.definitions.specs.Certificate.{Second}
 use Rattle.definitions.specs.Bytes.{blank-or-within}
@@ -68,6 +68,8 @@ pub record AnswerOf (n m : ℕ) (left right : List ℕ) (found : Found) (a : Tab
   pub trials-is : a .trials ≡ found .trials
   pub stamps-size : length (a .stamps) ≡ stride
   pub picks-size : length (a .picks) ≡ table-rows
+  pub stamps-most : (j : ℕ) → getD (a .stamps) j 0 < signed-full
+  pub picks-most : (j : ℕ) → getD (a .picks) j 0 ≤ table-rows
   pub answers : (p : Problem) → Held p n m left right
       → Answers p (a .class) (tropOf (a .span)) (a .trials) (answerIn n m (a .class) (a .span) (a .start) (a .stamps) (a .picks))
 

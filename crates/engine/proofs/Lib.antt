@@ -2,3 +2,4 @@ pub mod Outcomes
 pub mod Inputs
 pub mod Questions
 pub mod Trials
+pub mod Packing

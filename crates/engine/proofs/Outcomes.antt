@@ -38,9 +38,9 @@ use Rattle.engine.specs.declared.solve.Solved.{Solved}
 use Rattle.engine.specs.declared.solve.Solved.the-variants as Results′
 use Rattle.class_answers.specs.Answered.{answerIn}
 use Rattle.class_answers.specs.Answered as Tables
-use Rattle.trial_tables.specs.Frames.{Coefficients}
+use Rattle.look.specs.Frames.{Coefficients}
 use Rattle.records.specs.Decoded.{InTables}
-use Rattle.engine.specs.Outcome.{solvedOf, FoundFor, Posed, OneWrote, SeveralRead, TrialsMade}
+use Rattle.engine.specs.Outcome.{solvedOf, FoundFor, Posed, OneWrote, SeveralRead}
 
 -- ---- writing what was found
 
@@ -226,33 +226,6 @@ several-sent {p} r = rw (several-itself p (r .kind-is)) at r
 pub solves-sent : {p : List ℕ} {l : Layout} {left right before after : List ℕ} {r : Results.Solved} → Read (meant p) l left right → l .kind ≡ questions-kind
     → Solves p before r after → Solves (meant p) before r after
 solves-sent {p} read k s = rw (several-itself p (sym (read .fits .kind-is) ∙ k)) s
-
--- The trials made for a problem that is refused, and for one that is not.
-pub none-made : {p : List ℕ} {header : Header} {k : ℕ} → headerOf header ≡ problemOutcome checker-kinds p → header ≡ Headers.Refused k → TrialsMade p 0
-unfolding problemOutcome
-none-made {p} e f =
-    let h = answer-refused (problemRefusal p) (layoutOf p) e f in
-    record { refused = λ _. refl; some = λ w. absurd (omega (arith, h .0, h .1, w)); most = omega arith }
-
-pub some-made : {p : List ℕ} {r : ℕ} → WithinLayout p → 0 < r → r ≤ most-trials → TrialsMade p r
-some-made w h k = record { refused = λ z. absurd (omega arith); some = λ _. h; most = k }
-
--- A problem of one question, read by itself.
-pub read-posed : {p left₀ right₀ left right : List ℕ} {header : Header} {l : Layout} → Bytes p → ProblemRead checker-kinds p left₀ right₀ header left right → header ≡ Headers.Told l
-    → WithinLayout p × Posed (l .n) (l .m) left right
-unfolding problemOf
-read-posed {p} b r f =
-    let t = told-of checker-kinds (r .result) f in (
-      t .within,
-      record {
-        problem = problemOf p;
-        stands = record {
-          n-is = sym (t .fits .n-is);
-          m-is = sym (t .fits .m-is);
-          decoded = rw (r .left-read (t .within), r .right-read (t .within), asking-itself p 0 (t .within)) (problem-decoded p b (t .within));
-        };
-      },
-    )
 
 -- ---- what an answered result means
 

@@ -112,11 +112,11 @@ module _ {s : List ℕ} {l : Layout} {left₀ right₀ : List ℕ} (before : Lis
       turn-posed = record { problem = problemOf (alone s q); stands = stands }
 
       -- One more answer, written where the one before ended.
-      pub turn-more : {class span own size : ℕ} {part right″ : List ℕ}
-          → ((p : Problem) → InTables p (l .n) (l .m) left′ right′ → OneWrote p (l .n) (l .m) class span own size (midOf at (length after - at) after) part) → Rewritten (l .m) right′ right″
-          → Turns s (q + 1) (at + size) (trials + own) before (putMid at (length after - at) after part) left′ right″
+      pub turn-more : {class span own size : ℕ} {part : List ℕ}
+          → ((p : Problem) → InTables p (l .n) (l .m) left′ right′ → OneWrote p (l .n) (l .m) class span own size (midOf at (length after - at) after) part)
+          → Turns s (q + 1) (at + size) (trials + own) before (putMid at (length after - at) after part) left′ right′
       unfolding written
-      turn-more {class} {span} {own} {size} {part} f r =
+      turn-more {class} {span} {own} {size} {part} f =
           let w = f (problemOf (alone s q)) stands in
           let a = w .answer in
           let bytes = answerBytes (nField s) (w .answer) in
@@ -132,7 +132,7 @@ module _ {s : List ℕ} {l : Layout} {left₀ right₀ : List ℕ} (before : Lis
           let few = trials-few (alone s q) (one .within) (w .answers .found) in
           record {
             lefts = rw left-is (record { size = left-length (alone s q); steady = left-steady s (several .asks) (several .some) q asked });
-            rights = rewritten-trans (right-steady s (several .asks) (several .some) q asked) (rw (read .m-is, right-is) at r);
+            rights = rw right-is (record { size = right-length (alone s q); steady = right-steady s (several .asks) (several .some) q asked });
             records = t .records ++ answerBytes (nField s) (w .answer);
             in-turn = rw add-one (one-more a (t .in-turn) (w .answers));
             at-is = rw length-append (omega (arith, t .at-is, size-is));

@@ -1,2 +1,3 @@
 pub mod Outcome
+pub mod Packing
 pub mod OneTrial

@@ -1,50 +1,130 @@
--- A search of the problem in bytes, made one trial at a time.
-use Prim.Native.Nat.{ℕ, _+_, _<_}
+-- A problem in bytes under way, one trial at a time: what is kept of it, what a trial leaves, and its answer.
+use Prim.Native.Nat.{ℕ, _+_, _≤_, _<_}
 use mathlib.Core.Path.{_≡_}
-use mathlib.Core.Bool.{true, false}
 use mathlib.Core.List.{List}
+use lib.ListN.{length, replicate}
+use Rattle.definitions.specs.Limits.{stride}
 use Rattle.definitions.specs.Tropical.{Trop}
+use Rattle.definitions.specs.Bytes.{Bytes}
 use Rattle.definitions.specs.Offset.{tropOf}
 use Rattle.definitions.specs.ProblemRecord.{problemOf, nField, mField}
+use Rattle.definitions.specs.AnswerRecord as Records
+use Rattle.definitions.specs.AnswerRecord.{answerSize, answerBytes, written}
 use Rattle.definitions.specs.Desk.{deskRefusal, WithinDesk}
 use Rattle.definitions.specs.Solved.{Found, Answers}
 use Rattle.problem_records.specs.Tables.{leftTable, rightTable}
-use Rattle.least_span.specs.declared.state.Search.{Search}
-use Rattle.least_span.specs.State.{blankSearch}
-use Rattle.class_answers.specs.declared.answer.Answer.{Answer}
+use Rattle.search.specs.Trials.{top-offset, lowest-offset, FoundBy}
+use Rattle.search.specs.Underway.{class-open, spanOf, Underway, Tried}
+use Rattle.search.specs.declared.steps.Search.{Search}
+use Rattle.look.specs.declared.greatest.Look.{Look}
+use Rattle.look.specs.Look.{Looked}
 use Rattle.class_answers.specs.Answered.{answerIn}
-use Rattle.search_steps.specs.declared.steps.Trial.{Trial}
-use Rattle.search_steps.specs.Steps.{MovedNext, blankAnswer, Pursued}
+use Rattle.engine.specs.declared.one_trial.Pending.{Pending}
 use Rattle.engine.specs.declared.one_trial.Begun.{Begun}
+use Rattle.engine.specs.declared.one_trial.Handed.{Handed}
+use Rattle.engine.specs.Packing.{Packable, PackedCells}
 
--- A search of the problem in the bytes, after as many trials as it has made.
-pub record PursuedFor (s : List ℕ) (search : Search) : Type 0 where
+-- No trial is made, and no look.
+abbrev pub fresh : ℕ → ℕ → Pending
+fresh n m = record { n = n; m = m; made = 0; class = class-open; low = lowest-offset; high = top-offset; start = 0; second = 0; cells = replicate stride 0 }
+
+-- The search of a problem under way, and its look.
+abbrev pub searchOf : Pending → Search
+searchOf p = record { made = p .made; low = p .low; high = p .high; class = p .class }
+
+abbrev pub lookOf : Pending → Look
+lookOf p = record { start = p .start; second = p .second; picks = p .cells }
+
+-- The problem with its search moved on.
+abbrev pub searchedTo : Pending → Search → Pending
+searchedTo p s = record { n = p .n; m = p .m; made = s .made; class = s .class; low = s .low; high = s .high; start = p .start; second = p .second; cells = p .cells }
+
+-- The look is one at the problem in the bytes.
+abbrev pub LookedAt : List ℕ → Pending → Type 0
+LookedAt s p = Looked (nField s) (mField s) (leftTable s) (rightTable s) (lookOf p)
+
+-- The bytes are a problem that the desk takes, with this n and m.
+pub record Of (s : List ℕ) (p : Pending) : Type 0 where
   pub within : WithinDesk s
-  pub pursued : Pursued (nField s) (mField s) (leftTable s) (rightTable s) search
+  pub n-is : p .n ≡ nField s
+  pub m-is : p .m ≡ mField s
+  pub size : length (p .cells) ≡ stride
 
--- An answer that the engine may give for the problem in the bytes.
-pub record SettledFor (s : List ℕ) (a : Answer) : Type 0 where
-  pub within : WithinDesk s
-  pub answers : Answers (problemOf s) (a .class) (tropOf (a .span)) (a .trials) (answerIn (nField s) (mField s) (a .class) (a .span) (a .start) (a .stamps) (a .picks))
+-- A problem in the bytes under way; from the first trial on its look is made.
+pub record PendingFor (s : List ℕ) (p : Pending) : Type 0 where
+  pub of : Of s p
+  pub underway : Underway (p .second) (searchOf p)
+  pub looked : 0 < p .made → LookedAt s p
 
--- A search begun: the first of the problem's refusals, or the search that knows nothing yet.
+-- A problem begun: the first of its refusals, or the problem of which no trial is made.
 pub record BegunFor (s : List ℕ) (r : Begun) : Type 0 where
   pub refused-is : r .refused ≡ deskRefusal s
-  pub pursued : r .refused ≡ 0 → PursuedFor s (r .search)
-  pub search-is : r .refused ≡ 0 → r .search ≡ blankSearch (mField s + 1)
-  pub n-is : r .refused ≡ 0 → r .n ≡ nField s
-  pub m-is : r .refused ≡ 0 → r .m ≡ mField s
+  pub begun : r .refused ≡ 0 → PendingFor s (r .pending)
+  pub fresh-is : r .refused ≡ 0 → r .pending ≡ fresh (nField s) (mField s)
 
--- A search that goes on after one trial more: its class and span ask for more still.
-pub record Onward (s : List ℕ) (own : ℕ) (search : Search) : Type 0 where
-  pub pursued : PursuedFor s search
-  pub made-is : search .made ≡ own + 1
+-- The problem with its look; one that has it stays as it is.
+pub record LookedFor (s : List ℕ) (p r : Pending) : Type 0 where
+  pub of : Of s r
+  pub n-same : r .n ≡ p .n
+  pub m-same : r .m ≡ p .m
+  pub search-same : searchOf r ≡ searchOf p
+  pub looked : LookedAt s r
+  pub stays : 0 < p .made → r ≡ p
+
+-- A problem whose trials have found its class and span.
+pub record ClosedFor (s : List ℕ) (p : Pending) : Type 0 where
+  pub of : Of s p
+  pub looked : LookedAt s p
+  pub found : FoundBy (p .second) (p .class) (spanOf (searchOf p)) (p .made)
+
+-- The answer of a problem with these stamps and picks.
+abbrev pub answerWith : List ℕ → Pending → List ℕ → List ℕ → Records.Answer
+answerWith s p stamps picks = answerIn (nField s) (mField s) (p .class) (spanOf (searchOf p)) (p .start) stamps picks
+
+-- A problem that is answered: an answer that the engine may give for it, whose stamps and picks the cells hold.
+pub record AnsweredFor (s : List ℕ) (p : Pending) : Type 0 where
+  pub of : Of s p
+  pub closed : p .class ≡ class-open → ⊥
+  pub stamps : List ℕ
+  pub picks : List ℕ
+  pub packable : Packable stamps picks
+  pub packed : PackedCells stamps picks stride (p .cells)
+  pub answers : Answers (problemOf s) (p .class) (tropOf (spanOf (searchOf p))) (p .made) (answerWith s p stamps picks)
+
+-- It was closed, and is answered now.
+pub record Settled (s : List ℕ) (p r : Pending) : Type 0 where
+  pub n-same : r .n ≡ p .n
+  pub m-same : r .m ≡ p .m
+  pub second-same : r .second ≡ p .second
+  pub search-same : searchOf r ≡ searchOf p
+  pub answered : AnsweredFor s r
+
+-- A problem that goes on after one trial more: its class and span ask for more still.
+pub record Onward (s : List ℕ) (own : ℕ) (r : Pending) : Type 0 where
+  pub pending : PendingFor s r
+  pub made-is : r .made ≡ own + 1
   pub more : (class trials : ℕ) (span : Trop) → Found (problemOf s) class span trials → own + 1 < trials
 
--- What one trial leaves: the bracket moved at document 01's next trial; the search goes on, or the problem is answered at the last trial that
+-- What one trial leaves: document 01's next was made, by what the look found; the problem goes on, or is answered at the last trial that
 -- its class and span ask for.
-pub record TrialFor (s : List ℕ) (search : Search) (r : Trial) : Type 0 where
-  pub bracket : MovedNext search (r .search)
-  pub goes-on : r .closed ≡ false → Onward s (search .made) (r .search)
-  pub unanswered : r .closed ≡ false → r .answer ≡ blankAnswer
-  pub ends : r .closed ≡ true → SettledFor s (r .answer) × (r .answer .trials ≡ search .made + 1) × (r .answer .made ≡ search .made + 1)
+pub record TrialFor (s : List ℕ) (p r : Pending) : Type 0 where
+  pub n-same : r .n ≡ p .n
+  pub m-same : r .m ≡ p .m
+  pub stays : 0 < p .made → r .second ≡ p .second
+  pub trial : Tried (r .second) (searchOf p) (searchOf r)
+  pub goes-on : r .class ≡ class-open → Onward s (p .made) r
+  pub ends : (r .class ≡ class-open → ⊥) → AnsweredFor s r × (r .made ≡ p .made + 1)
+
+-- Some problem is answered.
+pub record Answered (p : Pending) : Type 0 where
+  pub problem : List ℕ
+  pub bytes : Bytes problem
+  pub answered : AnsweredFor problem p
+
+-- The record of the answer stands at the buffer's start, every byte after it is as it was.
+pub record HandedOver (p : Pending) (before : List ℕ) (r : Handed) (after : List ℕ) : Type 0 where
+  pub class-is : r .class ≡ p .class
+  pub span-is : r .span ≡ spanOf (searchOf p)
+  pub trials-is : r .trials ≡ p .made
+  pub size-is : r .size ≡ answerSize (p .class) (p .n) (p .m)
+  pub record-stands : (s : List ℕ) (a : AnsweredFor s p) → after ≡ written before (answerBytes (nField s) (answerWith s p (a .stamps) (a .picks)))

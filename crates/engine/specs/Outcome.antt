@@ -5,7 +5,7 @@ use mathlib.Core.List.{List}
 use lib.ListN.{length}
 use Rattle.definitions.specs.Limits.{highest-n, highest-m, most-trials, answer-most, questions-kind}
 use Rattle.definitions.specs.Problem.{Problem}
-use Rattle.definitions.specs.ProblemRecord.{problemRefusal, WithinLayout, kindField, nField, mField, countField}
+use Rattle.definitions.specs.ProblemRecord.{kindField, nField, mField, countField}
 use Rattle.definitions.specs.Questions.{alone}
 use Rattle.definitions.specs.Offset.{tropOf}
 use Rattle.definitions.specs.AnswerRecord.{Answer, stampCount, pickCount, answerSize, answerBytes, writerRefusal, written}
@@ -66,9 +66,3 @@ pub record Turns (s : List ℕ) (q at trials : ℕ) (before after left right : L
   pub few : trials ≤ q * most-trials
   pub short : at ≤ q * answer-most
   pub same : length after ≡ length before
-
--- The trials made for the problem of one question in the bytes: none where it is refused, else at least one and few.
-pub record TrialsMade (p : List ℕ) (r : ℕ) : Type 0 where
-  pub refused : 0 < problemRefusal p → r ≡ 0
-  pub some : WithinLayout p → 0 < r
-  pub most : r ≤ most-trials

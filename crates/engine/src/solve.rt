@@ -8,7 +8,7 @@ ghost use Rattle.definitions.specs.ProblemRecord.{meant};
 ghost use Rattle.definitions.specs.AnswerRecord.{answerSize, answerBytes, written};
 ghost use Rattle.definitions.specs.Problem.{Problem};
 ghost use Rattle.definitions.specs.Solved.{Solves};
-ghost use Rattle.records.specs.Decoded.{Rewritten, InTables};
+ghost use Rattle.records.specs.Decoded.{InTables};
 ghost use Rattle.class_answers.specs.Answered.{answerIn};
 ghost use Rattle.engine.specs.Outcome.{solvedOf, FoundFor, Posed, OneWrote, SeveralRead};
 use answer_reader::answer::Head;
@@ -54,7 +54,7 @@ struct One {
     size: usize,
 }
 
-// Writes the answer's record at the start of a buffer, and gives its length. Public for `desk`.
+// Writes the answer's record at the start of a buffer, and gives its length.
 pub fn write_found(found: Answer, n: usize, m: usize, answer: &mut [u8]) -> usize
     requires { ⌜ FoundFor n m (length (now answer)) (found .class) (found .span) (found .start) (found .stamps) (found .picks) ⌝ }
     ensures size_is { λ r. ⌜ r ≡ answerSize (found .class) n m ⌝ }
@@ -76,18 +76,16 @@ pub fn write_found(found: Answer, n: usize, m: usize, answer: &mut [u8]) -> usiz
     size
 }
 
-// The answer of the problem in two tables, written at the start of a buffer. The right table's row of the question is rewritten on
-// the way.
+// The answer of the problem in two tables, written at the start of a buffer.
 fn solve_one(
     left: &[u32; TABLE],
-    right: &mut [u32; TABLE],
+    right: &[u32; TABLE],
     n: usize,
     m: usize,
     answer: &mut [u8],
 ) -> One
     requires { ⌜ Posed n m (now left) (now right) × (answer-most ≤ length (now answer)) ⌝ }
-    ensures wrote { λ r. ⌜ ((p : Problem) → InTables p n m (now (left .entry)) (now (right .entry)) → OneWrote p n m (r .class) (r .span) (r .trials) (r .size) (now (answer .entry)) (now (answer .exit))) ⌝ }
-    ensures others_stay { λ r. ⌜ Rewritten m (now (right .entry)) (now (right .exit)) ⌝ }
+    ensures { λ r. ⌜ ((p : Problem) → InTables p n m (now (left .entry)) (now (right .entry)) → OneWrote p n m (r .class) (r .span) (r .trials) (r .size) (now (answer .entry)) (now (answer .exit))) ⌝ }
 {
     let found = solve_tables(left, right, n, m);
     let class = found.class;
@@ -153,7 +151,7 @@ pub fn solve(problem: &[u8], answer: &mut [u8]) -> Solved
     if layout.kind == QUESTIONS_KIND {
         return solve_questions(problem, layout, &mut left, &mut right, answer);
     }
-    let one = solve_one(&left, &mut right, layout.n, layout.m, answer);
+    let one = solve_one(&left, &right, layout.n, layout.m, answer);
     Solved::Answered {
         class: one.class,
         span: one.span,

@@ -1,6 +1,7 @@
 use Prim.Native.Nat.{ℕ}
 use native.Mathlib.Omega.{arith}
 use lib.ListN.{length-replicate}
+use Rattle.base.proofs.Filled.{zeros}
 use Rattle.look.proofs.Tables.{raised-tables}
 use Rattle.class_answers.proofs.Shared.{lowest-trialled}
 use Rattle.class_answers.proofs.Points.{all-rows, point-ranged}
@@ -27,4 +28,4 @@ unbounded-spec =
     (λ c. let p = c .before .before .before .before .before .before .before .before .before .before .before .before .before .before .before .pre in
     omega (arith, p .0 .coefficients .n-most, second-inside (p .0) (p .1) (p .2) (p .3) (c .before .before .before .before .before .before .before .before .before .before .before .before .raised .ensures) (c .before .before .before .before .before .before .before .before .before .before .point-at .ensures) (c .before .before .before .before .before .before .before .induced .ensures) (c .before .before .before .before .before .before .row-of .ensures) (c .before .before .before .second-met .ensures)))
     (λ c. let p = c .before .before .before .before .before .before .before .before .before .before .before .before .before .before .before .pre in
-    unbounded-answer (p .0) (p .1) (p .2) (p .3) (c .before .before .before .before .before .before .before .before .before .before .before .before .raised .ensures) (c .before .before .before .before .before .before .before .before .before .before .point-at .ensures) (c .before .before .before .before .before .before .before .induced .ensures) (c .before .before .before .before .before .before .row-of .ensures) (c .before .before .before .second-met .ensures) (c .before .anchor-and .ensures) (c .row-picks .ensures) _ (length-replicate {A = ℕ} 32 0)))
+    unbounded-answer (p .0) (p .1) (p .2) (p .3) (c .before .before .before .before .before .before .before .before .before .before .before .before .raised .ensures) (c .before .before .before .before .before .before .before .before .before .before .point-at .ensures) (c .before .before .before .before .before .before .before .induced .ensures) (c .before .before .before .before .before .before .row-of .ensures) (c .before .before .before .second-met .ensures) (c .before .anchor-and .ensures) (c .row-picks .ensures) _ (length-replicate {A = ℕ} 32 0) (zeros 32)))

@@ -1,7 +1,8 @@
-use native.Mathlib.Omega.{arith}
+use mathlib.Core.Path.{_≡_, sym, ap, _∙_}
+use Rattle.engine.specs.declared.one_trial.Pending.{Pending}
 use Rattle.definitions.specs.Bytes.{Bytes}
 use Rattle.definitions.proofs.IdleDay.{meant-bytes}
-use Rattle.engine.proofs.Trials.{read-one, read-tables, begun-open, begun-refused, read-pursued, trial-for, never-refused-one}
+use Rattle.engine.proofs.Trials.{looked-underway, trial-open, trial-closed, trial-answered}
 use borrow.Author.Needs.{needs}
 use Rattle.engine.proofs.one_trial.one_trial.Statement.{statement}
 use Rattle.engine.proofs.one_trial.one_trial.Tie as tie
@@ -11,9 +12,9 @@ one-trial-spec =
     tie.close
     (tie.spec
     (λ c κs. search needs)
-    (λ c. search needs)
-    (λ c. search needs)
     (λ c κs. search needs)
-    (λ c. absurd (never-refused-one _ (c .before .before .before .before .before .before .before .pre .within) (c .before .before .before .read-problem .ensures .result) (c .before .enum-told .given .1)))
-    (λ c κs. let bytes : Bytes (c .before .before .before .before .before .before .before .before .before .args .problem .now) = record { byte = λ i. c .before .before .before .before .before .before .before .before .shared-slice-known .given i .fits } in let read = read-one (meant-bytes _ bytes) (c .before .before .before .before .before .read-problem .ensures) (c .before .before .before .header .given .1) in (read-tables read, read-pursued read (c .before .before .before .before .before .before .before .before .before .pre)))
-    (λ c. let bytes : Bytes (c .before .before .before .before .before .before .before .before .before .before .args .problem .now) = record { byte = λ i. c .before .before .before .before .before .before .before .before .before .shared-slice-known .given i .fits } in let read = read-one (meant-bytes _ bytes) (c .before .before .before .before .before .before .read-problem .ensures) (c .before .before .before .before .header .given .1) in trial-for read (c .trial-on .ensures)))
+    (λ c κs. (c .before .looked .ensures .looked .second-most, rw (c .search-of .ensures) (looked-underway (c .before .before .before .pre) (c .before .looked .ensures))))
+    (λ c κs. search needs)
+    (λ c. let bytes : Bytes (c .before .before .before .before .before .before .before .args .problem .now) = record { byte = λ i. c .before .before .before .before .before .before .shared-slice-known .given i .fits } in rw (c .before .before .searched-to .ensures) (trial-open (meant-bytes _ bytes) (c .before .before .before .before .before .before .before .pre) (c .before .before .before .before .before .looked .ensures) (rw (c .before .before .before .before .search-of .ensures) at (c .before .before .before .next-trial .ensures)) (sym (ap (λ (z : Pending). z .class) (c .before .before .searched-to .ensures)) ∙ c .if1 .taken)))
+    (λ c κs. let bytes : Bytes (c .before .before .before .before .before .before .before .args .problem .now) = record { byte = λ i. c .before .before .before .before .before .before .shared-slice-known .given i .fits } in rw (c .before .before .searched-to .ensures) (trial-closed (meant-bytes _ bytes) (c .before .before .before .before .before .before .before .pre) (c .before .before .before .before .before .looked .ensures) (rw (c .before .before .before .before .search-of .ensures) at (c .before .before .before .next-trial .ensures)) (λ e. c .if1 .left (ap (λ (z : Pending). z .class) (c .before .before .searched-to .ensures) ∙ e))))
+    (λ c. let bytes : Bytes (c .before .before .before .before .before .before .before .before .args .problem .now) = record { byte = λ i. c .before .before .before .before .before .before .before .shared-slice-known .given i .fits } in trial-answered (meant-bytes _ bytes) (c .before .before .before .before .before .before .before .before .pre) (c .before .before .before .before .before .before .looked .ensures) (rw (c .before .before .before .before .before .search-of .ensures) at (c .before .before .before .before .next-trial .ensures)) (λ e. c .before .if1 .left (ap (λ (z : Pending). z .class) (c .before .before .before .searched-to .ensures) ∙ e)) (rw (c .before .before .before .searched-to .ensures) at (c .answered .ensures))))

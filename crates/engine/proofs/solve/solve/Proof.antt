@@ -42,7 +42,7 @@ returns-4 c =
     let bytes : Bytes (c .before .before .before .before .before .before .before .before .before .before .before .before .before .before .before .before .before .before .args .problem .now) = record { byte = λ i. c .before .before .before .before .before .before .before .before .before .before .before .before .before .before .before .before .before .shared-slice-known .given i .fits } in
     let read = read-problem (meant-bytes _ bytes) (c .before .before .before .before .before .before .before .before .before .before .before .before .before .read-problem .ensures) (c .before .before .before .before .before .before .before .before .before .before .before .header .given .1) in
     let other = c .before .before .before .before .before .before .if2 .left in
-    solves-one read other (rw (c .before .before .before .before .before .before .before .before .before .room-for .ensures) at (c .before .before .before .before .before .before .before .before .if1 .left)) (c .before .before .solve-one .ensures .0 (problemOf (meant (c .before .before .before .before .before .before .before .before .before .before .before .before .before .before .before .before .before .before .args .problem .now))) (one-stands read other))
+    solves-one read other (rw (c .before .before .before .before .before .before .before .before .before .room-for .ensures) at (c .before .before .before .before .before .before .before .before .if1 .left)) (c .before .before .solve-one .ensures (problemOf (meant (c .before .before .before .before .before .before .before .before .before .before .before .before .before .before .before .before .before .before .args .problem .now))) (one-stands read other))
 
 pub solve-spec : {M : Type 1} → statement M
 solve-spec =

@@ -7,9 +7,7 @@ pub solve-one-spec : {M : Type 1} → statement M
 solve-one-spec =
     tie.close
     (tie.spec
-    (λ c κs. posed-tables (c .before .before .pre .0))
-    (λ c κs. posed-found (c .before .before .before .before .pre .0) (c .before .solve-tables .ensures .0) _ (c .before .before .before .before .pre .1))
+    (λ c κs. posed-tables (c .before .pre .0))
+    (λ c κs. posed-found (c .before .before .before .pre .0) (c .before .solve-tables .ensures) _ (c .before .before .before .pre .1))
     (λ c. search needs)
-    (λ c. let found = c .before .before .before .before .solve-tables .ensures in
-    let wrote = c .before .before .write-found .ensures in
-    (one-wrote (found .0) (wrote .0) (wrote .1), found .3)))
+    (λ c. let wrote = c .before .before .write-found .ensures in one-wrote (c .before .before .before .before .solve-tables .ensures) (wrote .0) (wrote .1)))

@@ -51,7 +51,7 @@ add-at c =
     let bytes : Bytes (c .before .before .before .before .before .before .before .before .before .before .before .before .before .before .args .problem .now) = record { byte = λ i. c .before .before .before .before .before .before .before .before .before .before .before .before .before .shared-slice-known .given i .fits } in
     let read = c .before .before .before .before .before .before .before .read-question .ensures in
     let one = c .before .before .before .solve-one .ensures in
-    let more = turn-more _ (c .before .before .before .before .before .before .before .before .before .before .before .before .before .before .pre) bytes (c .before .before .before .before .before .before .before .before .before .before .before .loop .inv .1) (c .before .before .before .before .before .before .before .before .before .before .loop-test .taken) (read .0) (read .1) (one .0) (one .1) in
+    let more = turn-more _ (c .before .before .before .before .before .before .before .before .before .before .before .before .before .before .pre) bytes (c .before .before .before .before .before .before .before .before .before .before .before .loop .inv .1) (c .before .before .before .before .before .before .before .before .before .before .loop-test .taken) (read .0) (read .1) one in
     let few = count-few (c .before .before .before .before .before .before .before .before .before .before .before .before .before .before .args .answer .now) (c .before .before .before .before .before .before .before .before .before .before .before .before .before .before .pre) in
     omega (arith, more .short, few, c .before .before .before .before .before .before .before .before .before .before .loop-test .taken)
 
@@ -60,7 +60,7 @@ add-trials c =
     let bytes : Bytes (c .before .before .before .before .before .before .before .before .before .before .before .before .before .before .before .args .problem .now) = record { byte = λ i. c .before .before .before .before .before .before .before .before .before .before .before .before .before .before .shared-slice-known .given i .fits } in
     let read = c .before .before .before .before .before .before .before .before .read-question .ensures in
     let one = c .before .before .before .before .solve-one .ensures in
-    let more = turn-more _ (c .before .before .before .before .before .before .before .before .before .before .before .before .before .before .before .pre) bytes (c .before .before .before .before .before .before .before .before .before .before .before .before .loop .inv .1) (c .before .before .before .before .before .before .before .before .before .before .before .loop-test .taken) (read .0) (read .1) (one .0) (one .1) in
+    let more = turn-more _ (c .before .before .before .before .before .before .before .before .before .before .before .before .before .before .before .pre) bytes (c .before .before .before .before .before .before .before .before .before .before .before .before .loop .inv .1) (c .before .before .before .before .before .before .before .before .before .before .before .loop-test .taken) (read .0) (read .1) one in
     let few = count-few (c .before .before .before .before .before .before .before .before .before .before .before .before .before .before .before .args .answer .now) (c .before .before .before .before .before .before .before .before .before .before .before .before .before .before .before .pre) in
     omega (arith, more .few, few, c .before .before .before .before .before .before .before .before .before .before .before .loop-test .taken)
 
@@ -69,7 +69,7 @@ loop-again c =
     let bytes : Bytes (c .before .before .before .before .before .before .before .before .before .before .before .before .before .before .before .args .problem .now) = record { byte = λ i. c .before .before .before .before .before .before .before .before .before .before .before .before .before .before .shared-slice-known .given i .fits } in
     let read = c .before .before .before .before .before .before .before .before .read-question .ensures in
     let one = c .before .before .before .before .solve-one .ensures in
-    let more = turn-more _ (c .before .before .before .before .before .before .before .before .before .before .before .before .before .before .before .pre) bytes (c .before .before .before .before .before .before .before .before .before .before .before .before .loop .inv .1) (c .before .before .before .before .before .before .before .before .before .before .before .loop-test .taken) (read .0) (read .1) (one .0) (one .1) in
+    let more = turn-more _ (c .before .before .before .before .before .before .before .before .before .before .before .before .before .before .before .pre) bytes (c .before .before .before .before .before .before .before .before .before .before .before .before .loop .inv .1) (c .before .before .before .before .before .before .before .before .before .before .before .loop-test .taken) (read .0) (read .1) one in
     let few = count-few (c .before .before .before .before .before .before .before .before .before .before .before .before .before .before .before .args .answer .now) (c .before .before .before .before .before .before .before .before .before .before .before .before .before .before .before .pre) in
     (omega (arith, c .before .before .before .before .before .before .before .before .before .before .before .loop-test .taken), more)
 
