@@ -4,3 +4,4 @@ pub mod Plans
 pub mod Rows
 pub mod Outcomes
 pub mod Keeps
+pub mod Passing

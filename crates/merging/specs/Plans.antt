@@ -1,7 +1,7 @@
 -- Plans as the code holds them: stamps as offset numbers in an array of 32, blank behind the last; the shift as minutes back.
 use Prim.Native.Nat.{ℕ}
 use mathlib.Core.Path.{_≡_}
-use mathlib.Core.Bool.{Bool, not}
+use mathlib.Core.Bool.{Bool, true, false, not}
 use mathlib.Core.List.{List, [], _∷_, map}
 use lib.Dec.{ltb}
 use lib.ListN.{getD}
@@ -12,6 +12,8 @@ use Rattle.definitions.specs.Tropical.{Trop, fin, plus, larger}
 use Rattle.definitions.specs.Bytes.{numsAt, first}
 use Rattle.definitions.specs.Offset.{tropOf, off}
 use Rattle.definitions.specs.Merging.{planFits}
+use Rattle.definitions.specs.Problem.{Point}
+use Rattle.duality.specs.System.{System, Solves}
 use Rattle.policy_iteration.specs.Tables.{high}
 
 -- The offset numbers of the first stamps in the bytes of a plan.
@@ -42,3 +44,8 @@ laterOf back one other = larger (tropOf one) (plus (tropOf other) (fin (backBy b
 -- The first stamps as low numbers, the form in which rows are tested, then blanks.
 abbrev pub LowPlan : List ℕ → ℕ → List ℕ → Type 0
 LowPlan stamps count x = Filled (λ j v. high v ≡ getD stamps j 0) stride count x
+
+-- The point solves the system, or does not.
+pub record Stand (s : System) (x : Point) (r : Bool) : Type 0 where
+  pub yes : r ≡ true → Solves s x
+  pub no : r ≡ false → Solves s x → ⊥

@@ -9,7 +9,7 @@ ghost use Rattle.records.specs.Decoded.{Near, InTables};
 ghost use Rattle.records.specs.Stamps.{Stamped, stampsPoint};
 ghost use Rattle.policy_iteration.specs.Tables.{high, Tables};
 ghost use Rattle.merging.specs.Plans.{LowPlan};
-use guesses::pass::rows_stand;
+use crate::pass::rows_stand;
 use policy_iteration::ends::ends_of;
 use policy_iteration::values::LOW;
 use records::limits::STRIDE;

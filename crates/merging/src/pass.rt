@@ -1,13 +1,14 @@
 // A pass over the rows: whether a point solves the system in two tables.
+ghost use mathlib.Core.List.{[]};
 ghost use Rattle.policy_iteration.specs.Ends.{EndsOf};
 ghost use Rattle.policy_iteration.specs.Tables.{systemOf, pointOf, highs, Lows, Tables};
-ghost use Rattle.guesses.specs.Guess.{Stand};
+ghost use Rattle.merging.specs.Plans.{Stand};
 use policy_iteration::values::side;
 use records::limits::ROWS;
 use records::limits::STRIDE;
 use records::limits::TABLE;
 
-// Every row stands at the point: its left side is at most its right side. Public for `least_span::advance`.
+// Every row stands at the point: its left side is at most its right side.
 pub fn rows_stand(
     left: &[u32; TABLE],
     right: &[u32; TABLE],
@@ -18,7 +19,7 @@ pub fn rows_stand(
     rows: usize,
 ) -> bool
     requires { ⌜ Tables (now left) (now right) width rows × Lows width (now x) × EndsOf (now left) rows (now lefts) × EndsOf (now right) rows (now rights) ⌝ }
-    ensures { λ r. ⌜ Stand (systemOf (now (left .entry)) (now (right .entry)) width rows) (pointOf (highs (now (x .entry)))) r ⌝ }
+    ensures { λ r. ⌜ Stand (systemOf (now (left .entry)) (now (right .entry)) [] width rows) (pointOf (highs (now (x .entry)))) r ⌝ }
 {
     let mut i = 0;
     while i < rows {

@@ -3,7 +3,7 @@ use Prim.Native.Nat.{ℕ, _+_, _≤_, _<_}
 use mathlib.Core.Path.{_≡_, refl, sym, subst}
 use mathlib.Core.Bool.{true, false}
 use mathlib.Core.Logic.{⊎-elim}
-use mathlib.Core.List.{List}
+use mathlib.Core.List.{List, []}
 use native.Mathlib.Omega.{arith}
 use native.Mathlib.Nat.{eq-zero-or-pos}
 use Rattle.base.proofs.Numbers.{nat-le-or-lt}
@@ -15,23 +15,23 @@ use Rattle.duality.specs.System.{System, Solves, sideOf}
 use Rattle.policy_iteration.specs.Tables.{systemOf, pointOf, high, highs}
 use Rattle.policy_iteration.specs.Rounds.{SideIs}
 use Rattle.policy_iteration.proofs.Low.{high-zero, high-mono, high-whole}
-use Rattle.guesses.specs.Guess.{Stand}
+use Rattle.merging.specs.Plans.{Stand}
 
 -- The first n rows stand.
 abbrev pub StandTo : System → Point → ℕ → Type 0
 StandTo s x n = (i : ℕ) → i < n → sideOf s (s .left i) x ⊑ sideOf s (s .right i) x
 
 module _ (x : List ℕ) (rows : ℕ) {left right : List ℕ} {width n here there : ℕ} (a : SideIs right n (highs x) width here) (b : SideIs left n (highs x) width there) where
-  stands-here : there ≤ here → sideOf (systemOf left right width rows) (systemOf left right width rows .left n) (pointOf (highs x))
-      ⊑ sideOf (systemOf left right width rows) (systemOf left right width rows .right n) (pointOf (highs x))
+  stands-here : there ≤ here → sideOf (systemOf left right [] width rows) (systemOf left right [] width rows .left n) (pointOf (highs x))
+      ⊑ sideOf (systemOf left right [] width rows) (systemOf left right [] width rows .right n) (pointOf (highs x))
   stands-here h = ⊑-trans (⊑-of-eq (sym (b .is))) (⊑-trans (trop-order (high there) (high here) .1 (high-mono there here h)) (⊑-of-eq (a .is)))
 
   -- One row more stands.
-  pub stand-more : (here < there → ⊥) → StandTo (systemOf left right width rows) (pointOf (highs x)) n → StandTo (systemOf left right width rows) (pointOf (highs x)) (n + 1)
+  pub stand-more : (here < there → ⊥) → StandTo (systemOf left right [] width rows) (pointOf (highs x)) n → StandTo (systemOf left right [] width rows) (pointOf (highs x)) (n + 1)
   stand-more d f i h = ⊎-elim
       (λ (l : n ≤ i). let e : n ≡ i = omega arith in
-      subst (λ (i : ℕ). sideOf (systemOf left right width rows) (systemOf left right width rows .left i) (pointOf (highs x))
-      ⊑ sideOf (systemOf left right width rows) (systemOf left right width rows .right i) (pointOf (highs x))) e (stands-here (not-below d)))
+      subst (λ (i : ℕ). sideOf (systemOf left right [] width rows) (systemOf left right [] width rows .left i) (pointOf (highs x))
+      ⊑ sideOf (systemOf left right [] width rows) (systemOf left right [] width rows .right i) (pointOf (highs x))) e (stands-here (not-below d)))
       (λ (l : i < n). f i l)
       (nat-le-or-lt n i)
     where
@@ -39,7 +39,7 @@ module _ (x : List ℕ) (rows : ℕ) {left right : List ℕ} {width n here there
       not-below d = ⊎-elim (λ (l : there ≤ here). l) (λ (l : here < there). absurd (d l)) (nat-le-or-lt there here)
 
   -- A row that does not stand: no solution.
-  pub stand-not : n < rows → here < there → Stand (systemOf left right width rows) (pointOf (highs x)) false
+  pub stand-not : n < rows → here < there → Stand (systemOf left right [] width rows) (pointOf (highs x)) false
   stand-not h l = record {
     yes = λ e. let z : _≡_ {A = ℕ} 0 1 = cc in absurd (omega arith);
     no = λ e f.

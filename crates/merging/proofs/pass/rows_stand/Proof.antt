@@ -1,14 +1,15 @@
 use Rattle.policy_iteration.proofs.Steps.{table-raised}
-use Rattle.guesses.proofs.Passing.{StandTo, stand-more, stand-not, stand-all}
+use Rattle.merging.proofs.Passing.{StandTo, stand-more, stand-not, stand-all}
 use Rattle.policy_iteration.specs.Tables.{systemOf, pointOf, highs}
+use mathlib.Core.List.{[]}
 use native.Mathlib.Omega.{arith}
 use Prim.Native.Nat.{_≤_, _-_}
 use borrow.Author.Needs.{needs}
-use Rattle.guesses.proofs.pass.rows_stand.Statement.{statement}
-use Rattle.guesses.proofs.pass.rows_stand.Tie as tie
+use Rattle.merging.proofs.pass.rows_stand.Statement.{statement}
+use Rattle.merging.proofs.pass.rows_stand.Tie as tie
 
 abbrev Inv-loop : tie.InvT-loop
-Inv-loop left right lefts rights x width rows i₀ i = (i ≤ rows) × StandTo (systemOf left right width rows) (pointOf (highs x)) i
+Inv-loop left right lefts rights x width rows i₀ i = (i ≤ rows) × StandTo (systemOf left right [] width rows) (pointOf (highs x)) i
 
 abbrev μ-loop : tie.MeasureT-loop
 μ-loop left right lefts rights x width rows i₀ i = rows - i

@@ -1,3 +1,0 @@
-pub mod Rising
-pub mod Stamping
-pub mod Passing

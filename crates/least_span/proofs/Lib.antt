@@ -1,4 +1,0 @@
-pub mod Trials
-pub mod Budget
-pub mod Moves
-pub mod Halves
