@@ -26,7 +26,9 @@ mod reasons;
 #[path = "../../../capi/rust/src/words.rs"]
 mod words;
 
-pub use calls::{check, read, solve, solve_all, write, ANSWER_SIZE, PROBLEM_SIZE, QUESTIONS, QUESTIONS_SIZE, STATES_SIZE};
+pub use calls::{
+    check, read, solve, solve_all, write, ANSWER_SIZE, PROBLEM_SIZE, QUESTIONS, QUESTIONS_SIZE, STATES_SIZE,
+};
 pub use census::{census, Census};
 pub use conversion::convert;
 pub use desk::{Collected, Desk, Step, DESK_MEMORY};
