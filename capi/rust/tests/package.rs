@@ -102,9 +102,8 @@ fn a_copy_is_a_package() {
     scratch.file("product/src/main.rs", format!("fn main() {{ {solve} }}"));
     let mut run = cargo("run", &product);
     run.arg("--quiet").arg("--target-dir").arg(scratch.path("target"));
-    let archive =
-        std::env::var_os("SPAN_ARCHIVE_FOLDER").map_or(package().join("../../target/staticlib"), PathBuf::from);
-    let (good, output, errors) = ran(run.env("SPAN_ARCHIVE_FOLDER", archive));
+    let folder = std::env::var_os("SPAN_ARCHIVE_FOLDER").unwrap_or("../../target/staticlib".into());
+    let (good, output, errors) = ran(run.env("SPAN_ARCHIVE_FOLDER", package().join(folder)));
     assert!(good && output == "least 0\n", "{output}{errors}");
 }
 
