@@ -1,4 +1,4 @@
-//! The unproved engines and the unproved checker of benches/: what the proved ones are measured against must be right too.
+//! The unproved engines and the unproved checker of reference/: what the proved ones are measured against must be right too.
 
 use reference::{solve_all_by, solve_by, Answered, InFull, InLists, Search};
 

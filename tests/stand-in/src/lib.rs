@@ -1,4 +1,4 @@
-//! The interface of the package `span` (capi/rust) over the unproved engine of benches/, for work on the tests and the
+//! The interface of the package `span` (capi/rust) over the unproved engine of reference/, for work on the tests and the
 //! benchmark where the archive is not built. The calls and words are that package's own source; what is behind them is not.
 //! Nothing leads here from that package.
 
