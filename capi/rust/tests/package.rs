@@ -77,14 +77,14 @@ fn the_package_has_nothing_to_switch() {
     assert!(own.contains("\"dependencies\":[]") && own.contains("\"features\":{}"), "{own}");
 }
 
-/// The manifest has the workspace's numbers. It does not inherit them, so that it can be copied.
+/// The manifest has the workspace's version and edition. It does not inherit them, so that it can be copied.
 #[test]
-fn the_numbers_are_the_workspaces() {
+fn the_version_is_the_workspaces() {
     let read = |path: &str| fs::read_to_string(package().join(path)).expect("a manifest");
     let (own, workspace) = (read("Cargo.toml"), read("../../Cargo.toml"));
-    let shared = workspace.split("[workspace.package]\n").nth(1).and_then(|rest| rest.split("\n\n").next());
-    for line in shared.expect("the workspace's numbers").lines() {
-        assert!(own.lines().any(|other| other == line), "{line}");
+    for word in ["version = ", "edition = "] {
+        let line = |manifest: &str| manifest.lines().find(|line| line.starts_with(word)).map(String::from);
+        assert!(line(&own).is_some() && line(&own) == line(&workspace), "{own}{workspace}");
     }
 }
 
