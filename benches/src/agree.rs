@@ -1,7 +1,7 @@
 //! Before times are compared: every engine gives the same class, span and trials, and both checkers accept its answer.
 
 use crate::engines::{library, library_accepts, unproved_accepts, UNPROVED};
-use unproved::Answered;
+use reference::Answered;
 
 /// The outcome that all engines agree on; ends the program where they do not.
 pub fn on(problem: &[u8]) -> Answered {

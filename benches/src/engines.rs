@@ -1,6 +1,6 @@
 //! What is measured, under one form: bytes in, class, span and trials out.
 
-use unproved::{solve_by, Answered, InFull, InLists, Search};
+use reference::{solve_by, Answered, InFull, InLists, Search};
 
 pub type Solve = fn(&[u8], &mut [u8]) -> Answered;
 
@@ -38,5 +38,5 @@ pub fn library_accepts(problem: &[u8], answer: &[u8]) -> bool {
 
 /// The unproved checker: whether it accepts.
 pub fn unproved_accepts(problem: &[u8], answer: &[u8]) -> bool {
-    unproved::checker::check(problem, answer).is_ok()
+    reference::checker::check(problem, answer).is_ok()
 }

@@ -1,7 +1,7 @@
 //! The families of problems that are measured.
 
 use random::Random;
-use unproved::LARGEST;
+use reference::LARGEST;
 
 pub const BLANK: i32 = i32::MIN;
 

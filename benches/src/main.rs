@@ -1,6 +1,6 @@
 //! Times of `solve` and `check` against an engine and a checker without proofs, in one run.
 //!
-//!     cargo run --release --offline --manifest-path benches/Cargo.toml
+//!     cargo run --profile measure --offline -p measure
 //!     … -- --short            a short run that judges no times
 //!     … -- --worst SECONDS    looks for the problem that takes `solve` longest, by hill climbing
 

@@ -5,7 +5,7 @@ use std::time::Instant;
 use crate::agree;
 use crate::families::{Draft, BLANK, FAMILIES};
 use random::Random;
-use unproved::LARGEST;
+use reference::LARGEST;
 
 const SEED: u64 = 3_000;
 

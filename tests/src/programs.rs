@@ -1,6 +1,6 @@
 //! The programs, run on standard input, the census program with words. SPAN_PROGRAM, VERDICT_PROGRAM, CONVERT_PROGRAM, REASONS_PROGRAM and
-//! CENSUS_PROGRAM name them; else they are span, verdict, convert, reasons and census in target/bin of the repository. On the stand-in this test program acts as each. Places are
-//! looked up when it runs: a copied tree is tried with its own programs.
+//! CENSUS_PROGRAM name them; else they are span, verdict, convert, reasons and census in target/bin of the repository. On the stand-in the program of this
+//! package acts as each. Places are looked up when it runs: a copied tree is tried with its own programs.
 
 use std::io::{Read, Write};
 use std::path::PathBuf;
@@ -11,13 +11,22 @@ pub fn repository() -> PathBuf {
     std::env::var_os("CARGO_MANIFEST_DIR").map_or_else(|| ".".into(), |package| PathBuf::from(package).join(".."))
 }
 
+/// The program of this package. Cargo puts tests into a folder beside it.
+fn own() -> PathBuf {
+    let running = std::env::current_exe().expect("this program's own path");
+    match running.parent() {
+        Some(folder) if folder.ends_with("deps") => folder.with_file_name("outside"),
+        _ => running,
+    }
+}
+
 /// The command of a program: its name is `span`, `verdict`, `convert`, `reasons` or `census`.
 fn command(name: &str, variable: &str) -> Command {
     if let Some(path) = std::env::var_os(variable) {
         return Command::new(path);
     }
     if cfg!(feature = "stand-in") {
-        let mut command = Command::new(std::env::current_exe().expect("this program's own path"));
+        let mut command = Command::new(own());
         command.arg(format!("act-as-{name}"));
         return command;
     }
@@ -48,9 +57,11 @@ fn run(mut command: Command, input: &[u8]) -> Result<Vec<u8>, String> {
     }
 }
 
-/// What a program writes on standard output and on standard error, with this standard input and these words of the shell
-/// behind its name.
-fn run_with(name: &str, variable: &str, input: Stdio, redirect: &str) -> Result<(Vec<u8>, Vec<u8>), String> {
+/// What a program writes on standard output and on standard error.
+pub type Written = (Vec<u8>, Vec<u8>);
+
+/// What a program writes with this standard input and these words of the shell behind its name.
+fn run_with(name: &str, variable: &str, input: Stdio, redirect: &str) -> Result<Written, String> {
     let program = command(name, variable);
     let mut shell = Command::new("sh");
     shell.arg("-c").arg(format!("exec \"$0\" \"$@\" {redirect}")).arg(program.get_program()).args(program.get_args());
@@ -59,7 +70,7 @@ fn run_with(name: &str, variable: &str, input: Stdio, redirect: &str) -> Result<
 }
 
 /// Both programs in turn, by their names.
-pub fn both_with(input: impl Fn() -> Stdio, redirect: &str) -> Result<[(Vec<u8>, Vec<u8>); 2], String> {
+pub fn both_with(input: impl Fn() -> Stdio, redirect: &str) -> Result<[Written; 2], String> {
     Ok([
         run_with("span", "SPAN_PROGRAM", input(), redirect)?,
         run_with("verdict", "VERDICT_PROGRAM", input(), redirect)?,
@@ -78,8 +89,8 @@ pub fn convert(input: &[u8]) -> Result<Vec<u8>, String> {
     run(command("convert", "CONVERT_PROGRAM"), input)
 }
 
-/// What the census program writes on standard output and on standard error, with these words behind its name.
-pub fn census(words: &[&str]) -> Result<(Vec<u8>, Vec<u8>), String> {
+/// What the census program writes with these words behind its name.
+pub fn census(words: &[&str]) -> Result<Written, String> {
     let mut program = command("census", "CENSUS_PROGRAM");
     let ended = program.args(words).stdin(Stdio::null()).output();
     let output = ended.map_err(|error| format!("{program:?} cannot be run: {error}"))?;
@@ -99,16 +110,16 @@ pub fn reasons(input: &[u8]) -> Result<Vec<u8>, String> {
 pub fn acted_as_a_program(words: &[String]) -> bool {
     let name = words.first().map_or("", |word| word.as_str());
     if name == "act-as-census" {
-        let (output, error) = unproved::programs::census(&words[1..]);
+        let (output, error) = reference::programs::census(&words[1..]);
         print!("{output}");
         eprint!("{error}");
         return true;
     }
     let program: fn(&[u8]) -> Vec<u8> = match name {
-        "act-as-span" => unproved::programs::span,
-        "act-as-verdict" => unproved::programs::verdict,
-        "act-as-convert" => unproved::programs::convert,
-        "act-as-reasons" => unproved::programs::reasons,
+        "act-as-span" => reference::programs::span,
+        "act-as-verdict" => reference::programs::verdict,
+        "act-as-convert" => reference::programs::convert,
+        "act-as-reasons" => reference::programs::reasons,
         _ => return false,
     };
     let mut input = Vec::new();

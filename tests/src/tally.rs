@@ -3,7 +3,7 @@
 use std::collections::BTreeMap;
 use std::time::Instant;
 
-/// Disagreements of one suite that are printed before it stops the run.
+/// Disagreements of one suite that are printed before it is stopped.
 const ENOUGH: u64 = 5;
 
 pub struct Tally {
@@ -13,6 +13,8 @@ pub struct Tally {
     counts: BTreeMap<String, u64>,
     failures: u64,
     start: Instant,
+    /// Called after enough disagreements.
+    stop: fn() -> !,
 }
 
 /// Bytes as document 01 shows them.
@@ -21,8 +23,8 @@ pub fn hex(bytes: &[u8]) -> String {
 }
 
 impl Tally {
-    pub fn new(name: &str, long: bool) -> Tally {
-        Tally { name: name.into(), long, counts: BTreeMap::new(), failures: 0, start: Instant::now() }
+    pub fn new(name: &str, long: bool, stop: fn() -> !) -> Tally {
+        Tally { name: name.into(), long, counts: BTreeMap::new(), failures: 0, start: Instant::now(), stop }
     }
 
     /// Names the seed of what follows.
@@ -53,7 +55,7 @@ impl Tally {
         println!("  answer  {}", hex(answer));
         if self.failures >= ENOUGH {
             println!("{}: stopped after {ENOUGH} disagreements", self.name);
-            std::process::exit(1);
+            (self.stop)();
         }
     }
 

@@ -5,6 +5,7 @@ use ward_reader::outcome::Expected;
 use ward_reader::{record, shown, vain, Remark, Sheet, Weight};
 
 use crate::archive;
+use crate::error::Error;
 use crate::opening::{self, Door};
 use crate::reasons::{self, Reasons};
 use crate::times::{self, Slack, Times};
@@ -16,7 +17,7 @@ pub struct Report {
     pub lines: Vec<String>,
     pub remarks: Vec<Remark>,
     /// Why nothing could be answered, where the text is not to blame.
-    pub fault: Option<String>,
+    pub fault: Option<Error>,
     pub sheet: Option<Sheet>,
     pub spans: Vec<Span>,
 }
@@ -80,9 +81,9 @@ pub struct Wishes {
 /// How a report ends; of several the greatest counts.
 #[derive(Clone, Copy, Debug, PartialEq, Eq, PartialOrd, Ord)]
 pub enum Ending {
-    /// Accepted, and expected where a text says what it expects.
-    Accepted,
-    /// Accepted, and a text expects another answer.
+    /// All answers were accepted, and expected where a text says what it expects.
+    Good,
+    /// All were accepted, and a text expects another answer.
     Unexpected,
     /// A text has a mistake, or could not be read or answered.
     Fault,
@@ -92,7 +93,7 @@ pub enum Ending {
 
 impl Report {
     /// A file that could not be read.
-    pub fn unread(file: &str, fault: String) -> Report {
+    pub fn unread(file: &str, fault: Error) -> Report {
         Report {
             file: file.into(),
             lines: Vec::new(),
@@ -125,7 +126,7 @@ impl Report {
                 });
             }
             let refused = record::sent(sheet).iter().find_map(|problem| archive::refusal(problem));
-            report.fault = refused.map(refused_words);
+            report.fault = refused.map(Error::Refused);
         }
         if report.mistaken() {
             report.sheet = None;
@@ -145,7 +146,7 @@ impl Report {
             match archive::answers(&problem) {
                 Ok(more) => answers.extend(more),
                 Err(refusal) => {
-                    self.fault = Some(refused_words(refusal));
+                    self.fault = Some(Error::Refused(refusal));
                     return;
                 }
             }
@@ -156,7 +157,7 @@ impl Report {
     /// Has the checker judge answers from whoever wrote them, each with the problem of its span alone.
     pub fn judge(&mut self, answers: &[Vec<u8>], wishes: Wishes) {
         let Some(sheet) = self.sheet.as_ref().filter(|_| self.fault.is_none()) else { return };
-        let told: Result<Vec<Span>, String> =
+        let told: Result<Vec<Span>, Error> =
             answers.iter().enumerate().map(|(question, answer)| span_of(sheet, question, answer, wishes)).collect();
         match told {
             Ok(spans) => self.spans = spans,
@@ -165,11 +166,11 @@ impl Report {
     }
 
     pub fn ending(&self) -> Ending {
-        let own = if self.fault.is_some() || self.sheet.is_none() { Ending::Fault } else { Ending::Accepted };
+        let own = if self.fault.is_some() || self.sheet.is_none() { Ending::Fault } else { Ending::Good };
         let spans = self.spans.iter().map(|span| match (&span.verdict, span.expected) {
             (Verdict::NotAccepted(_), _) => Ending::NotAccepted,
             (_, Some(_)) => Ending::Unexpected,
-            _ => Ending::Accepted,
+            _ => Ending::Good,
         });
         spans.fold(own, Ending::max)
     }
@@ -187,10 +188,6 @@ impl Report {
     }
 }
 
-fn refused_words(refusal: span::Refusal) -> String {
-    format!("the archive says: {refusal}")
-}
-
 impl Verdict {
     /// The verdict program's line.
     pub fn words(&self) -> String {
@@ -205,7 +202,7 @@ fn same(expected: Expected, outcome: Outcome) -> bool {
     expected.to_string() == outcome.to_string()
 }
 
-fn span_of(sheet: &Sheet, question: usize, answer: &[u8], wishes: Wishes) -> Result<Span, String> {
+fn span_of(sheet: &Sheet, question: usize, answer: &[u8], wishes: Wishes) -> Result<Span, Error> {
     let problem = record::alone(sheet, question);
     let row = &sheet.questions[question].row;
     let side = |leads: &[ward_reader::Lead]| shown::side(&sheet.moments, leads, &archive::clock());
@@ -239,10 +236,8 @@ fn least(
     answer: &[u8],
     minutes: i32,
     wishes: Wishes,
-) -> Result<Body, String> {
-    let Some((_, stamps)) = stamps(sheet, answer) else {
-        return Err("the checker accepted a least span, and the record has no plan".into());
-    };
+) -> Result<Body, Error> {
+    let Some((_, stamps)) = stamps(sheet, answer) else { return Err(Error::NoPlan) };
     let slack = if wishes.times { times::at_span(sheet, question, minutes)? } else { Slack::NotAsked };
     let reasons = reasons::behind(sheet, problem, answer);
     let mut plan = plan(sheet, question, &stamps);

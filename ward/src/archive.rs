@@ -6,6 +6,8 @@ use ward_reader::record;
 use ward_reader::sheet::Row;
 use ward_reader::Clock;
 
+use crate::error::Error;
+
 /// Hours and minutes by the archive.
 pub fn clock() -> Clock {
     Clock { read: |text| span::read_hours(text.as_bytes()).ok().flatten(), write: hours }
@@ -35,16 +37,14 @@ pub fn answers(problem: &[u8]) -> Result<Vec<Vec<u8>>, Refusal> {
 
 /// The outcomes of more questions over some rules, eight to a record. The checker judges every answer, and one that it does
 /// not accept is a fault.
-pub fn ask(rules: &[&Row], questions: &[Row]) -> Result<Vec<Outcome>, String> {
+pub fn ask(rules: &[&Row], questions: &[Row]) -> Result<Vec<Outcome>, Error> {
     let mut outcomes = Vec::new();
     for part in questions.chunks(span::QUESTIONS) {
         let part: Vec<&Row> = part.iter().collect();
-        let answers =
-            answers(&record::several(rules, &part)).map_err(|refusal| format!("the archive says: {refusal}"))?;
+        let answers = answers(&record::several(rules, &part)).map_err(Error::Refused)?;
         for (question, answer) in part.into_iter().zip(answers) {
             let judged = span::check(&record::one(rules, question), &answer);
-            outcomes
-                .push(judged.map_err(|refusal| format!("the checker does not accept an answer: {refusal}"))?.outcome);
+            outcomes.push(judged.map_err(Error::NotAccepted)?.outcome);
         }
     }
     Ok(outcomes)

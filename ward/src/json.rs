@@ -92,7 +92,7 @@ fn file(report: &Report) -> Value {
         |weight: Weight| List(report.remarks.iter().filter(|remark| remark.weight == weight).map(remark).collect());
     let mut fields = vec![
         ("file", text(&report.file)),
-        ("fault", report.fault.as_ref().map_or(Null, text)),
+        ("fault", report.fault.as_ref().map_or(Null, |fault| text(fault.to_string()))),
         ("mistakes", of(Weight::Mistake)),
         ("warnings", of(Weight::Warning)),
     ];

@@ -2,12 +2,13 @@
 //!
 //! The tool is outside the proofs: nothing shows that a text means what its writer thinks, or that the words printed here say
 //! what a record holds. What is proved is about records, and all that concerns them is asked of the archive: answers,
-//! verdicts, refusals, hours and opening hours. `words` has the commands and the statuses.
+//! verdicts, refusals, hours and opening hours. `words` has the commands, `error` the statuses.
 
 mod answer;
 mod archive;
 mod csv;
 mod cut;
+mod error;
 mod json;
 mod opening;
 mod output;
@@ -22,20 +23,14 @@ mod words;
 
 use std::ffi::OsStr;
 use std::fs::File;
-use std::io::{self, ErrorKind, IsTerminal, Read, Write};
+use std::io::{self, IsTerminal, Read, Write};
 use std::process::ExitCode;
 
 use answer::{Ending, Report, Wishes};
+use error::Error;
 use terminal::Look;
-use ward_reader::{limits, record, shown, Weight};
+use ward_reader::{limits, record, shown, Sheet, Weight};
 use words::{Command, Form, Words};
-
-/// Statuses, as `words` tells them.
-const FAULT: u8 = 1;
-const WORDS: u8 = 2;
-const NOT_ACCEPTED: u8 = 3;
-const UNEXPECTED: u8 = 4;
-const OUTPUT: u8 = 5;
 
 /// Tells something on standard error; if that is closed, nobody is told.
 fn tell(message: &str) {
@@ -43,48 +38,44 @@ fn tell(message: &str) {
 }
 
 fn main() -> ExitCode {
-    let words = match words::read(std::env::args_os().skip(1)) {
-        Ok(words) => words,
-        Err(message) => {
-            tell(&format!("ward: {message}; `ward --help` tells the words\n"));
-            return ExitCode::from(WORDS);
-        }
-    };
-    if let Some(path) = words.files.iter().find(|path| words.output.as_ref().is_some_and(|output| same(path, output))) {
-        tell(&format!("ward: the output would be written over '{}', which is read\n", name(path)));
-        return ExitCode::from(WORDS);
+    let done = words::read(std::env::args_os().skip(1)).and_then(|words| run(&words));
+    if let Err(error) = &done {
+        tell(&error.line());
     }
-    let done = match words.command {
-        Command::Help => put(&words, words::HELP.as_bytes()).map(|()| 0),
-        Command::Version => put(&words, concat!("ward ", env!("CARGO_PKG_VERSION"), "\n").as_bytes()).map(|()| 0),
-        Command::Answer | Command::Check => answer_all(&words),
-        Command::Judge => judge(&words),
-        Command::Record => record_of(&words),
-        Command::Text => text_of(&words),
-    };
-    ExitCode::from(done.unwrap_or_else(|error| {
-        // Whoever closed the output does not want to read more.
-        if error.kind() != ErrorKind::BrokenPipe {
-            tell(&format!("ward: the output cannot be written: {error}\n"));
+    ExitCode::from(error::status(&done))
+}
+
+/// Does what the words ask for.
+fn run(words: &Words) -> Result<Ending, Error> {
+    if let Some(path) = words.files.iter().find(|path| words.output.as_ref().is_some_and(|output| same(path, output))) {
+        return Err(Error::Over(name(path)));
+    }
+    match words.command {
+        Command::Help => put(words, words::HELP.as_bytes()).map(|()| Ending::Good),
+        Command::Version => {
+            put(words, concat!("ward ", env!("CARGO_PKG_VERSION"), "\n").as_bytes()).map(|()| Ending::Good)
         }
-        OUTPUT
-    }))
+        Command::Answer | Command::Check => answer_all(words),
+        Command::Judge => judge(words),
+        Command::Record => record_of(words),
+        Command::Text => text_of(words),
+    }
 }
 
 /// Writes to the output that the words name.
-fn put(words: &Words, bytes: &[u8]) -> io::Result<()> {
-    output::put(words.output.as_deref(), bytes)
+fn put(words: &Words, bytes: &[u8]) -> Result<(), Error> {
+    output::put(words.output.as_deref(), bytes).map_err(Error::Unwritten)
 }
 
 /// A file's bytes, or those of standard input; no more than a text may have, and one.
-fn bytes(path: &OsStr) -> io::Result<Vec<u8>> {
+fn bytes(path: &OsStr) -> Result<Vec<u8>, Error> {
     let mut bytes = Vec::new();
     let most = limits::TEXT as u64 + 1;
-    match path == "-" {
-        true => io::stdin().lock().take(most).read_to_end(&mut bytes).map_err(output::unread)?,
-        false => File::open(path)?.take(most).read_to_end(&mut bytes)?,
+    let read = match path == "-" {
+        true => io::stdin().lock().take(most).read_to_end(&mut bytes).map_err(output::unread),
+        false => File::open(path).and_then(|file| file.take(most).read_to_end(&mut bytes)),
     };
-    Ok(bytes)
+    read.map(|_| bytes).map_err(Error::Unread)
 }
 
 /// Whether two paths name one file that is there; a device is none.
@@ -105,7 +96,7 @@ fn name(path: &OsStr) -> String {
 fn text(path: &OsStr) -> Report {
     match bytes(path) {
         Ok(bytes) => Report::read(&name(path), &bytes),
-        Err(error) => Report::unread(&name(path), error.to_string()),
+        Err(error) => Report::unread(&name(path), error),
     }
 }
 
@@ -127,23 +118,14 @@ fn look(words: &Words) -> Look {
     Look { width: std::cmp::Ord::clamp(width, 40, 160), signs: utf8 && !words.plain }
 }
 
-fn status(ending: Ending) -> u8 {
-    match ending {
-        Ending::Accepted => 0,
-        Ending::Unexpected => UNEXPECTED,
-        Ending::Fault => FAULT,
-        Ending::NotAccepted => NOT_ACCEPTED,
-    }
-}
-
 /// Reads or answers the texts. What goes to a terminal is put out text by text, all else in the end.
-fn answer_all(words: &Words) -> io::Result<u8> {
+fn answer_all(words: &Words) -> Result<Ending, Error> {
     let count = words.files.len();
     let alone = io::stderr().is_terminal() && (!io::stdout().is_terminal() || words.output.is_some());
     let progress = !words.quiet && (words.progress || count > 1 && alone);
     let streamed = words.form == Form::Table && words.output.is_none();
     let mut reports = Vec::new();
-    let mut ending = Ending::Accepted;
+    let mut ending = Ending::Good;
     for (number, path) in words.files.iter().enumerate() {
         let mut report = text(path);
         if words.command == Command::Answer {
@@ -162,7 +144,7 @@ fn answer_all(words: &Words) -> io::Result<u8> {
     if !streamed {
         put(words, shaped(words, &reports).as_bytes())?;
     }
-    Ok(status(ending))
+    Ok(ending)
 }
 
 /// A report for the terminal, with a gap to the one before it.
@@ -186,7 +168,7 @@ fn shaped(words: &Words, reports: &[Report]) -> String {
     }
 }
 
-fn judge(words: &Words) -> io::Result<u8> {
+fn judge(words: &Words) -> Result<Ending, Error> {
     let mut report = text(&words.files[0]);
     match bytes(&words.files[1]) {
         Ok(answers) => {
@@ -195,40 +177,37 @@ fn judge(words: &Words) -> io::Result<u8> {
             let parts: Vec<Vec<u8>> = cut::records(&answers, count).into_iter().map(<[u8]>::to_vec).collect();
             report.judge(&parts, Wishes { times: !words.quick });
         }
-        Err(error) => report.fault = Some(format!("{}: {error}", name(&words.files[1]))),
+        Err(error) => report.fault = Some(Error::In(name(&words.files[1]), Box::new(error))),
     }
     tell_remarks(&mut report, words);
     let ending = report.ending();
     put(words, shaped(words, &[report]).as_bytes())?;
-    Ok(status(ending))
+    Ok(ending)
 }
 
-fn record_of(words: &Words) -> io::Result<u8> {
+fn record_of(words: &Words) -> Result<Ending, Error> {
     let mut report = text(&words.files[0]);
     tell_remarks(&mut report, words);
-    let Some(sheet) = report.sheet.as_ref().filter(|_| report.fault.is_none()) else { return Ok(FAULT) };
+    let Some(sheet) = report.sheet.as_ref().filter(|_| report.fault.is_none()) else { return Ok(Ending::Fault) };
     let records = record::sent(sheet);
     match words.binary {
         true => put(words, &records.concat())?,
         false => put(words, records.iter().map(|bytes| record::hex(bytes) + "\n").collect::<String>().as_bytes())?,
     }
-    Ok(0)
+    Ok(Ending::Good)
 }
 
-fn text_of(words: &Words) -> io::Result<u8> {
-    let file = name(&words.files[0]);
-    let told = bytes(&words.files[0]).map_err(|error| error.to_string()).and_then(|bytes| {
-        let bytes = cut::from_hex(&bytes).unwrap_or(bytes);
-        match archive::refusal(&bytes) {
-            Some(refusal) => Err(format!("the archive says: {refusal}")),
-            None => record::sheet(&bytes).ok_or_else(|| "the record cannot be told as a text".into()),
-        }
-    });
-    match told {
-        Ok(sheet) => put(words, shown::text(&sheet, &archive::clock()).as_bytes()).map(|()| 0),
-        Err(message) => {
-            tell(&format!("{file}: {message}\n"));
-            Ok(FAULT)
-        }
+fn text_of(words: &Words) -> Result<Ending, Error> {
+    let sheet = told(&words.files[0]).map_err(|error| Error::In(name(&words.files[0]), Box::new(error)))?;
+    put(words, shown::text(&sheet, &archive::clock()).as_bytes()).map(|()| Ending::Good)
+}
+
+/// The sheet that a file's record tells.
+fn told(path: &OsStr) -> Result<Sheet, Error> {
+    let bytes = bytes(path)?;
+    let bytes = cut::from_hex(&bytes).unwrap_or(bytes);
+    match archive::refusal(&bytes) {
+        Some(refusal) => Err(Error::Refused(refusal)),
+        None => record::sheet(&bytes).ok_or(Error::NoText),
     }
 }

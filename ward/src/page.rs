@@ -62,7 +62,8 @@ fn name(report: &Report) -> String {
 
 /// Mistakes and warnings, each with its line and the part that is meant.
 fn remarks(report: &Report) -> String {
-    let mut items: Vec<String> = report.fault.iter().map(|fault| format!("<li>{}</li>\n", safe(fault))).collect();
+    let mut items: Vec<String> =
+        report.fault.iter().map(|fault| format!("<li>{}</li>\n", safe(&fault.to_string()))).collect();
     for Remark { weight, place, message, hint } in &report.remarks {
         let word = if *weight == Weight::Mistake { "mistake" } else { "warning" };
         let line: Vec<char> = report.lines.get(place.line - 1).map_or(Vec::new(), |line| line.chars().collect());

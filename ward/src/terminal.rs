@@ -58,7 +58,7 @@ const PLAIN: Signs = Signs {
 pub fn remarks(report: &Report) -> String {
     let mut text: String = report.remarks.iter().map(|remark| remark.in_file(&report.file, &report.lines)).collect();
     if let Some(fault) = &report.fault {
-        let _ = writeln!(text, "{}: {}", clean(&report.file), clean(fault));
+        let _ = writeln!(text, "{}: {}", clean(&report.file), clean(&fault.to_string()));
     }
     let mistakes = report.remarks.iter().filter(|remark| remark.weight == Weight::Mistake).count();
     if mistakes > 1 {

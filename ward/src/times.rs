@@ -8,6 +8,7 @@ use ward_reader::sheet::{Lead, Row};
 use ward_reader::Sheet;
 
 use crate::archive;
+use crate::error::Error;
 
 /// How far a moment can move one way.
 #[derive(Clone, Copy, Debug, PartialEq, Eq)]
@@ -112,7 +113,7 @@ fn at_most(question: &Row, span: i32) -> Option<Row> {
 
 /// The times of every moment in the plans that have this span. A plan with neither group of the span keeps the rule too, and does
 /// not count (document 02, 2.4); merged with one that counts and lies early enough (2.13) it counts, so that no time is another.
-pub fn at_span(sheet: &Sheet, question: usize, span: i32) -> Result<Slack, String> {
+pub fn at_span(sheet: &Sheet, question: usize, span: i32) -> Result<Slack, Error> {
     let mut rules: Vec<&Row> = sheet.in_force().collect();
     if rules.len() == limits::RULES {
         return Ok(Slack::Cannot("there are 63 rules already, and the span would be one more"));

@@ -6,6 +6,7 @@ use ward_reader::sheet::Row;
 use ward_reader::Sheet;
 
 use crate::archive;
+use crate::error::Error;
 use crate::times::{earliest, latest, row};
 
 /// Why spans are bottomless. Both lists are empty where the span runs to nothing.
@@ -33,7 +34,7 @@ fn moments(leads: &[ward_reader::Lead]) -> Vec<usize> {
     (1..leads.len()).filter(|&moment| leads[moment].is_some()).collect()
 }
 
-pub fn loose(sheet: &Sheet, question: usize) -> Result<Loose, String> {
+pub fn loose(sheet: &Sheet, question: usize) -> Result<Loose, Error> {
     let rules: Vec<&Row> = sheet.in_force().collect();
     let Row { left, right, .. } = &sheet.questions[question].row;
     if left.iter().all(Option::is_none) {
@@ -54,7 +55,7 @@ pub fn loose(sheet: &Sheet, question: usize) -> Result<Loose, String> {
     Ok(Loose { late, early: if all { early } else { Vec::new() } })
 }
 
-pub fn blocked(sheet: &Sheet, question: usize) -> Result<Blocked, String> {
+pub fn blocked(sheet: &Sheet, question: usize) -> Result<Blocked, Error> {
     let question = &sheet.questions[question].row;
     if question.right.iter().all(Option::is_none) {
         return Ok(Blocked::FromNothing);
@@ -69,14 +70,14 @@ pub fn blocked(sheet: &Sheet, question: usize) -> Result<Blocked, String> {
     }
 }
 
-fn is_none(rules: &[(usize, &Row)], question: &Row) -> Result<bool, String> {
+fn is_none(rules: &[(usize, &Row)], question: &Row) -> Result<bool, Error> {
     let rules: Vec<&Row> = rules.iter().map(|(_, rule)| *rule).collect();
     Ok(archive::ask(&rules, std::slice::from_ref(question))? == [Outcome::None])
 }
 
 /// Rules without which there is a span: one after another is left out where there is none without it too. Fewer rules leave
 /// more plans, so that each rule that is left in the end is needed.
-fn narrowed(mut rules: Vec<(usize, &Row)>, question: &Row) -> Result<Vec<usize>, String> {
+fn narrowed(mut rules: Vec<(usize, &Row)>, question: &Row) -> Result<Vec<usize>, Error> {
     let mut place = 0;
     while place < rules.len() {
         let rule = rules.remove(place);

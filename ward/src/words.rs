@@ -2,6 +2,8 @@
 
 use std::ffi::OsString;
 
+use crate::error::Error;
+
 /// What `--help` prints.
 pub const HELP: &str = "\
 ward: a scheduler's text in, a judged plan out
@@ -70,7 +72,7 @@ pub struct Words {
 }
 
 /// Reads the words behind the program's name.
-pub fn read(arguments: impl Iterator<Item = OsString>) -> Result<Words, String> {
+pub fn read(arguments: impl Iterator<Item = OsString>) -> Result<Words, Error> {
     let mut words = Words {
         command: Command::Answer,
         files: Vec::new(),
@@ -94,7 +96,7 @@ pub fn read(arguments: impl Iterator<Item = OsString>) -> Result<Words, String> 
                 words.files.extend(arguments.by_ref());
             }
             "-o" | "--output" => {
-                let file = arguments.next().ok_or_else(|| format!("a file is missing behind '{text}'"))?;
+                let file = arguments.next().ok_or_else(|| wrong(format!("a file is missing behind '{text}'")))?;
                 set(&mut words.output, file, "one output is enough")?;
             }
             _ if text.starts_with("--output=") => {
@@ -109,10 +111,14 @@ pub fn read(arguments: impl Iterator<Item = OsString>) -> Result<Words, String> 
     Ok(words)
 }
 
-fn set(place: &mut Option<OsString>, value: OsString, message: &str) -> Result<(), String> {
+fn wrong(message: impl Into<String>) -> Error {
+    Error::Words(message.into())
+}
+
+fn set(place: &mut Option<OsString>, value: OsString, message: &str) -> Result<(), Error> {
     match place.replace(value) {
         None => Ok(()),
-        Some(_) => Err(message.into()),
+        Some(_) => Err(wrong(message)),
     }
 }
 
@@ -126,7 +132,7 @@ fn command(word: &str) -> Option<Command> {
     })
 }
 
-fn option(words: &mut Words, text: &str) -> Result<(), String> {
+fn option(words: &mut Words, text: &str) -> Result<(), Error> {
     let form = match text {
         "--json" => Some(Form::Json),
         "--csv" => Some(Form::Csv),
@@ -135,7 +141,7 @@ fn option(words: &mut Words, text: &str) -> Result<(), String> {
     };
     if let Some(form) = form {
         if ![Form::Table, form].contains(&words.form) {
-            return Err("one of --json, --csv and --html is enough".into());
+            return Err(wrong("one of --json, --csv and --html is enough"));
         }
         words.form = form;
         return Ok(());
@@ -148,13 +154,13 @@ fn option(words: &mut Words, text: &str) -> Result<(), String> {
         "-q" | "--quiet" => words.quiet = true,
         "-h" | "--help" => words.command = Command::Help,
         "-V" | "--version" => words.command = Command::Version,
-        _ => return Err(format!("'{text}' is not understood")),
+        _ => return Err(wrong(format!("'{text}' is not understood"))),
     }
     Ok(())
 }
 
 /// Whether there are as many files as a command takes, and no option that it does not know.
-fn fits(words: &Words) -> Result<(), String> {
+fn fits(words: &Words) -> Result<(), Error> {
     let count = words.files.len();
     let good = match words.command {
         Command::Answer | Command::Check => count > 0,
@@ -163,23 +169,23 @@ fn fits(words: &Words) -> Result<(), String> {
         Command::Help | Command::Version => true,
     };
     if !good {
-        return Err(match words.command {
-            Command::Judge => "'judge' takes a text and a file of answers".into(),
-            Command::Record | Command::Text => "one file is expected".into(),
-            _ => "a file is missing".into(),
-        });
+        return Err(wrong(match words.command {
+            Command::Judge => "'judge' takes a text and a file of answers",
+            Command::Record | Command::Text => "one file is expected",
+            _ => "a file is missing",
+        }));
     }
     if words.files.iter().filter(|file| *file == "-").count() > 1 {
-        return Err("standard input can be read once".into());
+        return Err(wrong("standard input can be read once"));
     }
     let bare = [Command::Record, Command::Text].contains(&words.command);
     if bare && words.form != Form::Table
         || words.command == Command::Check && [Form::Csv, Form::Html].contains(&words.form)
     {
-        return Err("this command has no such output".into());
+        return Err(wrong("this command has no such output"));
     }
     match words.binary && words.command != Command::Record {
-        true => Err("'--binary' goes with 'record'".into()),
+        true => Err(wrong("'--binary' goes with 'record'")),
         false => Ok(()),
     }
 }
@@ -188,7 +194,7 @@ fn fits(words: &Words) -> Result<(), String> {
 mod tests {
     use super::*;
 
-    fn read_all(words: &str) -> Result<Words, String> {
+    fn read_all(words: &str) -> Result<Words, Error> {
         read(words.split_whitespace().map(OsString::from))
     }
 

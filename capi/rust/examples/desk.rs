@@ -1,6 +1,6 @@
 //! Keeps a desk's sixteen places busy and prints in which order problems are answered: short ones while long ones run.
 //!
-//!     cargo run --release --offline --manifest-path capi/rust/Cargo.toml --example desk
+//!     cargo run --release --offline -p span --example desk
 
 use span::{check, Collected, Desk, Step, ANSWER_SIZE, DESK_MEMORY};
 

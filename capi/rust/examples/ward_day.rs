@@ -1,6 +1,6 @@
 //! A ward's day: built row by row, solved, judged, and printed. `capi/ward_day.c` is the same in C.
 //!
-//!     cargo run --release --offline --manifest-path capi/rust/Cargo.toml --example ward_day
+//!     cargo run --release --offline -p span --example ward_day
 
 use span::{check, read, solve, Answer, Problem, ANSWER_SIZE};
 

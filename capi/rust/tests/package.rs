@@ -71,7 +71,40 @@ fn metadata(manifest: &Path) -> Command {
 fn the_package_has_nothing_to_switch() {
     let (good, metadata, errors) = ran(metadata(&package().join("Cargo.toml")).arg("--no-deps"));
     assert!(good, "{errors}");
-    assert!(metadata.contains("\"dependencies\":[]") && metadata.contains("\"features\":{}"), "{metadata}");
+    // The whole workspace is told, a package from its name to its manifest.
+    let own = metadata.split("{\"name\":\"span\",\"version\":").nth(1).expect("the package itself");
+    let own = own.split("\"manifest_path\":").next().expect("its words");
+    assert!(own.contains("\"dependencies\":[]") && own.contains("\"features\":{}"), "{own}");
+}
+
+/// The manifest has the workspace's version and edition. It does not inherit them, so that it can be copied.
+#[test]
+fn the_version_is_the_workspaces() {
+    let read = |path: &str| fs::read_to_string(package().join(path)).expect("a manifest");
+    let (own, workspace) = (read("Cargo.toml"), read("../../Cargo.toml"));
+    for word in ["version = ", "edition = "] {
+        let line = |manifest: &str| manifest.lines().find(|line| line.starts_with(word)).map(String::from);
+        assert!(line(&own).is_some() && line(&own) == line(&workspace), "{own}{workspace}");
+    }
+}
+
+/// A copy of the package, in no workspace, serves a product.
+#[test]
+fn a_copy_is_a_package() {
+    let scratch = Scratch::new("copied");
+    let copy = scratch.path("span");
+    fs::create_dir_all(&copy).expect("a folder for a copy");
+    let parts = ["Cargo.toml", "build.rs", "src"].map(|part| package().join(part));
+    let (good, _, errors) = ran(Command::new("cp").arg("-r").args(parts).arg(&copy));
+    assert!(good, "{errors}");
+    let product = scratch.product("product", &copy, "");
+    let solve = "println!(\"{}\", span::solve(&[], &mut [0; span::ANSWER_SIZE]).unwrap())";
+    scratch.file("product/src/main.rs", format!("fn main() {{ {solve} }}"));
+    let mut run = cargo("run", &product);
+    run.arg("--quiet").arg("--target-dir").arg(scratch.path("target"));
+    let folder = std::env::var_os("SPAN_ARCHIVE_FOLDER").unwrap_or("../../target/staticlib".into());
+    let (good, output, errors) = ran(run.env("SPAN_ARCHIVE_FOLDER", package().join(folder)));
+    assert!(good && output == "least 0\n", "{output}{errors}");
 }
 
 /// A product that asks for the unproved engine is refused before anything is built.

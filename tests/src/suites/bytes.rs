@@ -96,7 +96,7 @@ pub fn harmed(random: &mut Random, good: &[u8]) -> Vec<u8> {
             let places = 1 + random.below(4);
             for _ in 0..places {
                 let place = random.below(bytes.len());
-                bytes[place] = random.next() as u8;
+                bytes[place] = random.word() as u8;
             }
         }
         _ => {

@@ -42,7 +42,7 @@ impl Tried {
     fn new(random: &mut Random) -> Tried {
         let mut memory = vec![0; DESK_MEMORY + [0, 1, 4096][random.below(3)]];
         random.fill(&mut memory);
-        let state = (0..DESK_WORDS + random.below(3)).map(|_| random.next()).collect();
+        let state = (0..DESK_WORDS + random.below(3)).map(|_| random.word()).collect();
         Tried { memory, state }
     }
 
@@ -157,7 +157,7 @@ impl Run<'_> {
     }
 
     fn take(&mut self) {
-        let pick = self.random.next() as usize;
+        let pick = self.random.word() as usize;
         if self.random.chance(1, 6) {
             let (problem, number) = &self.stock.bad[pick % self.stock.bad.len()];
             return self.still("problems refused", |desk| desk.take(problem), *number);
@@ -206,7 +206,7 @@ impl Run<'_> {
     fn collect(&mut self) {
         let some: Vec<u64> = self.model.held.keys().copied().collect();
         let ticket = match self.random.below(8) {
-            0 => self.random.next(),
+            0 => self.random.word(),
             1 => self.collected.last().copied().unwrap_or(0),
             2 => self.model.given + 1,
             3 => 0,
@@ -289,7 +289,7 @@ fn sequences(tally: &mut Tally, stock: &Stock, calls: usize) {
         let taking = 1 + random.below(6);
         let collecting = 1 + random.below(4);
         let length = 1 + random.below(4000);
-        let own = Random::new(random.next());
+        let own = Random::new(random.word());
         let mut run = Run { tally, random: own, desk, model: Model::default(), stock, collected: Vec::new() };
         for _ in 0..length {
             match run.random.below(taking + collecting + 12) {

@@ -22,7 +22,7 @@ fn read(tally: &mut Tally, random: &mut Random, record: &[u8], n: u64, m: u64) {
     let mut stamps = [0; 32];
     let mut picks = [0; 64];
     for place in stamps.iter_mut().chain(&mut picks) {
-        *place = random.next();
+        *place = random.word();
     }
     let (stamps_before, picks_before) = (stamps, picks);
     let result = span::raw::read(record, n, m, &mut stamps, &mut picks);
@@ -73,7 +73,7 @@ fn lend(tally: &mut Tally, random: &mut Random, record: &[u8], n: u64, m: u64, w
     let mut stamps = vec![0; first];
     let mut picks = vec![0; second];
     for place in stamps.iter_mut().chain(picks.iter_mut()) {
-        *place = random.next();
+        *place = random.word();
     }
     let (stamps_before, picks_before) = (stamps.clone(), picks.clone());
     let result = span::raw::read(record, n, m, &mut stamps, &mut picks);

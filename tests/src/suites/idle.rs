@@ -5,7 +5,7 @@ use super::bytes::{checker, engine, harmed};
 use super::pipes::{span_program, verdict};
 use super::{checked, outcome_of};
 use crate::paper::{self, Outcome, Problem, Row, BUFFER};
-use crate::programs;
+use crate::programs::{self, Written};
 use crate::tally::Tally;
 use random::Random;
 use std::fs::File;
@@ -148,7 +148,7 @@ fn failed(tally: &mut Tally) {
     quiet(tally, "a full device", programs::both_with(Stdio::null, "> /dev/full"));
 }
 
-fn quiet(tally: &mut Tally, what: &str, both: Result<[(Vec<u8>, Vec<u8>); 2], String>) {
+fn quiet(tally: &mut Tally, what: &str, both: Result<[Written; 2], String>) {
     match both {
         Err(message) => tally.fail(message, &[], &[]),
         Ok(both) => {

@@ -1,6 +1,6 @@
-//! The unproved engines and the unproved checker of benches/: what the proved ones are measured against must be right too.
+//! The unproved engines and the unproved checker of reference/: what the proved ones are measured against must be right too.
 
-use unproved::{solve_all_by, solve_by, Answered, InFull, InLists, Search};
+use reference::{solve_all_by, solve_by, Answered, InFull, InLists, Search};
 
 use super::expected_check;
 use crate::exhaustive;
@@ -78,7 +78,7 @@ fn several(tally: &mut Tally, all: &Questions) {
 }
 
 fn checker(tally: &mut Tally, problem: &[u8], answer: &[u8]) {
-    let found = unproved::checker::check(problem, answer);
+    let found = reference::checker::check(problem, answer);
     let expected = expected_check(problem, answer);
     let same = match (found, expected) {
         (Ok(accepted), Ok(Outcome::Least(span))) => accepted.class == 1 && accepted.span as i64 == span,

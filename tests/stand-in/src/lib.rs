@@ -1,4 +1,4 @@
-//! The interface of the package `span` (capi/rust) over the unproved engine of benches/, for work on the tests and the
+//! The interface of the package `span` (capi/rust) over the unproved engine of reference/, for work on the tests and the
 //! benchmark where the archive is not built. The calls and words are that package's own source; what is behind them is not.
 //! Nothing leads here from that package.
 
@@ -26,7 +26,9 @@ mod reasons;
 #[path = "../../../capi/rust/src/words.rs"]
 mod words;
 
-pub use calls::{check, read, solve, solve_all, write, ANSWER_SIZE, PROBLEM_SIZE, QUESTIONS, QUESTIONS_SIZE, STATES_SIZE};
+pub use calls::{
+    check, read, solve, solve_all, write, ANSWER_SIZE, PROBLEM_SIZE, QUESTIONS, QUESTIONS_SIZE, STATES_SIZE,
+};
 pub use census::{census, Census};
 pub use conversion::convert;
 pub use desk::{Collected, Desk, Step, DESK_MEMORY};

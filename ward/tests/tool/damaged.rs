@@ -121,7 +121,7 @@ fn random_bytes_do_no_harm() {
             .collect();
         for _ in 0..random.below(3) {
             let place = random.below(bytes.len() + 1);
-            bytes.insert(place, random.next() as u8);
+            bytes.insert(place, random.word() as u8);
         }
         let read = ward_reader::read(&bytes, &clock());
         read.remarks.iter().for_each(|remark| drop(remark.in_file("x", &read.lines)));

@@ -64,8 +64,8 @@ fn the_text_is_read_before_anything_is_built() {
     assert!(calls[0].contains("-p ward-reader -- good.txt"), "{calls:?}");
     assert_eq!(calls[1], "rt staticlib capi");
     assert!(
-        calls[2].contains(&format!("{}/ward/Cargo.toml", tree.display()))
-            && calls[2].ends_with("--bin ward -- --json good.txt"),
+        calls[2].contains(&format!("{}/Cargo.toml", tree.display()))
+            && calls[2].ends_with("-p ward -- --json good.txt"),
         "{calls:?}"
     );
 }
@@ -77,7 +77,7 @@ fn what_is_built_is_not_proved_again() {
     scratch.file("tree/target/staticlib/libcapi.a", "");
     let (told, calls) = run(&scratch, &["good.txt"]);
     assert_eq!((told.status, told.err.as_str()), (Some(0), ""), "{told:?}");
-    assert!(calls.len() == 1 && calls[0].ends_with("--bin ward -- good.txt"), "{calls:?}");
+    assert!(calls.len() == 1 && calls[0].ends_with("-p ward -- good.txt"), "{calls:?}");
     let (_, calls) = run(&scratch, &[]);
     assert!(calls[0].ends_with("-- examples/problems/bed-transfer.txt"), "{calls:?}");
 }

@@ -11,7 +11,7 @@ pub fn first_open(week: &[u64], minute: u64) -> u64 {
     let Some(z) = i64::try_from(minute).ok().map(|number| number - OFFSET).filter(|z| z.abs() <= LIMIT) else {
         return 19;
     };
-    if week.len() % 2 != 0 || week.len() / 2 > MOST_WINDOWS {
+    if !week.len().is_multiple_of(2) || week.len() / 2 > MOST_WINDOWS {
         return 19;
     }
     // Openings and closings ascend, a closing strictly, to the end of the week.
