@@ -89,7 +89,7 @@ extern "C" {
 
 #define SPAN_DESK_PLACES 16       /* the problems that a desk holds at most */
 #define SPAN_DESK_MEMORY 262304   /* bytes of memory to lend to a desk: 16 problems of SPAN_PROBLEM_SIZE */
-#define SPAN_DESK_WORDS 3348      /* words to lend to a desk for its state */
+#define SPAN_DESK_WORDS 692      /* words to lend to a desk for its state */
 #define SPAN_DESK_TICKET 3        /* the word of the state in which the ticket stands that a call tells */
 #define SPAN_DESK_FULL 21         /* span_desk_take only */
 #define SPAN_NO_TICKET 22         /* span_desk_collect only */

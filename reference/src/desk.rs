@@ -10,7 +10,7 @@ const PROBLEM: usize = 16_394;
 /// Bytes of memory that a desk is lent.
 pub const DESK_MEMORY: usize = PLACES * PROBLEM;
 /// Words that a desk is lent for its state; this one needs fewer than the proved one.
-pub const DESK_WORDS: usize = 3348;
+pub const DESK_WORDS: usize = 692;
 /// The word with the ticket that a call tells.
 pub const DESK_TICKET: usize = 3;
 

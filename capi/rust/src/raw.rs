@@ -12,7 +12,7 @@ pub const COUNTS: usize = 4;
 /// Bytes of memory that a desk is lent: 16 problems of 16,394.
 pub const DESK_MEMORY: usize = 262_304;
 /// Words that a desk is lent for its state.
-pub const DESK_WORDS: usize = 3348;
+pub const DESK_WORDS: usize = 692;
 /// The word of a desk's state in which the ticket stands that a call tells.
 pub const DESK_TICKET: usize = 3;
 

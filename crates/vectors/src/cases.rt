@@ -43,7 +43,6 @@ fn on_record(line: &[u8], bytes: &[u8], n: usize, m: usize, room: usize) {
         b'a' => answer_runs::run(line, bytes, n, m),
         b'r' => round_trips::run_read(line, bytes, n, m),
         b'e' => engine_runs::run(line, bytes, room),
-        b'm' => engine_runs::run_made(line, bytes),
         _ => (),
     }
 }

@@ -4,7 +4,6 @@ use crate::noise;
 use crate::noise::BUFFER;
 use crate::print;
 use crate::verdicts;
-use engine::made::trials_made;
 use engine::solve::Solved;
 use engine::solve::solve;
 
@@ -64,12 +63,5 @@ pub fn run(line: &[u8], problem: &[u8], room: usize) {
         }
         Solved::Refused(k) => noise::show_refused(k, &buffer),
     }
-    print::end();
-}
-
-// Prints how many trials the engine makes.
-pub fn run_made(line: &[u8], problem: &[u8]) {
-    print::edge(b"engine", line);
-    print::counted(b"trials made ", trials_made(problem));
     print::end();
 }
