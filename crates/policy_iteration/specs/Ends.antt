@@ -1,5 +1,5 @@
 -- The ends of a row: two places such that the others are blank.
-use Prim.Native.Nat.{ℕ, _+_, _*_, _/_, _%_, _≤_, _<_}
+use Prim.Native.Nat.{ℕ, _+_, _*_, _/_, _%_, _^_, _≤_, _<_}
 use mathlib.Core.Path.{_≡_}
 use mathlib.Core.Bool.{cond}
 use mathlib.Core.List.{List}
@@ -12,9 +12,9 @@ use Rattle.duality.specs.Height.{total}
 abbrev pub entry : ℕ → ℕ
 entry k = cond (eqb k 0) 0 1
 
--- How many of the first n places of a row are not blank.
-abbrev pub entriesIn : List ℕ → ℕ → ℕ → ℕ
-entriesIn table row n = total (λ l. entry (getD table (row * stride + l) 0)) n
+-- The bits of the first n places of a row that are not blank, as one number.
+abbrev pub bitsIn : List ℕ → ℕ → ℕ → ℕ
+bitsIn table row n = total (λ l. entry (getD table (row * stride + l) 0) * 2 ^ l) n
 
 -- Two places as one number, first * 32 + last; this one stands for none.
 abbrev pub wide : ℕ
@@ -23,6 +23,10 @@ wide = arcs-size
 -- Every place of the row but these two is blank.
 pub record RowEnds (table : List ℕ) (row ends : ℕ) : Type 0 where
   pub others : ends < wide → (l : ℕ) → l < stride → (l ≡ ends / stride → ⊥) → (l ≡ ends % stride → ⊥) → getD table (row * stride + l) 0 ≡ 0
+
+-- The same of every row with these bits.
+pub record BitsEnds (bits ends : ℕ) : Type 0 where
+  pub row : (table : List ℕ) (row : ℕ) → bits ≡ bitsIn table row stride → RowEnds table row ends
 
 -- The ends of the first rows of a table.
 pub record EndsOf (table : List ℕ) (rows : ℕ) (ends : List ℕ) : Type 0 where

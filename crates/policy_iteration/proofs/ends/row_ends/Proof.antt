@@ -8,11 +8,10 @@ row-ends-spec =
     tie.close
     (tie.spec
     (λ c κs. search needs)
-    (λ c. ends-wide _ _)
-    (λ c. let a = c .before .before .before .before .before .args in ends-none (a .table .now) (a .row) _ (c .before .before .before .before .entries-of .ensures) (c .if2 .taken))
+    (λ c. let a = c .before .before .args in ends-none (a .table .now) (a .row) _ (c .before .bits-of .ensures) (c .if1 .taken))
     (λ c. ends-wide _ _)
     (λ c. ends-wide _ _)
     (λ c. search needs)
     (λ c. search needs)
     (λ c κs. search needs)
-    (λ c. search needs))
+    (λ c. c .tested .ensures .row _ _ (c .before .before .before .before .bits-of .ensures)))
