@@ -16,6 +16,9 @@ use records::limits::TABLE;
 // Where the first list does not hold a variable: so far from 0 that a second side that depends on it shows every trial possible.
 const FAR: u32 = LOW + (SPAN_LIMIT + 1 + LEAD_LIMIT + (STRIDE_64 - 1) * 2 * LEAD_LIMIT) as u32;
 
+// Less an offset number: the low number of its opposite.
+const OPPOSITE: u32 = LOW + HALF;
+
 // Every cap is 0.
 pub fn level_caps() -> [u32; STRIDE]
     ensures { λ r. ⌜ r ≡ level ⌝ }
@@ -28,7 +31,7 @@ fn cap_for(k: u32) -> u32
     requires { ⌜ Near lead-limit k ⌝ }
     ensures { λ r. ⌜ r ≡ capFor k ⌝ }
 {
-    if k == 0 { FAR } else { LOW + HALF - k }
+    if k == 0 { FAR } else { OPPOSITE - k }
 }
 
 // The caps that the first list sets: the objective's row of the left table.
