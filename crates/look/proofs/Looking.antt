@@ -10,6 +10,7 @@ use native.Mathlib.Numerals.{add-one}
 use lib.ListN.{length, getD, replicate, length-replicate, getD-replicate}
 use lib.IntN.{ℤ, pos, negℤ, subℕ}
 use lib.Signed.{_≤ℤ_}
+use borrow.Author.Tests.{eq-eqb, ne-eqb}
 use Rattle.base.proofs.Numbers.{nat-le-or-lt}
 use Rattle.definitions.specs.Limits.{signed-half, signed-full, lead-limit, span-limit}
 use Rattle.definitions.specs.Tropical.{Trop, bot, fin, plus, largest, _⊑_, whole-least, Finite}
@@ -24,6 +25,7 @@ use Rattle.duality.specs.Values.{values, Policy}
 use Rattle.duality.specs.Within.{Within, lower}
 use Rattle.duality.specs.Look.{Capped, Far, secondAt}
 use Rattle.duality.proofs.Ends.{none-policy}
+use Rattle.duality.proofs.Starts.{blocks-from}
 use Rattle.duality.proofs.Attain.{joint-attainable}
 use Rattle.duality.proofs.Look.{look-solves, look-blocks, look-blank}
 use Rattle.policy_iteration.specs.Tables.{entryOf, systemOf, pointOf, pickOf, capOf, cap-limit, side-most, high, highs, Tables}
@@ -34,10 +36,33 @@ use Rattle.search.specs.Trials.{wholeOf, Trialled, PossibleBy}
 use Rattle.look.specs.declared.frame.Frame.{Frame}
 use Rattle.look.specs.declared.greatest.Look.{Look}
 use Rattle.look.specs.Frames.{Coefficients, Ready, Held}
-use Rattle.look.specs.Look.{CapsFor, rulesIn, secondIn, Under, Decided, Looked}
+use Rattle.look.specs.Look.{CapsFor, startFor, rulesIn, secondIn, Under, Decided, Looked}
 use Rattle.look.proofs.Agree.{Agree, agree-sym, agree-solves, agree-values, agree-policy}
 use Rattle.look.proofs.Tables.{held-within, caps-capped, agree-rules}
-use Rattle.look.proofs.SecondList.{second-coefficient}
+use Rattle.look.proofs.SecondList.{number-finite, second-coefficient}
+
+-- ---- the start
+
+pub start-blank : (right : List ℕ) (row second : ℕ) → second ≡ 0 → startFor right row second ≡ 1
+unfolding startFor
+start-blank right row second e = rw (eq-eqb second 0 e)
+
+pub start-second : (right : List ℕ) (row second : ℕ) → (second ≡ 0 → ⊥) → getD right (row * 32) 0 ≡ 0 → 1 ≡ startFor right row second
+unfolding startFor
+start-second right row second d e = rw (ne-eqb second 0 d, eq-eqb (getD right (row * 32) 0) 0 e)
+
+pub start-anchor : (right : List ℕ) (row second : ℕ) → (second ≡ 0 → ⊥) → (getD right (row * 32) 0 ≡ 0 → ⊥) → 0 ≡ startFor right row second
+unfolding startFor
+start-anchor right row second d e = rw (ne-eqb second 0 d, ne-eqb (getD right (row * 32) 0) 0 e)
+
+start-one : (right : List ℕ) (row second : ℕ) → startFor right row second ≤ 1
+start-one right row second = ⊎-elim
+    (λ (e : second ≡ 0). omega (arith, start-blank right row second e))
+    (λ (h : 0 < second). ⊎-elim
+    (λ (e : getD right (row * 32) 0 ≡ 0). omega (arith, start-second right row second (λ z. omega arith) e))
+    (λ (k : 0 < getD right (row * 32) 0). omega (arith, start-anchor right row second (λ z. omega arith) (λ z. omega arith)))
+    (eq-zero-or-pos (getD right (row * 32) 0)))
+    (eq-zero-or-pos second)
 
 -- ---- the iteration under caps
 
@@ -70,7 +95,7 @@ module _ (f : Frame) (left right caps : List ℕ) (x picks : List ℕ)
 
   -- Else the second side is told.
   pub under-second : (r : ℕ) → (getD x 0 0 ≡ 0 → ⊥) → SideIs right (f .m) (highs x) (f .n + 1) r
-      → Under f left right caps (record { start = 1; second = high r; picks = picks })
+      → Under f left right caps (record { start = startFor right (f .m) (high r); second = high r; picks = picks })
   under-second r h s = record {
     size = d .size;
     picked = pick-from;
@@ -80,7 +105,7 @@ module _ (f : Frame) (left right caps : List ℕ) (x picks : List ℕ)
     whole-anchor = λ _ b. absurd (bot-not-fin (sym b ∙ value-is 0 (omega arith) ∙ trop-fin (high (getD x 0 0)) first));
     whole-second = λ _. side-is;
     whole-solves = λ _ i b. solves i b;
-    blank = λ e. inr (refl, sym side-is ∙ rw e trop-zero);
+    blank = λ e. inr (start-blank right (f .m) (high r) e, sym side-is ∙ rw e trop-zero);
   }
     where
       first : 0 < high (getD x 0 0)
@@ -205,9 +230,10 @@ module _ {p : Problem} {f : Frame} {left right caps : List ℕ} {g : Look} (q : 
   unfolding startOf
   capped-impossible t b d = ⊎-elim
       (λ (e : g .second ≡ 0). under-blocks q u e (wholeOf t))
-      (λ (h : 0 < g .second). rw (u .whole-start h)
-      (look-blocks p lead-limit span-limit cap-limit (capOf caps) (held-within q c) far (caps-capped q c s) (pickOf (g .picks)) kept picks (wholeOf t) (trial-lowest t b)
-      (λ z. d (shows-possible (g .second) t (⊑-trans z (⊑-of-eq (sym (second-is h))))))))
+      (λ (h : 0 < g .second). rw (u .whole-start h) (⊎-elim
+      (λ (e : getD right (f .m * 32) 0 ≡ 0). rw (← start-second right (f .m) (g .second) (λ z. omega arith) e) (from-second h))
+      (λ (k : 0 < getD right (f .m * 32) 0). rw (← start-anchor right (f .m) (g .second) (λ z. omega arith) (λ z. omega arith)) (blocks-from (anchor-second k) (from-second h)))
+      (eq-zero-or-pos (getD right (f .m * 32) 0))))
       (eq-zero-or-pos (g .second))
     where
       far : Far (p .n) lead-limit span-limit cap-limit
@@ -216,12 +242,22 @@ module _ {p : Problem} {f : Frame} {left right caps : List ℕ} {g : Look} (q : 
       picks : (j : ℕ) → j ≤ p .n → pickOf (g .picks) j ≤ p .m
       picks j h = omega (arith, q .m-is, u .picked j (omega (arith, c .n-most, q .n-is)))
 
+      from-second : 0 < g .second → Blocks (systemAt p (wholeOf t)) (Second p) (pickOf (g .picks))
+      from-second h =
+          look-blocks p lead-limit span-limit cap-limit (capOf caps) (held-within q c) far (caps-capped q c s) (pickOf (g .picks)) kept picks (wholeOf t) (trial-lowest t b)
+          (λ z. d (shows-possible (g .second) t (⊑-trans z (⊑-of-eq (sym (second-is h))))))
+
+      anchor-second : 0 < getD right (f .m * 32) 0 → (j : ℕ) → Anchor j → Second p j
+      anchor-second k j a =
+          let e : f .m * 32 + 0 ≡ f .m * 32 = omega arith in
+          rw a (record { inside = omega arith; right = subst Finite (second-coefficient q 0 (omega arith)) (number-finite _ .1 (rw e k)) })
+
 -- ---- the look
 
 start-few : {f : Frame} {left right caps : List ℕ} {g : Look} → Under f left right caps g → g .start ≤ 1
-start-few {g = g} u = ⊎-elim
+start-few {f} {right = right} {g = g} u = ⊎-elim
     (λ (e : g .second ≡ 0). ⊎-elim (λ z. omega (arith, z .0)) (λ z. omega (arith, z .0)) (u .blank e))
-    (λ (h : 0 < g .second). omega (arith, u .whole-start h))
+    (λ (h : 0 < g .second). rw (u .whole-start h) (start-one right (f .m) (g .second)))
     (eq-zero-or-pos (g .second))
 
 -- No span is possible.

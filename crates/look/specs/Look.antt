@@ -44,6 +44,10 @@ rulesIn f left right caps = systemOf left right caps (f .n + 1) (f .m)
 abbrev pub secondIn : Frame → List ℕ → List ℕ → List ℕ → Point → Trop
 secondIn f left right caps x = sideOf (rulesIn f left right caps) (entryOf right (f .m)) x
 
+-- The start from which what is not possible is blocked: the second list, 1; where the anchor is of it, the anchor alone, 0.
+unfoldable pub startFor : List ℕ → ℕ → ℕ → ℕ
+startFor right row second = cond (eqb second 0) 1 (cond (eqb (getD right (row * stride) 0) 0) 1 0)
+
 -- The greatest point under caps, as the values of a strategy that is kept: a pick is an inequality, or m for none. Where the second side is not
 -- blank, and variable 0 has a value, the point solves the inequalities; else the second side is told as blank, 0.
 pub record Under (f : Frame) (left right caps : List ℕ) (g : Look) : Type 0 where
@@ -51,7 +55,7 @@ pub record Under (f : Frame) (left right caps : List ℕ) (g : Look) : Type 0 wh
   pub picked : (j : ℕ) → j < stride → pickOf (g .picks) j ≤ f .m
   pub policy : Policy (rulesIn f left right caps) (pickOf (g .picks))
   pub second-most : g .second < signed-full
-  pub whole-start : 0 < g .second → g .start ≡ 1
+  pub whole-start : 0 < g .second → g .start ≡ startFor right (f .m) (g .second)
   pub whole-anchor : 0 < g .second → values (rulesIn f left right caps) (pickOf (g .picks)) 0 ≡ bot → ⊥
   pub whole-second : 0 < g .second → tropOf (g .second) ≡ secondIn f left right caps (values (rulesIn f left right caps) (pickOf (g .picks)))
   pub whole-solves : 0 < g .second → Solves (rulesIn f left right caps) (values (rulesIn f left right caps) (pickOf (g .picks)))

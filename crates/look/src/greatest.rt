@@ -1,10 +1,12 @@
 // One look: the greatest point that keeps the inequalities under the caps of the first list. Its second side S decides every trial:
 // a span of at most t is possible exactly when −t is at most S.
 ghost use mathlib.Core.Path.{_≡_};
-ghost use Prim.Native.Nat.{_+_, _≤_};
+ghost use Prim.Native.Nat.{_+_, _<_};
+ghost use lib.ListN.{length};
+ghost use Rattle.definitions.specs.Limits.{table-size, table-rows};
 ghost use Rattle.policy_iteration.specs.Tables.{Caps};
 ghost use Rattle.look.specs.Frames.{Ready};
-ghost use Rattle.look.specs.Look.{Under, Looked};
+ghost use Rattle.look.specs.Look.{startFor, Under, Looked};
 use crate::caps::caps_of;
 use crate::caps::level_caps;
 use crate::frame::Frame;
@@ -21,6 +23,17 @@ pub struct Look {
     pub start: u64,
     pub second: u64,
     pub picks: [usize; STRIDE],
+}
+
+// The start from which what is not possible is blocked: the second list, 1; where the anchor is of it, the anchor alone is enough, 0.
+fn start_for(right: &[u32; TABLE], row: usize, second: u64) -> u64
+    requires { ⌜ (length (now right) ≡ table-size) × (row < table-rows) ⌝ }
+    ensures { λ r. ⌜ r ≡ startFor (now (right .entry)) row second ⌝ }
+{
+    if second == 0 {
+        return 1;
+    }
+    if right[row * STRIDE] == 0 { 1 } else { 0 }
 }
 
 // The greatest point that keeps the inequalities under caps. A variable without a pick has the number m.
@@ -57,7 +70,7 @@ fn greatest_under(
     let row = frame.m;
     let second = high_of(side(right, rights[row], row, &values, frame.n + 1));
     Look {
-        start: 1,
+        start: start_for(right, row, second),
         second,
         picks,
     }

@@ -30,5 +30,6 @@ greatest-under-spec =
       y .right-ends .each (a .frame .m) (omega arith),
     ))
     (λ c κs. search needs)
-    (λ c. let a = c .before .before .before .before .before .before .before .before .before .before .before .before .before .args in let end = c .before .before .before .before .before .before .before .iterate in
-    rw (c .high-of .ensures) (under-second (a .frame) (a .left .now) (a .right .now) (a .caps .now) (end .result .values) (end .result .picks) (end .ensures) (c .before .side .result) (c .before .before .before .before .if1 .left) (c .before .side .ensures))))
+    (λ c κs. let y = c .before .before .before .before .before .before .before .before .before .before .before .before .before .pre .0 .coefficients in (y .rights .size, omega (arith, y .m-most)))
+    (λ c. let a = c .before .before .before .before .before .before .before .before .before .before .before .before .before .before .args in let end = c .before .before .before .before .before .before .before .before .iterate in
+    rw (c .start-for .ensures, c .before .high-of .ensures) (under-second (a .frame) (a .left .now) (a .right .now) (a .caps .now) (end .result .values) (end .result .picks) (end .ensures) (c .before .before .side .result) (c .before .before .before .before .before .if1 .left) (c .before .before .side .ensures))))
