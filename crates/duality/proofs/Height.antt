@@ -125,10 +125,14 @@ module _ (s : System) (C : ℕ) (bounded : Bounded s C) where
   unfolding values
   values-floor τ j h = value-floor (weights s τ) (exits s τ) (s .variables) (2 * C) C (weight-floor τ) (λ j h. exit-floor s C (τ j) j (bounded .caps j h)) (s .variables) j h
 
-  -- A step that switches a variable lowers the height.
+  -- Values that fall, somewhere strictly, lower the height.
+  pub height-lower : (τ τ′ : Strategy) → ((j : ℕ) → j < s .variables → values s τ′ j ⊑ values s τ j)
+      → (j : ℕ) → j < s .variables → ((values s τ j ⊑ values s τ′ j) → ⊥) → height s C τ′ < height s C τ
+  unfolding height
+  height-lower τ τ′ falls j h c =
+      total-falls _ _ (s .variables) j (λ j i. rank-mono (depth s C) (falls j i)) h (rank-strict (depth s C) _ _ (values-floor τ j h) c)
+
+  -- A step that switches a variable does.
   pub height-falls : (τ τ′ : Strategy) → Policy s τ → Switch s τ τ′ → (j : ℕ) → j < s .variables → Switched s τ τ′ j
       → height s C τ′ < height s C τ
-  unfolding height
-  height-falls τ τ′ policy switch j h c =
-      total-falls _ _ (s .variables) j (λ j i. rank-mono (depth s C) (next-falls s τ τ′ policy switch j i)) h
-      (rank-strict (depth s C) _ _ (values-floor τ j h) (next-strict s τ τ′ policy switch j h c))
+  height-falls τ τ′ policy switch j h c = height-lower τ τ′ (next-falls s τ τ′ policy switch) j h (next-strict s τ τ′ policy switch j h c)

@@ -7,6 +7,7 @@ pub mod Longest
 pub mod Sweeps
 pub mod Weights
 pub mod Policy
+pub mod Falling
 pub mod Ends
 pub mod Look
 pub mod Height

@@ -9,5 +9,6 @@ pub mod Induced
 pub mod Classes
 pub mod Gains
 pub mod Sweeps
+pub mod Falling
 pub mod OlderProblems
 pub mod Look

@@ -12,6 +12,7 @@ use Rattle.records.specs.Decoded.{Near}
 use Rattle.policy_iteration.specs.Tables.{value-limit, low-half, fold-least, side-least, high}
 use Rattle.policy_iteration.specs.Steps.{Stands, Costs, Gives, blank-top}
 use Rattle.policy_iteration.proofs.Low.{high-zero, high-whole}
+use Rattle.policy_iteration.proofs.Rounds.{given-blank-side, given-whole}
 
 -- ---- what a row gives a variable
 
@@ -63,11 +64,8 @@ cost-whole side left n d k = record { fails = fails; stands = λ v m h. ⊎-elim
 -- ---- the same on low numbers
 
 -- A row that does not hold the variable stands there: its top is above every value.
-never-lower : (side top v : ℕ) → signed-half ≤ top → Near value-limit (high v) → v ≤ top
-never-lower side top v h m = ⊎-elim (λ (z : v ≡ 0). omega arith) (λ (q : 0 < v). omega (arith, high-whole v q, m .hi)) (eq-zero-or-pos v)
-
-never-fails : (side top v : ℕ) → signed-half ≤ top → Near value-limit (high v) → top - 0 < v → ⊥
-never-fails side top v h m l = omega (arith, never-lower side top v h m)
+never-lower : (top v : ℕ) → low-half + value-limit ≤ top → Near value-limit (high v) → v ≤ top
+never-lower top v h m = ⊎-elim (λ (z : v ≡ 0). omega arith) (λ (q : 0 < v). omega (arith, high-whole v q, m .hi)) (eq-zero-or-pos v)
 
 stands-blank : (side v : ℕ) → Near value-limit (high v) → Stands (high side) 0 (high v)
 stands-blank side v m = cost-never (high side) .stands (high v) m (omega (arith, m .hi))
@@ -79,31 +77,36 @@ not-zero h e = omega arith
 pub gives-blank : Gives 0 blank-top
 gives-blank = record {
   fails = λ left v n m h s. ⊎-elim
-      (λ (z : left ≡ 0). never-fails 0 blank-top v (omega arith) m (omega arith))
+      (λ (z : left ≡ 0). omega (arith, never-lower blank-top v (omega arith) m))
       (λ (p : 0 < left). cost-blank left n (not-zero p) .fails (high v) m (omega (arith, high-whole v (omega arith))) (rw high-zero at s))
       (eq-zero-or-pos left);
   stands = λ left v n m h. ⊎-elim
       (λ (z : left ≡ 0). rw z (stands-blank 0 v m))
-      (λ (p : 0 < left). rw high-zero (cost-blank left n (not-zero p) .stands (high v) m (none left v n m h p)))
+      (λ (p : 0 < left). rw high-zero (cost-blank left n (not-zero p) .stands (high v) m (none left v n h p)))
+      (eq-zero-or-pos left);
+  is = λ left v n m h. ⊎-elim
+      (λ (z : left ≡ 0). absurd (omega (arith, never-lower blank-top v (omega arith) m)))
+      (λ (p : 0 < left). let e : blank-top - left ≡ 0 = omega (arith, n .lo p) in rw e (given-blank-side left))
       (eq-zero-or-pos left);
 }
   where
-    none : (left v : ℕ) → Near lead-limit left → Near value-limit (high v) → v ≤ blank-top - left → 0 < left → high v ≤ 0
-    none left v n m h p = ⊎-elim
-        (λ (z : v ≡ 0). let e : high v ≡ 0 = rw z high-zero in omega arith)
-        (λ (q : 0 < v). let e : high v ≡ v + low-half = high-whole v q in absurd (omega (arith, m .lo (omega arith), n .lo p)))
-        (eq-zero-or-pos v)
+    none : (left v : ℕ) → Near lead-limit left → v ≤ blank-top - left → 0 < left → high v ≤ 0
+    none left v n h p = let e : v ≡ 0 = omega (arith, n .lo p) in let z : high v ≡ 0 = rw e high-zero in omega arith
 
 -- A whole right side.
 pub gives-whole : (side : ℕ) → side-least ≤ side → Gives side (side + signed-half)
 gives-whole side k = record {
   fails = λ left v n m h s. ⊎-elim
-      (λ (z : left ≡ 0). never-fails side (side + signed-half) v (omega arith) m (omega arith))
+      (λ (z : left ≡ 0). omega (arith, never-lower (side + signed-half) v (omega arith) m))
       (λ (p : 0 < left). costs left n p .fails (high v) m (omega (arith, up, high-whole v (omega arith), n .hi)) s)
       (eq-zero-or-pos left);
   stands = λ left v n m h. ⊎-elim
       (λ (z : left ≡ 0). rw z (stands-blank side v m))
       (λ (p : 0 < left). costs left n p .stands (high v) m (most left v n h))
+      (eq-zero-or-pos left);
+  is = λ left v n m h. ⊎-elim
+      (λ (z : left ≡ 0). absurd (omega (arith, never-lower (side + signed-half) v (omega arith) m)))
+      (λ (p : 0 < left). given-whole side left k p (n .hi))
       (eq-zero-or-pos left);
 }
   where

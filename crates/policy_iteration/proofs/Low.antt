@@ -27,6 +27,12 @@ high-mono a b h = ⊎-elim
     (λ (p : 0 < a). omega (arith, high-whole a p, high-whole b (omega arith)))
     (eq-zero-or-pos a)
 
+pub high-strict : (a b : ℕ) → a < b → high a < high b
+high-strict a b h = ⊎-elim
+    (λ (e : a ≡ 0). let z : high a ≡ 0 = rw e high-zero in omega (arith, high-whole b (omega arith)))
+    (λ (p : 0 < a). omega (arith, high-whole a p, high-whole b (omega arith)))
+    (eq-zero-or-pos a)
+
 pub high-blank : (k : ℕ) → high k ≡ 0 → k ≡ 0
 high-blank k e = ⊎-elim (λ z. z) (λ (p : 0 < k). absurd (omega (arith, high-whole k p))) (eq-zero-or-pos k)
 

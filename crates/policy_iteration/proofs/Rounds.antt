@@ -23,7 +23,7 @@ use Rattle.duality.specs.System.{System}
 use Rattle.duality.specs.Values.{difference, valueAt, exitBy, valuesAfter, values}
 use Rattle.duality.proofs.Weights.{difference-bot, exit-picked, exit-terminal, round-picked, round-terminal, values-still}
 use Rattle.records.specs.Decoded.{Near}
-use Rattle.policy_iteration.specs.Tables.{entryOf, systemOf, pointOf, pickOf, raised-limit, cap-limit, value-limit, low-half, low-fold, side-most, side-least, high, highs, Ranged, Lows, Caps, Tables}
+use Rattle.policy_iteration.specs.Tables.{entryOf, systemOf, pointOf, pickOf, raised-limit, cap-limit, first-limit, low-half, low-fold, side-most, side-least, high, highs, Ranged, Lows, Within, Caps, Tables}
 use Rattle.policy_iteration.specs.Rounds.{folded, exitNumber, PickedSum, PickedLeft, PickedSums, PickedLefts, steppedBy, Stepped, Exits, Level, ValuesIs, SameUpTo}
 use Rattle.policy_iteration.proofs.Low.{high-zero, high-whole, high-blank, highs-at, highs-size, filled-highs}
 use Rattle.policy_iteration.proofs.Fold.{folded-low, folded-high}
@@ -161,15 +161,15 @@ level-more left right caps picks x y width rows i f g = rw add-one (filled-map t
         (nat-le-or-lt rows (pickOf picks j))
 
 -- After at most 32 rounds the values are within their limit.
-pub level-ranged : (left right caps picks x : List ℕ) (width rows i : ℕ) → Tables left right width rows → Caps width caps → i ≤ width
-    → Level (systemOf left right caps width rows) (pickOf picks) i x → Ranged x
-level-ranged left right caps picks x width rows i t g h f = record { size = f .size-is; near = λ k. ⊎-elim (past k) (inside k) (nat-le-or-lt width k) }
+level-near : (left right caps picks x : List ℕ) (width rows i : ℕ) → Tables left right width rows → Caps width caps → i ≤ width
+    → Level (systemOf left right caps width rows) (pickOf picks) i x → (k : ℕ) → Near first-limit (getD x k 0)
+level-near left right caps picks x width rows i t g h f k = ⊎-elim past inside (nat-le-or-lt width k)
   where
-    past : (k : ℕ) → width ≤ k → Near value-limit (getD x k 0)
-    past k b = rw (f .rest k b) (record { hi = omega arith; lo = λ p. absurd (omega arith) })
+    past : width ≤ k → Near first-limit (getD x k 0)
+    past b = rw (f .rest k b) (record { hi = omega arith; lo = λ p. absurd (omega arith) })
 
-    inside : (k : ℕ) → k < width → Near value-limit (getD x k 0)
-    inside k b = small-near value-limit (getD x k 0) (rw (f .each k b) (small-more
+    inside : k < width → Near first-limit (getD x k 0)
+    inside b = small-near first-limit (getD x k 0) (rw (f .each k b) (small-more
         (omega (arith, t .width-most, mul-le-mul-right (raised-limit + lead-limit) h, mul-le-mul-right (raised-limit + lead-limit) (t .width-most)))
         (rounds-small (systemOf left right caps width rows) lead-limit raised-limit cap-limit
         (λ i j. near-small lead-limit _ (t .lefts .near (i * 32 + j)))
@@ -177,7 +177,22 @@ level-ranged left right caps picks x width rows i t g h f = record { size = f .s
         (λ j b. near-abs cap-limit (high (getD caps j 0)) (omega (arith, high-whole (getD caps j 0) (g .whole j b), g .whole j b)) (g .near j b))
         (pickOf picks) i k b)))
 
+pub level-ranged : (left right caps picks x : List ℕ) (width rows i : ℕ) → Tables left right width rows → Caps width caps → i ≤ width
+    → Level (systemOf left right caps width rows) (pickOf picks) i x → Ranged x
+level-ranged left right caps picks x width rows i t g h f = record {
+  size = f .size-is;
+  near = λ k. let n = level-near left right caps picks x width rows i t g h f k in record { hi = omega (arith, n .hi); lo = λ p. omega (arith, n .lo p) };
+}
+
 -- The same of an array of low values.
+pub level-within : (left right caps picks x : List ℕ) (width rows i : ℕ) → Tables left right width rows → Caps width caps → i ≤ width
+    → Level (systemOf left right caps width rows) (pickOf picks) i (highs x) → Within first-limit width x
+level-within left right caps picks x width rows i t g h f = record {
+  size = highs-size x 32 (f .size-is);
+  near = λ k. rw (highs-at x k) at (level-near left right caps picks (highs x) width rows i t g h f k);
+  rest = λ k b. high-blank (getD x k 0) (sym (highs-at x k) ∙ f .rest k b);
+}
+
 pub level-lows : (left right caps picks x : List ℕ) (width rows i : ℕ) → Tables left right width rows → Caps width caps → i ≤ width
     → Level (systemOf left right caps width rows) (pickOf picks) i (highs x) → Lows width x
 level-lows left right caps picks x width rows i t g h f = record {

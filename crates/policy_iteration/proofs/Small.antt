@@ -46,7 +46,7 @@ small-fin d z h = record { size = λ y e. rw (sym (fin-injective e)) h }
 pub small-more : {c d : ℕ} {x : Trop} → c ≤ d → Small c x → Small d x
 small-more h s = record { size = λ z e. omega (arith, s .size z e) }
 
-small-plus : {c d : ℕ} (x y : Trop) → Small c x → Small d y → Small (c + d) (plus x y)
+pub small-plus : {c d : ℕ} (x y : Trop) → Small c x → Small d y → Small (c + d) (plus x y)
 unfolding plus
 small-plus {c} {d} bot y s t = small-bot (c + d)
 small-plus {c} {d} (fin a) bot s t = small-bot (c + d)
@@ -55,7 +55,7 @@ small-plus {c} {d} (fin a) (fin b) s t =
     (omega (arith, plus-read a b, abs-read a, abs-read b, s .size a refl, t .size b refl))
     (omega (arith, plus-read a b, abs-read a, abs-read b, s .size a refl, t .size b refl)))
 
-small-difference : {c d : ℕ} (x y : Trop) → Small c x → Small d y → Small (c + d) (difference x y)
+pub small-difference : {c d : ℕ} (x y : Trop) → Small c x → Small d y → Small (c + d) (difference x y)
 unfolding difference
 small-difference {c} {d} bot y s t = small-bot (c + d)
 small-difference {c} {d} (fin a) bot s t = small-bot (c + d)
@@ -67,7 +67,7 @@ small-difference {c} {d} (fin a) (fin b) s t =
 small-larger : {d : ℕ} (x y : Trop) → Small d x → Small d y → Small d (larger x y)
 small-larger x y s t = ⊎-elim (λ e. rw e s) (λ e. rw e t) (larger-one x y)
 
-small-largest : {d : ℕ} (f : ℕ → Trop) (n : ℕ) → ((j : ℕ) → j < n → Small d (f j)) → Small d (largest f n)
+pub small-largest : {d : ℕ} (f : ℕ → Trop) (n : ℕ) → ((j : ℕ) → j < n → Small d (f j)) → Small d (largest f n)
 unfolding largest
 small-largest {d} f zero h = small-bot d
 small-largest f (suc n) h = small-larger (largest f n) (f n) (small-largest f n (λ j i. h j (omega arith))) (h n (omega arith))

@@ -1,225 +1,287 @@
--- Laws of a step of the policy iteration, and of its end.
-use Prim.Native.Nat.{ℕ, _+_, _*_, _≤_, _<_}
+-- Laws of a row that lowers values in place, of a pass over the rows, and of the iteration and its end.
+use Prim.Native.Nat.{ℕ, zero, suc, _+_, _*_, _≤_, _<_}
 use mathlib.Core.Path.{_≡_, refl, sym, ap, subst, _∙_}
-use mathlib.Core.Bool.{Bool, true, false}
 use mathlib.Core.Logic.{_⊎_, inl, inr, ⊎-elim}
-use mathlib.Core.List.{List, []}
+use mathlib.Core.List.{List, [], _∷_}
 use native.Mathlib.Omega.{arith}
-use lib.ListN.{length, getD, set, replicate, length-set, length-replicate}
-use lib.Seq.{getD-set-same, getD-set-other}
-use Rattle.base.proofs.Numbers.{nat-le-or-lt}
+use lib.ListN.{length, getD, length-map}
+use borrow.Author.Tests.{lt-ltb, le-ltb}
+use Rattle.base.proofs.Numbers.{nat-le-or-lt, positive}
+use Rattle.base.proofs.Filled.{filled-map}
 use Rattle.definitions.specs.Limits.{lead-limit}
 use Rattle.definitions.specs.Tropical.{Trop, plus, largest, _⊑_, blank-least}
 use Rattle.definitions.specs.Problem.{Point}
-use Rattle.definitions.specs.Certificate.{Strategy}
 use Rattle.definitions.specs.Offset.{tropOf}
-use Rattle.definitions.proofs.Tropical.{⊑-trans, largest-above, largest-ext}
-use Rattle.definitions.proofs.Offset.{trop-order, plus-trop-zero}
-use Rattle.duality.specs.System.{System, sideOf}
-use Rattle.duality.specs.Values.{values, Policy, Fails, Switched, Switch}
+use Rattle.definitions.proofs.Tropical.{⊑-refl, ⊑-trans, ⊑-of-eq, largest-above, largest-ext, Attains, largest-attained}
+use Rattle.definitions.proofs.Offset.{trop-zero, trop-order, plus-trop-zero}
+use Rattle.duality.specs.System.{System, sideOf, Solves}
+use Rattle.duality.specs.Values.{difference, values, Policy, Fails}
 use Rattle.duality.specs.Height.{Bounded, height}
-use Rattle.duality.proofs.Policy.{next-policy}
-use Rattle.duality.proofs.Height.{height-falls}
+use Rattle.duality.specs.Falling.{Falling, Stays, Falls, RowFalls, Alike}
+use Rattle.duality.proofs.Falling.{values-falling, falling-over, falling-policy, falling-values, row-falling, alike-values, alike-policy}
+use Rattle.duality.proofs.Height.{height-lower}
 use Rattle.duality.proofs.Ends.{finished}
 use Rattle.records.specs.Decoded.{Near}
-use Rattle.policy_iteration.specs.Tables.{entryOf, systemOf, pointOf, pickOf, raised-limit, cap-limit, value-limit, high, highs, Table, Ranged, Lows, Caps, Tables}
+use Rattle.policy_iteration.specs.Tables.{entryOf, systemOf, pointOf, pickOf, raised-limit, cap-limit, turn-limit, first-limit, value-limit, high, highs, Table, Ranged, Lows, Within, Caps, Tables}
 use Rattle.policy_iteration.specs.Rounds.{SideIs, ValuesIs}
-use Rattle.policy_iteration.specs.Steps.{Stands, Gives, lesser, chosenBy, givenBy, LoweredAt, LoweredBy, SoughtAt, Sought, FailsNow, Improved, Iterated}
-use Rattle.policy_iteration.proofs.Low.{high-zero, high-whole, high-mono, highs-at}
-use Rattle.policy_iteration.proofs.Small.{near-small, near-abs}
-use Rattle.policy_iteration.proofs.Rounds.{false-not-true, level-ranged, level-lows}
+use Rattle.policy_iteration.specs.Steps.{Stands, Gives, givenBy, LoweredPlace, LoweredAt, LoweredBy, Lower, AllStand, Passing, Passed, SamePick, widePick, Narrowed, Widened, Iterated}
+use Rattle.policy_iteration.proofs.Low.{high-zero, high-whole, high-mono, high-strict, highs-at}
+use Rattle.policy_iteration.proofs.Small.{Small, near-small, near-abs, small-near, small-more, small-plus, small-difference, small-largest}
+use Rattle.policy_iteration.proofs.Rounds.{level-ranged, level-lows, level-within}
 use Rattle.policy_iteration.proofs.Lowering.{lesser-first, lesser-second, chosen-first, chosen-second}
 
--- ---- the search for failing rows
+-- ---- ranges
 
-pub sought-none : (s : System) (x : List ℕ) → length x ≡ 32 → Sought s x 0 x (replicate 32 0)
-sought-none s x e = record {
-  least-size = e;
-  chosen-size = length-replicate {A = ℕ} 32 0;
-  each = λ j h. record { low = omega arith; picked = λ l. absurd (omega arith); fails = λ l. absurd (omega arith); stand = λ l i k. absurd (omega arith) };
+past : (l : List ℕ) (k : ℕ) → length l ≤ k → getD l k 0 ≡ 0
+past [] k h = refl
+past (v ∷ l) zero h = absurd (omega arith)
+past (v ∷ l) (suc k) h = past l k (omega arith)
+
+pub within-more : {c d width : ℕ} {x : List ℕ} → c ≤ d → Within c width x → Within d width x
+within-more h w = record {
+  size = w .size;
+  near = λ k. record { hi = omega (arith, w .near k .hi); lo = λ p. omega (arith, w .near k .lo p) };
+  rest = w .rest;
 }
 
-module _ (left right x : List ℕ) (width rows n side : ℕ) (t : Tables left right width rows) (g : Ranged (highs x)) (h : n < rows)
-    (si : SideIs right n (highs x) width side) where
+pub within-lows : {d width : ℕ} {x : List ℕ} → d ≤ value-limit → Within d width x → Lows width x
+within-lows {d} {width} {x} h w = let v = within-more h w in record {
+  size = w .size;
+  ranged = record { size = length-map x high ∙ w .size; near = λ k. rw (highs-at x k) (v .near k) };
+  rest = w .rest;
+}
+
+-- ---- a row
+
+-- Row n has left variable j as it was: it stands there,
+record KeptHere (left right : List ℕ) (width rows n : ℕ) (x picks x′ picks′ : List ℕ) (j : ℕ) : Type 0 where
+  value : getD x′ j 0 ≡ getD x j 0
+  pick : pickOf picks′ j ≡ pickOf picks j
+  stands : j < width → plus (entryOf left n j) (pointOf (highs x) j) ⊑ sideOf (systemOf left right [] width rows) (entryOf right n) (pointOf (highs x))
+
+-- or has lowered it: it fails there.
+record FellHere (left right : List ℕ) (width rows n : ℕ) (x picks x′ picks′ : List ℕ) (j : ℕ) : Type 0 where
+  inside : j < width
+  lower : getD x′ j 0 < getD x j 0
+  pick : pickOf picks′ j ≡ n
+  fails : Fails (systemOf left right [] width rows) (pointOf (highs x)) n j
+  value : pointOf (highs x′) j ≡ difference (sideOf (systemOf left right [] width rows) (entryOf right n) (pointOf (highs x))) (entryOf left n j)
+
+module _ (left right : List ℕ) (width rows n : ℕ) (t : Tables left right width rows) (h : n < rows) (x picks : List ℕ) (g : Lows width x) (s : length picks ≡ 32)
+    (here there : ℕ) (si : SideIs right n (highs x) width here) (li : SideIs left n (highs x) width there) where
   -- In the words of the system.
-  row-stands : (j : ℕ) → Stands (high side) (getD left (n * 32 + j) 0) (high (getD x j 0))
+  row-stands : (j : ℕ) → Stands (high here) (getD left (n * 32 + j) 0) (high (getD x j 0))
       → plus (entryOf left n j) (pointOf (highs x) j) ⊑ sideOf (systemOf left right [] width rows) (entryOf right n) (pointOf (highs x))
   row-stands j a = subst (λ (z : Trop). plus (entryOf left n j) (pointOf (highs x) j) ⊑ z) (si .is) (rw (highs-at x j) a)
 
-  row-fails : (j : ℕ) → (Stands (high side) (getD left (n * 32 + j) 0) (high (getD x j 0)) → ⊥) → Fails (systemOf left right [] width rows) (pointOf (highs x)) n j
+  row-fails : (j : ℕ) → (Stands (high here) (getD left (n * 32 + j) 0) (high (getD x j 0)) → ⊥) → Fails (systemOf left right [] width rows) (pointOf (highs x)) n j
   row-fails j d a = d (rw (highs-at x j) at (subst (λ (z : Trop). plus (entryOf left n j) (pointOf (highs x) j) ⊑ z) (sym (si .is)) a))
 
-  -- One row more, at one variable.
-  sought-at : (top : ℕ) → Gives side top → (j least pick least′ pick′ : ℕ) → SoughtAt (systemOf left right [] width rows) (pointOf (highs x)) (getD x j 0) j n least pick
-      → least′ ≡ lesser (givenBy left n top j) least → pick′ ≡ chosenBy (givenBy left n top j) least n pick
-      → SoughtAt (systemOf left right [] width rows) (pointOf (highs x)) (getD x j 0) j (n + 1) least′ pick′
-  sought-at top gi j least pick least′ pick′ s e d = ⊎-elim passed taken (nat-le-or-lt least (givenBy left n top j))
-    where
-      near : Near value-limit (high (getD x j 0))
-      near = rw (highs-at x j) at (g .near j)
+  near : (j : ℕ) → Near value-limit (high (getD x j 0))
+  near j = rw (highs-at x j) at (g .ranged .near j)
 
-      taken : givenBy left n top j < least → SoughtAt (systemOf left right [] width rows) (pointOf (highs x)) (getD x j 0) j (n + 1) least′ pick′
-      taken b =
-          let el : least′ ≡ givenBy left n top j = e ∙ sym (lesser-first _ _ b) in
-          let ep : pick′ ≡ n = d ∙ sym (chosen-first _ _ _ _ b) in
-          record {
-            low = omega (arith, s .low);
-            picked = λ _. rw ep h;
-            fails = λ _. rw ep (row-fails j (gi .fails _ _ (t .lefts .near (n * 32 + j)) near (omega (arith, s .low))));
-            stand = λ l. absurd (omega (arith, s .low));
-          }
+  -- A row whose left side is at most its right side stands everywhere.
+  row-whole : there ≤ here → (j : ℕ) → j < width → plus (entryOf left n j) (pointOf (highs x) j) ⊑ sideOf (systemOf left right [] width rows) (entryOf right n) (pointOf (highs x))
+  row-whole b j k = ⊑-trans (largest-above (λ l. plus (entryOf left n l) (pointOf (highs x) l)) width j k)
+      (subst (λ (z : Trop). largest (λ l. plus (entryOf left n l) (pointOf (highs x) l)) width ⊑ z) (si .is)
+      (subst (λ (z : Trop). z ⊑ tropOf (high here)) (li .is) (trop-order (high there) (high here) .1 (high-mono there here b))))
 
-      passed : least ≤ givenBy left n top j → SoughtAt (systemOf left right [] width rows) (pointOf (highs x)) (getD x j 0) j (n + 1) least′ pick′
-      passed b =
-          let el : least′ ≡ least = e ∙ sym (lesser-second _ _ b) in
-          let ep : pick′ ≡ pick = d ∙ sym (chosen-second _ _ _ _ b) in
-          record {
-            low = omega (arith, s .low);
-            picked = λ l. rw ep (s .picked (omega arith));
-            fails = λ l. rw ep (s .fails (omega arith));
-            stand = λ l i k. ⊎-elim
-                (λ (q : n ≤ i). let p : n ≡ i = omega arith in
-                subst (λ (i : ℕ). plus (entryOf left i j) (pointOf (highs x) j) ⊑ sideOf (systemOf left right [] width rows) (entryOf right i) (pointOf (highs x))) p
-                (row-stands j (gi .stands _ _ (t .lefts .near (n * 32 + j)) near (omega arith))))
-                (λ (q : i < n). s .stand (omega arith) i q)
-                (nat-le-or-lt n i);
-          }
+  module _ (x′ picks′ : List ℕ) where
+    -- A variable that had its turn.
+    place-turned : (top j : ℕ) → Gives here top → LoweredPlace left n top j x picks x′ picks′
+        → KeptHere left right width rows n x picks x′ picks′ j ⊎ FellHere left right width rows n x picks x′ picks′ j
+    place-turned top j gi p = ⊎-elim kept fell (nat-le-or-lt (getD x j 0) (givenBy left n top j))
+      where
+        kept : getD x j 0 ≤ givenBy left n top j → KeptHere left right width rows n x picks x′ picks′ j ⊎ FellHere left right width rows n x picks x′ picks′ j
+        kept b = inl (record {
+          value = p .value ∙ sym (lesser-second _ _ b);
+          pick = p .choice ∙ sym (chosen-second _ _ _ _ b);
+          stands = λ _. row-stands j (gi .stands _ _ (t .lefts .near (n * 32 + j)) (near j) b);
+        })
 
-  -- One row more that stands at the variable.
-  sought-stands : (j : ℕ) {least pick : ℕ} → SoughtAt (systemOf left right [] width rows) (pointOf (highs x)) (getD x j 0) j n least pick
-      → plus (entryOf left n j) (pointOf (highs x) j) ⊑ sideOf (systemOf left right [] width rows) (entryOf right n) (pointOf (highs x))
-      → SoughtAt (systemOf left right [] width rows) (pointOf (highs x)) (getD x j 0) j (n + 1) least pick
-  sought-stands j s a = record {
-    low = s .low;
-    picked = s .picked;
-    fails = s .fails;
-    stand = λ e i q. ⊎-elim
-        (λ (z : n ≤ i). let p : n ≡ i = omega arith in
-        subst (λ (i : ℕ). plus (entryOf left i j) (pointOf (highs x) j) ⊑ sideOf (systemOf left right [] width rows) (entryOf right i) (pointOf (highs x))) p a)
-        (λ (z : i < n). s .stand e i z)
-        (nat-le-or-lt n i);
-  }
+        fell : givenBy left n top j < getD x j 0 → KeptHere left right width rows n x picks x′ picks′ j ⊎ FellHere left right width rows n x picks x′ picks′ j
+        fell b =
+            let e : getD x′ j 0 ≡ givenBy left n top j = p .value ∙ sym (lesser-first _ _ b) in
+            inr (record {
+              inside = ⊎-elim (λ (w : width ≤ j). absurd (omega (arith, g .rest j w))) (λ w. w) (nat-le-or-lt width j);
+              lower = omega arith;
+              pick = p .choice ∙ sym (chosen-first _ _ _ _ b);
+              fails = row-fails j (gi .fails _ _ (t .lefts .near (n * 32 + j)) (near j) b);
+              value = ap tropOf (highs-at x′ j) ∙ rw e (gi .is _ _ (t .lefts .near (n * 32 + j)) (near j) b) ∙ ap (λ (z : Trop). difference z (entryOf left n j)) (si .is);
+            })
 
-  -- One row more that does not hold the variable.
-  sought-blank : (j : ℕ) {least pick : ℕ} → SoughtAt (systemOf left right [] width rows) (pointOf (highs x)) (getD x j 0) j n least pick
-      → getD left (n * 32 + j) 0 ≡ 0 → SoughtAt (systemOf left right [] width rows) (pointOf (highs x)) (getD x j 0) j (n + 1) least pick
-  sought-blank j s e = sought-stands j s (rw (e, plus-trop-zero (pointOf (highs x) j) .0) blank-least)
+    -- Every variable.
+    row-place : (r : ℕ) → LoweredBy left n here there x picks x′ picks′ r → (j : ℕ)
+        → KeptHere left right width rows n x picks x′ picks′ j ⊎ FellHere left right width rows n x picks x′ picks′ j
+    row-place r w j = ⊎-elim stood fallen (nat-le-or-lt there here)
+      where
+        stood : there ≤ here → KeptHere left right width rows n x picks x′ picks′ j ⊎ FellHere left right width rows n x picks x′ picks′ j
+        stood b = let e = w .stands b in inl (record { value = rw (e .0); pick = rw (e .1); stands = λ k. row-whole b j k })
 
-  -- One row more that lowers.
-  sought-lowered : {least chosen least′ chosen′ : List ℕ} → Sought (systemOf left right [] width rows) x n least chosen
-      → LoweredAt left n side least chosen least′ chosen′ → Sought (systemOf left right [] width rows) x (n + 1) least′ chosen′
-  sought-lowered s w = record {
-    least-size = w .lowered .least-size;
-    chosen-size = w .lowered .chosen-size;
-    each = λ j b. ⊎-elim
-        (λ p. sought-at (w .top) (w .gives) j _ _ _ _ (s .each j b) (p .value) (p .choice))
-        (λ p. rw (p .value, p .choice) (sought-blank j (s .each j b) (p .blank)))
-        (w .lowered .each j (omega (arith, t .width-most)));
-  }
+        fallen : here < there → KeptHere left right width rows n x picks x′ picks′ j ⊎ FellHere left right width rows n x picks x′ picks′ j
+        fallen b = let l = w .lowers b in ⊎-elim
+            (λ (k : 32 ≤ j). inl (record {
+              value = past x′ j (omega (arith, l .lowered .x-size)) ∙ sym (past x j (omega (arith, g .size)));
+              pick = past picks′ j (omega (arith, l .lowered .picks-size)) ∙ sym (past picks j (omega arith));
+              stands = λ q. absurd (omega (arith, t .width-most));
+            }))
+            (λ (k : j < 32). ⊎-elim
+            (λ p. place-turned (l .top) j (l .gives) p)
+            (λ p. inl (record { value = p .value; pick = p .choice; stands = λ q. rw (p .blank, plus-trop-zero (pointOf (highs x) j) .0) blank-least }))
+            (l .lowered .each j k))
+            (nat-le-or-lt 32 j)
 
-  -- One row more that stands everywhere.
-  sought-passed : (there : ℕ) {least chosen : List ℕ} → Sought (systemOf left right [] width rows) x n least chosen
-      → SideIs left n (highs x) width there → there ≤ side → Sought (systemOf left right [] width rows) x (n + 1) least chosen
-  sought-passed there s l b = record {
-    least-size = s .least-size;
-    chosen-size = s .chosen-size;
-    each = λ j k. sought-stands j (s .each j k) (all j k);
-  }
-    where
-      all : (j : ℕ) → j < width → plus (entryOf left n j) (pointOf (highs x) j) ⊑ sideOf (systemOf left right [] width rows) (entryOf right n) (pointOf (highs x))
-      all j k = ⊑-trans (largest-above (λ l. plus (entryOf left n l) (pointOf (highs x) l)) width j k)
-          (subst (λ (z : Trop). largest (λ l. plus (entryOf left n l) (pointOf (highs x) l)) width ⊑ z) (si .is)
-          (subst (λ (z : Trop). z ⊑ tropOf (high side)) (l .is) (trop-order (high there) (high side) .1 (high-mono there side b))))
+    module _ (r : ℕ) (w : LoweredBy left n here there x picks x′ picks′ r) where
+      row-sizes : (length x′ ≡ 32) × (length picks′ ≡ 32)
+      row-sizes = ⊎-elim
+          (λ (b : there ≤ here). let e = w .stands b in (rw (e .0) (g .size), rw (e .1) s))
+          (λ (b : here < there). (w .lowers b .lowered .x-size, w .lowers b .lowered .picks-size))
+          (nat-le-or-lt there here)
 
-  -- One row more.
-  pub sought-more : (there : ℕ) {least chosen least′ chosen′ : List ℕ} → SideIs left n (highs x) width there → Sought (systemOf left right [] width rows) x n least chosen
-      → LoweredBy left n side there least chosen least′ chosen′ → Sought (systemOf left right [] width rows) x (n + 1) least′ chosen′
-  sought-more there l s w = ⊎-elim
-      (λ (b : there ≤ side). let e = w .stands b in rw (e .0, e .1) (sought-passed there s l b))
-      (λ (b : side < there). sought-lowered s (w .lowers b))
-      (nat-le-or-lt there side)
+      -- What the row makes of strategy and point, whatever the caps.
+      row-falls : (caps : List ℕ) → RowFalls (systemOf left right caps width rows) n (pickOf picks) (pointOf (highs x)) (pickOf picks′) (pointOf (highs x′))
+      row-falls caps j k = ⊎-elim
+          (λ c. inl (record { stands = c .stands k; value = ap tropOf (highs-at x′ j ∙ ap high (c .value) ∙ sym (highs-at x j)); pick = c .pick }))
+          (λ c. inr (record { fails = c .fails; value = c .value; pick = c .pick }))
+          (row-place r w j)
 
-pub sought-end : {s : System} {x least chosen : List ℕ} {n rows : ℕ} → Sought s x n least chosen → n ≤ rows → rows ≤ n → Sought s x rows least chosen
-sought-end {s} {x} {least} {chosen} {n} {rows} w h k = let e : n ≡ rows = omega arith in subst (λ (z : ℕ). Sought s x z least chosen) e w
+      row-low : (j : ℕ) → getD x′ j 0 ≤ getD x j 0
+      row-low j = ⊎-elim (λ c. omega (arith, c .value)) (λ c. omega (arith, c .lower)) (row-place r w j)
 
--- ---- a step
+      row-picked : (j : ℕ) → (pickOf picks′ j < rows) ⊎ (pickOf picks′ j ≡ pickOf picks j)
+      row-picked j = ⊎-elim (λ c. inr (c .pick)) (λ c. inl (rw (c .pick) h)) (row-place r w j)
 
--- Before the first variable.
-pub improved-none : (s : System) (x : Point) (τ : Strategy) → Improved s x τ τ false 0
-improved-none s x τ = record {
-  switch = λ j h. absurd (omega arith);
-  later = λ j h. refl;
-  somewhere = λ e. absurd (false-not-true e);
-  nowhere = λ e i j h k. absurd (omega arith);
+      -- A row gives little more or less than a variable has.
+      row-within : (d : ℕ) → Within d width x → Within (d + turn-limit) width x′
+      row-within d i = record {
+        size = row-sizes .0;
+        near = λ k. ⊎-elim
+            (λ c. rw (c .value) (within-more {c = d} {d = d + turn-limit} (omega arith) i .near k))
+            (λ c. small-near (d + turn-limit) (high (getD x′ k 0)) (subst (Small (d + turn-limit)) (sym (c .value) ∙ ap tropOf (highs-at x′ k)) (given k)))
+            (row-place r w k);
+        rest = λ k b. ⊎-elim (λ c. c .value ∙ i .rest k b) (λ c. absurd (omega (arith, c .inside))) (row-place r w k);
+      }
+        where
+          given : (k : ℕ) → Small (d + turn-limit) (difference (sideOf (systemOf left right [] width rows) (entryOf right n) (pointOf (highs x))) (entryOf left n k))
+          given k = small-more {c = raised-limit + d + lead-limit} (omega arith)
+              (small-difference _ _
+              (small-largest _ width (λ l b. small-plus _ _ (near-small raised-limit _ (t .rights .near (n * 32 + l))) (near-small d _ (rw (highs-at x l) (i .near l)))))
+              (near-small lead-limit _ (t .lefts .near (n * 32 + k))))
+
+      -- A row that fails lowers a value.
+      row-moved : here < there → Lower width x x′
+      row-moved b = ⊎-elim (λ e. absurd (none (subst (λ (z : Trop). z ⊑ tropOf (high here)) (sym (li .is ∙ e)) blank-least))) at-place (largest-attained terms width)
+        where
+          terms : ℕ → Trop
+          terms l = plus (entryOf left n l) (pointOf (highs x) l)
+
+          none : tropOf (high there) ⊑ tropOf (high here) → ⊥
+          none c = omega (arith, trop-order (high there) (high here) .0 c, high-strict here there b)
+
+          at-place : Attains terms width → Lower width x x′
+          at-place a = ⊎-elim
+              (λ c. absurd (none (subst (λ (z : Trop). tropOf (high there) ⊑ z) (sym (si .is)) (subst (λ (z : Trop). z ⊑ sideOf (systemOf left right [] width rows) (entryOf right n) (pointOf (highs x))) (sym (li .is ∙ a .same)) (c .stands (a .inside))))))
+              (λ c. record { place = a .place; inside = a .inside; falls = c .lower })
+              (row-place r w (a .place))
+
+-- ---- a pass
+
+pub passed-none : (left right : List ℕ) (width rows : ℕ) (x picks : List ℕ) → length picks ≡ 32 → Passed left right width rows 0 0 x picks x picks 0
+passed-none left right width rows x picks e = record {
+  size = e;
+  within = λ d w. within-more (omega arith) w;
+  falling = λ caps f. f;
+  lower = λ j. omega arith;
+  picked = λ j. inr refl;
+  moved = λ h. absurd (omega arith);
+  stand = λ e i j h k. absurd (omega arith);
 }
 
-module _ (s : System) (x : Point) (picks next : List ℕ) (n v least pick : ℕ) (moved : Bool)
-    (p : Improved s x (pickOf picks) (pickOf next) moved n) (c : SoughtAt s x v n (s .rows) least pick) where
-  -- A variable at which no row fails keeps its pick.
-  improved-kept : v ≤ least → Improved s x (pickOf picks) (pickOf next) moved (n + 1)
-  improved-kept h = record {
-    switch = λ j b. ⊎-elim (λ (e : n ≤ j). inl (p .later j e)) (λ (e : j < n). p .switch j e) (nat-le-or-lt n j);
-    later = λ j b. p .later j (omega arith);
-    somewhere = λ e. let q = p .somewhere e in record { place = q .place; inside = omega (arith, q .inside); now = q .now };
-    nowhere = λ e i j b d. ⊎-elim
-        (λ (k : n ≤ j). let q : n ≡ j = omega arith in subst (λ (j : ℕ). plus (s .left i j) (x j) ⊑ sideOf s (s .right i) x) q (c .stand h i b))
-        (λ (k : j < n). p .nowhere e i j b k)
-        (nat-le-or-lt n j);
-  }
+-- One row more.
+pub passed-more : (left right : List ℕ) (width rows n : ℕ) (x₀ picks₀ x picks x′ picks′ : List ℕ) (here there failed r : ℕ) → Tables left right width rows
+    → n < rows → Lows width x → SideIs right n (highs x) width here → SideIs left n (highs x) width there
+    → Passed left right width rows n n x₀ picks₀ x picks failed → LoweredBy left n here there x picks x′ picks′ r
+    → Passed left right width rows (n + 1) (n + 1) x₀ picks₀ x′ picks′ (failed + r)
+passed-more left right width rows n x₀ picks₀ x picks x′ picks′ here there failed r t h g si li p w = record {
+  size = row-sizes left right width rows n t h x picks g (p .size) here there si li x′ picks′ r w .1;
+  within = λ d i. within-more (omega arith) (row-within left right width rows n t h x picks g (p .size) here there si li x′ picks′ r w (d + n * turn-limit) (p .within d i));
+  falling = λ caps f. row-falling (systemOf left right caps width rows) (pickOf picks) (pointOf (highs x)) (p .falling caps f) n h (pickOf picks′) (pointOf (highs x′))
+      (row-falls left right width rows n t h x picks g (p .size) here there si li x′ picks′ r w caps);
+  lower = λ j. omega (arith, p .lower j, low j);
+  picked = λ j. ⊎-elim (λ (b : pickOf picks′ j < rows). inl b) (λ e. ⊎-elim (λ (b : pickOf picks j < rows). inl (rw e b)) (λ b. inr (e ∙ b)) (p .picked j))
+      (row-picked left right width rows n t h x picks g (p .size) here there si li x′ picks′ r w j);
+  moved = λ b. ⊎-elim (before b) (λ (q : 0 < failed). let m = p .moved q in record { place = m .place; inside = m .inside; falls = omega (arith, m .falls, low (m .place)) }) (nat-le-or-lt failed 0);
+  stand = λ e. ⊎-elim
+      (λ (b : there ≤ here). let q = w .stands b in rw (q .0) (stands (omega arith) b))
+      (λ (b : here < there). absurd (omega (arith, w .counts b)))
+      (nat-le-or-lt there here);
+}
+  where
+    low : (j : ℕ) → getD x′ j 0 ≤ getD x j 0
+    low = row-low left right width rows n t h x picks g (p .size) here there si li x′ picks′ r w
 
-  -- A variable at which a row fails picks it.
-  improved-moved : least < v → n < length next → Improved s x (pickOf picks) (pickOf (set next n pick)) true (n + 1)
-  improved-moved h l = record {
-    switch = λ j b. ⊎-elim
-        (λ (e : n ≤ j). let q : n ≡ j = omega arith in inr (subst (FailsNow s x (pickOf (set next n pick))) q here))
-        (λ (e : j < n). before j e (p .switch j e))
-        (nat-le-or-lt n j);
-    later = λ j b. other j (λ e. omega arith) ∙ p .later j (omega arith);
-    somewhere = λ _. record { place = n; inside = omega arith; now = here };
-    nowhere = λ e. absurd (false-not-true (sym e));
-  }
-    where
-      same : getD (set next n pick) n 0 ≡ pick
-      same = getD-set-same next n pick 0 l
+    before : 0 < failed + r → failed ≤ 0 → Lower width x₀ x′
+    before b q = ⊎-elim
+        (λ (c : there ≤ here). absurd (omega (arith, w .stands c .2)))
+        (λ (c : here < there). let m = row-moved left right width rows n t h x picks g (p .size) here there si li x′ picks′ r w c in
+        record { place = m .place; inside = m .inside; falls = omega (arith, m .falls, p .lower (m .place)) })
+        (nat-le-or-lt there here)
 
-      other : (j : ℕ) → (j ≡ n → ⊥) → getD (set next n pick) j 0 ≡ getD next j 0
-      other j d = getD-set-other next n j pick 0 d
+    stands : failed ≡ 0 → there ≤ here → AllStand (systemOf left right [] width rows) (n + 1) (pointOf (highs x))
+    stands e b i j k l = ⊎-elim
+        (λ (q : n ≤ i). let z : n ≡ i = omega arith in
+        subst (λ (i : ℕ). plus (entryOf left i j) (pointOf (highs x) j) ⊑ sideOf (systemOf left right [] width rows) (entryOf right i) (pointOf (highs x))) z
+        (row-whole left right width rows n t h x picks g (p .size) here there si li b j l))
+        (λ (q : i < n). p .stand e i j q l)
+        (nat-le-or-lt n i)
 
-      here : FailsNow s x (pickOf (set next n pick)) n
-      here = record { picked = rw same (c .picked h); fails = subst (λ (i : ℕ). Fails s x i n) (sym same) (c .fails h) }
+pub passed-end : {left right : List ℕ} {width rows n : ℕ} {x picks x′ picks′ : List ℕ} {failed : ℕ} → Passed left right width rows n n x picks x′ picks′ failed
+    → n ≤ rows → rows ≤ n → Passed left right width rows rows rows x picks x′ picks′ failed
+passed-end {left} {right} {width} {rows} {n} {x} {picks} {x′} {picks′} {failed} p h k =
+    let e : n ≡ rows = omega arith in subst (λ (z : ℕ). Passed left right width rows z z x picks x′ picks′ failed) e p
 
-      before : (j : ℕ) → j < n → (pickOf next j ≡ pickOf picks j) ⊎ FailsNow s x (pickOf next) j
-          → (pickOf (set next n pick) j ≡ pickOf picks j) ⊎ FailsNow s x (pickOf (set next n pick)) j
-      before j b (inl e) = inl (other j (λ e. omega arith) ∙ e)
-      before j b (inr f) =
-          let e = other j (λ e. omega arith) in
-          inr (record { picked = rw e (f .picked); fails = subst (λ (i : ℕ). Fails s x i j) (sym e) (f .fails) })
+-- What the two passes start from.
+pub passing-first : {left right lefts rights x picks : List ℕ} {width rows : ℕ} → Passing first-limit left right lefts rights x picks width rows
+    → Passing (first-limit + 64 * turn-limit) left right lefts rights x picks width rows
+passing-first p = record { tables = p .tables; lefts-are = p .lefts-are; rights-are = p .rights-are; within = within-more (omega arith) (p .within); size = p .size }
 
-  -- The same where two ways meet.
-  pub improved-on : (next′ : List ℕ) (moved′ : Bool) → n < 32 → length next ≡ 32
-      → ((least < v) × (next′ ≡ set next n pick) × (moved′ ≡ true)) ⊎ ((v ≤ least) × (next′ ≡ next) × (moved′ ≡ moved))
-      → (length next′ ≡ 32) × Improved s x (pickOf picks) (pickOf next′) moved′ (n + 1)
-  improved-on next′ moved′ h l (inl w) = rw (w .1, w .2) (length-set next n pick ∙ l, improved-moved (w .0) (omega arith))
-  improved-on next′ moved′ h l (inr w) = rw (w .1, w .2) (l, improved-kept (w .0))
+pub passing-second : {left right lefts rights x picks x′ picks′ : List ℕ} {width rows r : ℕ} → Passing first-limit left right lefts rights x picks width rows
+    → Passed left right width rows rows rows x picks x′ picks′ r → Passing (first-limit + 64 * turn-limit) left right lefts rights x′ picks′ width rows
+passing-second p q = record {
+  tables = p .tables;
+  lefts-are = p .lefts-are;
+  rights-are = p .rights-are;
+  within = within-more (omega (arith, p .tables .rows-most)) (q .within first-limit (p .within));
+  size = q .size;
+}
 
-pub improved-end : {s : System} {x : Point} {τ τ′ : Strategy} {moved : Bool} {n w : ℕ} → Improved s x τ τ′ moved n → n ≤ w → w ≤ n
-    → Improved s x τ τ′ moved w
-improved-end {s} {x} {τ} {τ′} {moved} {n} {w} p h k = let e : n ≡ w = omega arith in subst (Improved s x τ τ′ moved) e p
+-- One pass for two.
+pub passed-once : {left right : List ℕ} {width rows : ℕ} {x picks x′ picks′ : List ℕ} {r : ℕ} → Passed left right width rows rows rows x picks x′ picks′ r → r ≡ 0
+    → Passed left right width rows (2 * rows) rows x picks x′ picks′ 0
+passed-once p e = record {
+  size = p .size;
+  within = λ d w. within-more (omega arith) (p .within d w);
+  falling = p .falling;
+  lower = p .lower;
+  picked = p .picked;
+  moved = λ h. absurd (omega arith);
+  stand = λ _. p .stand e;
+}
+
+-- Two passes, the first of which lowered something.
+pub passed-twice : {left right : List ℕ} {width rows : ℕ} {x picks y there x′ picks′ : List ℕ} {r q : ℕ} → Passed left right width rows rows rows x picks y there r → (r ≡ 0 → ⊥)
+    → Passed left right width rows rows rows y there x′ picks′ q → Passed left right width rows (2 * rows) rows x picks x′ picks′ q
+passed-twice {r = r} a d b = record {
+  size = b .size;
+  within = λ d w. within-more (omega arith) (b .within _ (a .within d w));
+  falling = λ caps f. b .falling caps (a .falling caps f);
+  lower = λ j. omega (arith, a .lower j, b .lower j);
+  picked = λ j. ⊎-elim (λ k. inl k) (λ e. ⊎-elim (λ k. inl (rw e k)) (λ k. inr (e ∙ k)) (a .picked j)) (b .picked j);
+  moved = λ h. let m = a .moved (positive r d) in record { place = m .place; inside = m .inside; falls = omega (arith, m .falls, b .lower (m .place)) };
+  stand = b .stand;
+}
 
 -- ---- the iteration
-
--- A step knows nothing of caps.
-module _ (left right caps : List ℕ) {width rows : ℕ} {x : Point} where
-  fails-caps : {τ′ : Strategy} (j : ℕ) → FailsNow (systemOf left right [] width rows) x τ′ j → FailsNow (systemOf left right caps width rows) x τ′ j
-  fails-caps j f = record { picked = f .picked; fails = f .fails }
-
-  improved-caps : {τ τ′ : Strategy} {moved : Bool} {n : ℕ} → Improved (systemOf left right [] width rows) x τ τ′ moved n → Improved (systemOf left right caps width rows) x τ τ′ moved n
-  improved-caps i = record {
-    switch = λ j h. ⊎-elim (λ e. inl e) (λ f. inr (fails-caps j f)) (i .switch j h);
-    later = i .later;
-    somewhere = λ e. let m = i .somewhere e in record { place = m .place; inside = m .inside; now = fails-caps (m .place) (m .now) };
-    nowhere = i .nowhere;
-  }
 
 -- Coefficients are bounded.
 pub tables-bounded : (left right caps : List ℕ) (width rows : ℕ) → Tables left right width rows → Caps width caps → Bounded (systemOf left right caps width rows) cap-limit
@@ -240,71 +302,120 @@ pub values-lows : (left right caps picks x : List ℕ) (width rows : ℕ) → Ta
 unfolding values
 values-lows left right caps picks x width rows t g v = level-lows left right caps picks x width rows width t g (omega arith) v
 
+pub values-within : (left right caps picks x : List ℕ) (width rows : ℕ) → Tables left right width rows → Caps width caps
+    → ValuesIs (systemOf left right caps width rows) (pickOf picks) (highs x) → Within first-limit width x
+unfolding values
+values-within left right caps picks x width rows t g v = level-within left right caps picks x width rows width t g (omega arith) v
+
 -- A table that was not raised is within the limit of raised ones.
 pub table-raised : {table : List ℕ} → Table lead-limit table → Table raised-limit table
 table-raised t = record { size = t .size; near = λ k. record { hi = omega (arith, t .near k .hi); lo = λ h. omega (arith, t .near k .lo h) } }
 
--- A row that fails at the array's values fails at the strategy's.
-module _ (s : System) (x picks : List ℕ) (v : ValuesIs s (pickOf picks) x) where
-  side-values : (c : ℕ → Trop) → sideOf s c (pointOf x) ≡ sideOf s c (values s (pickOf picks))
-  side-values c = largest-ext _ _ (s .variables) (λ l b. ap (plus (c l)) (v .each l b))
-
-  pub fails-values : {τ′ : Strategy} (j : ℕ) → j < s .variables → FailsNow s (pointOf x) τ′ j → Switched s (pickOf picks) τ′ j
-  fails-values {τ′} j h f = record {
-    picked = f .picked;
-    fails = λ a. f .fails (rw (v .each j h, side-values (s .right (τ′ j))) a);
-  }
-
-  pub step-switch : {τ′ : Strategy} {moved : Bool} → Improved s (pointOf x) (pickOf picks) τ′ moved (s .variables) → Switch s (pickOf picks) τ′
-  step-switch p j h = ⊎-elim (λ e. inl e) (λ f. inr (fails-values j h f)) (p .switch j h)
-
--- The next strategy is kept,
-pub step-policy : (left right caps x picks next : List ℕ) (width rows : ℕ) (moved : Bool)
-    → Policy (systemOf left right caps width rows) (pickOf picks) → ValuesIs (systemOf left right caps width rows) (pickOf picks) x
-    → Improved (systemOf left right [] width rows) (pointOf x) (pickOf picks) (pickOf next) moved width
-    → Policy (systemOf left right caps width rows) (pickOf next)
-step-policy left right caps x picks next width rows moved p v i =
-    next-policy (systemOf left right caps width rows) (pickOf picks) (pickOf next) p (step-switch (systemOf left right caps width rows) x picks v (improved-caps left right caps i))
-
--- and lower, where something moved.
-pub step-lower : (left right caps x picks next : List ℕ) (width rows : ℕ) (moved : Bool) → Tables left right width rows → Caps width caps
-    → Policy (systemOf left right caps width rows) (pickOf picks) → ValuesIs (systemOf left right caps width rows) (pickOf picks) x
-    → Improved (systemOf left right [] width rows) (pointOf x) (pickOf picks) (pickOf next) moved width → moved ≡ true
-    → height (systemOf left right caps width rows) cap-limit (pickOf next) < height (systemOf left right caps width rows) cap-limit (pickOf picks)
-step-lower left right caps x picks next width rows moved t g p v i e =
-    let s = systemOf left right caps width rows in
-    let q = improved-caps left right caps i in
-    let m = q .somewhere e in
-    height-falls s cap-limit (tables-bounded left right caps width rows t g) (pickOf picks) (pickOf next) p (step-switch s x picks v q)
-    (m .place) (m .inside) (fails-values s x picks v (m .place) (m .inside) (m .now))
+-- Picks in 32 bits.
+module _ (s : System) (picks kept : List ℕ) (few : s .variables ≤ 32) (n : Narrowed (s .rows) picks 32 kept) where
+  pub narrowed-policy : Policy s (pickOf picks) → Policy s (pickOf kept)
+  narrowed-policy p = alike-policy s (pickOf picks) (pickOf kept) (λ j h. ⊎-elim
+      (λ (b : s .rows ≤ pickOf picks j). inr (b, n .each j (omega arith) .none b))
+      (λ (b : pickOf picks j < s .rows). inl (n .each j (omega arith) .row b))
+      (nat-le-or-lt (s .rows) (pickOf picks j))) p
 
 -- Each pick is a row, or as it was.
 abbrev pub PickedFrom : ℕ → List ℕ → List ℕ → Type 0
 PickedFrom rows from picks = (j : ℕ) → (pickOf picks j < rows) ⊎ (pickOf picks j ≡ pickOf from j)
 
-pub step-picked : (left right x from picks next : List ℕ) (width rows : ℕ) (moved : Bool) → PickedFrom rows from picks
-    → Improved (systemOf left right [] width rows) (pointOf x) (pickOf picks) (pickOf next) moved width → PickedFrom rows from next
-step-picked left right x from picks next width rows moved p i j =
-    ⊎-elim (λ e. ⊎-elim (λ (b : pickOf picks j < rows). inl (rw e b)) (λ b. inr (e ∙ b)) (p j)) (λ f. inl (f .picked))
-    (⊎-elim (λ (h : width ≤ j). inl (i .later j h)) (λ (h : j < width). i .switch j h) (nat-le-or-lt width j))
+pub wide-row : (rows kept pick : ℕ) → kept < rows → kept ≡ widePick rows kept pick
+unfolding widePick
+wide-row rows kept pick h = rw (lt-ltb kept rows h)
 
--- Where nothing moved the values solve the system.
-pub step-tried : (left right caps x picks next : List ℕ) (width rows : ℕ) (moved : Bool) (from : List ℕ) → length picks ≡ 32 → PickedFrom rows from picks
-    → Policy (systemOf left right caps width rows) (pickOf picks) → ValuesIs (systemOf left right caps width rows) (pickOf picks) x
-    → Improved (systemOf left right [] width rows) (pointOf x) (pickOf picks) (pickOf next) moved width → moved ≡ false
-    → Iterated (systemOf left right caps width rows) from x picks
-step-tried left right caps x picks next width rows moved from l o p v i e = record {
-  size = l;
-  picked = o;
-  policy = p;
-  values-are = v;
-  solves = λ _. finished (systemOf left right caps width rows) (pointOf x) (improved-caps left right caps i .nowhere e);
+pub wide-none : (rows kept pick : ℕ) → rows ≤ kept → pick ≡ widePick rows kept pick
+unfolding widePick
+wide-none rows kept pick h = rw (le-ltb kept rows h)
+
+-- The end, with the picks as they were handed in.
+pub widened-end : (s : System) (x picks first kept back : List ℕ) → length picks ≡ 32 → s .variables ≤ 32 → Narrowed (s .rows) picks 32 first → PickedFrom (s .rows) first kept
+    → Widened (s .rows) kept picks 32 back → Policy s (pickOf kept) → ValuesIs s (pickOf kept) x → (0 < getD x 0 0 → Solves s (pointOf x)) → Iterated s picks x back
+widened-end s x picks first kept back l few n o w p v z = record {
+  size = w .size-is;
+  picked = λ j. ⊎-elim
+      (λ (h : 32 ≤ j). inr (w .rest j h ∙ sym (past picks j (omega arith))))
+      (λ (h : j < 32). ⊎-elim
+      (λ (b : s .rows ≤ pickOf kept j). inr (w .each j h ∙ sym (wide-none (s .rows) _ _ b)))
+      (λ (b : pickOf kept j < s .rows). inl (rw (w .each j h, ← wide-row (s .rows) (pickOf kept j) (pickOf picks j) b) b))
+      (nat-le-or-lt (s .rows) (pickOf kept j)))
+      (nat-le-or-lt 32 j);
+  policy = alike-policy s (pickOf kept) (pickOf back) alike p;
+  values-are = filled-map (λ j u h e. e ∙ sym (alike-values s (pickOf kept) (pickOf back) alike j h)) v;
+  solves = z;
 }
+  where
+    none : (j : ℕ) → j < 32 → s .rows ≤ pickOf kept j → s .rows ≤ pickOf picks j
+    none j h b = ⊎-elim
+        (λ (c : s .rows ≤ pickOf picks j). c)
+        (λ (c : pickOf picks j < s .rows). ⊎-elim (λ (d : pickOf kept j < s .rows). absurd (omega arith)) (λ d. absurd (omega (arith, d, n .each j h .row c))) (o j))
+        (nat-le-or-lt (s .rows) (pickOf picks j))
 
--- Where variable 0 has no value left the iteration may stop.
-pub stop-tried : (s : System) (x from picks : List ℕ) → length picks ≡ 32 → PickedFrom (s .rows) from picks → Policy s (pickOf picks) → ValuesIs s (pickOf picks) (highs x) → getD x 0 0 ≡ 0
-    → Iterated s from (highs x) picks
-stop-tried s x from picks l o p v e = record { size = l; picked = o; policy = p; values-are = v; solves = λ h. absurd (omega (arith, blank)) }
+    alike : Alike s (pickOf kept) (pickOf back)
+    alike j h = ⊎-elim
+        (λ (b : s .rows ≤ pickOf kept j). inr (b, rw (w .each j (omega arith), ← wide-none (s .rows) (pickOf kept j) (pickOf picks j) b) (none j (omega arith) b)))
+        (λ (b : pickOf kept j < s .rows). inl (w .each j (omega arith) ∙ sym (wide-row (s .rows) _ _ b)))
+        (nat-le-or-lt (s .rows) (pickOf kept j))
+
+-- Two passes from the values of a kept strategy.
+module _ (left right caps x kept x′ kept′ : List ℕ) (width rows r : ℕ) (t : Tables left right width rows) (g : Caps width caps)
+    (p : Policy (systemOf left right caps width rows) (pickOf kept)) (v : ValuesIs (systemOf left right caps width rows) (pickOf kept) (highs x))
+    (q : Passed left right width rows (2 * rows) rows x kept x′ kept′ r) where
+  abbrev s : System
+  s = systemOf left right caps width rows
+
+  after : Falling s (pickOf kept′) (pointOf (highs x′))
+  after = q .falling caps (values-falling s (pickOf kept) (pointOf (highs x)) p (λ j h. v .each j h))
+
+  -- The next strategy is kept,
+  pub step-policy : Policy s (pickOf kept′)
+  step-policy = falling-policy s (pickOf kept′) (pointOf (highs x′)) after
+
+  pub step-picked : (first : List ℕ) → PickedFrom rows first kept → PickedFrom rows first kept′
+  step-picked first o j = ⊎-elim (λ b. inl b) (λ e. ⊎-elim (λ b. inl (rw e b)) (λ b. inr (e ∙ b)) (o j)) (q .picked j)
+
+  -- and lower, where a row has failed;
+  pub step-lower : (r ≡ 0 → ⊥) → height s cap-limit (pickOf kept′) < height s cap-limit (pickOf kept)
+  step-lower d = height-lower s cap-limit (tables-bounded left right caps width rows t g) (pickOf kept) (pickOf kept′)
+      (λ j h. ⊑-trans (falling-over s (pickOf kept′) (pointOf (highs x′)) after j h) (subst (λ (z : Trop). pointOf (highs x′) j ⊑ z) (v .each j h) (lower j)))
+      (m .place) (m .inside) strict
+    where
+      m : Lower width x x′
+      m = q .moved (positive r d)
+
+      lower : (j : ℕ) → pointOf (highs x′) j ⊑ pointOf (highs x) j
+      lower j = rw (highs-at x′ j, highs-at x j) (trop-order _ _ .1 (high-mono _ _ (q .lower j)))
+
+      strict : (values s (pickOf kept) (m .place) ⊑ values s (pickOf kept′) (m .place)) → ⊥
+      strict b = omega (
+        arith,
+        high-strict _ _ (m .falls),
+        trop-order (high (getD x (m .place) 0)) (high (getD x′ (m .place) 0)) .0 (rw (highs-at x (m .place), highs-at x′ (m .place)) at
+            (⊑-trans (subst (λ (z : Trop). z ⊑ values s (pickOf kept′) (m .place)) (sym (v .each (m .place) (m .inside))) b) (falling-over s (pickOf kept′) (pointOf (highs x′)) after (m .place) (m .inside)))),
+      )
+
+  -- else the point is its values, and solves the system.
+  step-values : r ≡ 0 → ValuesIs s (pickOf kept′) (highs x′)
+  step-values e = record {
+    size-is = length-map x′ high ∙ i .size;
+    each = λ j h. falling-values s (pickOf kept′) (pointOf (highs x′)) after (q .stand e) j h;
+    rest = λ j h. highs-at x′ j ∙ ap high (i .rest j h) ∙ high-zero;
+  }
+    where
+      i : Within (first-limit + 2 * rows * turn-limit) width x′
+      i = q .within first-limit (values-within left right caps kept x width rows t g v)
+
+  pub step-end : (picks first back : List ℕ) → length picks ≡ 32 → Narrowed rows picks 32 first → PickedFrom rows first kept → Widened rows kept′ picks 32 back → r ≡ 0
+      → Iterated s picks (highs x′) back
+  step-end picks first back l n o w e =
+      widened-end s (highs x′) picks first kept′ back l (t .width-most) n (step-picked first o) w step-policy (step-values e) (λ _. finished s (pointOf (highs x′)) (q .stand e))
+
+-- Where variable 0 has no value left.
+pub stop-solves : (s : System) (x : List ℕ) → getD x 0 0 ≡ 0 → 0 < getD (highs x) 0 0 → Solves s (pointOf (highs x))
+stop-solves s x e h = absurd (omega (arith, blank))
   where
     blank : getD (highs x) 0 0 ≡ 0
     blank = highs-at x 0 ∙ ap high e ∙ high-zero

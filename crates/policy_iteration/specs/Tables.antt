@@ -33,9 +33,17 @@ raised-limit = lead-limit + span-limit + 1
 abbrev pub cap-limit : ℕ
 cap-limit = span-limit + 1 + lead-limit + highest-n * (2 * lead-limit)
 
+-- A row gives a variable at most this more or less than another variable has.
+abbrev pub turn-limit : ℕ
+turn-limit = lead-limit + raised-limit
+
 -- Values of a strategy lie within this of 0: a cap, and 32 rounds of two coefficients, 45,138,273.
+abbrev pub first-limit : ℕ
+first-limit = cap-limit + stride * turn-limit
+
+-- In two passes over 64 rows they fall further, but stay within this of 0, 215,450,081.
 abbrev pub value-limit : ℕ
-value-limit = cap-limit + stride * (lead-limit + raised-limit)
+value-limit = first-limit + 2 * table-rows * turn-limit
 
 -- Inside the iteration a value is kept low, as its offset number less 2 to the 30th, and 0 for blank: a coefficient and a value
 -- then have a sum of 32 bits. This is the offset number of a low one, and an array of them.
@@ -89,6 +97,12 @@ pub record Ranged (x : List ℕ) : Type 0 where
 pub record Lows (width : ℕ) (x : List ℕ) : Type 0 where
   pub size : length x ≡ stride
   pub ranged : Ranged (highs x)
+  pub rest : (k : ℕ) → width ≤ k → getD x k 0 ≡ 0
+
+-- The same within d of 0.
+pub record Within (d width : ℕ) (x : List ℕ) : Type 0 where
+  pub size : length x ≡ stride
+  pub near : (k : ℕ) → Near d (high (getD x k 0))
   pub rest : (k : ℕ) → width ≤ k → getD x k 0 ≡ 0
 
 -- Caps of `width` variables, as low numbers.

@@ -1,13 +1,13 @@
-// Policy iteration from a strategy that is kept, until no row fails at its values. Values are low numbers here.
+// Policy iteration from a strategy that is kept, until no row fails. Values are low numbers here, and they fall in place: a row that
+// fails lowers its variables at once, and they pick it.
 ghost use mathlib.Core.Path.{_≡_};
-ghost use Prim.Native.Nat.{_+_, _*_, _/_, _%_, _<_, _≤_};
-ghost use mathlib.Core.List.{[]};
+ghost use Prim.Native.Nat.{_+_, _-_, _*_, _/_, _%_, _<_, _≤_};
 ghost use lib.ListN.{length};
-ghost use Rattle.definitions.specs.Limits.{stride};
+ghost use Rattle.definitions.specs.Limits.{stride, table-rows};
 ghost use Rattle.duality.specs.Values.{Policy};
-ghost use Rattle.policy_iteration.specs.Tables.{systemOf, pointOf, pickOf, side-most, side-least, high, highs, Lows, Caps, Tables};
+ghost use Rattle.policy_iteration.specs.Tables.{systemOf, pickOf, turn-limit, first-limit, side-most, side-least, high, highs, Caps, Tables};
 ghost use Rattle.policy_iteration.specs.Ends.{wide, RowEnds, EndsOf};
-ghost use Rattle.policy_iteration.specs.Steps.{Gives, lowest-top, highest-top, lesser, chosenBy, Lowering, Lowered, LoweredOne, LoweredAll, LoweringBy, LoweredBy, Sought, Improved, Iterated};
+ghost use Rattle.policy_iteration.specs.Steps.{Gives, lesser, chosenBy, Lowering, Lowered, LoweredOne, LoweredAll, LoweredBy, Passing, Passed, SamePick, widePick, Narrowed, Widened, Iterated};
 use crate::ends::WIDE;
 use crate::values::HALF;
 use crate::values::LOW;
@@ -19,8 +19,8 @@ use records::limits::STRIDE;
 use records::limits::STRIDE_32;
 use records::limits::TABLE;
 
-// Above a whole left coefficient by little: what stands for a blank right side, so that the row gives next to nothing.
-const BLANK_TOP: u32 = HALF + 2 * LEAD_LIMIT as u32;
+// At most every whole left coefficient, and above every value: what stands for a blank right side.
+const BLANK_TOP: u32 = HALF - LEAD_LIMIT as u32;
 
 // The low number of 0 in 64 bits.
 const LOW_64: u64 = LOW as u64;
@@ -28,9 +28,16 @@ const LOW_64: u64 = LOW as u64;
 // What gives every variable of a row its value, once the left coefficient is taken off.
 fn top_of(side: u32) -> u32
     requires { ⌜ (side ≤ side-most) × (0 < side → side-least ≤ side) ⌝ }
-    ensures { λ r. ⌜ Gives side r × (lowest-top ≤ r) × (r ≤ highest-top) ⌝ }
+    ensures { λ r. ⌜ Gives side r ⌝ }
 {
     if side == 0 { BLANK_TOP } else { side + HALF }
+}
+
+// The difference, not below 0.
+fn less(a: u32, b: u32) -> u32
+    ensures { λ r. ⌜ r ≡ a - b ⌝ }
+{
+    if a < b { 0 } else { a - b }
 }
 
 // The smaller of two.
@@ -47,153 +54,182 @@ fn choice(a: u32, b: u32, i: u32, k: u32) -> u32
     if a < b { i } else { k }
 }
 
-// Row i lowers the least values of the variables, and is chosen where it does.
+// Row i lowers the values of the variables, and is picked where it does.
 fn lower_row(
     left: &[u32; TABLE],
     i: usize,
     top: u32,
-    least: &mut [u32; STRIDE],
-    chosen: &mut [u32; STRIDE],
+    x: &mut [u32; STRIDE],
+    picks: &mut [u32; STRIDE],
 )
-    requires { ⌜ Lowering (now left) (now least) (now chosen) i top ⌝ }
-    ensures { λ _. ⌜ Lowered (now (left .entry)) i top (now (least .entry)) (now (chosen .entry)) stride (now (least .exit)) (now (chosen .exit)) ⌝ }
+    requires { ⌜ Lowering (now left) (now x) (now picks) i ⌝ }
+    ensures { λ _. ⌜ Lowered (now (left .entry)) i top (now (x .entry)) (now (picks .entry)) stride (now (x .exit)) (now (picks .exit)) ⌝ }
 {
     let base = i * STRIDE;
     let row = i as u32;
     let mut j = 0;
     while j < STRIDE {
-        let given = top - left[base + j];
-        let was = least[j];
-        chosen[j] = choice(given, was, row, chosen[j]);
-        least[j] = smaller(given, was);
+        let given = less(top, left[base + j]);
+        let was = x[j];
+        picks[j] = choice(given, was, row, picks[j]);
+        x[j] = smaller(given, was);
         j += 1;
     }
 }
 
-// Row i lowers the least value of variable j, and is chosen if it does.
+// Row i lowers the value of variable j, and is picked if it does.
 fn lower_place(
     left: &[u32; TABLE],
     i: usize,
     top: u32,
     j: usize,
-    least: &mut [u32; STRIDE],
-    chosen: &mut [u32; STRIDE],
+    x: &mut [u32; STRIDE],
+    picks: &mut [u32; STRIDE],
 )
-    requires { ⌜ Lowering (now left) (now least) (now chosen) i top × (j < stride) ⌝ }
-    ensures { λ _. ⌜ LoweredOne (now (left .entry)) i top j (now (least .entry)) (now (chosen .entry)) (now (least .exit)) (now (chosen .exit)) ⌝ }
+    requires { ⌜ Lowering (now left) (now x) (now picks) i × (j < stride) ⌝ }
+    ensures { λ _. ⌜ LoweredOne (now (left .entry)) i top j (now (x .entry)) (now (picks .entry)) (now (x .exit)) (now (picks .exit)) ⌝ }
 {
-    let given = top - left[i * STRIDE + j];
-    let was = least[j];
-    chosen[j] = choice(given, was, i as u32, chosen[j]);
-    least[j] = smaller(given, was);
+    let given = less(top, left[i * STRIDE + j]);
+    let was = x[j];
+    picks[j] = choice(given, was, i as u32, picks[j]);
+    x[j] = smaller(given, was);
 }
 
-// Row i lowers the least values of the variables at its ends: it holds no others.
+// Row i lowers the values of the variables at its ends: it holds no others.
 fn lower_ends(
     left: &[u32; TABLE],
     ends: u32,
     i: usize,
     top: u32,
-    least: &mut [u32; STRIDE],
-    chosen: &mut [u32; STRIDE],
+    x: &mut [u32; STRIDE],
+    picks: &mut [u32; STRIDE],
 )
-    requires { ⌜ Lowering (now left) (now least) (now chosen) i top × RowEnds (now left) i ends × (ends < wide) ⌝ }
-    ensures { λ _. ⌜ LoweredAll (now (left .entry)) i top (now (least .entry)) (now (chosen .entry)) (now (least .exit)) (now (chosen .exit)) ⌝ }
+    requires { ⌜ Lowering (now left) (now x) (now picks) i × RowEnds (now left) i ends × (ends < wide) ⌝ }
+    ensures { λ _. ⌜ LoweredAll (now (left .entry)) i top (now (x .entry)) (now (picks .entry)) (now (x .exit)) (now (picks .exit)) ⌝ }
 {
-    lower_place(left, i, top, (ends / STRIDE_32) as usize, least, chosen);
-    lower_place(left, i, top, (ends % STRIDE_32) as usize, least, chosen);
+    lower_place(left, i, top, (ends / STRIDE_32) as usize, x, picks);
+    lower_place(left, i, top, (ends % STRIDE_32) as usize, x, picks);
 }
 
-// Row i, with these right and left sides: it lowers nothing where it stands everywhere, as most rows do.
+// Row i, with these right and left sides, lowers values if it fails: 1, else 0, as for most rows.
 fn lower_by(
     left: &[u32; TABLE],
     ends: u32,
     i: usize,
     here: u32,
     there: u32,
-    least: &mut [u32; STRIDE],
-    chosen: &mut [u32; STRIDE],
-)
-    requires { ⌜ LoweringBy (now left) (now least) (now chosen) i here × RowEnds (now left) i ends ⌝ }
-    ensures { λ _. ⌜ LoweredBy (now (left .entry)) i here there (now (least .entry)) (now (chosen .entry)) (now (least .exit)) (now (chosen .exit)) ⌝ }
+    x: &mut [u32; STRIDE],
+    picks: &mut [u32; STRIDE],
+) -> u32
+    requires { ⌜ Lowering (now left) (now x) (now picks) i × RowEnds (now left) i ends × (here ≤ side-most) × (0 < here → side-least ≤ here) ⌝ }
+    ensures { λ r. ⌜ LoweredBy (now (left .entry)) i here there (now (x .entry)) (now (picks .entry)) (now (x .exit)) (now (picks .exit)) r × (r ≤ 1) ⌝ }
 {
     if there <= here {
-        return;
+        return 0;
     }
     let top = top_of(here);
     if ends < WIDE {
-        lower_ends(left, ends, i, top, least, chosen);
-        return;
+        lower_ends(left, ends, i, top, x, picks);
+        return 1;
     }
-    lower_row(left, i, top, least, chosen);
+    lower_row(left, i, top, x, picks);
+    1
 }
 
-// For every variable the least of its own value and of what the rows give it, and the row that gives it.
-pub struct Found {
-    pub least: [u32; STRIDE],
-    pub chosen: [u32; STRIDE],
-}
-
-// The cheapest rows at low values. The point is lent, not handed over: a copy would be taken apart into single numbers, and
-// the sides no longer be vectors.
-fn cheapest(
+// A pass: each row in turn lowers the values of its variables, where it fails at the values as they then are. How many failed.
+fn pass(
     left: &[u32; TABLE],
     right: &[u32; TABLE],
     lefts: &[u32; ROWS],
     rights: &[u32; ROWS],
-    x: &[u32; STRIDE],
+    x: &mut [u32; STRIDE],
+    picks: &mut [u32; STRIDE],
     width: usize,
     rows: usize,
-) -> Found
-    requires { ⌜ Tables (now left) (now right) width rows × Lows width (now x) × EndsOf (now left) rows (now lefts) × EndsOf (now right) rows (now rights) ⌝ }
-    ensures { λ r. ⌜ Sought (systemOf (now (left .entry)) (now (right .entry)) [] width rows) (now (x .entry)) rows (r .least) (r .chosen) ⌝ }
+) -> u32
+    requires { ⌜ Passing (first-limit + table-rows * turn-limit) (now left) (now right) (now lefts) (now rights) (now x) (now picks) width rows ⌝ }
+    ensures { λ r. ⌜ Passed (now (left .entry)) (now (right .entry)) width rows rows rows (now (x .entry)) (now (picks .entry)) (now (x .exit)) (now (picks .exit)) r ⌝ }
 {
-    let mut least = *x;
-    let mut chosen = [0u32; STRIDE];
+    let mut failed = 0;
     let mut i = 0;
     while i < rows {
         let here = side(right, rights[i], i, x, width);
         let there = side(left, lefts[i], i, x, width);
-        lower_by(left, lefts[i], i, here, there, &mut least, &mut chosen);
+        failed += lower_by(left, lefts[i], i, here, there, x, picks);
         i += 1;
     }
-    Found { least, chosen }
+    failed
 }
 
-// A strategy after a step, and whether something moved.
-pub struct Step {
-    pub picks: [usize; STRIDE],
-    pub moved: bool,
-}
-
-// One step: every variable at which a row fails picks such a row.
-fn improve(
+// Two passes, or one in which no row failed.
+fn passes(
     left: &[u32; TABLE],
     right: &[u32; TABLE],
     lefts: &[u32; ROWS],
     rights: &[u32; ROWS],
-    x: &[u32; STRIDE],
-    picks: [usize; STRIDE],
+    x: &mut [u32; STRIDE],
+    picks: &mut [u32; STRIDE],
     width: usize,
     rows: usize,
-) -> Step
-    requires { ⌜ Tables (now left) (now right) width rows × Lows width (now x) × EndsOf (now left) rows (now lefts) × EndsOf (now right) rows (now rights) ⌝ }
-    ensures { λ r. ⌜ Improved (systemOf (now (left .entry)) (now (right .entry)) [] width rows) (pointOf (highs (now (x .entry)))) (pickOf picks) (pickOf (r .picks)) (r .moved) width × (length (r .picks) ≡ stride) ⌝ }
+) -> u32
+    requires { ⌜ Passing first-limit (now left) (now right) (now lefts) (now rights) (now x) (now picks) width rows ⌝ }
+    ensures { λ r. ⌜ Passed (now (left .entry)) (now (right .entry)) width rows (2 * rows) rows (now (x .entry)) (now (picks .entry)) (now (x .exit)) (now (picks .exit)) r ⌝ }
 {
-    let found = cheapest(left, right, lefts, rights, x, width, rows);
-    let least = found.least;
-    let chosen = found.chosen;
-    let mut next = picks;
-    let mut moved = false;
+    if pass(left, right, lefts, rights, x, picks, width, rows) == 0 {
+        return 0;
+    }
+    pass(left, right, lefts, rights, x, picks, width, rows)
+}
+
+// A pick in 32 bits: a row, or the number of rows for none.
+fn narrow(pick: usize, rows: usize) -> u32
+    requires { ⌜ rows ≤ table-rows ⌝ }
+    ensures { λ r. ⌜ SamePick rows pick r ⌝ }
+{
+    if pick < rows {
+        pick as u32
+    } else {
+        rows as u32
+    }
+}
+
+// Picks in 32 bits: of these the rows' passes have vectors.
+fn narrowed(picks: &[usize; STRIDE], rows: usize) -> [u32; STRIDE]
+    requires { ⌜ (length (now picks) ≡ stride) × (rows ≤ table-rows) ⌝ }
+    ensures { λ r. ⌜ Narrowed rows (now (picks .entry)) stride r ⌝ }
+{
+    let mut out = [0u32; STRIDE];
     let mut j = 0;
-    while j < width {
-        if least[j] < x[j] {
-            next[j] = chosen[j] as usize;
-            moved = true;
-        }
+    while j < STRIDE {
+        out[j] = narrow(picks[j], rows);
         j += 1;
     }
-    Step { picks: next, moved }
+    out
+}
+
+// The row that is picked, or the pick that there was.
+fn widen(kept: u32, pick: usize, rows: usize) -> usize
+    ensures { λ r. ⌜ r ≡ widePick rows kept pick ⌝ }
+{
+    if (kept as usize) < rows {
+        kept as usize
+    } else {
+        pick
+    }
+}
+
+// Picks as they were handed in, where no row is picked.
+fn widened(kept: &[u32; STRIDE], picks: [usize; STRIDE], rows: usize) -> [usize; STRIDE]
+    requires { ⌜ length (now kept) ≡ stride ⌝ }
+    ensures { λ r. ⌜ Widened rows (now (kept .entry)) picks stride r ⌝ }
+{
+    let mut out = [0usize; STRIDE];
+    let mut j = 0;
+    while j < STRIDE {
+        out[j] = widen(kept[j], picks[j], rows);
+        j += 1;
+    }
+    out
 }
 
 // The offset number of a low one. Public for `guesses::guess`.
@@ -223,7 +259,8 @@ pub struct Outcome {
     pub picks: [usize; STRIDE],
 }
 
-// Policy iteration under caps, from a strategy that is kept, until no row fails at its values or variable 0 has none left.
+// Policy iteration under caps, from a strategy that is kept: its values, two passes that lower them, the values of the strategy
+// that these have picked, and so on, until no row fails in a pass or variable 0 has no value left.
 pub fn iterate(
     left: &[u32; TABLE],
     right: &[u32; TABLE],
@@ -237,23 +274,22 @@ pub fn iterate(
     requires { ⌜ Tables (now left) (now right) width rows × Policy (systemOf (now left) (now right) (now caps) width rows) (pickOf picks) × EndsOf (now left) rows (now lefts) × EndsOf (now right) rows (now rights) × Caps width (now caps) ⌝ }
     ensures { λ r. ⌜ Iterated (systemOf (now (left .entry)) (now (right .entry)) (now (caps .entry)) width rows) picks (highs (r .values)) (r .picks) ⌝ }
 {
-    let mut kept = picks;
+    let mut kept = narrowed(&picks, rows);
     loop {
-        let x = evaluate(left, right, rights, caps, &kept, width, rows);
+        let mut x = evaluate(left, right, rights, caps, &kept, width, rows);
         if x[0] == 0 {
+            let back = widened(&kept, picks, rows);
             return Outcome {
                 values: x,
-                picks: kept,
+                picks: back,
             };
         }
-        let step = improve(left, right, lefts, rights, &x, kept, width, rows);
-        if !step.moved {
+        if passes(left, right, lefts, rights, &mut x, &mut kept, width, rows) == 0 {
+            let back = widened(&kept, picks, rows);
             return Outcome {
                 values: x,
-                picks: kept,
+                picks: back,
             };
         }
-        let next = step.picks;
-        kept = next;
     }
 }

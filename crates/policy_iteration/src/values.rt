@@ -136,7 +136,7 @@ fn picked_sum(
     right: &[u32; TABLE],
     rights: &[u32; ROWS],
     cap: u32,
-    pick: usize,
+    pick: u32,
     x: &[u32; STRIDE],
     width: usize,
     rows: usize,
@@ -144,20 +144,22 @@ fn picked_sum(
     requires { ⌜ (cap ≤ side-most) × (rows ≤ table-rows) × (width ≤ stride) × Table raised-limit (now right) × Lows width (now x) × EndsOf (now right) rows (now rights) ⌝ }
     ensures { λ r. ⌜ PickedSum (now (right .entry)) (now (x .entry)) width rows cap pick r ⌝ }
 {
-    if pick < rows {
-        row_sum(right, rights[pick], pick, x, width)
+    let row = pick as usize;
+    if row < rows {
+        row_sum(right, rights[row], row, x, width)
     } else {
         HALF + cap
     }
 }
 
 // The left coefficient of variable j there, or 0.
-fn picked_left(left: &[u32; TABLE], pick: usize, j: usize, rows: usize) -> u32
+fn picked_left(left: &[u32; TABLE], pick: u32, j: usize, rows: usize) -> u32
     requires { ⌜ (rows ≤ table-rows) × Table lead-limit (now left) × (j < stride) ⌝ }
     ensures { λ r. ⌜ PickedLeft (now (left .entry)) rows pick j r ⌝ }
 {
-    if pick < rows {
-        left[pick * STRIDE + j]
+    let row = pick as usize;
+    if row < rows {
+        left[row * STRIDE + j]
     } else {
         HALF
     }
@@ -174,7 +176,7 @@ fn picked_rows(
     right: &[u32; TABLE],
     rights: &[u32; ROWS],
     caps: &[u32; STRIDE],
-    picks: &[usize; STRIDE],
+    picks: &[u32; STRIDE],
     x: &[u32; STRIDE],
     width: usize,
     rows: usize,
@@ -200,7 +202,7 @@ fn round_from(
     right: &[u32; TABLE],
     rights: &[u32; ROWS],
     caps: &[u32; STRIDE],
-    picks: &[usize; STRIDE],
+    picks: &[u32; STRIDE],
     x: &[u32; STRIDE],
     width: usize,
     rows: usize,
@@ -221,14 +223,14 @@ fn round_from(
 }
 
 // A variable without a pick is terminal: its exit is its cap. The others have none.
-fn exit(cap: u32, pick: usize, rows: usize) -> u32
+fn exit(cap: u32, pick: u32, rows: usize) -> u32
     ensures { λ r. ⌜ r ≡ exitNumber rows cap pick ⌝ }
 {
-    if pick < rows { 0 } else { cap }
+    if (pick as usize) < rows { 0 } else { cap }
 }
 
 // The values before the first round: the exits.
-fn exits(caps: &[u32; STRIDE], picks: &[usize; STRIDE], width: usize, rows: usize) -> [u32; STRIDE]
+fn exits(caps: &[u32; STRIDE], picks: &[u32; STRIDE], width: usize, rows: usize) -> [u32; STRIDE]
     requires { ⌜ Caps width (now caps) × (length (now picks) ≡ stride) × (width ≤ stride) ⌝ }
     ensures { λ r. ⌜ Exits (systemOf [] [] (now (caps .entry)) width rows) (pickOf (now (picks .entry))) width (highs r) ⌝ }
 {
@@ -269,7 +271,7 @@ pub fn evaluate(
     right: &[u32; TABLE],
     rights: &[u32; ROWS],
     caps: &[u32; STRIDE],
-    picks: &[usize; STRIDE],
+    picks: &[u32; STRIDE],
     width: usize,
     rows: usize,
 ) -> [u32; STRIDE]

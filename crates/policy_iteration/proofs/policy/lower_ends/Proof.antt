@@ -13,15 +13,7 @@ lower-ends-spec =
     (λ c κs. let p = c .before .before .pre in (p .0, omega (arith, p .2)))
     (λ c. search needs)
     (λ c κs. let p = c .before .before .before .before .before .pre .0 in let one = c .before .before .lower-place .ensures in (
-      record {
-        left-size = p .left-size;
-        least-size = one .least-size;
-        chosen-size = one .chosen-size;
-        row-most = p .row-most;
-        top-least = p .top-least;
-        top-most = p .top-most;
-        left-near = p .left-near;
-      },
+      record { left-size = p .left-size; x-size = one .x-size; picks-size = one .picks-size; row-most = p .row-most },
       omega arith,
     ))
-    (λ c. let start = c .before .before .before .before .before .before in let a = start .args in lowered-ends (a .left .now) (a .least .now) (a .chosen .now) (a .i) (a .top) (a .ends) _ _ _ _ (start .pre .1) (start .pre .2) (c .before .before .before .lower-place .ensures) (c .lower-place2 .ensures)))
+    (λ c. let start = c .before .before .before .before .before .before in let a = start .args in lowered-ends (a .left .now) (a .x .now) (a .picks .now) (a .i) (a .top) (a .ends) _ _ _ _ (start .pre .1) (start .pre .2) (c .before .before .before .lower-place .ensures) (c .lower-place2 .ensures)))
