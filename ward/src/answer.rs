@@ -123,6 +123,7 @@ impl Report {
                     place: window.place,
                     message: "these opening hours are refused (19)".into(),
                     hint: Some(hint.into()),
+                    fixes: Vec::new(),
                 });
             }
             let refused = record::sent(sheet).iter().find_map(|problem| archive::refusal(problem));

@@ -105,7 +105,8 @@ fn tell_remarks(report: &mut Report, words: &Words) {
     if words.quiet {
         report.remarks.retain(|remark| remark.weight == Weight::Mistake);
     }
-    tell(&terminal::remarks(report));
+    let colour = io::stderr().is_terminal() && std::env::var_os("NO_COLOR").is_none_or(|value| value.is_empty());
+    tell(&terminal::remarks(report, colour));
 }
 
 fn look(words: &Words) -> Look {

@@ -1,0 +1,1 @@
+//! Every hint, pasted, is taken.
