@@ -16,6 +16,8 @@ pub struct Look {
     pub width: usize,
     /// Signs beyond ASCII.
     pub signs: bool,
+    /// Colours.
+    pub colour: bool,
 }
 
 /// The signs of a timeline.
@@ -164,7 +166,20 @@ pub fn report(report: &Report, look: Look) -> String {
         }
         text += &one(sheet, span, look);
     }
-    text.split('\n').map(|line| clean(line.trim_end())).collect::<Vec<_>>().join("\n")
+    let line = |line: &str| coloured(clean(line.trim_end()), look.colour);
+    text.split('\n').map(line).collect::<Vec<_>>().join("\n")
+}
+
+/// A line of a report; in colour what the checker says is green where it accepts, and red where it does not.
+fn coloured(line: String, colour: bool) -> String {
+    let paint = match () {
+        _ if !colour => return line,
+        _ if line.starts_with("The checker, which trusts no engine, says: ") => "\x1b[32m",
+        _ if line.starts_with("The checker, which trusts no engine, does not") => "\x1b[1;31m",
+        _ if line.starts_with("The text expects another answer") => "\x1b[1;33m",
+        _ => return line,
+    };
+    format!("{paint}{line}\x1b[0m")
 }
 
 fn one(sheet: &Sheet, span: &Span, look: Look) -> String {
@@ -319,4 +334,49 @@ fn axis(sheet: &Sheet, scale: &Scale, signs: &Signs, label: usize, width: usize)
     }
     let line = |part: Vec<char>| format!("  {}  {}\n", padded("", label), part.into_iter().collect::<String>());
     line(times) + &line(marks)
+}
+
+#[cfg(test)]
+mod tests {
+    use super::*;
+    use crate::answer::Wishes;
+
+    fn report(text: &str) -> Report {
+        let mut report = Report::read("day.txt", text.as_bytes());
+        report.answer(Wishes { times: false });
+        report
+    }
+
+    /// Without its colours a text is the one without colours.
+    #[test]
+    fn colours_change_no_word() {
+        let bare = |text: &str| {
+            let parts = text.split('\x1b').enumerate();
+            parts
+                .map(|(number, part)| if number == 0 { part } else { part.split_once('m').expect("a colour").1 })
+                .collect::<String>()
+        };
+        let wrong = report("moments: a\na < a\nb <= a\nspan: from anchor to a\n");
+        let painted = remarks(&wrong, true);
+        assert!(painted.contains("\x1b[1;31mmistake:\x1b[0m") && painted.contains("\x1b[32m"), "{painted}");
+        assert_eq!(bare(&painted), remarks(&wrong, false));
+        let good = report("moments: a\nanchor + 5 <= a\nspan: from anchor to a\nexpect: least 4\n");
+        let look = |colour: bool| Look { width: 80, signs: true, colour };
+        let painted = super::report(&good, look(true));
+        assert_eq!(painted.matches('\x1b').count(), 4, "{painted}");
+        assert_eq!(bare(&painted), super::report(&good, look(false)));
+    }
+
+    #[test]
+    fn twenty_mistakes_are_shown_and_the_rest_is_counted() {
+        let text = |count: usize| format!("moments: a\n{}span: from anchor to a\n", "a < a\n".repeat(count));
+        for (count, shown, end) in
+            [(20, 20, "day.txt: 20 mistakes\n"), (57, 20, "day.txt: and 37 mistakes more\nday.txt: 57 mistakes\n")]
+        {
+            let told = remarks(&report(&text(count)), false);
+            assert_eq!(told.matches(": mistake: ").count(), shown);
+            assert!(told.ends_with(end), "{told}");
+        }
+        assert!(remarks(&report(&text(21)), false).contains("day.txt: and 1 mistake more\n"));
+    }
 }

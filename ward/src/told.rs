@@ -235,7 +235,7 @@ pub fn floor(sheet: &Sheet) -> Option<String> {
         (0..sheet.rules.len()).filter(|&place| sheet.rules[place].origin == Origin::Floor).collect();
     let rule = |place: &usize| format!("rule {}, {}", place + 1, sheet.rules[*place].text);
     Some(match &added[..] {
-        [] => format!("'nothing before anchor' (line {line}) adds no rule: each moment is held without it."),
+        [] => format!("'nothing before anchor' (line {line}) adds no rule."),
         _ => {
             format!("'nothing before anchor' (line {line}) adds {}.", list(&added.iter().map(rule).collect::<Vec<_>>()))
         }
@@ -248,7 +248,7 @@ pub fn notes(sheet: &Sheet, span: &Span) -> Vec<String> {
     let stamps = || plan.iter().filter(|placed| !placed.free).filter_map(|placed| Some((placed, placed.stamp?)));
     let mut notes = Vec::new();
     let before: Vec<String> = stamps()
-        .filter(|(_, stamp)| *stamp < 0 && sheet.floor.is_none())
+        .filter(|(placed, _)| placed.early)
         .map(|(placed, stamp)| format!("{} ({})", placed.name, time(sheet, stamp)))
         .collect();
     if !before.is_empty() {
@@ -271,4 +271,24 @@ pub fn notes(sheet: &Sheet, span: &Span) -> Vec<String> {
         ));
     }
     notes
+}
+
+#[cfg(test)]
+mod tests {
+    use super::*;
+    use crate::answer::Report;
+
+    #[test]
+    fn two_rules_of_a_line_are_told_in_one() {
+        let text =
+            "moments: free, cleaned\nanchor <= free\ncleaned 35 to 40 after free\nspan: from anchor to cleaned\n";
+        let sheet = Report::read("day.txt", text.as_bytes()).sheet.expect("a good text");
+        let told = |places: &[usize]| rules(&sheet, places).join("; ");
+        assert_eq!(
+            told(&[0, 1, 2]),
+            "rule 1 (line 2): anchor <= free; rules 2 and 3 (line 3): cleaned 35 to 40 after free"
+        );
+        assert_eq!(told(&[2]), "rule 3 (line 3): cleaned 35 to 40 after free, that is cleaned <= free + 40");
+        assert_eq!(told(&[]), "");
+    }
 }

@@ -132,7 +132,7 @@ fn meant(words: &Words) -> Result<(), Error> {
             _ => return Ok(()),
         },
     };
-    Err(wrong(format!("there is no file '{text}'; is '{line}' meant?")))
+    Err(wrong(format!("there is no file '{text}': write '{line}'")))
 }
 
 fn wrong(message: impl Into<String>) -> Error {

@@ -60,12 +60,12 @@ pub fn doubtful(draft: &Draft, line: &str, end: usize) -> Option<Fault> {
     if line[..end].trim().is_empty() {
         let rest = body[digits..].trim_start_matches(['.', ')', ':']);
         let number = digits > 0 && rest.starts_with(char::is_whitespace);
-        let from = line.len() - rest.len();
+        let from = line.len() - rest.trim_start().len();
         if number && is_rule(draft, line, from) {
             return Some(
                 Fault::new(end, from, "a rule with a number, or a comment?")
                     .fix("a comment", with(line, end, from, "# "))
-                    .fix("a rule", with(line, end, from, "").replacen("  ", " ", 1)),
+                    .fix("a rule", with(line, end, from, "")),
             );
         }
         return None;

@@ -4,6 +4,7 @@
 
 mod list;
 mod paste;
+mod points;
 
 use std::collections::BTreeSet;
 

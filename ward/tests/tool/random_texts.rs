@@ -201,6 +201,55 @@ fn random_texts_go_there_and_back() {
     }
 }
 
+/// A random record: of kind 1, of kind 3 with several questions, or of kind 5 with suspended rules.
+fn random_record(random: &mut Random) -> Vec<u8> {
+    let (n, m) = (random.below(32), random.below(64));
+    let side = |random: &mut Random| -> Vec<i32> {
+        let lead = |random: &mut Random| if random.chance(1, 3) { lead(random) } else { BLANK };
+        (0..=n).map(|_| lead(random)).collect()
+    };
+    let row = |random: &mut Random, rule: bool| {
+        let (mut left, right) = (side(random), side(random));
+        if rule && left.iter().all(|lead| *lead == BLANK) {
+            left[random.below(n + 1)] = lead(random);
+        }
+        [left, right].concat()
+    };
+    let questions = 1 + random.below(8) * random.below(2);
+    let rows: Vec<Vec<i32>> = (0..m + questions).map(|place| row(random, place < m)).collect();
+    let record = put_together(n, m, questions, &rows);
+    if questions > 1 || m == 0 || random.chance(1, 2) {
+        return record;
+    }
+    // Kind 5 has a state a rule behind the counts; one rule at least is suspended.
+    let off = random.below(m);
+    let states: Vec<u8> = (0..m).flat_map(|place| [(place != off && random.chance(2, 3)) as u8, 0]).collect();
+    let body = [&[5, 0], &record[6..10], &states, &record[10..]].concat();
+    [&(body.len() as u32).to_le_bytes()[..], &body].concat()
+}
+
+/// Whatever a record holds, the text that tells it gives the same record.
+#[test]
+fn random_records_go_there_and_back() {
+    let mut random = Random::new(227);
+    let mut kinds = [0; 6];
+    for number in 0..500 {
+        let record = random_record(&mut random);
+        kinds[usize::from(record[4])] += 1;
+        assert_eq!(span::solve_all(&record, &mut []).map_err(|refusal| refusal.number), Err(7));
+        let text = shown::text(&record::sheet(&record).expect("a record"), &clock());
+        let read = ward_reader::read(text.as_bytes(), &clock());
+        let sheet = read.sheet.unwrap_or_else(|| panic!("{:?}\n{text}", read.remarks));
+        assert_eq!(record::sent(&sheet), std::slice::from_ref(&record), "{text}");
+        if number % 10 == 0 {
+            let told = ward(&["text", "-"], record::hex(&record));
+            assert_eq!((told.status, told.out.as_str()), (Some(0), text.as_str()), "{told:?}");
+            assert_eq!(ward(&["record", "-"], &told.out).out.trim_end(), record::hex(&record));
+        }
+    }
+    assert!([1, 3, 5].iter().all(|&kind| kinds[kind] >= 80), "{kinds:?}");
+}
+
 /// The limits that the messages name are the archive's.
 #[test]
 fn the_limits_are_the_archives() {
