@@ -69,6 +69,8 @@ pub struct Placed {
     pub door: Option<Door>,
     /// Whether it is of the binding round.
     pub round: bool,
+    /// Whether it is before the anchor, though the rules would let it be there or later, and no line forbids it.
+    pub early: bool,
 }
 
 /// What is asked of an answer beside the verdict.
@@ -123,6 +125,7 @@ impl Report {
                     place: window.place,
                     message: "these opening hours are refused (19)".into(),
                     hint: Some(hint.into()),
+                    fixes: Vec::new(),
                 });
             }
             let refused = record::sent(sheet).iter().find_map(|problem| archive::refusal(problem));
@@ -246,6 +249,8 @@ fn least(
         placed.round = reasons.as_ref().is_some_and(|reasons| reasons.round.contains(&placed.moment));
         placed.door = placed.stamp.and_then(|stamp| opening::door(sheet, placed.moment, stamp, placed.times));
     }
+    let early = why::early(sheet, &stamps)?;
+    plan.iter_mut().for_each(|placed| placed.early = early.contains(&placed.moment));
     let group = sheet.questions[question].row.right.iter().zip(&stamps);
     let start = group.filter_map(|(lead, stamp)| Some((*lead)? + (*stamp)?)).max().unwrap_or(0);
     Ok(Body::Least { minutes, start, plan, slack, reasons })
@@ -264,6 +269,7 @@ fn plan(sheet: &Sheet, question: usize, stamps: &[Option<i32>]) -> Vec<Placed> {
             times: None,
             door: None,
             round: false,
+            early: false,
         })
         .collect();
     plan.sort_by_key(|placed| (placed.free, placed.stamp.is_none(), placed.stamp, placed.moment));

@@ -7,10 +7,27 @@ use ward_reader::sheet::Row;
 use ward_reader::Clock;
 
 use crate::error::Error;
+use crate::times;
 
-/// Hours and minutes by the archive.
+/// What the reader asks of others, by the archive.
 pub fn clock() -> Clock {
-    Clock { read: |text| span::read_hours(text.as_bytes()).ok().flatten(), write: hours }
+    Clock { read: |text| span::read_hours(text.as_bytes()).ok().flatten(), write: hours, earliest: Some(earliest) }
+}
+
+/// How early each moment beside the anchor can be under some rules, where something holds it. Rules that the archive refuses hold
+/// nothing: they are told elsewhere.
+fn earliest(rules: &[&Row], count: usize) -> Vec<Option<i32>> {
+    let questions: Vec<Row> = (1..count).map(|moment| times::earliest(moment, count)).collect();
+    let bound = |outcome: Outcome| match outcome {
+        Outcome::Least(minute) => Some(minute),
+        Outcome::Bottomless => None,
+        // No plan keeps the rules, whatever is added.
+        Outcome::None => Some(0),
+    };
+    match ask(rules, &questions) {
+        Ok(outcomes) => outcomes.into_iter().map(bound).collect(),
+        Err(_) => vec![None; count.saturating_sub(1)],
+    }
 }
 
 /// Minutes as hours and minutes; far beyond every stamp, as a number.

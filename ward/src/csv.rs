@@ -46,7 +46,7 @@ fn line(report: &Report, number: usize, span: &Span, placed: Option<&Placed>, ou
         (_, Some(sheet)) => {
             cells.resize(10, String::new());
             let told = told::explained(sheet, span).into_iter().map(|(words, rules)| {
-                let rules: Vec<String> = rules.into_iter().map(|place| told::rule(sheet, place)).collect();
+                let rules = told::rules(sheet, &rules);
                 [words, rules.join("; ")].join(" ").trim_end().to_string()
             });
             cells.push(told.collect::<Vec<_>>().join(" "));

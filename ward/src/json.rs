@@ -2,7 +2,9 @@
 
 use std::fmt::Write;
 
-use ward_reader::{record, Remark, Weight};
+use ward_reader::remark::Fix;
+use ward_reader::sheet::Origin;
+use ward_reader::{record, shown, Remark, Weight};
 
 use crate::answer::{Body, Placed, Report, Span, Verdict};
 use crate::opening::Door;
@@ -103,6 +105,8 @@ fn file(report: &Report) -> Value {
                 ("number", number),
                 ("line", Number(rule.place.line as i64)),
                 ("rule", text(&rule.text)),
+                ("says", text(shown::rule(&sheet.moments, rule, &crate::archive::clock()))),
+                ("added", True(rule.origin == Origin::Floor)),
                 ("in_force", True(rule.in_force)),
             ])
         });
@@ -123,7 +127,13 @@ fn remark(remark: &Remark) -> Value {
         ("column", Number(remark.place.column as i64)),
         ("message", text(&remark.message)),
         ("hint", remark.hint.as_ref().map_or(Null, text)),
+        ("readings", List(remark.fixes.iter().map(reading).collect())),
     ])
+}
+
+/// Lines that can be written in place of a mistaken one.
+fn reading(fix: &Fix) -> Value {
+    Object(vec![("says", text(&fix.says)), ("lines", List(fix.lines.iter().map(text).collect()))])
 }
 
 fn one(report: &Report, number: usize, span: &Span) -> Value {
@@ -157,6 +167,7 @@ fn body(report: &Report, span: &Span) -> Vec<(&'static str, Value)> {
                 ("span_hours", text(crate::archive::hours(*minutes))),
             ];
             fields.push(("plan", plan(placed)));
+            fields.push(("notes", List(told::notes(sheet, span).into_iter().map(text).collect())));
             if let Slack::Cannot(why) = slack {
                 fields.push(("no_times", text(*why)));
             }

@@ -105,7 +105,12 @@ fn tell_remarks(report: &mut Report, words: &Words) {
     if words.quiet {
         report.remarks.retain(|remark| remark.weight == Weight::Mistake);
     }
-    tell(&terminal::remarks(report));
+    tell(&terminal::remarks(report, colour(io::stderr().is_terminal())));
+}
+
+/// Whether colours are put out: on a terminal, where NO_COLOR is not set.
+fn colour(terminal: bool) -> bool {
+    terminal && std::env::var_os("NO_COLOR").is_none_or(|value| value.is_empty())
 }
 
 fn look(words: &Words) -> Look {
@@ -115,7 +120,8 @@ fn look(words: &Words) -> Look {
     let utf8 = locale
         .is_none_or(|locale| locale.to_lowercase().replace('-', "").contains("utf8") || !io::stdout().is_terminal());
     let width = std::env::var("COLUMNS").ok().and_then(|columns| columns.parse().ok()).unwrap_or(80);
-    Look { width: std::cmp::Ord::clamp(width, 40, 160), signs: utf8 && !words.plain }
+    let colour = colour(io::stdout().is_terminal() && words.output.is_none());
+    Look { width: std::cmp::Ord::clamp(width, 40, 160), signs: utf8 && !words.plain, colour }
 }
 
 /// Reads or answers the texts. What goes to a terminal is put out text by text, all else in the end.

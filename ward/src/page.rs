@@ -8,7 +8,7 @@ use crate::answer::{Body, Placed, Report, Span, Verdict};
 use crate::archive::hours;
 use crate::opening::Door;
 use crate::scale::{bar, drawn, Scale};
-use crate::told;
+use crate::{terminal, told};
 
 const STYLE: &str = include_str!("sheet.css");
 
@@ -64,13 +64,20 @@ fn name(report: &Report) -> String {
 fn remarks(report: &Report) -> String {
     let mut items: Vec<String> =
         report.fault.iter().map(|fault| format!("<li>{}</li>\n", safe(&fault.to_string()))).collect();
-    for Remark { weight, place, message, hint } in &report.remarks {
+    let (shown, more) = terminal::shown(report);
+    for remark in shown {
+        let Remark { weight, place, message, hint, fixes } = remark;
         let word = if *weight == Weight::Mistake { "mistake" } else { "warning" };
         let line: Vec<char> = report.lines.get(place.line - 1).map_or(Vec::new(), |line| line.chars().collect());
         let part =
             |from: usize, to: usize| safe(&line[from.min(line.len())..to.min(line.len())].iter().collect::<String>());
         let (from, to) = (place.column - 1, place.column - 1 + place.width);
-        let hint = hint.as_ref().map_or(String::new(), |hint| format!("<span class=\"hint\">{}</span>", safe(hint)));
+        let mut hint =
+            hint.as_ref().map_or(String::new(), |hint| format!("<span class=\"hint\">{}</span>", safe(hint)));
+        for fix in fixes {
+            let lines: String = fix.lines.iter().map(|line| format!("<code>{}</code>", safe(line))).collect();
+            let _ = write!(hint, "<span class=\"hint\">{}:</span>{lines}", safe(&remark.lead(fix)));
+        }
         items.push(format!(
             "<li><strong>Line {}, column {}, {word}:</strong> {}<code>{}<mark>{}</mark>{}</code>{hint}</li>\n",
             place.line,
@@ -80,6 +87,10 @@ fn remarks(report: &Report) -> String {
             part(from, to),
             part(to, line.len())
         ));
+    }
+    let beyond = terminal::beyond(more);
+    if !beyond.is_empty() {
+        items.push(format!("<li>{}</li>\n", safe(&beyond)));
     }
     match items.is_empty() {
         true => String::new(),
@@ -98,6 +109,7 @@ fn text(report: &Report) -> String {
             page += &article(sheet, number, report.spans.len(), span);
         }
         page += &rules(sheet);
+        page.extend(told::floor(sheet).map(|floor| format!("<p>{}</p>\n", safe(&floor))));
     }
     page + "</section>\n"
 }
@@ -275,7 +287,7 @@ fn grid(sheet: &Sheet, scale: &Scale, height: usize) -> String {
         let place = percent(scale.place(mark.into()));
         let odd = if number % 2 == 1 { " class=\"odd\"" } else { "" };
         let (x, anchor) = if place > 92.0 { (100.0, "end") } else { (place, "middle") };
-        let time = safe(&told::time(sheet, mark));
+        let time = safe(&told::short(sheet, mark));
         drawing += &upright("grid", place, HEAD - 6, height);
         drawing += &format!("<text{odd} x=\"{x:.2}%\" y=\"14\" text-anchor=\"{anchor}\">{time}</text>\n");
     }
@@ -350,7 +362,8 @@ fn explained(sheet: &Sheet, span: &Span) -> String {
 fn rule(sheet: &Sheet, place: usize, of_round: bool) -> String {
     let rule = &sheet.rules[place];
     let round = if of_round { ", of the round" } else { "" };
-    format!("{} <span class=\"line\">rule {}, line {}{round}</span>", safe(&rule.text), place + 1, rule.place.line)
+    let words = safe(&told::words(sheet, place));
+    format!("{words} <span class=\"line\">rule {}, line {}{round}</span>", place + 1, rule.place.line)
 }
 
 /// All rules, at the end.
@@ -359,12 +372,11 @@ fn rules(sheet: &Sheet) -> String {
         return String::new();
     }
     let mut page = String::from("<h3>Rules</h3>\n<ol class=\"rules\">\n");
-    for row in &sheet.rules {
+    for (place, row) in sheet.rules.iter().enumerate() {
+        let words = safe(&told::words(sheet, place));
         let words = match row.in_force {
-            true => safe(&row.text),
-            false => {
-                format!("<span class=\"suspended\">{}</span> <span class=\"line\">suspended</span>", safe(&row.text))
-            }
+            true => words,
+            false => format!("<span class=\"suspended\">{words}</span> <span class=\"line\">suspended</span>"),
         };
         let _ = writeln!(page, "<li>{words}</li>");
     }

@@ -55,7 +55,7 @@ mod tests {
     #[test]
     fn the_terminal_tells_them_in_the_rules_own_words() {
         let report = explained();
-        let told = terminal::report(&report, Look { width: 80, signs: true });
+        let told = terminal::report(&report, Look { width: 80, signs: true, colour: false });
         for part in [
             "The rule behind it; with this one alone the least span is the same:\n  rule 1 (line 2): anchor + 30 <= bed\n",
             "The round that binds it runs over anchor and bed, by rule 1 and the span.\n",

@@ -3,7 +3,7 @@
 use std::fmt::Write;
 
 use ward_reader::remark::clean;
-use ward_reader::{Sheet, Weight};
+use ward_reader::{Remark, Sheet, Weight};
 
 use crate::answer::{Body, Placed, Report, Span};
 use crate::scale::{bar, drawn, Scale};
@@ -16,6 +16,8 @@ pub struct Look {
     pub width: usize,
     /// Signs beyond ASCII.
     pub signs: bool,
+    /// Colours.
+    pub colour: bool,
 }
 
 /// The signs of a timeline.
@@ -54,9 +56,40 @@ const PLAIN: Signs = Signs {
     together: '|',
 };
 
-/// Mistakes and warnings with their places.
-pub fn remarks(report: &Report) -> String {
-    let mut text: String = report.remarks.iter().map(|remark| remark.in_file(&report.file, &report.lines)).collect();
+/// The most mistakes that are shown, and the most warnings.
+pub const SHOWN: usize = 20;
+
+/// The remarks that are shown, in their order, and how many mistakes and warnings more there are.
+pub fn shown(report: &Report) -> (Vec<&Remark>, [usize; 2]) {
+    let mut counts = [0; 2];
+    let shown = report.remarks.iter().filter(|remark| {
+        let count = &mut counts[(remark.weight == Weight::Warning) as usize];
+        *count += 1;
+        *count <= SHOWN
+    });
+    let shown = shown.collect();
+    (shown, counts.map(|count| count.saturating_sub(SHOWN)))
+}
+
+/// How many mistakes and warnings are not shown, in words.
+pub fn beyond([mistakes, warnings]: [usize; 2]) -> String {
+    let more = |number: usize, one: &str, more: &str| (number > 0).then(|| count(number, one, more));
+    let more = [more(mistakes, "mistake more", "mistakes more"), more(warnings, "warning more", "warnings more")];
+    let more: Vec<String> = more.into_iter().flatten().collect();
+    match more.is_empty() {
+        true => String::new(),
+        false => format!("and {}", more.join(" and ")),
+    }
+}
+
+/// Mistakes and warnings with their places, in colour where that is asked for.
+pub fn remarks(report: &Report, colour: bool) -> String {
+    let (shown, more) = shown(report);
+    let mut text: String = shown.iter().map(|remark| painted(remark, report, colour)).collect();
+    let beyond = beyond(more);
+    if !beyond.is_empty() {
+        let _ = writeln!(text, "{}: {beyond}", clean(&report.file));
+    }
     if let Some(fault) = &report.fault {
         let _ = writeln!(text, "{}: {}", clean(&report.file), clean(&fault.to_string()));
     }
@@ -67,10 +100,35 @@ pub fn remarks(report: &Report) -> String {
     text
 }
 
+/// A remark; in colour its word is red or yellow, and so is what stands under its place; what can be written is green.
+fn painted(remark: &Remark, report: &Report, colour: bool) -> String {
+    let text = remark.in_file(&report.file, &report.lines);
+    if !colour {
+        return text;
+    }
+    let (word, paint) = match remark.weight {
+        Weight::Mistake => ("mistake", "\x1b[1;31m"),
+        Weight::Warning => ("warning", "\x1b[1;33m"),
+    };
+    let line = |(number, line): (usize, &str)| match number {
+        0 => line.replacen(&format!(" {word}: "), &format!(" {paint}{word}:\x1b[0m "), 1),
+        2 => match line.find('^') {
+            Some(place) => format!("{}{paint}{}\x1b[0m", &line[..place], &line[place..]),
+            None => line.to_string(),
+        },
+        3.. if !line.trim_start().starts_with('=') => format!("\x1b[32m{line}\x1b[0m"),
+        _ => line.to_string(),
+    };
+    text.lines().enumerate().map(line).collect::<Vec<_>>().join("\n") + "\n"
+}
+
 /// A few words on a text that was only read.
 pub fn checked(report: &Report) -> String {
     match &report.sheet {
-        Some(sheet) if report.fault.is_none() => format!("{}: no mistake; {}\n", clean(&report.file), size(sheet)),
+        Some(sheet) if report.fault.is_none() => {
+            let floor = told::floor(sheet).map_or(String::new(), |floor| floor + "\n");
+            format!("{}: no mistake; {}\n{floor}", clean(&report.file), size(sheet))
+        }
         _ => String::new(),
     }
 }
@@ -100,6 +158,7 @@ pub fn report(report: &Report, look: Look) -> String {
         Some(title) => format!("{title}\n{}: {}\n", report.file, size(sheet)),
         None => format!("{}: {}\n", report.file, size(sheet)),
     };
+    text.extend(told::floor(sheet).map(|floor| floor + "\n"));
     for (number, span) in report.spans.iter().enumerate() {
         text.push('\n');
         if report.spans.len() > 1 {
@@ -107,7 +166,20 @@ pub fn report(report: &Report, look: Look) -> String {
         }
         text += &one(sheet, span, look);
     }
-    text.split('\n').map(|line| clean(line.trim_end())).collect::<Vec<_>>().join("\n")
+    let line = |line: &str| coloured(clean(line.trim_end()), look.colour);
+    text.split('\n').map(line).collect::<Vec<_>>().join("\n")
+}
+
+/// A line of a report; in colour what the checker says is green where it accepts, and red where it does not.
+fn coloured(line: String, colour: bool) -> String {
+    let paint = match () {
+        _ if !colour => return line,
+        _ if line.starts_with("The checker, which trusts no engine, says: ") => "\x1b[32m",
+        _ if line.starts_with("The checker, which trusts no engine, does not") => "\x1b[1;31m",
+        _ if line.starts_with("The text expects another answer") => "\x1b[1;33m",
+        _ => return line,
+    };
+    format!("{paint}{line}\x1b[0m")
 }
 
 fn one(sheet: &Sheet, span: &Span, look: Look) -> String {
@@ -127,8 +199,8 @@ fn one(sheet: &Sheet, span: &Span, look: Look) -> String {
     }
     for (words, rules) in told::explained(sheet, span) {
         let _ = writeln!(text, "{}{words}", if rules.is_empty() { "" } else { "\n" });
-        for place in rules {
-            let _ = writeln!(text, "  {}", told::rule(sheet, place));
+        for rule in told::rules(sheet, &rules) {
+            let _ = writeln!(text, "  {rule}");
         }
     }
     text
@@ -251,7 +323,7 @@ fn axis(sheet: &Sheet, scale: &Scale, signs: &Signs, label: usize, width: usize)
     let mut free = 0;
     for &mark in &scale.marks {
         let column = (scale.place(mark.into()) * (width - 1) as f64).round() as usize;
-        let time: Vec<char> = told::time(sheet, mark).chars().collect();
+        let time: Vec<char> = told::short(sheet, mark).chars().collect();
         marks[column] = signs.mark;
         // The last time ends with the line, and a time that has no room is left out.
         let start = column.min(width.saturating_sub(time.len()));
@@ -262,4 +334,49 @@ fn axis(sheet: &Sheet, scale: &Scale, signs: &Signs, label: usize, width: usize)
     }
     let line = |part: Vec<char>| format!("  {}  {}\n", padded("", label), part.into_iter().collect::<String>());
     line(times) + &line(marks)
+}
+
+#[cfg(test)]
+mod tests {
+    use super::*;
+    use crate::answer::Wishes;
+
+    fn report(text: &str) -> Report {
+        let mut report = Report::read("day.txt", text.as_bytes());
+        report.answer(Wishes { times: false });
+        report
+    }
+
+    /// Without its colours a text is the one without colours.
+    #[test]
+    fn colours_change_no_word() {
+        let bare = |text: &str| {
+            let parts = text.split('\x1b').enumerate();
+            parts
+                .map(|(number, part)| if number == 0 { part } else { part.split_once('m').expect("a colour").1 })
+                .collect::<String>()
+        };
+        let wrong = report("moments: a\na < a\nb <= a\nspan: from anchor to a\n");
+        let painted = remarks(&wrong, true);
+        assert!(painted.contains("\x1b[1;31mmistake:\x1b[0m") && painted.contains("\x1b[32m"), "{painted}");
+        assert_eq!(bare(&painted), remarks(&wrong, false));
+        let good = report("moments: a\nanchor + 5 <= a\nspan: from anchor to a\nexpect: least 4\n");
+        let look = |colour: bool| Look { width: 80, signs: true, colour };
+        let painted = super::report(&good, look(true));
+        assert_eq!(painted.matches('\x1b').count(), 4, "{painted}");
+        assert_eq!(bare(&painted), super::report(&good, look(false)));
+    }
+
+    #[test]
+    fn twenty_mistakes_are_shown_and_the_rest_is_counted() {
+        let text = |count: usize| format!("moments: a\n{}span: from anchor to a\n", "a < a\n".repeat(count));
+        for (count, shown, end) in
+            [(20, 20, "day.txt: 20 mistakes\n"), (57, 20, "day.txt: and 37 mistakes more\nday.txt: 57 mistakes\n")]
+        {
+            let told = remarks(&report(&text(count)), false);
+            assert_eq!(told.matches(": mistake: ").count(), shown);
+            assert!(told.ends_with(end), "{told}");
+        }
+        assert!(remarks(&report(&text(21)), false).contains("day.txt: and 1 mistake more\n"));
+    }
 }

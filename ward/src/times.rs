@@ -4,7 +4,7 @@
 use span::Outcome;
 use ward_reader::limits;
 use ward_reader::remark::Place;
-use ward_reader::sheet::{Lead, Row};
+use ward_reader::sheet::{Lead, Origin, Row};
 use ward_reader::Sheet;
 
 use crate::archive;
@@ -46,7 +46,8 @@ impl Slack {
 
 /// A row of two groups.
 pub fn row(left: Vec<Lead>, right: Vec<Lead>) -> Row {
-    Row { place: Place { line: 1, column: 1, width: 1 }, text: String::new(), left, right, in_force: true }
+    let place = Place { line: 1, column: 1, width: 1 };
+    Row { place, text: String::new(), left, right, in_force: true, origin: Origin::Line }
 }
 
 /// One moment of so many.

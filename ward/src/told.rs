@@ -1,7 +1,9 @@
 //! Words that the terminal, the sheet and the files share.
 
+use ward_reader::calendar;
 use ward_reader::clock::{DAY, DAYS};
-use ward_reader::Sheet;
+use ward_reader::sheet::Origin;
+use ward_reader::{shown, Sheet};
 
 use crate::answer::{Body, Placed, Span};
 use crate::archive::hours;
@@ -18,13 +20,32 @@ pub fn minutes(value: i32) -> String {
     }
 }
 
-/// When a minute is: the time of day where the text gives the anchor's, else hours and minutes after the anchor.
+/// The days since the anchor's, and the minute of that day.
+fn day_and_minute(minute: i32, stamp: i32) -> (i64, i32) {
+    let minute = i64::from(minute) + i64::from(stamp);
+    (minute.div_euclid(DAY.into()), minute.rem_euclid(DAY.into()) as i32)
+}
+
+/// When a minute is: the time of day where the text gives the anchor's, with day and date where it gives these too, else hours and
+/// minutes after the anchor.
 pub fn time(sheet: &Sheet, stamp: i32) -> String {
     let Some(anchor) = sheet.anchor else { return hours(stamp) };
-    let minute = i64::from(anchor.minute) + i64::from(stamp);
-    let (day, of_day) = (minute.div_euclid(DAY.into()), minute.rem_euclid(DAY.into()) as i32);
+    let (day, of_day) = day_and_minute(anchor.minute, stamp);
+    match anchor.date {
+        Some(date) => format!("{} {}", calendar::named(date + day), hours(of_day)),
+        None => short(sheet, stamp),
+    }
+}
+
+/// The same where there is little room: without the date, but where the day of the week would not tell.
+pub fn short(sheet: &Sheet, stamp: i32) -> String {
+    let Some(anchor) = sheet.anchor else { return hours(stamp) };
+    let (day, of_day) = day_and_minute(anchor.minute, stamp);
     let time = hours(of_day);
     match (anchor.day, day) {
+        (Some(_), ..-6 | 7..) if anchor.date.is_some() => {
+            format!("{} {time}", &calendar::written(anchor.date.unwrap_or(0) + day)[5..])
+        }
         (Some(first), -6..=6) => format!("{} {time}", &DAYS[(first as i64 + day).rem_euclid(7) as usize][..3]),
         (_, 0) => time,
         _ => format!("{time} {day:+}d"),
@@ -106,7 +127,8 @@ pub fn verdict(span: &Span) -> String {
 pub fn explained(sheet: &Sheet, span: &Span) -> Vec<(String, Vec<usize>)> {
     match &span.body {
         Body::Least { slack, reasons, .. } => {
-            let mut told = Vec::new();
+            let mut told: Vec<(String, Vec<usize>)> =
+                notes(sheet, span).into_iter().map(|note| (note, Vec::new())).collect();
             if let Slack::Cannot(why) = slack {
                 told.push((format!("Earliest and latest times cannot be told: {why}."), Vec::new()));
             }
@@ -176,8 +198,97 @@ fn blocked_words(blocked: &Blocked) -> (String, Vec<usize>) {
     }
 }
 
-/// A rule as a text has it: its number, its line, its words.
-pub fn rule(sheet: &Sheet, place: usize) -> String {
+/// Rules as a text has them: number, line and words of each. Two that one line makes are told together, and one of them with what
+/// it says alone.
+pub fn rules(sheet: &Sheet, places: &[usize]) -> Vec<String> {
+    let mut told = Vec::new();
+    let mut rest = places;
+    while let [place, behind @ ..] = rest {
+        let rule = &sheet.rules[*place];
+        let line = rule.place.line;
+        let pair = behind.first().filter(|&&next| rule.origin == Origin::Half && sheet.rules[next].place == rule.place);
+        rest = if pair.is_some() { &behind[1..] } else { behind };
+        told.push(match pair {
+            Some(next) => format!("rules {} and {} (line {line}): {}", place + 1, next + 1, rule.text),
+            None => format!("rule {} (line {line}): {}", place + 1, words(sheet, *place)),
+        });
+    }
+    told
+}
+
+/// A rule's words; where its line makes two, what this one says too; where its line adds rules, that it does.
+pub fn words(sheet: &Sheet, place: usize) -> String {
     let rule = &sheet.rules[place];
-    format!("rule {} (line {}): {}", place + 1, rule.place.line, rule.text)
+    match rule.origin {
+        Origin::Line => rule.text.clone(),
+        Origin::Half => {
+            format!("{}, that is {}", rule.text, shown::rule(&sheet.moments, rule, &crate::archive::clock()))
+        }
+        Origin::Floor => format!("{}, by 'nothing before anchor'", rule.text),
+    }
+}
+
+/// What the line `nothing before anchor` adds, if the text has it.
+pub fn floor(sheet: &Sheet) -> Option<String> {
+    let line = sheet.floor?.line;
+    let added: Vec<usize> =
+        (0..sheet.rules.len()).filter(|&place| sheet.rules[place].origin == Origin::Floor).collect();
+    let rule = |place: &usize| format!("rule {}, {}", place + 1, sheet.rules[*place].text);
+    Some(match &added[..] {
+        [] => format!("'nothing before anchor' (line {line}) adds no rule."),
+        _ => {
+            format!("'nothing before anchor' (line {line}) adds {}.", list(&added.iter().map(rule).collect::<Vec<_>>()))
+        }
+    })
+}
+
+/// What a reader of a plan may not expect: moments before the anchor that nothing holds, and days on which clocks change.
+pub fn notes(sheet: &Sheet, span: &Span) -> Vec<String> {
+    let Body::Least { plan, .. } = &span.body else { return Vec::new() };
+    let stamps = || plan.iter().filter(|placed| !placed.free).filter_map(|placed| Some((placed, placed.stamp?)));
+    let mut notes = Vec::new();
+    let before: Vec<String> = stamps()
+        .filter(|(placed, _)| placed.early)
+        .map(|(placed, stamp)| format!("{} ({})", placed.name, time(sheet, stamp)))
+        .collect();
+    if !before.is_empty() {
+        let (is, it) = if before.len() == 1 { ("is", "it") } else { ("are", "them") };
+        notes.push(format!(
+            "{} {is} before the anchor: nothing holds {it} at the anchor or later. The line 'nothing before anchor' would.",
+            list(&before)
+        ));
+    }
+    let change = sheet.anchor.and_then(|anchor| {
+        let day = |stamp: i32| Some(anchor.date? + day_and_minute(anchor.minute, stamp).0);
+        let first = stamps().map(|(_, stamp)| stamp).min()?.min(0);
+        let last = stamps().map(|(_, stamp)| stamp).max()?.max(0);
+        calendar::change(day(first)?, day(last)?)
+    });
+    if let Some(day) = change {
+        notes.push(format!(
+            "Clocks may change on {}, in the days of this plan: clock changes are not looked at.",
+            calendar::named(day)
+        ));
+    }
+    notes
+}
+
+#[cfg(test)]
+mod tests {
+    use super::*;
+    use crate::answer::Report;
+
+    #[test]
+    fn two_rules_of_a_line_are_told_in_one() {
+        let text =
+            "moments: free, cleaned\nanchor <= free\ncleaned 35 to 40 after free\nspan: from anchor to cleaned\n";
+        let sheet = Report::read("day.txt", text.as_bytes()).sheet.expect("a good text");
+        let told = |places: &[usize]| rules(&sheet, places).join("; ");
+        assert_eq!(
+            told(&[0, 1, 2]),
+            "rule 1 (line 2): anchor <= free; rules 2 and 3 (line 3): cleaned 35 to 40 after free"
+        );
+        assert_eq!(told(&[2]), "rule 3 (line 3): cleaned 35 to 40 after free, that is cleaned <= free + 40");
+        assert_eq!(told(&[]), "");
+    }
 }

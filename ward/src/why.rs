@@ -55,6 +55,19 @@ pub fn loose(sheet: &Sheet, question: usize) -> Result<Loose, Error> {
     Ok(Loose { late, early: if all { early } else { Vec::new() } })
 }
 
+/// The moments of a plan that are before the anchor, though the rules would let them be there or later, where no line
+/// `nothing before anchor` was thought of.
+pub fn early(sheet: &Sheet, stamps: &[Option<i32>]) -> Result<Vec<usize>, Error> {
+    let early = |moment: &usize| sheet.floor.is_none() && stamps[*moment].is_some_and(|stamp| stamp < 0);
+    let mut moments: Vec<usize> = (1..stamps.len()).filter(early).collect();
+    let rules: Vec<&Row> = sheet.in_force().collect();
+    let questions: Vec<Row> = moments.iter().map(|&moment| latest(moment, stamps.len())).collect();
+    let mut outcomes = archive::ask(&rules, &questions)?.into_iter();
+    // From the moment to the anchor: 0 minutes or less where it can be at the anchor or later.
+    moments.retain(|_| !matches!(outcomes.next(), Some(Outcome::Least(1..))));
+    Ok(moments)
+}
+
 pub fn blocked(sheet: &Sheet, question: usize) -> Result<Blocked, Error> {
     let question = &sheet.questions[question].row;
     if question.right.iter().all(Option::is_none) {

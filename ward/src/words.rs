@@ -2,6 +2,8 @@
 
 use std::ffi::OsString;
 
+use ward_reader::hints::near;
+
 use crate::error::Error;
 
 /// What `--help` prints.
@@ -107,8 +109,30 @@ pub fn read(arguments: impl Iterator<Item = OsString>) -> Result<Words, Error> {
         }
     }
     words.output = words.output.filter(|file| file != "-");
+    meant(&words)?;
     fits(&words)?;
     Ok(words)
+}
+
+/// Words that are nearly a command, and no file: `ward chek day.txt`, `ward help`.
+fn meant(words: &Words) -> Result<(), Error> {
+    let Some(first) = words.files.first().filter(|_| words.command == Command::Answer) else { return Ok(()) };
+    let text = first.to_string_lossy();
+    let plain = !text.is_empty() && text.chars().all(|c| c.is_ascii_alphabetic());
+    if !plain || std::path::Path::new(first).exists() {
+        return Ok(());
+    }
+    let small = text.to_lowercase();
+    let rest: Vec<_> = words.files[1..].iter().map(|file| file.to_string_lossy()).collect();
+    let line = match small.as_str() {
+        "help" | "version" => format!("ward --{small}"),
+        _ => match near(&small, ["check", "judge", "record", "text", "help", "version"].into_iter()) {
+            Some(command @ ("help" | "version")) => format!("ward --{command}"),
+            Some(command) if !rest.is_empty() => format!("ward {command} {}", rest.join(" ")),
+            _ => return Ok(()),
+        },
+    };
+    Err(wrong(format!("there is no file '{text}': write '{line}'")))
 }
 
 fn wrong(message: impl Into<String>) -> Error {
@@ -226,6 +250,8 @@ mod tests {
             "check --html a",
             "a --binary",
             "-o x -o y a",
+            "chek a.txt",
+            "help",
         ] {
             assert!(read_all(words).is_err(), "{words}");
         }

@@ -1,18 +1,38 @@
 //! Hours and minutes, days and windows of a week.
 
-/// Who reads and writes texts of hours and minutes (document 02, 2.7). The tool takes the archive's functions.
+use crate::sheet::Row;
+
+/// What the reader asks of others, for it is proved elsewhere: who reads and writes texts of hours and minutes (document 02, 2.7),
+/// and who says how early moments can be. The tool takes the archive's functions.
 #[derive(Clone, Copy)]
 pub struct Clock {
     /// The minutes of a text like `1:30`; `None` where it is no such text, or is blank.
     pub read: fn(&str) -> Option<i32>,
     /// The text of minutes.
     pub write: fn(i32) -> String,
+    /// For each moment beside the anchor how early it can be under some rules, which are told with the count of all moments; `None`
+    /// where nothing holds it. Without this function no value of hours is known, and nothing that needs one is looked at.
+    pub earliest: Option<Earliest>,
 }
+
+/// See [`Clock::earliest`].
+pub type Earliest = fn(&[&Row], usize) -> Vec<Option<i32>>;
 
 impl Clock {
     /// Where nothing is built yet: each text of digits, a colon and digits is taken, and its value is left open.
     pub fn unjudged() -> Clock {
-        Clock { read: |_| Some(0), write: |minutes| minutes.to_string() }
+        Clock { read: |_| Some(0), write: |minutes| minutes.to_string(), earliest: None }
+    }
+
+    /// Whether the values of hours and minutes are known.
+    pub fn judges(&self) -> bool {
+        self.earliest.is_some()
+    }
+
+    /// The minutes of digits, a colon and digits; one leading zero, as in `08:00`, plays no part.
+    pub fn hours(&self, text: &str) -> Option<i32> {
+        let bare = text.strip_prefix('0').filter(|bare| !bare.starts_with(':') && bare.len() == 4);
+        (self.read)(bare.unwrap_or(text))
     }
 }
 
@@ -36,8 +56,10 @@ pub fn day(word: &str) -> Option<usize> {
 /// When the anchor is.
 #[derive(Clone, Copy, Debug, PartialEq, Eq)]
 pub struct Anchor {
-    /// The day, 0 for Monday, where the text names it.
+    /// The day, 0 for Monday, where the text names it or its date.
     pub day: Option<usize>,
+    /// The date as a number of days, where the text names it.
+    pub date: Option<i64>,
     /// The minute of that day.
     pub minute: i32,
 }

@@ -1,49 +1,53 @@
 //! The lines about times: when the anchor is, and when the ward is open.
 
+use crate::calendar;
 use crate::clock::{self, Anchor, Window, DAY};
+use crate::cursor::{Cursor, Unknown};
+use crate::fault::{with, Fault};
+use crate::instant;
+use crate::length;
 use crate::parse::{place, Draft};
-use crate::sides::{self, Cursor};
-use crate::tokens::{Fault, Kind};
+use crate::tokens::Kind;
 
 impl Draft<'_> {
-    /// `8:00`, or `Monday 8:00`.
+    /// `8:00`, `Monday 8:00`, or `2026-11-17 8:00`.
     pub(crate) fn anchor(&mut self, cursor: &mut Cursor) -> Result<(), Fault> {
         let from = cursor.place();
-        let day = cursor.peek(0).and_then(|token| clock::day(token.text));
-        if day.is_some() {
-            cursor.take();
+        if let Some(fault) = anchor_otherwise(cursor) {
+            return Err(fault);
         }
-        let minute = self.time(cursor, DAY - 1, "8:00 or Monday 8:00")?;
+        let stamp = instant::stamp(cursor, self.clock)?;
+        if stamp.minute >= DAY {
+            return Err(Fault::new(stamp.from, stamp.to, "the anchor's day ends before 24:00")
+                .hint("write 0:00, and the next day where the line has a day"));
+        }
         if cursor.peek(0).is_some() {
-            return Err(cursor.fault("nothing more is expected").hint("write 'anchor: 8:00' or 'anchor: Monday 8:00'"));
+            return Err(cursor
+                .fault("nothing more is expected")
+                .hint("as in 'anchor: 8:00', 'anchor: Monday 8:00' or 'anchor: 2026-11-17 8:00'"));
         }
         if self.sheet.anchor.is_some() {
             return Err(Fault::new(from, cursor.place(), "the anchor has a time already"));
         }
-        self.sheet.anchor = Some(Anchor { day, minute });
+        let day = stamp.date.map(calendar::weekday).or(stamp.day);
+        self.sheet.anchor = Some(Anchor { day, date: stamp.date, minute: stamp.minute });
         Ok(())
     }
 
     /// A time of day.
-    fn time(&self, cursor: &mut Cursor, latest: i32, form: &str) -> Result<i32, Fault> {
+    fn time(&self, cursor: &mut Cursor, latest: i32) -> Result<i32, Fault> {
         let Some(token) = cursor.peek(0).filter(|token| token.kind == Kind::Word) else {
-            return Err(cursor.fault("a time of day is expected").hint(format!("write it like {form}")));
+            return Err(cursor.fault("a time of day is expected").hint("hours are written 7:00-18:00"));
         };
-        let minute = if sides::is_hours(token.text) { (self.clock.read)(token.text) } else { None };
+        let minute = if length::is_hours(token.text) { self.clock.hours(token.text) } else { None };
         match minute.filter(|minute| (0..=latest).contains(minute)) {
             Some(minute) => {
                 cursor.take();
                 Ok(minute)
             }
             None => {
-                let written = token.text.trim_start_matches('0');
-                let message = format!("'{}' is no time of day", token.text);
-                let fault = Fault::new(token.from, token.to, message);
-                let zero = sides::is_hours(token.text) && token.text.len() > written.len() && !written.starts_with(':');
-                Err(match zero {
-                    true => fault.hint(format!("hours have no leading zero: write {written}")),
-                    false => fault.hint(format!("write it like {form}")),
-                })
+                let fault = Fault::new(token.from, token.to, format!("'{}' is no time of day", token.text));
+                Err(fault.hint("hours are written 7:00-18:00"))
             }
         }
     }
@@ -54,12 +58,12 @@ impl Draft<'_> {
             let from = cursor.place();
             let first = self.day(cursor)?;
             let last = if cursor.takes("-") || cursor.takes("to") { self.day(cursor)? } else { first };
-            let opening = self.time(cursor, DAY, "7:00-18:00")?;
+            let opening = self.time(cursor, DAY)?;
             if !cursor.takes("-") {
-                cursor.expect("to").map_err(|fault| fault.hint("write the hours like 7:00-18:00"))?;
+                cursor.expect("to").map_err(|fault| fault.hint("hours are written 7:00-18:00"))?;
             }
             let to = cursor.peek(0).map_or(from, |token| token.to);
-            let closing = self.time(cursor, DAY, "7:00-18:00")?;
+            let closing = self.time(cursor, DAY)?;
             let place = place(number, cursor.line, from, to);
             let count = (last + 7 - first) % 7 + 1;
             for day in (0..count).map(|step| (first + step) % 7 * DAY as usize) {
@@ -75,7 +79,7 @@ impl Draft<'_> {
             None => Ok(()),
             Some(_) => Err(cursor
                 .fault("a comma is expected")
-                .hint("write 'open: Monday to Friday 7:00-18:00, Saturday 9:00-12:00'")),
+                .hint("as in 'open: Monday to Friday 7:00-18:00, Saturday 9:00-12:00'")),
         }
     }
 
@@ -94,7 +98,7 @@ impl Draft<'_> {
             match self.sheet.moments.iter().position(|known| known.name == token.text) {
                 Some(moment) if !self.sheet.admits.contains(&moment) => self.sheet.admits.push(moment),
                 Some(_) => {}
-                None => cursor.unknown.push(sides::Unknown { name: token.text.into(), from: token.from, to: token.to }),
+                None => cursor.unknown.push(Unknown { name: token.text.into(), from: token.from, to: token.to }),
             }
             if !cursor.takes(",") {
                 break;
@@ -102,7 +106,43 @@ impl Draft<'_> {
         }
         match cursor.peek(0) {
             None => Ok(()),
+            Some(and) if cursor.sees("and") => {
+                let line = cursor.line;
+                let comma = format!("{}, {}", line[..and.from].trim_end(), line[and.to..].trim_start());
+                Err(cursor.fault("a comma is expected").fix("", comma))
+            }
             Some(_) => Err(cursor.fault("a comma is expected")),
         }
     }
+}
+
+/// The anchor's time in another form.
+fn anchor_otherwise(cursor: &Cursor) -> Option<Fault> {
+    let known = instant::Known { moments: &[], anchor: None, doubtful: false, clock: &clock::Clock::unjudged() };
+    let first = cursor.peek(0)?;
+    let (line, end) = (cursor.line, cursor.end());
+    let whole = |text: String| with(line, first.from, end, &text);
+    if instant::starts(cursor, &known) {
+        let second = cursor.peek(1).filter(|token| token.text == ",")?;
+        let third = cursor.peek(2)?;
+        return Some(
+            cursor.fault("a time is expected").fix("", format!("{} {}", &line[..second.from], &line[third.from..])),
+        );
+    }
+    if first.text.to_lowercase() == "today" {
+        let rest = cursor.peek(1).map_or("", |token| &line[token.from..end]);
+        return Some(cursor.fault("a day, a date or a time is expected").fix("", whole(rest.into())));
+    }
+    if length::is_number(first.text) && cursor.peek(1).is_none() {
+        let fault = cursor.fault("a time of day is expected");
+        return Some(fault.fix("", whole(format!("{}:00", first.text))));
+    }
+    if let Some(fault) = instant::meant(cursor, &known) {
+        return Some(fault);
+    }
+    Some(
+        cursor
+            .fault("a time of day is expected")
+            .hint("as in 'anchor: 8:00', 'anchor: Monday 8:00' or 'anchor: 2026-11-17 8:00'"),
+    )
 }

@@ -2,13 +2,28 @@
 //! as a record and as a text again.
 //!
 //! This package rests on nothing that must be built first, so that a text can be read before anything is proved. What a
-//! text of hours and minutes says (`1:30`) is told by the [`Clock`] that it is handed: the tool hands it the archive's.
+//! text of hours and minutes says (`1:30`), and how early rules let a moment be, is told by the [`Clock`] that it is handed: the
+//! tool hands it the archive's.
+//!
+//! A line is cut into `tokens`, of which `cursor` keeps count. `lines` tells its kind; `naming` reads moments, `hours` the anchor
+//! and the opening hours, `rows` rules with a sign and spans, `spoken` rules in words, `floor` the line `nothing before anchor`.
+//! They are made of `sides`, `length`s of time and `instant`s. What is wrong is a `fault`, with lines to be written in its stead;
+//! `parse` shows those alone that it takes itself.
 
+mod alike;
+pub mod calendar;
 pub mod clock;
-mod hints;
+mod cursor;
+mod fault;
+mod floor;
+mod hash;
+pub mod hints;
 mod hours;
+mod instant;
+mod length;
 pub mod limits;
 mod lines;
+mod naming;
 pub mod outcome;
 mod parse;
 pub mod record;
@@ -18,6 +33,7 @@ pub mod sheet;
 pub mod shown;
 mod sides;
 pub mod source;
+mod spoken;
 mod tokens;
 pub mod vain;
 

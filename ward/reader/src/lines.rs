@@ -1,7 +1,8 @@
 //! What kind of line a line is: the word before its colon tells.
 
+use crate::fault::{with, Fault};
 use crate::hints;
-use crate::tokens::{Fault, Kind, Token};
+use crate::tokens::{Kind, Token};
 
 #[derive(Clone, Copy, Debug, PartialEq, Eq)]
 pub enum Key {
@@ -58,7 +59,7 @@ pub fn headed(line: &str, end: usize) -> Headed {
     if let Some(colon) = body.find(':') {
         let word = body[..colon].trim_end();
         if !word.is_empty() && word.chars().all(|c| c.is_alphabetic() || c == ' ') {
-            return before_colon(word, start, start + colon + 1);
+            return before_colon(line, word, start, start + colon + 1);
         }
     }
     Headed { key: Some(Key::Rule), from: start, fault: None }
@@ -68,37 +69,44 @@ fn key(word: &str) -> Option<Key> {
     KEYS.iter().find(|(known, _)| *known == word).map(|(_, key)| *key)
 }
 
-/// A word and a colon. A word that is nearly right is told, and the line is read as it was meant.
-fn before_colon(word: &str, start: usize, from: usize) -> Headed {
-    if let Some(key) = key(word) {
+/// A word and a colon; capital letters play no part. A word that is nearly right is told, and the line is read as it was meant.
+fn before_colon(line: &str, word: &str, start: usize, from: usize) -> Headed {
+    let small = word.to_lowercase();
+    if let Some(key) = key(&small) {
         return Headed { key: Some(key), from, fault: None };
     }
     let fault = Fault::new(start, start + word.len(), format!("no line starts with '{word}:'"));
-    let small = word.to_lowercase();
-    if ["rule", "rules"].contains(&small.as_str()) {
-        let fault = fault.hint("a rule stands on its line without a word before it");
-        return Headed { key: Some(Key::Rule), from, fault: Some(fault) };
+    if ["rule", "rules", "later of", "latest of"].contains(&small.as_str()) {
+        let text = if small.starts_with("late") { format!("{word} ") } else { String::new() };
+        let rest = line[from..].trim_start();
+        let fault = fault
+            .hint("a rule stands on its line without a word and a colon before it")
+            .fix("", format!("{}{text}{rest}", &line[..start]));
+        let from = if small.starts_with("late") { line.len() } else { from };
+        return Headed { key: (from < line.len()).then_some(Key::Rule), from, fault: Some(fault) };
+    }
+    if line[from..].starts_with('=') {
+        let fault = fault.fix("", with(line, start + word.len(), from, " "));
+        return Headed { key: None, from, fault: Some(fault) };
     }
     let known = KEYS.iter().map(|(known, _)| *known);
     let meant = OTHERS.iter().find(|(other, _)| *other == small).map(|(_, meant)| *meant);
     match meant.or_else(|| hints::near(&small, known)) {
         Some(meant) => {
-            let small = if meant == small { " in small letters" } else { "" };
-            Headed { key: key(meant), from, fault: Some(fault.hint(format!("write '{meant}:'{small}"))) }
+            let fault = fault.fix("", with(line, start, start + word.len(), meant));
+            Headed { key: key(meant), from, fault: Some(fault) }
         }
         None => {
-            let words: Vec<String> = KEYS.iter().map(|(known, _)| format!("'{known}:'")).collect();
-            Headed {
-                key: None,
-                from,
-                fault: Some(fault.hint(format!("lines start with {}, or are rules", words.join(", ")))),
-            }
+            let words: Vec<String> = KEYS.iter().map(|(known, _)| format!("{known}:")).collect();
+            let fault =
+                fault.hint(format!("lines start with {}, or are rules; a comment starts with #", words.join(", ")));
+            Headed { key: None, from, fault: Some(fault) }
         }
     }
 }
 
 /// Whether the tokens of what looks like a rule are another line without its colon: its kind, and the fault.
-pub fn without_colon(tokens: &[Token]) -> Option<(Key, Fault)> {
+pub fn without_colon(line: &str, tokens: &[Token]) -> Option<(Key, Fault)> {
     let [first, second, ..] = tokens else { return None };
     if first.kind != Kind::Word || ![Kind::Word, Kind::Quoted].contains(&second.kind) {
         return None;
@@ -106,9 +114,10 @@ pub fn without_colon(tokens: &[Token]) -> Option<(Key, Fault)> {
     let small = first.text.to_lowercase();
     let key = key(&small)?;
     let has_relation = tokens.iter().any(|token| token.kind == Kind::Relation);
-    if has_relation != (key == Key::Suspended) {
+    let spoken = ["not", "by", "at", "exactly", "before", "after"].contains(&second.text.to_lowercase().as_str());
+    if has_relation != (key == Key::Suspended) || spoken {
         return None;
     }
     let fault = Fault::new(first.from, first.to, format!("a colon is missing behind '{}'", first.text));
-    Some((key, fault.hint(format!("write '{small}:'"))))
+    Some((key, fault.fix("", with(line, first.to, first.to, ":"))))
 }

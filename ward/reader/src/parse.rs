@@ -1,14 +1,16 @@
 //! Reading a text.
 //!
 //! ```text
-//! # a comment starts at the line's start or after a space; on the first line it is the title
+//! # a comment starts at the line's start or between spaces; on the first line it is the title
 //! moments: ready, "bed 4", ambulance
-//! anchor: Monday 8:00
+//! anchor: 2026-11-16 8:00
 //! open: Monday to Friday 7:00-18:00
 //! admits: ready
-//! anchor + 30 <= later of ready, ambulance + 1:15
-//! later of ready, "bed 4" <= anchor + 62
-//! suspended: ambulance <= anchor + 50
+//! ready not before 8:40
+//! anchor + 30 <= later of ready, (ambulance + 1:15)
+//! "bed 4" 35 to 40 min after ready
+//! suspended: ambulance by Mon 8:50
+//! nothing before anchor but ambulance
 //! span: from "bed 4" to later of ready, ambulance
 //! expect: least -47
 //! ```
@@ -17,16 +19,24 @@
 
 use std::collections::BTreeMap;
 
+use crate::alike;
 use crate::clock::Clock;
+use crate::cursor::Cursor;
+use crate::fault::{with, Fault, Fix};
+use crate::floor::{self, Floor};
+use crate::hash;
 use crate::hints;
+use crate::instant::Known;
+use crate::length;
 use crate::limits;
 use crate::lines::{headed, without_colon, Key};
 use crate::outcome::Expected;
 use crate::remark::{Place, Remark, Weight};
-use crate::sheet::{Moment, Sheet};
-use crate::sides::{self, Cursor};
+use crate::sheet::{Origin, Row, Sheet};
+use crate::shown;
+use crate::sides;
 use crate::source;
-use crate::tokens::{self, Fault, Kind, Token};
+use crate::tokens::{self, Dashes, Token};
 use crate::vain;
 
 /// A text that was read.
@@ -39,25 +49,29 @@ pub struct Read {
     pub lines: Vec<String>,
 }
 
+/// How many mistakes are looked at for what to write in their stead.
+const FIXED: usize = 100;
+
 /// Reads a whole text. No bytes are an idle day.
 pub fn read(bytes: &[u8], clock: &Clock) -> Read {
     let source = source::lines(bytes);
-    let mut draft = Draft {
-        clock,
-        sheet: Sheet::new(),
-        remarks: source.remarks,
-        spans: 0,
-        unknown: BTreeMap::new(),
-        unread: false,
-        expected: Vec::new(),
-    };
+    let mut draft = Draft::new(clock);
+    draft.remarks = source.remarks;
     if bytes.is_empty() {
         draft.sheet = Sheet::idle();
     } else if source.readable {
         draft.sheet.title = source.lines.first().and_then(|line| title(line));
         draft.all(&source.lines, |key| key == Key::Moments);
-        draft.all(&source.lines, |key| key != Key::Moments);
+        draft.all(&source.lines, |key| key == Key::Anchor);
+        draft.all(&source.lines, |key| key != Key::Moments && key != Key::Anchor);
+        if !draft.mistaken() {
+            draft.add_floor();
+        }
         draft.whole(&source.lines);
+    }
+    let good = !draft.mistaken();
+    if !good {
+        draft.taken(&source.lines);
     }
     let Draft { mut sheet, mut remarks, expected, .. } = draft;
     for (span, _, outcome) in expected {
@@ -65,7 +79,6 @@ pub fn read(bytes: &[u8], clock: &Clock) -> Read {
             question.expected = Some(outcome);
         }
     }
-    let good = !remarks.iter().any(|remark| remark.weight == Weight::Mistake);
     if good {
         remarks.extend(vain::warnings(&sheet));
     }
@@ -89,9 +102,13 @@ pub(crate) struct Draft<'c> {
     /// Names that no line declares, with their places.
     unknown: BTreeMap<String, Vec<Place>>,
     /// Whether a line of moments could not be read, so that nobody knows which names it has.
-    unread: bool,
+    pub(crate) unread: bool,
     /// Lines `expect:`: of which span, on which line, and what.
     expected: Vec<(usize, usize, Expected)>,
+    /// Whether the anchor's line is a mistake.
+    doubtful: bool,
+    /// The line `nothing before anchor`.
+    pub(crate) floor: Option<Floor>,
 }
 
 /// A part of a line as a place. Places of a line count bytes there, and characters here.
@@ -100,20 +117,46 @@ pub(crate) fn place(number: usize, line: &str, from: usize, to: usize) -> Place 
     Place { line: number, column, width: line[from..to.max(from)].chars().count().max(1) }
 }
 
-impl Draft<'_> {
+impl<'c> Draft<'c> {
+    fn new(clock: &'c Clock) -> Draft<'c> {
+        Draft {
+            clock,
+            sheet: Sheet::new(),
+            remarks: Vec::new(),
+            spans: 0,
+            unknown: BTreeMap::new(),
+            unread: false,
+            expected: Vec::new(),
+            doubtful: false,
+            floor: None,
+        }
+    }
+
+    /// What lines are read with.
+    pub(crate) fn known(&self) -> Known<'_> {
+        let Sheet { moments, anchor, .. } = &self.sheet;
+        Known { moments, anchor: *anchor, doubtful: self.doubtful, clock: self.clock }
+    }
+
+    fn mistaken(&self) -> bool {
+        self.remarks.iter().any(|remark| remark.weight == Weight::Mistake)
+    }
+
     pub(crate) fn wrong(&mut self, number: usize, line: &str, fault: Fault) {
-        let place = place(number, line, fault.from, fault.to);
-        self.remarks.push(Remark { weight: Weight::Mistake, place, message: fault.message, hint: fault.hint });
+        let Fault { from, to, message, hint, fixes } = fault;
+        let place = place(number, line, from, to);
+        self.remarks.push(Remark { weight: Weight::Mistake, place, message, hint, fixes });
     }
 
     /// Reads the lines of some kinds.
     fn all(&mut self, lines: &[String], wanted: fn(Key) -> bool) {
         for (number, line) in (1..).zip(lines) {
-            // A fault of the line as a whole is told once, with the lines that are not those of moments.
-            let end = match tokens::comment(line) {
+            // A fault of the line as a whole is told once, with the lines that are rules.
+            let end = match tokens::comment(line).and_then(|end| hash::doubtful(self, line, end).map_or(Ok(end), Err)) {
                 Ok(end) => end,
                 Err(fault) if wanted(Key::Rule) => {
                     self.unread |= headed(line, fault.from).key == Some(Key::Moments);
+                    let fault = hash::told(self, line, fault);
                     self.wrong(number, line, fault);
                     continue;
                 }
@@ -127,9 +170,13 @@ impl Draft<'_> {
 
     fn line(&mut self, number: usize, line: &str, end: usize, wanted: fn(Key) -> bool) {
         let mut headed = headed(line, end);
-        let mut tokens = tokens::tokens(line, headed.from, end);
+        let dashes = match headed.key {
+            Some(Key::Open | Key::Expect) => Dashes::Between,
+            _ => Dashes::Within,
+        };
+        let mut tokens = tokens::tokens(line, headed.from.min(end), end, dashes);
         if let (Some(Key::Rule), Ok(found)) = (headed.key, &tokens) {
-            if let Some((key, fault)) = without_colon(found) {
+            if let Some((key, fault)) = without_colon(line, found) {
                 headed.key = Some(key);
                 headed.fault = Some(fault);
                 tokens = tokens.map(|tokens| tokens[1..].to_vec());
@@ -153,6 +200,7 @@ impl Draft<'_> {
             }
             done
         });
+        self.doubtful |= key == Key::Anchor && done.is_err();
         if let Err(fault) = done {
             self.wrong(number, line, fault);
         }
@@ -160,11 +208,18 @@ impl Draft<'_> {
     }
 
     fn take(&mut self, key: Key, number: usize, cursor: &mut Cursor) -> Result<(), Fault> {
+        let no_sign = !cursor.left().iter().any(|token| token.kind == tokens::Kind::Relation);
         match key {
-            Key::Moments => self.name(number, cursor),
+            Key::Moments => self.names(number, cursor),
             Key::Anchor => self.anchor(cursor),
             Key::Open => self.open(number, cursor),
             Key::Admits => self.admits(cursor),
+            Key::Rule if no_sign && floor::starts(cursor) => self.floor_line(number, cursor),
+            Key::Suspended if no_sign && floor::starts(cursor) => {
+                let from = cursor.place();
+                Err(Fault::new(from, from + cursor.rest().len(), "this line is no rule, and is not suspended")
+                    .hint("make it a comment, with # at the line's start"))
+            }
             Key::Rule => self.rule(number, cursor, true),
             Key::Suspended => self.rule(number, cursor, false),
             Key::Span => self.ask(number, cursor),
@@ -172,94 +227,66 @@ impl Draft<'_> {
         }
     }
 
-    /// Names with commas between them. A name that cannot be one is told, and kept, so that the rules that use it are read.
-    fn name(&mut self, number: usize, cursor: &mut Cursor) -> Result<(), Fault> {
-        loop {
-            let first = cursor.peek(0);
-            let mut last = first;
-            while let Some(token) = cursor.peek(0).filter(|token| token.kind == Kind::Quoted || token.text != ",") {
-                last = Some(token);
-                cursor.take();
-            }
-            let (Some(first), Some(last)) =
-                (first.filter(|first| first.kind == Kind::Quoted || first.text != ","), last)
-            else {
-                return Err(cursor.fault("a moment's name is expected"));
-            };
-            let written = &cursor.line[first.from..last.to];
-            let alone = first.from == last.from;
-            let name = if alone { first.text } else { written };
-            if let Some(fault) = self.name_fault(first, last, written, alone) {
-                self.wrong(number, cursor.line, fault);
-            }
-            if !self.sheet.moments.iter().any(|known| known.name == name) {
-                let place = place(number, cursor.line, first.from, last.to);
-                self.sheet.moments.push(Moment { name: name.into(), place });
-            }
-            if !cursor.takes(",") {
-                return Ok(());
-            }
-        }
-    }
-
-    fn name_fault(&self, first: Token, last: Token, written: &str, alone: bool) -> Option<Fault> {
-        let fault = |message: String| Fault::new(first.from, last.to, message);
-        let cannot = || fault(format!("'{written}' cannot be a moment's name"));
-        if let Some(known) = self.sheet.moments.iter().find(|known| alone && known.name == first.text) {
-            let where_ = if known.name == "anchor" {
-                "it is always there".into()
-            } else {
-                format!("line {} has it", known.place.line)
-            };
-            return Some(fault(format!("'{}' is named twice", first.text)).hint(where_));
-        }
-        if first.kind == Kind::Quoted && alone {
-            return sides::quoted_fault(first.text).map(|why| cannot().hint(why));
-        }
-        if alone && sides::is_name(first.text) {
-            return None;
-        }
-        let quotable = sides::quoted_fault(written).is_none() && !written.contains('"');
-        if written.contains(';') {
-            return Some(cannot().hint("names have commas between them"));
-        }
-        Some(match quotable {
-            true => cannot().hint(format!("put it into quotes: \"{written}\"")),
-            false => cannot().hint("a name starts with a letter; one with spaces, hyphens or signs goes into quotes"),
-        })
-    }
-
-    /// What is expected of the span above, or of the first where none stands above.
+    /// What is expected of the span above.
     fn expect(&mut self, number: usize, cursor: &mut Cursor) -> Result<(), Fault> {
-        let (from, text) = (cursor.place(), cursor.rest());
-        let span = self.spans.saturating_sub(1);
+        let (from, text, line) = (cursor.place(), cursor.rest(), cursor.line);
+        let fault = |message: String| Fault::new(from, from + text.len(), message);
+        let Some(span) = self.spans.checked_sub(1) else {
+            return Err(fault("an 'expect:' stands below its span".into()));
+        };
         if let Some((_, other, _)) = self.expected.iter().find(|(other, ..)| *other == span) {
-            return Err(Fault::new(
-                from,
-                from + text.len(),
-                format!("a span has one 'expect:' only, and line {other} has it"),
-            ));
+            return Err(fault(format!("a span has one 'expect:' only, and line {other} has it")));
         }
-        let words: Vec<&str> = text.split_whitespace().collect();
+        let words: Vec<String> = text.split_whitespace().map(str::to_lowercase).collect();
+        let words: Vec<&str> = words.iter().map(String::as_str).collect();
         let outcome = match words[..] {
             ["bottomless"] => Some(Expected::Bottomless),
             ["none"] => Some(Expected::None),
-            ["least", number] => self.number(number).map(Expected::Least),
+            ["least", number] if self.number(number).is_some() => self.number(number).map(Expected::Least),
+            ["least", ..] => {
+                cursor.take();
+                let length = length::read(cursor, self.clock).ok().filter(|_| cursor.peek(0).is_none());
+                length.filter(|length| !length.bare).map(|length| Expected::Least(length.minutes))
+            }
             _ => None,
         };
         let Some(outcome) = outcome else {
             let limit = limits::SPAN;
-            return Err(Fault::new(from, from + text.len(), format!("'{}' is no answer", words.join(" "))).hint(
-                format!("write 'least 45', 'least 1:30' (within {limit} minutes of 0), 'bottomless' or 'none'"),
-            ));
+            let fault = fault(format!("'{}' is no answer", text.split_whitespace().collect::<Vec<_>>().join(" ")))
+                .hint(format!("an answer is least with minutes (within {limit} of 0), bottomless or none"));
+            let say = |answer: String| with(line, from, from + text.len(), &answer);
+            return Err(match words[..] {
+                [number] if self.number(number).is_some() => fault.fix("", say(format!("least {number}"))),
+                ["no", "plan"] => fault.fix("", say("none".into())),
+                _ => fault,
+            });
         };
+        if let Some(fault) = self.clock_time(&words, span, outcome, (line, from, text)) {
+            return Err(fault);
+        }
         self.expected.push((span, number, outcome));
         Ok(())
     }
 
+    /// A span from the anchor that is expected to be as long as a time of day that it may run to.
+    fn clock_time(&self, words: &[&str], span: usize, outcome: Expected, at: (&str, usize, &str)) -> Option<Fault> {
+        let (anchor, Expected::Least(minutes)) = (self.sheet.anchor?, outcome) else { return None };
+        let [_, word] = words else { return None };
+        let question = self.sheet.questions.get(span)?;
+        let from_anchor = question.row.right.iter().enumerate().all(|(place, lead)| *lead == (place == 0).then_some(0));
+        let such = length::is_hours(word) && from_anchor && (anchor.minute..crate::clock::DAY).contains(&minutes);
+        let (line, from, text) = at;
+        let say = |minutes: i32| with(line, from, from + text.len(), &format!("least {}", shown::length(minutes)));
+        (such && self.clock.judges()).then(|| {
+            Fault::new(from, from + text.len(), format!("'{word}' can be a time of day, or a length of time"))
+                .fix("so long after the anchor", say(minutes))
+                .fix("until that time", say(minutes - anchor.minute))
+        })
+    }
+
     /// A least span, in minutes or in hours and minutes, with one text each.
     fn number(&self, word: &str) -> Option<i32> {
-        let value = match sides::is_hours(word.strip_prefix('-').unwrap_or(word)) {
+        let value = match length::is_hours(word.strip_prefix('-').unwrap_or(word)) {
             true => (self.clock.read)(word)?,
             false => word.parse::<i32>().ok().filter(|value| value.to_string() == word)?,
         };
@@ -269,51 +296,62 @@ impl Draft<'_> {
     /// What is wrong with the text as a whole.
     fn whole(&mut self, lines: &[String]) {
         if !self.unread {
-            self.unknown_names();
+            self.unknown_names(lines);
         }
         let Sheet { moments, rules, questions, .. } = &self.sheet;
         let moment = moments.get(limits::MOMENTS + 1).map(|moment| moment.place);
         let rule = rules.get(limits::RULES).map(|rule| rule.place);
         let question = questions.get(limits::QUESTIONS).map(|question| question.row.place);
         let counts = [moments.len() - 1, rules.len(), questions.len()];
-        self.too_many(moment, counts[0], limits::MOMENTS, "moments beside the anchor");
-        self.too_many(rule, counts[1], limits::RULES, "rules");
-        self.too_many(question, counts[2], limits::QUESTIONS, "spans");
+        let several = rules.iter().any(|rule| rule.origin != Origin::Line);
+        self.too_many(moment, counts[0], limits::MOMENTS, "moments beside the anchor", "");
+        let hint = "a line with two limits is two rules, and 'nothing before anchor' adds one a moment";
+        self.too_many(rule, counts[1], limits::RULES, "rules", if several { hint } else { "" });
+        self.too_many(question, counts[2], limits::QUESTIONS, "spans", "");
         let column = lines.last().map_or(0, |line| line.chars().count()) + 1;
         let end = Place { line: lines.len(), column, width: 1 };
         if self.spans == 0 {
             let hint = "say what is asked for, as in 'span: from anchor to ready'";
             self.missing(end, "there is no line 'span: from .. to ..'", hint);
         }
-        let day = self.sheet.anchor.and_then(|anchor| anchor.day);
+        let day = self.sheet.anchor.and_then(|anchor| anchor.day).or(self.doubtful.then_some(0));
         if let (Some(place), None) = (self.sheet.week.first().map(|window| window.place), day) {
-            self.missing(place, "opening hours need the day of the anchor", "write 'anchor: Monday 8:00'");
+            self.missing(place, "opening hours need the day of the anchor", "as in 'anchor: Monday 8:00'");
         }
         if let (Some(&moment), true) = (self.sheet.admits.first(), self.sheet.week.is_empty()) {
             let place = self.sheet.moments[moment].place;
             self.missing(
                 place,
                 "there are no opening hours for 'admits:'",
-                "write 'open: Monday to Friday 7:00-18:00'",
+                "as in 'open: Monday to Friday 7:00-18:00'",
             );
         }
     }
 
     /// Tells the place of the first that is too many.
-    fn too_many(&mut self, place: Option<Place>, count: usize, most: usize, what: &str) {
+    fn too_many(&mut self, place: Option<Place>, count: usize, most: usize, what: &str, hint: &str) {
         if let Some(place) = place {
             let message = format!("there are {count} {what}, and {most} is the most; here is number {}", most + 1);
-            self.remarks.push(Remark { weight: Weight::Mistake, place, message, hint: None });
+            let hint = (!hint.is_empty()).then(|| hint.into());
+            self.remarks.push(Remark { weight: Weight::Mistake, place, message, hint, fixes: Vec::new() });
         }
     }
 
     fn missing(&mut self, place: Place, message: &str, hint: &str) {
         let (message, hint) = (message.into(), Some(hint.into()));
-        self.remarks.push(Remark { weight: Weight::Mistake, place, message, hint });
+        self.remarks.push(Remark { weight: Weight::Mistake, place, message, hint, fixes: Vec::new() });
     }
 
     /// A name that is not declared is told once, with the other lines that have it.
-    fn unknown_names(&mut self) {
+    fn unknown_names(&mut self, lines: &[String]) {
+        let looks: BTreeMap<String, usize> = self
+            .sheet
+            .moments
+            .iter()
+            .enumerate()
+            .rev()
+            .map(|(place, known)| (alike::look(&known.name), place))
+            .collect();
         for (name, places) in std::mem::take(&mut self.unknown) {
             let mut others: Vec<usize> =
                 places[1..].iter().map(|place| place.line).filter(|line| *line != places[0].line).collect();
@@ -324,17 +362,102 @@ impl Draft<'_> {
                 1 => format!("; also on line {list}"),
                 _ => format!("; also on lines {list}"),
             };
-            let known = self.sheet.moments.iter().map(|moment| moment.name.as_str());
-            let hint = match hints::near(&name, known) {
-                Some(near) if near.to_lowercase() == name.to_lowercase() => {
-                    format!("write '{near}': capital letters count")
+            let alike = looks.get(&alike::look(&name)).map(|&place| self.sheet.moments[place].name.clone());
+            let near =
+                alike.clone().or_else(|| hints::near(&name, sides::names(&self.sheet.moments)).map(String::from));
+            let message = match &alike {
+                Some(known) => {
+                    format!(
+                        "'{name}' looks like '{known}' and is another name: {}{also}",
+                        alike::difference(&name, known)
+                    )
                 }
-                Some(near) => format!("is '{near}' meant?"),
-                None if self.sheet.moments.len() == 1 => "name it first, on a line 'moments: ..'".into(),
-                None => "name it on the line 'moments: ..'".into(),
+                None => format!("no moment is called '{name}'{also}"),
             };
-            let message = format!("no moment is called '{name}'{also}");
-            self.remarks.push(Remark { weight: Weight::Mistake, place: places[0], message, hint: Some(hint) });
+            let hint = match near {
+                Some(_) => None,
+                None if self.sheet.moments.len() == 1 => Some("name it first, on a line 'moments: ..'".into()),
+                None => Some("name it on the line 'moments: ..'".into()),
+            };
+            let line = lines.get(places[0].line - 1).map_or("", String::as_str);
+            let fixes = near.map(|near| Fix { says: String::new(), lines: vec![renamed(line, places[0], &near)] });
+            let fixes = fixes.into_iter().collect();
+            self.remarks.push(Remark { weight: Weight::Mistake, place: places[0], message, hint, fixes });
         }
     }
+
+    /// Whether one of the first mistakes has lines to be written in its stead that are mistakes themselves: these are not shown. Nor
+    /// are two that say the same.
+    fn taken(&mut self, lines: &[String]) {
+        let mut remarks = std::mem::take(&mut self.remarks);
+        remarks.sort_by_key(|remark| remark.place);
+        let mut trial = Draft::new(self.clock);
+        trial.sheet.anchor = self.sheet.anchor;
+        std::mem::swap(&mut trial.sheet.moments, &mut self.sheet.moments);
+        for (number, remark) in remarks.iter_mut().enumerate() {
+            let line = lines.get(remark.place.line - 1).map_or("", String::as_str);
+            if number >= FIXED {
+                remark.fixes.clear();
+            }
+            if remark.fixes.is_empty() {
+                continue;
+            }
+            let mistakes = trial.says(&[line.into()], line).0.max(1);
+            let mut seen = Vec::new();
+            remark.fixes.retain(|fix| {
+                let (left, said) = trial.says(&fix.lines, line);
+                let new = left < mistakes && !seen.contains(&said) && fix.lines != [line];
+                seen.push(said);
+                new
+            });
+        }
+        std::mem::swap(&mut trial.sheet.moments, &mut self.sheet.moments);
+        self.remarks = remarks;
+    }
+
+    /// How many mistakes some lines have in the place of a line, and what they say: rules, spans and what else they leave behind.
+    fn says(&mut self, lines: &[String], line: &str) -> (usize, String) {
+        let (moments, anchor) = (self.sheet.moments.clone(), self.sheet.anchor);
+        let has = |key: Key| {
+            lines.iter().map(String::as_str).chain([line]).any(|line| headed(line, line.len()).key == Some(key))
+        };
+        if has(Key::Moments) {
+            self.sheet.moments.truncate(1);
+        }
+        if has(Key::Anchor) {
+            self.sheet.anchor = None;
+        }
+        self.spans = 1;
+        self.all(lines, |key| key == Key::Moments);
+        self.all(lines, |key| key == Key::Anchor);
+        self.all(lines, |key| key != Key::Moments && key != Key::Anchor);
+        let mistakes = self.remarks.len() + self.unknown.len();
+        let rows = |row: &Row| (row.left.clone(), row.right.clone(), row.in_force);
+        let sheet = &self.sheet;
+        let rules: Vec<_> = sheet.rules.iter().map(rows).collect();
+        let spans: Vec<_> = sheet.questions.iter().map(|question| rows(&question.row)).collect();
+        let names: Vec<&str> = sides::names(&sheet.moments).collect();
+        let but = self.floor.as_ref().map(|floor| floor.but.clone());
+        let said = match mistakes {
+            0 => {
+                format!("{rules:?} {spans:?} {names:?} {:?} {:?} {but:?} {:?}", sheet.anchor, sheet.week, self.expected)
+            }
+            _ => lines.join("\n"),
+        };
+        let (clock, sheet) = (self.clock, Sheet { moments, anchor, ..Sheet::new() });
+        *self = Draft { sheet, ..Draft::new(clock) };
+        (mistakes, said)
+    }
+}
+
+/// A line with another name at a place.
+fn renamed(line: &str, place: Place, name: &str) -> String {
+    let byte = |column: usize| line.char_indices().nth(column).map_or(line.len(), |(byte, _)| byte);
+    let (from, to) = (byte(place.column - 1), byte(place.column - 1 + place.width));
+    with(line, from, to, &shown::name(name))
+}
+
+/// The tokens of a part of a line, as a rule has them.
+pub(crate) fn part(line: &str, from: usize, to: usize) -> Option<Vec<Token<'_>>> {
+    tokens::tokens(line, from, to, Dashes::Within).ok()
 }

@@ -1,7 +1,7 @@
 //! Problem records of a sheet (documents 01 and 02), and a sheet of a record.
 
 use crate::remark::Place;
-use crate::sheet::{Lead, Moment, Question, Row, Sheet};
+use crate::sheet::{Lead, Moment, Origin, Question, Row, Sheet};
 
 /// How a record writes blank.
 const BLANK: i32 = i32::MIN;
@@ -84,7 +84,8 @@ pub fn sheet(bytes: &[u8]) -> Option<Sheet> {
         (0..=n).map(|j| lead(rows_at + 4 * ((2 * row + half) * (n + 1) + j))).collect()
     };
     let row = |number: usize, in_force: bool| {
-        Some(Row { place, text: String::new(), left: side(number, 0)?, right: side(number, 1)?, in_force })
+        let (left, right) = (side(number, 0)?, side(number, 1)?);
+        Some(Row { place, text: String::new(), left, right, in_force, origin: Origin::Line })
     };
     let mut sheet = Sheet::new();
     sheet.moments.extend((1..=n).map(|number| Moment { name: format!("m{number}"), place }));

@@ -2,6 +2,8 @@
 
 use std::fmt::Write;
 
+pub use crate::fault::Fix;
+
 /// Whether a text can be used in spite of a remark.
 #[derive(Clone, Copy, Debug, PartialEq, Eq)]
 pub enum Weight {
@@ -24,14 +26,31 @@ pub struct Remark {
     pub weight: Weight,
     pub place: Place,
     pub message: String,
-    /// What to write in its stead.
+    /// What there is to know, in words.
     pub hint: Option<String>,
+    /// What can be written in the line's stead: one reading of it, or several.
+    pub fixes: Vec<Fix>,
 }
 
 /// The most characters of a line that a remark shows.
 const SHOWN: usize = 100;
 
 impl Remark {
+    /// The words before the lines of a reading.
+    pub fn lead(&self, fix: &Fix) -> String {
+        let write = match (self.fixes.len(), fix.lines.len()) {
+            (1, 1) => "write",
+            (1, _) => "write, each on its line",
+            (_, 1) => "either write",
+            _ => "either write, each on its line",
+        };
+        let write = if self.fixes.first() == Some(fix) { write.into() } else { write.replace("either", "or") };
+        match fix.says.is_empty() {
+            true => write,
+            false => format!("{write} ({})", fix.says),
+        }
+    }
+
     /// `FILE:LINE:COLUMN: mistake: message`, the line itself, a caret under the place, and the hint.
     pub fn in_file(&self, file: &str, lines: &[String]) -> String {
         let Place { line, column, width } = self.place;
@@ -47,6 +66,12 @@ impl Remark {
         let _ = writeln!(shown, "  {margin} | {before}{}", "^".repeat(under));
         if let Some(hint) = &self.hint {
             let _ = writeln!(shown, "  {margin} = {}", clean(hint));
+        }
+        for fix in &self.fixes {
+            let _ = writeln!(shown, "  {margin} = {}:", clean(&self.lead(fix)));
+            for line in &fix.lines {
+                let _ = writeln!(shown, "  {margin}     {}", clean(line));
+            }
         }
         shown
     }
@@ -77,7 +102,13 @@ mod tests {
 
     fn shown(line: &str, column: usize, width: usize) -> String {
         let place = Place { line: 1, column, width };
-        let remark = Remark { weight: Weight::Mistake, place, message: "wrong".into(), hint: Some("right".into()) };
+        let remark = Remark {
+            weight: Weight::Mistake,
+            place,
+            message: "wrong".into(),
+            hint: Some("right".into()),
+            fixes: Vec::new(),
+        };
         remark.in_file("day.txt", &[line.into()])
     }
 

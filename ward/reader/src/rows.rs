@@ -1,52 +1,93 @@
 //! The lines that become rows of a record: rules and spans.
 
-use crate::hints;
+use crate::cursor::Cursor;
+use crate::fault::{with, Fault};
 use crate::parse::{place, Draft};
-use crate::sheet::{Lead, Question, Row};
-use crate::shown;
-use crate::sides::{self, Cursor};
-use crate::tokens::{Fault, Kind, Token};
+use crate::sheet::{Lead, Origin, Question, Row};
+use crate::sides::{self, bracketed, Side};
+use crate::spoken;
+use crate::tokens::{Kind, Token};
+
+/// A rule's sides: the left is not later than the right.
+pub type Sides = (Vec<Lead>, Vec<Lead>);
+
+/// What a sign between two sides says.
+#[derive(Clone, Copy, Debug, PartialEq, Eq)]
+enum Sign {
+    NotLater,
+    NotEarlier,
+    Same,
+}
+
+fn sign(text: &str) -> Option<Sign> {
+    Some(match text {
+        "<=" | "≤" | "⩽" | "=<" => Sign::NotLater,
+        ">=" | "≥" | "⩾" => Sign::NotEarlier,
+        "=" | "==" => Sign::Same,
+        _ => return None,
+    })
+}
+
+/// Words that stand between several moments or rules.
+fn parts_words(token: &Token) -> bool {
+    token.kind != Kind::Quoted && ["and", "or", "&", ",", ";"].contains(&token.text.to_lowercase().as_str())
+}
 
 impl Draft<'_> {
-    fn side(&self, cursor: &mut Cursor) -> Result<Vec<Lead>, Fault> {
-        sides::read(cursor, &self.sheet.moments, self.clock)
-    }
-
-    /// A rule: a side, `<=`, a side. Both sides are read, whatever is wrong between them.
+    /// A rule: a side, a sign and a side, or the same in words. Both sides are read, whatever is wrong between them.
     pub(crate) fn rule(&mut self, number: usize, cursor: &mut Cursor, in_force: bool) -> Result<(), Fault> {
         let (from, text) = (cursor.place(), cursor.rest());
-        let Some((mut first, relation, mut second)) = cursor.split(|token| token.kind == Kind::Relation) else {
-            self.side(cursor)?;
-            return Err(self.left_over(cursor, from));
+        let signs = cursor.left().iter().filter(|token| token.kind == Kind::Relation).count();
+        let rules = match signs {
+            0 => spoken::read(cursor, &self.known())?,
+            1 => match self.signed(number, cursor)? {
+                Some(rules) => rules,
+                None => return Ok(()),
+            },
+            _ => return Err(chain(cursor, from)),
         };
-        let middle = second.place();
-        let mut left = self.side(&mut first);
-        if left.is_ok() && first.peek(0).is_some() {
-            left = Err(self.left_over(&first, from));
-        }
-        let mut right = self.side(&mut second);
-        if right.is_ok() && second.peek(0).is_some() {
-            right = Err(self.too_much(&second, cursor.line[from..relation.from].trim(), relation, middle));
-        }
-        let wrong = (relation.text != "<=").then(|| {
-            hints::relation(
-                &relation,
-                cursor.line[from..relation.from].trim(),
-                cursor.line[relation.to..from + text.len()].trim(),
-            )
-        });
         // A name that is not declared leaves its side short: it is told, and nothing else of this rule.
-        let unknown = !first.unknown.is_empty() || !second.unknown.is_empty();
+        if !cursor.unknown.is_empty() {
+            return Ok(());
+        }
+        let origin = if rules.len() > 1 { Origin::Half } else { Origin::Line };
+        for (left, right) in rules {
+            let rule = Row { left, right, origin, ..self.row(number, cursor.line, from, text, in_force) };
+            self.keep(from, text, rule)?;
+        }
+        Ok(())
+    }
+
+    /// A rule with one sign. Faults of its parts are told here, all of them.
+    fn signed(&mut self, number: usize, cursor: &mut Cursor) -> Result<Option<Vec<Sides>>, Fault> {
+        let Some((mut first, relation, mut second)) = cursor.split(|token| token.kind == Kind::Relation) else {
+            return Ok(None);
+        };
+        let found = sign(relation.text);
+        if let Some(fault) = found.and_then(|sign| difference(&first, &second, relation, sign)) {
+            return Err(fault);
+        }
+        if let Some(fault) = found.and_then(|sign| each_of(&first, &second, relation, sign)) {
+            return Err(fault);
+        }
+        let known = self.known();
+        let mut left = sides::read(&mut first, &known);
+        if left.is_ok() && first.peek(0).is_some() {
+            left = Err(left_over(&first));
+        }
+        let mut right = sides::read(&mut second, &known);
+        if right.is_ok() && second.peek(0).is_some() {
+            right = Err(too_much(&second));
+        }
+        let wrong = found.is_none().then(|| no_sign(cursor, relation));
         cursor.unknown.extend(first.unknown.into_iter().chain(second.unknown));
-        if let (Ok(left), Ok(right), None, false) = (&left, &right, &wrong, unknown) {
-            let (left, right) = (left.clone(), right.clone());
-            let rule = Row { left, right, ..self.row(number, cursor.line, from, text, in_force) };
-            return self.keep(from, text, rule);
+        if let (Ok(left), Ok(right), Some(sign)) = (&left, &right, found) {
+            return Ok(Some(both(left, right, sign)));
         }
         for fault in [left.err(), wrong, right.err()].into_iter().flatten() {
             self.wrong(number, cursor.line, fault);
         }
-        Ok(())
+        Ok(None)
     }
 
     /// A row of a line's part, with no leads yet.
@@ -57,6 +98,7 @@ impl Draft<'_> {
             left: Vec::new(),
             right: Vec::new(),
             in_force,
+            origin: Origin::Line,
         }
     }
 
@@ -73,95 +115,25 @@ impl Draft<'_> {
         Ok(())
     }
 
-    /// What stands between a rule's left side and its `<=`, or where that is missing.
-    fn left_over(&self, cursor: &Cursor, from: usize) -> Fault {
-        let fault = cursor.fault("'<=' is expected");
-        let Some(token) = cursor.peek(0) else {
-            return fault.hint("a rule is written 'ready + 10 <= departure'");
-        };
-        let written = cursor.line[from..token.from].trim();
-        match token.text {
-            "," if decimal(cursor, token) => fault.hint("minutes are whole, and commas stand between moments"),
-            "and" | "&" | "," => fault
-                .hint(format!("where all of them must be early enough, write 'later of {}'", joined(written, cursor))),
-            "or" => {
-                fault.hint("a rule cannot say 'one of these is early enough'; 'later of' on the left means all of them")
-            }
-            "before" | "after" if token.kind == Kind::Word => {
-                let rest = cursor.rest()[token.text.len()..].trim();
-                let (first, second) = if token.text == "before" { (written, rest) } else { (rest, written) };
-                fault.hint(format!("write '{first} <= {second}'"))
-            }
-            _ => self.more(cursor, fault),
-        }
-    }
-
-    /// What is too much behind a rule's right side.
-    fn too_much(&self, cursor: &Cursor, left: &str, relation: Token, middle: usize) -> Fault {
-        let token = cursor.peek(0).expect("a token is left");
-        let shown = &cursor.line[token.from..token.to];
-        let fault = Fault::new(token.from, token.to, format!("'{shown}' is too much"));
-        if relation.text != "<=" {
-            return fault;
-        }
-        let right = cursor.line[middle..token.from].trim();
-        match token.text {
-            "and" | "&" => {
-                let rest = cursor.rest()[token.text.len()..].trim();
-                let next = rest.split_whitespace().next().unwrap_or("..");
-                let second = if rest.contains("<=") { rest.into() } else { format!("{left} <= {next} ..") };
-                fault.hint(format!("write two rules, each on its line: '{left} <= {right}' and '{second}'"))
-            }
-            "," if decimal(cursor, token) => fault.hint("minutes are whole, and commas stand between moments"),
-            "or" | "," => {
-                fault.hint(format!("where one of them must be late enough, write 'later of {}'", joined(right, cursor)))
-            }
-            _ if token.kind == Kind::Relation => fault.hint(format!(
-                "one '<=' a rule: '{left} <= {right}' ends here; go on with '{right}' on a line of its own"
-            )),
-            _ => self.more(cursor, fault),
-        }
-    }
-
-    /// Hints for a word behind a side.
-    fn more(&self, cursor: &Cursor, fault: Fault) -> Fault {
-        let Some(token) = cursor.peek(0) else { return fault };
-        let word = token.text.to_lowercase();
-        let digits = token.text.starts_with(|c: char| c.is_ascii_digit());
-        if ["min", "mins", "minute", "minutes", "m"].contains(&word.as_str()) {
-            return fault.hint("leave it out: numbers are minutes, and 1:30 is an hour and a half");
-        }
-        if ["h", "hr", "hrs", "hour", "hours"].contains(&word.as_str()) {
-            return fault.hint("hours are written with a colon and minutes, as in 2:00; numbers alone are minutes");
-        }
-        if digits {
-            return fault.hint(format!("a sign is missing: '+ {}' or '- {}'", token.text, token.text));
-        }
-        if token.kind == Kind::Word && !word.is_empty() {
-            return fault
-                .hint("a name with spaces goes into quotes, as in \"bed 4\"; several moments are 'later of a, b'");
-        }
-        fault
-    }
-
     /// A span's line. The span is its end less its start, so the end is the record's first list.
     pub(crate) fn ask(&mut self, number: usize, cursor: &mut Cursor) -> Result<(), Fault> {
         let (from, text) = (cursor.place(), cursor.rest());
         if !cursor.takes("from") {
-            return Err(self.no_from(cursor, from, text));
+            return Err(no_from(cursor, from, text));
         }
-        let Some((mut first, _, mut second)) = cursor.split(|token| token.kind == Kind::Word && token.text == "to")
-        else {
-            self.side(cursor)?;
-            return Err(self.group_over(cursor, "'to' is expected"));
+        let known = self.known();
+        let to = |token: &Token| token.kind == Kind::Word && token.text.to_lowercase() == "to";
+        let Some((mut first, _, mut second)) = cursor.split(to) else {
+            let read = sides::read(cursor, &known);
+            return Err(read.err().unwrap_or_else(|| group_over(cursor, "'to' is expected")));
         };
-        let mut start = self.side(&mut first);
+        let mut start = sides::read(&mut first, &known);
         if start.is_ok() && first.peek(0).is_some() {
-            start = Err(self.group_over(&first, "'to' is expected"));
+            start = Err(group_over(&first, "'to' is expected"));
         }
-        let mut end = self.side(&mut second);
+        let mut end = sides::read(&mut second, &known);
         if end.is_ok() && second.peek(0).is_some() {
-            end = Err(self.group_over(&second, "the end of the line is expected"));
+            end = Err(group_over(&second, "the end of the line is expected"));
         }
         cursor.unknown.extend(first.unknown.into_iter().chain(second.unknown));
         let (Ok(start), Ok(end)) = (&start, &end) else {
@@ -170,58 +142,300 @@ impl Draft<'_> {
             }
             return Ok(());
         };
-        let row = Row { left: end.clone(), right: start.clone(), ..self.row(number, cursor.line, from, text, true) };
+        let (left, right) = (end.leads.clone(), start.leads.clone());
+        let row = Row { left, right, ..self.row(number, cursor.line, from, text, true) };
         self.sheet.questions.push(Question { row, expected: None });
         Ok(())
     }
+}
 
-    /// What is too much behind a group of a span.
-    fn group_over(&self, cursor: &Cursor, expected: &str) -> Fault {
-        let fault = cursor.fault(expected);
-        match cursor.peek(0).map(|token| token.text) {
-            Some("and" | "or" | "&" | ",") => fault.hint("a group of several moments is written 'later of a, b'"),
-            Some("To" | "TO") => fault.hint("write 'to' in small letters"),
-            Some(_) => self.more(cursor, fault),
-            None => fault.hint("a span is written 'span: from .. to ..'"),
-        }
+/// The rules of two sides and a sign. Where the sides are at the same time, the one that is counted from comes first on the left.
+fn both(left: &Side, right: &Side, sign: Sign) -> Vec<Sides> {
+    let (subject, base) = if left.bare || !right.bare { (left, right) } else { (right, left) };
+    match sign {
+        Sign::NotLater => vec![(left.leads.clone(), right.leads.clone())],
+        Sign::NotEarlier => vec![(right.leads.clone(), left.leads.clone())],
+        Sign::Same => vec![(base.leads.clone(), subject.leads.clone()), (subject.leads.clone(), base.leads.clone())],
     }
+}
 
-    /// How a span that does not begin with `from` is written.
-    fn no_from(&self, cursor: &mut Cursor, from: usize, text: &str) -> Fault {
-        let fault = |message: &str| Fault::new(from, from + text.len(), message);
-        if cursor.peek(0).is_some_and(|token| token.text.to_lowercase() == "from") {
-            return fault("a span is written 'span: from .. to ..'").hint("write 'from' and 'to' in small letters");
+/// The part of a line before its rule and the part behind it.
+fn around<'a>(cursor: &Cursor<'a>, from: usize) -> (&'a str, &'a str) {
+    (&cursor.line[..from], &cursor.line[cursor.end()..])
+}
+
+/// A line that is two rules or more, each with what stood before the one.
+fn lines(cursor: &Cursor, from: usize, rules: &[String]) -> Vec<String> {
+    let (before, after) = around(cursor, from);
+    let last = rules.len().saturating_sub(1);
+    let line = |(place, rule): (usize, &String)| match place == last {
+        true => format!("{before}{rule}{after}"),
+        false => format!("{before}{rule}"),
+    };
+    rules.iter().enumerate().map(line).collect()
+}
+
+/// The parts of some tokens between words like `and` and `,`.
+fn parts<'a>(cursor: &Cursor<'a>) -> Vec<&'a str> {
+    let pieces = cursor.left().split(parts_words).filter(|part| !part.is_empty());
+    pieces.map(|part| &cursor.line[part[0].from..part[part.len() - 1].to]).collect()
+}
+
+/// What stands between a rule's left side and its sign.
+fn left_over(cursor: &Cursor) -> Fault {
+    let fault = cursor.fault("'<=' is expected");
+    let Some(token) = cursor.peek(0) else { return fault };
+    match token.text.to_lowercase().as_str() {
+        "or" => {
+            fault.hint("a rule cannot say 'one of these is early enough'; 'later of' on the left means all of them")
         }
-        let Some((end, start)) = sides::difference(cursor, &self.sheet.moments, self.clock) else {
-            return fault("a span is written 'span: from .. to ..'")
-                .hint("as in 'span: from later of ready, cleaned to arrival + 5'");
+        _ => more(cursor, fault),
+    }
+}
+
+/// What is too much behind a rule's right side.
+fn too_much(cursor: &Cursor) -> Fault {
+    let Some(token) = cursor.peek(0) else { return cursor.fault("nothing more is expected") };
+    let shown = &cursor.line[token.from..token.to];
+    let fault = Fault::new(token.from, token.to, format!("'{shown}' is too much"));
+    let fault = match [",", ";", ".", "?"].contains(&shown) && cursor.peek(1).is_none() && shown != "?" {
+        true => fault.fix("", with(cursor.line, token.from, token.to, "")),
+        false => fault,
+    };
+    more(cursor, fault)
+}
+
+/// Hints for a word behind a side.
+pub fn more(cursor: &Cursor, fault: Fault) -> Fault {
+    let Some(token) = cursor.peek(0) else { return fault };
+    let say = |text: &str| with(cursor.line, token.from, token.to, text);
+    if token.text.starts_with(|c: char| c.is_ascii_digit()) && token.kind == Kind::Word {
+        let (plus, minus) = (format!("+ {}", token.text), format!("- {}", token.text));
+        return fault.hint("a sign is missing").fix("later", say(&plus)).fix("earlier", say(&minus));
+    }
+    if token.kind == Kind::Word && token.text.starts_with(char::is_alphabetic) && fault.hint.is_none() {
+        return fault.hint("a name with spaces stands in quotes; several moments stand behind 'later of', with commas");
+    }
+    fault
+}
+
+/// Several moments on a side without `later of`: what that can be.
+fn each_of(first: &Cursor, second: &Cursor, relation: Token, sign: Sign) -> Option<Fault> {
+    let list = |cursor: &Cursor| {
+        let tokens = cursor.left();
+        let later = tokens.iter().any(|token| ["later", "latest"].contains(&token.text.to_lowercase().as_str()));
+        let bracket = tokens.iter().any(|token| token.kind == Kind::Sign && token.text == "(");
+        let digits =
+            |place: usize| tokens.get(place).is_some_and(|token| token.text.starts_with(|c: char| c.is_ascii_digit()));
+        let number = (1..tokens.len()).any(|place| tokens[place].text == "," && digits(place - 1) && digits(place + 1));
+        tokens.iter().position(parts_words).filter(|_| !later && !bracket && !number && parts(cursor).len() > 1)
+    };
+    let from = first.place();
+    let (end, line) = (second.end(), first.line);
+    let whole = |text: String| with(line, from, end, &text);
+    let (left, right) = (line[from..relation.from].trim(), line[relation.to..end].trim());
+    let both = |cursor: &Cursor, skip: usize| {
+        let words = ["both", "either"];
+        let names = parts(cursor).into_iter().enumerate().map(|(place, part)| match place {
+            0 if skip > 0 => {
+                words.iter().find_map(|word| part.to_lowercase().strip_prefix(word).map(|_| &part[word.len()..]))
+            }
+            _ => Some(part),
+        });
+        names.map(|name| name.unwrap_or("").trim().to_string()).collect::<Vec<String>>()
+    };
+    let skip = |cursor: &Cursor| (cursor.sees("both") || cursor.sees("either")) as usize;
+    let early = |cursor: &Cursor| cursor.sees("earlier of") || cursor.sees("earliest of") || cursor.sees("min (");
+    // Which side is early and which is late, by the sign.
+    let (early_cursor, late_cursor) = match sign {
+        Sign::NotLater => (first, second),
+        Sign::NotEarlier => (second, first),
+        Sign::Same => return None,
+    };
+    let (early_text, late_text) = if sign == Sign::NotLater { (left, right) } else { (right, left) };
+    if early(late_cursor) && late_cursor.left().len() > 2 {
+        let rest = Cursor::new(line, late_cursor.left()[2..].to_vec(), late_cursor.end());
+        let rules: Vec<String> = parts(&rest).iter().map(|name| format!("{early_text} <= {name}")).collect();
+        let fault = late_cursor.fault("a moment's name or 'later of' is expected");
+        return Some(fault.fixes("not later than any of them", lines(second, from, &rules)));
+    }
+    if let Some(place) = list(late_cursor) {
+        let token = late_cursor.left()[place];
+        let names = both(late_cursor, skip(late_cursor));
+        let rules: Vec<String> = names.iter().map(|name| format!("{early_text} <= {name}")).collect();
+        let later = whole(format!("{early_text} <= later of {}", names.join(", ")));
+        let message = "several moments on the late side of a rule stand behind 'later of', or in rules of their own";
+        let fault = Fault::new(token.from, token.to, message);
+        let fault = match token.text.to_lowercase().as_str() {
+            "and" | "&" if skip(late_cursor) == 0 || late_cursor.sees("both") => fault,
+            _ => fault.fix("one of them is late enough", later),
         };
-        let shown = |leads: &[Lead]| shown::side(&self.sheet.moments, leads, self.clock);
-        let (last, first) = (shown(&end), shown(&start));
-        let better = format!("write 'span: from {first} to {last}' for ({last}) - ({first})");
-        // A single moment less minutes: a reader may take the minutes off the span, not off the moment.
-        let other: Vec<Lead> = start.iter().map(|lead| lead.map(|lead| -lead)).collect();
-        if start.iter().flatten().count() == 1 && other != start {
-            let hint = format!("{better}, or 'span: from {} to {last}' for the sum from left to right", shown(&other));
-            return fault("this difference can be read in two ways").hint(hint);
+        let fault = match token.text.to_lowercase().as_str() {
+            "or" if !late_cursor.sees("either") => fault,
+            _ => fault.fixes("each of them is late enough", lines(second, from, &rules)),
+        };
+        return Some(fault);
+    }
+    if let Some(place) = list(early_cursor).filter(|_| !early(early_cursor)) {
+        let token = early_cursor.left()[place];
+        let names = both(early_cursor, skip(early_cursor));
+        let fault = Fault::new(token.from, token.to, format!("'<=' is expected, not '{}'", token.text));
+        if token.text.to_lowercase() == "or" || early_cursor.sees("either") {
+            return Some(fault.hint("a rule cannot say 'one of these is early enough'; 'later of' means all of them"));
         }
-        fault("a difference can be misread").hint(better)
+        let later = whole(format!("later of {} <= {late_text}", names.join(", ")));
+        return Some(fault.fix("all of them are early enough", later));
+    }
+    None
+}
+
+/// A difference of two moments with minutes on the other side: the rule that says so.
+fn difference(first: &Cursor, second: &Cursor, relation: Token, sign: Sign) -> Option<Fault> {
+    let (from, end, line) = (first.place(), second.end(), first.line);
+    let left_is = sides::difference(first);
+    let (later, earlier) = left_is.or_else(|| sides::difference(second))?;
+    let minutes = match left_is {
+        Some(_) => line[relation.to..end].trim(),
+        None => line[from..relation.from].trim(),
+    };
+    let base = bracketed(earlier);
+    let sign = match (sign, left_is) {
+        (Sign::NotLater, None) => Sign::NotEarlier,
+        (Sign::NotEarlier, None) => Sign::NotLater,
+        (sign, _) => sign,
+    };
+    let rule = match sign {
+        Sign::NotEarlier => format!("{base} + {minutes} <= {later}"),
+        Sign::NotLater => format!("{later} <= {base} + {minutes}"),
+        Sign::Same => format!("{later} = {base} + {minutes}"),
+    };
+    let fault = Fault::new(from, end, "a rule has moments on both sides, and no difference of two");
+    Some(fault.fix("", with(line, from, end, &rule)))
+}
+
+/// A sign that cannot be read.
+fn no_sign(cursor: &Cursor, relation: Token) -> Fault {
+    let from = cursor.place();
+    let end = cursor.end();
+    let (left, right) = (cursor.line[from..relation.from].trim(), cursor.line[relation.to..end].trim());
+    let whole = |text: String| with(cursor.line, from, end, &text);
+    let forward = || whole(format!("{left} <= {right}"));
+    let backward = || whole(format!("{right} <= {left}"));
+    let one_more = |side: &str| match side.rsplit_once(" + ") {
+        Some((group, minutes)) if minutes.parse::<i32>().is_ok() => {
+            format!("{group} + {}", minutes.parse::<i32>().unwrap_or(0).saturating_add(1))
+        }
+        _ => format!("{} + 1", bracketed(side)),
+    };
+    let fault = Fault::new(relation.from, relation.to, format!("'<=' is expected, not '{}'", relation.text));
+    match relation.text {
+        "<" => fault
+            .fix("the same minute is early enough", forward())
+            .fix("it is not", whole(format!("{} <= {right}", one_more(left)))),
+        ">" => fault
+            .fix("the same minute is late enough", backward())
+            .fix("it is not", whole(format!("{} <= {left}", one_more(right)))),
+        "=>" | "⇒" => fault.fix("not later than", forward()).fix("not earlier than", backward()),
+        "->" | "-->" | "→" | "⟶" => fault.fix("", forward()),
+        "<-" | "<--" | "←" => fault.fix("", backward()),
+        sign if sign.starts_with(['!', '≠']) || sign == "<>" => fault
+            .hint("a rule cannot say that its sides differ: choose which is earlier")
+            .fix("the left is earlier", whole(format!("{} <= {right}", one_more(left))))
+            .fix("the right is earlier", whole(format!("{} <= {left}", one_more(right)))),
+        _ => fault.hint("a rule has one '<=' between its sides"),
     }
 }
 
-/// A side, and what follows it with `and`, as the list of a `later of`.
-fn joined(written: &str, cursor: &Cursor) -> String {
-    let rest = cursor.rest();
-    let rest = rest.split("<=").next().unwrap_or(rest);
-    let more = rest.replace(" and ", ", ").replace(" or ", ", ");
-    let more = ["and", "or", "&", ","]
-        .iter()
-        .fold(more.trim(), |more, word| more.strip_prefix(word).unwrap_or(more).trim_start());
-    format!("{written}, {more}")
+/// More than one sign in a line: a rule for each.
+fn chain(cursor: &Cursor, from: usize) -> Fault {
+    let tokens = cursor.left();
+    let places: Vec<usize> = (0..tokens.len()).filter(|&place| tokens[place].kind == Kind::Relation).collect();
+    let second = tokens[places[1]];
+    let fault = Fault::new(second.from, second.to, format!("'{}' is too much: a rule has one sign", second.text));
+    let bounds: Vec<usize> = [0].into_iter().chain(places.iter().map(|place| place + 1)).collect();
+    let ends: Vec<usize> = places.iter().copied().chain([tokens.len()]).collect();
+    let pieces: Vec<&[Token]> = bounds.iter().zip(&ends).map(|(&from, &to)| &tokens[from..to.max(from)]).collect();
+    if pieces.iter().any(|piece| piece.is_empty()) {
+        return fault;
+    }
+    let text = |piece: &[Token]| match (piece.first(), piece.last()) {
+        (Some(first), Some(last)) => &cursor.line[first.from..last.to],
+        _ => "",
+    };
+    // Two rules with a word between them.
+    if let ([_, middle, _], Some(word)) = (&pieces[..], pieces[1].iter().position(parts_words)) {
+        let (first, second) = (&middle[..word], &middle[word + 1..]);
+        let rule = |left: &str, sign: usize, right: &str| format!("{left} {} {right}", tokens[places[sign]].text);
+        let rules = [rule(text(pieces[0]), 0, text(first)), rule(text(second), 1, text(pieces[2]))];
+        return fault.fixes("", lines(cursor, from, &rules));
+    }
+    let name = |piece: &[Token]| {
+        let sign = piece.iter().position(|token| token.kind == Kind::Sign && ["+", "-"].contains(&token.text));
+        text(&piece[..sign.unwrap_or(piece.len())]).to_string()
+    };
+    let arrow = |sign: &str| !sign.contains(['<', '=', '>', '≤', '≥', '⩽', '⩾']) || sign.contains("->");
+    let sign = |place: usize| match arrow(tokens[places[place]].text) {
+        true => "<=",
+        false => tokens[places[place]].text,
+    };
+    let rules = |bare: bool| -> Vec<String> {
+        let right = |place: usize| if bare { name(pieces[place + 1]) } else { text(pieces[place + 1]).into() };
+        (0..places.len()).map(|place| format!("{} {} {}", text(pieces[place]), sign(place), right(place))).collect()
+    };
+    let arrows = places.iter().all(|&place| arrow(tokens[place].text));
+    let between = pieces[1..pieces.len() - 1].iter().any(|piece| name(piece) != text(piece));
+    let fault = match arrows {
+        true => fault,
+        false => fault.fixes("the same minutes in both", lines(cursor, from, &rules(false))),
+    };
+    match between || arrows {
+        true => fault.fixes("each moment's minutes to the next", lines(cursor, from, &rules(true))),
+        false => fault,
+    }
 }
 
-/// Whether a comma stands inside a number.
-fn decimal(cursor: &Cursor, comma: Token) -> bool {
-    let digit = |c: Option<char>| c.is_some_and(|c| c.is_ascii_digit());
-    digit(cursor.line[..comma.from].chars().next_back()) && digit(cursor.line[comma.to..].chars().next())
+/// What is too much behind a group of a span.
+fn group_over(cursor: &Cursor, expected: &str) -> Fault {
+    let fault = cursor.fault(expected);
+    match cursor.peek(0).map(|token| token.text.to_lowercase()).as_deref() {
+        Some("and" | "or" | "&" | ",") => {
+            fault.hint("a group of several moments stands behind 'later of'; for each of them a span is asked for")
+        }
+        Some("until" | "till") => {
+            let token = cursor.peek(0).map_or((0, 0), |token| (token.from, token.to));
+            fault.fix("", with(cursor.line, token.0, token.1, "to"))
+        }
+        Some(_) => more(cursor, fault),
+        None => fault.hint("a span is written 'span: from .. to ..'"),
+    }
+}
+
+/// How a span that does not begin with `from` is written.
+fn no_from(cursor: &Cursor, from: usize, text: &str) -> Fault {
+    let fault = |message: &str| Fault::new(from, from + text.len(), message);
+    let whole = |start: &str, end: &str| with(cursor.line, from, cursor.end(), &format!("from {start} to {end}"));
+    let small = text.to_lowercase();
+    let word = |word: &str| small.find(word).map(|place| (text[..place].trim(), text[place + word.len()..].trim()));
+    if let Some((later, earlier)) = sides::difference(cursor) {
+        return fault("this can be a difference, or a way from one to the other")
+            .fix("from the first to the second", whole(later, earlier))
+            .fix("the first less the second", whole(earlier, later));
+    }
+    let fault = fault("a span is written 'span: from .. to ..'");
+    if !text.is_ascii() {
+        return fault;
+    }
+    if let Some((end, start)) = word(" from ").filter(|_| small.starts_with("to ")) {
+        return fault.fix("", whole(start, end[3..].trim()));
+    }
+    if let Some((end, start)) = word(" minus ") {
+        return fault.fix("", whole(start, end));
+    }
+    if let Some((start, end)) = word(" and ").filter(|_| small.starts_with("between ")) {
+        return fault.fix("", whole(start[8..].trim(), end));
+    }
+    match word(" to ") {
+        Some((start, end)) => fault.fix("", whole(start, end)),
+        None => fault,
+    }
 }

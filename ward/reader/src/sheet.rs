@@ -14,6 +14,18 @@ pub struct Moment {
     pub place: Place,
 }
 
+/// What a rule comes from.
+#[derive(Clone, Copy, Debug, Default, PartialEq, Eq)]
+pub enum Origin {
+    /// A line that is one rule, or a span's.
+    #[default]
+    Line,
+    /// A line that is two rules, of which this is one.
+    Half,
+    /// The line `nothing before anchor`, which adds a rule a moment.
+    Floor,
+}
+
 /// A rule, or a span that is asked for.
 #[derive(Clone, Debug, PartialEq, Eq)]
 pub struct Row {
@@ -26,6 +38,7 @@ pub struct Row {
     pub right: Vec<Lead>,
     /// Whether the rule holds, or is suspended (document 02, 2.10). A span is never suspended.
     pub in_force: bool,
+    pub origin: Origin,
 }
 
 /// A span that is asked for, and the answer that the text expects.
@@ -50,6 +63,8 @@ pub struct Sheet {
     pub week: Vec<Window>,
     /// The moments at which the ward must be open.
     pub admits: Vec<usize>,
+    /// Where the line `nothing before anchor` stands, if it does.
+    pub floor: Option<Place>,
     /// An empty text is an idle day (document 02, 2.9), and its record has no bytes.
     pub idle: bool,
 }
@@ -66,6 +81,7 @@ impl Sheet {
             anchor: None,
             week: Vec::new(),
             admits: Vec::new(),
+            floor: None,
             idle: false,
         }
     }
@@ -74,7 +90,7 @@ impl Sheet {
     pub fn idle() -> Sheet {
         let place = Place { line: 1, column: 1, width: 1 };
         let text = "from anchor to anchor".into();
-        let row = Row { place, text, left: vec![Some(0)], right: vec![Some(0)], in_force: true };
+        let row = Row { place, text, left: vec![Some(0)], right: vec![Some(0)], in_force: true, origin: Origin::Line };
         Sheet { questions: vec![Question { row, expected: None }], idle: true, ..Sheet::new() }
     }
 

@@ -2,6 +2,7 @@
 
 use std::fmt::Write;
 
+use crate::calendar;
 use crate::clock::{Clock, DAY, DAYS};
 use crate::sheet::{Lead, Moment, Row, Sheet};
 use crate::sides;
@@ -14,10 +15,32 @@ pub fn name(name: &str) -> String {
     }
 }
 
-/// Minutes of a lead: hours and minutes from an hour on.
-fn minutes(minutes: i32, clock: &Clock) -> String {
+/// Minutes as a length of time that nobody takes for a time of day: `35`, `8 h 40`, `2 days 4 h`.
+pub fn length(minutes: i32) -> String {
+    let (days, rest) = (minutes / DAY, minutes % DAY);
+    match (days, rest) {
+        (0, 0..60) => rest.to_string(),
+        (0, _) => hours(rest),
+        (1, 0) => "1 day".into(),
+        (1, _) => format!("1 day {}", hours(rest)),
+        (_, 0) => format!("{days} days"),
+        _ => format!("{days} days {}", hours(rest)),
+    }
+}
+
+/// Hours, and minutes where there are some.
+pub fn hours(minutes: i32) -> String {
+    match minutes % 60 {
+        0 => format!("{} h", minutes / 60),
+        rest => format!("{} h {rest:02}", minutes / 60),
+    }
+}
+
+/// Minutes of a lead: hours and minutes from an hour on. On the anchor nobody may take them for a time of day.
+fn minutes(moment: &Moment, minutes: i32, clock: &Clock) -> String {
     match minutes {
         0..60 => minutes.to_string(),
+        _ if moment.name == "anchor" => length(minutes),
         _ => (clock.write)(minutes),
     }
 }
@@ -26,7 +49,12 @@ fn minutes(minutes: i32, clock: &Clock) -> String {
 pub fn side(moments: &[Moment], leads: &[Lead], clock: &Clock) -> String {
     let term = |moment: &Moment, lead: i32| match lead {
         0 => name(&moment.name),
-        lead => format!("{} {} {}", name(&moment.name), if lead < 0 { '-' } else { '+' }, minutes(lead.abs(), clock)),
+        lead => format!(
+            "{} {} {}",
+            name(&moment.name),
+            if lead < 0 { '-' } else { '+' },
+            minutes(moment, lead.abs(), clock)
+        ),
     };
     let terms: Vec<(&Moment, i32)> =
         moments.iter().zip(leads).filter_map(|(moment, lead)| lead.map(|lead| (moment, lead))).collect();
@@ -68,6 +96,7 @@ pub fn text(sheet: &Sheet, clock: &Clock) -> String {
     }
     if let Some(anchor) = sheet.anchor {
         let day = anchor.day.map_or(String::new(), |day| format!("{} ", DAYS[day]));
+        let day = anchor.date.map_or(day, |date| format!("{} ", calendar::written(date)));
         let _ = writeln!(text, "anchor: {day}{}", (clock.write)(anchor.minute));
     }
     for window in &sheet.week {

@@ -1,20 +1,29 @@
-//! A side of a rule, or a group of a span: `nothing`, a moment with minutes, or `later of` several.
+//! A side of a rule, or a group of a span: `nothing`, a moment or a time of day with minutes, or `later of` several.
 
-use crate::clock::Clock;
-use crate::hints;
+use crate::cursor::{Cursor, Unknown};
+use crate::fault::{with, without, Fault};
+use crate::instant::{self, Known};
+use crate::length::{self, is_hours, is_number, Length};
 use crate::limits;
 use crate::sheet::{Lead, Moment};
-use crate::tokens::{Fault, Kind, Token};
+use crate::shown;
+use crate::tokens::{is_quote, Kind, Token, DASHES};
 
 /// Words that name no moment, but in quotes.
 const WORDS: [&str; 8] = ["later", "latest", "of", "nothing", "from", "to", "and", "or"];
 
-/// Whether a word can name a moment without quotes.
-pub fn is_name(word: &str) -> bool {
+/// Whether a word can name a moment without quotes, where hyphens may stand within it.
+pub fn is_bare(word: &str) -> bool {
+    let strange = |c: char| c.is_whitespace() || c.is_control() || is_quote(c) || "+,<>=≤≥⩽⩾:#()→⇒←⟶‘’".contains(c);
     word.starts_with(char::is_alphabetic)
-        && !word.contains(|c: char| c.is_whitespace() || c.is_control() || "+-,<>=≤≥:#()\"–—−‐‑“”„«»‘’".contains(c))
+        && !word.contains(strange)
         && word.chars().count() <= limits::NAME
-        && !WORDS.contains(&word)
+        && !WORDS.contains(&word.to_lowercase().as_str())
+}
+
+/// Whether a word can name a moment without quotes, whatever stands around it.
+pub fn is_name(word: &str) -> bool {
+    is_bare(word) && !word.contains(|c: char| DASHES.contains(c))
 }
 
 /// Why a name between quotes cannot be taken.
@@ -22,289 +31,499 @@ pub fn quoted_fault(name: &str) -> Option<&'static str> {
     if !name.starts_with(char::is_alphanumeric) || name.ends_with(char::is_whitespace) {
         return Some("a name in quotes starts with a letter or a digit, and does not end with a space");
     }
+    if name.contains(is_quote) {
+        return Some("a name has no quotes within it");
+    }
     (name.chars().count() > limits::NAME).then_some("a name has at most 60 characters")
 }
 
-fn is_number(word: &str) -> bool {
-    !word.is_empty() && word.bytes().all(|byte| byte.is_ascii_digit())
-}
+/// A moment, if it is declared, and its minutes.
+type Term = (Option<usize>, i32);
 
-/// Whether a word is digits, a colon and digits.
-pub fn is_hours(word: &str) -> bool {
-    word.split_once(':').is_some_and(|(hours, minutes)| is_number(hours) && is_number(minutes))
-}
-
-/// A name that no line has declared.
-pub struct Unknown {
-    pub name: String,
+/// A side that was read.
+#[derive(Clone, Debug)]
+pub struct Side {
+    pub leads: Vec<Lead>,
+    /// Whether it is one moment with no minutes.
+    pub bare: bool,
     pub from: usize,
     pub to: usize,
 }
 
-/// A line's tokens, and how far they are taken.
-pub struct Cursor<'a> {
-    pub line: &'a str,
-    tokens: Vec<Token<'a>>,
-    at: usize,
-    /// Where the part that is read ends.
-    end: usize,
-    pub unknown: Vec<Unknown>,
-}
-
-impl<'a> Cursor<'a> {
-    pub fn new(line: &'a str, tokens: Vec<Token<'a>>, end: usize) -> Cursor<'a> {
-        Cursor { line, tokens, at: 0, end: line[..end].trim_end().len(), unknown: Vec::new() }
-    }
-
-    pub fn peek(&self, ahead: usize) -> Option<Token<'a>> {
-        self.tokens.get(self.at + ahead).copied()
-    }
-
-    /// A token ahead as a word or sign; a name in quotes is none.
-    fn plain(&self, ahead: usize) -> &'a str {
-        self.peek(ahead).filter(|token| token.kind != Kind::Quoted).map_or("", |token| token.text)
-    }
-
-    pub fn take(&mut self) -> Option<Token<'a>> {
-        let token = self.peek(0);
-        self.at += 1;
-        token
-    }
-
-    pub fn takes(&mut self, text: &str) -> bool {
-        let found = self.plain(0) == text;
-        self.at += found as usize;
-        found
-    }
-
-    /// A fault at the next token, or behind the last.
-    pub fn fault(&self, expected: &str) -> Fault {
-        match self.peek(0) {
-            Some(token) => {
-                let found = self.line[token.from..token.to].to_string();
-                Fault::new(token.from, token.to, format!("{expected}, not '{found}'"))
-            }
-            None => {
-                let whole = self.line[self.end..].trim_start();
-                let place = if whole.is_empty() || whole.starts_with('#') {
-                    "at the end of the line".into()
-                } else {
-                    format!("before '{}'", whole.split_whitespace().next().unwrap_or(""))
-                };
-                Fault::new(self.end, self.end, format!("{expected} {place}"))
-            }
-        }
-    }
-
-    pub fn expect(&mut self, text: &str) -> Result<(), Fault> {
-        match self.takes(text) {
-            true => Ok(()),
-            false => Err(self.fault(&format!("'{text}' is expected"))),
-        }
-    }
-
-    /// What is left, cut at the first token of a kind: the part before it, the token, and the part behind it.
-    pub fn split(&self, at: impl Fn(&Token) -> bool) -> Option<(Cursor<'a>, Token<'a>, Cursor<'a>)> {
-        let tokens = self.tokens.get(self.at..)?;
-        let place = tokens.iter().position(at)?;
-        let token = tokens[place];
-        let before = Cursor::new(self.line, tokens[..place].to_vec(), token.from);
-        Some((before, token, Cursor::new(self.line, tokens[place + 1..].to_vec(), self.end)))
-    }
-
-    /// Where the next token starts.
-    pub fn place(&self) -> usize {
-        self.peek(0).map_or(self.end, |token| token.from)
-    }
-
-    /// The rest of the part that is read.
-    pub fn rest(&self) -> &'a str {
-        self.line[self.place().min(self.end)..self.end].trim()
-    }
-}
-
 /// Reads a side. A moment that is named twice counts with the larger lead.
-pub fn read(cursor: &mut Cursor, moments: &[Moment], clock: &Clock) -> Result<Vec<Lead>, Fault> {
-    let mut leads = vec![None; moments.len()];
-    capital_word(cursor)?;
-    earlier_of(cursor)?;
-    if cursor.takes("nothing") {
-        return Ok(leads);
+pub fn read(cursor: &mut Cursor, known: &Known) -> Result<Side, Fault> {
+    let from = cursor.place();
+    other_words(cursor)?;
+    let mut leads = vec![None; known.moments.len()];
+    if cursor.sees("nothing") && known.moment(cursor.plain(0)).is_none() {
+        cursor.take();
+        return Ok(Side { leads, bare: false, from, to: cursor.last().map_or(from, |token| token.to) });
     }
-    let several = cursor.takes("later") || cursor.takes("latest");
-    if several {
-        cursor
-            .expect("of")
-            .map_err(|fault| fault.hint("write 'later of' and the moments, with commas between them"))?;
+    let terms = sum(cursor, known)?;
+    let to = cursor.last().map_or(from, |token| token.to);
+    for (moment, lead) in &terms {
+        if lead.abs() > limits::LEAD {
+            let message = format!("the minutes here add up to {lead}, beyond {}, two weeks", limits::LEAD);
+            return Err(Fault::new(from, to, message));
+        }
+        if let Some(moment) = *moment {
+            leads[moment] = leads[moment].max(Some(*lead));
+        }
     }
+    Ok(Side { leads, bare: matches!(terms[..], [(_, 0)]), from, to })
+}
+
+/// Minutes in front, a group, and minutes behind it.
+fn sum(cursor: &mut Cursor, known: &Known) -> Result<Vec<Term>, Fault> {
+    let from = cursor.place();
+    bullet(cursor, known)?;
+    let front = front(cursor, known);
+    let group_from = cursor.place();
+    let mut terms = group(cursor, known)?;
+    let group_to = cursor.last().map_or(from, |token| token.to);
+    if let Some(front) = front {
+        on_anchor(cursor, known, &terms, front, (from, group_to))?;
+        terms.iter_mut().for_each(|(_, lead)| *lead += front.minutes);
+    }
+    if let Some((sign, length)) = tail(cursor, known, &terms, group_from)? {
+        terms.iter_mut().for_each(|(_, lead)| *lead += sign * length.minutes);
+    }
+    Ok(terms)
+}
+
+/// A dash before a side: a bullet, or a minus.
+fn bullet(cursor: &mut Cursor, known: &Known) -> Result<(), Fault> {
+    let Some(dash) = cursor.peek(0).filter(|token| token.kind == Kind::Sign && token.text == "-") else {
+        return Ok(());
+    };
+    let mark = cursor.mark();
+    cursor.take();
+    let fault = Fault::new(dash.from, dash.to, "a side does not start with a minus")
+        .fix("without the dash", without(cursor.line, dash.from, dash.to));
+    let mut fixed = fault.clone();
+    if let Some(length) = front(cursor, known) {
+        let mut rest = Cursor::new(cursor.line, cursor.left().to_vec(), cursor.end());
+        let from = rest.place();
+        if group(&mut rest, known).is_ok() {
+            let to = rest.last().map_or(from, |token| token.to);
+            let (group, minutes) = (&cursor.line[from..to], &cursor.line[length.from..length.to]);
+            let text = format!("{} - {minutes}", bracketed(group));
+            fixed = fault.fix("minutes earlier", with(cursor.line, dash.from, to, &text));
+        }
+    }
+    cursor.back(mark, cursor.unknown.len());
+    Err(fixed)
+}
+
+/// A group in brackets, where it is several moments.
+pub fn bracketed(group: &str) -> String {
+    match group.to_lowercase().starts_with("late") && group.contains(' ') {
+        true => format!("({group})"),
+        false => group.into(),
+    }
+}
+
+/// Minutes that stand before a plus and a group: they are taken with the plus.
+fn front(cursor: &mut Cursor, known: &Known) -> Option<Length> {
+    let first = cursor.peek(0).filter(|token| token.kind == Kind::Word && length::starts(token.text))?;
+    let (mark, unknown) = (cursor.mark(), cursor.unknown.len());
+    let length = length::read(cursor, known.clock).ok();
+    let group = cursor.peek(1).is_some_and(|next| next.kind == Kind::Quoted || !length::starts(next.text));
+    if let Some(length) = length.filter(|_| cursor.plain(0) == "+" && group && known.moment(first.text).is_none()) {
+        cursor.take();
+        return Some(length);
+    }
+    cursor.back(mark, unknown);
+    None
+}
+
+fn group(cursor: &mut Cursor, known: &Known) -> Result<Vec<Term>, Fault> {
+    let from = cursor.place();
+    if cursor.takes("later of") || cursor.takes("latest of") {
+        return list(cursor, known, from);
+    }
+    if cursor.sees("later") && known.moment("later").is_none() || cursor.sees("latest of") {
+        return Err(cursor
+            .fault("a moment's name is expected")
+            .hint("'later of' has the moments behind it, with commas"));
+    }
+    if cursor.takes("(") {
+        other_words(cursor)?;
+        let terms = sum(cursor, known)?;
+        closed(cursor)?;
+        return Ok(terms);
+    }
+    single(cursor, known, false).map(|term| vec![term])
+}
+
+fn closed(cursor: &mut Cursor) -> Result<(), Fault> {
+    cursor.expect(")").map_err(|fault| fault.hint("a bracket is open"))
+}
+
+/// A time of day, or a moment.
+fn single(cursor: &mut Cursor, known: &Known, listed: bool) -> Result<Term, Fault> {
+    match instant::starts(cursor, known) {
+        true => Ok((Some(0), instant::read(cursor, known, listed)?)),
+        false => Ok((moment(cursor, known)?, 0)),
+    }
+}
+
+/// One of the moments behind `later of`.
+struct Item {
+    terms: Vec<Term>,
+    from: usize,
+    to: usize,
+    /// Minutes that stand with it and not in brackets: where the moment alone ends or starts, and the minutes behind their sign.
+    loose: Option<Loose>,
+}
+
+struct Loose {
+    alone: (usize, usize),
+    sign: i32,
+    length: Length,
+    front: bool,
+}
+
+/// The moments behind `later of`. Minutes among them stand in brackets with their moment; else nobody knows whose they are.
+fn list(cursor: &mut Cursor, known: &Known, start: usize) -> Result<Vec<Term>, Fault> {
+    let around = cursor.plain(0) == "(" && comma_within(cursor.left());
+    if around {
+        cursor.take();
+    }
+    let mut items = Vec::new();
     loop {
-        let bracket = cursor.takes("(");
-        let (moment, lead) = term(cursor, moments, clock)?;
-        if bracket {
-            cursor.expect(")")?;
+        items.push(item(cursor, known)?);
+        if cursor.takes(",") {
+            continue;
         }
-        if let Some(moment) = moment {
-            leads[moment] = leads[moment].max(Some(lead));
+        let word = cursor.peek(0).filter(|token| ["and", "or", "&", ";"].contains(&token.text.to_lowercase().as_str()));
+        if let Some(word) = word {
+            let comma = format!("{}, {}", cursor.line[..word.from].trim_end(), cursor.line[word.to..].trim_start());
+            return Err(cursor.fault("a comma is expected").fix("", comma));
         }
-        if !several || !cursor.takes(",") {
-            return Ok(leads);
+        break;
+    }
+    if items.len() > 1 && items.iter().any(|item| item.loose.is_some()) {
+        return Err(whose(cursor, &items, start, around));
+    }
+    if around {
+        closed(cursor)?;
+        if let Some(comma) = cursor.peek(0).filter(|token| token.text == ",") {
+            return Err(Fault::new(comma.from, comma.to, "nothing more is expected behind the brackets of 'later of'")
+                .hint("put each moment with its minutes into brackets of its own"));
         }
     }
-}
-
-/// A word of this language in capital letters.
-fn capital_word(cursor: &Cursor) -> Result<(), Fault> {
-    let word = cursor.plain(0);
-    let small = word.to_lowercase();
-    if word != small && (small == "nothing" || small.starts_with("late") && cursor.plain(1).to_lowercase() == "of") {
-        return Err(cursor.fault("a moment's name is expected").hint(format!("write '{small}' in small letters")));
+    for item in &mut items {
+        if let Some(loose) = &item.loose {
+            item.terms.iter_mut().for_each(|(_, lead)| *lead += loose.sign * loose.length.minutes);
+        }
     }
-    Ok(())
+    Ok(items.into_iter().flat_map(|item| item.terms).collect())
 }
 
-/// A group that this language does not have.
-fn earlier_of(cursor: &Cursor) -> Result<(), Fault> {
-    let word = cursor.plain(0).to_lowercase();
-    let such = ["earlier", "earliest", "first"].contains(&word.as_str()) && cursor.plain(1).to_lowercase() == "of";
-    match such {
+/// Whether the brackets that start here hold a list: a comma stands in them, and no `later of` before it.
+fn comma_within(tokens: &[Token]) -> bool {
+    let mut depth = 0;
+    if tokens.get(1).is_some_and(|token| ["later", "latest"].contains(&token.text.to_lowercase().as_str())) {
+        return false;
+    }
+    for token in tokens.iter().filter(|token| token.kind == Kind::Sign) {
+        match token.text {
+            "(" => depth += 1,
+            ")" => depth -= 1,
+            "," if depth == 1 => return true,
+            _ => {}
+        }
+        if depth == 0 {
+            return false;
+        }
+    }
+    false
+}
+
+fn item(cursor: &mut Cursor, known: &Known) -> Result<Item, Fault> {
+    let from = cursor.place();
+    if let Some(length) = front(cursor, known) {
+        let alone_from = cursor.place();
+        let terms = vec![single(cursor, known, true)?];
+        let to = cursor.last().map_or(from, |token| token.to);
+        on_anchor(cursor, known, &terms, length, (from, to))?;
+        let loose = Some(Loose { alone: (alone_from, to), sign: 1, length, front: true });
+        return Ok(Item { terms, from, to, loose });
+    }
+    let terms = match cursor.takes("(") {
+        true => {
+            let terms = sum(cursor, known)?;
+            closed(cursor)?;
+            terms
+        }
+        false => vec![single(cursor, known, true)?],
+    };
+    let to = cursor.last().map_or(from, |token| token.to);
+    let behind = tail(cursor, known, &terms, from)?;
+    let loose = behind.map(|(sign, length)| Loose { alone: (from, to), sign, length, front: false });
+    Ok(Item { terms, from, to: cursor.last().map_or(to, |token| token.to), loose })
+}
+
+/// Minutes inside `later of` that stand in no brackets: with their moment alone, or with all of them.
+fn whose(cursor: &Cursor, items: &[Item], start: usize, around: bool) -> Fault {
+    let line = cursor.line;
+    let text = |item: &Item| line[item.from..item.to].to_string();
+    let alone = |loose: &Loose| &line[loose.alone.0..loose.alone.1];
+    let minutes = |loose: &Loose| {
+        let sign = if loose.sign < 0 { "-" } else { "+" };
+        format!("{sign} {}", &line[loose.length.from..loose.length.to])
+    };
+    let each = |item: &Item| match &item.loose {
+        None => text(item),
+        Some(loose) => format!("({} {})", alone(loose), minutes(loose)),
+    };
+    let (first, last) = (&items[0], &items[items.len() - 1]);
+    let loose = items.iter().find(|item| item.loose.is_some()).unwrap_or(last);
+    let own = items.iter().map(each).collect::<Vec<_>>().join(", ");
+    let fault = Fault::new(loose.from, loose.to, "whose are these minutes? Inside 'later of' they stand in brackets")
+        .fix("its own", with(line, first.from, last.to, &own));
+    let Some(behind) = last.loose.as_ref().filter(|loose| !loose.front) else { return fault };
+    let mut all: Vec<String> = items[..items.len() - 1].iter().map(each).collect();
+    all.push(alone(behind).into());
+    let all = format!("(later of {}) {}", all.join(", "), minutes(behind));
+    let to = match around {
+        true => line[last.to..].find(')').map_or(last.to, |length| last.to + length + 1),
+        false => last.to,
+    };
+    fault.fix("those of all", with(line, start, to, &all))
+}
+
+/// Minutes behind a group, with their sign.
+fn tail(cursor: &mut Cursor, known: &Known, terms: &[Term], from: usize) -> Result<Option<(i32, Length)>, Fault> {
+    let sign = match cursor.plain(0) {
+        "+" => 1,
+        "-" => -1,
+        _ => return Ok(None),
+    };
+    let Some(token) = cursor.take() else { return Ok(None) };
+    let length = minutes(cursor, known, token, from)?;
+    if sign > 0 {
+        on_anchor(cursor, known, terms, length, (from, length.to))?;
+    }
+    if ["+", "-"].contains(&cursor.plain(0)) && cursor.peek(1).is_some_and(|next| length::starts(next.text)) {
+        return Err(twice(cursor, known, sign, length, from));
+    }
+    Ok(Some((sign, length)))
+}
+
+/// The minutes behind a sign.
+fn minutes(cursor: &mut Cursor, known: &Known, sign: Token, from: usize) -> Result<Length, Fault> {
+    let Some(token) = cursor.peek(0) else { return Err(cursor.fault("minutes are expected")) };
+    if token.text == "(" {
+        let (mark, unknown) = (cursor.mark(), cursor.unknown.len());
+        cursor.take();
+        let inner = length::read(cursor, known.clock).ok().filter(|_| cursor.plain(0) == ")");
+        let to = cursor.peek(0).map_or(token.to, |token| token.to);
+        cursor.back(mark, unknown);
+        let fault = cursor.fault("minutes are expected");
+        return Err(match inner {
+            Some(inner) => fault.fix("", with(cursor.line, token.from, to, &cursor.line[inner.from..inner.to])),
+            None => fault,
+        });
+    }
+    if let Some(fault) = length::point(cursor, token) {
+        return Err(fault);
+    }
+    if token.kind == Kind::Quoted || token.kind == Kind::Word && known.moment(token.text).is_some() {
+        let group = cursor.line[from..sign.from].trim_end();
+        let fault = Fault::new(sign.from, token.to, "two moments cannot be added or taken from each other");
+        return Err(match sign.text {
+            "+" => {
+                let list = format!("later of {group}, {}", &cursor.line[token.from..token.to]);
+                fault.fix("the later of both", with(cursor.line, from, token.to, &list))
+            }
+            _ => fault,
+        });
+    }
+    length::read(cursor, known.clock)
+}
+
+/// Minutes that are given twice: their sum.
+fn twice(cursor: &mut Cursor, known: &Known, sign: i32, first: Length, from: usize) -> Fault {
+    let fault = cursor.fault("minutes are given once");
+    let Some(next) = cursor.take() else { return fault };
+    let Ok(second) = length::read(cursor, known.clock) else { return fault };
+    let sum = sign * first.minutes + if next.text == "-" { -second.minutes } else { second.minutes };
+    let group = cursor.line[from..first.from].trim_end().trim_end_matches(['+', '-', '–', '−', '—']).trim_end();
+    let text = match sum {
+        0 => group.to_string(),
+        1.. => format!("{group} + {}", shown::length(sum)),
+        _ => format!("{group} - {}", shown::length(-sum)),
+    };
+    fault.fix("the sum", with(cursor.line, from, second.to, &text))
+}
+
+/// A lead on the anchor that is written like a time of day, and can be one: at or after the anchor's, and before 24:00.
+fn on_anchor(
+    cursor: &Cursor,
+    known: &Known,
+    terms: &[Term],
+    length: Length,
+    (from, to): (usize, usize),
+) -> Result<(), Fault> {
+    let (Some(anchor), Some((colon, colon_from, colon_to))) = (known.anchor, length.colon) else { return Ok(()) };
+    let such = terms == [(Some(0), 0)] && (anchor.minute..crate::clock::DAY).contains(&colon);
+    // A time of day with minutes behind it is none of the anchor's leads.
+    let named = cursor.line[from..to].to_lowercase().contains("anchor");
+    if !such || !named || !known.clock.judges() {
+        return Ok(());
+    }
+    let written = &cursor.line[colon_from..colon_to];
+    let long = shown::hours(colon);
+    let time = match length.minutes - colon {
+        0 => written.to_string(),
+        days => instant::from_anchor(days + colon - anchor.minute, false),
+    };
+    Err(Fault::new(colon_from, colon_to, format!("'{written}' can be a time of day, or a length of time"))
+        .fix("so long after the anchor", with(cursor.line, colon_from, colon_to, &long))
+        .fix("the time of day", with(cursor.line, from, to, &time)))
+}
+
+/// Words for groups that this language does not have, or has otherwise.
+fn other_words(cursor: &Cursor) -> Result<(), Fault> {
+    let Some(token) = cursor.peek(0).filter(|token| token.kind == Kind::Word) else { return Ok(()) };
+    let say = |to: usize, text: &str| with(cursor.line, token.from, to, text);
+    let such = |words: [&str; 2]| cursor.sees(words[0]) && cursor.plain(1).to_lowercase() == words[1];
+    if ["max", "maximum"].iter().any(|word| such([word, "("])) {
+        let to = cursor.peek(1).map_or(token.to, |token| token.from);
+        let text = say(to, "later of ").replace(';', ",");
+        return Err(cursor.fault("a moment's name or 'later of' is expected").fix("", text));
+    }
+    if cursor.sees("the later of") || cursor.sees("the latest of") {
+        let to = cursor.peek(1).map_or(token.to, |token| token.from);
+        return Err(cursor.fault("a moment's name or 'later of' is expected").fix("", say(to, "")));
+    }
+    let first = ["earlier", "earliest", "first"].iter().any(|word| such([word, "of"]))
+        || ["min", "minimum"].iter().any(|word| such([word, "("]));
+    match first {
         true => Err(cursor.fault("a moment's name or 'later of' is expected").hint(
-            "there is 'later of' alone; that something is not later than any of a and b is two rules, one with each",
+            "there is 'later of' alone; that something is not later than any of several is a rule with each of them",
         )),
         false => Ok(()),
     }
 }
 
-/// A moment, with minutes if any. A moment that nobody declared is noted, and the rest of the line is still read.
-fn term(cursor: &mut Cursor, moments: &[Moment], clock: &Clock) -> Result<(Option<usize>, i32), Fault> {
+/// A moment's name. A moment that nobody declared is noted, and the rest of the line is still read.
+fn moment(cursor: &mut Cursor, known: &Known) -> Result<Option<usize>, Fault> {
     let Some(token) = cursor.peek(0) else { return Err(cursor.fault("a moment's name is expected")) };
-    if token.kind != Kind::Quoted && !is_name(token.text) {
-        return Err(no_name(cursor, token));
+    let moment = known.moment(token.text);
+    if let Some(fault) = without_quotes(cursor, token, known) {
+        return Err(fault);
     }
-    let moment = moments.iter().position(|known| known.name == token.text);
-    if let Some(name) = without_quotes(cursor.line, token, moments).filter(|_| moment.is_none()) {
-        let message = format!("'{name}' stands without its quotes");
-        return Err(Fault::new(token.from, token.from + name.len(), message).hint(format!("write \"{name}\"")));
+    if let Some(fault) = hyphen(cursor, token, known, moment) {
+        return Err(fault);
+    }
+    if token.kind != Kind::Quoted && moment.is_none() && !is_bare(token.text) {
+        return Err(no_name(cursor, token, known));
     }
     cursor.take();
+    if moment.is_none() && token.kind == Kind::Word && token.text.to_lowercase() == "anchor" {
+        return Ok(Some(0));
+    }
     if moment.is_none() {
         cursor.unknown.push(Unknown { name: token.text.into(), from: token.from, to: token.to });
     }
-    let sign = match cursor.plain(0) {
-        "+" => 1,
-        "-" => -1,
-        _ => return Ok((moment, 0)),
-    };
-    let hyphen = sign < 0 && cursor.peek(1).is_some_and(|next| next.kind == Kind::Word && is_name(next.text));
-    if hyphen && moment.is_none() {
-        // A name with a hyphen and no quotes: its first half is no name that is missing.
-        cursor.unknown.pop();
-    }
-    let lead = lead(cursor, token, sign, clock)?;
-    Ok((moment, lead))
+    Ok(moment)
 }
 
-/// The declared name of several words or with hyphens that starts where a word does, the longest of them.
-fn without_quotes<'a>(line: &str, token: Token, moments: &'a [Moment]) -> Option<&'a str> {
+/// The declared name of several words that starts where a word does, the longest of them.
+fn without_quotes(cursor: &Cursor, token: Token, known: &Known) -> Option<Fault> {
+    if token.kind != Kind::Word {
+        return None;
+    }
+    let line = &cursor.line[..cursor.end()];
     let ends = |name: &str| !line[token.from + name.len()..].starts_with(char::is_alphanumeric);
-    let names = moments.iter().map(|known| known.name.as_str());
-    let such = names.filter(|name| token.kind == Kind::Word && !is_name(name) && line[token.from..].starts_with(name));
-    such.filter(|name| ends(name)).max_by_key(|name| name.len())
+    let names = known.moments.iter().map(|known| known.name.as_str());
+    let longer = |name: &&str| name.len() > token.text.len() && line[token.from..].starts_with(*name) && ends(name);
+    let name = names.filter(longer).max_by_key(|name| name.len())?;
+    let to = token.from + name.len();
+    let message = format!("'{name}' stands without its quotes");
+    Some(Fault::new(token.from, to, message).fix("", with(cursor.line, token.from, to, &format!("\"{name}\""))))
+}
+
+/// A hyphen in a word that is a name's or was meant as a minus.
+fn hyphen(cursor: &Cursor, token: Token, known: &Known, moment: Option<usize>) -> Option<Fault> {
+    if token.kind != Kind::Word {
+        return None;
+    }
+    let place = token.text.rfind(|c| DASHES.contains(c))?;
+    let (name, rest) = (&token.text[..place], token.text[place..].trim_start_matches(|c| DASHES.contains(c)));
+    if known.moment(name).is_none() || !length::starts(rest) {
+        return None;
+    }
+    let say = |text: String| with(cursor.line, token.from, token.to, &text);
+    let fault = |message: &str| Fault::new(token.from, token.to, message);
+    let minus = say(format!("{name} - {rest}"));
+    Some(match moment {
+        Some(_) => fault("this can be a moment, or a moment less minutes")
+            .fix("the moment", say(format!("\"{}\"", token.text)))
+            .fix("less minutes", minus),
+        None => fault("a minus has a space on both sides")
+            .hint("without spaces a hyphen is a part of a name, and no moment is called so")
+            .fix("a minus", minus),
+    })
 }
 
 /// What stands where a moment's name belongs.
-fn no_name(cursor: &Cursor, token: Token) -> Fault {
+fn no_name(cursor: &Cursor, token: Token, known: &Known) -> Fault {
     let fault = cursor.fault("a moment's name is expected");
-    if is_hours(token.text) && cursor.plain(1) != "+" {
-        return fault
-            .hint("times of day are counted from the anchor: where that is 8:00, write 'anchor + 0:40' for 8:40");
+    let say = |text: String| with(cursor.line, token.from, token.to, &text);
+    if let Some(fault) = instant::meant(cursor, known) {
+        return fault;
     }
-    if is_number(token.text) || is_hours(token.text) {
-        return match cursor.peek(2) {
-            Some(name) if cursor.plain(1) == "+" => {
-                fault.hint(format!("the moment comes first: '{} + {}'", &cursor.line[name.from..name.to], token.text))
-            }
-            _ => fault.hint(format!("minutes are counted from a moment, as in 'anchor + {}'", token.text)),
-        };
+    if is_number(token.text) {
+        let plus = format!("anchor + {}", token.text);
+        return fault.hint("minutes are counted from a moment").fix("from the anchor", say(plus));
     }
-    if token.text.starts_with('\'') {
-        return fault.hint("names with spaces or hyphens go into double quotes, as in \"bed 4\"");
+    if is_hours(token.text) {
+        return fault;
     }
-    if WORDS.contains(&token.text) && token.kind == Kind::Word {
-        return fault.hint(format!("a moment that is called so goes into quotes: \"{}\"", token.text));
+    if token.text.starts_with(['\'', '‘', '’']) {
+        return single_quotes(cursor, token, fault);
     }
-    fault
-}
-
-/// The minutes behind a sign, which is the next token.
-fn lead(cursor: &mut Cursor, moment: Token, sign: i32, clock: &Clock) -> Result<i32, Fault> {
-    let Some(sign_token) = cursor.take() else { return Ok(0) };
-    let Some(token) = cursor.peek(0) else { return Err(cursor.fault("minutes are expected")) };
-    let minutes = match token.kind {
-        Kind::Word if is_number(token.text) => token.text.parse::<i32>().ok(),
-        Kind::Word if is_hours(token.text) => {
-            Some((clock.read)(token.text).ok_or_else(|| hints::minutes(token.from, token.to, token.text))?)
-        }
-        _ => return Err(no_minutes(cursor, moment, sign_token, token)),
-    };
-    cursor.take();
-    let Some(minutes) = minutes.filter(|&minutes| minutes <= limits::LEAD) else {
-        let message = format!("'{}' is beyond {} minutes, two weeks", token.text, limits::LEAD);
-        return Err(Fault::new(token.from, token.to, message)
-            .hint("is it a slip of the keyboard? Longer ways can go over a moment between"));
-    };
-    if ["+", "-"].contains(&cursor.plain(0)) {
-        let part = cursor.peek(1).is_some_and(|next| is_number(next.text) || is_hours(next.text));
-        if part {
-            return Err(cursor.fault("minutes are given once").hint("add the numbers up"));
-        }
+    if WORDS.contains(&token.text.to_lowercase().as_str()) && token.kind == Kind::Word {
+        let quoted = format!("\"{}\"", token.text);
+        return fault.hint("a moment that is called so stands in quotes").fix("", say(quoted));
     }
-    Ok(sign * minutes)
-}
-
-/// What stands where minutes belong.
-fn no_minutes(cursor: &Cursor, moment: Token, sign: Token, token: Token) -> Fault {
-    let signs = &cursor.line[sign.from..token.to];
-    if token.kind == Kind::Sign {
-        let number = cursor.plain(1);
-        let fault = Fault::new(sign.from, token.to, format!("'{signs}' are two signs"));
-        let sum = match token.text {
-            "+" | "-" if sign.text == token.text => "+",
-            "+" | "-" => "-",
-            _ => sign.text,
-        };
-        return if is_number(number) || is_hours(number) {
-            fault.hint(format!("write '{sum} {number}'"))
-        } else {
-            fault
-        };
-    }
-    let fault = match token.kind {
-        Kind::Word => hints::minutes(token.from, token.to, token.text),
-        _ => cursor.fault("minutes are expected"),
-    };
-    let joined = sign.text == "-" && token.kind == Kind::Word && is_name(token.text);
-    match fault.hint {
-        None if joined => {
-            let name = format!("{}-{}", moment.text, token.text);
-            fault.hint(format!("a name with a hyphen goes into quotes: \"{name}\""))
-        }
-        _ => fault,
+    let numbered = token.text.trim_end_matches(['.', ')', '*', '•']);
+    let bullet = is_number(numbered) && numbered.len() < token.text.len() || numbered.is_empty();
+    match bullet {
+        true => fault.fix("without it", without(cursor.line, token.from, token.to)),
+        false => fault,
     }
 }
 
-/// Two groups with a minus between them, where a span is written as a difference: its first and second group.
-pub fn difference(cursor: &mut Cursor, moments: &[Moment], clock: &Clock) -> Option<(Vec<Lead>, Vec<Lead>)> {
-    let mut split = (0..cursor.tokens.len()).filter(|&place| {
-        let next = cursor.tokens.get(place + 1);
-        cursor.tokens[place].text == "-" && next.is_some_and(|next| !is_number(next.text) && !is_hours(next.text))
-    });
-    let place = split.next_back()?;
-    let part = |tokens: &[Token]| {
-        let end = tokens.last().map_or(0, |token| token.to);
-        let tokens: Vec<Token> = tokens.iter().map(|token| Token { ..*token }).collect();
-        let mut part = Cursor::new(cursor.line, tokens, end);
-        let leads = read(&mut part, moments, clock).ok()?;
-        (part.peek(0).is_none() && part.unknown.is_empty()).then_some(leads)
-    };
-    Some((part(&cursor.tokens[..place])?, part(&cursor.tokens[place + 1..])?))
+/// Single quotes round a name.
+fn single_quotes(cursor: &Cursor, token: Token, fault: Fault) -> Fault {
+    let rest = &cursor.line[token.from..cursor.end()];
+    let fault = fault.hint("names with spaces stand in double quotes");
+    let mut quotes = rest.char_indices().filter(|(_, c)| "'‘’".contains(*c));
+    let (Some((_, open)), Some((close, end))) = (quotes.next(), quotes.next()) else { return fault };
+    let name = &rest[open.len_utf8()..close];
+    fault.fix("", with(cursor.line, token.from, token.from + close + end.len_utf8(), &format!("\"{name}\"")))
+}
+
+/// Two groups with a minus between them: the texts before and behind it.
+pub fn difference<'a>(cursor: &Cursor<'a>) -> Option<(&'a str, &'a str)> {
+    let tokens = cursor.left();
+    let place = (0..tokens.len()).rev().find(|&place| {
+        let next = tokens.get(place + 1);
+        tokens[place].kind == Kind::Sign
+            && tokens[place].text == "-"
+            && next.is_some_and(|next| next.kind == Kind::Quoted || !length::starts(next.text) && next.text != "(")
+    })?;
+    let (first, last) = (tokens.first()?, tokens.last()?);
+    (place > 0).then_some(())?;
+    Some((cursor.line[first.from..tokens[place].from].trim(), cursor.line[tokens[place].to..last.to].trim()))
+}
+
+/// The names that are declared, for hints.
+pub fn names(moments: &[Moment]) -> impl Iterator<Item = &str> {
+    moments.iter().map(|moment| moment.name.as_str())
 }

@@ -74,7 +74,7 @@ fn not_utf8(number: usize, line: &[u8], place: usize) -> Remark {
 }
 
 fn remark(weight: Weight, line: usize, column: usize, message: String, hint: &str) -> Remark {
-    Remark { weight, place: Place { line, column, width: 1 }, message, hint: Some(hint.into()) }
+    Remark { weight, place: Place { line, column, width: 1 }, message, hint: Some(hint.into()), fixes: Vec::new() }
 }
 
 #[cfg(test)]

@@ -20,7 +20,7 @@ pub fn free(sheet: &Sheet, question: usize, moment: usize) -> bool {
 pub fn warnings(sheet: &Sheet) -> Vec<Remark> {
     let mut warnings = Vec::new();
     let mut warn = |place, message: String, hint: &str| {
-        warnings.push(Remark { weight: Weight::Warning, place, message, hint: Some(hint.into()) })
+        warnings.push(Remark { weight: Weight::Warning, place, message, hint: Some(hint.into()), fixes: Vec::new() })
     };
     for (number, moment) in sheet.moments.iter().enumerate() {
         if (0..sheet.questions.len()).all(|question| free(sheet, question, number)) {
@@ -47,7 +47,7 @@ mod tests {
 
     #[test]
     fn rules_that_say_nothing() {
-        for rule in ["a <= a", "a <= later of a + 1, b", "later of a, b <= later of a, b, c"] {
+        for rule in ["a <= a", "a <= later of (a + 1), b", "later of a, b <= later of a, b, c"] {
             assert!(says_nothing(&sheet(rule).rules[0]), "{rule}");
         }
         for rule in ["a <= nothing", "a + 1 <= a", "a <= b", "later of a, b <= a", "anchor <= a"] {

@@ -34,7 +34,8 @@ fn texts(document: &str) -> Vec<String> {
             None => parts.push(String::new()),
         }
     }
-    parts.into_iter().filter(|part| part.lines().any(|line| line.starts_with("span: "))).collect()
+    let whole = parts.into_iter().filter(|part| part.lines().any(|line| line.starts_with("span: ")));
+    whole.map(|part| part.trim_start_matches('\n').to_string()).collect()
 }
 
 /// Every whole text that the documents show is answered, as it expects, and some part of what the tool says stands there.
@@ -43,6 +44,7 @@ fn the_texts_of_the_documents_are_answered() {
     let document = fs::read_to_string(repository().join("docs/SCHEDULERS.md")).expect("the document");
     let texts = texts(&document);
     assert!(texts.len() >= 2, "{texts:?}");
+    let mut outputs = String::new();
     for text in texts {
         let told = ward(&["-"], &text);
         assert_eq!((told.status, told.err.as_str()), (Some(0), ""), "{text}\n{told:?}");
@@ -50,7 +52,36 @@ fn the_texts_of_the_documents_are_answered() {
         for line in told.out.lines().filter(|line| line.contains("The checker") || line.contains("least span is")) {
             assert!(document.contains(line.trim()), "{line}\nis not what the document shows for\n{text}");
         }
+        outputs += &told.out;
     }
+    // What the document shows of an answer stands in it so, line by line.
+    let shown = answers(&document);
+    assert!(shown.len() >= 3, "{shown:?}");
+    for answer in shown {
+        assert!(outputs.contains(&answer), "{answer}\nis no answer to a text of the document");
+    }
+    let mistaken = "moments: ready\nanchor: 8:00\n\n\nanchor + 8:40 <= ready\nspan: from anchor to ready\n";
+    let told = ward(&["check", "-"], mistaken).err.replace("standard input", "day.txt");
+    let told: String = told.lines().map(|line| format!("    {line}\n")).collect();
+    assert!(document.contains(&told), "{told}");
+}
+
+/// The parts of a document that show an answer: they start with what the checker says.
+fn answers(document: &str) -> Vec<String> {
+    let mut answers = Vec::new();
+    let mut lines = document.lines().peekable();
+    while let Some(line) = lines.next() {
+        if !line.starts_with("    The checker, ") {
+            continue;
+        }
+        let mut answer = format!("{}\n", &line[4..]);
+        while let Some(line) = lines.next_if(|line| line.is_empty() || line.starts_with("    ")) {
+            answer += line.strip_prefix("    ").unwrap_or("");
+            answer.push('\n');
+        }
+        answers.push(answer.trim_end().to_string());
+    }
+    answers
 }
 
 /// What README shows of its first command is what that command prints, up to the times of the plan, which are the engine's to

@@ -13,6 +13,7 @@ mod outputs;
 mod programs;
 mod random_texts;
 mod run;
+mod said;
 mod scratch;
 mod second;
 mod slack;

@@ -12,10 +12,11 @@ fn check(text: impl AsRef<[u8]>) -> Told {
     ward(&["check", "-"], text)
 }
 
-/// The one mistake of the second line: its column, its message, and its hint.
+/// The one mistake of the second line: its column, its message, and what is told below it.
 fn mistake(line: &str) -> (usize, String, String) {
     let told = check(with(line));
     assert_eq!((told.status, told.out.as_str()), (Some(1), ""), "{told:?}");
+    assert_eq!(told.err.matches(": mistake: ").count(), 1, "{told:?}");
     let lines: Vec<&str> = told.err.lines().collect();
     let mut head = lines[0].splitn(5, ':');
     assert_eq!(head.next(), Some("standard input"), "{told:?}");
@@ -25,108 +26,107 @@ fn mistake(line: &str) -> (usize, String, String) {
     assert_eq!(lines[1], format!("  2 | {line}"), "{told:?}");
     let caret = lines[2].chars().position(|c| c == '^').expect("a caret");
     assert_eq!(caret, "  2 | ".len() + column - 1, "{told:?}");
-    let hint = lines.get(3).and_then(|line| line.strip_prefix("    = ")).unwrap_or("");
-    assert!(lines.len() <= 4, "{told:?}");
-    (column, head.next().expect("a message").trim().into(), hint.into())
+    (column, head.next().expect("a message").trim().into(), lines[3..].join("\n") + "\n")
 }
+
+/// A line, the column of its mistake, what is told of it, and parts of what is told below: words, and lines that can be copied.
+const MISTAKES: &[(&str, usize, &str, &[&str])] = &[
+    ("ready < cleaned", 7, "'<=' is expected, not '<'", &["ready <= cleaned", "ready + 1 <= cleaned"]),
+    ("ready != cleaned", 7, "'<=' is expected, not '!='", &["a rule cannot say that its sides differ: choose which is earlier", "ready + 1 <= cleaned", "cleaned + 1 <= ready"]),
+    ("ready!=\"bed 4-B\"", 6, "'<=' is expected, not '!='", &["a rule cannot say that its sides differ: choose which is earlier", "ready + 1 <= \"bed 4-B\"", "\"bed 4-B\" + 1 <= ready"]),
+    ("ready ≠ cleaned", 7, "'<=' is expected, not '≠'", &["a rule cannot say that its sides differ: choose which is earlier", "ready + 1 <= cleaned", "cleaned + 1 <= ready"]),
+    ("ready <> cleaned", 7, "'<=' is expected, not '<>'", &["a rule cannot say that its sides differ: choose which is earlier", "ready + 1 <= cleaned", "cleaned + 1 <= ready"]),
+    ("ready + 5 != later of cleaned, anchor", 11, "'<=' is expected, not '!='", &["a rule cannot say that its sides differ: choose which is earlier", "ready + 6 <= later of cleaned, anchor", "(later of cleaned, anchor) + 1 <= ready + 5"]),
+    ("ready <= cleaned != anchor", 18, "'!=' is too much: a rule has one sign", &[]),
+    ("ready and cleaned <= anchor", 7, "'<=' is expected, not 'and'", &["later of ready, cleaned <= anchor"]),
+    ("anchor <= ready or cleaned", 17, "several moments on the late side of a rule stand behind 'later of', or in rules of their own", &["anchor <= later of ready, cleaned"]),
+    ("anchor <= ready and cleaned", 17, "several moments on the late side of a rule stand behind 'later of', or in rules of their own", &["anchor <= ready", "anchor <= cleaned"]),
+    ("anchor <= ready, cleaned", 16, "several moments on the late side of a rule stand behind 'later of', or in rules of their own", &["anchor <= later of ready, cleaned", "anchor <= ready", "anchor <= cleaned"]),
+    ("moment: nurse", 1, "no line starts with 'moment:'", &["moments: nurse"]),
+    ("spam: from ready to cleaned", 1, "no line starts with 'spam:'", &["span: from ready to cleaned"]),
+    ("ward: nurse", 1, "no line starts with 'ward:'", &["lines start with moments:, anchor:, open:, admits:, suspended:, span:, expect:, or are rules; a comment starts with #"]),
+    ("rule: ready <= cleaned", 1, "no line starts with 'rule:'", &["a rule stands on its line without a word and a colon before it", "ready <= cleaned"]),
+    ("suspended ready <= cleaned", 1, "a colon is missing behind 'suspended'", &["suspended: ready <= cleaned"]),
+    ("READY <= cleaned", 1, "'READY' looks like 'ready' and is another name: 'READY' has the capital letter 'R'", &["ready <= cleaned"]),
+    ("claened <= ready", 1, "no moment is called 'claened'", &["cleaned <= ready"]),
+    ("nurse <= ready", 1, "no moment is called 'nurse'", &["name it on the line 'moments: ..'"]),
+    ("ready + 7.5 <= cleaned", 9, "'7.5' has a decimal point or comma, and minutes are whole", &["ready + 450 min <= cleaned", "ready + 8 min <= cleaned"]),
+    ("ready + 7,5 <= cleaned", 9, "'7,5' has a decimal point or comma, and minutes are whole", &["ready + 450 min <= cleaned", "ready + 8 min <= cleaned"]),
+    ("ready + 1.440 <= cleaned", 9, "'1.440' has a decimal point or comma, and minutes are whole", &["ready + 1440 <= cleaned"]),
+    ("ready + 1,5 h <= cleaned", 9, "'1,5 h' has a decimal point or comma, and minutes are whole", &["ready + 90 min <= cleaned"]),
+    ("ready + -30 <= cleaned", 9, "a minus has a space on both sides", &["ready - 30 <= cleaned"]),
+    ("ready - -30 <= cleaned", 9, "a minus has a space on both sides", &["ready + 30 <= cleaned"]),
+    ("ready + 1:75 <= cleaned", 9, "'1:75' is no text of hours and minutes", &["behind the colon there are two digits below 60", "ready + 2:15 <= cleaned"]),
+    ("ready + 1:5 <= cleaned", 9, "'1:5' is no text of hours and minutes", &["minutes have two digits", "ready + 1:05 <= cleaned", "ready + 1:50 <= cleaned"]),
+    ("ready + 2 days 4 <= cleaned", 9, "'4' has no unit: hours or minutes?", &["ready + 2 days 4 h <= cleaned", "ready + 2 days 4 min <= cleaned"]),
+    ("ready + 1:30 min <= cleaned", 9, "'1:30 min' can be hours and minutes, or minutes and seconds", &["there are whole minutes only", "ready + 1:30 <= cleaned"]),
+    ("8:40 <= ready", 1, "a time of day needs the anchor's time", &["say when the anchor is, on a line of its own, as in anchor: 8:00", "anchor + 8:40 <= ready"]),
+    ("ready <= 8:45", 10, "a time of day needs the anchor's time", &["say when the anchor is, on a line of its own, as in anchor: 8:00", "ready <= anchor + 8:45"]),
+    ("ready by 8:45", 10, "a time of day needs the anchor's time", &["say when the anchor is, on a line of its own, as in anchor: 8:00", "ready by anchor + 8:45"]),
+    ("earlier of ready, cleaned <= anchor", 1, "a moment's name or 'later of' is expected, not 'earlier'", &["there is 'later of' alone; that something is not later than any of several is a rule with each of them"]),
+    ("ready <= earlier of cleaned, anchor", 10, "a moment's name or 'later of' is expected, not 'earlier'", &["ready <= cleaned", "ready <= anchor"]),
+    ("ready before cleaned + 5", 7, "'<=' is expected, not 'before'", &["ready <= cleaned + 5", "ready + 1 <= cleaned + 5"]),
+    ("ready + 5 after cleaned", 11, "'<=' is expected, not 'after'", &["cleaned <= ready + 5", "cleaned + 1 <= ready + 5"]),
+    ("ready 5 after cleaned", 7, "at least so long, or exactly?", &["ready at least 5 after cleaned", "ready exactly 5 after cleaned"]),
+    ("anchor <= bed 4-B + 10", 11, "'bed 4-B' stands without its quotes", &["anchor <= \"bed 4-B\" + 10"]),
+    ("bed 4-B <= ready", 1, "'bed 4-B' stands without its quotes", &["\"bed 4-B\" <= ready"]),
+    ("bed-clean <= ready", 1, "no moment is called 'bed-clean'", &["name it on the line 'moments: ..'"]),
+    ("ready-5 <= cleaned", 1, "a minus has a space on both sides", &["without spaces a hyphen is a part of a name, and no moment is called so", "ready - 5 <= cleaned"]),
+    ("ready -5 <= cleaned", 7, "a minus has a space on both sides", &["without spaces a hyphen is a part of a name", "ready - 5 <= cleaned"]),
+    ("moments: nurse; porter", 10, "'nurse; porter' cannot be a moment's name", &["commas stand between names, and a name with spaces stands in quotes", "moments: \"nurse; porter\"", "moments: nurse, porter"]),
+    ("moments: nurse, porter and sister", 17, "'porter and sister' cannot be a moment's name", &["commas stand between names, and a name with spaces stands in quotes", "moments: nurse, \"porter and sister\"", "moments: nurse, porter, sister"]),
+    ("moments: nurse porter", 10, "'nurse porter' cannot be a moment's name", &["commas stand between names, and a name with spaces stands in quotes", "moments: \"nurse porter\"", "moments: nurse, porter"]),
+    ("moments: nurse,, porter", 16, "a moment's name is expected, not ','", &["moments: nurse, porter"]),
+    ("moments: Cleaned", 10, "'Cleaned' and 'cleaned' look alike: 'Cleaned' has the capital letter 'C'", &["line 1 has 'cleaned'; two names must differ in a letter that can be seen"]),
+    ("ready + 30m <= cleaned", 9, "a length of time is expected, not '30m'", &["lengths are whole minutes, or as in 1:30, 2 h, 3 days or 2 days 4:00", "ready + 30 min <= cleaned"]),
+    ("ready 30 <= cleaned", 7, "'<=' is expected, not '30'", &["a sign is missing", "ready + 30 <= cleaned", "ready - 30 <= cleaned"]),
+    ("ready + 5 + 6 <= cleaned", 11, "minutes are given once, not '+'", &["ready + 11 <= cleaned"]),
+    ("ready + 20161 <= cleaned", 9, "'20161' is beyond 20160 minutes, two weeks", &["is it a slip of the keyboard? Longer ways can go over a moment between"]),
+    ("ready + 336:01 <= cleaned", 9, "'336:01' is beyond 20160 minutes, two weeks", &["is it a slip of the keyboard? Longer ways can go over a moment between"]),
+    ("ready + 15 days <= cleaned", 9, "'15 days' is beyond 20160 minutes, two weeks", &["is it a slip of the keyboard? Longer ways can go over a moment between"]),
+    ("ready <= cleaned <= anchor", 18, "'<=' is too much: a rule has one sign", &["ready <= cleaned", "cleaned <= anchor"]),
+    ("ready + <= cleaned", 8, "minutes are expected before '<='", &[]),
+    ("ready <=", 9, "a moment's name is expected at the end of the line", &[]),
+    ("ready", 6, "'<=' is expected at the end of the line", &["a rule is written 'ready + 10 <= leaves', or 'leaves at least 10 after ready'"]),
+    ("ready <= cleaned-early", 10, "no moment is called 'cleaned-early'", &["name it on the line 'moments: ..'"]),
+    ("ready <= cleaned and cleaned <= ready", 30, "'<=' is too much: a rule has one sign", &["ready <= cleaned", "cleaned <= ready"]),
+    ("ready + (30) <= cleaned", 9, "minutes are expected, not '('", &["ready + 30 <= cleaned"]),
+    ("ready - (30) <= cleaned", 9, "minutes are expected, not '('", &["ready - 30 <= cleaned"]),
+    ("ready + 1.5h <= cleaned", 9, "'1.5h' has a decimal point or comma, and minutes are whole", &["ready + 90 min <= cleaned"]),
+    ("\"bed 4-B <= ready", 1, "the quote before 'bed 4-B <= ready' is not closed", &["a name in quotes ends with another quote of the same kind on the same line"]),
+    ("'bed 4-B' <= ready", 1, "a moment's name is expected, not ''bed'", &["names with spaces stand in double quotes", "\"bed 4-B\" <= ready"]),
+    ("nothing <= ready", 1, "a rule with nothing on its left says nothing, and is refused (17)", &["was the line left half filled? Fill it in or delete it"]),
+    ("ready#1 <= cleaned", 6, "'#' stands within 'ready#1', or without a space behind it", &["a name with '#' stands in quotes, \"ready#1\"; a comment has a space on both sides of its '#'"]),
+    ("ready <= cleaned #late", 18, "'#' stands within 'cleaned #late', or without a space behind it", &["a name with '#' stands in quotes, \"cleaned #late\"; a comment has a space on both sides of its '#'", "ready <= cleaned # late"]),
+    ("anchor: 24:00", 9, "the anchor's day ends before 24:00", &["write 0:00, and the next day where the line has a day"]),
+    ("anchor: noon", 9, "'noon' is no time of day", &["anchor: 12:00"]),
+    ("anchor: 8", 9, "a time of day is expected, not '8'", &["anchor: 8:00"]),
+    ("span: ready - cleaned", 7, "this can be a difference, or a way from one to the other", &["span: from ready to cleaned", "span: from cleaned to ready"]),
+    ("span: from ready and cleaned to anchor", 18, "'to' is expected, not 'and'", &["a group of several moments stands behind 'later of'; for each of them a span is asked for"]),
+    ("span: from ready", 17, "'to' is expected at the end of the line", &["a span is written 'span: from .. to ..'"]),
+    ("span: ready to cleaned", 7, "a span is written 'span: from .. to ..'", &["span: from ready to cleaned"]),
+    ("cleaned - ready >= 30", 1, "a rule has moments on both sides, and no difference of two", &["ready + 30 <= cleaned"]),
+    ("ready + 30 -> cleaned", 12, "'<=' is expected, not '->'", &["ready + 30 <= cleaned"]),
+    ("later of ready, cleaned + 15 <= anchor", 17, "whose are these minutes? Inside 'later of' they stand in brackets", &["later of ready, (cleaned + 15) <= anchor", "(later of ready, cleaned) + 15 <= anchor"]),
+    ("later of ready + 15, cleaned <= anchor", 10, "whose are these minutes? Inside 'later of' they stand in brackets", &["later of (ready + 15), cleaned <= anchor"]),
+    ("ready => cleaned", 7, "'<=' is expected, not '=>'", &["ready <= cleaned", "cleaned <= ready"]),
+    ("nothing before the anchor", 1, "there is 'nothing before anchor' alone", &["nothing before anchor"]),
+    ("ready not before 7", 18, "'7' is no time of day: an hour, or minutes?", &["ready not before anchor + 7"]),
+    ("cleaned within 40 of ready", 9, "'<=' is expected, not 'within'", &["cleaned 0 to 40 after ready", "ready - 40 <= cleaned", "cleaned <= ready + 40"]),
+    ("cleaned 40 to 35 after ready", 9, "the smaller number comes first", &["cleaned 35 to 40 after ready"]),
+    ("cleaned 1 to 2 h after ready", 9, "'1' has no unit", &["cleaned 1 h to 2 h after ready", "cleaned 1 min to 2 h after ready"]),
+    ("\"ready + 5\" <= cleaned", 1, "no moment is called 'ready + 5'", &["name it on the line 'moments: ..'"]),
+];
 
 #[test]
 fn every_mistake_has_its_place_and_a_hint() {
-    for (line, column, message, hint) in [
-        ("ready >= cleaned + 5", 7, "'<=' is expected, not '>='", "the other way round: 'cleaned + 5 <= ready'"),
-        ("ready ≥ cleaned", 7, "not '≥'", "'cleaned <= ready'"),
-        ("ready = cleaned", 7, "not '='", "two rules, each on its line: 'ready <= cleaned' and 'cleaned <= ready'"),
-        ("ready ≤ cleaned", 7, "not '≤'", "write '<='"),
-        ("ready < cleaned", 7, "not '<'", "'ready <= cleaned'"),
-        ("ready != cleaned", 7, "not '!='", "write 'ready + 1 <= cleaned' or 'cleaned + 1 <= ready'"),
-        ("ready!=\"bed 4-B\"", 6, "not '!='", "write 'ready + 1 <= \"bed 4-B\"' or '\"bed 4-B\" + 1 <= ready'"),
-        ("ready ≠ cleaned", 7, "not '≠'", "write 'ready + 1 <= cleaned' or 'cleaned + 1 <= ready'"),
-        ("ready <> cleaned", 7, "not '<>'", "write 'ready + 1 <= cleaned' or 'cleaned + 1 <= ready'"),
-        ("ready + 5 != later of cleaned, anchor", 11, "not '!='", "which is earlier, as in 'a + 1 <= b'"),
-        ("ready != nothing", 7, "not '!='", "which is earlier, as in 'a + 1 <= b'"),
-        ("ready <= cleaned != anchor", 18, "'!=' is too much", "one '<=' a rule"),
-        ("ready and cleaned <= anchor", 7, "not 'and'", "'later of ready, cleaned'"),
-        ("anchor <= ready or cleaned", 17, "'or' is too much", "'later of ready, cleaned'"),
-        ("anchor <= ready and cleaned", 17, "'and' is too much", "'anchor <= ready' and 'anchor <= cleaned"),
-        ("anchor <= ready, cleaned", 16, "',' is too much", "'later of ready, cleaned'"),
-        ("moment: nurse", 1, "no line starts with 'moment:'", "write 'moments:'"),
-        ("Moments: nurse", 1, "no line starts with 'Moments:'", "write 'moments:' in small letters"),
-        ("spam: from ready to cleaned", 1, "no line starts with 'spam:'", "'span:'"),
-        ("ward: nurse", 1, "no line starts with 'ward:'", "lines start with"),
-        ("rule: ready <= cleaned", 1, "no line starts with 'rule:'", "without a word before it"),
-        ("suspended ready <= cleaned", 1, "a colon is missing behind 'suspended'", "write 'suspended:'"),
-        ("Anchor + 5 <= ready", 1, "no moment is called 'Anchor'", "'anchor': capital letters count"),
-        ("READY <= cleaned", 1, "no moment is called 'READY'", "'ready'"),
-        ("Later of ready, cleaned <= anchor", 1, "not 'Later'", "'later' in small letters"),
-        ("claened <= ready", 1, "no moment is called 'claened'", "'cleaned' meant?"),
-        ("nurse <= ready", 1, "no moment is called 'nurse'", "on the line 'moments: ..'"),
-        ("ready + 7.5 <= cleaned", 9, "'7.5' is no whole number", "write '7'; half an hour more than 7 hours is 7:30"),
-        ("ready + 7,5 <= cleaned", 10, "'<=' is expected, not ','", "minutes are whole"),
-        ("ready + -30 <= cleaned", 7, "'+ -' are two signs", "write '- 30'"),
-        ("ready - -30 <= cleaned", 7, "'- -' are two signs", "write '+ 30'"),
-        ("ready + 1:75 <= cleaned", 9, "'1:75' is no text of hours", "1:30"),
-        ("ready + 01:30 <= cleaned", 9, "'01:30' is no text of hours", "no leading zero: write '1:30'"),
-        ("ready + 00:30 <= cleaned", 9, "'00:30' is no text of hours", "no leading zero: write '0:30'"),
-        ("ready + 1h30 <= cleaned", 9, "'1h30' is no number of minutes", "written '1:30'"),
-        ("ready + 2h <= cleaned", 9, "'2h' is no number of minutes", "written '2:00'"),
-        ("ready + 2 hours <= cleaned", 11, "not 'hours'", "as in 2:00"),
-        ("8:40 <= ready", 1, "a moment's name is expected, not '8:40'", "write 'anchor + 0:40' for 8:40"),
-        ("ready <= 8:45", 10, "a moment's name is expected, not '8:45'", "where that is 8:00"),
-        ("earlier of ready, cleaned <= anchor", 1, "not 'earlier'", "two rules"),
-        ("ready before cleaned + 5", 7, "not 'before'", "write 'ready <= cleaned + 5'"),
-        ("ready + 5 after cleaned", 11, "not 'after'", "write 'cleaned <= ready + 5'"),
-        ("anchor <= bed 4-B + 10", 11, "'bed 4-B' stands without its quotes", "write \"bed 4-B\""),
-        ("bed 4-B <= ready", 1, "'bed 4-B' stands without its quotes", "write \"bed 4-B\""),
-        ("bed-clean <= ready", 5, "minutes are expected, not 'clean'", "into quotes: \"bed-clean\""),
-        ("moments: nurse; porter", 10, "'nurse; porter' cannot be a moment's name", "commas between them"),
-        ("ready + 30min <= cleaned", 9, "'30min' is no number", "write '30'"),
-        ("ready + 30 min <= cleaned", 12, "not 'min'", "leave it out"),
-        ("ready 30 <= cleaned", 7, "not '30'", "a sign is missing: '+ 30'"),
-        ("30 + ready <= cleaned", 1, "a moment's name is expected, not '30'", "'ready + 30'"),
-        ("ready + 5 + 6 <= cleaned", 11, "minutes are given once", "add the numbers up"),
-        ("ready + 20161 <= cleaned", 9, "'20161' is beyond 20160", "slip"),
-        ("ready + 336:01 <= cleaned", 9, "'336:01' is beyond 20160", "slip"),
-        ("ready <= cleaned <= anchor", 18, "'<=' is too much", "one '<=' a rule"),
-        ("ready + <= cleaned", 8, "minutes are expected", ""),
-        ("ready <=", 9, "a moment's name is expected at the end of the line", ""),
-        ("ready", 6, "'<=' is expected at the end of the line", "a rule is written"),
-        (
-            "ready <= cleaned-early",
-            18,
-            "minutes are expected, not 'early'",
-            "a name with a hyphen goes into quotes: \"cleaned-early\"",
-        ),
-        ("ready – 5 <= cleaned", 7, "'–' is not the sign '-'", "write '-'"),
-        (
-            "“bed 4-B” <= ready",
-            1,
-            "'“' is not the sign '\"'",
-            "write '\"' here, and where such a sign stands again: 2 on",
-        ),
-        ("ready <= cleaned and cleaned <= ready", 18, "'and' is too much", "'ready <= cleaned' and 'cleaned <= ready'"),
-        ("ready + (30) <= cleaned", 7, "'+ (' are two signs", "write '+ 30'"),
-        ("ready - (30) <= cleaned", 7, "'- (' are two signs", "write '- 30'"),
-        ("ready + 1.5h <= cleaned", 9, "'1.5h' is no number of minutes", "written '1:30'"),
-        ("span: From ready To cleaned", 7, "a span is written", "in small letters"),
-        ("span: from ready To cleaned", 18, "'to' is expected, not 'To'", "in small letters"),
-        ("\"bed 4-B <= ready", 1, "is not closed", "another quote"),
-        ("'bed 4-B' <= ready", 1, "a moment's name is expected", "double quotes"),
-        ("nothing <= ready", 1, "says nothing, and is refused (17)", "half filled"),
-        ("ready#1 <= cleaned", 6, "'#' stands inside 'ready#1'", "a comment starts"),
-        ("anchor: 08:00", 9, "'08:00' is no time of day", "write 8:00"),
-        ("anchor: 24:00", 9, "'24:00' is no time of day", "8:00"),
-        ("anchor: noon", 9, "'noon' is no time of day", "8:00"),
-        ("span: ready - cleaned", 7, "a difference can be misread", "'span: from cleaned to ready'"),
-        ("span: from ready and cleaned to anchor", 18, "'to' is expected", "'later of a, b'"),
-        ("span: from ready", 17, "'to' is expected at the end of the line", "from .. to .."),
-        ("expect: leest 5", 9, "'leest 5' is no answer", "'least 45'"),
-        ("expect: least 1290241", 9, "'least 1290241' is no answer", ""),
-        ("expect: least 013", 9, "'least 013' is no answer", ""),
-    ] {
+    for &(line, column, message, hints) in MISTAKES {
         let found = mistake(line);
         assert_eq!(found.0, column, "{line}: {found:?}");
         assert!(found.1.contains(message), "{line}: {found:?}");
-        assert!(found.2.contains(hint) && (hint.is_empty() || !found.2.is_empty()), "{line}: {found:?}");
+        for &hint in hints {
+            assert!(found.2.contains(hint), "{line}: {found:?}");
+        }
     }
 }
 
@@ -139,7 +139,7 @@ fn names_may_end_with_an_exclamation_mark() {
 
 #[test]
 fn all_mistakes_of_a_text_are_told_in_order() {
-    let text = "moments: a, b, a\na >= b\nb <= c + 7.5\nc <= d\na <= nothing\nspan: from a to\nexpect: no\n";
+    let text = "moments: a, b, a\na > b\nb <= c + 7.5\nc <= d\na <= nothing\nspan: from a to\nexpect: no\n";
     let told = check(text);
     let places: Vec<String> = told
         .err
@@ -156,7 +156,9 @@ fn all_mistakes_of_a_text_are_told_in_order() {
 /// Names of a line that cannot be read are not told as unknown where rules use them.
 #[test]
 fn a_line_of_moments_that_cannot_be_read_is_the_one_mistake() {
-    for moments in ["moments: “bed 4”, ready", "moments: bed#4, ready", "moments: \"bed 4, ready"] {
+    for moments in
+        ["moments: “bed 4, ready", "moments: bed#4, ready", "moments: \"bed 4, ready", "moments: bed 4, ready"]
+    {
         let told = check(format!("{moments}\nanchor + 5 <= ready\nspan: from anchor to ready\n"));
         assert_eq!(told.status, Some(1), "{told:?}");
         assert_eq!(told.err.matches(": mistake: ").count(), 1, "{told:?}");

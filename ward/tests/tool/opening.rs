@@ -22,7 +22,7 @@ fn an_open_time_within_the_slack_is_told() {
     let out = with("anchor + 50 <= admit\nadmit + 5 <= back\nback <= anchor + 70\nanchor + 90 <= back + 80\n");
     let line = out.lines().find(|line| line.contains("  back  ")).expect("a line");
     assert!(line.ends_with("open") || line.ends_with("shut; open Fri 17:55, which fits the least span"), "{out}");
-    let out = with("anchor + 50 <= admit\nanchor + 2:00 <= back\nback <= anchor + 20:00\n");
+    let out = with("anchor + 50 <= admit\nanchor + 2:00 <= back\nback <= anchor + 20 h\n");
     let line = out.lines().find(|line| line.contains("  back  ")).expect("a line");
     assert!(line.contains("open"), "{out}");
 }

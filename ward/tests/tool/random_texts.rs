@@ -1,6 +1,7 @@
 //! Random texts, there and back: text, record, text, and the same record.
 
 use random::Random;
+use ward_reader::sheet::{Origin, Row};
 use ward_reader::{record, shown, Clock, Weight};
 
 use crate::ward;
@@ -14,7 +15,25 @@ pub fn clock() -> Clock {
         let size = span::write_hours(Some(minutes), &mut text).expect("a time");
         String::from_utf8_lossy(&text[..size]).into_owned()
     }
-    Clock { read: |text| span::read_hours(text.as_bytes()).ok().flatten(), write }
+    fn earliest(rules: &[&Row], count: usize) -> Vec<Option<i32>> {
+        (1..count).map(|moment| earliest_of(rules, moment, count)).collect()
+    }
+    Clock { read: |text| span::read_hours(text.as_bytes()).ok().flatten(), write, earliest: Some(earliest) }
+}
+
+/// How early a moment can be, by a question of its own.
+fn earliest_of(rules: &[&Row], moment: usize, count: usize) -> Option<i32> {
+    let only = |moment: usize| (0..count).map(|place| (place == moment).then_some(0)).collect::<Vec<_>>();
+    let place = ward_reader::remark::Place { line: 1, column: 1, width: 1 };
+    let (left, right) = (only(moment), only(0));
+    let row = Row { place, text: String::new(), left, right, in_force: true, origin: Origin::Line };
+    let mut answer = [0; span::ANSWER_SIZE];
+    let solved = span::solve(&record::one(rules, &row), &mut answer).expect("an answer");
+    match solved.outcome {
+        span::Outcome::Least(minute) => Some(minute),
+        span::Outcome::Bottomless => None,
+        span::Outcome::None => Some(0),
+    }
 }
 
 /// A text, and the record that it means, put together without the tool.
@@ -27,11 +46,19 @@ fn space(random: &mut Random) -> &'static str {
     ["", " ", "  ", "\t"][random.below(4)]
 }
 
-/// Minutes as a number or as hours and minutes.
-fn minutes(random: &mut Random, minutes: i32) -> String {
-    match random.chance(1, 2) {
-        true => minutes.to_string(),
-        false => format!("{}:{:02}", minutes / 60, minutes % 60),
+/// Minutes in one of the forms that there are; on the anchor none that can be a time of day.
+fn minutes(random: &mut Random, minutes: i32, anchor: bool) -> String {
+    let (hours, rest) = (minutes / 60, minutes % 60);
+    match random.below(if anchor { 6 } else { 8 }) {
+        0 | 1 => minutes.to_string(),
+        2 => format!("{minutes} min"),
+        3 if minutes >= 60 => format!("{hours} h {rest}"),
+        4 if rest == 0 => format!("{hours}h"),
+        5 if minutes >= 1_440 => format!("{} days {} h {rest} min", hours / 24, hours % 24),
+        6 if minutes >= 1_440 => format!("{} days {}:{rest:02}", hours / 24, hours % 24),
+        6 => format!("{hours:02}:{rest:02}"),
+        _ if anchor => format!("{minutes}min"),
+        _ => format!("{hours}:{rest:02}"),
     }
 }
 
@@ -48,9 +75,12 @@ fn term(random: &mut Random, name: &str, lead: i32) -> String {
     if lead == 0 && random.chance(2, 3) {
         return name.into();
     }
-    let sign = if lead < 0 || lead == 0 && random.chance(1, 2) { '-' } else { '+' };
     let (before, after) = (space(random), space(random));
-    format!("{name}{before}{sign}{after}{}", minutes(random, lead.abs()))
+    let sign = match lead < 0 || lead == 0 && random.chance(1, 2) {
+        true => [" - ", " – ", "  −\t"][random.below(3)].to_string(),
+        false => format!("{before}+{after}"),
+    };
+    format!("{name}{sign}{}", minutes(random, lead.abs(), name == "anchor"))
 }
 
 /// A side in words, and its leads. A moment may be named twice; the larger lead counts.
@@ -65,10 +95,12 @@ fn side(random: &mut Random, names: &[String], may_be_nothing: bool) -> (String,
         let (moment, lead) = (random.below(names.len()), lead(random));
         leads[moment] = leads[moment].max(lead);
         let term = term(random, &names[moment], lead);
-        terms.push(if random.chance(1, 4) { format!("({term})") } else { term });
+        // Inside `later of` minutes stand in brackets.
+        let loose = count == 1 || term == names[moment];
+        terms.push(if loose && random.chance(3, 4) { term } else { format!("({term})") });
     }
     let comma = format!("{},{}", space(random), space(random));
-    let word = ["later", "latest"][random.below(2)];
+    let word = ["later", "latest", "Later"][random.below(3)];
     let words =
         if count == 1 && random.chance(3, 4) { terms.concat() } else { format!("{word} of {}", terms.join(&comma)) };
     (words, leads)
@@ -81,7 +113,7 @@ fn comment(random: &mut Random) -> &'static str {
 /// A text with up to so many moments and rules.
 pub fn text(random: &mut Random, most_moments: usize, most_rules: usize) -> Meant {
     let plain = ["ready", "bed", "Küche", "x_1", "théâtre", "later2", "a.b"];
-    let strange = ["\"bed 4-B\"", "\"to\"", "\"Bett #7, links\"", "\"<= 5\"", "\"nurse (late)\""];
+    let strange = ["“bed 4-B”", "\"to\"", "\"Bett #7, links\"", "\"<= 5\"", "\"nurse (late)\""];
     let n = random.below(most_moments + 1);
     let mut names = vec!["anchor".to_string()];
     for number in 1..=n {
@@ -104,7 +136,14 @@ pub fn text(random: &mut Random, most_moments: usize, most_rules: usize) -> Mean
     let mut rows: Vec<Vec<i32>> = Vec::new();
     for _ in 0..m {
         let ((left, left_leads), (right, right_leads)) = (side(random, &names, false), side(random, &names, true));
-        lines.push(format!("{}{left}{}<={}{right}{}", space(random), space(random), space(random), comment(random)));
+        let sign = ["<=", "≤"][random.below(2)];
+        lines.push(format!(
+            "{}{left}{}{sign}{}{right}{}",
+            space(random),
+            space(random),
+            space(random),
+            comment(random)
+        ));
         rows.push([left_leads, right_leads].concat());
         if random.chance(1, 5) {
             lines.push("# between".into());
@@ -160,6 +199,55 @@ fn random_texts_go_there_and_back() {
             assert_eq!(ward(&["record", "-"], &back.out).out, hex.out, "{}", back.out);
         }
     }
+}
+
+/// A random record: of kind 1, of kind 3 with several questions, or of kind 5 with suspended rules.
+fn random_record(random: &mut Random) -> Vec<u8> {
+    let (n, m) = (random.below(32), random.below(64));
+    let side = |random: &mut Random| -> Vec<i32> {
+        let lead = |random: &mut Random| if random.chance(1, 3) { lead(random) } else { BLANK };
+        (0..=n).map(|_| lead(random)).collect()
+    };
+    let row = |random: &mut Random, rule: bool| {
+        let (mut left, right) = (side(random), side(random));
+        if rule && left.iter().all(|lead| *lead == BLANK) {
+            left[random.below(n + 1)] = lead(random);
+        }
+        [left, right].concat()
+    };
+    let questions = 1 + random.below(8) * random.below(2);
+    let rows: Vec<Vec<i32>> = (0..m + questions).map(|place| row(random, place < m)).collect();
+    let record = put_together(n, m, questions, &rows);
+    if questions > 1 || m == 0 || random.chance(1, 2) {
+        return record;
+    }
+    // Kind 5 has a state a rule behind the counts; one rule at least is suspended.
+    let off = random.below(m);
+    let states: Vec<u8> = (0..m).flat_map(|place| [(place != off && random.chance(2, 3)) as u8, 0]).collect();
+    let body = [&[5, 0], &record[6..10], &states, &record[10..]].concat();
+    [&(body.len() as u32).to_le_bytes()[..], &body].concat()
+}
+
+/// Whatever a record holds, the text that tells it gives the same record.
+#[test]
+fn random_records_go_there_and_back() {
+    let mut random = Random::new(227);
+    let mut kinds = [0; 6];
+    for number in 0..500 {
+        let record = random_record(&mut random);
+        kinds[usize::from(record[4])] += 1;
+        assert_eq!(span::solve_all(&record, &mut []).map_err(|refusal| refusal.number), Err(7));
+        let text = shown::text(&record::sheet(&record).expect("a record"), &clock());
+        let read = ward_reader::read(text.as_bytes(), &clock());
+        let sheet = read.sheet.unwrap_or_else(|| panic!("{:?}\n{text}", read.remarks));
+        assert_eq!(record::sent(&sheet), std::slice::from_ref(&record), "{text}");
+        if number % 10 == 0 {
+            let told = ward(&["text", "-"], record::hex(&record));
+            assert_eq!((told.status, told.out.as_str()), (Some(0), text.as_str()), "{told:?}");
+            assert_eq!(ward(&["record", "-"], &told.out).out.trim_end(), record::hex(&record));
+        }
+    }
+    assert!([1, 3, 5].iter().all(|&kind| kinds[kind] >= 80), "{kinds:?}");
 }
 
 /// The limits that the messages name are the archive's.

@@ -114,7 +114,7 @@ fn small(random: &mut Random, held: &str) -> String {
         if count == 1 {
             terms.concat()
         } else {
-            format!("later of {}", terms.join(", "))
+            format!("later of ({})", terms.join("), ("))
         }
     };
     let mut text = format!("moments: a, b\n{held}");

@@ -1,0 +1,194 @@
+//! Each point of what is read and what is asked about, one after another.
+
+use crate::{mistakes, read, said};
+
+const MOMENTS: &str = "moments: ready, porter, leaves, \"ward-4\"\n";
+
+/// A text with a line between its moments, the anchor's line and its span.
+fn text(anchor: &str, line: &str) -> String {
+    let anchor = if anchor.is_empty() { String::new() } else { format!("anchor: {anchor}\n") };
+    format!("{MOMENTS}{anchor}{line}\nspan: from anchor to ready\n")
+}
+
+/// A line is read as other lines are.
+fn same(anchor: &str, line: &str, others: &[&str]) {
+    let (one, other) = (read(&text(anchor, line)), read(&text(anchor, &others.join("\n"))));
+    let sheet = one.sheet.unwrap_or_else(|| panic!("{line}: {:?}", one.remarks));
+    let wanted = other.sheet.unwrap_or_else(|| panic!("{others:?}: {:?}", other.remarks));
+    assert_eq!(said(&sheet).rules, said(&wanted).rules, "{line}");
+    assert_eq!(sheet.rules.len(), wanted.rules.len(), "{line}");
+}
+
+/// A line is a mistake that shows these lines to be written in its place, and no others.
+fn asks(anchor: &str, line: &str, readings: &[&str]) {
+    let read = read(&text(anchor, line));
+    let found = mistakes(&read);
+    let [mistake] = found[..] else { panic!("{line}: {found:?}") };
+    let shown: Vec<String> = mistake.fixes.iter().map(|fix| fix.lines.join(" ; ")).collect();
+    assert_eq!(shown, readings, "{line}: {mistake:?}");
+}
+
+#[test]
+fn point_1_a_hash_starts_a_comment_at_the_line_or_between_spaces() {
+    same("", "ready <= leaves # + 10", &["ready <= leaves"]);
+    same("", "#ready <= leaves", &[]);
+    asks("", "ready <= leaves #late", &["ready <= leaves # late"]);
+    let read = read("moments: bed #1, bed #2\nspan: from anchor to anchor\n");
+    assert_eq!(mistakes(&read)[0].fixes[0].lines, ["moments: \"bed #1\", \"bed #2\""]);
+    asks("", "#1 ready <= leaves", &["# ready <= leaves", "ready <= leaves"]);
+}
+
+#[test]
+fn point_2_minutes_inside_later_of_stand_in_brackets() {
+    asks(
+        "",
+        "later of ready, porter + 15 <= leaves",
+        &["later of ready, (porter + 15) <= leaves", "(later of ready, porter) + 15 <= leaves"],
+    );
+    for line in [
+        "(later of ready, porter) + 15 <= leaves",
+        "later of (ready, porter) + 15 <= leaves",
+        "15 + later of ready, porter <= leaves",
+    ] {
+        same("", line, &["later of (ready + 15), (porter + 15) <= leaves"]);
+    }
+    same("", "15 + later of ready, (porter - 5) <= leaves", &["later of (ready + 15), (porter + 10) <= leaves"]);
+}
+
+#[test]
+fn point_3_a_minus_has_spaces() {
+    same("", "ward-4 <= leaves", &["\"ward-4\" <= leaves"]);
+    same("", "ready – 5 <= leaves", &["ready - 5 <= leaves"]);
+    asks("", "ready-4 <= leaves", &["ready - 4 <= leaves"]);
+    asks("", "ready -4 <= leaves", &["ready - 4 <= leaves"]);
+    asks("", "ward-5 <= leaves", &["\"ward-4\" <= leaves"]);
+    let both = "moments: a, ward, ward-4\nward-4 <= a\nspan: from a to a\n";
+    let read = read(both);
+    let shown: Vec<_> = mistakes(&read)[0].fixes.iter().map(|fix| fix.lines.concat()).collect();
+    assert_eq!(shown, ["\"ward-4\" <= a", "ward - 4 <= a"]);
+}
+
+#[test]
+fn point_4_nothing_before_anchor_adds_a_rule_for_each_that_nothing_holds() {
+    let ties = ["anchor + 40 <= ready", "ready - 30 <= porter", "leaves <= ready"];
+    let line = format!("{}\nnothing before anchor", ties.join("\n"));
+    same("", &line, &[ties[0], ties[1], ties[2], "anchor <= leaves", "anchor <= \"ward-4\""]);
+    let line = format!("{}\nnothing before anchor but \"ward-4\", leaves", ties.join("\n"));
+    same("", &line, &ties);
+    asks(
+        "",
+        "anchor - 5 <= ready\nnothing before anchor",
+        &["nothing before anchor but ready", "anchor <= ready ; nothing before anchor but ready"],
+    );
+    // The added rules count as others do.
+    let many = "anchor + 1 <= ready\n".repeat(62);
+    let read = read(&format!("{MOMENTS}{many}nothing before anchor\nspan: from anchor to ready\n"));
+    assert!(mistakes(&read)[0].message.starts_with("there are 65 rules"), "{:?}", read.remarks);
+}
+
+#[test]
+fn point_5_names_that_look_alike_are_one_mistake() {
+    for (name, told) in [("Ready", "the capital letter 'R'"), ("re\u{AD}ady", "U+00AD"), ("\"le\u{430}ves\"", "U+0430")]
+    {
+        let read = read(&format!("{MOMENTS}moments: {name}\n{name} <= leaves\nspan: from anchor to ready\n"));
+        let found = mistakes(&read);
+        assert!(found.len() == 1 && found[0].message.contains(told), "{name}: {found:?}");
+    }
+    asks("", "Ready <= leaves", &["ready <= leaves"]);
+}
+
+#[test]
+fn point_6_a_lead_that_can_be_a_time_of_day_is_asked_about() {
+    asks("8:00", "anchor + 8:40 <= ready", &["anchor + 8 h 40 <= ready", "8:40 <= ready"]);
+    asks("8:00", "anchor + 23:59 <= ready", &["anchor + 23 h 59 <= ready", "23:59 <= ready"]);
+    same("8:00", "anchor + 7:59 <= ready", &["anchor + 479 <= ready"]);
+    same("8:00", "anchor + 24:00 <= ready", &["anchor + 1440 <= ready"]);
+    same("", "anchor + 8:40 <= ready", &["anchor + 520 <= ready"]);
+    same("8:00", "porter + 8:40 <= ready", &["porter + 520 <= ready"]);
+}
+
+#[test]
+fn point_7_clock_times_days_and_dates() {
+    same("8:00", "ready not before 8:40", &["anchor + 40 <= ready"]);
+    same("Tue 8:00", "ready by Thu 14:00", &["ready <= anchor + 3240"]);
+    same("2026-11-17 8:00", "ready by Thu 14:00", &["ready <= anchor + 3240"]);
+    same("2026-11-30 8:00", "2026-12-02 8:00 <= ready", &["anchor + 2 days <= ready"]);
+    same("2026-11-17 8:00", "ready not before 2026-11-16 8:00", &["anchor - 1 day <= ready"]);
+    same("8:00", "ready by 24:00", &["ready <= anchor + 16 h"]);
+    asks("9:00", "ready by 8:40", &["ready by anchor - 20", "ready by anchor + 23 h 40", "ready by 20:40"]);
+    asks(
+        "2026-11-30 9:00",
+        "ready by 8:40",
+        &["ready by 2026-11-30 8:40", "ready by 2026-12-01 8:40", "ready by 2026-11-30 20:40"],
+    );
+    asks("Tue 9:00", "ready by Thu", &["ready by Thu 0:00", "ready by Thu 24:00"]);
+    asks("9:00", "ready by 9", &["ready by 9:00", "ready by 21:00", "ready by anchor + 9"]);
+    // Days of the week are the next ones; near behind, both are shown.
+    let days = ["Mon", "Tue", "Wed", "Thu", "Fri", "Sat", "Sun"];
+    let asked = |anchor: &str| -> Vec<&str> {
+        let asked =
+            |day: &&&str| read(&text(&format!("{anchor} 8:00"), &format!("ready by {day} 9:00"))).sheet.is_none();
+        days.iter().filter(asked).copied().collect()
+    };
+    assert_eq!(asked("Mon"), ["Sun"]);
+    assert_eq!(asked("Tue"), ["Mon"]);
+    assert_eq!(asked("Thu"), ["Mon", "Tue", "Wed"]);
+    assert_eq!(asked("Fri"), ["Tue", "Wed", "Thu"]);
+    assert_eq!(asked("Sun"), ["Thu", "Fri", "Sat"]);
+}
+
+#[test]
+fn point_8_lengths_of_time() {
+    for (length, minutes) in [
+        ("35", 35),
+        ("35 min", 35),
+        ("1:30", 90),
+        ("01:30", 90),
+        ("2 h", 120),
+        ("1 h 30", 90),
+        ("1h30", 90),
+        ("1 hour 5 minutes", 65),
+        ("1 day", 1_440),
+        ("3 days", 4_320),
+        ("2 days 4:00", 3_120),
+        ("2 days 4 h 10", 3_130),
+        ("14 days", 20_160),
+    ] {
+        same("", &format!("ready + {length} <= leaves"), &[&format!("ready + {minutes} <= leaves")]);
+    }
+    asks("", "ready + 1.5 h <= leaves", &["ready + 90 min <= leaves"]);
+    asks("", "ready + 1,5 h <= leaves", &["ready + 90 min <= leaves"]);
+    asks("", "ready + 1.440 <= leaves", &["ready + 1440 <= leaves"]);
+    asks("", "ready + 2 days 4 <= leaves", &["ready + 2 days 4 h <= leaves", "ready + 2 days 4 min <= leaves"]);
+    asks("", "ready + 14 days 0:01 <= leaves", &[]);
+    asks("", "ready + 1 h 60 <= leaves", &[]);
+}
+
+#[test]
+fn point_9_both_limits_and_the_signs() {
+    same("", "leaves 35 to 40 after ready", &["ready + 35 <= leaves", "leaves <= ready + 40"]);
+    same("", "leaves at least 35 after ready", &["ready + 35 <= leaves"]);
+    same("", "leaves at most 40 min after ready", &["leaves <= ready + 40"]);
+    same("", "leaves exactly 10 after ready", &["ready + 10 <= leaves", "leaves <= ready + 10"]);
+    same("", "leaves 10 to 1:00 before ready", &["leaves + 10 <= ready", "ready <= leaves + 60"]);
+    same("", "leaves = ready + 10", &["ready + 10 <= leaves", "leaves <= ready + 10"]);
+    same("", "leaves >= ready + 10", &["ready + 10 <= leaves"]);
+    same("", "leaves ≥ ready + 10", &["ready + 10 <= leaves"]);
+    same("", "ready + 10 ≤ leaves", &["ready + 10 <= leaves"]);
+    same("", "leaves at least 5 after later of ready, porter", &["later of (ready + 5), (porter + 5) <= leaves"]);
+    asks("", "leaves 35 after ready", &["leaves at least 35 after ready", "leaves exactly 35 after ready"]);
+    asks("", "leaves before ready", &["leaves <= ready", "leaves + 1 <= ready"]);
+    asks("", "leaves < ready", &["leaves <= ready", "leaves + 1 <= ready"]);
+    asks("", "leaves != ready", &["leaves + 1 <= ready", "ready + 1 <= leaves"]);
+    asks("", "leaves and porter <= ready", &["later of leaves, porter <= ready"]);
+}
+
+#[test]
+fn point_10_what_is_plainly_understood_is_taken() {
+    same("08:00", "Ready By 08:40".replace("Ready", "ready").as_str(), &["ready <= anchor + 40"]);
+    same("", "“ward-4” <= „ward-4“ + 5", &["\"ward-4\" <= \"ward-4\" + 5"]);
+    same("", "Later of ready, porter <= Anchor", &["later of ready, porter <= anchor"]);
+    let read =
+        read("Moments: a\nANCHOR: Tue 08:00\nOpen: Mon–Fri 07:00–18:00\nSpan: From Anchor To a\nExpect: Bottomless\n");
+    assert!(read.sheet.is_some_and(|sheet| sheet.week.len() == 5), "{:?}", read.remarks);
+}
