@@ -2,24 +2,24 @@
 -- where every row stands it is the values: from each variable arcs that attain its value lead to an exit, or they close a walk
 -- that does not weigh below zero.
 use Prim.Native.Nat.{ℕ, zero, suc, _≤_, _<_}
-use mathlib.Core.Path.{_≡_, refl, ap, sym, subst, _∙_}
+use mathlib.Core.Path.{_≡_, ap, sym, subst, _∙_}
 use mathlib.Core.Logic.{_⊎_, inl, inr, ⊎-elim}
 use native.Mathlib.Omega.{arith}
-use lib.IntN.{ℤ, pos, _+ℤ_, _-ℤ_}
+use lib.IntN.{ℤ, pos, _+ℤ_}
 use lib.Signed.{_≤ℤ_, _<ℤ_}
 use Rattle.base.proofs.Numbers.{nat-le-or-lt}
-use Rattle.definitions.specs.Tropical.{Trop, bot, fin, plus, _⊑_, blank-least, larger, largest, Finite}
+use Rattle.definitions.specs.Tropical.{Trop, fin, plus, _⊑_, blank-least, larger, largest, Finite}
 use Rattle.definitions.specs.Problem.{Point}
 use Rattle.definitions.specs.Certificate.{Strategy, Walk, stop, step}
-use Rattle.definitions.proofs.Whole.{whole, plus-read, minus-read}
+use Rattle.definitions.proofs.Whole.{whole}
 use Rattle.definitions.proofs.Tropical.{blank-or-finite, ⊑-refl, ⊑-trans, ⊑-of-eq, ⊑-of-not, ⊑-antisym, fin-below, finite-above, zero-plus, plus-twice, plus-mono, plus-cancel, plus-cancel-left, Parts, plus-above, larger-left, larger-right, larger-one, largest-above, largest-ext, Attains, largest-at}
-use Rattle.duality.specs.System.{System, sideOf, Arc}
+use Rattle.duality.specs.System.{System, sideOf}
 use Rattle.duality.specs.Values.{valueAt, difference, weightBy, exitBy, weights, exits, values, Policy, Fails}
 use Rattle.duality.specs.Gains.{Entry}
 use Rattle.duality.specs.Falling.{Falling, Stays, Falls, RowFalls, Alike}
-use Rattle.duality.proofs.Walks.{Looped, looped, walk-fold, walk-keep, walk-change}
+use Rattle.duality.proofs.Walks.{looped, walk-fold, walk-keep, walk-change}
 use Rattle.duality.proofs.Longest.{entries-end, exit-value, arc-value, value-under, value-mono, Stable, stable-potential, stable-exit}
-use Rattle.duality.proofs.Weights.{difference-back, difference-largest, weight-picked, weight-terminal, exit-picked, exit-terminal, exit-below, entries-arcs, arcs-entries, arc-entry, values-stable}
+use Rattle.duality.proofs.Weights.{difference-whole, difference-largest, weight-picked, weight-terminal, exit-picked, exit-terminal, entries-arcs, arcs-entries, values-stable}
 use Rattle.duality.proofs.Policy.{Same, Lowered, still-negative, fails-finite, fails-falls, kept-same}
 
 -- ---- a point that a round does not lower
@@ -93,12 +93,6 @@ module _ (W : ℕ → ℕ → Trop) (exits : ℕ → Trop) (N : ℕ) (x : ℕ �
       on o = let q = looped (record { inside = λ j l w a. a .entry .inside }) h (omega arith) (o .walk) in no-loop (q .some) (q .loop)
 
 -- ---- what falls
-
--- What was taken away can be added again.
-difference-whole : (x : Trop) (a : ℤ) → plus (fin a) (difference x (fin a)) ≡ x
-unfolding difference plus
-difference-whole bot a = refl
-difference-whole (fin b) a = let e : (a +ℤ (b -ℤ a)) ≡ b = omega (whole, plus-read a (b -ℤ a), minus-read b a) in ap fin e
 
 module _ (s : System) (x : Point) where
   -- The right side of a row, by the arcs that it gives a variable.

@@ -41,6 +41,11 @@ difference-back (fin b) (fin c) a =
     let e : (a +ℤ ((b -ℤ a) +ℤ c)) ≡ (b +ℤ c) = omega (whole, plus-read a ((b -ℤ a) +ℤ c), plus-read (b -ℤ a) c, minus-read b a, plus-read b c) in
     ap fin e
 
+pub difference-whole : (x : Trop) (a : ℤ) → plus (fin a) (difference x (fin a)) ≡ x
+unfolding difference plus
+difference-whole bot a = refl
+difference-whole (fin b) a = let e : (a +ℤ (b -ℤ a)) ≡ b = omega (whole, plus-read a (b -ℤ a), minus-read b a) in ap fin e
+
 -- A difference moves out of the largest.
 pub difference-largest : (f x : ℕ → Trop) (a : Trop) (k : ℕ)
     → largest (λ l. plus (difference (f l) a) (x l)) k ≡ difference (largest (λ l. plus (f l) (x l)) k) a

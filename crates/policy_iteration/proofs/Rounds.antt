@@ -7,7 +7,7 @@ use mathlib.Core.List.{List, []}
 use native.Mathlib.Omega.{arith}
 use native.Mathlib.Nat.{mul-le-mul-right}
 use native.Mathlib.Numerals.{add-one}
-use lib.ListN.{getD}
+use lib.ListN.{getD, length-map}
 use lib.IntN.{ℤ, pos, subℕ, _-ℤ_}
 use Rattle.definitions.proofs.Whole.{whole, minus-read}
 use borrow.Author.Tests.{lt-ltb, le-ltb}
@@ -23,7 +23,7 @@ use Rattle.duality.specs.System.{System}
 use Rattle.duality.specs.Values.{difference, valueAt, exitBy, valuesAfter, values}
 use Rattle.duality.proofs.Weights.{difference-bot, exit-picked, exit-terminal, round-picked, round-terminal, values-still}
 use Rattle.records.specs.Decoded.{Near}
-use Rattle.policy_iteration.specs.Tables.{entryOf, systemOf, pointOf, pickOf, raised-limit, cap-limit, first-limit, low-half, low-fold, side-most, side-least, high, highs, Ranged, Lows, Within, Caps, Tables}
+use Rattle.policy_iteration.specs.Tables.{entryOf, systemOf, pointOf, pickOf, raised-limit, cap-limit, first-limit, value-limit, low-half, low-fold, side-most, side-least, high, highs, Ranged, Lows, Within, Caps, Tables}
 use Rattle.policy_iteration.specs.Rounds.{folded, exitNumber, PickedSum, PickedLeft, PickedSums, PickedLefts, steppedBy, Stepped, Exits, Level, ValuesIs, SameUpTo}
 use Rattle.policy_iteration.proofs.Low.{high-zero, high-whole, high-blank, highs-at, highs-size, filled-highs}
 use Rattle.policy_iteration.proofs.Fold.{folded-low, folded-high}
@@ -160,6 +160,21 @@ level-more left right caps picks x y width rows i f g = rw add-one (filled-map t
         (largest-ext _ _ width (λ l b. ap (plus (entryOf right (pickOf picks j) l)) (f .each l b)))))
         (nat-le-or-lt rows (pickOf picks j))
 
+-- What is within a limit is within a larger one.
+pub within-more : {c d width : ℕ} {x : List ℕ} → c ≤ d → Within c width x → Within d width x
+within-more h w = record {
+  size = w .size;
+  near = λ k. record { hi = omega (arith, w .near k .hi); lo = λ p. omega (arith, w .near k .lo p) };
+  rest = w .rest;
+}
+
+pub within-lows : {d width : ℕ} {x : List ℕ} → d ≤ value-limit → Within d width x → Lows width x
+within-lows {d} {width} {x} h w = let v = within-more h w in record {
+  size = w .size;
+  ranged = record { size = length-map x high ∙ w .size; near = λ k. rw (highs-at x k) (v .near k) };
+  rest = w .rest;
+}
+
 -- After at most 32 rounds the values are within their limit.
 level-near : (left right caps picks x : List ℕ) (width rows i : ℕ) → Tables left right width rows → Caps width caps → i ≤ width
     → Level (systemOf left right caps width rows) (pickOf picks) i x → (k : ℕ) → Near first-limit (getD x k 0)
@@ -195,11 +210,7 @@ level-within left right caps picks x width rows i t g h f = record {
 
 pub level-lows : (left right caps picks x : List ℕ) (width rows i : ℕ) → Tables left right width rows → Caps width caps → i ≤ width
     → Level (systemOf left right caps width rows) (pickOf picks) i (highs x) → Lows width x
-level-lows left right caps picks x width rows i t g h f = record {
-  size = highs-size x 32 (f .size-is);
-  ranged = level-ranged left right caps picks (highs x) width rows i t g h f;
-  rest = λ k b. high-blank (getD x k 0) (sym (highs-at x k) ∙ f .rest k b);
-}
+level-lows left right caps picks x width rows i t g h f = within-lows (omega arith) (level-within left right caps picks x width rows i t g h f)
 
 -- A round that changes nothing: these are the values.
 pub level-still : (left right caps picks x y : List ℕ) (width rows i : ℕ) → i ≤ width

@@ -6,28 +6,28 @@ use mathlib.Core.List.{List, [], _∷_}
 use native.Mathlib.Omega.{arith}
 use lib.ListN.{length, getD, length-map}
 use borrow.Author.Tests.{lt-ltb, le-ltb}
-use Rattle.base.proofs.Numbers.{nat-le-or-lt, positive}
+use Rattle.base.proofs.Numbers.{nat-le-or-lt, positive, below-or-last}
 use Rattle.base.proofs.Filled.{filled-map}
 use Rattle.definitions.specs.Limits.{lead-limit}
 use Rattle.definitions.specs.Tropical.{Trop, plus, largest, _⊑_, blank-least}
-use Rattle.definitions.specs.Problem.{Point}
 use Rattle.definitions.specs.Offset.{tropOf}
-use Rattle.definitions.proofs.Tropical.{⊑-refl, ⊑-trans, ⊑-of-eq, largest-above, largest-ext, Attains, largest-attained}
-use Rattle.definitions.proofs.Offset.{trop-zero, trop-order, plus-trop-zero}
+use Rattle.definitions.proofs.Tropical.{⊑-trans, largest-above, Attains, largest-attained}
+use Rattle.definitions.proofs.Offset.{trop-order, plus-trop-zero}
 use Rattle.duality.specs.System.{System, sideOf, Solves}
 use Rattle.duality.specs.Values.{difference, values, Policy, Fails}
 use Rattle.duality.specs.Height.{Bounded, height}
-use Rattle.duality.specs.Falling.{Falling, Stays, Falls, RowFalls, Alike}
+use Rattle.duality.specs.Falling.{Falling, RowFalls, Alike}
 use Rattle.duality.proofs.Falling.{values-falling, falling-over, falling-policy, falling-values, row-falling, alike-values, alike-policy}
 use Rattle.duality.proofs.Height.{height-lower}
 use Rattle.duality.proofs.Ends.{finished}
 use Rattle.records.specs.Decoded.{Near}
 use Rattle.policy_iteration.specs.Tables.{entryOf, systemOf, pointOf, pickOf, raised-limit, cap-limit, turn-limit, first-limit, value-limit, high, highs, Table, Ranged, Lows, Within, Caps, Tables}
 use Rattle.policy_iteration.specs.Rounds.{SideIs, ValuesIs}
-use Rattle.policy_iteration.specs.Steps.{Stands, Gives, givenBy, LoweredPlace, LoweredAt, LoweredBy, Lower, AllStand, Passing, Passed, SamePick, widePick, Narrowed, Widened, Iterated}
+use Rattle.policy_iteration.specs.Steps.{Gives, givenBy, LoweredPlace, LoweredBy, Lower, AllStand, Passing, Passed, widePick, Narrowed, Widened, Iterated}
 use Rattle.policy_iteration.proofs.Low.{high-zero, high-whole, high-mono, high-strict, highs-at}
 use Rattle.policy_iteration.proofs.Small.{Small, near-small, near-abs, small-near, small-more, small-plus, small-difference, small-largest}
-use Rattle.policy_iteration.proofs.Rounds.{level-ranged, level-lows, level-within}
+use Rattle.policy_iteration.proofs.Rounds.{within-more, within-lows, level-ranged, level-lows, level-within}
+use Rattle.policy_iteration.proofs.Given.{gives-held, gives-fails, gives-stands}
 use Rattle.policy_iteration.proofs.Lowering.{lesser-first, lesser-second, chosen-first, chosen-second}
 
 -- ---- ranges
@@ -37,88 +37,80 @@ past [] k h = refl
 past (v ∷ l) zero h = absurd (omega arith)
 past (v ∷ l) (suc k) h = past l k (omega arith)
 
-pub within-more : {c d width : ℕ} {x : List ℕ} → c ≤ d → Within c width x → Within d width x
-within-more h w = record {
-  size = w .size;
-  near = λ k. record { hi = omega (arith, w .near k .hi); lo = λ p. omega (arith, w .near k .lo p) };
-  rest = w .rest;
-}
-
-pub within-lows : {d width : ℕ} {x : List ℕ} → d ≤ value-limit → Within d width x → Lows width x
-within-lows {d} {width} {x} h w = let v = within-more h w in record {
-  size = w .size;
-  ranged = record { size = length-map x high ∙ w .size; near = λ k. rw (highs-at x k) (v .near k) };
-  rest = w .rest;
-}
-
 -- ---- a row
 
--- Row n has left variable j as it was: it stands there,
-record KeptHere (left right : List ℕ) (width rows n : ℕ) (x picks x′ picks′ : List ℕ) (j : ℕ) : Type 0 where
-  value : getD x′ j 0 ≡ getD x j 0
-  pick : pickOf picks′ j ≡ pickOf picks j
-  stands : j < width → plus (entryOf left n j) (pointOf (highs x) j) ⊑ sideOf (systemOf left right [] width rows) (entryOf right n) (pointOf (highs x))
+module _ (left right : List ℕ) (width rows n : ℕ) (x picks x′ picks′ : List ℕ) (j : ℕ) where
+  -- Row n has left variable j as it was: it stands there,
+  record KeptHere : Type 0 where
+    value : getD x′ j 0 ≡ getD x j 0
+    pick : pickOf picks′ j ≡ pickOf picks j
+    stands : j < width → plus (entryOf left n j) (pointOf (highs x) j) ⊑ sideOf (systemOf left right [] width rows) (entryOf right n) (pointOf (highs x))
 
--- or has lowered it: it fails there.
-record FellHere (left right : List ℕ) (width rows n : ℕ) (x picks x′ picks′ : List ℕ) (j : ℕ) : Type 0 where
-  inside : j < width
-  lower : getD x′ j 0 < getD x j 0
-  pick : pickOf picks′ j ≡ n
-  fails : Fails (systemOf left right [] width rows) (pointOf (highs x)) n j
-  value : pointOf (highs x′) j ≡ difference (sideOf (systemOf left right [] width rows) (entryOf right n) (pointOf (highs x))) (entryOf left n j)
+  -- or has lowered it: it fails there.
+  record FellHere : Type 0 where
+    inside : j < width
+    lower : getD x′ j 0 < getD x j 0
+    pick : pickOf picks′ j ≡ n
+    fails : Fails (systemOf left right [] width rows) (pointOf (highs x)) n j
+    value : pointOf (highs x′) j ≡ difference (sideOf (systemOf left right [] width rows) (entryOf right n) (pointOf (highs x))) (entryOf left n j)
 
 module _ (left right : List ℕ) (width rows n : ℕ) (t : Tables left right width rows) (h : n < rows) (x picks : List ℕ) (g : Lows width x) (s : length picks ≡ 32)
     (here there : ℕ) (si : SideIs right n (highs x) width here) (li : SideIs left n (highs x) width there) where
+  abbrev here-side : Trop
+  here-side = sideOf (systemOf left right [] width rows) (entryOf right n) (pointOf (highs x))
+
   -- In the words of the system.
-  row-stands : (j : ℕ) → Stands (high here) (getD left (n * 32 + j) 0) (high (getD x j 0))
-      → plus (entryOf left n j) (pointOf (highs x) j) ⊑ sideOf (systemOf left right [] width rows) (entryOf right n) (pointOf (highs x))
+  row-stands : (j : ℕ) → plus (entryOf left n j) (tropOf (high (getD x j 0))) ⊑ tropOf (high here) → plus (entryOf left n j) (pointOf (highs x) j) ⊑ here-side
   row-stands j a = subst (λ (z : Trop). plus (entryOf left n j) (pointOf (highs x) j) ⊑ z) (si .is) (rw (highs-at x j) a)
 
-  row-fails : (j : ℕ) → (Stands (high here) (getD left (n * 32 + j) 0) (high (getD x j 0)) → ⊥) → Fails (systemOf left right [] width rows) (pointOf (highs x)) n j
+  row-fails : (j : ℕ) → ((plus (entryOf left n j) (tropOf (high (getD x j 0))) ⊑ tropOf (high here)) → ⊥) → Fails (systemOf left right [] width rows) (pointOf (highs x)) n j
   row-fails j d a = d (rw (highs-at x j) at (subst (λ (z : Trop). plus (entryOf left n j) (pointOf (highs x) j) ⊑ z) (sym (si .is)) a))
 
   near : (j : ℕ) → Near value-limit (high (getD x j 0))
   near j = rw (highs-at x j) at (g .ranged .near j)
 
   -- A row whose left side is at most its right side stands everywhere.
-  row-whole : there ≤ here → (j : ℕ) → j < width → plus (entryOf left n j) (pointOf (highs x) j) ⊑ sideOf (systemOf left right [] width rows) (entryOf right n) (pointOf (highs x))
+  row-whole : there ≤ here → (j : ℕ) → j < width → plus (entryOf left n j) (pointOf (highs x) j) ⊑ here-side
   row-whole b j k = ⊑-trans (largest-above (λ l. plus (entryOf left n l) (pointOf (highs x) l)) width j k)
       (subst (λ (z : Trop). largest (λ l. plus (entryOf left n l) (pointOf (highs x) l)) width ⊑ z) (si .is)
       (subst (λ (z : Trop). z ⊑ tropOf (high here)) (li .is) (trop-order (high there) (high here) .1 (high-mono there here b))))
 
   module _ (x′ picks′ : List ℕ) where
+    abbrev Turned : ℕ → Type 0
+    Turned j = KeptHere left right width rows n x picks x′ picks′ j ⊎ FellHere left right width rows n x picks x′ picks′ j
+
     -- A variable that had its turn.
     place-turned : (top j : ℕ) → Gives here top → LoweredPlace left n top j x picks x′ picks′
-        → KeptHere left right width rows n x picks x′ picks′ j ⊎ FellHere left right width rows n x picks x′ picks′ j
+        → Turned j
     place-turned top j gi p = ⊎-elim kept fell (nat-le-or-lt (getD x j 0) (givenBy left n top j))
       where
-        kept : getD x j 0 ≤ givenBy left n top j → KeptHere left right width rows n x picks x′ picks′ j ⊎ FellHere left right width rows n x picks x′ picks′ j
+        kept : getD x j 0 ≤ givenBy left n top j → Turned j
         kept b = inl (record {
           value = p .value ∙ sym (lesser-second _ _ b);
           pick = p .choice ∙ sym (chosen-second _ _ _ _ b);
-          stands = λ _. row-stands j (gi .stands _ _ (t .lefts .near (n * 32 + j)) (near j) b);
+          stands = λ _. row-stands j (gives-stands here top gi _ _ (t .lefts .near (n * 32 + j)) (near j) b);
         })
 
-        fell : givenBy left n top j < getD x j 0 → KeptHere left right width rows n x picks x′ picks′ j ⊎ FellHere left right width rows n x picks x′ picks′ j
+        fell : givenBy left n top j < getD x j 0 → Turned j
         fell b =
             let e : getD x′ j 0 ≡ givenBy left n top j = p .value ∙ sym (lesser-first _ _ b) in
             inr (record {
               inside = ⊎-elim (λ (w : width ≤ j). absurd (omega (arith, g .rest j w))) (λ w. w) (nat-le-or-lt width j);
               lower = omega arith;
               pick = p .choice ∙ sym (chosen-first _ _ _ _ b);
-              fails = row-fails j (gi .fails _ _ (t .lefts .near (n * 32 + j)) (near j) b);
-              value = ap tropOf (highs-at x′ j) ∙ rw e (gi .is _ _ (t .lefts .near (n * 32 + j)) (near j) b) ∙ ap (λ (z : Trop). difference z (entryOf left n j)) (si .is);
+              fails = row-fails j (gives-fails here top gi _ _ (t .lefts .near (n * 32 + j)) (near j) b);
+              value = ap tropOf (highs-at x′ j) ∙ rw e (gi .is _ (t .lefts .near (n * 32 + j)) (gives-held here top gi _ _ (t .lefts .near (n * 32 + j)) (near j) b)) ∙ ap (λ (z : Trop). difference z (entryOf left n j)) (si .is);
             })
 
     -- Every variable.
     row-place : (r : ℕ) → LoweredBy left n here there x picks x′ picks′ r → (j : ℕ)
-        → KeptHere left right width rows n x picks x′ picks′ j ⊎ FellHere left right width rows n x picks x′ picks′ j
+        → Turned j
     row-place r w j = ⊎-elim stood fallen (nat-le-or-lt there here)
       where
-        stood : there ≤ here → KeptHere left right width rows n x picks x′ picks′ j ⊎ FellHere left right width rows n x picks x′ picks′ j
+        stood : there ≤ here → Turned j
         stood b = let e = w .stands b in inl (record { value = rw (e .0); pick = rw (e .1); stands = λ k. row-whole b j k })
 
-        fallen : here < there → KeptHere left right width rows n x picks x′ picks′ j ⊎ FellHere left right width rows n x picks x′ picks′ j
+        fallen : here < there → Turned j
         fallen b = let l = w .lowers b in ⊎-elim
             (λ (k : 32 ≤ j). inl (record {
               value = past x′ j (omega (arith, l .lowered .x-size)) ∙ sym (past x j (omega (arith, g .size)));
@@ -127,7 +119,7 @@ module _ (left right : List ℕ) (width rows n : ℕ) (t : Tables left right wid
             }))
             (λ (k : j < 32). ⊎-elim
             (λ p. place-turned (l .top) j (l .gives) p)
-            (λ p. inl (record { value = p .value; pick = p .choice; stands = λ q. rw (p .blank, plus-trop-zero (pointOf (highs x) j) .0) blank-least }))
+            (λ p. inl (record { value = p .1 .value; pick = p .1 .choice; stands = λ q. rw (p .0, plus-trop-zero (pointOf (highs x) j) .0) blank-least }))
             (l .lowered .each j k))
             (nat-le-or-lt 32 j)
 
@@ -162,7 +154,7 @@ module _ (left right : List ℕ) (width rows n : ℕ) (t : Tables left right wid
         rest = λ k b. ⊎-elim (λ c. c .value ∙ i .rest k b) (λ c. absurd (omega (arith, c .inside))) (row-place r w k);
       }
         where
-          given : (k : ℕ) → Small (d + turn-limit) (difference (sideOf (systemOf left right [] width rows) (entryOf right n) (pointOf (highs x))) (entryOf left n k))
+          given : (k : ℕ) → Small (d + turn-limit) (difference (here-side) (entryOf left n k))
           given k = small-more {c = raised-limit + d + lead-limit} (omega arith)
               (small-difference _ _
               (small-largest _ width (λ l b. small-plus _ _ (near-small raised-limit _ (t .rights .near (n * 32 + l))) (near-small d _ (rw (highs-at x l) (i .near l)))))
@@ -180,9 +172,37 @@ module _ (left right : List ℕ) (width rows n : ℕ) (t : Tables left right wid
 
           at-place : Attains terms width → Lower width x x′
           at-place a = ⊎-elim
-              (λ c. absurd (none (subst (λ (z : Trop). tropOf (high there) ⊑ z) (sym (si .is)) (subst (λ (z : Trop). z ⊑ sideOf (systemOf left right [] width rows) (entryOf right n) (pointOf (highs x))) (sym (li .is ∙ a .same)) (c .stands (a .inside))))))
+              (λ c. absurd (none (subst (λ (z : Trop). tropOf (high there) ⊑ z) (sym (si .is)) (subst (λ (z : Trop). z ⊑ here-side) (sym (li .is ∙ a .same)) (c .stands (a .inside))))))
               (λ c. record { place = a .place; inside = a .inside; falls = c .lower })
               (row-place r w (a .place))
+
+      -- One row more of a pass.
+      pub passed-more : (x₀ picks₀ : List ℕ) (failed : ℕ) → Passed left right width rows n n x₀ picks₀ x picks failed
+          → Passed left right width rows (n + 1) (n + 1) x₀ picks₀ x′ picks′ (failed + r)
+      passed-more x₀ picks₀ failed p = record {
+        size = row-sizes .1;
+        within = λ d i. within-more (omega arith) (row-within (d + n * turn-limit) (p .within d i));
+        falling = λ caps f. row-falling (systemOf left right caps width rows) (pickOf picks) (pointOf (highs x)) (p .falling caps f) n h (pickOf picks′) (pointOf (highs x′)) (row-falls caps);
+        lower = λ j. omega (arith, p .lower j, row-low j);
+        picked = λ j. ⊎-elim (λ b. inl b) (λ e. ⊎-elim (λ b. inl (rw e b)) (λ b. inr (e ∙ b)) (p .picked j)) (row-picked j);
+        moved = λ b. ⊎-elim (before b) (λ (q : 0 < failed). let m = p .moved q in record { place = m .place; inside = m .inside; falls = omega (arith, m .falls, row-low (m .place)) }) (nat-le-or-lt failed 0);
+        stand = λ e. ⊎-elim
+            (λ (b : there ≤ here). rw (w .stands b .0) (one-more-row (omega arith) b))
+            (λ (b : here < there). absurd (omega (arith, w .counts b)))
+            (nat-le-or-lt there here);
+      }
+        where
+          before : 0 < failed + r → failed ≤ 0 → Lower width x₀ x′
+          before b q = ⊎-elim
+              (λ (c : there ≤ here). absurd (omega (arith, w .stands c .2)))
+              (λ (c : here < there). let m = row-moved c in record { place = m .place; inside = m .inside; falls = omega (arith, m .falls, p .lower (m .place)) })
+              (nat-le-or-lt there here)
+
+          one-more-row : failed ≡ 0 → there ≤ here → AllStand (systemOf left right [] width rows) (n + 1) (pointOf (highs x))
+          one-more-row e b i j k l = ⊎-elim
+              (λ q. p .stand e i j q l)
+              (λ z. subst (λ (i : ℕ). plus (entryOf left i j) (pointOf (highs x) j) ⊑ sideOf (systemOf left right [] width rows) (entryOf right i) (pointOf (highs x))) (sym z) (row-whole b j l))
+              (below-or-last i n k)
 
 -- ---- a pass
 
@@ -196,44 +216,6 @@ passed-none left right width rows x picks e = record {
   moved = λ h. absurd (omega arith);
   stand = λ e i j h k. absurd (omega arith);
 }
-
--- One row more.
-pub passed-more : (left right : List ℕ) (width rows n : ℕ) (x₀ picks₀ x picks x′ picks′ : List ℕ) (here there failed r : ℕ) → Tables left right width rows
-    → n < rows → Lows width x → SideIs right n (highs x) width here → SideIs left n (highs x) width there
-    → Passed left right width rows n n x₀ picks₀ x picks failed → LoweredBy left n here there x picks x′ picks′ r
-    → Passed left right width rows (n + 1) (n + 1) x₀ picks₀ x′ picks′ (failed + r)
-passed-more left right width rows n x₀ picks₀ x picks x′ picks′ here there failed r t h g si li p w = record {
-  size = row-sizes left right width rows n t h x picks g (p .size) here there si li x′ picks′ r w .1;
-  within = λ d i. within-more (omega arith) (row-within left right width rows n t h x picks g (p .size) here there si li x′ picks′ r w (d + n * turn-limit) (p .within d i));
-  falling = λ caps f. row-falling (systemOf left right caps width rows) (pickOf picks) (pointOf (highs x)) (p .falling caps f) n h (pickOf picks′) (pointOf (highs x′))
-      (row-falls left right width rows n t h x picks g (p .size) here there si li x′ picks′ r w caps);
-  lower = λ j. omega (arith, p .lower j, low j);
-  picked = λ j. ⊎-elim (λ (b : pickOf picks′ j < rows). inl b) (λ e. ⊎-elim (λ (b : pickOf picks j < rows). inl (rw e b)) (λ b. inr (e ∙ b)) (p .picked j))
-      (row-picked left right width rows n t h x picks g (p .size) here there si li x′ picks′ r w j);
-  moved = λ b. ⊎-elim (before b) (λ (q : 0 < failed). let m = p .moved q in record { place = m .place; inside = m .inside; falls = omega (arith, m .falls, low (m .place)) }) (nat-le-or-lt failed 0);
-  stand = λ e. ⊎-elim
-      (λ (b : there ≤ here). let q = w .stands b in rw (q .0) (stands (omega arith) b))
-      (λ (b : here < there). absurd (omega (arith, w .counts b)))
-      (nat-le-or-lt there here);
-}
-  where
-    low : (j : ℕ) → getD x′ j 0 ≤ getD x j 0
-    low = row-low left right width rows n t h x picks g (p .size) here there si li x′ picks′ r w
-
-    before : 0 < failed + r → failed ≤ 0 → Lower width x₀ x′
-    before b q = ⊎-elim
-        (λ (c : there ≤ here). absurd (omega (arith, w .stands c .2)))
-        (λ (c : here < there). let m = row-moved left right width rows n t h x picks g (p .size) here there si li x′ picks′ r w c in
-        record { place = m .place; inside = m .inside; falls = omega (arith, m .falls, p .lower (m .place)) })
-        (nat-le-or-lt there here)
-
-    stands : failed ≡ 0 → there ≤ here → AllStand (systemOf left right [] width rows) (n + 1) (pointOf (highs x))
-    stands e b i j k l = ⊎-elim
-        (λ (q : n ≤ i). let z : n ≡ i = omega arith in
-        subst (λ (i : ℕ). plus (entryOf left i j) (pointOf (highs x) j) ⊑ sideOf (systemOf left right [] width rows) (entryOf right i) (pointOf (highs x))) z
-        (row-whole left right width rows n t h x picks g (p .size) here there si li b j l))
-        (λ (q : i < n). p .stand e i j q l)
-        (nat-le-or-lt n i)
 
 pub passed-end : {left right : List ℕ} {width rows n : ℕ} {x picks x′ picks′ : List ℕ} {failed : ℕ} → Passed left right width rows n n x picks x′ picks′ failed
     → n ≤ rows → rows ≤ n → Passed left right width rows rows rows x picks x′ picks′ failed
@@ -323,6 +305,10 @@ module _ (s : System) (picks kept : List ℕ) (few : s .variables ≤ 32) (n : N
 abbrev pub PickedFrom : ℕ → List ℕ → List ℕ → Type 0
 PickedFrom rows from picks = (j : ℕ) → (pickOf picks j < rows) ⊎ (pickOf picks j ≡ pickOf from j)
 
+-- What the iteration keeps, from these picks, and the same in 32 bits.
+abbrev pub Kept : System → List ℕ → List ℕ → List ℕ → Type 0
+Kept s picks first kept = Policy s (pickOf kept) × (length kept ≡ 32) × PickedFrom (s .rows) first kept × (length picks ≡ 32)
+
 pub wide-row : (rows kept pick : ℕ) → kept < rows → kept ≡ widePick rows kept pick
 unfolding widePick
 wide-row rows kept pick h = rw (lt-ltb kept rows h)
@@ -332,18 +318,18 @@ unfolding widePick
 wide-none rows kept pick h = rw (le-ltb kept rows h)
 
 -- The end, with the picks as they were handed in.
-pub widened-end : (s : System) (x picks first kept back : List ℕ) → length picks ≡ 32 → s .variables ≤ 32 → Narrowed (s .rows) picks 32 first → PickedFrom (s .rows) first kept
-    → Widened (s .rows) kept picks 32 back → Policy s (pickOf kept) → ValuesIs s (pickOf kept) x → (0 < getD x 0 0 → Solves s (pointOf x)) → Iterated s picks x back
-widened-end s x picks first kept back l few n o w p v z = record {
+pub widened-end : (s : System) (x picks first kept back : List ℕ) → Kept s picks first kept → s .variables ≤ 32 → Narrowed (s .rows) picks 32 first
+    → Widened (s .rows) kept picks 32 back → ValuesIs s (pickOf kept) x → (0 < getD x 0 0 → Solves s (pointOf x)) → Iterated s picks x back
+widened-end s x picks first kept back k few n w v z = record {
   size = w .size-is;
   picked = λ j. ⊎-elim
-      (λ (h : 32 ≤ j). inr (w .rest j h ∙ sym (past picks j (omega arith))))
+      (λ (h : 32 ≤ j). inr (w .rest j h ∙ sym (past picks j (omega (arith, k .3)))))
       (λ (h : j < 32). ⊎-elim
       (λ (b : s .rows ≤ pickOf kept j). inr (w .each j h ∙ sym (wide-none (s .rows) _ _ b)))
       (λ (b : pickOf kept j < s .rows). inl (rw (w .each j h, ← wide-row (s .rows) (pickOf kept j) (pickOf picks j) b) b))
       (nat-le-or-lt (s .rows) (pickOf kept j)))
       (nat-le-or-lt 32 j);
-  policy = alike-policy s (pickOf kept) (pickOf back) alike p;
+  policy = alike-policy s (pickOf kept) (pickOf back) alike (k .0);
   values-are = filled-map (λ j u h e. e ∙ sym (alike-values s (pickOf kept) (pickOf back) alike j h)) v;
   solves = z;
 }
@@ -351,7 +337,7 @@ widened-end s x picks first kept back l few n o w p v z = record {
     none : (j : ℕ) → j < 32 → s .rows ≤ pickOf kept j → s .rows ≤ pickOf picks j
     none j h b = ⊎-elim
         (λ (c : s .rows ≤ pickOf picks j). c)
-        (λ (c : pickOf picks j < s .rows). ⊎-elim (λ (d : pickOf kept j < s .rows). absurd (omega arith)) (λ d. absurd (omega (arith, d, n .each j h .row c))) (o j))
+        (λ (c : pickOf picks j < s .rows). ⊎-elim (λ (d : pickOf kept j < s .rows). absurd (omega arith)) (λ d. absurd (omega (arith, d, n .each j h .row c))) (k .2 j))
         (nat-le-or-lt (s .rows) (pickOf picks j))
 
     alike : Alike s (pickOf kept) (pickOf back)
@@ -361,9 +347,9 @@ widened-end s x picks first kept back l few n o w p v z = record {
         (nat-le-or-lt (s .rows) (pickOf kept j))
 
 -- Two passes from the values of a kept strategy.
-module _ (left right caps x kept x′ kept′ : List ℕ) (width rows r : ℕ) (t : Tables left right width rows) (g : Caps width caps)
-    (p : Policy (systemOf left right caps width rows) (pickOf kept)) (v : ValuesIs (systemOf left right caps width rows) (pickOf kept) (highs x))
-    (q : Passed left right width rows (2 * rows) rows x kept x′ kept′ r) where
+module _ {left right caps x kept x′ kept′ : List ℕ} {width rows r : ℕ} (q : Passed left right width rows (2 * rows) rows x kept x′ kept′ r)
+    (g : Caps width caps) (t : Tables left right width rows) (p : Policy (systemOf left right caps width rows) (pickOf kept))
+    (v : ValuesIs (systemOf left right caps width rows) (pickOf kept) (highs x)) where
   abbrev s : System
   s = systemOf left right caps width rows
 
@@ -371,11 +357,14 @@ module _ (left right caps x kept x′ kept′ : List ℕ) (width rows r : ℕ) (
   after = q .falling caps (values-falling s (pickOf kept) (pointOf (highs x)) p (λ j h. v .each j h))
 
   -- The next strategy is kept,
-  pub step-policy : Policy s (pickOf kept′)
+  step-policy : Policy s (pickOf kept′)
   step-policy = falling-policy s (pickOf kept′) (pointOf (highs x′)) after
 
-  pub step-picked : (first : List ℕ) → PickedFrom rows first kept → PickedFrom rows first kept′
+  step-picked : (first : List ℕ) → PickedFrom rows first kept → PickedFrom rows first kept′
   step-picked first o j = ⊎-elim (λ b. inl b) (λ e. ⊎-elim (λ b. inl (rw e b)) (λ b. inr (e ∙ b)) (o j)) (q .picked j)
+
+  pub step-kept : (picks first : List ℕ) → Kept s picks first kept → Kept s picks first kept′
+  step-kept picks first k = (step-policy, q .size, step-picked first (k .2), k .3)
 
   -- and lower, where a row has failed;
   pub step-lower : (r ≡ 0 → ⊥) → height s cap-limit (pickOf kept′) < height s cap-limit (pickOf kept)
@@ -408,10 +397,9 @@ module _ (left right caps x kept x′ kept′ : List ℕ) (width rows r : ℕ) (
       i : Within (first-limit + 2 * rows * turn-limit) width x′
       i = q .within first-limit (values-within left right caps kept x width rows t g v)
 
-  pub step-end : (picks first back : List ℕ) → length picks ≡ 32 → Narrowed rows picks 32 first → PickedFrom rows first kept → Widened rows kept′ picks 32 back → r ≡ 0
-      → Iterated s picks (highs x′) back
-  step-end picks first back l n o w e =
-      widened-end s (highs x′) picks first kept′ back l (t .width-most) n (step-picked first o) w step-policy (step-values e) (λ _. finished s (pointOf (highs x′)) (q .stand e))
+  pub step-end : (picks first back : List ℕ) → Kept s picks first kept → Narrowed rows picks 32 first → Widened rows kept′ picks 32 back → r ≡ 0 → Iterated s picks (highs x′) back
+  step-end picks first back k n w e =
+      widened-end s (highs x′) picks first kept′ back (step-kept picks first k) (t .width-most) n w (step-values e) (λ _. finished s (pointOf (highs x′)) (q .stand e))
 
 -- Where variable 0 has no value left.
 pub stop-solves : (s : System) (x : List ℕ) → getD x 0 0 ≡ 0 → 0 < getD (highs x) 0 0 → Solves s (pointOf (highs x))

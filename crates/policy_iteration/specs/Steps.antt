@@ -15,26 +15,15 @@ use Rattle.duality.specs.System.{System, sideOf, Solves}
 use Rattle.duality.specs.Values.{difference, Policy}
 use Rattle.duality.specs.Falling.{Falling}
 use Rattle.records.specs.Decoded.{Near}
-use Rattle.policy_iteration.specs.Tables.{systemOf, pointOf, pickOf, turn-limit, value-limit, side-most, high, highs, Within, Tables}
+use Rattle.policy_iteration.specs.Tables.{systemOf, pointOf, pickOf, turn-limit, value-limit, low-half, high, highs, Within, Tables}
 use Rattle.policy_iteration.specs.Ends.{EndsOf}
 use Rattle.policy_iteration.specs.Rounds.{ValuesIs}
 
--- A row with this right side and this left coefficient stands at a variable of this value.
-abbrev pub Stands : ℕ → ℕ → ℕ → Type 0
-Stands side left v = plus (tropOf left) (tropOf v) ⊑ tropOf side
-
--- The value that such a row gives the variable: where it is lower than the variable's own the row fails, else it stands.
-pub record Costs (side left r : ℕ) : Type 0 where
-  pub fails : (v : ℕ) → Near value-limit v → r < v → Stands side left v → ⊥
-  pub stands : (v : ℕ) → Near value-limit v → v ≤ r → Stands side left v
-
--- The same on low numbers, for every left coefficient of a row with this right side: `top` less the coefficient, and not below 0. A
--- row that does not hold the variable gives more than every value.
+-- What a row with this right side gives the variables that it holds, as low numbers: `top` less the left coefficient, and not below 0;
+-- and the top alone is above every value.
 pub record Gives (side top : ℕ) : Type 0 where
-  pub fails : (left v : ℕ) → Near lead-limit left → Near value-limit (high v) → top - left < v → Stands (high side) left (high v) → ⊥
-  pub stands : (left v : ℕ) → Near lead-limit left → Near value-limit (high v) → v ≤ top - left → Stands (high side) left (high v)
-  pub is : (left v : ℕ) → Near lead-limit left → Near value-limit (high v) → top - left < v
-      → tropOf (high (top - left)) ≡ difference (tropOf (high side)) (tropOf left)
+  pub is : (left : ℕ) → Near lead-limit left → 0 < left → tropOf (high (top - left)) ≡ difference (tropOf (high side)) (tropOf left)
+  pub above : low-half + value-limit ≤ top
 
 -- The lower of two numbers, and the choice between two by which is lower.
 abbrev pub lesser : ℕ → ℕ → ℕ
@@ -47,23 +36,13 @@ chosenBy a b i k = cond (ltb a b) i k
 abbrev pub givenBy : List ℕ → ℕ → ℕ → ℕ → ℕ
 givenBy left i top j = top - getD left (i * stride + j) 0
 
--- Row i has lowered the values of the variables below n, and is picked where it did.
-pub record Lowered (left : List ℕ) (i top : ℕ) (x picks : List ℕ) (n : ℕ) (x′ picks′ : List ℕ) : Type 0 where
-  pub x-size : length x′ ≡ stride
-  pub picks-size : length picks′ ≡ stride
-  pub values : (j : ℕ) → j < n → getD x′ j 0 ≡ lesser (givenBy left i top j) (getD x j 0)
-  pub choices : (j : ℕ) → j < n → getD picks′ j 0 ≡ chosenBy (givenBy left i top j) (getD x j 0) i (getD picks j 0)
-  pub later-values : (j : ℕ) → n ≤ j → getD x′ j 0 ≡ getD x j 0
-  pub later-choices : (j : ℕ) → n ≤ j → getD picks′ j 0 ≡ getD picks j 0
-
 -- Row i has lowered the value of variable j, and is picked if it did.
 pub record LoweredPlace (left : List ℕ) (i top j : ℕ) (x picks x′ picks′ : List ℕ) : Type 0 where
   pub value : getD x′ j 0 ≡ lesser (givenBy left i top j) (getD x j 0)
   pub choice : getD picks′ j 0 ≡ chosenBy (givenBy left i top j) (getD x j 0) i (getD picks j 0)
 
--- Row i does not hold variable j, and has left it as it was.
-pub record PassedPlace (left : List ℕ) (i j : ℕ) (x picks x′ picks′ : List ℕ) : Type 0 where
-  pub blank : getD left (i * stride + j) 0 ≡ 0
+-- Variable j is as it was.
+pub record SamePlace (j : ℕ) (x picks x′ picks′ : List ℕ) : Type 0 where
   pub value : getD x′ j 0 ≡ getD x j 0
   pub choice : getD picks′ j 0 ≡ getD picks j 0
 
@@ -72,14 +51,20 @@ pub record LoweredOne (left : List ℕ) (i top j : ℕ) (x picks x′ picks′ :
   pub x-size : length x′ ≡ stride
   pub picks-size : length picks′ ≡ stride
   pub here : LoweredPlace left i top j x picks x′ picks′
-  pub other-values : (k : ℕ) → (k ≡ j → ⊥) → getD x′ k 0 ≡ getD x k 0
-  pub other-choices : (k : ℕ) → (k ≡ j → ⊥) → getD picks′ k 0 ≡ getD picks k 0
+  pub others : (k : ℕ) → (k ≡ j → ⊥) → SamePlace k x picks x′ picks′
+
+-- The variables below n have.
+pub record Lowered (left : List ℕ) (i top n : ℕ) (x picks x′ picks′ : List ℕ) : Type 0 where
+  pub x-size : length x′ ≡ stride
+  pub picks-size : length picks′ ≡ stride
+  pub each : (j : ℕ) → j < n → LoweredPlace left i top j x picks x′ picks′
+  pub later : (j : ℕ) → n ≤ j → SamePlace j x picks x′ picks′
 
 -- Every variable of row i has had its turn, or is not held by it.
 pub record LoweredAll (left : List ℕ) (i top : ℕ) (x picks x′ picks′ : List ℕ) : Type 0 where
   pub x-size : length x′ ≡ stride
   pub picks-size : length picks′ ≡ stride
-  pub each : (j : ℕ) → j < stride → LoweredPlace left i top j x picks x′ picks′ ⊎ PassedPlace left i j x picks x′ picks′
+  pub each : (j : ℕ) → j < stride → LoweredPlace left i top j x picks x′ picks′ ⊎ ((getD left (i * stride + j) 0 ≡ 0) × SamePlace j x picks x′ picks′)
 
 -- The same by a row of this right side.
 pub record LoweredAt (left : List ℕ) (i side : ℕ) (x picks x′ picks′ : List ℕ) : Type 0 where
@@ -96,9 +81,6 @@ pub record LoweredBy (left : List ℕ) (i here there : ℕ) (x picks x′ picks�
 -- What gives the variables of a row with a blank right side their values: no more than any left coefficient.
 abbrev pub blank-top : ℕ
 blank-top = signed-half - lead-limit
-
-abbrev pub highest-top : ℕ
-highest-top = signed-half + side-most
 
 -- What a row is lowered by: the sizes.
 pub record Lowering (left x picks : List ℕ) (i : ℕ) : Type 0 where

@@ -7,7 +7,7 @@ ghost use Rattle.definitions.specs.Limits.{stride, table-rows};
 ghost use Rattle.duality.specs.Values.{Policy};
 ghost use Rattle.policy_iteration.specs.Tables.{systemOf, pickOf, turn-limit, first-limit, side-most, side-least, high, highs, Caps, Tables};
 ghost use Rattle.policy_iteration.specs.Ends.{wide, RowEnds, EndsOf};
-ghost use Rattle.policy_iteration.specs.Steps.{Gives, lesser, chosenBy, Lowering, Lowered, LoweredOne, LoweredAll, LoweredBy, Passing, Passed, SamePick, widePick, Narrowed, Widened, Iterated};
+ghost use Rattle.policy_iteration.specs.Steps.{Gives, lesser, chosenBy, Lowering, LoweredOne, LoweredAll, LoweredBy, Passing, Passed, SamePick, widePick, Narrowed, Widened, Iterated};
 use crate::ends::WIDE;
 use crate::values::HALF;
 use crate::values::LOW;
@@ -54,29 +54,6 @@ fn choice(a: u32, b: u32, i: u32, k: u32) -> u32
     if a < b { i } else { k }
 }
 
-// Row i lowers the values of the variables, and is picked where it does.
-fn lower_row(
-    left: &[u32; TABLE],
-    i: usize,
-    top: u32,
-    x: &mut [u32; STRIDE],
-    picks: &mut [u32; STRIDE],
-)
-    requires { ⌜ Lowering (now left) (now x) (now picks) i ⌝ }
-    ensures { λ _. ⌜ Lowered (now (left .entry)) i top (now (x .entry)) (now (picks .entry)) stride (now (x .exit)) (now (picks .exit)) ⌝ }
-{
-    let base = i * STRIDE;
-    let row = i as u32;
-    let mut j = 0;
-    while j < STRIDE {
-        let given = less(top, left[base + j]);
-        let was = x[j];
-        picks[j] = choice(given, was, row, picks[j]);
-        x[j] = smaller(given, was);
-        j += 1;
-    }
-}
-
 // Row i lowers the value of variable j, and is picked if it does.
 fn lower_place(
     left: &[u32; TABLE],
@@ -93,6 +70,24 @@ fn lower_place(
     let was = x[j];
     picks[j] = choice(given, was, i as u32, picks[j]);
     x[j] = smaller(given, was);
+}
+
+// Row i lowers the values of all variables.
+fn lower_row(
+    left: &[u32; TABLE],
+    i: usize,
+    top: u32,
+    x: &mut [u32; STRIDE],
+    picks: &mut [u32; STRIDE],
+)
+    requires { ⌜ Lowering (now left) (now x) (now picks) i ⌝ }
+    ensures { λ _. ⌜ LoweredAll (now (left .entry)) i top (now (x .entry)) (now (picks .entry)) (now (x .exit)) (now (picks .exit)) ⌝ }
+{
+    let mut j = 0;
+    while j < STRIDE {
+        lower_place(left, i, top, j, x, picks);
+        j += 1;
+    }
 }
 
 // Row i lowers the values of the variables at its ends: it holds no others.

@@ -1,6 +1,5 @@
 use mathlib.Core.Path.{refl}
 use native.Mathlib.Omega.{arith}
-use Rattle.policy_iteration.proofs.Lowering.{lowered-all}
 use borrow.Author.Needs.{needs}
 use Rattle.policy_iteration.proofs.policy.lower_by.Statement.{statement}
 use Rattle.policy_iteration.proofs.policy.lower_by.Tie as tie
@@ -24,7 +23,7 @@ lower-by-spec =
     (λ c. (
       record {
         stands = λ b. absurd (omega (arith, c .before .before .before .before .before .if1 .left));
-        lowers = λ b. record { top = _; gives = c .before .before .before .before .top-of .ensures; lowered = lowered-all (c .lower-row .ensures) };
+        lowers = λ b. record { top = _; gives = c .before .before .before .before .top-of .ensures; lowered = c .lower-row .ensures };
         counts = λ b. refl;
       },
       omega arith,

@@ -1,4 +1,3 @@
-use Prim.Native.Nat.{_/_, _%_}
 use native.Mathlib.Omega.{arith}
 use Rattle.policy_iteration.proofs.Lowering.{lowered-ends}
 use borrow.Author.Needs.{needs}

@@ -3,7 +3,8 @@ use mathlib.Core.List.{List}
 use native.Mathlib.Omega.{arith}
 use Rattle.policy_iteration.specs.Tables.{first-limit, turn-limit, Lows, Within}
 use Rattle.policy_iteration.specs.Steps.{Passed}
-use Rattle.policy_iteration.proofs.Steps.{within-lows, passed-none, passed-more, passed-end, table-raised}
+use Rattle.policy_iteration.proofs.Rounds.{within-lows}
+use Rattle.policy_iteration.proofs.Steps.{passed-none, passed-more, passed-end, table-raised}
 use borrow.Author.Needs.{needs}
 use Rattle.policy_iteration.proofs.policy.pass.Statement.{statement}
 use Rattle.policy_iteration.proofs.policy.pass.Tie as tie
@@ -51,5 +52,5 @@ pass-spec =
     let a = start .args in
     let p = start .pre in
     let turn = c .before .before .before .before .before .before .before .before .before .before .before .loop in
-    (omega arith, omega (arith, turn .inv .1, c .lower-by .ensures .1), passed-more (a .left .now) (a .right .now) (a .width) (a .rows) (turn .i) (a .x .now) (a .picks .now) (turn .x) (turn .picks) _ _ _ _ (turn .failed) _ (p .tables) (c .before .before .before .before .before .before .before .before .before .before .loop-test .taken) (lows (p .tables .rows-most) (turn .inv) (p .within)) (c .before .before .before .before .before .before .before .side .ensures) (c .before .before .before .before .side2 .ensures) (turn .inv .2) (c .lower-by .ensures .0)))
+    (omega arith, omega (arith, turn .inv .1, c .lower-by .ensures .1), passed-more (a .left .now) (a .right .now) (a .width) (a .rows) (turn .i) (p .tables) (c .before .before .before .before .before .before .before .before .before .before .loop-test .taken) (turn .x) (turn .picks) (lows (p .tables .rows-most) (turn .inv) (p .within)) (turn .inv .2 .size) _ _ (c .before .before .before .before .before .before .before .side .ensures) (c .before .before .before .before .side2 .ensures) _ _ _ (c .lower-by .ensures .0) (a .x .now) (a .picks .now) (turn .failed) (turn .inv .2)))
     (λ c. passed-end (c .before .loop .inv .2) (c .before .loop .inv .0) (c .loop-test .left)))

@@ -1,5 +1,4 @@
 use Rattle.policy_iteration.proofs.Steps.{wide-row, wide-none}
-use borrow.Author.Needs.{needs}
 use Rattle.policy_iteration.proofs.policy.widen.Statement.{statement}
 use Rattle.policy_iteration.proofs.policy.widen.Tie as tie
 
