@@ -1,7 +1,6 @@
 -- Collecting, as the machine's transition.
 use Prim.Native.Nat.{ℕ, zero, suc, _+_, _*_, _≤_, _<_}
 use mathlib.Core.Path.{_≡_, refl, sym, ap, subst, _∙_}
-use mathlib.Core.Bool.{true, false}
 use mathlib.Core.Logic.{_⊎_, ⊎-elim}
 use mathlib.Core.List.{List}
 use native.Mathlib.Omega.{arith}
@@ -11,14 +10,12 @@ use lib.Seq.{getD-set-other}
 use Rattle.definitions.specs.Limits.{desk-places, desk-memory, problem-most, answer-most, refused-room, refused-ticket, refused-memory}
 use Rattle.definitions.specs.Bytes.{Bytes}
 use Rattle.definitions.specs.Offset.{tropOf}
-use Rattle.definitions.specs.ProblemRecord.{meant, nField, mField}
-use Rattle.definitions.specs.AnswerRecord.{answerSize, answerBytes, written}
+use Rattle.definitions.specs.ProblemRecord.{meant}
 use Rattle.definitions.specs.Desk as Machine
 use Rattle.definitions.specs.Desk.{placeAt, Stands, ticketOf, NotHeld, FromOpening, Collects, handed-over}
 use Rattle.definitions.proofs.IdleDay.{meant-bytes}
-use Rattle.class_answers.specs.Answered.{answerIn}
-use Rattle.engine.specs.Outcome.{FoundFor}
-use Rattle.engine.proofs.Trials.{settled-found}
+use Rattle.engine.specs.declared.one_trial.Handed.{Handed}
+use Rattle.engine.specs.OneTrial.{spanIn, answerWith, AnsweredFor, Answered, HandedOver}
 use Rattle.desk.specs.declared.state.Place.{Place}
 use Rattle.desk.specs.declared.state.Desk.{Desk}
 use Rattle.desk.specs.declared.calls.Collected.{Collected}
@@ -64,7 +61,7 @@ module _ (d : Desk) (memory : List ℕ) (ticket at : ℕ) (buffer : List ℕ) (h
   some = let w = t .held inside in omega (arith, w .0, w .1)
 
   -- It still waits.
-  pub collect-waits : placeIn d at .closed ≡ false → DidCollect d memory ticket buffer Collections.StillWaits d buffer
+  pub collect-waits : placeIn d at .pending .class ≡ 0 → DidCollect d memory ticket buffer Collections.StillWaits d buffer
   unfolding collectedOf
   collect-waits e = record {
     same-length = refl;
@@ -74,19 +71,25 @@ module _ (d : Desk) (memory : List ℕ) (ticket at : ℕ) (buffer : List ℕ) (h
     short = λ l. absurd (omega arith);
     moves = λ _ state f g. record {
       next = state;
-      collects = Collects.waits-yet {i = at} (memory-enough (length memory) h) (record { is = place-open (g .places at inside) some e ∙ ap (λ (k : ℕ). Machine.waits k (meant (bytesAt memory at (placeIn d at .size))) (placeIn d at .search .made)) (t .held inside .1) });
+      collects = Collects.waits-yet {i = at} (memory-enough (length memory) h) (record { is = place-open (g .places at inside) some e ∙ ap (λ (k : ℕ). Machine.waits k (meant (bytesAt memory at (placeIn d at .size))) (placeIn d at .pending .made)) (t .held inside .1) });
       holds = g;
     };
   }
 
-  module _ (e : placeIn d at .closed ≡ true) where
+  module _ (e : placeIn d at .pending .class ≡ 0 → ⊥) where
     answered : (state : Machine.Desk) → Holds d memory state → AnsweredAs (bytesAt memory at (placeIn d at .size)) (placeIn d at) (placeAt state at)
     answered state g = place-closed (g .places at inside) some e
 
-    stands : (state : Machine.Desk) → Holds d memory state
-        → Stands state at (Machine.answered ticket (meant (bytesAt memory at (placeIn d at .size))) (placeIn d at .answer .class) (tropOf (placeIn d at .answer .span)) (placeIn d at .answer .trials)
-        (answerIn (nField (meant (bytesAt memory at (placeIn d at .size)))) (mField (meant (bytesAt memory at (placeIn d at .size)))) (placeIn d at .answer .class) (placeIn d at .answer .span) (placeIn d at .answer .start) (placeIn d at .answer .stamps) (placeIn d at .answer .picks)))
-    stands state g = record { is = rw (← t .held inside .1) (answered state g .is) }
+    stands : (state : Machine.Desk) (g : Holds d memory state)
+        → Stands state at (Machine.answered ticket (meant (bytesAt memory at (placeIn d at .size))) (placeIn d at .pending .class) (tropOf (spanIn (placeIn d at .pending))) (placeIn d at .pending .made)
+        (answerWith (meant (bytesAt memory at (placeIn d at .size))) (placeIn d at .pending) (answered state g .answer .stamps) (answered state g .answer .picks)))
+    stands state g =
+        let a = answered state g .answer in
+        let bytes = bytesAt memory at (placeIn d at .size) in
+        record {
+          is = answered state g .is
+              ∙ ap (λ (k : ℕ). Machine.answered k (meant bytes) (placeIn d at .pending .class) (tropOf (spanIn (placeIn d at .pending))) (placeIn d at .pending .made) (answerWith (meant bytes) (placeIn d at .pending) (a .stamps) (a .picks))) (t .held inside .1);
+        }
 
     -- The buffer is too short.
     pub collect-room : length buffer < answer-most → DidCollect d memory ticket buffer (Collections.Refused refused-room) d buffer
@@ -104,20 +107,18 @@ module _ (d : Desk) (memory : List ℕ) (ticket at : ℕ) (buffer : List ℕ) (h
       };
     }
 
-    -- What the writer asks.
-    pub collect-found : Bytes memory → answer-most ≤ length buffer → Left d memory
-        → FoundFor (placeIn d at .n) (placeIn d at .m) (length buffer) (placeIn d at .answer .class) (placeIn d at .answer .span) (placeIn d at .answer .start) (placeIn d at .answer .stamps) (placeIn d at .answer .picks)
-    collect-found b room left =
+    -- It is answered.
+    pub collect-answered : Bytes memory → Left d memory → Answered (placeIn d at .pending)
+    collect-answered b left =
         let a = answered (left .state) (left .holds) in
-        settled-found (meant-bytes _ (part-bytes memory (at * problem-most) (placeIn d at .size) b (omega (arith, a .seated .size-most)))) (a .settled) (a .seated .n-is) (a .seated .m-is) room
+        record { problem = meant (bytesAt memory at (placeIn d at .size)); bytes = meant-bytes _ (part-bytes memory (at * problem-most) (placeIn d at .size) b (omega (arith, a .seated .size-most))); answered = a .answer }
 
     -- It is handed over.
-    pub collected-all : {d′ : Desk} (c : Place) {buffer′ : List ℕ} {size : ℕ} → answer-most ≤ length buffer → c ≡ blankPlace → d′ ≡ seatedAt d at c → length buffer′ ≡ length buffer
-        → size ≡ answerSize (placeIn d at .answer .class) (placeIn d at .n) (placeIn d at .m)
-        → buffer′ ≡ written buffer (answerBytes (placeIn d at .n) (answerIn (placeIn d at .n) (placeIn d at .m) (placeIn d at .answer .class) (placeIn d at .answer .span) (placeIn d at .answer .start) (placeIn d at .answer .stamps) (placeIn d at .answer .picks)))
-        → DidCollect d memory ticket buffer (Collections.Handed (placeIn d at .answer .class) (placeIn d at .answer .span) (placeIn d at .answer .trials) size) d′ buffer′
+    pub collected-all : {d′ : Desk} (c : Place) {buffer′ : List ℕ} {r : Handed} → answer-most ≤ length buffer → c ≡ blankPlace → d′ ≡ seatedAt d at c → length buffer′ ≡ length buffer
+        → HandedOver (placeIn d at .pending) buffer r buffer′
+        → DidCollect d memory ticket buffer (Collections.Handed (r .class) (r .span) (r .trials) (r .size)) d′ buffer′
     unfolding collectedOf
-    collected-all {d′} c {buffer′} {size} room free desk-is same size-is buffer-is = record {
+    collected-all {d′} c {buffer′} {r} room free desk-is same handed = record {
       same-length = same;
       refused-still = λ e. absurd (let z : _≡_ {A = ℕ} 0 1 = cc in omega arith);
       waits-still = λ e. absurd (let z : _≡_ {A = ℕ} 0 1 = cc in omega arith);
@@ -127,7 +128,7 @@ module _ (d : Desk) (memory : List ℕ) (ticket at : ℕ) (buffer : List ℕ) (h
           let a = answered state g in
           record {
             next = record { given = state .given; line = state .line; places = set (state .places) at Machine.empty };
-            collects = rw (size-is, buffer-is, a .seated .n-is, a .seated .m-is) (handed-over {i = at} (memory-enough (length memory) h) (stands state g) room);
+            collects = rw (handed .class-is, handed .span-is, handed .trials-is, handed .size-is, handed .record-stands _ (a .answer), a .answer .of .n-is, a .answer .of .m-is) (handed-over {i = at} (memory-enough (length memory) h) (stands state g) room);
             holds = rw desk-is (record {
               arrays = record {
                 line-size = g .arrays .line-size;

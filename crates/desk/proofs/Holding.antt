@@ -1,7 +1,6 @@
 -- Which state of the machine the desk holds: what stands at a place, the head of the line, a place that changed.
 use Prim.Native.Nat.{ℕ, _+_, _-_, _%_, _≤_, _<_}
 use mathlib.Core.Path.{_≡_, refl, sym, ap, _∙_}
-use mathlib.Core.Bool.{Bool, true, false, cond}
 use mathlib.Core.Logic.{_⊎_, inl, inr}
 use mathlib.Core.List.{List, [], _∷_}
 use native.Mathlib.Omega.{arith}
@@ -10,11 +9,11 @@ use lib.ListN.{length, getD, set}
 use lib.Seq.{getD-set-same, getD-set-other}
 use Rattle.definitions.specs.Limits.{desk-places, problem-most}
 use Rattle.definitions.specs.Offset.{tropOf}
-use Rattle.definitions.specs.ProblemRecord.{meant, nField, mField}
+use Rattle.definitions.specs.ProblemRecord.{meant}
 use Rattle.definitions.specs.Desk as Machine
 use Rattle.definitions.specs.Desk.{placeAt, Stands, ticketOf, held, FirstEmpty}
-use Rattle.class_answers.specs.Answered.{answerIn}
-use Rattle.engine.specs.OneTrial.{PursuedFor, SettledFor}
+use Rattle.engine.specs.OneTrial.{spanIn, PendingFor, answerWith, AnsweredFor}
+use Rattle.engine.proofs.Trials.{pending-open}
 use Rattle.desk.specs.declared.state.Place.{Place}
 use Rattle.desk.specs.declared.state.Desk.{Desk}
 use Rattle.desk.specs.State.{noPlace, placeIn, FirstFree, ring, bytesAt, Seated, blankPlace, PlaceIs, is-empty, is-waiting, is-answered, Holds}
@@ -23,23 +22,20 @@ use Rattle.tickets.proofs.Sound.{Sound, Waiting, waiting-inside, empty-not-wait
 use Rattle.tickets.proofs.Places.{held-less, held-all}
 use Rattle.desk.proofs.Ring.{ring-head}
 
-true-not-false : true ≡ false → ⊥
-true-not-false e = let z : _≡_ {A = ℕ} 1 0 = ap (λ (b : Bool). cond b 1 0) e in omega arith
-
 -- ---- what stands at a place
 
 -- A place without a ticket is empty,
 pub place-empty : {bytes : List ℕ} {c : Place} {p : Machine.Place} → PlaceIs bytes c p → c .ticket ≡ 0 → p ≡ Machine.empty
 place-empty (is-empty z) e = refl
-place-empty (is-waiting s n b g) e = absurd (let some = s .some in omega arith)
-place-empty (is-answered s n g) e = absurd (let some = s .some in omega arith)
+place-empty (is-waiting s g) e = absurd (let some = s .some in omega arith)
+place-empty (is-answered s g) e = absurd (let some = s .some in omega arith)
 
 -- and one with a ticket holds it.
 pub place-ticket : {bytes : List ℕ} {c : Place} {p : Machine.Place} → PlaceIs bytes c p → ticketOf p ≡ c .ticket
 unfolding ticketOf
 place-ticket (is-empty z) = sym (ap (λ (c : Place). c .ticket) z)
-place-ticket (is-waiting s n b g) = refl
-place-ticket (is-answered s n g) = refl
+place-ticket (is-waiting s g) = refl
+place-ticket (is-answered s g) = refl
 
 pub place-some : {bytes : List ℕ} {c : Place} {p : Machine.Place} → PlaceIs bytes c p → 0 < c .ticket → p ≡ Machine.empty → ⊥
 unfolding ticketOf
@@ -48,42 +44,41 @@ place-some {c = c} h some e = let z : _≡_ {A = ℕ} 0 (c .ticket) = sym (ap ti
 -- What the code's place says of a problem that waits.
 pub record WaitsAs (bytes : List ℕ) (c : Place) (number : ℕ) (problem : List ℕ) (own : ℕ) : Type 0 where
   pub seated : Seated bytes c
-  pub not-closed : c .closed ≡ false
-  pub pursued : PursuedFor (meant bytes) (c .search)
+  pub pending : PendingFor (meant bytes) (c .pending)
   pub number-is : c .ticket ≡ number
   pub problem-is : meant bytes ≡ problem
-  pub own-is : c .search .made ≡ own
+  pub own-is : c .pending .made ≡ own
 
 pub place-waits : {bytes : List ℕ} {c : Place} {p : Machine.Place} {number own : ℕ} {problem : List ℕ} → PlaceIs bytes c p → p ≡ Machine.waits number problem own
     → WaitsAs bytes c number problem own
 unfolding ticketOf problemHeld ownHeld
 place-waits (is-empty z) e = absurd (empty-not-waits e)
-place-waits (is-waiting s n b g) e = record { seated = s; not-closed = n; pursued = g; number-is = ap ticketOf e; problem-is = ap problemHeld e; own-is = ap ownHeld e }
-place-waits (is-answered s n g) e = absurd (answered-not-waits e)
+place-waits (is-waiting s g) e = record { seated = s; pending = g; number-is = ap ticketOf e; problem-is = ap problemHeld e; own-is = ap ownHeld e }
+place-waits (is-answered s g) e = absurd (answered-not-waits e)
 
--- A place with a ticket that is not closed waits; one that is closed is answered.
-pub place-open : {bytes : List ℕ} {c : Place} {p : Machine.Place} → PlaceIs bytes c p → 0 < c .ticket → c .closed ≡ false
-    → p ≡ Machine.waits (c .ticket) (meant bytes) (c .search .made)
+-- A place with a ticket whose class is open waits; else it is answered.
+pub place-open : {bytes : List ℕ} {c : Place} {p : Machine.Place} → PlaceIs bytes c p → 0 < c .ticket → c .pending .class ≡ 0
+    → p ≡ Machine.waits (c .ticket) (meant bytes) (c .pending .made)
 place-open (is-empty z) some e = absurd (omega (arith, ap (λ (c : Place). c .ticket) z))
-place-open (is-waiting s n b g) some e = refl
-place-open (is-answered s n g) some e = absurd (true-not-false (sym n ∙ e))
+place-open (is-waiting s g) some e = refl
+place-open (is-answered s g) some e = absurd (g .closed e)
 
 pub record AnsweredAs (bytes : List ℕ) (c : Place) (p : Machine.Place) : Type 0 where
   pub seated : Seated bytes c
-  pub settled : SettledFor (meant bytes) (c .answer)
-  pub is : p ≡ Machine.answered (c .ticket) (meant bytes) (c .answer .class) (tropOf (c .answer .span)) (c .answer .trials)
-      (answerIn (nField (meant bytes)) (mField (meant bytes)) (c .answer .class) (c .answer .span) (c .answer .start) (c .answer .stamps) (c .answer .picks))
+  pub answer : AnsweredFor (meant bytes) (c .pending)
+  pub is : p ≡ Machine.answered (c .ticket) (meant bytes) (c .pending .class) (tropOf (spanIn (c .pending))) (c .pending .made)
+      (answerWith (meant bytes) (c .pending) (answer .stamps) (answer .picks))
 
-pub place-closed : {bytes : List ℕ} {c : Place} {p : Machine.Place} → PlaceIs bytes c p → 0 < c .ticket → c .closed ≡ true → AnsweredAs bytes c p
+pub place-closed : {bytes : List ℕ} {c : Place} {p : Machine.Place} → PlaceIs bytes c p → 0 < c .ticket → (c .pending .class ≡ 0 → ⊥) → AnsweredAs bytes c p
 place-closed (is-empty z) some e = absurd (omega (arith, ap (λ (c : Place). c .ticket) z))
-place-closed (is-waiting s n b g) some e = absurd (true-not-false (sym e ∙ n))
-place-closed (is-answered s n g) some e = record { seated = s; settled = g; is = refl }
+place-closed (is-waiting s g) some e = absurd (e (pending-open g))
+place-closed (is-answered s g) some e = record { seated = s; answer = g; is = refl }
 
 -- The size that a place tells fits, unless it is empty.
 pub size-known : {bytes : List ℕ} {c : Place} {p : Machine.Place} → PlaceIs bytes c p → (c ≡ blankPlace) ⊎ (c .size ≤ problem-most)
 size-known (is-empty z) = inl z
-size-known (is-waiting s n b g) = inr (s .size-most)
-size-known (is-answered s n g) = inr (s .size-most)
+size-known (is-waiting s g) = inr (s .size-most)
+size-known (is-answered s g) = inr (s .size-most)
 
 -- ---- the line
 

@@ -16,8 +16,7 @@ use Rattle.definitions.specs.Questions.{part}
 use Rattle.definitions.proofs.Put.{take-put, length-put, getD-put-after, put-more, put-nil}
 use Rattle.definitions.proofs.Questions.{part-length, part-at}
 use Rattle.definitions.proofs.Layouts.{plain-desk}
-use Rattle.least_span.specs.declared.state.Search.{Search}
-use Rattle.search_steps.specs.declared.steps.Trial.{Trial}
+use Rattle.engine.specs.declared.one_trial.Pending.{Pending}
 use Rattle.engine.specs.OneTrial.{TrialFor}
 use Rattle.desk.specs.State.{bytesAt}
 
@@ -110,6 +109,6 @@ copied-all {before} {after} {run} {at} e c = c .is ∙ ap (λ (z : List ℕ). pu
 pub part-end : (memory : List ℕ) (from size : ℕ) → take (from + size - from) (drop from memory) ≡ part memory from size
 part-end memory from size = let e : from + size - from ≡ size = omega arith in rw e refl
 
-pub trial-part : (memory : List ℕ) (from size : ℕ) {search : Search} {r : Trial} → TrialFor (meant (take (from + size - from) (drop from memory))) search r
-    → TrialFor (meant (part memory from size)) search r
-trial-part memory from size {search} {r} t = subst (λ (z : List ℕ). TrialFor (meant z) search r) (part-end memory from size) t
+pub trial-part : (memory : List ℕ) (from size : ℕ) {p r : Pending} → TrialFor (meant (take (from + size - from) (drop from memory))) p r
+    → TrialFor (meant (part memory from size)) p r
+trial-part memory from size {p} {r} t = subst (λ (z : List ℕ). TrialFor (meant z) p r) (part-end memory from size) t

@@ -1,7 +1,6 @@
 -- A step, as the machine's transition: the head's next trial.
 use Prim.Native.Nat.{ℕ, suc, _+_, _-_, _%_, _≤_, _<_}
 use mathlib.Core.Path.{_≡_, refl, sym, ap, subst, _∙_}
-use mathlib.Core.Bool.{Bool, true, false}
 use mathlib.Core.List.{List, [], _∷_, _++_}
 use native.Mathlib.Omega.{arith}
 use native.Mathlib.Numerals.{add-one}
@@ -12,7 +11,8 @@ use Rattle.definitions.specs.Offset.{tropOf}
 use Rattle.definitions.specs.ProblemRecord.{problemOf, meant}
 use Rattle.definitions.specs.Desk as Machine
 use Rattle.definitions.specs.Desk.{placeAt, Stands, FromOpening, Steps, one-more, last-one}
-use Rattle.engine.specs.OneTrial.{TrialFor}
+use Rattle.engine.specs.OneTrial.{spanIn, TrialFor}
+use Rattle.engine.proofs.Trials.{pending-open}
 use Rattle.desk.specs.declared.state.Place.{Place}
 use Rattle.desk.specs.declared.state.Desk.{Desk}
 use Rattle.desk.specs.declared.calls.Stepped.the-variants as Steppings
@@ -49,10 +49,6 @@ gone-few d at c a n = (
   omega (arith, a .few),
 )
 
-pub not-true-false : (b : Bool) → (b ≡ true → ⊥) → b ≡ false
-not-true-false true n = absurd (n refl)
-not-true-false false n = refl
-
 -- ---- the head
 
 -- What the head's place says, by the premise.
@@ -68,7 +64,7 @@ head-of {d} {memory} h n left =
     record {
       arrays = g .arrays;
       inside = w .inside;
-      tryable = record { inside = w .inside; memory-enough = h; size-most = w .waits-as .seated .size-most; pursued = w .waits-as .pursued };
+      tryable = record { inside = w .inside; memory-enough = h; size-most = w .waits-as .seated .size-most; pending = w .waits-as .pending };
     }
 
 -- ---- its trial
@@ -88,8 +84,8 @@ module _ (d : Desk) (memory : List ℕ) (r : Place) (enough : desk-memory ≤ le
   abbrev rest : List ℕ
   rest = ring (d .line) ((d .head + 1) % 16) (d .waiting - 1)
 
-  trial : TrialFor (meant (bytesAt memory at (r .size))) (c .search) (record { closed = r .closed; search = r .search; answer = r .answer })
-  trial = subst (λ (z : List ℕ). TrialFor (meant z) (placeIn d at .search) (record { closed = r .closed; search = r .search; answer = r .answer })) same-bytes (tried .trial)
+  trial : TrialFor (meant (bytesAt memory at (r .size))) (c .pending) (r .pending)
+  trial = subst (λ (z : List ℕ). TrialFor (meant z) (placeIn d at .pending) (r .pending)) same-bytes (tried .trial)
 
   module _ (state : Machine.Desk) (opening : FromOpening (length memory) state) (holds : Holds d memory state) where
     head : HeadAs holds at
@@ -101,16 +97,16 @@ module _ (d : Desk) (memory : List ℕ) (r : Place) (enough : desk-memory ≤ le
     line-is : state .line ≡ at ∷ rest
     line-is = line-head holds (omega arith)
 
-    stands : Stands state at (Machine.waits (r .ticket) (meant (bytesAt memory at (r .size))) (placeIn d at .search .made))
+    stands : Stands state at (Machine.waits (r .ticket) (meant (bytesAt memory at (r .size))) (placeIn d at .pending .made))
     stands =
         let w = head .waits-as in
-        let e = place-open (holds .places at inside) (w .seated .some) (w .not-closed) in
+        let e = place-open (holds .places at inside) (w .seated .some) (pending-open (w .pending)) in
         record { is = rw (tried .ticket-is, ← same-bytes) e }
 
     seated : Seated (bytesAt memory at (r .size)) r
     seated =
         let s = subst (λ (z : List ℕ). Seated z (placeIn d at)) same-bytes (head .waits-as .seated) in
-        record { some = omega (arith, tried .ticket-is, s .some); size-most = omega (arith, tried .size-is, s .size-most); n-is = tried .n-is ∙ s .n-is; m-is = tried .m-is ∙ s .m-is }
+        record { some = omega (arith, tried .ticket-is, s .some); size-most = omega (arith, tried .size-is, s .size-most) }
 
     others : (k : ℕ) → k < desk-places → (k ≡ at → ⊥) → PlaceIs (bytesAt memory k (placeIn d k .size)) (placeIn d k) (placeAt state k)
     others k l n = holds .places k l
@@ -124,34 +120,34 @@ module _ (d : Desk) (memory : List ℕ) (r : Place) (enough : desk-memory ≤ le
     }
 
     -- It is answered.
-    step-done : r .closed ≡ true → NextStep d memory (Steppings.Done (r .ticket)) (headGone (seatedAt d at r)) state
+    step-done : (r .pending .class ≡ 0 → ⊥) → NextStep d memory (Steppings.Done (r .ticket)) (headGone (seatedAt d at r)) state
     unfolding steppedOf
     step-done e =
         let s = trial .ends e in
-        let last : suc (placeIn d at .search .made) ≡ r .answer .trials = omega (arith, s .1) in
+        let last : suc (placeIn d at .pending .made) ≡ r .pending .made = omega (arith, s .1) in
         record {
-          next = record { given = state .given; line = rest; places = set (state .places) at (Machine.answered (r .ticket) (meant (bytesAt memory at (r .size))) (r .answer .class) (tropOf (r .answer .span)) (r .answer .trials) _) };
+          next = record { given = state .given; line = rest; places = set (state .places) at (Machine.answered (r .ticket) (meant (bytesAt memory at (r .size))) (r .pending .class) (tropOf (spanIn (r .pending))) (r .pending .made) _) };
           steps = last-one (memory-enough (length memory) enough) line-is stands last (s .0 .answers);
           holds = record {
             arrays = gone-arrays;
             given-is = holds .given-is;
             line-is = refl;
             places-size = length-set (state .places) at _ ∙ holds .places-size;
-            places = seated-places d memory memory state at r _ (holds .arrays .places-size) (holds .places-size) inside others (is-answered seated e (s .0));
+            places = seated-places d memory memory state at r _ (holds .arrays .places-size) (holds .places-size) inside others (is-answered seated (s .0));
           };
         }
 
     -- It goes on, at the end of the line.
-    step-on : r .closed ≡ false → NextStep d memory (Steppings.GoesOn (r .ticket)) (joinedBy (headGone (seatedAt d at r)) at) state
+    step-on : r .pending .class ≡ 0 → NextStep d memory (Steppings.GoesOn (r .ticket)) (joinedBy (headGone (seatedAt d at r)) at) state
     unfolding steppedOf
     step-on e =
         let g = trial .goes-on e in
-        let made : r .search .made ≡ suc (placeIn d at .search .made) = g .made-is ∙ add-one (placeIn d at .search .made) in
+        let made : r .pending .made ≡ suc (placeIn d at .pending .made) = g .made-is ∙ add-one (placeIn d at .pending .made) in
         let k = classed (problemOf (meant (bytesAt memory at (r .size)))) in
-        let more : suc (placeIn d at .search .made) < k .trials = omega (arith, g .more (k .class) (k .trials) (k .span) (k .found)) in
-        let new : PlaceIs (bytesAt memory at (r .size)) r (Machine.waits (r .ticket) (meant (bytesAt memory at (r .size))) (suc (placeIn d at .search .made))) = rw (← made) (is-waiting seated e (trial .unanswered e) (g .pursued)) in
+        let more : suc (placeIn d at .pending .made) < k .trials = omega (arith, g .more (k .class) (k .trials) (k .span) (k .found)) in
+        let new : PlaceIs (bytesAt memory at (r .size)) r (Machine.waits (r .ticket) (meant (bytesAt memory at (r .size))) (suc (placeIn d at .pending .made))) = rw (← made) (is-waiting seated (g .pending)) in
         record {
-          next = record { given = state .given; line = rest ++ (at ∷ []); places = set (state .places) at (Machine.waits (r .ticket) (meant (bytesAt memory at (r .size))) (suc (placeIn d at .search .made))) };
+          next = record { given = state .given; line = rest ++ (at ∷ []); places = set (state .places) at (Machine.waits (r .ticket) (meant (bytesAt memory at (r .size))) (suc (placeIn d at .pending .made))) };
           steps = one-more (memory-enough (length memory) enough) line-is stands (k .found) more;
           holds = record {
             arrays = record {
@@ -174,7 +170,7 @@ module _ (d : Desk) (memory : List ℕ) (r : Place) (enough : desk-memory ≤ le
       subst (Tried (bytesAt memory at (placeIn d at .size)) (placeIn d at)) (sym same) tried
 
   -- The step.
-  pub did-done : {d′ : Desk} {ticket : ℕ} → Head d memory → d′ ≡ headGone (seatedAt d (getD (d .line) (d .head) 0) r) → ticket ≡ r .ticket → r .closed ≡ true → DidStep d memory (Steppings.Done ticket) d′
+  pub did-done : {d′ : Desk} {ticket : ℕ} → Head d memory → d′ ≡ headGone (seatedAt d (getD (d .line) (d .head) 0) r) → ticket ≡ r .ticket → (r .pending .class ≡ 0 → ⊥) → DidStep d memory (Steppings.Done ticket) d′
   did-done {d′} h e t z = record {
     still = λ f. absurd (let z : _≡_ {A = ℕ} 0 1 = cc in omega arith);
     others = record { stay = λ k n. rw e (getD-set-other (d .places) (getD (d .line) (d .head) 0) k r noPlace n) };
@@ -184,7 +180,7 @@ module _ (d : Desk) (memory : List ℕ) (r : Place) (enough : desk-memory ≤ le
   }
 
   pub did-on : {seat gone d′ : Desk} {ticket : ℕ} → Head d memory → seat ≡ seatedAt d (getD (d .line) (d .head) 0) r → gone ≡ headGone seat → d′ ≡ joinedBy gone (getD (d .line) (d .head) 0)
-      → ticket ≡ r .ticket → r .closed ≡ false → DidStep d memory (Steppings.GoesOn ticket) d′
+      → ticket ≡ r .ticket → r .pending .class ≡ 0 → DidStep d memory (Steppings.GoesOn ticket) d′
   did-on {seat} {gone} {d′} h a b e t z =
       let now : d′ ≡ joinedBy (headGone (seatedAt d (getD (d .line) (d .head) 0) r)) (getD (d .line) (d .head) 0) =
       e ∙ ap (λ (z : Desk). joinedBy z (getD (d .line) (d .head) 0)) (b ∙ ap headGone a) in

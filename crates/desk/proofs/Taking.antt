@@ -16,14 +16,14 @@ use Rattle.definitions.specs.ProblemRecord.{meant, nField, mField}
 use Rattle.definitions.specs.Desk as Machine
 use Rattle.definitions.specs.Desk.{memoryRefused, fullRefused, deskRefusal, WithinDesk, placeAt, held, FirstEmpty, FromOpening, takeRefusal, TakesIn, taken}
 use Rattle.definitions.proofs.Put.{length-put}
-use Rattle.least_span.specs.declared.state.Search.{Search}
 use Rattle.engine.specs.declared.one_trial.Begun.{Begun}
-use Rattle.engine.specs.OneTrial.{PursuedFor, BegunFor}
+use Rattle.engine.specs.declared.one_trial.Pending.{Pending}
+use Rattle.engine.specs.OneTrial.{PendingFor, BegunFor}
 use Rattle.desk.specs.declared.state.Place.{Place}
 use Rattle.desk.specs.declared.state.Desk.{Desk}
 use Rattle.desk.specs.declared.calls.TakenIn.{TakenIn}
 use Rattle.desk.specs.declared.calls.TakenIn.the-variants as Takings
-use Rattle.desk.specs.State.{Arrays, noPlace, placeIn, FirstFree, Entered, Room, ring, bytesAt, Seated, blankPlace, PlaceIs, is-empty, is-waiting, Holds}
+use Rattle.desk.specs.State.{Arrays, noPlace, placeIn, FirstFree, entered, Room, ring, bytesAt, Seated, blankPlace, PlaceIs, is-empty, is-waiting, Holds}
 use Rattle.desk.specs.Calls.{Left, takenOf, OpenedBy, NextTaken, SearchBegun, TookIn}
 use Rattle.tickets.proofs.Sound.{Sound, from-opening-sound, sound-taken, line-few}
 use Rattle.desk.proofs.Ring.{ring-length, ring-join}
@@ -122,24 +122,24 @@ room-for {d} {memory} {p} {at} h w f n l most left =
     record { arrays = g .arrays; inside = inside; few = omega (arith, length-append (state .line) (at ∷ [])); ticket-left = below; short = fits-place p w; memory-enough = h }
 
 -- It is taken in.
-pub took-in : {d r : Desk} {memory memory′ p : List ℕ} {at : ℕ} {b : Begun} {given : ℕ} → desk-memory ≤ length memory → BegunFor (meant p) b → b .refused ≡ 0 → FirstFree d at
-    → Room d at p memory → Entered d at p b r → memory′ ≡ put memory (at * problem-most) p → given ≡ d .given + 1 → TookIn d memory p (Takings.Ticket given) r memory′
+pub took-in : {d r : Desk} {memory memory′ p : List ℕ} {at : ℕ} {b : Begun} → desk-memory ≤ length memory → BegunFor (meant p) b → b .refused ≡ 0 → FirstFree d at
+    → Room d at p memory → r ≡ entered d at p (b .pending) → memory′ ≡ put memory (at * problem-most) p → TookIn d memory p (Takings.Ticket (r .given)) r memory′
 unfolding takenOf
-took-in {d} {r} {memory} {memory′} {p} {at} {b} {given} h g z f room e m t = record {
+took-in {d} {r} {memory} {memory′} {p} {at} {b} h g z f room e m = record {
   same-length = rw m (length-put memory (at * problem-most) p (omega arith) (omega (arith, room .short, room .inside)));
   still = λ e. absurd (let z : _≡_ {A = ℕ} 0 1 = cc in omega arith);
-  enters = λ _. record { at = at; inside = room .inside; free = f; memory-is = m; begun = begun; others = record { stay = λ k n. rw (e .desk-is) (getD-set-other (d .places) at k (e .place) noPlace n) } };
+  enters = λ _. record { at = at; inside = room .inside; free = f; memory-is = m; begun = begun; others = record { stay = λ k n. rw e (getD-set-other (d .places) at k c noPlace n) } };
   short = λ l. absurd (omega arith);
-  moves = λ _ state o holds. record { next = next state; takes = rw t (takes state holds); holds = rw (e .desk-is, m) (held-after state holds) };
+  moves = λ _ state o holds. record { next = next state; takes = rw (ap (λ (z : Desk). z .given) e) (takes state holds); holds = rw (e, m) (held-after state holds) };
 }
   where
     c : Place
-    c = e .place
+    c = record { ticket = d .given + 1; size = length p; pending = b .pending }
 
     begun : SearchBegun p at r
     begun =
-        let here : placeIn r at ≡ e .place = ap (λ (x : Desk). placeIn x at) (e .desk-is) ∙ getD-set-same (d .places) at (e .place) noPlace (omega (arith, room .inside, room .arrays .places-size)) in
-        (ap (λ (x : Place). x .size) here ∙ e .new .size-is, ap (λ (x : Place). x .search) here ∙ e .new .search-is ∙ g .search-is z)
+        let here : placeIn r at ≡ c = ap (λ (x : Desk). placeIn x at) e ∙ getD-set-same (d .places) at c noPlace (omega (arith, room .inside, room .arrays .places-size)) in
+        (ap (λ (x : Place). x .size) here, ap (λ (x : Place). x .pending) here ∙ g .fresh-is z)
 
     within : WithinDesk (meant p)
     within = sym (g .refused-is) ∙ z
@@ -153,17 +153,14 @@ took-in {d} {r} {memory} {memory′} {p} {at} {b} {given} h g z f room e m t = r
         rw same (taken (not-refused d memory p at state h within f (room .inside) (room .ticket-left) holds) (first-empty holds f (room .inside)))
 
     there : bytesAt (put memory (at * problem-most) p) at (c .size) ≡ p
-    there = rw (e .new .size-is) (kept-here memory p at h (room .inside) (room .short))
+    there = kept-here memory p at h (room .inside) (room .short)
 
     new : (state : Machine.Desk) → Holds d memory state → PlaceIs (bytesAt (put memory (at * problem-most) p) at (c .size)) c (Machine.waits (suc (state .given)) (meant p) 0)
     new state holds =
-        let ticket : c .ticket ≡ suc (state .given) = omega (arith, e .new .ticket-is, holds .given-is) in
-        let none : c .search .made ≡ 0 = ap (λ (s : Search). s .made) (e .new .search-is) ∙ ap (λ (s : Search). s .made) (g .search-is z) in
-        let w : PlaceIs p c (Machine.waits (c .ticket) (meant p) (c .search .made)) =
-        is-waiting
-        (record { some = omega arith; size-most = omega (arith, e .new .size-is, room .short); n-is = e .new .n-is ∙ g .n-is z; m-is = e .new .m-is ∙ g .m-is z })
-        (e .new .still-open) (e .new .answer-is) (subst (PursuedFor (meant p)) (sym (e .new .search-is)) (g .pursued z)) in
-        rw there (rw (← ticket, ← none) w)
+        let ticket : d .given + 1 ≡ suc (state .given) = omega (arith, holds .given-is) in
+        let none : b .pending .made ≡ 0 = ap (λ (s : Pending). s .made) (g .fresh-is z) in
+        let w : PlaceIs p c (Machine.waits (d .given + 1) (meant p) (b .pending .made)) = is-waiting (record { some = omega arith; size-most = room .short }) (g .begun z) in
+        rw there (subst (λ (t : ℕ). PlaceIs p c (Machine.waits t (meant p) 0)) ticket (subst (λ (o : ℕ). PlaceIs p c (Machine.waits (d .given + 1) (meant p) o)) none w))
 
     others : (state : Machine.Desk) → Holds d memory state → (k : ℕ) → k < desk-places → (k ≡ at → ⊥)
         → PlaceIs (bytesAt (put memory (at * problem-most) p) k (placeIn d k .size)) (placeIn d k) (placeAt state k)
@@ -173,7 +170,7 @@ took-in {d} {r} {memory} {memory′} {p} {at} {b} {given} h g z f room e m t = r
         (size-known (holds .places k l))
 
     held-after : (state : Machine.Desk) → Holds d memory state
-        → Holds (record { given = d .given + 1; head = d .head; waiting = d .waiting + 1; line = set (d .line) ((d .head + d .waiting) % desk-places) at; places = set (d .places) at c }) (put memory (at * problem-most) p) (next state)
+        → Holds (entered d at p (b .pending)) (put memory (at * problem-most) p) (next state)
     held-after state holds = record {
       arrays = record {
         line-size = length-set (d .line) ((d .head + d .waiting) % desk-places) at ∙ holds .arrays .line-size;
@@ -186,7 +183,3 @@ took-in {d} {r} {memory} {memory′} {p} {at} {b} {given} h g z f room e m t = r
       places-size = length-set (state .places) at (Machine.waits (suc (state .given)) (meant p) 0) ∙ holds .places-size;
       places = seated-places d memory (put memory (at * problem-most) p) state at c _ (holds .arrays .places-size) (holds .places-size) (room .inside) (others state holds) (new state holds);
     }
-
--- Its ticket.
-pub entered-given : {d r : Desk} {at : ℕ} {p : List ℕ} {b : Begun} → Entered d at p b r → r .given ≡ d .given + 1
-entered-given e = ap (λ (z : Desk). z .given) (e .desk-is)

@@ -6,10 +6,10 @@ use lib.ListN.{length}
 use Rattle.definitions.specs.Limits.{desk-places, desk-memory, problem-most, refused-memory}
 use Rattle.definitions.specs.Bytes.{put}
 use Rattle.definitions.specs.Offset.{tropOf}
-use Rattle.definitions.specs.ProblemRecord.{meant, mField}
+use Rattle.definitions.specs.ProblemRecord.{meant, nField, mField}
 use Rattle.definitions.specs.Desk as Machine
 use Rattle.definitions.specs.Desk.{FromOpening, TakesIn, Steps, Collects}
-use Rattle.least_span.specs.State.{blankSearch}
+use Rattle.engine.specs.OneTrial.{fresh}
 use Rattle.desk.specs.declared.state.Desk.{Desk}
 use Rattle.desk.specs.declared.calls.TakenIn.{TakenIn}
 use Rattle.desk.specs.declared.calls.TakenIn.the-variants as Takings
@@ -61,9 +61,9 @@ pub record NextTaken (d : Desk) (memory p : List ℕ) (r : TakenIn) (d′ : Desk
   pub takes : TakesIn (length memory) state p (takenOf r) next
   pub holds : Holds d′ memory′ next
 
--- The place of a problem that was taken in has its size, and a search that knows nothing yet.
+-- The place of a problem that was taken in has its size, and no trial and no look of it is made.
 abbrev pub SearchBegun : List ℕ → ℕ → Desk → Type 0
-SearchBegun p at d = (placeIn d at .size ≡ length p) × (placeIn d at .search ≡ blankSearch (mField (meant p) + 1))
+SearchBegun p at d = (placeIn d at .size ≡ length p) × (placeIn d at .pending ≡ fresh (nField (meant p)) (mField (meant p)))
 
 -- A problem that got a ticket is put into the memory at the first free place, its search begun; every other byte and every other place stays.
 pub record TakenAt (d : Desk) (memory p : List ℕ) (d′ : Desk) (memory′ : List ℕ) : Type 0 where

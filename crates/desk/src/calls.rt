@@ -6,8 +6,8 @@ ghost use Rattle.definitions.specs.Limits.{problem-most};
 ghost use Rattle.definitions.specs.Bytes.{put};
 ghost use Rattle.definitions.specs.ProblemRecord.{meant};
 ghost use Rattle.definitions.specs.Questions.{part};
-ghost use Rattle.engine.specs.OneTrial.{PursuedFor, TrialFor};
-ghost use Rattle.desk.specs.State.{bytesAt, blankPlace, NewPlace, Entered, Room, Tryable, Tried};
+ghost use Rattle.engine.specs.OneTrial.{PendingFor, TrialFor};
+ghost use Rattle.desk.specs.State.{bytesAt, blankPlace, entered, Room, Tryable, Tried};
 ghost use Rattle.desk.specs.declared.calls.TakenIn.the-variants as TakenIn;
 ghost use Rattle.desk.specs.Calls.{AsLeft, OpenedBy, TookIn, DidStep, DidCollect};
 use crate::limits::LAST_TICKET;
@@ -24,16 +24,13 @@ use crate::state::joined;
 use crate::state::left_line;
 use crate::state::place_of;
 use crate::state::seated;
-use engine::one_trial::Begun;
+use engine::one_trial::Pending;
 use engine::one_trial::begin;
+use engine::one_trial::hand_over;
+use engine::one_trial::not_tried;
 use engine::one_trial::one_trial;
-use engine::solve::write_found;
-use least_span::state::Search;
-use least_span::state::opened;
 use records::limits::ANSWER_MOST;
 use records::limits::REFUSED_ROOM;
-use search_steps::steps::Trial;
-use search_steps::steps::no_answer;
 
 // What taking in answers: refused with the number, or the ticket.
 pub enum TakenIn {
@@ -91,16 +88,11 @@ fn refused_in(desk: Desk, number: usize) -> Taking
 fn no_place() -> Place
     ensures { λ r. ⌜ r ≡ blankPlace ⌝ }
 {
-    let search = opened(1);
-    let answer = no_answer();
+    let pending = not_tried(0, 0);
     Place {
         ticket: 0,
         size: 0,
-        n: 0,
-        m: 0,
-        closed: false,
-        search,
-        answer,
+        pending,
     }
 }
 
@@ -133,31 +125,18 @@ fn keep(memory: &mut [u8], from: usize, problem: &[u8])
     }
 }
 
-// The place of a problem that was begun.
-fn new_place(ticket: u64, size: usize, begun: Begun) -> Place
-    ensures { λ r. ⌜ NewPlace ticket size begun r ⌝ }
-{
-    let search = begun.search;
-    let answer = no_answer();
-    Place {
-        ticket,
-        size,
-        n: begun.n,
-        m: begun.m,
-        closed: false,
-        search,
-        answer,
-    }
-}
-
 // A problem that was begun gets the next ticket, a place, and the end of the line.
-fn enter(memory: &mut [u8], desk: Desk, at: usize, problem: &[u8], begun: Begun) -> Desk
+fn enter(memory: &mut [u8], desk: Desk, at: usize, problem: &[u8], pending: Pending) -> Desk
     requires { ⌜ Room desk at (now problem) (now memory) ⌝ }
-    ensures { λ r. ⌜ Entered desk at (now (problem .entry)) begun r × (now (memory .exit) ≡ put (now (memory .entry)) (at * problem-most) (now (problem .entry))) ⌝ }
+    ensures { λ r. ⌜ (r ≡ entered desk at (now (problem .entry)) pending) × (now (memory .exit) ≡ put (now (memory .entry)) (at * problem-most) (now (problem .entry))) ⌝ }
 {
     keep(memory, at * PROBLEM_MOST, problem);
     let ticket = desk.given + 1;
-    let place = new_place(ticket, problem.len(), begun);
+    let place = Place {
+        ticket,
+        size: problem.len(),
+        pending,
+    };
     let mut next = joined(seated(desk, at, place), at);
     next.given = ticket;
     next
@@ -182,40 +161,33 @@ pub fn take_in(memory: &mut [u8], desk: Desk, problem: &[u8]) -> Taking
     if desk.given == LAST_TICKET {
         return refused_in(desk, REFUSED_FULL);
     }
-    let next = enter(memory, desk, at, problem, begun);
+    let next = enter(memory, desk, at, problem, begun.pending);
     Taking {
         outcome: TakenIn::Ticket(next.given),
         desk: next,
     }
 }
 
-// The next trial of the search of the problem in a part of the memory.
-fn trial_at(memory: &[u8], from: usize, to: usize, search: Search) -> Trial
-    requires { ⌜ (from ≤ to) × (to ≤ length (now memory)) × PursuedFor (meant (part (now memory) from (to - from))) search ⌝ }
-    ensures { λ r. ⌜ TrialFor (meant (part (now (memory .entry)) from (to - from))) search r ⌝ }
+// The next trial of the problem in a part of the memory.
+fn trial_at(memory: &[u8], from: usize, to: usize, pending: Pending) -> Pending
+    requires { ⌜ (from ≤ to) × (to ≤ length (now memory)) × PendingFor (meant (part (now memory) from (to - from))) pending ⌝ }
+    ensures { λ r. ⌜ TrialFor (meant (part (now (memory .entry)) from (to - from))) pending r ⌝ }
 {
-    one_trial(&memory[from..to], search)
+    one_trial(&memory[from..to], pending)
 }
 
-// The place after the next trial of its search.
+// The place after the next trial of its problem.
 fn tried(memory: &[u8], at: usize, place: Place) -> Place
     requires { ⌜ Tryable (now memory) at place ⌝ }
     ensures { λ r. ⌜ Tried (bytesAt (now (memory .entry)) at (place .size)) place r ⌝ }
 {
     let from = at * PROBLEM_MOST;
     let to = from + place.size;
-    let search = place.search;
-    let trial = trial_at(memory, from, to, search);
-    let next = trial.search;
-    let answer = trial.answer;
+    let pending = trial_at(memory, from, to, place.pending);
     Place {
         ticket: place.ticket,
         size: place.size,
-        n: place.n,
-        m: place.m,
-        closed: trial.closed,
-        search: next,
-        answer,
+        pending,
     }
 }
 
@@ -240,15 +212,16 @@ pub fn step(memory: &[u8], desk: Desk) -> Stepping
     let at = desk.line[head];
     let place = tried(memory, at, desk.places[at]);
     let next = left_line(seated(desk, at, place));
-    if place.closed {
+    let after = place.pending;
+    if after.class == 0 {
         return Stepping {
-            outcome: Stepped::Done(place.ticket),
-            desk: next,
+            outcome: Stepped::GoesOn(place.ticket),
+            desk: joined(next, at),
         };
     }
     Stepping {
-        outcome: Stepped::GoesOn(place.ticket),
-        desk: joined(next, at),
+        outcome: Stepped::Done(place.ticket),
+        desk: next,
     }
 }
 
@@ -271,7 +244,8 @@ pub fn collect(memory: &[u8], desk: Desk, ticket: u64, buffer: &mut [u8]) -> Col
         };
     }
     let place = desk.places[at];
-    if !place.closed {
+    let pending = place.pending;
+    if pending.class == 0 {
         return Collecting {
             outcome: Collected::StillWaits,
             desk,
@@ -283,11 +257,10 @@ pub fn collect(memory: &[u8], desk: Desk, ticket: u64, buffer: &mut [u8]) -> Col
             desk,
         };
     }
-    let answer = place.answer;
-    let size = write_found(answer, place.n, place.m, buffer);
+    let handed = hand_over(pending, buffer);
     let free = no_place();
     Collecting {
-        outcome: Collected::Handed(answer.class, answer.span, answer.trials, size),
+        outcome: Collected::Handed(handed.class, handed.span, handed.trials, handed.size),
         desk: seated(desk, at, free),
     }
 }

@@ -4,19 +4,14 @@ ghost use Prim.Native.Nat.{_<_};
 ghost use Rattle.definitions.specs.Limits.{desk-places};
 ghost use Rattle.desk.specs.State.{Arrays, seatedAt, joinedBy, headGone, FirstFree, HoldsTicket};
 use crate::limits::PLACES;
-use class_answers::answer::Answer;
-use least_span::state::Search;
+use engine::one_trial::Pending;
 
-// A place: its ticket, 0 where it is empty; the size of its problem in the lent memory, its n and m; whether it is answered; its
-// search, and its answer.
+// A place: its ticket, 0 where it is empty; the size of its problem in the lent memory; the problem under way, whose class is 0 until it
+// is answered.
 pub struct Place {
     pub ticket: u64,
     pub size: usize,
-    pub n: usize,
-    pub m: usize,
-    pub closed: bool,
-    pub search: Search,
-    pub answer: Answer,
+    pub pending: Pending,
 }
 
 // The last ticket given out; the line, which starts at `head` of a ring of places and has `waiting` of them; the places.

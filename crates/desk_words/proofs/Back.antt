@@ -1,12 +1,10 @@
 -- A desk that was stored as words reads back as itself.
 use Prim.Native.Nat.{ℕ, zero, suc, _+_, _*_, _≤_, _<_}
 use mathlib.Core.Path.{_≡_, refl, sym, ap, ap₂, subst, _∙_}
-use mathlib.Core.Bool.{Bool, true, false, cond}
 use mathlib.Core.Logic.{_⊎_, ⊎-elim}
 use mathlib.Core.List.{List, [], _∷_, _++_, append-assoc, append-nil}
 use native.Mathlib.Omega.{arith}
 use native.Mathlib.Numerals.{add-one}
-use lib.Dec.{eqb}
 use lib.ListN.{length, getD, set, take, length-set, length-append, List·getD-append, length-replicate}
 use lib.Seq.{ext-getD, getD-append-add, getD-set-same, getD-set-other, take-length}
 use Rattle.base.proofs.Numbers.{nat-le-or-lt}
@@ -15,13 +13,11 @@ use Rattle.definitions.specs.Bytes.{put}
 use Rattle.definitions.specs.Questions.{part}
 use Rattle.definitions.proofs.Put.{put-nil, put-put, length-put}
 use Rattle.definitions.proofs.Questions.{part-length, part-at}
-use Rattle.least_span.specs.declared.state.Search.{Search}
-use Rattle.class_answers.specs.declared.answer.Answer.{Answer}
 use Rattle.desk.specs.declared.state.Place.{Place}
 use Rattle.desk.specs.declared.state.Desk.{Desk}
 use Rattle.desk.specs.State.{noPlace}
 use Rattle.desk.proofs.Kept.{put-in-at}
-use Rattle.desk_words.specs.Words.{desk-words, headWords, searchWords, answerWords, placeWords, placeFrom, SearchSized, AnswerSized, Sized, PutAt, placesWords, placesFrom, PlacesPut, deskWords, deskFrom, toldIn, DeskPut}
+use Rattle.desk_words.specs.Words.{desk-words, headWords, placeWords, placeFrom, Sized, PutAt, placesWords, placesFrom, PlacesPut, deskWords, deskFrom, toldIn, DeskPut}
 
 -- ---- runs
 
@@ -61,40 +57,28 @@ run-part v at n vs r e =
 
 -- ---- a place
 
-bit-back : (b : Bool) → eqb (cond b 1 0) 1 ≡ b
-bit-back true = refl
-bit-back false = refl
-
-search-length : {s : Search} → SearchSized s → length (searchWords s) ≡ 96
-search-length {s} z = omega (arith, length-append (s .point) (s .kept ++ s .blocking), length-append (s .kept) (s .blocking), z .point, z .kept, z .blocking)
-
-answer-length : {a : Answer} → AnswerSized a → length (answerWords a) ≡ 96
-answer-length {a} z = omega (arith, length-append (a .stamps) (a .picks), z .stamps, z .picks)
-
 module _ {p : Place} (s : Sized p) where
-  -- It has 208 words,
-  pub place-length : length (placeWords p) ≡ 208
-  place-length =
-      length-append (headWords p) (searchWords (p .search) ++ answerWords (p .answer))
-      ∙ omega (arith, length-append (searchWords (p .search)) (answerWords (p .answer)), search-length (s .search), answer-length (s .answer))
+  -- It has 42 words,
+  pub place-length : length (placeWords p) ≡ 42
+  place-length = length-append (headWords p) (p .pending .cells) ∙ omega (arith, s .cells)
 
   -- and reads back.
   place-back : (v : List ℕ) (at : ℕ) → RunAt v at (placeWords p) → placeFrom v at ≡ p
   place-back v at r =
-      let r1 = run-rest (headWords p) (searchWords (p .search) ++ answerWords (p .answer)) (at + 16) r refl in
-      let q1 = run-first (searchWords (p .search)) (answerWords (p .answer)) r1 in
-      let q2 = run-rest (p .search .point) (p .search .kept ++ p .search .blocking) (at + 48) q1 (omega (arith, s .search .point)) in
-      let q3 = run-rest (p .search .kept) (p .search .blocking) (at + 80) q2 (omega (arith, s .search .kept)) in
-      let r2 = run-rest (searchWords (p .search)) (answerWords (p .answer)) (at + 112) r1 (omega (arith, search-length (s .search))) in
-      let r3 = run-rest (p .answer .stamps) (p .answer .picks) (at + 144) r2 (omega (arith, s .answer .stamps)) in
+      let h = run-first (headWords p) (p .pending .cells) r in
+      let e : at ≡ at + 0 = omega arith in
       rw (
-        run-part v at 16 (headWords p) (run-first (headWords p) _ r) refl,
-        run-part v (at + 16) 32 (p .search .point) (run-first (p .search .point) _ q1) (s .search .point),
-        run-part v (at + 48) 32 (p .search .kept) (run-first (p .search .kept) _ q2) (s .search .kept),
-        run-part v (at + 80) 32 (p .search .blocking) q3 (s .search .blocking),
-        run-part v (at + 112) 32 (p .answer .stamps) (run-first (p .answer .stamps) _ r2) (s .answer .stamps),
-        run-part v (at + 144) 64 (p .answer .picks) r3 (s .answer .picks),
-        bit-back (p .closed),
+        ap (λ (z : ℕ). getD v z 0) e ∙ h .each 0 (omega arith),
+        h .each 1 (omega arith),
+        h .each 2 (omega arith),
+        h .each 3 (omega arith),
+        h .each 4 (omega arith),
+        h .each 5 (omega arith),
+        h .each 6 (omega arith),
+        h .each 7 (omega arith),
+        h .each 8 (omega arith),
+        h .each 9 (omega arith),
+        run-part v (at + 10) 32 (p .pending .cells) (run-rest (headWords p) (p .pending .cells) (at + 10) r refl) (s .cells),
       ) refl
 
 -- Runs put one after another.
@@ -104,35 +88,9 @@ put-two {l} {x} {y} {at} {n} a b h e p q = record {
   is = q .is ∙ ap (λ (z : List ℕ). put z n b) (p .is) ∙ put-put l at a n b (omega arith) e;
 }
 
-pub put-three : {l x y w : List ℕ} {at n m : ℕ} (a b c : List ℕ) → at + length a ≤ length l → n ≡ at + length a → n + length b ≤ length l → m ≡ n + length b → PutAt l at a x → PutAt x n b y
-    → PutAt y m c w → PutAt l at (a ++ (b ++ c)) w
-put-three {l} {x} {y} {w} {at} {n} {m} a b c h e g f p q r = put-two a (b ++ c) h e p (put-two b c (omega (arith, p .same)) f q r)
-
--- Numbers, search and answer put one after another are the place.
-pub place-put : {l x y w : List ℕ} {at : ℕ} (p : Place) → at + 208 ≤ length l → PutAt l at (headWords p) x → PutAt x (at + 16) (searchWords (p .search)) y × SearchSized (p .search)
-    → PutAt y (at + 112) (answerWords (p .answer)) w × AnswerSized (p .answer) → PutAt l at (placeWords p) w × Sized p
-place-put p h a b c = (
-  put-three (headWords p) (searchWords (p .search)) (answerWords (p .answer)) (omega arith) refl (omega (arith, search-length (b .1))) (omega (arith, search-length (b .1))) a (b .0) (c .0),
-  record { search = b .1; answer = c .1 },
-)
-
--- A place of its runs.
-pub place-read : (words : List ℕ) (at : ℕ) {head point kept blocking stamps picks : List ℕ} → head ≡ part words at 16 → point ≡ part words (at + 16) 32 → kept ≡ part words (at + 48) 32
-    → blocking ≡ part words (at + 80) 32 → stamps ≡ part words (at + 112) 32 → picks ≡ part words (at + 144) 64
-    → _≡_ {A = Place} (record {
-      ticket = getD head 0 0;
-      size = getD head 1 0;
-      n = getD head 2 0;
-      m = getD head 3 0;
-      closed = eqb (getD head 4 0) 1;
-      search = record { reached = getD head 5 0; blocked = getD head 6 0; floor = getD head 7 0; made = getD head 8 0; room = getD head 9 0; point = point; kept = kept; blocking = blocking; start = getD head 10 0 };
-      answer = record { class = getD head 11 0; span = getD head 12 0; start = getD head 13 0; trials = getD head 14 0; made = getD head 15 0; stamps = stamps; picks = picks };
-    }) (placeFrom words at)
-place-read words at e1 e2 e3 e4 e5 e6 = rw (e1, e2, e3, e4, e5, e6) refl
-
 -- ---- the places
 
-places-length : (places : List Place) → ((k : ℕ) → k < length places → Sized (getD places k noPlace)) → length (placesWords places) ≡ 208 * length places
+places-length : (places : List Place) → ((k : ℕ) → k < length places → Sized (getD places k noPlace)) → length (placesWords places) ≡ 42 * length places
 unfolding placesWords
 places-length [] s = refl
 places-length (p ∷ places) s =
@@ -144,7 +102,7 @@ unfolding placesWords placesFrom
 places-back v [] at s r = refl
 places-back v (p ∷ places) at s r = ap₂ (λ (a : Place) (b : List Place). a ∷ b)
     (place-back (s 0 (omega arith)) v at (run-first (placeWords p) (placesWords places) r))
-    (places-back v places (at + 208) (λ k h. s (suc k) (omega arith)) (run-rest (placeWords p) (placesWords places) (at + 208) r (omega (arith, place-length (s 0 (omega arith))))))
+    (places-back v places (at + 42) (λ k h. s (suc k) (omega arith)) (run-rest (placeWords p) (placesWords places) (at + 42) r (omega (arith, place-length (s 0 (omega arith))))))
 
 -- One place more.
 places-next : (places : List Place) (i : ℕ) → i < length places → placesWords (take (suc i) places) ≡ placesWords (take i places) ++ placeWords (getD places i noPlace)
@@ -153,7 +111,7 @@ places-next [] i h = absurd (omega arith)
 places-next (p ∷ places) zero h = append-nil (placeWords p)
 places-next (p ∷ places) (suc i) h = ap (λ (z : List ℕ). placeWords p ++ z) (places-next places i (omega arith)) ∙ sym (append-assoc (placeWords p) (placesWords (take i places)) (placeWords (getD places i noPlace)))
 
-places-some : (places : List Place) (i : ℕ) → i ≤ length places → ((k : ℕ) → k < i → Sized (getD places k noPlace)) → length (placesWords (take i places)) ≡ i * 208
+places-some : (places : List Place) (i : ℕ) → i ≤ length places → ((k : ℕ) → k < i → Sized (getD places k noPlace)) → length (placesWords (take i places)) ≡ i * 42
 unfolding placesWords
 places-some places zero h s = refl
 places-some [] (suc i) h s = absurd (omega arith)
@@ -165,7 +123,7 @@ unfolding placesWords
 places-none before places = record { inside = omega arith; same = refl; sized = λ k h. absurd (omega arith); is = sym (put-nil before 20) }
 
 pub places-more : {before after after′ : List ℕ} {places : List Place} {i : ℕ} → desk-words ≤ length before → length places ≡ 16 → PlacesPut before places i after → i < 16
-    → PutAt after (20 + i * 208) (placeWords (getD places i noPlace)) after′ → Sized (getD places i noPlace) → PlacesPut before places (i + 1) after′
+    → PutAt after (20 + i * 42) (placeWords (getD places i noPlace)) after′ → Sized (getD places i noPlace) → PlacesPut before places (i + 1) after′
 places-more {before} {after} {after′} {places} {i} h e p b l s = record {
   inside = omega arith;
   same = l .same ∙ p .same;
@@ -175,8 +133,8 @@ places-more {before} {after} {after′} {places} {i} h e p b l s = record {
       (nat-le-or-lt i k);
   is =
       let long = places-some places i (omega arith) (p .sized) in
-      l .is ∙ ap (λ (z : List ℕ). put z (20 + i * 208) (placeWords (getD places i noPlace))) (p .is)
-      ∙ put-put before 20 (placesWords (take i places)) (20 + i * 208) (placeWords (getD places i noPlace)) (omega arith) (omega arith)
+      l .is ∙ ap (λ (z : List ℕ). put z (20 + i * 42) (placeWords (getD places i noPlace))) (p .is)
+      ∙ put-put before 20 (placesWords (take i places)) (20 + i * 42) (placeWords (getD places i noPlace)) (omega arith) (omega arith)
       ∙ ap (λ (z : List ℕ). put before 20 z) (sym (places-next places i (omega arith)) ∙ ap (λ (k : ℕ). placesWords (take k places)) (sym (add-one i)));
 }
 
@@ -188,19 +146,19 @@ places-end {before} {after} {places} {i} p h = let e : i ≡ 16 = omega (arith, 
 pub record PlacesRead (words : List ℕ) (i : ℕ) (out : List Place) : Type 0 where
   pub inside : i ≤ 16
   pub size : length out ≡ 16
-  pub each : (k : ℕ) → k < i → getD out k noPlace ≡ placeFrom words (20 + k * 208)
+  pub each : (k : ℕ) → k < i → getD out k noPlace ≡ placeFrom words (20 + k * 42)
 
 pub read-none : (words : List ℕ) (out : List Place) → length out ≡ 16 → PlacesRead words 0 out
 read-none words out e = record { inside = omega arith; size = e; each = λ k h. absurd (omega arith) }
 
-pub read-more : {words : List ℕ} {i : ℕ} {out : List Place} {p : Place} → PlacesRead words i out → i < 16 → p ≡ placeFrom words (20 + i * 208) → PlacesRead words (i + 1) (set out i p)
+pub read-more : {words : List ℕ} {i : ℕ} {out : List Place} {p : Place} → PlacesRead words i out → i < 16 → p ≡ placeFrom words (20 + i * 42) → PlacesRead words (i + 1) (set out i p)
 read-more {words} {i} {out} {p} r h e = record {
   inside = omega arith;
   size = length-set out i p ∙ r .size;
   each = λ k b. ⊎-elim
       (λ (g : i ≤ k).
       let z : k ≡ i = omega arith in
-      subst (λ (j : ℕ). getD (set out i p) j noPlace ≡ placeFrom words (20 + j * 208)) (sym z) (getD-set-same out i p noPlace (omega (arith, r .size)) ∙ e))
+      subst (λ (j : ℕ). getD (set out i p) j noPlace ≡ placeFrom words (20 + j * 42)) (sym z) (getD-set-same out i p noPlace (omega (arith, r .size)) ∙ e))
       (λ (g : k < i). getD-set-other out i k p noPlace (λ z. omega arith) ∙ r .each k g)
       (nat-le-or-lt i k);
 }
@@ -208,15 +166,15 @@ read-more {words} {i} {out} {p} r h e = record {
 from-length : (words : List ℕ) (at n : ℕ) → length (placesFrom words at n) ≡ n
 unfolding placesFrom
 from-length words at zero = refl
-from-length words at (suc n) = ap suc (from-length words (at + 208) n)
+from-length words at (suc n) = ap suc (from-length words (at + 42) n)
 
-from-at : (words : List ℕ) (at n k : ℕ) → k < n → getD (placesFrom words at n) k noPlace ≡ placeFrom words (at + k * 208)
+from-at : (words : List ℕ) (at n k : ℕ) → k < n → getD (placesFrom words at n) k noPlace ≡ placeFrom words (at + k * 42)
 unfolding placesFrom
 from-at words at zero k h = absurd (omega arith)
-from-at words at (suc n) zero h = let e : at ≡ at + 0 * 208 = omega arith in ap (λ (z : ℕ). placeFrom words z) e
+from-at words at (suc n) zero h = let e : at ≡ at + 0 * 42 = omega arith in ap (λ (z : ℕ). placeFrom words z) e
 from-at words at (suc n) (suc k) h =
-    let e : at + 208 + k * 208 ≡ at + suc k * 208 = omega arith in
-    from-at words (at + 208) n k (omega arith) ∙ ap (λ (z : ℕ). placeFrom words z) e
+    let e : at + 42 + k * 42 ≡ at + suc k * 42 = omega arith in
+    from-at words (at + 42) n k (omega arith) ∙ ap (λ (z : ℕ). placeFrom words z) e
 
 pub read-end : {words : List ℕ} {i : ℕ} {out : List Place} → PlacesRead words i out → 16 ≤ i → out ≡ placesFrom words 20 16
 read-end {words} {i} {out} r h =
@@ -234,7 +192,7 @@ desk-put d told before one two after h l m e f p = record { same = p .same ∙ f
     sized : (k : ℕ) → k < length (d .places) → Sized (getD (d .places) k noPlace)
     sized k b = p .sized k (omega arith)
 
-    long : length (placesWords (d .places)) ≡ 3328
+    long : length (placesWords (d .places)) ≡ 672
     long = places-length (d .places) sized ∙ omega arith
 
     whole : after ≡ put before 0 (deskWords d told)

@@ -194,6 +194,10 @@ looked-underway {p = p} {q = q} g k = ⊎-elim
       wide = u .wide;
     }
 
+-- Its class is open.
+pub pending-open : {s : List ℕ} {p : Pending} → PendingFor s p → p .class ≡ 0
+pending-open g = g .underway .class-is
+
 -- ---- one trial
 
 -- A problem that goes on asks for more trials.

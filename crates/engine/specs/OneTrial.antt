@@ -35,6 +35,10 @@ searchOf p = record { made = p .made; low = p .low; high = p .high; class = p .c
 abbrev pub lookOf : Pending → Look
 lookOf p = record { start = p .start; second = p .second; picks = p .cells }
 
+-- Its span, as an offset number.
+abbrev pub spanIn : Pending → ℕ
+spanIn p = spanOf (searchOf p)
+
 -- The problem with its search moved on.
 abbrev pub searchedTo : Pending → Search → Pending
 searchedTo p s = record { n = p .n; m = p .m; made = s .made; class = s .class; low = s .low; high = s .high; start = p .start; second = p .second; cells = p .cells }

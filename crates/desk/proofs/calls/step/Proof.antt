@@ -1,4 +1,4 @@
-use mathlib.Core.Path.{refl, sym, ap, _∙_}
+use mathlib.Core.Path.{refl, ap, _∙_}
 use native.Mathlib.Omega.{arith}
 use Rattle.desk.specs.State.{headGone}
 use Rattle.desk.proofs.Steps.{step-short, step-idle, head-of, did-done, did-on, seated-arrays, gone-few}
@@ -19,6 +19,6 @@ step-spec =
     (λ c κs. let h = head-of (omega (arith, c .before .before .before .if1 .left)) (c .before .before .if2 .left) (c .before .before .before .before .before .pre (omega (arith, c .before .before .before .if1 .left))) in h .tryable)
     (λ c κs. let h = head-of (omega (arith, c .before .before .before .before .if1 .left)) (c .before .before .before .if2 .left) (c .before .before .before .before .before .before .pre (omega (arith, c .before .before .before .before .if1 .left))) in (h .arrays, h .inside))
     (λ c κs. let h = head-of (omega (arith, c .before .before .before .before .before .if1 .left)) (c .before .before .before .before .if2 .left) (c .before .before .before .before .before .before .before .pre (omega (arith, c .before .before .before .before .before .if1 .left))) in rw (c .seated .ensures) (seated-arrays _ _ _ (h .arrays), omega (arith, c .before .before .before .before .if2 .left)))
-    (λ c. did-done _ _ _ (omega (arith, c .before .before .before .before .before .before .before .if1 .left)) (c .before .before .before .before .before .before .if2 .left) (c .before .before .before .tried .ensures) (head-of (omega (arith, c .before .before .before .before .before .before .before .if1 .left)) (c .before .before .before .before .before .before .if2 .left) (c .before .before .before .before .before .before .before .before .before .pre (omega (arith, c .before .before .before .before .before .before .before .if1 .left)))) (c .before .left-line .ensures ∙ ap headGone (c .before .before .seated .ensures)) refl (c .if3 .taken))
-    (λ c κs. let h = head-of (omega (arith, c .before .before .before .before .before .before .before .if1 .left)) (c .before .before .before .before .before .before .if2 .left) (c .before .before .before .before .before .before .before .before .before .pre (omega (arith, c .before .before .before .before .before .before .before .if1 .left))) in rw (c .before .left-line .ensures, c .before .before .seated .ensures) (gone-few _ _ _ (h .arrays) (c .before .before .before .before .before .before .if2 .left)))
-    (λ c. did-on _ _ _ (omega (arith, c .before .before .before .before .before .before .before .before .if1 .left)) (c .before .before .before .before .before .before .before .if2 .left) (c .before .before .before .before .tried .ensures) (head-of (omega (arith, c .before .before .before .before .before .before .before .before .if1 .left)) (c .before .before .before .before .before .before .before .if2 .left) (c .before .before .before .before .before .before .before .before .before .before .pre (omega (arith, c .before .before .before .before .before .before .before .before .if1 .left)))) (c .before .before .before .seated .ensures) (c .before .before .left-line .ensures) (c .joined .ensures) refl (c .before .if3 .left)))
+    (λ c κs. let h = head-of (omega (arith, c .before .before .before .before .before .before .before .before .before .if1 .left)) (c .before .before .before .before .before .before .before .before .if2 .left) (c .before .before .before .before .before .before .before .before .before .before .before .pre (omega (arith, c .before .before .before .before .before .before .before .before .before .if1 .left))) in rw (c .before .before .before .left-line .ensures, c .before .before .before .before .seated .ensures) (gone-few _ _ _ (h .arrays) (c .before .before .before .before .before .before .before .before .if2 .left)))
+    (λ c. did-on _ _ _ (omega (arith, c .before .before .before .before .before .before .before .before .before .before .if1 .left)) (c .before .before .before .before .before .before .before .before .before .if2 .left) (c .before .before .before .before .before .before .tried .ensures) (head-of (omega (arith, c .before .before .before .before .before .before .before .before .before .before .if1 .left)) (c .before .before .before .before .before .before .before .before .before .if2 .left) (c .before .before .before .before .before .before .before .before .before .before .before .before .pre (omega (arith, c .before .before .before .before .before .before .before .before .before .before .if1 .left)))) (c .before .before .before .before .before .seated .ensures) (c .before .before .before .before .left-line .ensures) (c .joined .ensures) refl (c .before .if3 .taken))
+    (λ c. did-done _ _ _ (omega (arith, c .before .before .before .before .before .before .before .before .before .if1 .left)) (c .before .before .before .before .before .before .before .before .if2 .left) (c .before .before .before .before .before .tried .ensures) (head-of (omega (arith, c .before .before .before .before .before .before .before .before .before .if1 .left)) (c .before .before .before .before .before .before .before .before .if2 .left) (c .before .before .before .before .before .before .before .before .before .before .before .pre (omega (arith, c .before .before .before .before .before .before .before .before .before .if1 .left)))) (c .before .before .before .left-line .ensures ∙ ap headGone (c .before .before .before .before .seated .ensures)) refl (c .if3 .left)))

@@ -1,6 +1,5 @@
-use mathlib.Core.Path.{refl, sym, ap, _∙_}
 use native.Mathlib.Omega.{arith}
-use Rattle.desk.proofs.Taking.{took-short, took-refused, took-full, took-last, room-for, took-in, entered-given}
+use Rattle.desk.proofs.Taking.{took-short, took-refused, took-full, took-last, room-for, took-in}
 use borrow.Author.Needs.{needs}
 use Rattle.desk.proofs.calls.take_in.Statement.{statement}
 use Rattle.desk.proofs.calls.take_in.Tie as tie
@@ -21,4 +20,4 @@ take-in-spec =
     (λ c. rw (c .refused-in4 .ensures) (took-last (omega (arith, c .before .before .before .before .before .before .before .before .if1 .left)) (omega (arith, c .before .before .before .before .before .before .before .begin .ensures .refused-is, c .before .before .before .before .before .if2 .left)) (c .before .before .before .before .first-free .ensures) (c .before .before .before .if3 .left) (c .before .if4 .taken)))
     (λ c κs. room-for (omega (arith, c .before .before .before .before .before .before .before .before .if1 .left)) (omega (arith, c .before .before .before .before .before .before .before .begin .ensures .refused-is, c .before .before .before .before .before .if2 .left)) (c .before .before .before .before .first-free .ensures) (c .before .before .before .if3 .left) (c .before .if4 .left) (omega arith) (c .before .before .before .before .before .before .before .before .before .before .before .pre (omega (arith, c .before .before .before .before .before .before .before .before .if1 .left))))
     (λ c. search needs)
-    (λ c. took-in (omega (arith, c .before .before .before .before .before .before .before .before .before .before .before .if1 .left)) (c .before .before .before .before .before .before .before .before .before .before .begin .ensures) (c .before .before .before .before .before .before .before .before .if2 .left) (c .before .before .before .before .before .before .before .first-free .ensures) (room-for (omega (arith, c .before .before .before .before .before .before .before .before .before .before .before .if1 .left)) (omega (arith, c .before .before .before .before .before .before .before .before .before .before .begin .ensures .refused-is, c .before .before .before .before .before .before .before .before .if2 .left)) (c .before .before .before .before .before .before .before .first-free .ensures) (c .before .before .before .before .before .before .if3 .left) (c .before .before .before .before .if4 .left) (omega arith) (c .before .before .before .before .before .before .before .before .before .before .before .before .before .before .pre (omega (arith, c .before .before .before .before .before .before .before .before .before .before .before .if1 .left)))) (c .before .before .enter .ensures .0) (c .before .before .enter .ensures .1) (entered-given (c .before .before .enter .ensures .0))))
+    (λ c. took-in (omega (arith, c .before .before .before .before .before .before .before .before .before .before .before .if1 .left)) (c .before .before .before .before .before .before .before .before .before .before .begin .ensures) (c .before .before .before .before .before .before .before .before .if2 .left) (c .before .before .before .before .before .before .before .first-free .ensures) (room-for (omega (arith, c .before .before .before .before .before .before .before .before .before .before .before .if1 .left)) (omega (arith, c .before .before .before .before .before .before .before .before .before .before .begin .ensures .refused-is, c .before .before .before .before .before .before .before .before .if2 .left)) (c .before .before .before .before .before .before .before .first-free .ensures) (c .before .before .before .before .before .before .if3 .left) (c .before .before .before .before .if4 .left) (omega arith) (c .before .before .before .before .before .before .before .before .before .before .before .before .before .before .pre (omega (arith, c .before .before .before .before .before .before .before .before .before .before .before .if1 .left)))) (c .before .before .enter .ensures .0) (c .before .before .enter .ensures .1)))

@@ -12,5 +12,5 @@ tried-spec =
     (tie.spec
     (λ c. search needs)
     (λ c. search needs)
-    (λ c κs. let a = c .before .before .before .args in let p = c .before .before .before .pre in (omega arith, omega (arith, p .inside, p .size-most, p .memory-enough), rw (part-end (a .memory .now) (a .at * 16394) (a .place .size)) (p .pursued)))
-    (λ c. let a = c .before .before .before .before .before .before .args in record { ticket-is = refl; size-is = refl; n-is = refl; m-is = refl; trial = trial-part (a .memory .now) (a .at * 16394) (a .place .size) (c .before .before .trial-at .ensures) }))
+    (λ c κs. let a = c .before .before .args in let p = c .before .before .pre in (omega arith, omega (arith, p .inside, p .size-most, p .memory-enough), rw (part-end (a .memory .now) (a .at * 16394) (a .place .size)) (p .pending)))
+    (λ c. let a = c .before .before .before .args in record { ticket-is = refl; size-is = refl; trial = trial-part (a .memory .now) (a .at * 16394) (a .place .size) (c .trial-at .ensures) }))

@@ -1,5 +1,5 @@
+use mathlib.Core.Path.{refl}
 use borrow.Author.Needs.{needs}
-use Rattle.desk_words.proofs.Back.{place-read}
 use Rattle.desk_words.proofs.stored.load_place.Statement.{statement}
 use Rattle.desk_words.proofs.stored.load_place.Tie as tie
 
@@ -7,15 +7,6 @@ pub load-place-spec : {M : Type 1} → statement M
 load-place-spec =
     tie.close
     (tie.spec
-    (λ c κs. search needs)
-    (λ c. search needs)
-    (λ c κs. search needs)
-    (λ c. search needs)
-    (λ c κs. search needs)
-    (λ c. search needs)
-    (λ c κs. search needs)
-    (λ c. search needs)
-    (λ c κs. search needs)
     (λ c. search needs)
     (λ c κs. search needs)
     (λ c. search needs)
@@ -34,4 +25,17 @@ load-place-spec =
     (λ c. search needs)
     (λ c. search needs)
     (λ c. search needs)
-    (λ c. let a = c .before .before .before .before .before .before .before .args in place-read (a .words .now) (a .at) (c .before .before .before .before .before .head-at .ensures) (c .before .before .before .before .numbers-at .ensures) (c .before .before .before .picks-at .ensures) (c .before .before .picks-at2 .ensures) (c .before .numbers-at2 .ensures) (c .rows-at .ensures)))
+    (λ c. search needs)
+    (λ c. search needs)
+    (λ c. search needs)
+    (λ c. search needs)
+    (λ c. search needs)
+    (λ c. search needs)
+    (λ c. search needs)
+    (λ c. search needs)
+    (λ c. search needs)
+    (λ c. search needs)
+    (λ c. search needs)
+    (λ c. search needs)
+    (λ c. search needs)
+    (λ c. rw (c .before .before .before .before .before .before .before .before .before .before .cells-at .ensures) refl))

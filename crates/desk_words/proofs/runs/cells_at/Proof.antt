@@ -6,8 +6,8 @@ use Rattle.base.specs.Filled.{Filled}
 use Rattle.base.proofs.Filled.{filled-none, filled-more, filled-end}
 use Rattle.desk_words.proofs.Back.{is-part}
 use borrow.Author.Needs.{needs}
-use Rattle.desk_words.proofs.runs.picks_at.Statement.{statement}
-use Rattle.desk_words.proofs.runs.picks_at.Tie as tie
+use Rattle.desk_words.proofs.runs.cells_at.Statement.{statement}
+use Rattle.desk_words.proofs.runs.cells_at.Tie as tie
 
 abbrev Inv-loop : tie.InvT-loop
 Inv-loop words at out₀ j₀ out j = (j ≤ 32) × Filled (λ k v. v ≡ getD words (at + k) 0) 32 j out
@@ -15,8 +15,8 @@ Inv-loop words at out₀ j₀ out j = (j ≤ 32) × Filled (λ k v. v ≡ getD w
 abbrev μ-loop : tie.MeasureT-loop
 μ-loop words at out₀ j₀ out j = 32 - j
 
-pub picks-at-spec : {M : Type 1} → statement M
-picks-at-spec =
+pub cells-at-spec : {M : Type 1} → statement M
+cells-at-spec =
     tie.close
     (tie.spec
     Inv-loop
