@@ -17,7 +17,7 @@ fn met(coefficient: u32, value: u64) -> bool
     value != 0
 }
 
-// The first variable of the objective's right list that has a value; the width where none has. Public for `least_span` and
+// The first variable of the objective's right list that has a value; the width where none has. Public for
 // `class_answers::answer`.
 pub fn second_met(objective: &[u32; STRIDE], values: &[u64; STRIDE], width: usize) -> usize
     requires { ⌜ (length (now objective) ≡ stride) × (length (now values) ≡ stride) × (width ≤ stride) ⌝ }

@@ -227,14 +227,14 @@ fn widened(kept: &[u32; STRIDE], picks: [usize; STRIDE], rows: usize) -> [usize;
     out
 }
 
-// The offset number of a low one. Public for `guesses::guess`.
+// The offset number of a low one. Public for `look::greatest`.
 pub fn high_of(k: u32) -> u64
     ensures { λ r. ⌜ r ≡ high k ⌝ }
 {
     if k == 0 { 0 } else { k as u64 + LOW_64 }
 }
 
-// Low values as offset numbers. Public for `least_span::advance`.
+// Low values as offset numbers. Public for `look::point`.
 pub fn highs_of(x: &[u32; STRIDE]) -> [u64; STRIDE]
     requires { ⌜ length (now x) ≡ stride ⌝ }
     ensures { λ r. ⌜ r ≡ highs (now (x .entry)) ⌝ }

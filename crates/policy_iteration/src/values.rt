@@ -31,7 +31,7 @@ pub const HALF: u32 = OFFSET_32;
 // A coefficient plus a low value is at least this if both are whole, and below it if one is blank.
 const FOLD: u32 = HALF + LOW / 2;
 
-// A coefficient plus a value. Public for `guesses::guess`, `pick_tables::tables`.
+// A coefficient plus a value. Public for `pick_tables::tables`.
 pub fn plus(a: u32, b: u64) -> u64
     requires { ⌜ a + b ≤ 18446744073709551615 ⌝ }
     ensures { λ r. ⌜ r ≡ a + b ⌝ }
@@ -84,7 +84,7 @@ fn row_sum(table: &[u32; TABLE], ends: u32, row: usize, x: &[u32; STRIDE], width
     full_sum(table, row, x, width)
 }
 
-// One side of a row at low values. Public for `guesses`.
+// One side of a row at low values.
 pub fn full_side(table: &[u32; TABLE], row: usize, x: &[u32; STRIDE], width: usize) -> u32
     requires { ⌜ (row < table-rows) × (width ≤ stride) × Table raised-limit (now table) × Lows width (now x) ⌝ }
     ensures { λ r. ⌜ SideIs (now (table .entry)) row (highs (now (x .entry))) width r ⌝ }
@@ -92,7 +92,7 @@ pub fn full_side(table: &[u32; TABLE], row: usize, x: &[u32; STRIDE], width: usi
     fold(full_sum(table, row, x, width))
 }
 
-// One side of a row at low values, by its ends or whole. Public for `policy` and for `guesses`.
+// One side of a row at low values, by its ends or whole. Public for `policy` and `look::greatest`.
 pub fn side(table: &[u32; TABLE], ends: u32, row: usize, x: &[u32; STRIDE], width: usize) -> u32
     requires { ⌜ (row < table-rows) × (width ≤ stride) × Table raised-limit (now table) × Lows width (now x) × RowEnds (now table) row ends ⌝ }
     ensures { λ r. ⌜ SideIs (now (table .entry)) row (highs (now (x .entry))) width r ⌝ }
@@ -265,7 +265,7 @@ fn same(x: &[u32; STRIDE], y: &[u32; STRIDE]) -> bool
 }
 
 // The values of a strategy: rounds until one changes nothing, at most as many as there are variables.
-// Public for `policy`.
+// Public for `policy` and `look::greatest`.
 pub fn evaluate(
     left: &[u32; TABLE],
     right: &[u32; TABLE],
