@@ -99,8 +99,9 @@ fn solving(effort: Effort, sets: &[(Family, Set)]) -> Vec<f64> {
         times.push(time);
     }
     println!(
-        "ratio: the library's time by that of the fastest unproved engine in the line, of the faster by halving, and of the look"
+        "ratio: the library's time by that of the fastest unproved engine in the line, whatever its method; then by"
     );
+    println!("that of the faster by halving, and by that of the engine that looks once");
     println!();
     times
 }

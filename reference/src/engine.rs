@@ -11,6 +11,7 @@ use crate::number::Number;
 use crate::policy::{trial, Blocked, Picks, Rows, State};
 use crate::record::{self, Answer, Problem, BLANK, BUFFER};
 use crate::saver::{self, Targets};
+use crate::sums::{finite, list};
 use crate::{NO_PICK, ROWS, TOP, VARIABLES};
 
 /// How the least span is looked for.
@@ -257,13 +258,9 @@ fn played(problem: &Problem, from: Blocked, picks: &Picks) -> [u16; ROWS] {
         waiting &= waiting - 1;
         let row = picks[variable] as usize;
         out[variable] = row as u16 + 1;
-        for place in 0..problem.variables {
-            let bit = 1u32 << place;
-            if problem.right[row * VARIABLES + place] != BLANK && reached & bit == 0 {
-                reached |= bit;
-                waiting |= bit;
-            }
-        }
+        let new = finite(list(&problem.right, row)) & !reached;
+        reached |= new;
+        waiting |= new;
     }
     out
 }

@@ -3,7 +3,7 @@
 //! A value v is kept as 2³⁰ + v and blank as 0, a coefficient as the record has it. Their sum never leaves 32 bits; it is
 //! above 2²⁹ where both are whole, and below where one is blank.
 
-use crate::record::Problem;
+use crate::record::{Problem, BLANK};
 use crate::{ROWS, VARIABLES};
 
 pub type Point = [i32; VARIABLES];
@@ -36,7 +36,7 @@ const MANY: usize = 8;
 pub fn finite(list: &Point) -> u32 {
     let mut bits = 0;
     for (variable, &coefficient) in list.iter().enumerate() {
-        bits |= ((coefficient != crate::record::BLANK) as u32) << variable;
+        bits |= if coefficient == BLANK { 0 } else { 1 << variable };
     }
     bits
 }
@@ -44,10 +44,13 @@ pub fn finite(list: &Point) -> u32 {
 /// The ends of a list.
 fn ends_of(list: &Point) -> Ends {
     let bits = finite(list);
-    match bits.count_ones() {
-        0 => [0; 2],
-        1 | 2 => [bits.trailing_zeros() as u8, 31 - bits.leading_zeros() as u8],
-        _ => [WIDE; 2],
+    let others = bits & bits.wrapping_sub(1);
+    if bits == 0 {
+        [0; 2]
+    } else if others & others.wrapping_sub(1) != 0 {
+        [WIDE; 2]
+    } else {
+        [bits.trailing_zeros() as u8, 31 - bits.leading_zeros() as u8]
     }
 }
 
