@@ -1,15 +1,16 @@
 //! What is measured, under one form: bytes in, class, span and trials out.
 
-use reference::{solve_by, Answered, InFull, InLists, Search};
+use reference::{solve_by, solve_by_look, Answered, InFull, InLists, Search};
 
 pub type Solve = fn(&[u8], &mut [u8]) -> Answered;
 
 /// The unproved engines, by name.
-pub const UNPROVED: [(&str, Solve); 4] = [
+pub const UNPROVED: [(&str, Solve); 5] = [
     ("dense, halving", |problem, answer| good(solve_by::<InFull>(Search::Halving, problem, answer))),
     ("lists, halving", |problem, answer| good(solve_by::<InLists>(Search::Halving, problem, answer))),
     ("dense, Newton", |problem, answer| good(solve_by::<InFull>(Search::Newton, problem, answer))),
     ("lists, Newton", |problem, answer| good(solve_by::<InLists>(Search::Newton, problem, answer))),
+    ("one look", |problem, answer| good(solve_by_look(problem, answer))),
 ];
 
 fn good(result: Result<Answered, u8>) -> Answered {

@@ -78,29 +78,30 @@ pub fn print(effort: Effort) {
 /// A line a family; the library's times.
 fn solving(effort: Effort, sets: &[(Family, Set)]) -> Vec<f64> {
     let names = UNPROVED.map(|(name, _)| name).join("  ");
-    println!("solve                        trials  library  {names}  ratio  to halving");
+    println!("solve                        trials  library  {names}  ratio  to halving  to the look");
     let mut times = Vec::new();
     for (family, set) in sets {
-        let [(_, a), (_, b), (_, c), (_, d)] = UNPROVED;
-        let calls = [library_solves(set), solves(set, a), solves(set, b), solves(set, c), solves(set, d)];
+        let [a, b, c, d, e] = UNPROVED.map(|(_, solve)| solves(set, solve));
+        let calls = [library_solves(set), a, b, c, d, e];
         let [time, others @ ..] = microseconds(effort, set.problems.len(), calls);
         let fastest = |wanted: &str| {
             let times = others.iter().zip(UNPROVED).filter(|(_, (name, _))| name.contains(wanted));
             times.map(|(time, _)| *time).fold(f64::INFINITY, f64::min)
         };
-        let (ratio, to_halving) = (time / fastest(""), time / fastest("halving"));
+        let [ratio, to_halving, to_look] = ["", "halving", "look"].map(|wanted| time / fastest(wanted));
         let columns: Vec<String> = others
             .iter()
             .zip(UNPROVED)
             .map(|(time, (name, _))| format!("{time:>width$.1}", width = name.len()))
             .collect();
         let (name, trials, columns) = (family.name(), set.trials, columns.join("  "));
-        println!("{name:<28} {trials:>6.1} {time:>8.1}  {columns}  {ratio:>5.2} {to_halving:>11.2}");
+        println!("{name:<28} {trials:>6.1} {time:>8.1}  {columns}  {ratio:>5.2} {to_halving:>11.2} {to_look:>12.2}");
         times.push(time);
     }
     println!(
-        "ratio: the library's time by that of the fastest unproved engine in the line, and of the faster by halving"
+        "ratio: the library's time by that of the fastest unproved engine in the line, whatever its method; then by"
     );
+    println!("that of the faster by halving, and by that of the engine that looks once");
     println!();
     times
 }

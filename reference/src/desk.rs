@@ -56,8 +56,10 @@ pub unsafe fn desk_take(memory: &mut [u8], state: &mut [u64], problem: &[u8]) ->
     if let Some(number) = refused(memory, state) {
         return number;
     }
-    let mut table = Problem::new();
-    if let Err(number) = record::read(record::meant(problem), &mut table) {
+    let meant = record::meant(problem);
+    // A desk knows no kind but 1.
+    let read = record::header(meant, &[1]).and_then(|_| record::read(meant, &mut Problem::new()));
+    if let Err(number) = read {
         return number as u64;
     }
     let Some(at) = (0..PLACES).find(|&at| state[place(at)] == 0) else {

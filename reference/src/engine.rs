@@ -1,4 +1,4 @@
-//! The engine: class, least span, and the answer record, by halving or by Newton's method.
+//! The engine: class, least span, and the answer record, by halving, by Newton's method, or by one look.
 //!
 //! Newton's method goes from a point to the least trial that its row strategy makes possible, and tries one below that,
 //! until this is not possible. The trials of document 01 then need no work, as each one's outcome is known, and they
@@ -6,10 +6,12 @@
 
 use crate::dense::Dense;
 use crate::lists::Lists;
+use crate::look;
 use crate::number::Number;
 use crate::policy::{trial, Blocked, Picks, Rows, State};
 use crate::record::{self, Answer, Problem, BLANK, BUFFER};
 use crate::saver::{self, Targets};
+use crate::sums::{finite, list};
 use crate::{NO_PICK, ROWS, TOP, VARIABLES};
 
 /// How the least span is looked for.
@@ -29,7 +31,7 @@ pub struct Answered {
 }
 
 /// What a search ends with.
-enum Found {
+pub(crate) enum Found {
     Least { span: i32, stamps: [i32; VARIABLES], from: Blocked, picks: Picks, trials: u32 },
     Bottomless { targets: Targets },
     None { from: Blocked, picks: Picks },
@@ -37,17 +39,45 @@ enum Found {
 
 /// Answers a problem of one question with rows kept in one way and one search; refusals 1 to 7.
 pub fn solve_by<K: Kind>(search: Search, problem: &[u8], buffer: &mut [u8]) -> Result<Answered, u8> {
-    let problem = record::meant(problem);
-    let mut table = Problem::new();
-    record::read(problem, &mut table)?;
-    if buffer.len() < BUFFER {
-        return Err(7);
-    }
-    Ok(K::solve(search, &table, buffer))
+    one(problem, buffer, |table, buffer| K::solve(search, table, buffer))
+}
+
+/// The same by one look.
+pub fn solve_by_look(problem: &[u8], buffer: &mut [u8]) -> Result<Answered, u8> {
+    one(problem, buffer, look_and_write)
 }
 
 /// Answers every question of a problem of kind 1 or 3, each answer starting where the one before ended; refusals 1 to 7 and 15.
 pub fn solve_all_by<K: Kind>(search: Search, problem: &[u8], buffer: &mut [u8]) -> Result<Vec<Answered>, u8> {
+    every(problem, buffer, |table, buffer| K::solve(search, table, buffer))
+}
+
+/// The same by one look at each.
+pub fn solve_all_by_look(problem: &[u8], buffer: &mut [u8]) -> Result<Vec<Answered>, u8> {
+    every(problem, buffer, look_and_write)
+}
+
+/// The same by Newton's method, with rows kept as each question with its rules has them.
+pub fn solve_all(problem: &[u8], buffer: &mut [u8]) -> Result<Vec<Answered>, u8> {
+    solve_all_by::<AsFilled>(Search::Newton, problem, buffer)
+}
+
+/// Reads a problem of one question and has it answered.
+fn one(problem: &[u8], buffer: &mut [u8], solve: impl Fn(&Problem, &mut [u8]) -> Answered) -> Result<Answered, u8> {
+    let mut table = Problem::new();
+    record::read(record::meant(problem), &mut table)?;
+    if buffer.len() < BUFFER {
+        return Err(7);
+    }
+    Ok(solve(&table, buffer))
+}
+
+/// Reads a problem and has its questions answered in turn.
+fn every(
+    problem: &[u8],
+    buffer: &mut [u8],
+    solve: impl Fn(&Problem, &mut [u8]) -> Answered,
+) -> Result<Vec<Answered>, u8> {
     let problem = record::meant(problem);
     let mut table = Problem::new();
     let layout = record::read_rules(problem, &mut table)?;
@@ -58,16 +88,11 @@ pub fn solve_all_by<K: Kind>(search: Search, problem: &[u8], buffer: &mut [u8]) 
     let mut at = 0;
     for question in 0..layout.questions {
         layout.ask(problem, question, &mut table);
-        let answered = K::solve(search, &table, &mut buffer[at..]);
+        let answered = solve(&table, &mut buffer[at..]);
         at += answered.size;
         all.push(answered);
     }
     Ok(all)
-}
-
-/// The same by Newton's method, with rows kept as each question with its rules has them.
-pub fn solve_all(problem: &[u8], buffer: &mut [u8]) -> Result<Vec<Answered>, u8> {
-    solve_all_by::<AsFilled>(Search::Newton, problem, buffer)
 }
 
 /// A way to keep rows, by name.
@@ -112,6 +137,10 @@ fn solve_table<'a, R: Rows<'a>>(search: Search, problem: &'a Problem, buffer: &m
         Search::Newton => by_newton(&mut table),
     };
     write(problem, found, buffer)
+}
+
+fn look_and_write(problem: &Problem, buffer: &mut [u8]) -> Answered {
+    write(problem, look::find(problem), buffer)
 }
 
 /// A point from the values of a possible trial: moved so that variable 0 is at 0.
@@ -205,7 +234,7 @@ fn by_newton<'a, R: Rows<'a>>(table: &mut R) -> Found {
 }
 
 /// The trials that document 01's halving makes where the least span is `span`.
-fn trials(span: i32) -> u32 {
+pub(crate) fn trials(span: i32) -> u32 {
     let (mut low, mut high, mut trials) = (-TOP - 1, TOP, 2);
     while high - low > 1 {
         let middle = (high + low + 1) >> 1;
@@ -229,13 +258,9 @@ fn played(problem: &Problem, from: Blocked, picks: &Picks) -> [u16; ROWS] {
         waiting &= waiting - 1;
         let row = picks[variable] as usize;
         out[variable] = row as u16 + 1;
-        for place in 0..problem.variables {
-            let bit = 1u32 << place;
-            if problem.right[row * VARIABLES + place] != BLANK && reached & bit == 0 {
-                reached |= bit;
-                waiting |= bit;
-            }
-        }
+        let new = finite(list(&problem.right, row)) & !reached;
+        reached |= new;
+        waiting |= new;
     }
     out
 }

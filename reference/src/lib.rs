@@ -17,8 +17,10 @@ pub mod converter;
 mod dense;
 pub mod desk;
 mod engine;
+mod falling;
 mod hours;
 mod lists;
+mod look;
 mod merger;
 mod number;
 mod policy;
@@ -26,9 +28,12 @@ pub mod programs;
 pub mod reasons;
 pub mod record;
 mod saver;
+mod sums;
 pub mod week;
 
-pub use engine::{solve_all, solve_all_by, solve_by, Answered, InFull, InLists, Kind, Search};
+pub use engine::{
+    solve_all, solve_all_by, solve_all_by_look, solve_by, solve_by_look, Answered, InFull, InLists, Kind, Search,
+};
 
 /// The largest number of variables, the anchor among them.
 pub const VARIABLES: usize = 32;

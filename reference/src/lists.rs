@@ -3,7 +3,8 @@
 
 use crate::number::Number;
 use crate::policy::{Picks, Rows, Values};
-use crate::record::{Problem, BLANK};
+use crate::record::Problem;
+use crate::sums::finite;
 use crate::{NO_PICK, ROWS, VARIABLES};
 
 #[derive(Clone, Copy)]
@@ -37,16 +38,6 @@ impl Lists<'_> {
 #[inline(always)]
 fn place(entry: &Entry) -> usize {
     entry.variable as usize % VARIABLES
-}
-
-/// The variables whose coefficient is finite, as bits.
-#[inline(always)]
-fn finite(row: &[i32; VARIABLES]) -> u32 {
-    let mut bits = 0;
-    for (variable, &coefficient) in row.iter().enumerate() {
-        bits |= ((coefficient != BLANK) as u32) << variable;
-    }
-    bits
 }
 
 impl<'a> Rows<'a> for Lists<'a> {

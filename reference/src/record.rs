@@ -13,12 +13,13 @@ const KIND: u16 = 4;
 const HEADER: usize = 16;
 
 /// A problem's coefficients: row i's left ones from `i * VARIABLES` on, so that every row starts at a fixed place.
-/// Places beyond the problem's own hold blank.
+/// Places beyond the problem's own hold blank. Rows start at a cache line.
+#[repr(C, align(64))]
 pub struct Problem {
-    pub variables: usize,
-    pub rows: usize,
     pub left: [i32; ROWS * VARIABLES],
     pub right: [i32; ROWS * VARIABLES],
+    pub variables: usize,
+    pub rows: usize,
 }
 
 pub(crate) fn two(bytes: &[u8], at: usize) -> usize {
@@ -71,16 +72,23 @@ pub(crate) fn header(bytes: &[u8], kinds: &[usize]) -> Result<Layout, u8> {
     Ok(Layout { variables: n + 1, rules: m, questions, coefficients, stated: kind == 5 })
 }
 
-/// Copies coefficients from bytes; true where all are within the limits.
-fn copy(bytes: &[u8], coefficients: &mut [i32]) -> bool {
+/// Whether all coefficients are within the limits.
+fn within(bytes: &[u8]) -> bool {
     let mut outside = 0u32;
-    for (coefficient, four) in coefficients.iter_mut().zip(bytes.chunks_exact(4)) {
+    for four in bytes.chunks_exact(4) {
         let value = i32::from_le_bytes([four[0], four[1], four[2], four[3]]);
         let far = (value > LARGEST) as u32 | (value < -LARGEST) as u32;
         outside |= far & (value != BLANK) as u32;
-        *coefficient = value;
     }
     outside == 0
+}
+
+/// Copies coefficients from bytes.
+#[inline(always)]
+fn copy(bytes: &[u8], coefficients: &mut [i32]) {
+    for (coefficient, four) in coefficients.iter_mut().zip(bytes.chunks_exact(4)) {
+        *coefficient = i32::from_le_bytes([four[0], four[1], four[2], four[3]]);
+    }
 }
 
 impl Problem {
@@ -104,11 +112,12 @@ impl Default for Problem {
 }
 
 impl Layout {
-    /// Copies a row's bytes to a row of a problem; true where all coefficients are within the limits.
-    fn copy(self, part: &[u8], row: usize, problem: &mut Problem) -> bool {
+    /// Copies a row's bytes to a row of a problem.
+    fn copy(self, part: &[u8], row: usize, problem: &mut Problem) {
         let (size, at) = (4 * self.variables, row * VARIABLES);
-        let left = copy(&part[..size], &mut problem.left[at..at + self.variables]);
-        copy(&part[size..], &mut problem.right[at..at + self.variables]) & left
+        let (left, right) = part.split_at(size);
+        copy(left, &mut problem.left[at..at + self.variables]);
+        copy(right, &mut problem.right[at..at + self.variables]);
     }
 
     /// Puts a question of the record in the objective's place.
@@ -142,6 +151,11 @@ pub fn read_rules(bytes: &[u8], problem: &mut Problem) -> Result<Layout, u8> {
     fill(bytes, header(bytes, &[1, 3, 5])?, problem)
 }
 
+/// Whether a left list is blank. All of it is looked at, which takes no branches.
+fn silent(left: &[i32]) -> bool {
+    left.iter().fold(true, |blank, &coefficient| blank & (coefficient == BLANK))
+}
+
 /// The rules go to their rows, and each question in turn to the objective's; refusals 20, 6 and 17. Suspended rules are blank.
 fn fill(bytes: &[u8], layout: Layout, problem: &mut Problem) -> Result<Layout, u8> {
     let state = |rule: usize| if layout.stated { two(bytes, 10 + 2 * rule) } else { 1 };
@@ -150,15 +164,14 @@ fn fill(bytes: &[u8], layout: Layout, problem: &mut Problem) -> Result<Layout, u
     }
     problem.variables = layout.variables;
     problem.rows = layout.rules + 1;
-    let mut good = true;
-    for (row, part) in bytes[layout.coefficients..].chunks_exact(8 * layout.variables).enumerate() {
-        good &= layout.copy(part, row.min(layout.rules), problem);
-    }
-    if !good {
+    let coefficients = &bytes[layout.coefficients..];
+    if !within(coefficients) {
         return Err(6);
     }
-    let silent = |row: usize| problem.left[row * VARIABLES..][..layout.variables].iter().all(|&left| left == BLANK);
-    if (0..layout.rules).any(silent) {
+    for (row, part) in coefficients.chunks_exact(8 * layout.variables).enumerate() {
+        layout.copy(part, row.min(layout.rules), problem);
+    }
+    if (0..layout.rules).any(|rule| silent(&problem.left[rule * VARIABLES..][..VARIABLES])) {
         return Err(17);
     }
     for rule in (0..layout.rules).filter(|&rule| state(rule) == 0) {

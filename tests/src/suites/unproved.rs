@@ -1,8 +1,8 @@
 //! The unproved engines and the unproved checker of reference/: what the proved ones are measured against must be right too.
 
-use reference::{solve_all_by, solve_by, Answered, InFull, InLists, Search};
+use reference::{solve_all_by, solve_all_by_look, solve_by, solve_by_look, Answered, InFull, InLists, Search};
 
-use super::expected_check;
+use super::{checked, expected_check};
 use crate::exhaustive;
 use crate::generate::{self, any, any_questions, changed, Shape};
 use crate::paper::{self, Outcome, Problem, Questions, BUFFER};
@@ -14,18 +14,20 @@ type Engine = fn(&[u8], &mut [u8]) -> Result<Answered, u8>;
 /// The same on every question of a problem.
 type EngineOfAll = fn(&[u8], &mut [u8]) -> Result<Vec<Answered>, u8>;
 
-const ENGINES: [(&str, Engine); 4] = [
+const ENGINES: [(&str, Engine); 5] = [
     ("dense, halving", |problem, answer| solve_by::<InFull>(Search::Halving, problem, answer)),
     ("lists, halving", |problem, answer| solve_by::<InLists>(Search::Halving, problem, answer)),
     ("dense, Newton", |problem, answer| solve_by::<InFull>(Search::Newton, problem, answer)),
     ("lists, Newton", |problem, answer| solve_by::<InLists>(Search::Newton, problem, answer)),
+    ("one look", solve_by_look),
 ];
 
-const ENGINES_OF_ALL: [(&str, EngineOfAll); 4] = [
+const ENGINES_OF_ALL: [(&str, EngineOfAll); 5] = [
     ("dense, halving", |problem, answers| solve_all_by::<InFull>(Search::Halving, problem, answers)),
     ("lists, halving", |problem, answers| solve_all_by::<InLists>(Search::Halving, problem, answers)),
     ("dense, Newton", |problem, answers| solve_all_by::<InFull>(Search::Newton, problem, answers)),
     ("lists, Newton", |problem, answers| solve_all_by::<InLists>(Search::Newton, problem, answers)),
+    ("one look", solve_all_by_look),
 ];
 
 fn outcome(answered: Answered) -> Outcome {
@@ -36,7 +38,7 @@ fn outcome(answered: Answered) -> Outcome {
     }
 }
 
-/// Each engine's answer: the expected outcome where it is known, the trials, and both checkers' verdicts.
+/// Each engine's answer: the expected outcome where it is known, the trials, and the verdicts of all checkers.
 fn judge(tally: &mut Tally, random: &mut Random, problem: &Problem, expected: Option<Outcome>) {
     let bytes = problem.bytes();
     for (name, engine) in ENGINES {
@@ -50,6 +52,7 @@ fn judge(tally: &mut Tally, random: &mut Random, problem: &Problem, expected: Op
         tally.same(name, found, expected.unwrap_or(found), &bytes, record);
         tally.same(name, answered.trials as u64, paper::trials_for(found), &bytes, record);
         tally.same(name, expected_check(&bytes, record), Ok(found), &bytes, record);
+        tally.same(name, checked(&bytes, record), Ok(found), &bytes, record);
         checker(tally, &bytes, record);
         tally.count("answers");
         if let Ok(answer) = paper::read_answer(record, problem.n(), problem.m()) {
