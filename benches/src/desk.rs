@@ -25,8 +25,12 @@ fn on_the_desk(problems: &[Vec<u8>], memory: &mut [u8], state: &mut [u64]) -> u6
         for problem in problems {
             raw::desk_take(memory, state, problem);
         }
-        while raw::desk_step(memory, state) != 0 {
-            steps += 1;
+        loop {
+            match raw::desk_step(memory, state) {
+                0 => break,
+                256 | 512 => steps += 1,
+                refusal => panic!("a step of the desk was refused: {refusal}"),
+            }
         }
         let mut buffer = [0; span::ANSWER_SIZE];
         for ticket in 1..=problems.len() as u64 {
