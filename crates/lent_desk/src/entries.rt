@@ -1,4 +1,4 @@
-// The desk's four calls over lent memory and lent words, with results as one number: the low byte is the refusal. Public for `capi`.
+// The desk's four calls over lent memory and lent words, with results as one number: the low byte is the refusal.
 ghost use mathlib.Core.Path.{_≡_};
 ghost use Prim.Native.Nat.{_≤_};
 ghost use lib.ListN.{length};
