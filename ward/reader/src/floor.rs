@@ -45,13 +45,14 @@ impl Draft<'_> {
             });
         }
         let mut but = Vec::new();
-        if cursor.peek(0).is_some() && !cursor.takes("but") {
+        let excepted = cursor.takes("but");
+        if cursor.peek(0).is_some() && !excepted {
             let fault = cursor.fault("'but' is expected");
             let except = cursor.sees("except") || cursor.sees("without");
             let rest = cursor.peek(1).map_or("", |token| &line[token.from..to]);
             return Err(if except { fault.fix("", whole(&format!(" but {rest}"))) } else { fault });
         }
-        while cursor.peek(0).is_some() || !but.is_empty() {
+        while excepted {
             let Some(token) = cursor.take() else { return Err(cursor.fault("a moment's name is expected")) };
             match self.known().moment(token.text) {
                 Some(0) | None if token.text == "not" => {

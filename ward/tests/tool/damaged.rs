@@ -180,3 +180,26 @@ fn deep_and_long_lines_do_no_harm() {
         assert!(read.remarks.iter().all(|remark| remark.in_file("x", &read.lines).len() < 10_000), "{part}");
     }
 }
+
+/// Lines that went wrong once.
+#[test]
+fn lines_that_did_harm_do_none() {
+    for line in [
+        "span: between and a",
+        "span: to from a",
+        "a by #",
+        "moments: - a",
+        "#1 ",
+        "a 5 to",
+        "nothing before anchor but",
+    ] {
+        assert!(!judged(&format!("moments: a\n{line}\nspan: from a to a\n")) || line == "#1 ", "{line}");
+    }
+    // What follows a name is no part of another one.
+    let text =
+        "moments: a, \"a + 15\", \"a, b\", b\n\"a\" + 15 <= b\nlater of \"a\", b <= \"a, b\"\nspan: from a to b\n";
+    let sheet = ward_reader::read(text.as_bytes(), &clock()).sheet.expect("a good text");
+    let again = ward_reader::shown::text(&sheet, &clock());
+    let back = ward_reader::read(again.as_bytes(), &clock()).sheet.unwrap_or_else(|| panic!("{again}"));
+    assert_eq!(record::sent(&back), record::sent(&sheet), "{again}");
+}
