@@ -3,7 +3,7 @@
 use std::fmt::Write;
 
 use ward_reader::remark::clean;
-use ward_reader::{Remark, Sheet, Weight};
+use ward_reader::{limits, Remark, Sheet, Weight};
 
 use crate::answer::{Body, Placed, Report, Span};
 use crate::scale::{bar, drawn, Scale};
@@ -56,19 +56,16 @@ const PLAIN: Signs = Signs {
     together: '|',
 };
 
-/// The most mistakes that are shown, and the most warnings.
-pub const SHOWN: usize = 20;
-
 /// The remarks that are shown, in their order, and how many mistakes and warnings more there are.
 pub fn shown(report: &Report) -> (Vec<&Remark>, [usize; 2]) {
     let mut counts = [0; 2];
     let shown = report.remarks.iter().filter(|remark| {
         let count = &mut counts[(remark.weight == Weight::Warning) as usize];
         *count += 1;
-        *count <= SHOWN
+        *count <= limits::SHOWN
     });
     let shown = shown.collect();
-    (shown, counts.map(|count| count.saturating_sub(SHOWN)))
+    (shown, counts.map(|count| count.saturating_sub(limits::SHOWN)))
 }
 
 /// How many mistakes and warnings are not shown, in words.

@@ -30,6 +30,9 @@ FILE is a path, or - for standard input. docs/SCHEDULERS.md teaches the text.
   --                          what follows is a file
   -h, --help, -V, --version
 
+Mistakes show what can be written in their place, twenty of them at most. On a terminal there are
+colours, unless NO_COLOR is set.
+
 Statuses
   0  every answer was accepted, and is the one that its text expects, if it says so
   1  a text has a mistake, or a file cannot be read or answered

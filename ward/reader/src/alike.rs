@@ -19,8 +19,8 @@ const ACCENTS: [(char, &str); 11] = [
 const OTHERS: &str = "aаeеoоpрcсyуxхiіjјsѕhһAАBВEЕKКMМHНOОPРCСTТXХIІoοvνAΑBΒEΕZΖHΗIΙKΚMΜNΝOΟPΡTΤYΥXΧ";
 
 fn pair(pairs: &str, wanted: impl Fn(char, char) -> bool) -> Option<(char, char)> {
-    let characters: Vec<char> = pairs.chars().collect();
-    characters.chunks(2).map(|pair| (pair[0], pair[1])).find(|&(plain, other)| wanted(plain, other))
+    let (plain, others) = (pairs.chars().step_by(2), pairs.chars().skip(1).step_by(2));
+    plain.zip(others).find(|&(plain, other)| wanted(plain, other))
 }
 
 fn accent(c: char) -> Option<&'static str> {

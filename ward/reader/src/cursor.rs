@@ -17,11 +17,13 @@ pub struct Cursor<'a> {
     /// Where the part that is read ends.
     end: usize,
     pub unknown: Vec<Unknown>,
+    /// How many brackets are open.
+    pub depth: usize,
 }
 
 impl<'a> Cursor<'a> {
     pub fn new(line: &'a str, tokens: Vec<Token<'a>>, end: usize) -> Cursor<'a> {
-        Cursor { line, tokens, at: 0, end: line[..end].trim_end().len(), unknown: Vec::new() }
+        Cursor { line, tokens, at: 0, end: line[..end].trim_end().len(), unknown: Vec::new(), depth: 0 }
     }
 
     pub fn peek(&self, ahead: usize) -> Option<Token<'a>> {

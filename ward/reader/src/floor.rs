@@ -8,6 +8,7 @@ use crate::fault::{with, Fault};
 use crate::parse::{place, Draft};
 use crate::remark::Place;
 use crate::sheet::{Origin, Row};
+use crate::tokens::Token;
 
 /// The line, as it was read.
 #[derive(Clone, Debug)]
@@ -44,38 +45,14 @@ impl Draft<'_> {
                 fault.hint("other limits are rules, one a moment")
             });
         }
-        let mut but = Vec::new();
-        if cursor.peek(0).is_some() && !cursor.takes("but") {
+        let excepted = cursor.takes("but");
+        if cursor.peek(0).is_some() && !excepted {
             let fault = cursor.fault("'but' is expected");
             let except = cursor.sees("except") || cursor.sees("without");
             let rest = cursor.peek(1).map_or("", |token| &line[token.from..to]);
             return Err(if except { fault.fix("", whole(&format!(" but {rest}"))) } else { fault });
         }
-        while cursor.peek(0).is_some() || !but.is_empty() {
-            let Some(token) = cursor.take() else { return Err(cursor.fault("a moment's name is expected")) };
-            match self.known().moment(token.text) {
-                Some(0) | None if token.text == "not" => {
-                    let message = "'but not' can be taken both ways: a name behind 'but' may be before the anchor";
-                    return Err(Fault::new(token.from, token.to, message));
-                }
-                Some(0) => return Err(Fault::new(token.from, token.to, "the anchor is never before itself")),
-                Some(moment) => but.push(moment),
-                None => cursor.unknown.push(Unknown { name: token.text.into(), from: token.from, to: token.to }),
-            }
-            if cursor.peek(0).is_none() {
-                break;
-            }
-            if !cursor.takes(",") {
-                let and = cursor.peek(0).filter(|_| cursor.sees("and"));
-                let fault = cursor.fault("a comma is expected");
-                return Err(match and {
-                    Some(and) => {
-                        fault.fix("", format!("{}, {}", line[..and.from].trim_end(), line[and.to..].trim_start()))
-                    }
-                    None => fault,
-                });
-            }
-        }
+        let but = if excepted { self.excepted(cursor)? } else { Vec::new() };
         if let Some(first) = &self.floor {
             let fault = Fault::new(from, to, format!("one such line is enough, and line {} is one", first.place.line));
             let names: Vec<String> =
@@ -89,6 +66,34 @@ impl Draft<'_> {
         self.sheet.floor = Some(place);
         self.floor = Some(Floor { place, line: line.into(), from, to, but });
         Ok(())
+    }
+
+    /// The names behind `but`, with commas between them.
+    fn excepted(&self, cursor: &mut Cursor) -> Result<Vec<usize>, Fault> {
+        let mut but = Vec::new();
+        loop {
+            let Some(token) = cursor.take() else { return Err(cursor.fault("a moment's name is expected")) };
+            let fault = |message: &str| Err(Fault::new(token.from, token.to, message));
+            match self.known().moment(token.text) {
+                Some(0) => return fault("the anchor is never before itself"),
+                Some(moment) => but.push(moment),
+                None if token.text.to_lowercase() == "not" => {
+                    return fault("'but not' can be taken both ways: a name behind 'but' may be before the anchor");
+                }
+                None => cursor.unknown.push(Unknown { name: token.text.into(), from: token.from, to: token.to }),
+            }
+            if cursor.peek(0).is_none() {
+                return Ok(but);
+            }
+            if !cursor.takes(",") {
+                let fault = cursor.fault("a comma is expected");
+                let and = cursor.peek(0).filter(|_| cursor.sees("and"));
+                let comma = |and: Token| {
+                    format!("{}, {}", cursor.line[..and.from].trim_end(), cursor.line[and.to..].trim_start())
+                };
+                return Err(and.map_or(fault.clone(), |and| fault.fix("", comma(and))));
+            }
+        }
     }
 
     /// Adds the rules, where the text has the line and no mistake.

@@ -15,3 +15,9 @@ pub const SPAN: i32 = 2 * (MOMENTS as i32 + 1) * LEAD;
 pub const TEXT: usize = 1_000_000;
 /// The characters of a name.
 pub const NAME: usize = 60;
+/// The most mistakes of a text that are shown, and the most warnings.
+pub const SHOWN: usize = 20;
+/// The names of a text that are kept, far above what a record has room for; those beyond are counted.
+pub const KEPT: usize = 1_000;
+/// Brackets within brackets.
+pub const BRACKETS: usize = 16;

@@ -20,9 +20,13 @@ fn main() -> ExitCode {
             continue;
         }
         let read = ward_reader::read(&bytes, &Clock::unjudged());
-        for remark in read.remarks.iter().filter(|remark| remark.weight == Weight::Mistake) {
+        let mistakes = || read.remarks.iter().filter(|remark| remark.weight == Weight::Mistake);
+        for remark in mistakes().take(limits::SHOWN) {
             let _ = write!(errors, "{}", remark.in_file(&file, &read.lines));
             status = 1;
+        }
+        if mistakes().count() > limits::SHOWN {
+            let _ = writeln!(errors, "{file}: and {} more", mistakes().count() - limits::SHOWN);
         }
     }
     ExitCode::from(status)

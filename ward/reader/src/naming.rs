@@ -3,6 +3,7 @@
 use crate::alike;
 use crate::cursor::Cursor;
 use crate::fault::{with, Fault};
+use crate::limits;
 use crate::parse::{place, Draft};
 use crate::sheet::Moment;
 use crate::sides;
@@ -37,7 +38,18 @@ impl Draft<'_> {
             let written = Written { tokens, from: first.from, to: last.to };
             let text = &cursor.line[first.from..last.to];
             let name = if written.alone() { first.text } else { text };
-            let fault = self.name_fault(cursor.line, &written, name);
+            if self.sheet.moments.len() > limits::KEPT {
+                // Far too many, as is told; what they are called does not matter any more.
+                self.beyond += 1;
+                self.unread = true;
+                cursor.takes(",");
+                if cursor.peek(0).is_none() {
+                    return Ok(());
+                }
+                continue;
+            }
+            let look = alike::look(name);
+            let fault = self.name_fault(cursor.line, &written, name, &look);
             let doubtful = fault.is_some() && !written.alone();
             if let Some(fault) = fault {
                 self.wrong(number, cursor.line, fault);
@@ -45,6 +57,7 @@ impl Draft<'_> {
             self.unread |= doubtful;
             if self.known().moment(name).is_none() {
                 let place = place(number, cursor.line, first.from, last.to);
+                self.looks.entry(look).or_insert(self.sheet.moments.len());
                 self.sheet.moments.push(Moment { name: name.into(), place });
             }
             if !cursor.takes(",") {
@@ -53,7 +66,7 @@ impl Draft<'_> {
         }
     }
 
-    fn name_fault(&self, line: &str, written: &Written, name: &str) -> Option<Fault> {
+    fn name_fault(&self, line: &str, written: &Written, name: &str, look: &str) -> Option<Fault> {
         let (from, to) = (written.from, written.to);
         let text = &line[from..to];
         let fault = |message: String| Fault::new(from, to, message);
@@ -70,8 +83,8 @@ impl Draft<'_> {
             };
             return Some(fault(format!("'{name}' is named twice")).hint(hint));
         }
-        let look = alike::look(name);
-        if let Some(known) = self.sheet.moments.iter().find(|known| alike::look(&known.name) == look) {
+        let anchor = (look == "anchor").then_some(&0);
+        if let Some(known) = self.looks.get(look).or(anchor).map(|&place| &self.sheet.moments[place]) {
             let hint = match known.name.as_str() {
                 "anchor" => "the anchor is always there and needs no name".to_string(),
                 _ => format!(

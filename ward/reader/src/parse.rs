@@ -52,6 +52,9 @@ pub struct Read {
 /// How many mistakes are looked at for what to write in their stead.
 const FIXED: usize = 100;
 
+/// The longest line, in bytes, that is looked at for that, and the longest that is shown so.
+const LONGEST: usize = 1_000;
+
 /// Reads a whole text. No bytes are an idle day.
 pub fn read(bytes: &[u8], clock: &Clock) -> Read {
     let source = source::lines(bytes);
@@ -105,6 +108,10 @@ pub(crate) struct Draft<'c> {
     pub(crate) unread: bool,
     /// Lines `expect:`: of which span, on which line, and what.
     expected: Vec<(usize, usize, Expected)>,
+    /// The moments by what they look like.
+    pub(crate) looks: BTreeMap<String, usize>,
+    /// How many moments there are beyond those that are kept.
+    pub(crate) beyond: usize,
     /// Whether the anchor's line is a mistake.
     doubtful: bool,
     /// The line `nothing before anchor`.
@@ -127,6 +134,8 @@ impl<'c> Draft<'c> {
             unknown: BTreeMap::new(),
             unread: false,
             expected: Vec::new(),
+            looks: BTreeMap::new(),
+            beyond: 0,
             doubtful: false,
             floor: None,
         }
@@ -302,7 +311,7 @@ impl<'c> Draft<'c> {
         let moment = moments.get(limits::MOMENTS + 1).map(|moment| moment.place);
         let rule = rules.get(limits::RULES).map(|rule| rule.place);
         let question = questions.get(limits::QUESTIONS).map(|question| question.row.place);
-        let counts = [moments.len() - 1, rules.len(), questions.len()];
+        let counts = [moments.len() - 1 + self.beyond, rules.len(), questions.len()];
         let several = rules.iter().any(|rule| rule.origin != Origin::Line);
         self.too_many(moment, counts[0], limits::MOMENTS, "moments beside the anchor", "");
         let hint = "a line with two limits is two rules, and 'nothing before anchor' adds one a moment";
@@ -344,15 +353,9 @@ impl<'c> Draft<'c> {
 
     /// A name that is not declared is told once, with the other lines that have it.
     fn unknown_names(&mut self, lines: &[String]) {
-        let looks: BTreeMap<String, usize> = self
-            .sheet
-            .moments
-            .iter()
-            .enumerate()
-            .rev()
-            .map(|(place, known)| (alike::look(&known.name), place))
-            .collect();
-        for (name, places) in std::mem::take(&mut self.unknown) {
+        let mut unknown: Vec<(String, Vec<Place>)> = std::mem::take(&mut self.unknown).into_iter().collect();
+        unknown.sort_by_key(|(_, places)| places[0]);
+        for (number, (name, places)) in unknown.into_iter().enumerate() {
             let mut others: Vec<usize> =
                 places[1..].iter().map(|place| place.line).filter(|line| *line != places[0].line).collect();
             others.dedup();
@@ -362,9 +365,11 @@ impl<'c> Draft<'c> {
                 1 => format!("; also on line {list}"),
                 _ => format!("; also on lines {list}"),
             };
-            let alike = looks.get(&alike::look(&name)).map(|&place| self.sheet.moments[place].name.clone());
-            let near =
-                alike.clone().or_else(|| hints::near(&name, sides::names(&self.sheet.moments)).map(String::from));
+            let look = alike::look(&name);
+            let alike = self.looks.get(&look).copied().or((look == "anchor").then_some(0));
+            let alike = alike.map(|place| self.sheet.moments[place].name.clone());
+            let near = || hints::near(&name, sides::names(&self.sheet.moments)).map(String::from);
+            let near = alike.clone().or_else(|| (number < FIXED).then(near).flatten());
             let message = match &alike {
                 Some(known) => {
                     format!(
@@ -399,14 +404,16 @@ impl<'c> Draft<'c> {
             if number >= FIXED {
                 remark.fixes.clear();
             }
-            if remark.fixes.is_empty() {
+            if remark.fixes.is_empty() || line.len() > LONGEST {
+                remark.fixes.clear();
                 continue;
             }
             let mistakes = trial.says(&[line.into()], line).0.max(1);
             let mut seen = Vec::new();
             remark.fixes.retain(|fix| {
                 let (left, said) = trial.says(&fix.lines, line);
-                let new = left < mistakes && !seen.contains(&said) && fix.lines != [line];
+                let short = fix.lines.iter().all(|line| line.len() <= LONGEST);
+                let new = short && left < mistakes && !seen.contains(&said) && fix.lines != [line];
                 seen.push(said);
                 new
             });

@@ -58,14 +58,14 @@ impl Remark {
             Weight::Mistake => "mistake",
             Weight::Warning => "warning",
         };
-        let mut shown = format!("{}:{line}:{column}: {word}: {}\n", clean(file), clean(&self.message));
+        let mut shown = format!("{}:{line}:{column}: {word}: {}\n", clean(file), clean(&cut(&self.message)));
         let number = line.to_string();
         let margin = " ".repeat(number.len());
         let (text, before, under) = part(lines.get(line - 1).map_or("", String::as_str), column, width);
         let _ = writeln!(shown, "  {number} | {text}");
         let _ = writeln!(shown, "  {margin} | {before}{}", "^".repeat(under));
         if let Some(hint) = &self.hint {
-            let _ = writeln!(shown, "  {margin} = {}", clean(hint));
+            let _ = writeln!(shown, "  {margin} = {}", clean(&cut(hint)));
         }
         for fix in &self.fixes {
             let _ = writeln!(shown, "  {margin} = {}:", clean(&self.lead(fix)));
@@ -74,6 +74,14 @@ impl Remark {
             }
         }
         shown
+    }
+}
+
+/// Words that are not too long to be read.
+fn cut(words: &str) -> String {
+    match words.char_indices().nth(6 * SHOWN) {
+        Some((end, _)) => format!("{}...", &words[..end]),
+        None => words.into(),
     }
 }
 

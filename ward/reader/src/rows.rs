@@ -426,13 +426,13 @@ fn no_from(cursor: &Cursor, from: usize, text: &str) -> Fault {
         return fault;
     }
     if let Some((end, start)) = word(" from ").filter(|_| small.starts_with("to ")) {
-        return fault.fix("", whole(start, end[3..].trim()));
+        return fault.fix("", whole(start, end.get(3..).unwrap_or("").trim()));
     }
     if let Some((end, start)) = word(" minus ") {
         return fault.fix("", whole(start, end));
     }
     if let Some((start, end)) = word(" and ").filter(|_| small.starts_with("between ")) {
-        return fault.fix("", whole(start[8..].trim(), end));
+        return fault.fix("", whole(start.get(8..).unwrap_or("").trim(), end));
     }
     match word(" to ") {
         Some((start, end)) => fault.fix("", whole(start, end)),

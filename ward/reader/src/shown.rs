@@ -47,14 +47,16 @@ fn minutes(moment: &Moment, minutes: i32, clock: &Clock) -> String {
 
 /// A side in words that read back as the same leads. Brackets show to which moment minutes belong.
 pub fn side(moments: &[Moment], leads: &[Lead], clock: &Clock) -> String {
+    // A name stands in quotes where what follows it here could be taken for a part of another name, as in "a + 15".
+    let goes_on = |rest: &str| rest.trim_start().starts_with(['+', '-', ',', ')', '<']) || rest.starts_with(" to ");
+    let longer = |name: &str| moments.iter().any(|other| other.name.strip_prefix(name).is_some_and(goes_on));
+    let name = |moment: &Moment| match longer(&moment.name) && moment.name != "anchor" {
+        true => format!("\"{}\"", moment.name),
+        false => name(&moment.name),
+    };
     let term = |moment: &Moment, lead: i32| match lead {
-        0 => name(&moment.name),
-        lead => format!(
-            "{} {} {}",
-            name(&moment.name),
-            if lead < 0 { '-' } else { '+' },
-            minutes(moment, lead.abs(), clock)
-        ),
+        0 => name(moment),
+        lead => format!("{} {} {}", name(moment), if lead < 0 { '-' } else { '+' }, minutes(moment, lead.abs(), clock)),
     };
     let terms: Vec<(&Moment, i32)> =
         moments.iter().zip(leads).filter_map(|(moment, lead)| lead.map(|lead| (moment, lead))).collect();

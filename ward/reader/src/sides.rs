@@ -147,13 +147,24 @@ fn group(cursor: &mut Cursor, known: &Known) -> Result<Vec<Term>, Fault> {
             .fault("a moment's name is expected")
             .hint("'later of' has the moments behind it, with commas"));
     }
-    if cursor.takes("(") {
-        other_words(cursor)?;
-        let terms = sum(cursor, known)?;
-        closed(cursor)?;
-        return Ok(terms);
+    if cursor.sees("(") {
+        return brackets(cursor, known);
     }
     single(cursor, known, false).map(|term| vec![term])
+}
+
+/// A side in brackets.
+fn brackets(cursor: &mut Cursor, known: &Known) -> Result<Vec<Term>, Fault> {
+    if cursor.depth == limits::BRACKETS {
+        return Err(cursor.fault("a moment's name is expected").hint("there are too many brackets within each other"));
+    }
+    cursor.take();
+    cursor.depth += 1;
+    other_words(cursor)?;
+    let terms = sum(cursor, known)?;
+    cursor.depth -= 1;
+    closed(cursor)?;
+    Ok(terms)
 }
 
 fn closed(cursor: &mut Cursor) -> Result<(), Fault> {
@@ -251,12 +262,8 @@ fn item(cursor: &mut Cursor, known: &Known) -> Result<Item, Fault> {
         let loose = Some(Loose { alone: (alone_from, to), sign: 1, length, front: true });
         return Ok(Item { terms, from, to, loose });
     }
-    let terms = match cursor.takes("(") {
-        true => {
-            let terms = sum(cursor, known)?;
-            closed(cursor)?;
-            terms
-        }
+    let terms = match cursor.sees("(") {
+        true => brackets(cursor, known)?,
         false => vec![single(cursor, known, true)?],
     };
     let to = cursor.last().map_or(from, |token| token.to);

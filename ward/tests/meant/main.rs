@@ -220,6 +220,49 @@ fn every_line_is_read_as_it_is_meant_or_asked_about() {
     assert!(read >= 150 && asked >= 200, "{read} read, {asked} asked");
 }
 
+/// Before anything is built no value of hours is known, and nothing is told as a mistake that is none.
+#[test]
+fn what_is_read_is_no_mistake_before_anything_is_built() {
+    for case in cases(include_str!("lines.txt")) {
+        if read(&case.text).sheet.is_some() {
+            let unjudged = ward_reader::read(case.text.as_bytes(), &Clock::unjudged());
+            assert!(unjudged.sheet.is_some(), "{}: {:?}", case.title, unjudged.remarks);
+        }
+    }
+}
+
+/// Lines of the list with small damages end in a mistake or are read, and nothing panics; what is read goes there and back.
+#[test]
+fn damaged_lines_do_no_harm() {
+    let signs =
+        ['a', '1', ':', '.', ',', '-', '–', '+', '#', '"', '“', '(', ')', '<', '=', ' ', '\u{A0}', '\u{AD}', 'é', '\n'];
+    let mut random = random::Random::new(238);
+    for case in cases(include_str!("lines.txt")) {
+        for _ in 0..20 {
+            let mut text: Vec<char> = case.text.chars().collect();
+            for _ in 0..=random.below(2) {
+                let (place, sign) = (random.below(text.len()), signs[random.below(signs.len())]);
+                match random.below(4) {
+                    0 => drop(text.remove(place)),
+                    1 => text.insert(place, sign),
+                    2 => text[place] = sign,
+                    _ => {
+                        let other = random.below(text.len());
+                        text.swap(place, other);
+                    }
+                }
+            }
+            let text: String = text.into_iter().collect();
+            let read = read(&text);
+            read.remarks.iter().for_each(|remark| drop(remark.in_file("x", &read.lines)));
+            let Some(sheet) = read.sheet else { continue };
+            let again = ward_reader::shown::text(&sheet, &clock());
+            let back = self::read(&again).sheet.unwrap_or_else(|| panic!("{text}\n{again}"));
+            assert_eq!(record::sent(&back), record::sent(&sheet), "{text}\n{again}");
+        }
+    }
+}
+
 /// Every reason for not following the list is about a case of it.
 #[test]
 fn what_is_overruled_is_in_the_list() {

@@ -1,7 +1,7 @@
 //! Damaged texts: a mistake with a place in the text, or the record that a second reader finds too; never a wrong record.
 
 use random::Random;
-use ward_reader::{record, Weight};
+use ward_reader::{record, Clock, Weight};
 
 use crate::random_texts::{clock, text, Meant};
 use crate::second;
@@ -114,6 +114,47 @@ fn random_bytes_do_no_harm() {
         "7:00",
         "\u{85}",
         "\u{2028}",
+        "not before",
+        "by",
+        "at least",
+        "at most",
+        "exactly",
+        "after",
+        "before",
+        "between",
+        "within",
+        "35",
+        "2 h",
+        "3 days",
+        "1.5",
+        "1,5",
+        "8:40 pm",
+        "Thu",
+        "midnight",
+        "next",
+        "2026-11-17",
+        "11/12/2026",
+        "anchor: 8:00\n",
+        "moments: a, b, \"a-1\"\n",
+        "nothing before anchor",
+        "but",
+        "a-1",
+        "“b”",
+        "„",
+        "–",
+        "(",
+        ")",
+        "=",
+        ">=",
+        "->",
+        "and",
+        "both",
+        "earlier of",
+        "max(",
+        "#1",
+        "\u{AD}",
+        "e\u{301}",
+        "a # 2\n",
     ];
     for _ in 0..3_000 {
         let mut bytes: Vec<u8> = (0..random.below(30))
@@ -123,7 +164,42 @@ fn random_bytes_do_no_harm() {
             let place = random.below(bytes.len() + 1);
             bytes.insert(place, random.word() as u8);
         }
-        let read = ward_reader::read(&bytes, &clock());
-        read.remarks.iter().for_each(|remark| drop(remark.in_file("x", &read.lines)));
+        for clock in [clock(), Clock::unjudged()] {
+            let read = ward_reader::read(&bytes, &clock);
+            read.remarks.iter().for_each(|remark| drop(remark.in_file("x", &read.lines)));
+        }
     }
+}
+
+/// Brackets within brackets, and lines as long as a text may be, end the reading with a mistake.
+#[test]
+fn deep_and_long_lines_do_no_harm() {
+    for part in ["(", "later of (", "a, ", "a <= ", "a + ", "1 day ", "- ", "a and ", "\"", "#1 ", "1:", "a-"] {
+        let line = part.repeat(400_000 / part.len());
+        let read = ward_reader::read(format!("moments: a\n{line}\nspan: from a to a\n").as_bytes(), &clock());
+        assert!(read.remarks.iter().all(|remark| remark.in_file("x", &read.lines).len() < 10_000), "{part}");
+    }
+}
+
+/// Lines that went wrong once.
+#[test]
+fn lines_that_did_harm_do_none() {
+    for line in [
+        "span: between and a",
+        "span: to from a",
+        "a by #",
+        "moments: - a",
+        "#1 ",
+        "a 5 to",
+        "nothing before anchor but",
+    ] {
+        assert!(!judged(&format!("moments: a\n{line}\nspan: from a to a\n")) || line == "#1 ", "{line}");
+    }
+    // What follows a name is no part of another one.
+    let text =
+        "moments: a, \"a + 15\", \"a, b\", b\n\"a\" + 15 <= b\nlater of \"a\", b <= \"a, b\"\nspan: from a to b\n";
+    let sheet = ward_reader::read(text.as_bytes(), &clock()).sheet.expect("a good text");
+    let again = ward_reader::shown::text(&sheet, &clock());
+    let back = ward_reader::read(again.as_bytes(), &clock()).sheet.unwrap_or_else(|| panic!("{again}"));
+    assert_eq!(record::sent(&back), record::sent(&sheet), "{again}");
 }

@@ -1,5 +1,6 @@
-//! A second reader of texts, written from docs/SCHEDULERS.md alone. It looks for no mistakes: it takes what it understands, and
-//! says what record that is. It knows the forms with a sign, and none of the spoken ones.
+//! A second reader of texts, of the forms with a sign and none of the spoken ones. It looks for no mistakes: it takes what it
+//! understands, and says what record that is. It shares no code with the reader. Its first form was written from the guide alone; the
+//! lengths, brackets, signs and dashes were added by whoever built the reader, so that for those it is a second program, not a second mind.
 
 const BLANK: i32 = i32::MIN;
 const DASHES: &str = "-–—−‐‑";
