@@ -238,16 +238,16 @@ passing-second p q = record {
 }
 
 -- One pass for two.
-pub passed-once : {left right : List ℕ} {width rows : ℕ} {x picks x′ picks′ : List ℕ} {r : ℕ} → Passed left right width rows rows rows x picks x′ picks′ r → r ≡ 0
-    → Passed left right width rows (2 * rows) rows x picks x′ picks′ 0
-passed-once p e = record {
+pub passed-once : {left right : List ℕ} {width rows : ℕ} {x picks x′ picks′ : List ℕ} {r : ℕ} → Passed left right width rows rows rows x picks x′ picks′ r
+    → Passed left right width rows (2 * rows) rows x picks x′ picks′ r
+passed-once p = record {
   size = p .size;
   within = λ d w. within-more (omega arith) (p .within d w);
   falling = p .falling;
   lower = p .lower;
   picked = p .picked;
-  moved = λ h. absurd (omega arith);
-  stand = λ _. p .stand e;
+  moved = p .moved;
+  stand = p .stand;
 }
 
 -- Two passes, the first of which lowered something.

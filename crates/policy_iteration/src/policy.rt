@@ -156,7 +156,7 @@ fn pass(
     failed
 }
 
-// Two passes, or one in which no row failed.
+// Two passes, or one in which no row failed, or after which variable 0 is blank: no later pass changes that.
 fn passes(
     left: &[u32; TABLE],
     right: &[u32; TABLE],
@@ -170,8 +170,12 @@ fn passes(
     requires { ⌜ Passing first-limit (now left) (now right) (now lefts) (now rights) (now x) (now picks) width rows ⌝ }
     ensures { λ r. ⌜ Passed (now (left .entry)) (now (right .entry)) width rows (2 * rows) rows (now (x .entry)) (now (picks .entry)) (now (x .exit)) (now (picks .exit)) r ⌝ }
 {
-    if pass(left, right, lefts, rights, x, picks, width, rows) == 0 {
-        return 0;
+    let failed = pass(left, right, lefts, rights, x, picks, width, rows);
+    if failed == 0 {
+        return failed;
+    }
+    if x[0] == 0 {
+        return failed;
     }
     pass(left, right, lefts, rights, x, picks, width, rows)
 }
