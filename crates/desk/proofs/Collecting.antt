@@ -17,11 +17,10 @@ use Rattle.definitions.proofs.IdleDay.{meant-bytes}
 use Rattle.engine.specs.declared.one_trial.Handed.{Handed}
 use Rattle.engine.specs.OneTrial.{spanIn, answerWith, AnsweredFor, Answered, HandedOver}
 use Rattle.desk.specs.declared.state.Place.{Place}
-use Rattle.desk.specs.declared.state.Desk.{Desk}
 use Rattle.desk.specs.declared.calls.Collected.{Collected}
 use Rattle.desk.specs.declared.calls.Collected.the-variants as Collections
-use Rattle.desk.specs.State.{Arrays, seatedAt, noPlace, placeIn, HoldsTicket, ring, bytesAt, Seated, blankPlace, PlaceIs, is-empty, Holds}
-use Rattle.desk.specs.Calls.{Left, collectedOf, NextCollected, DidCollect}
+use Rattle.desk.specs.State.{Desk, Arrays, seatedAt, noPlace, placeIn, HoldsTicket, ring, bytesAt, Seated, blankPlace, PlaceIs, is-empty, Holds}
+use Rattle.desk.specs.Calls.{Left, collectedOf, NextCollected, DidCollect, CanCollectOf, CanCollect, collectedTo, CollectedAt}
 use Rattle.tickets.proofs.Sound.{beyond-empty}
 use Rattle.desk.proofs.Kept.{part-bytes}
 use Rattle.desk.proofs.Holding.{place-empty, place-ticket, place-open, AnsweredAs, place-closed, seated-places}
@@ -143,3 +142,46 @@ module _ (d : Desk) (memory : List ℕ) (ticket at : ℕ) (buffer : List ℕ) (h
             });
           };
     }
+
+-- ---- the call
+
+module _ {at : ℕ} {c : Place} {memory : List ℕ} where
+  pub collected-short : {buffer : List ℕ} → length memory < desk-memory → CollectedAt at c memory buffer (Collections.Refused refused-memory) buffer
+  unfolding collectedTo
+  collected-short {buffer} h = record { did = λ d ticket can. collect-short d memory ticket buffer h }
+
+  module _ (h : desk-memory ≤ length memory) where
+    pub collected-none : {buffer : List ℕ} → at ≡ desk-places → CollectedAt at c memory buffer (Collections.Refused refused-ticket) buffer
+    unfolding collectedTo
+    collected-none {buffer} e = record { did = λ d ticket can. collect-none h (can .found) e }
+
+    module _ (n : at ≡ desk-places → ⊥) where
+      class-at : (d : Desk) (ticket : ℕ) → CanCollectOf at c memory d ticket → placeIn d at .pending .class ≡ c .pending .class
+      class-at d ticket can = ap (λ (z : Place). z .pending .class) (can .here (omega (arith, can .found .most)))
+
+      pub collected-waits : {buffer : List ℕ} → c .pending .class ≡ 0 → CollectedAt at c memory buffer Collections.StillWaits buffer
+      unfolding collectedTo
+      collected-waits {buffer} e = record { did = λ d ticket can. collect-waits d memory ticket at buffer h (can .found) n (class-at d ticket can ∙ e) }
+
+      module _ (e : c .pending .class ≡ 0 → ⊥) where
+        closed : (d : Desk) (ticket : ℕ) → CanCollectOf at c memory d ticket → placeIn d at .pending .class ≡ 0 → ⊥
+        closed d ticket can z = e (sym (class-at d ticket can) ∙ z)
+
+        pub collected-room : {buffer : List ℕ} → length buffer < answer-most → CollectedAt at c memory buffer (Collections.Refused refused-room) buffer
+        unfolding collectedTo
+        collected-room {buffer} b = record { did = λ d ticket can. collect-room d memory ticket at buffer h (can .found) n (closed d ticket can) b }
+
+        pub can-answer : Bytes memory → CanCollect at c memory → Answered (c .pending)
+        can-answer b can =
+            let g = can .can in
+            subst (λ (z : Place). Answered (z .pending)) (g .here (omega (arith, g .found .most)))
+            (collect-answered (can .desk) memory (can .ticket) at memory h (g .found) n (closed (can .desk) (can .ticket) g) b (g .left h))
+
+        pub collected-handed : {buffer buffer′ : List ℕ} {r : Handed} → answer-most ≤ length buffer → length buffer′ ≡ length buffer → HandedOver (c .pending) buffer r buffer′
+            → CollectedAt at c memory buffer (Collections.Handed (r .class) (r .span) (r .trials) (r .size)) buffer′
+        unfolding collectedTo
+        collected-handed {buffer} {buffer′} {r} room same handed = record {
+          did = λ d ticket can.
+              collected-all d memory ticket at buffer h (can .found) n (closed d ticket can) blankPlace {r = r} room refl refl same
+              (subst (λ (z : Place). HandedOver (z .pending) buffer r buffer′) (sym (can .here (omega (arith, can .found .most)))) handed);
+        }

@@ -15,8 +15,7 @@ use Rattle.definitions.specs.Desk.{placeAt, Stands, ticketOf, held, FirstEmpty}
 use Rattle.engine.specs.OneTrial.{spanIn, PendingFor, answerWith, AnsweredFor}
 use Rattle.engine.proofs.Trials.{pending-open}
 use Rattle.desk.specs.declared.state.Place.{Place}
-use Rattle.desk.specs.declared.state.Desk.{Desk}
-use Rattle.desk.specs.State.{noPlace, placeIn, FirstFree, ring, bytesAt, Seated, blankPlace, PlaceIs, is-empty, is-waiting, is-answered, Holds}
+use Rattle.desk.specs.State.{Desk, noPlace, placeIn, FirstFree, ring, bytesAt, Seated, blankPlace, PlaceIs, is-empty, is-waiting, is-answered, Holds}
 use Rattle.tickets.proofs.Line.{At}
 use Rattle.tickets.proofs.Sound.{Sound, Waiting, waiting-inside, empty-not-waits, answered-not-waits, problemHeld, ownHeld}
 use Rattle.tickets.proofs.Places.{held-less, held-all}

@@ -5,8 +5,7 @@ use mathlib.Core.Logic.{_⊎_, ⊎-elim}
 use native.Mathlib.Omega.{arith}
 use Rattle.base.proofs.Numbers.{nat-le-or-lt}
 use Rattle.definitions.specs.Limits.{desk-places}
-use Rattle.desk.specs.declared.state.Desk.{Desk}
-use Rattle.desk.specs.State.{placeIn, FirstFree, HoldsTicket}
+use Rattle.desk.specs.State.{Desk, placeIn, FirstFree, HoldsTicket}
 
 -- None of the first i places has the ticket.
 pub record Looked (d : Desk) (ticket i : ℕ) : Type 0 where

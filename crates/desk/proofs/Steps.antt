@@ -14,10 +14,10 @@ use Rattle.definitions.specs.Desk.{placeAt, Stands, FromOpening, Steps, one-mor
 use Rattle.engine.specs.OneTrial.{spanIn, TrialFor}
 use Rattle.engine.proofs.Trials.{pending-open}
 use Rattle.desk.specs.declared.state.Place.{Place}
-use Rattle.desk.specs.declared.state.Desk.{Desk}
 use Rattle.desk.specs.declared.calls.Stepped.the-variants as Steppings
-use Rattle.desk.specs.State.{Arrays, seatedAt, joinedBy, headGone, noPlace, placeIn, ring, bytesAt, Seated, PlaceIs, is-waiting, is-answered, Holds, Tryable, Tried}
-use Rattle.desk.specs.Calls.{Left, steppedOf, NextStep, HeadTried, DidStep}
+use Rattle.desk.specs.declared.state.Front.{Front}
+use Rattle.desk.specs.State.{Desk, deskOf, Fits, frontJoined, frontGone, Arrays, seatedAt, joinedBy, headGone, noPlace, placeIn, ring, bytesAt, Seated, PlaceIs, is-waiting, is-answered, Holds, Tryable, Tried}
+use Rattle.desk.specs.Calls.{Left, steppedOf, NextStep, HeadTried, DidStep, CanStepOf, CanStep, steppedTo, StepAt}
 use Rattle.tickets.proofs.Sound.{classed, from-opening-sound}
 use Rattle.desk.proofs.Ring.{ring-join}
 use Rattle.desk.proofs.Holding.{place-open, none-wait, line-head, HeadAs, head-as, seated-places}
@@ -37,17 +37,6 @@ step-idle {d} {memory} h e = record {
   short = λ l. absurd (omega arith);
   moves = λ _ state f g. record { next = state; steps = Steps.idle (memory-enough (length memory) h) (none-wait g e); holds = g };
 }
-
--- ---- arrays of the changes
-
-pub seated-arrays : (d : Desk) (at : ℕ) (c : Place) → Arrays d → Arrays (seatedAt d at c)
-seated-arrays d at c a = record { line-size = a .line-size; places-size = length-set (d .places) at c ∙ a .places-size; head-inside = a .head-inside; few = a .few }
-
-pub gone-few : (d : Desk) (at : ℕ) (c : Place) → Arrays d → (d .waiting ≡ 0 → ⊥) → Arrays (headGone (seatedAt d at c)) × (headGone (seatedAt d at c) .waiting < desk-places)
-gone-few d at c a n = (
-  record { line-size = a .line-size; places-size = length-set (d .places) at c ∙ a .places-size; head-inside = omega arith; few = omega (arith, a .few) },
-  omega (arith, a .few),
-)
 
 -- ---- the head
 
@@ -179,15 +168,69 @@ module _ (d : Desk) (memory : List ℕ) (r : Place) (enough : desk-memory ≤ le
     moves = λ _ state o g. rw (e, t) (step-done state o g z);
   }
 
-  pub did-on : {seat gone d′ : Desk} {ticket : ℕ} → Head d memory → seat ≡ seatedAt d (getD (d .line) (d .head) 0) r → gone ≡ headGone seat → d′ ≡ joinedBy gone (getD (d .line) (d .head) 0)
+  pub did-on : {d′ : Desk} {ticket : ℕ} → Head d memory → d′ ≡ joinedBy (headGone (seatedAt d (getD (d .line) (d .head) 0) r)) (getD (d .line) (d .head) 0)
       → ticket ≡ r .ticket → r .pending .class ≡ 0 → DidStep d memory (Steppings.GoesOn ticket) d′
-  did-on {seat} {gone} {d′} h a b e t z =
-      let now : d′ ≡ joinedBy (headGone (seatedAt d (getD (d .line) (d .head) 0) r)) (getD (d .line) (d .head) 0) =
-      e ∙ ap (λ (z : Desk). joinedBy z (getD (d .line) (d .head) 0)) (b ∙ ap headGone a) in
-      record {
-        still = λ f. absurd (let z : _≡_ {A = ℕ} 0 1 = cc in omega arith);
-        others = record { stay = λ k n. rw now (getD-set-other (d .places) (getD (d .line) (d .head) 0) k r noPlace n) };
-        trial = λ _ _. head-tried d′ h (ap (λ (z : Desk). z .places) now);
-        short = λ l. absurd (omega arith);
-        moves = λ _ state o g. rw (now, t) (step-on state o g z);
-      }
+  did-on {d′} h e t z = record {
+    still = λ f. absurd (let z : _≡_ {A = ℕ} 0 1 = cc in omega arith);
+    others = record { stay = λ k n. rw e (getD-set-other (d .places) (getD (d .line) (d .head) 0) k r noPlace n) };
+    trial = λ _ _. head-tried d′ h (ap (λ (z : Desk). z .places) e);
+    short = λ l. absurd (omega arith);
+    moves = λ _ state o g. rw (e, t) (step-on state o g z);
+  }
+
+-- ---- the call
+
+pub stepped-short : {f : Front} {c : Place} {memory : List ℕ} → length memory < desk-memory → StepAt f c memory (record { outcome = Steppings.Refused refused-memory; front = f; place = c })
+unfolding steppedTo
+stepped-short {f} {memory = memory} h = record { inside = λ places can l. absurd (omega arith); did = λ places can. step-short (deskOf f places) memory h }
+
+pub stepped-idle : {f : Front} {c : Place} {memory : List ℕ} → desk-memory ≤ length memory → f .waiting ≡ 0 → StepAt f c memory (record { outcome = Steppings.NoneWaits; front = f; place = c })
+unfolding steppedTo
+stepped-idle {f} h e = record { inside = λ places can l n. absurd (n refl); did = λ places can. step-idle {d = deskOf f places} h e }
+
+-- What is known of the head.
+pub record HeadGiven (f : Front) (c : Place) (memory : List ℕ) : Type 0 where
+  pub fits : Fits f
+  pub inside : getD (f .line) (f .head) 0 < desk-places
+  pub tryable : Tryable memory (getD (f .line) (f .head) 0) c
+
+pub head-given : {f : Front} {c : Place} {memory : List ℕ} → desk-memory ≤ length memory → (f .waiting ≡ 0 → ⊥) → CanStep f c memory → HeadGiven f c memory
+head-given {f} {c} {memory} h n can =
+    let w = head-of {d = deskOf f (can .places)} h n (can .can .left h) in
+    record {
+      fits = record { line-size = w .arrays .line-size; head-inside = w .arrays .head-inside; few = w .arrays .few };
+      inside = w .inside;
+      tryable = subst (Tryable memory (getD (f .line) (f .head) 0)) (can .can .here (w .inside)) (w .tryable);
+    }
+
+pub gone-fits : {f rest : Front} → Fits f → (f .waiting ≡ 0 → ⊥) → rest ≡ frontGone f → Fits rest × (rest .waiting < desk-places)
+gone-fits a n e = rw e (record { line-size = a .line-size; head-inside = omega arith; few = omega (arith, a .few) }, omega (arith, a .few))
+
+module _ {f : Front} {c : Place} {memory : List ℕ} {r : Place} {rest : Front} (enough : desk-memory ≤ length memory) (some : f .waiting ≡ 0 → ⊥)
+    (t : Tried (bytesAt memory (getD (f .line) (f .head) 0) (c .size)) c r) (gone : rest ≡ frontGone f) where
+  its-head : (places : List Place) → CanStepOf f c memory places → Head (deskOf f places) memory
+  its-head places can = head-of enough some (can .left enough)
+
+  its-trial : (places : List Place) → CanStepOf f c memory places
+      → Tried (bytesAt memory (getD (f .line) (f .head) 0) (placeIn (deskOf f places) (getD (f .line) (f .head) 0) .size)) (placeIn (deskOf f places) (getD (f .line) (f .head) 0)) r
+  its-trial places can = subst (λ (z : Place). Tried (bytesAt memory (getD (f .line) (f .head) 0) (z .size)) z r) (sym (can .here (its-head places can .inside))) t
+
+  -- It is answered,
+  pub stepped-done : (r .pending .class ≡ 0 → ⊥) → StepAt f c memory (record { outcome = Steppings.Done (r .ticket); front = rest; place = r })
+  unfolding steppedTo
+  stepped-done z = record {
+    inside = λ places can _ _. its-head places can .inside;
+    did = λ places can.
+        let e = ap (λ (x : Front). deskOf x (set places (getD (f .line) (f .head) 0) r)) gone in
+        did-done (deskOf f places) memory r enough some (its-trial places can) (its-head places can) e refl z;
+  }
+
+  -- or goes on.
+  pub stepped-on : {next : Front} → next ≡ frontJoined rest (getD (f .line) (f .head) 0) → r .pending .class ≡ 0 → StepAt f c memory (record { outcome = Steppings.GoesOn (r .ticket); front = next; place = r })
+  unfolding steppedTo
+  stepped-on {next} j z = record {
+    inside = λ places can _ _. its-head places can .inside;
+    did = λ places can.
+        let e = ap (λ (x : Front). deskOf x (set places (getD (f .line) (f .head) 0) r)) (j ∙ ap (λ (x : Front). frontJoined x (getD (f .line) (f .head) 0)) gone) in
+        did-on (deskOf f places) memory r enough some (its-trial places can) (its-head places can) e refl z;
+  }

@@ -20,11 +20,12 @@ use Rattle.engine.specs.declared.one_trial.Begun.{Begun}
 use Rattle.engine.specs.declared.one_trial.Pending.{Pending}
 use Rattle.engine.specs.OneTrial.{PendingFor, BegunFor}
 use Rattle.desk.specs.declared.state.Place.{Place}
-use Rattle.desk.specs.declared.state.Desk.{Desk}
 use Rattle.desk.specs.declared.calls.TakenIn.{TakenIn}
+use Rattle.desk.specs.declared.calls.Taking.{Taking}
 use Rattle.desk.specs.declared.calls.TakenIn.the-variants as Takings
-use Rattle.desk.specs.State.{Arrays, noPlace, placeIn, FirstFree, entered, Room, ring, bytesAt, Seated, blankPlace, PlaceIs, is-empty, is-waiting, Holds}
-use Rattle.desk.specs.Calls.{Left, takenOf, OpenedBy, NextTaken, SearchBegun, TookIn}
+use Rattle.desk.specs.declared.state.Front.{Front}
+use Rattle.desk.specs.State.{Desk, deskOf, Fits, Arrays, noPlace, placeIn, FirstFree, entered, Room, ring, bytesAt, Seated, blankPlace, PlaceIs, is-empty, is-waiting, Holds}
+use Rattle.desk.specs.Calls.{Left, takenOf, OpenedBy, NextTaken, SearchBegun, TookIn, CanTakeOf, CanTake, entry, takenTo, TookAt}
 use Rattle.tickets.proofs.Sound.{Sound, from-opening-sound, sound-taken, line-few}
 use Rattle.desk.proofs.Ring.{ring-length, ring-join}
 use Rattle.desk.proofs.Kept.{kept-here, kept-there, fits-place}
@@ -109,36 +110,40 @@ not-refused d memory p at state h w f b l g =
     rw (memory-enough (length memory) h, w, lt-leb desk-places (held (state .places)) some, lt-leb last-ticket (state .given) (omega (arith, g .given-is))) refl
 
 -- There is room for it: the line is shorter than 16.
-pub room-for : {d : Desk} {memory p : List ℕ} {at : ℕ} → desk-memory ≤ length memory → WithinDesk (meant p) → FirstFree d at → (at ≡ desk-places → ⊥) → (d .given ≡ last-ticket → ⊥)
-    → d .given ≤ last-ticket → Left d memory → Room d at p memory
-room-for {d} {memory} {p} {at} h w f n l most left =
+pub room-for : {f : Front} {places : List Place} {memory p : List ℕ} {at : ℕ} → desk-memory ≤ length memory → WithinDesk (meant p) → FirstFree (deskOf f places) at → (at ≡ desk-places → ⊥) → (f .given ≡ last-ticket → ⊥)
+    → f .given ≤ last-ticket → Left (deskOf f places) memory → Room f at p memory
+room-for {f} {places} {memory} {p} {at} h w free n l most left =
+    let d = deskOf f places in
     let g = left .holds in
     let state = left .state in
-    let inside : at < desk-places = omega (arith, f .most) in
-    let below : d .given < last-ticket = omega arith in
-    let s = sound-taken (from-opening-sound (left .from-opening)) (taken (not-refused d memory p at state h w f inside below g) (first-empty g f inside)) in
+    let inside : at < desk-places = omega (arith, free .most) in
+    let below : f .given < last-ticket = omega arith in
+    let s = sound-taken (from-opening-sound (left .from-opening)) (taken (not-refused d memory p at state h w free inside below g) (first-empty g free inside)) in
     let few = line-few s in
-    let long : length (state .line) ≡ d .waiting = ap (λ (z : List ℕ). length z) (sym (g .line-is)) ∙ ring-length (d .line) (d .head) (d .waiting) in
-    record { arrays = g .arrays; inside = inside; few = omega (arith, length-append (state .line) (at ∷ [])); ticket-left = below; short = fits-place p w; memory-enough = h }
+    let long : length (state .line) ≡ d .waiting = ap (λ (z : List ℕ). length z) (sym (g .line-is)) ∙ ring-length (f .line) (f .head) (f .waiting) in
+    record { fits = record { line-size = g .arrays .line-size; head-inside = g .arrays .head-inside; few = g .arrays .few }; inside = inside; few = omega (arith, length-append (state .line) (at ∷ [])); ticket-left = below; short = fits-place p w; memory-enough = h }
 
 -- It is taken in.
-pub took-in : {d r : Desk} {memory memory′ p : List ℕ} {at : ℕ} {b : Begun} → desk-memory ≤ length memory → BegunFor (meant p) b → b .refused ≡ 0 → FirstFree d at
-    → Room d at p memory → r ≡ entered d at p (b .pending) → memory′ ≡ put memory (at * problem-most) p → TookIn d memory p (Takings.Ticket (r .given)) r memory′
+pub took-in : (front : Front) (places : List Place) {memory memory′ p : List ℕ} {at : ℕ} {b : Begun} → desk-memory ≤ length memory → BegunFor (meant p) b → b .refused ≡ 0 → FirstFree (deskOf front places) at
+    → length places ≡ desk-places → Room front at p memory → memory′ ≡ put memory (at * problem-most) p → TookIn (deskOf front places) memory p (Takings.Ticket (front .given + 1)) (entered (deskOf front places) at p (b .pending)) memory′
 unfolding takenOf
-took-in {d} {r} {memory} {memory′} {p} {at} {b} h g z f room e m = record {
+took-in front places {memory} {memory′} {p} {at} {b} h g z f sixteen room m = record {
   same-length = rw m (length-put memory (at * problem-most) p (omega arith) (omega (arith, room .short, room .inside)));
   still = λ e. absurd (let z : _≡_ {A = ℕ} 0 1 = cc in omega arith);
-  enters = λ _. record { at = at; inside = room .inside; free = f; memory-is = m; begun = begun; others = record { stay = λ k n. rw e (getD-set-other (d .places) at k c noPlace n) } };
+  enters = λ _. record { at = at; inside = room .inside; free = f; memory-is = m; begun = begun; others = record { stay = λ k n. getD-set-other places at k c noPlace n } };
   short = λ l. absurd (omega arith);
-  moves = λ _ state o holds. record { next = next state; takes = rw (ap (λ (z : Desk). z .given) e) (takes state holds); holds = rw (e, m) (held-after state holds) };
+  moves = λ _ state o holds. record { next = next state; takes = takes state holds; holds = rw m (held-after state holds) };
 }
   where
+    d : Desk
+    d = deskOf front places
+
     c : Place
     c = record { ticket = d .given + 1; size = length p; pending = b .pending }
 
-    begun : SearchBegun p at r
+    begun : SearchBegun p at (entered d at p (b .pending))
     begun =
-        let here : placeIn r at ≡ c = ap (λ (x : Desk). placeIn x at) e ∙ getD-set-same (d .places) at c noPlace (omega (arith, room .inside, room .arrays .places-size)) in
+        let here : placeIn (entered d at p (b .pending)) at ≡ c = getD-set-same places at c noPlace (omega (arith, room .inside)) in
         (ap (λ (x : Place). x .size) here, ap (λ (x : Place). x .pending) here ∙ g .fresh-is z)
 
     within : WithinDesk (meant p)
@@ -183,3 +188,22 @@ took-in {d} {r} {memory} {memory′} {p} {at} {b} h g z f room e m = record {
       places-size = length-set (state .places) at (Machine.waits (suc (state .given)) (meant p) 0) ∙ holds .places-size;
       places = seated-places d memory (put memory (at * problem-most) p) state at c _ (holds .arrays .places-size) (holds .places-size) (room .inside) (others state holds) (new state holds);
     }
+
+-- ---- the call
+
+-- Nothing is taken in.
+pub took-not : {f : Front} {at k : ℕ} {memory p : List ℕ} {r : Taking} → r ≡ record { outcome = Takings.Refused k; front = f; place = blankPlace }
+    → ((places : List Place) → CanTakeOf f at memory places → TookIn (deskOf f places) memory p (Takings.Refused k) (deskOf f places) memory) → TookAt f at memory p r memory
+unfolding takenTo
+took-not e t = rw e (record { did = t })
+
+-- There is room for it.
+pub can-room : {f : Front} {at : ℕ} {memory p : List ℕ} {b : Begun} → desk-memory ≤ length memory → BegunFor (meant p) b → b .refused ≡ 0 → (at ≡ desk-places → ⊥) → (f .given ≡ last-ticket → ⊥)
+    → f .given ≤ last-ticket → (places : List Place) → CanTakeOf f at memory places → Room f at p memory
+can-room h g z n l most places can = room-for {places = places} h (sym (g .refused-is) ∙ z) (can .free) n l most (can .left h)
+
+-- It is taken in.
+pub took-one : {f : Front} {at : ℕ} {memory memory′ p : List ℕ} {b : Begun} {r : Taking} → desk-memory ≤ length memory → BegunFor (meant p) b → b .refused ≡ 0 → (at ≡ desk-places → ⊥)
+    → (f .given ≡ last-ticket → ⊥) → f .given ≤ last-ticket → r ≡ entry f at p (b .pending) → memory′ ≡ put memory (at * problem-most) p → TookAt f at memory p r memory′
+unfolding takenTo
+took-one {f = f} h g z n l most e m = rw e (record { did = λ places can. took-in f places h g z (can .free) (can .left h .holds .arrays .places-size) (can-room h g z n l most places can) m })

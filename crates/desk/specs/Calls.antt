@@ -1,8 +1,8 @@
 -- What the desk's calls leave, in the words of the machine. Document 02, 2.11.
-use Prim.Native.Nat.{ℕ, _+_, _*_, _≤_, _<_}
+use Prim.Native.Nat.{ℕ, _+_, _*_, _%_, _≤_, _<_}
 use mathlib.Core.Path.{_≡_}
 use mathlib.Core.List.{List}
-use lib.ListN.{length}
+use lib.ListN.{length, set}
 use Rattle.definitions.specs.Limits.{desk-places, desk-memory, problem-most, refused-memory}
 use Rattle.definitions.specs.Bytes.{put}
 use Rattle.definitions.specs.Offset.{tropOf}
@@ -10,14 +10,18 @@ use Rattle.definitions.specs.ProblemRecord.{meant, nField, mField}
 use Rattle.definitions.specs.Desk as Machine
 use Rattle.definitions.specs.Desk.{FromOpening, TakesIn, Steps, Collects}
 use Rattle.engine.specs.OneTrial.{fresh}
-use Rattle.desk.specs.declared.state.Desk.{Desk}
 use Rattle.desk.specs.declared.calls.TakenIn.{TakenIn}
 use Rattle.desk.specs.declared.calls.TakenIn.the-variants as Takings
 use Rattle.desk.specs.declared.calls.Stepped.{Stepped}
 use Rattle.desk.specs.declared.calls.Stepped.the-variants as Steppings
 use Rattle.desk.specs.declared.calls.Collected.{Collected}
 use Rattle.desk.specs.declared.calls.Collected.the-variants as Collections
-use Rattle.desk.specs.State.{placeIn, headOf, bytesAt, OthersStay, FirstFree, HoldsTicket, Holds, Tried}
+use Rattle.engine.specs.declared.one_trial.Pending.{Pending}
+use Rattle.desk.specs.declared.state.Front.{Front}
+use Rattle.desk.specs.declared.state.Place.{Place}
+use Rattle.desk.specs.declared.calls.Taking.{Taking}
+use Rattle.desk.specs.declared.calls.Stepping.{Stepping}
+use Rattle.desk.specs.State.{Desk, deskOf, seatedAt, placeIn, headOf, blankPlace, bytesAt, OthersStay, FirstFree, HoldsTicket, Holds, Tried}
 
 -- ---- the premise
 
@@ -122,3 +126,70 @@ pub record DidCollect (d : Desk) (memory : List ℕ) (ticket : ℕ) (buffer : Li
   pub short : length memory < desk-memory → (r ≡ Collections.Refused refused-memory) × (d′ ≡ d) × (buffer′ ≡ buffer)
   pub moves : desk-memory ≤ length memory → (state : Machine.Desk) → FromOpening (length memory) state → Holds d memory state
       → NextCollected d memory ticket buffer r d′ buffer′ state
+
+-- ---- the calls, which get the front of a desk and one of its places
+
+-- A desk with this front, whose first free place this is.
+pub record CanTakeOf (f : Front) (at : ℕ) (memory : List ℕ) (places : List Place) : Type 0 where
+  pub left : AsLeft (deskOf f places) memory
+  pub free : FirstFree (deskOf f places) at
+
+pub record CanTake (f : Front) (at : ℕ) (memory : List ℕ) : Type 0 where
+  pub places : List Place
+  pub can : CanTakeOf f at memory places
+
+-- A problem that was begun, with the next ticket, at the end of the line.
+abbrev pub entry : Front → ℕ → List ℕ → Pending → Taking
+entry f at p pending = record {
+  outcome = Takings.Ticket (f .given + 1);
+  front = record { given = f .given + 1; head = f .head; waiting = f .waiting + 1; line = set (f .line) ((f .head + f .waiting) % desk-places) at };
+  place = record { ticket = f .given + 1; size = length p; pending = pending };
+}
+
+-- The desk after it: a refusal changes nothing.
+unfoldable pub takenTo : TakenIn → Desk → ℕ → Front → Place → Desk
+takenTo (Takings.Refused k) d at f c = d
+takenTo (Takings.Ticket k) d at f c = deskOf f (set (d .places) at c)
+
+pub record TookAt (f : Front) (at : ℕ) (memory p : List ℕ) (r : Taking) (memory′ : List ℕ) : Type 0 where
+  pub did : (places : List Place) → CanTakeOf f at memory places → TookIn (deskOf f places) memory p (r .outcome) (takenTo (r .outcome) (deskOf f places) at (r .front) (r .place)) memory′
+
+-- A desk with this front, at whose head this place stands.
+pub record CanStepOf (f : Front) (c : Place) (memory : List ℕ) (places : List Place) : Type 0 where
+  pub left : AsLeft (deskOf f places) memory
+  pub here : headOf (deskOf f places) < desk-places → placeIn (deskOf f places) (headOf (deskOf f places)) ≡ c
+
+pub record CanStep (f : Front) (c : Place) (memory : List ℕ) : Type 0 where
+  pub places : List Place
+  pub can : CanStepOf f c memory places
+
+-- The desk after a step.
+unfoldable pub steppedTo : Stepped → Desk → Front → Place → Desk
+steppedTo (Steppings.Refused k) d f c = d
+steppedTo Steppings.NoneWaits d f c = d
+steppedTo (Steppings.GoesOn k) d f c = deskOf f (set (d .places) (headOf d) c)
+steppedTo (Steppings.Done k) d f c = deskOf f (set (d .places) (headOf d) c)
+
+pub record StepAt (f : Front) (c : Place) (memory : List ℕ) (r : Stepping) : Type 0 where
+  pub inside : (places : List Place) → CanStepOf f c memory places → desk-memory ≤ length memory → (r .outcome ≡ Steppings.NoneWaits → ⊥) → headOf (deskOf f places) < desk-places
+  pub did : (places : List Place) → CanStepOf f c memory places → DidStep (deskOf f places) memory (r .outcome) (steppedTo (r .outcome) (deskOf f places) (r .front) (r .place))
+
+-- A desk that has the ticket at this place, or nowhere.
+pub record CanCollectOf (at : ℕ) (c : Place) (memory : List ℕ) (d : Desk) (ticket : ℕ) : Type 0 where
+  pub left : AsLeft d memory
+  pub found : HoldsTicket d ticket at
+  pub here : at < desk-places → placeIn d at ≡ c
+
+pub record CanCollect (at : ℕ) (c : Place) (memory : List ℕ) : Type 0 where
+  pub desk : Desk
+  pub ticket : ℕ
+  pub can : CanCollectOf at c memory desk ticket
+
+-- The desk after collecting.
+unfoldable pub collectedTo : Collected → Desk → ℕ → Desk
+collectedTo (Collections.Refused k) d at = d
+collectedTo Collections.StillWaits d at = d
+collectedTo (Collections.Handed class span own size) d at = seatedAt d at blankPlace
+
+pub record CollectedAt (at : ℕ) (c : Place) (memory buffer : List ℕ) (r : Collected) (buffer′ : List ℕ) : Type 0 where
+  pub did : (d : Desk) (ticket : ℕ) → CanCollectOf at c memory d ticket → DidCollect d memory ticket buffer r (collectedTo r d at) buffer′

@@ -11,7 +11,24 @@ use Rattle.definitions.specs.Desk as Machine
 use Rattle.engine.specs.declared.one_trial.Pending.{Pending}
 use Rattle.engine.specs.OneTrial.{fresh, spanIn, PendingFor, answerWith, AnsweredFor, TrialFor}
 use Rattle.desk.specs.declared.state.Place.{Place}
-use Rattle.desk.specs.declared.state.Desk.{Desk}
+use Rattle.desk.specs.declared.state.Front.{Front}
+
+-- The desk: its front, and its places.
+pub record Desk : Type 0 where
+  pub given : ℕ
+  pub head : ℕ
+  pub waiting : ℕ
+  pub line : List ℕ
+  pub places : List Place
+
+abbrev pub deskOf : Front → List Place → Desk
+deskOf f places = record { given = f .given; head = f .head; waiting = f .waiting; line = f .line; places = places }
+
+-- The size of a front's line, and numbers within it.
+pub record Fits (f : Front) : Type 0 where
+  pub line-size : length (f .line) ≡ desk-places
+  pub head-inside : f .head < desk-places
+  pub few : f .waiting ≤ desk-places
 
 -- The sizes of the arrays, and numbers within them.
 pub record Arrays (d : Desk) : Type 0 where
@@ -21,6 +38,12 @@ pub record Arrays (d : Desk) : Type 0 where
   pub few : d .waiting ≤ desk-places
 
 -- ---- changes
+
+abbrev pub frontJoined : Front → ℕ → Front
+frontJoined f at = record { given = f .given; head = f .head; waiting = f .waiting + 1; line = set (f .line) ((f .head + f .waiting) % desk-places) at }
+
+abbrev pub frontGone : Front → Front
+frontGone f = record { given = f .given; head = (f .head + 1) % desk-places; waiting = f .waiting - 1; line = f .line }
 
 abbrev pub seatedAt : Desk → ℕ → Place → Desk
 seatedAt d at p = record { given = d .given; head = d .head; waiting = d .waiting; line = d .line; places = set (d .places) at p }
@@ -78,11 +101,11 @@ entered d at p pending = record {
 }
 
 -- There is room for it, where the place is free.
-pub record Room (d : Desk) (at : ℕ) (p memory : List ℕ) : Type 0 where
-  pub arrays : Arrays d
+pub record Room (f : Front) (at : ℕ) (p memory : List ℕ) : Type 0 where
+  pub fits : Fits f
   pub inside : at < desk-places
-  pub few : d .waiting < desk-places
-  pub ticket-left : d .given < last-ticket
+  pub few : f .waiting < desk-places
+  pub ticket-left : f .given < last-ticket
   pub short : length p ≤ problem-most
   pub memory-enough : desk-memory ≤ length memory
 

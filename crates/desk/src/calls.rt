@@ -1,15 +1,16 @@
-// The desk's four calls: opening, taking in, a step, collecting. The office lends the memory; the state goes from call to call.
+// The desk's four calls: opening, taking in, a step, collecting. The office lends the memory; a call gets the front of the desk and the one
+// place that it looks at.
 ghost use mathlib.Core.Path.{_≡_};
 ghost use Prim.Native.Nat.{_+_, _*_, _-_, _≤_};
-ghost use lib.ListN.{length};
-ghost use Rattle.definitions.specs.Limits.{problem-most};
+ghost use lib.ListN.{length, replicate};
+ghost use Rattle.definitions.specs.Limits.{problem-most, desk-places};
 ghost use Rattle.definitions.specs.Bytes.{put};
 ghost use Rattle.definitions.specs.ProblemRecord.{meant};
 ghost use Rattle.definitions.specs.Questions.{part};
 ghost use Rattle.engine.specs.OneTrial.{PendingFor, TrialFor};
-ghost use Rattle.desk.specs.State.{bytesAt, blankPlace, entered, Room, Tryable, Tried};
+ghost use Rattle.desk.specs.State.{deskOf, bytesAt, blankPlace, Room, Tryable, Tried};
 ghost use Rattle.desk.specs.declared.calls.TakenIn.the-variants as TakenIn;
-ghost use Rattle.desk.specs.Calls.{AsLeft, OpenedBy, TookIn, DidStep, DidCollect};
+ghost use Rattle.desk.specs.Calls.{OpenedBy, entry, CanTake, TookAt, CanStep, StepAt, CanCollect, CollectedAt};
 use crate::limits::LAST_TICKET;
 use crate::limits::MEMORY;
 use crate::limits::PLACES;
@@ -17,13 +18,10 @@ use crate::limits::PROBLEM_MOST;
 use crate::limits::REFUSED_FULL;
 use crate::limits::REFUSED_MEMORY;
 use crate::limits::REFUSED_TICKET;
-use crate::state::Desk;
+use crate::state::Front;
 use crate::state::Place;
-use crate::state::first_free;
 use crate::state::joined;
 use crate::state::left_line;
-use crate::state::place_of;
-use crate::state::seated;
 use engine::one_trial::Pending;
 use engine::one_trial::begin;
 use engine::one_trial::hand_over;
@@ -53,39 +51,27 @@ pub enum Collected {
     Handed(u64, u64, u64, usize),
 }
 
-// The desk after a call, and what the call answers.
+// What a call answers, the front after it, and the place that it changed: of an opening every place, else the one taken, tried or given.
 pub struct Opening {
     pub refused: usize,
-    pub desk: Desk,
+    pub front: Front,
+    pub place: Place,
 }
 
 pub struct Taking {
     pub outcome: TakenIn,
-    pub desk: Desk,
+    pub front: Front,
+    pub place: Place,
 }
 
 pub struct Stepping {
     pub outcome: Stepped,
-    pub desk: Desk,
-}
-
-pub struct Collecting {
-    pub outcome: Collected,
-    pub desk: Desk,
-}
-
-// A taking-in that changes nothing.
-fn refused_in(desk: Desk, number: usize) -> Taking
-    ensures { λ r. ⌜ r ≡ record { outcome = TakenIn.Refused number; desk = desk } ⌝ }
-{
-    Taking {
-        outcome: TakenIn::Refused(number),
-        desk,
-    }
+    pub front: Front,
+    pub place: Place,
 }
 
 // A place with nothing on it.
-fn no_place() -> Place
+pub fn no_place() -> Place
     ensures { λ r. ⌜ r ≡ blankPlace ⌝ }
 {
     let pending = not_tried(0, 0);
@@ -96,23 +82,38 @@ fn no_place() -> Place
     }
 }
 
+// A taking-in that changes nothing.
+fn refused_in(front: Front, number: usize) -> Taking
+    ensures { λ r. ⌜ r ≡ record { outcome = TakenIn.Refused number; front = front; place = blankPlace } ⌝ }
+{
+    let place = no_place();
+    Taking {
+        outcome: TakenIn::Refused(number),
+        front,
+        place,
+    }
+}
+
 // A desk with nothing on it, whatever the memory holds.
 pub fn open_desk(memory: &[u8]) -> Opening
-    ensures { λ r. ⌜ OpenedBy (now (memory .entry)) (r .refused) (r .desk) ⌝ }
+    ensures { λ r. ⌜ OpenedBy (now (memory .entry)) (r .refused) (deskOf (r .front) (replicate desk-places (r .place))) ⌝ }
 {
-    let empty = no_place();
-    let desk = Desk {
+    let place = no_place();
+    let front = Front {
         given: 0,
         head: 0,
         waiting: 0,
         line: [0; PLACES],
-        places: [empty; PLACES],
     };
     let mut refused = 0;
     if memory.len() < MEMORY {
         refused = REFUSED_MEMORY;
     }
-    Opening { refused, desk }
+    Opening {
+        refused,
+        front,
+        place,
+    }
 }
 
 // Copies the problem to its place in the memory.
@@ -126,46 +127,45 @@ fn keep(memory: &mut [u8], from: usize, problem: &[u8])
 }
 
 // A problem that was begun gets the next ticket, a place, and the end of the line.
-fn enter(memory: &mut [u8], desk: Desk, at: usize, problem: &[u8], pending: Pending) -> Desk
-    requires { ⌜ Room desk at (now problem) (now memory) ⌝ }
-    ensures { λ r. ⌜ (r ≡ entered desk at (now (problem .entry)) pending) × (now (memory .exit) ≡ put (now (memory .entry)) (at * problem-most) (now (problem .entry))) ⌝ }
+fn enter(memory: &mut [u8], front: Front, at: usize, problem: &[u8], pending: Pending) -> Taking
+    requires { ⌜ Room front at (now problem) (now memory) ⌝ }
+    ensures { λ r. ⌜ (r ≡ entry front at (now (problem .entry)) pending) × (now (memory .exit) ≡ put (now (memory .entry)) (at * problem-most) (now (problem .entry))) ⌝ }
 {
     keep(memory, at * PROBLEM_MOST, problem);
-    let ticket = desk.given + 1;
+    let ticket = front.given + 1;
+    let mut next = joined(front, at);
+    next.given = ticket;
     let place = Place {
         ticket,
         size: problem.len(),
         pending,
     };
-    let mut next = joined(seated(desk, at, place), at);
-    next.given = ticket;
-    next
+    Taking {
+        outcome: TakenIn::Ticket(ticket),
+        front: next,
+        place,
+    }
 }
 
 // A problem that nothing refuses goes to the first empty place and to the end of the line, with the next ticket.
-pub fn take_in(memory: &mut [u8], desk: Desk, problem: &[u8]) -> Taking
-    requires { ⌜ AsLeft desk (now memory) ⌝ }
-    ensures { λ r. ⌜ TookIn desk (now (memory .entry)) (now (problem .entry)) (r .outcome) (r .desk) (now (memory .exit)) ⌝ }
+pub fn take_in(memory: &mut [u8], front: Front, at: usize, problem: &[u8]) -> Taking
+    requires { ⌜ CanTake front at (now memory) ⌝ }
+    ensures { λ r. ⌜ TookAt front at (now (memory .entry)) (now (problem .entry)) r (now (memory .exit)) ⌝ }
 {
     if memory.len() < MEMORY {
-        return refused_in(desk, REFUSED_MEMORY);
+        return refused_in(front, REFUSED_MEMORY);
     }
     let begun = begin(problem);
     if begun.refused != 0 {
-        return refused_in(desk, begun.refused);
+        return refused_in(front, begun.refused);
     }
-    let at = first_free(desk);
     if at == PLACES {
-        return refused_in(desk, REFUSED_FULL);
+        return refused_in(front, REFUSED_FULL);
     }
-    if desk.given == LAST_TICKET {
-        return refused_in(desk, REFUSED_FULL);
+    if front.given == LAST_TICKET {
+        return refused_in(front, REFUSED_FULL);
     }
-    let next = enter(memory, desk, at, problem, begun.pending);
-    Taking {
-        outcome: TakenIn::Ticket(next.given),
-        desk: next,
-    }
+    enter(memory, front, at, problem, begun.pending)
 }
 
 // The next trial of the problem in a part of the memory.
@@ -191,76 +191,62 @@ fn tried(memory: &[u8], at: usize, place: Place) -> Place
     }
 }
 
-// One trial of the problem at the head of the line.
-pub fn step(memory: &[u8], desk: Desk) -> Stepping
-    requires { ⌜ AsLeft desk (now memory) ⌝ }
-    ensures { λ r. ⌜ DidStep desk (now (memory .entry)) (r .outcome) (r .desk) ⌝ }
+// One trial of the problem at the head of the line, whose place is given.
+pub fn step(memory: &[u8], front: Front, place: Place) -> Stepping
+    requires { ⌜ CanStep front place (now memory) ⌝ }
+    ensures { λ r. ⌜ StepAt front place (now (memory .entry)) r ⌝ }
 {
     if memory.len() < MEMORY {
         return Stepping {
             outcome: Stepped::Refused(REFUSED_MEMORY),
-            desk,
+            front,
+            place,
         };
     }
-    if desk.waiting == 0 {
+    if front.waiting == 0 {
         return Stepping {
             outcome: Stepped::NoneWaits,
-            desk,
+            front,
+            place,
         };
     }
-    let head = desk.head;
-    let at = desk.line[head];
-    let place = tried(memory, at, desk.places[at]);
-    let next = left_line(seated(desk, at, place));
-    let after = place.pending;
+    let head = front.head;
+    let at = front.line[head];
+    let next = tried(memory, at, place);
+    let rest = left_line(front);
+    let after = next.pending;
     if after.class == 0 {
         return Stepping {
-            outcome: Stepped::GoesOn(place.ticket),
-            desk: joined(next, at),
+            outcome: Stepped::GoesOn(next.ticket),
+            front: joined(rest, at),
+            place: next,
         };
     }
     Stepping {
-        outcome: Stepped::Done(place.ticket),
-        desk: next,
+        outcome: Stepped::Done(next.ticket),
+        front: rest,
+        place: next,
     }
 }
 
-// The answer of a ticket, written at the buffer's start; its place is empty again.
-pub fn collect(memory: &[u8], desk: Desk, ticket: u64, buffer: &mut [u8]) -> Collecting
-    requires { ⌜ AsLeft desk (now memory) ⌝ }
-    ensures { λ r. ⌜ DidCollect desk (now (memory .entry)) ticket (now (buffer .entry)) (r .outcome) (r .desk) (now (buffer .exit)) ⌝ }
+// The answer at the place of a ticket, 16 where no place has it, written at the buffer's start.
+pub fn collect(memory: &[u8], at: usize, place: Place, buffer: &mut [u8]) -> Collected
+    requires { ⌜ CanCollect at place (now memory) ⌝ }
+    ensures { λ r. ⌜ CollectedAt at place (now (memory .entry)) (now (buffer .entry)) r (now (buffer .exit)) ⌝ }
 {
     if memory.len() < MEMORY {
-        return Collecting {
-            outcome: Collected::Refused(REFUSED_MEMORY),
-            desk,
-        };
+        return Collected::Refused(REFUSED_MEMORY);
     }
-    let at = place_of(desk, ticket);
     if at == PLACES {
-        return Collecting {
-            outcome: Collected::Refused(REFUSED_TICKET),
-            desk,
-        };
+        return Collected::Refused(REFUSED_TICKET);
     }
-    let place = desk.places[at];
     let pending = place.pending;
     if pending.class == 0 {
-        return Collecting {
-            outcome: Collected::StillWaits,
-            desk,
-        };
+        return Collected::StillWaits;
     }
     if buffer.len() < ANSWER_MOST {
-        return Collecting {
-            outcome: Collected::Refused(REFUSED_ROOM),
-            desk,
-        };
+        return Collected::Refused(REFUSED_ROOM);
     }
     let handed = hand_over(pending, buffer);
-    let free = no_place();
-    Collecting {
-        outcome: Collected::Handed(handed.class, handed.span, handed.trials, handed.size),
-        desk: seated(desk, at, free),
-    }
+    Collected::Handed(handed.class, handed.span, handed.trials, handed.size)
 }

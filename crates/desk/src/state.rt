@@ -2,7 +2,7 @@
 ghost use mathlib.Core.Path.{_≡_};
 ghost use Prim.Native.Nat.{_<_};
 ghost use Rattle.definitions.specs.Limits.{desk-places};
-ghost use Rattle.desk.specs.State.{Arrays, seatedAt, joinedBy, headGone, FirstFree, HoldsTicket};
+ghost use Rattle.desk.specs.State.{Fits, frontJoined, frontGone};
 use crate::limits::PLACES;
 use engine::one_trial::Pending;
 
@@ -14,79 +14,33 @@ pub struct Place {
     pub pending: Pending,
 }
 
-// The last ticket given out; the line, which starts at `head` of a ring of places and has `waiting` of them; the places.
-pub struct Desk {
+// The last ticket given out, and the line, which starts at `head` of a ring of places and has `waiting` of them.
+pub struct Front {
     pub given: u64,
     pub head: usize,
     pub waiting: usize,
     pub line: [usize; PLACES],
-    pub places: [Place; PLACES],
-}
-
-// The first empty place, 16 where there is none.
-pub fn first_free(desk: Desk) -> usize
-    requires { ⌜ Arrays desk ⌝ }
-    ensures { λ r. ⌜ FirstFree desk r ⌝ }
-{
-    let mut i = 0;
-    while i < PLACES {
-        let place = desk.places[i];
-        if place.ticket == 0 {
-            return i;
-        }
-        i += 1;
-    }
-    i
-}
-
-// The place that holds a ticket, 16 where none does.
-pub fn place_of(desk: Desk, ticket: u64) -> usize
-    requires { ⌜ Arrays desk ⌝ }
-    ensures { λ r. ⌜ HoldsTicket desk ticket r ⌝ }
-{
-    if ticket == 0 {
-        return PLACES;
-    }
-    let mut i = 0;
-    while i < PLACES {
-        let place = desk.places[i];
-        if place.ticket == ticket {
-            return i;
-        }
-        i += 1;
-    }
-    i
-}
-
-// This stands at a place now.
-pub fn seated(desk: Desk, at: usize, place: Place) -> Desk
-    requires { ⌜ Arrays desk × (at < desk-places) ⌝ }
-    ensures { λ r. ⌜ r ≡ seatedAt desk at place ⌝ }
-{
-    let mut next = desk;
-    next.places[at] = place;
-    next
 }
 
 // A place joins the end of the line.
-pub fn joined(desk: Desk, at: usize) -> Desk
-    requires { ⌜ Arrays desk × (desk .waiting < desk-places) ⌝ }
-    ensures { λ r. ⌜ r ≡ joinedBy desk at ⌝ }
+pub fn joined(front: Front, at: usize) -> Front
+    requires { ⌜ Fits front × (front .waiting < desk-places) ⌝ }
+    ensures { λ r. ⌜ r ≡ frontJoined front at ⌝ }
 {
-    let end = (desk.head + desk.waiting) % PLACES;
-    let mut next = desk;
+    let end = (front.head + front.waiting) % PLACES;
+    let mut next = front;
     next.line[end] = at;
-    next.waiting = desk.waiting + 1;
+    next.waiting = front.waiting + 1;
     next
 }
 
 // The head of the line leaves it.
-pub fn left_line(desk: Desk) -> Desk
-    requires { ⌜ Arrays desk × (0 < desk .waiting) ⌝ }
-    ensures { λ r. ⌜ r ≡ headGone desk ⌝ }
+pub fn left_line(front: Front) -> Front
+    requires { ⌜ Fits front × (0 < front .waiting) ⌝ }
+    ensures { λ r. ⌜ r ≡ frontGone front ⌝ }
 {
-    let mut next = desk;
-    next.head = (desk.head + 1) % PLACES;
-    next.waiting = desk.waiting - 1;
+    let mut next = front;
+    next.head = (front.head + 1) % PLACES;
+    next.waiting = front.waiting - 1;
     next
 }

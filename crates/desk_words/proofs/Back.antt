@@ -1,23 +1,24 @@
--- A desk that was stored as words reads back as itself.
+-- A front and a place that were stored as words read back, and the other places stay.
 use Prim.Native.Nat.{ℕ, zero, suc, _+_, _*_, _≤_, _<_}
-use mathlib.Core.Path.{_≡_, refl, sym, ap, ap₂, subst, _∙_}
+use mathlib.Core.Path.{_≡_, refl, sym, ap, _∙_}
 use mathlib.Core.Logic.{_⊎_, ⊎-elim}
-use mathlib.Core.List.{List, [], _∷_, _++_, append-assoc, append-nil}
+use mathlib.Core.List.{List, [], _∷_, _++_}
 use native.Mathlib.Omega.{arith}
-use native.Mathlib.Numerals.{add-one}
-use lib.ListN.{length, getD, set, take, length-set, length-append, List·getD-append, length-replicate}
-use lib.Seq.{ext-getD, getD-append-add, getD-set-same, getD-set-other, take-length}
+use native.Mathlib.Decide.{ℕ-discrete}
+use lib.ListN.{length, getD, set, replicate, length-set, length-append, List·getD-append, length-replicate, getD-replicate}
+use lib.Seq.{ext-getD, getD-append-add, getD-set-same, getD-set-other}
 use Rattle.base.proofs.Numbers.{nat-le-or-lt}
 use Rattle.base.specs.Filled.{Filled}
+use Rattle.definitions.specs.Limits.{desk-places}
 use Rattle.definitions.specs.Bytes.{put}
 use Rattle.definitions.specs.Questions.{part}
-use Rattle.definitions.proofs.Put.{put-nil, put-put, length-put}
+use Rattle.definitions.proofs.Put.{put-put, length-put, getD-put-after}
 use Rattle.definitions.proofs.Questions.{part-length, part-at}
 use Rattle.desk.specs.declared.state.Place.{Place}
-use Rattle.desk.specs.declared.state.Desk.{Desk}
-use Rattle.desk.specs.State.{noPlace}
-use Rattle.desk.proofs.Kept.{put-in-at}
-use Rattle.desk_words.specs.Words.{desk-words, headWords, placeWords, placeFrom, Sized, PutAt, placesWords, placesFrom, PlacesPut, deskWords, deskFrom, toldIn, DeskPut}
+use Rattle.desk.specs.declared.state.Front.{Front}
+use Rattle.desk.specs.State.{Desk, deskOf, noPlace, placeIn}
+use Rattle.desk.proofs.Kept.{put-in-at, put-before-at}
+use Rattle.desk_words.specs.Words.{desk-words, headWords, placeWords, placeFrom, Sized, PutAt, placesFrom, frontFrom, deskFrom, toldIn, seatedIn, DeskPut}
 
 -- ---- runs
 
@@ -88,80 +89,35 @@ put-two {l} {x} {y} {at} {n} a b h e p q = record {
   is = q .is ∙ ap (λ (z : List ℕ). put z n b) (p .is) ∙ put-put l at a n b (omega arith) e;
 }
 
+-- A place whose words are the same is the same.
+place-same : (v w : List ℕ) (q : ℕ) → q + 42 ≤ length v → q + 42 ≤ length w → ((j : ℕ) → j < 42 → getD v (q + j) 0 ≡ getD w (q + j) 0) → placeFrom v q ≡ placeFrom w q
+place-same v w q a b same =
+    let e : q ≡ q + 0 = omega arith in
+    let first : getD v q 0 ≡ getD w q 0 = ap (λ (z : ℕ). getD v z 0) e ∙ same 0 (omega arith) ∙ ap (λ (z : ℕ). getD w z 0) (sym e) in
+    rw (
+      first,
+      same 1 (omega arith),
+      same 2 (omega arith),
+      same 3 (omega arith),
+      same 4 (omega arith),
+      same 5 (omega arith),
+      same 6 (omega arith),
+      same 7 (omega arith),
+      same 8 (omega arith),
+      same 9 (omega arith),
+      cells,
+    ) refl
+  where
+    cells : part v (q + 10) 32 ≡ part w (q + 10) 32
+    cells =
+        let x = part-length v (q + 10) 32 (omega arith) in
+        let y = part-length w (q + 10) 32 (omega arith) in
+        ext-getD 0 (part v (q + 10) 32) (part w (q + 10) 32) (x ∙ sym y)
+        (λ j h.
+        let e : q + 10 + j ≡ q + (10 + j) = omega arith in
+        part-at v (q + 10) 32 j (omega arith) ∙ ap (λ (z : ℕ). getD v z 0) e ∙ same (10 + j) (omega arith) ∙ ap (λ (z : ℕ). getD w z 0) (sym e) ∙ sym (part-at w (q + 10) 32 j (omega arith)))
+
 -- ---- the places
-
-places-length : (places : List Place) → ((k : ℕ) → k < length places → Sized (getD places k noPlace)) → length (placesWords places) ≡ 42 * length places
-unfolding placesWords
-places-length [] s = refl
-places-length (p ∷ places) s =
-    omega (arith, length-append (placeWords p) (placesWords places), place-length (s 0 (omega arith)), places-length places (λ k h. s (suc k) (omega arith)))
-
-places-back : (v : List ℕ) (places : List Place) (at : ℕ) → ((k : ℕ) → k < length places → Sized (getD places k noPlace)) → RunAt v at (placesWords places)
-    → placesFrom v at (length places) ≡ places
-unfolding placesWords placesFrom
-places-back v [] at s r = refl
-places-back v (p ∷ places) at s r = ap₂ (λ (a : Place) (b : List Place). a ∷ b)
-    (place-back (s 0 (omega arith)) v at (run-first (placeWords p) (placesWords places) r))
-    (places-back v places (at + 42) (λ k h. s (suc k) (omega arith)) (run-rest (placeWords p) (placesWords places) (at + 42) r (omega (arith, place-length (s 0 (omega arith))))))
-
--- One place more.
-places-next : (places : List Place) (i : ℕ) → i < length places → placesWords (take (suc i) places) ≡ placesWords (take i places) ++ placeWords (getD places i noPlace)
-unfolding placesWords
-places-next [] i h = absurd (omega arith)
-places-next (p ∷ places) zero h = append-nil (placeWords p)
-places-next (p ∷ places) (suc i) h = ap (λ (z : List ℕ). placeWords p ++ z) (places-next places i (omega arith)) ∙ sym (append-assoc (placeWords p) (placesWords (take i places)) (placeWords (getD places i noPlace)))
-
-places-some : (places : List Place) (i : ℕ) → i ≤ length places → ((k : ℕ) → k < i → Sized (getD places k noPlace)) → length (placesWords (take i places)) ≡ i * 42
-unfolding placesWords
-places-some places zero h s = refl
-places-some [] (suc i) h s = absurd (omega arith)
-places-some (p ∷ places) (suc i) h s =
-    omega (arith, length-append (placeWords p) (placesWords (take i places)), place-length (s 0 (omega arith)), places-some places i (omega arith) (λ k b. s (suc k) (omega arith)))
-
-pub places-none : (before : List ℕ) (places : List Place) → PlacesPut before places 0 before
-unfolding placesWords
-places-none before places = record { inside = omega arith; same = refl; sized = λ k h. absurd (omega arith); is = sym (put-nil before 20) }
-
-pub places-more : {before after after′ : List ℕ} {places : List Place} {i : ℕ} → desk-words ≤ length before → length places ≡ 16 → PlacesPut before places i after → i < 16
-    → PutAt after (20 + i * 42) (placeWords (getD places i noPlace)) after′ → Sized (getD places i noPlace) → PlacesPut before places (i + 1) after′
-places-more {before} {after} {after′} {places} {i} h e p b l s = record {
-  inside = omega arith;
-  same = l .same ∙ p .same;
-  sized = λ k c. ⊎-elim
-      (λ (g : i ≤ k). let z : k ≡ i = omega arith in subst (λ (j : ℕ). Sized (getD places j noPlace)) (sym z) s)
-      (λ (g : k < i). p .sized k g)
-      (nat-le-or-lt i k);
-  is =
-      let long = places-some places i (omega arith) (p .sized) in
-      l .is ∙ ap (λ (z : List ℕ). put z (20 + i * 42) (placeWords (getD places i noPlace))) (p .is)
-      ∙ put-put before 20 (placesWords (take i places)) (20 + i * 42) (placeWords (getD places i noPlace)) (omega arith) (omega arith)
-      ∙ ap (λ (z : List ℕ). put before 20 z) (sym (places-next places i (omega arith)) ∙ ap (λ (k : ℕ). placesWords (take k places)) (sym (add-one i)));
-}
-
-pub places-end : {before after : List ℕ} {places : List Place} {i : ℕ} → PlacesPut before places i after → 16 ≤ i → PlacesPut before places 16 after
-places-end {before} {after} {places} {i} p h = let e : i ≡ 16 = omega (arith, p .inside) in subst (λ (k : ℕ). PlacesPut before places k after) e p
-
--- ---- reading the places
-
-pub record PlacesRead (words : List ℕ) (i : ℕ) (out : List Place) : Type 0 where
-  pub inside : i ≤ 16
-  pub size : length out ≡ 16
-  pub each : (k : ℕ) → k < i → getD out k noPlace ≡ placeFrom words (20 + k * 42)
-
-pub read-none : (words : List ℕ) (out : List Place) → length out ≡ 16 → PlacesRead words 0 out
-read-none words out e = record { inside = omega arith; size = e; each = λ k h. absurd (omega arith) }
-
-pub read-more : {words : List ℕ} {i : ℕ} {out : List Place} {p : Place} → PlacesRead words i out → i < 16 → p ≡ placeFrom words (20 + i * 42) → PlacesRead words (i + 1) (set out i p)
-read-more {words} {i} {out} {p} r h e = record {
-  inside = omega arith;
-  size = length-set out i p ∙ r .size;
-  each = λ k b. ⊎-elim
-      (λ (g : i ≤ k).
-      let z : k ≡ i = omega arith in
-      subst (λ (j : ℕ). getD (set out i p) j noPlace ≡ placeFrom words (20 + j * 42)) (sym z) (getD-set-same out i p noPlace (omega (arith, r .size)) ∙ e))
-      (λ (g : k < i). getD-set-other out i k p noPlace (λ z. omega arith) ∙ r .each k g)
-      (nat-le-or-lt i k);
-}
 
 from-length : (words : List ℕ) (at n : ℕ) → length (placesFrom words at n) ≡ n
 unfolding placesFrom
@@ -176,43 +132,111 @@ from-at words at (suc n) (suc k) h =
     let e : at + 42 + k * 42 ≡ at + suc k * 42 = omega arith in
     from-at words (at + 42) n k (omega arith) ∙ ap (λ (z : ℕ). placeFrom words z) e
 
-pub read-end : {words : List ℕ} {i : ℕ} {out : List Place} → PlacesRead words i out → 16 ≤ i → out ≡ placesFrom words 20 16
-read-end {words} {i} {out} r h =
-    ext-getD noPlace out (placesFrom words 20 16) (r .size ∙ sym (from-length words 20 16))
-    (λ k b. r .each k (omega (arith, r .size, r .inside)) ∙ sym (from-at words 20 16 k (omega (arith, r .size))))
+-- What stands at a place, and its ticket.
+pub place-in : (words : List ℕ) (k : ℕ) → k < 16 → placeIn (deskFrom words) k ≡ placeFrom words (20 + k * 42)
+place-in words k h = from-at words 20 16 k h
 
--- ---- the desk
+pub ticket-in : (words : List ℕ) (k : ℕ) → k < 16 → placeIn (deskFrom words) k .ticket ≡ getD words (20 + k * 42) 0
+ticket-in words k h = ap (λ (z : Place). z .ticket) (place-in words k h)
 
--- Numbers, line and places put one after another are the desk.
-pub desk-put : (d : Desk) (told : ℕ) (before one two after : List ℕ) → desk-words ≤ length before → length (d .line) ≡ 16 → length (d .places) ≡ 16
-    → PutAt before 0 (d .given ∷ d .head ∷ d .waiting ∷ told ∷ []) one → PutAt one 4 (d .line) two → PlacesPut two (d .places) 16 after
-    → DeskPut d told before after
-desk-put d told before one two after h l m e f p = record { same = p .same ∙ f .same ∙ e .same; back = back; told-is = run .each 3 (omega arith); is = whole }
+-- ---- front and one place stored
+
+-- The four numbers of a front, with what the call tells.
+abbrev pub frontWords : Front → ℕ → List ℕ
+frontWords f told = f .given ∷ f .head ∷ f .waiting ∷ told ∷ []
+
+module _ (f : Front) (told at : ℕ) (p : Place) (before one two after : List ℕ) (long : desk-words ≤ length before) (inside : at < 16) (line-size : length (f .line) ≡ 16)
+    (a : PutAt before 0 (frontWords f told) one) (b : PutAt one 4 (f .line) two) (c : PutAt two (20 + at * 42) (placeWords p) after) (s : Sized p) where
+  room : 20 + at * 42 + length (placeWords p) ≤ length two
+  room = omega (arith, place-length s, b .same, a .same)
+
+  early : (k : ℕ) → k < 20 + at * 42 → getD after k 0 ≡ getD two k 0
+  early k h = ap (λ (z : List ℕ). getD z k 0) (c .is) ∙ put-before-at two (20 + at * 42) (placeWords p) room k h
+
+  late : (k : ℕ) → 62 + at * 42 ≤ k → getD after k 0 ≡ getD two k 0
+  late k h = ap (λ (z : List ℕ). getD z k 0) (c .is) ∙ getD-put-after two (20 + at * 42) (placeWords p) (omega (arith, room)) k (omega (arith, place-length s))
+
+  old : (k : ℕ) → 20 ≤ k → getD two k 0 ≡ getD before k 0
+  old k h =
+      ap (λ (z : List ℕ). getD z k 0) (b .is) ∙ getD-put-after one 4 (f .line) (omega (arith, a .same)) k (omega arith)
+      ∙ ap (λ (z : List ℕ). getD z k 0) (a .is) ∙ getD-put-after before 0 (frontWords f told) (omega arith) k (omega arith)
+
+  number : (k : ℕ) → k < 4 → getD after (0 + k) 0 ≡ getD (frontWords f told) k 0
+  number k h =
+      early (0 + k) (omega arith) ∙ ap (λ (z : List ℕ). getD z (0 + k) 0) (b .is) ∙ put-before-at one 4 (f .line) (omega (arith, a .same)) (0 + k) (omega arith)
+      ∙ ap (λ (z : List ℕ). getD z (0 + k) 0) (a .is) ∙ put-in-at before 0 (frontWords f told) (omega arith) k h
+
+  line : part after 4 16 ≡ f .line
+  line = run-part after 4 16 (f .line) (record {
+    inside = omega (arith, c .same, b .same, a .same);
+    each = λ k h. early (4 + k) (omega arith) ∙ ap (λ (z : List ℕ). getD z (4 + k) 0) (b .is) ∙ put-in-at one 4 (f .line) (omega (arith, a .same)) k h;
+  }) line-size
+
+  here : placeFrom after (20 + at * 42) ≡ p
+  here = place-back s after (20 + at * 42) (rw (c .is) (run-put two (20 + at * 42) (placeWords p) room))
+
+  there : (k : ℕ) → k < 16 → (k ≡ at → ⊥) → placeFrom after (20 + k * 42) ≡ placeFrom before (20 + k * 42)
+  there k h n = place-same after before (20 + k * 42) (omega (arith, c .same, b .same, a .same)) (omega arith)
+      (λ j l. ⊎-elim
+      (λ (g : suc at ≤ k). late (20 + k * 42 + j) (omega arith))
+      (λ (g : k < suc at). early (20 + k * 42 + j) (omega arith))
+      (nat-le-or-lt (suc at) k) ∙ old (20 + k * 42 + j) (omega arith))
+
+  places : placesFrom after 20 16 ≡ set (placesFrom before 20 16) at p
+  places = ext-getD noPlace (placesFrom after 20 16) (set (placesFrom before 20 16) at p) (from-length after 20 16 ∙ sym (length-set (placesFrom before 20 16) at p ∙ from-length before 20 16))
+      (λ k h. from-at after 20 16 k (omega (arith, from-length after 20 16)) ∙ each k (omega (arith, from-length after 20 16)) (ℕ-discrete k at))
+    where
+      each : (k : ℕ) → k < 16 → Dec (k ≡ at) → placeFrom after (20 + k * 42) ≡ getD (set (placesFrom before 20 16) at p) k noPlace
+      each k h (yes e) = rw e (here ∙ sym (getD-set-same (placesFrom before 20 16) at p noPlace (omega (arith, from-length before 20 16))))
+      each k h (no n) = there k h n ∙ sym (from-at before 20 16 k h) ∙ sym (getD-set-other (placesFrom before 20 16) at k p noPlace n)
+
+  pub front-put : DeskPut (seatedIn before f at p) told before after
+  front-put = record {
+    same = c .same ∙ b .same ∙ a .same;
+    back = rw (number 0 (omega arith), number 1 (omega arith), number 2 (omega arith), line, places) refl;
+    told-is = number 3 (omega arith);
+    behind = λ k h. late k (omega arith) ∙ old k (omega arith);
+  }
+
+-- ---- every place the same
+
+-- The first i places are stored.
+pub record AllPut (f : Front) (p : Place) (before : List ℕ) (i : ℕ) (after : List ℕ) : Type 0 where
+  pub inside : i ≤ 16
+  pub same : length after ≡ length before
+  pub front-is : 0 < i → frontFrom after ≡ f
+  pub told-is : 0 < i → toldIn after ≡ 0
+  pub each : (k : ℕ) → k < i → placeIn (deskFrom after) k ≡ p
+  pub behind : (k : ℕ) → desk-words ≤ k → getD after k 0 ≡ getD before k 0
+
+pub all-none : (f : Front) (p : Place) (before : List ℕ) → AllPut f p before 0 before
+all-none f p before = record { inside = omega arith; same = refl; front-is = λ h. absurd (omega arith); told-is = λ h. absurd (omega arith); each = λ k h. absurd (omega arith); behind = λ k h. refl }
+
+pub all-more : {f : Front} {p : Place} {before after after′ : List ℕ} {i : ℕ} → AllPut f p before i after → i < 16 → DeskPut (seatedIn after f i p) 0 after after′ → AllPut f p before (i + 1) after′
+all-more {f} {p} {before} {after} {after′} {i} g h d = record {
+  inside = omega arith;
+  same = d .same ∙ g .same;
+  front-is = λ _. ap frontIn (d .back);
+  told-is = λ _. d .told-is;
+  each = λ k l. ap (λ (z : Desk). placeIn z k) (d .back) ∙ at k l (ℕ-discrete k i);
+  behind = λ k l. d .behind k l ∙ g .behind k l;
+}
   where
-    sized : (k : ℕ) → k < length (d .places) → Sized (getD (d .places) k noPlace)
-    sized k b = p .sized k (omega arith)
+    frontIn : Desk → Front
+    frontIn z = record { given = z .given; head = z .head; waiting = z .waiting; line = z .line }
 
-    long : length (placesWords (d .places)) ≡ 672
-    long = places-length (d .places) sized ∙ omega arith
+    at : (k : ℕ) → k < i + 1 → Dec (k ≡ i) → getD (set (placesFrom after 20 16) i p) k noPlace ≡ p
+    at k l (yes e) = rw e (getD-set-same (placesFrom after 20 16) i p noPlace (omega (arith, from-length after 20 16)))
+    at k l (no n) = getD-set-other (placesFrom after 20 16) i k p noPlace n ∙ g .each k (omega arith)
 
-    whole : after ≡ put before 0 (deskWords d told)
-    whole =
-        p .is ∙ ap (λ (z : List Place). put two 20 (placesWords z)) (subst (λ (n : ℕ). take n (d .places) ≡ d .places) m (take-length (d .places)))
-        ∙ ap (λ (z : List ℕ). put z 20 (placesWords (d .places))) (f .is ∙ ap (λ (z : List ℕ). put z 4 (d .line)) (e .is) ∙ put-put before 0 (d .given ∷ d .head ∷ d .waiting ∷ told ∷ []) 4 (d .line) (omega arith) refl)
-        ∙ put-put before 0 ((d .given ∷ d .head ∷ d .waiting ∷ told ∷ []) ++ d .line) 20 (placesWords (d .places)) (omega arith) (omega (arith, l))
-        ∙ ap (λ (z : List ℕ). put before 0 z) (append-assoc (d .given ∷ d .head ∷ d .waiting ∷ told ∷ []) (d .line) (placesWords (d .places)))
-
-    run : RunAt after 0 (deskWords d told)
-    run = rw whole (run-put before 0 (deskWords d told) (omega (arith, length-append (d .line) (placesWords (d .places)), l, long)))
-
-    rest : RunAt after 4 (d .line ++ placesWords (d .places))
-    rest = run-rest (d .given ∷ d .head ∷ d .waiting ∷ told ∷ []) (d .line ++ placesWords (d .places)) 4 run refl
-
-    line : part after 4 16 ≡ d .line
-    line = run-part after 4 16 (d .line) (run-first (d .line) (placesWords (d .places)) rest) l
-
-    places : placesFrom after 20 16 ≡ d .places
-    places = subst (λ (n : ℕ). placesFrom after 20 n ≡ d .places) m (places-back after (d .places) 20 sized (run-rest (d .line) (placesWords (d .places)) 20 rest (omega (arith, l))))
-
-    back : deskFrom after ≡ d
-    back = rw (run .each 0 (omega arith), run .each 1 (omega arith), run .each 2 (omega arith), line, places) refl
+pub all-end : {f : Front} {p : Place} {before after : List ℕ} {i : ℕ} → AllPut f p before i after → 16 ≤ i → DeskPut (deskOf f (replicate desk-places p)) 0 before after
+all-end {f} {p} {before} {after} {i} g h = record {
+  same = g .same;
+  back = ap (λ (z : Front). deskOf z (placesFrom after 20 16)) (g .front-is (omega arith)) ∙ ap (deskOf f) places;
+  told-is = g .told-is (omega arith);
+  behind = g .behind;
+}
+  where
+    places : placesFrom after 20 16 ≡ replicate 16 p
+    places = ext-getD noPlace (placesFrom after 20 16) (replicate 16 p) (from-length after 20 16 ∙ sym (length-replicate {A = Place} 16 p))
+        (λ k l. g .each k (omega (arith, from-length after 20 16)) ∙ sym (getD-replicate {A = Place} 16 k p noPlace (omega (arith, from-length after 20 16))))

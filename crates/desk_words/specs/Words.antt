@@ -2,13 +2,13 @@
 use Prim.Native.Nat.{ℕ, zero, suc, _+_, _*_, _≤_, _<_}
 use mathlib.Core.Path.{_≡_}
 use mathlib.Core.List.{List, [], _∷_, _++_}
-use lib.ListN.{length, getD, take}
+use lib.ListN.{length, getD, set}
 use Rattle.definitions.specs.Limits.{desk-places, stride}
 use Rattle.definitions.specs.Bytes.{put}
 use Rattle.definitions.specs.Questions.{part}
 use Rattle.desk.specs.declared.state.Place.{Place}
-use Rattle.desk.specs.declared.state.Desk.{Desk}
-use Rattle.desk.specs.State.{noPlace}
+use Rattle.desk.specs.declared.state.Front.{Front}
+use Rattle.desk.specs.State.{Desk, deskOf}
 
 -- The words of a place: ten numbers, and its cells. Of a desk: four numbers, the line, and the places.
 abbrev pub place-words : ℕ
@@ -53,36 +53,29 @@ pub record PutAt (before : List ℕ) (at : ℕ) (vs after : List ℕ) : Type 0 w
   pub same : length after ≡ length before
   pub is : after ≡ put before at vs
 
--- Places one after another.
-unfoldable pub placesWords : List Place → List ℕ
-placesWords [] = []
-placesWords (p ∷ places) = placeWords p ++ placesWords places
-
+-- The places from a word on.
 unfoldable pub placesFrom : List ℕ → ℕ → ℕ → List Place
 placesFrom words at zero = []
 placesFrom words at (suc n) = placeFrom words at ∷ placesFrom words (at + 42) n
 
--- The first i places are put.
-pub record PlacesPut (before : List ℕ) (places : List Place) (i : ℕ) (after : List ℕ) : Type 0 where
-  pub inside : i ≤ 16
-  pub same : length after ≡ length before
-  pub sized : (k : ℕ) → k < i → Sized (getD places k noPlace)
-  pub is : after ≡ put before 20 (placesWords (take i places))
-
--- A desk, with what the last call told.
-abbrev pub deskWords : Desk → ℕ → List ℕ
-deskWords d told = (d .given ∷ d .head ∷ d .waiting ∷ told ∷ []) ++ (d .line ++ placesWords (d .places))
+-- The front and the desk in the words.
+abbrev pub frontFrom : List ℕ → Front
+frontFrom words = record { given = getD words 0 0; head = getD words 1 0; waiting = getD words 2 0; line = part words 4 16 }
 
 abbrev pub deskFrom : List ℕ → Desk
-deskFrom words = record { given = getD words 0 0; head = getD words 1 0; waiting = getD words 2 0; line = part words 4 16; places = placesFrom words 20 16 }
+deskFrom words = deskOf (frontFrom words) (placesFrom words 20 16)
 
 -- What the last call told.
 abbrev pub toldIn : List ℕ → ℕ
 toldIn words = getD words 3 0
+
+-- The desk in the words with another front, and another place at this one.
+abbrev pub seatedIn : List ℕ → Front → ℕ → Place → Desk
+seatedIn words f at c = deskOf f (set (placesFrom words 20 16) at c)
 
 -- A desk is stored: it reads back as itself, and the words behind it stay.
 pub record DeskPut (d : Desk) (told : ℕ) (before after : List ℕ) : Type 0 where
   pub same : length after ≡ length before
   pub back : deskFrom after ≡ d
   pub told-is : toldIn after ≡ told
-  pub is : after ≡ put before 0 (deskWords d told)
+  pub behind : (k : ℕ) → desk-words ≤ k → getD after k 0 ≡ getD before k 0

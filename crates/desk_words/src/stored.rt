@@ -1,14 +1,17 @@
 // A place and a desk as words: ten numbers of a place, then its cells; four numbers of a desk, its line, then its places.
 ghost use mathlib.Core.Path.{_≡_};
-ghost use Prim.Native.Nat.{_+_, _*_, _≤_};
-ghost use lib.ListN.{length};
-ghost use Rattle.desk_words.specs.Words.{place-words, desk-words, placeWords, placeFrom, Sized, PutAt, placesFrom, deskFrom, PlacesPut, DeskPut};
+ghost use Prim.Native.Nat.{_+_, _≤_, _<_};
+ghost use lib.ListN.{length, replicate};
+ghost use Rattle.definitions.specs.Limits.{desk-places};
+ghost use Rattle.desk.specs.State.{deskOf, placeIn, FirstFree, HoldsTicket};
+ghost use Rattle.desk_words.specs.Words.{place-words, desk-words, placeWords, placeFrom, Sized, PutAt, frontFrom, deskFrom, seatedIn, DeskPut};
 use crate::runs::cells_at;
 use crate::runs::line_at;
 use crate::runs::put_indices;
 use crate::runs::put_numbers;
+use desk::calls::no_place;
 use desk::limits::PLACES;
-use desk::state::Desk;
+use desk::state::Front;
 use desk::state::Place;
 use engine::one_trial::Pending;
 use records::limits::STRIDE;
@@ -71,57 +74,84 @@ fn store_place(words: &mut [u64], at: usize, place: Place)
     put_indices(words, at + CELLS, &cells);
 }
 
-// The sixteen places in the words.
-fn load_places(words: &[u64]) -> [Place; PLACES]
+// The front of the desk in the words.
+pub fn load_front(words: &[u64]) -> Front
     requires { ⌜ desk-words ≤ length (now words) ⌝ }
-    ensures { λ r. ⌜ r ≡ placesFrom (now (words .entry)) 20 16 ⌝ }
-{
-    let first = load_place(words, FIRST_PLACE);
-    let mut out = [first; PLACES];
-    let mut i = 0;
-    while i < PLACES {
-        out[i] = load_place(words, FIRST_PLACE + i * PLACE_WORDS);
-        i += 1;
-    }
-    out
-}
-
-// Stores the sixteen places.
-fn store_places(words: &mut [u64], desk: Desk)
-    requires { ⌜ (desk-words ≤ length (now words)) × (length (desk .places) ≡ 16) ⌝ }
-    ensures { λ _. ⌜ PlacesPut (now (words .entry)) (desk .places) 16 (now (words .exit)) ⌝ }
-{
-    let mut i = 0;
-    while i < PLACES {
-        store_place(words, FIRST_PLACE + i * PLACE_WORDS, desk.places[i]);
-        i += 1;
-    }
-}
-
-// The desk in the words.
-pub fn load(words: &[u64]) -> Desk
-    requires { ⌜ desk-words ≤ length (now words) ⌝ }
-    ensures { λ r. ⌜ r ≡ deskFrom (now (words .entry)) ⌝ }
+    ensures { λ r. ⌜ r ≡ frontFrom (now (words .entry)) ⌝ }
 {
     let line = line_at(words, LINE);
-    let places = load_places(words);
-    Desk {
+    Front {
         given: words[0],
         head: words[1] as usize,
         waiting: words[2] as usize,
         line,
-        places,
     }
 }
 
-// Stores the desk, with what the call tells.
-pub fn store(words: &mut [u64], desk: Desk, told: u64)
-    requires { ⌜ (desk-words ≤ length (now words)) × (length (desk .line) ≡ 16) × (length (desk .places) ≡ 16) ⌝ }
-    ensures { λ _. ⌜ DeskPut desk told (now (words .entry)) (now (words .exit)) ⌝ }
+// What stands at a place; past the last nothing.
+pub fn place_at(words: &[u64], at: usize) -> Place
+    requires { ⌜ desk-words ≤ length (now words) ⌝ }
+    ensures { λ r. ⌜ (at < desk-places → placeIn (deskFrom (now (words .entry))) at ≡ r) ⌝ }
 {
-    let head = [desk.given, desk.head as u64, desk.waiting as u64, told];
-    let line = desk.line;
+    if at < PLACES {
+        return load_place(words, FIRST_PLACE + at * PLACE_WORDS);
+    }
+    no_place()
+}
+
+// The first empty place, 16 where there is none.
+pub fn first_free(words: &[u64]) -> usize
+    requires { ⌜ desk-words ≤ length (now words) ⌝ }
+    ensures { λ r. ⌜ FirstFree (deskFrom (now (words .entry))) r ⌝ }
+{
+    let mut i = 0;
+    while i < PLACES {
+        if words[FIRST_PLACE + i * PLACE_WORDS] == 0 {
+            return i;
+        }
+        i += 1;
+    }
+    i
+}
+
+// The place that holds a ticket, 16 where none does.
+pub fn place_of(words: &[u64], ticket: u64) -> usize
+    requires { ⌜ desk-words ≤ length (now words) ⌝ }
+    ensures { λ r. ⌜ HoldsTicket (deskFrom (now (words .entry))) ticket r ⌝ }
+{
+    if ticket == 0 {
+        return PLACES;
+    }
+    let mut i = 0;
+    while i < PLACES {
+        if words[FIRST_PLACE + i * PLACE_WORDS] == ticket {
+            return i;
+        }
+        i += 1;
+    }
+    i
+}
+
+// Stores the front and one place, with what the call tells; the other places stay.
+pub fn store(words: &mut [u64], front: Front, at: usize, place: Place, told: u64)
+    requires { ⌜ (desk-words ≤ length (now words)) × (at < desk-places) ⌝ }
+    ensures { λ _. ⌜ DeskPut (seatedIn (now (words .entry)) front at place) told (now (words .entry)) (now (words .exit)) ⌝ }
+{
+    let head = [front.given, front.head as u64, front.waiting as u64, told];
+    let line = front.line;
     put_numbers(words, 0, &head);
     put_indices(words, LINE, &line);
-    store_places(words, desk);
+    store_place(words, FIRST_PLACE + at * PLACE_WORDS, place);
+}
+
+// Stores a desk on which every place is the same.
+pub fn store_all(words: &mut [u64], front: Front, place: Place)
+    requires { ⌜ desk-words ≤ length (now words) ⌝ }
+    ensures { λ _. ⌜ DeskPut (deskOf front (replicate desk-places place)) 0 (now (words .entry)) (now (words .exit)) ⌝ }
+{
+    let mut i = 0;
+    while i < PLACES {
+        store(words, front, i, place, 0);
+        i += 1;
+    }
 }

@@ -8,8 +8,7 @@ use Rattle.definitions.specs.Bytes.{put}
 use Rattle.definitions.specs.Tropical.{Trop}
 use Rattle.definitions.specs.Desk as Machine
 use Rattle.definitions.specs.Desk.{FirstEmpty, FromOpening, Opens, TakesIn, Steps, Collects}
-use Rattle.desk.specs.declared.state.Desk.{Desk}
-use Rattle.desk.specs.State.{headOf, OthersStay, Holds}
+use Rattle.desk.specs.State.{Desk, headOf, OthersStay, Holds}
 use Rattle.desk.specs.Calls.{AsLeft, SearchBegun, HeadTried, FreedAt}
 use Rattle.desk_words.specs.Words.{desk-words, deskFrom, DeskPut}
 

@@ -1,21 +1,28 @@
 // The desk's four calls over lent memory and lent words, with results as one number: the low byte is the refusal.
 ghost use mathlib.Core.Path.{_≡_};
-ghost use Prim.Native.Nat.{_≤_};
+ghost use Prim.Native.Nat.{_≤_, _<_};
 ghost use lib.ListN.{length};
-ghost use Rattle.desk_words.specs.Words.{desk-words, DeskPut};
+ghost use Rattle.definitions.specs.Limits.{desk-places};
+ghost use Rattle.desk_words.specs.Words.{desk-words, seatedIn, DeskPut};
 ghost use Rattle.lent_desk.specs.Entries.{AsLent, OpenedAs, TakenAs, SteppedAs, CollectedAs};
 use desk::calls::Collected;
 use desk::calls::Stepped;
 use desk::calls::TakenIn;
 use desk::calls::collect;
+use desk::calls::no_place;
 use desk::calls::open_desk;
 use desk::calls::step;
 use desk::calls::take_in;
 use desk::limits::MEMORY;
-use desk::state::Desk;
+use desk::state::Front;
+use desk::state::Place;
 use desk_words::stored::DESK_WORDS;
-use desk_words::stored::load;
+use desk_words::stored::first_free;
+use desk_words::stored::load_front;
+use desk_words::stored::place_at;
+use desk_words::stored::place_of;
 use desk_words::stored::store;
+use desk_words::stored::store_all;
 use records::limits::BYTE;
 
 // The memory is too short; fewer words are lent than a desk has.
@@ -31,12 +38,12 @@ const DONE: u64 = 512;
 // Own trials count so many times in the number of a collected answer.
 const OWN: u64 = 65536;
 
-// Stores the desk with the ticket that a call tells, and gives the call's number.
-fn told(words: &mut [u64], desk: Desk, ticket: u64, number: u64) -> u64
-    requires { ⌜ (desk-words ≤ length (now words)) × (length (desk .line) ≡ 16) × (length (desk .places) ≡ 16) ⌝ }
-    ensures { λ r. ⌜ (r ≡ number) × DeskPut desk ticket (now (words .entry)) (now (words .exit)) ⌝ }
+// Stores the front and one place with the ticket that a call tells, and gives the call's number.
+fn told(words: &mut [u64], front: Front, at: usize, place: Place, ticket: u64, number: u64) -> u64
+    requires { ⌜ (desk-words ≤ length (now words)) × (at < desk-places) ⌝ }
+    ensures { λ r. ⌜ (r ≡ number) × DeskPut (seatedIn (now (words .entry)) front at place) ticket (now (words .entry)) (now (words .exit)) ⌝ }
 {
-    store(words, desk, ticket);
+    store(words, front, at, place, ticket);
     number
 }
 
@@ -51,7 +58,8 @@ pub fn open_words(memory: &[u8], words: &mut [u64]) -> u64
         return FEW_WORDS;
     }
     let opening = open_desk(memory);
-    told(words, opening.desk, 0, 0)
+    store_all(words, opening.front, opening.place);
+    0
 }
 
 // Takes a problem in.
@@ -65,12 +73,13 @@ pub fn take_words(memory: &mut [u8], words: &mut [u64], problem: &[u8]) -> u64
     if words.len() < DESK_WORDS {
         return FEW_WORDS;
     }
-    let desk = load(words);
-    let taking = take_in(memory, desk, problem);
+    let front = load_front(words);
+    let at = first_free(words);
+    let taking = take_in(memory, front, at, problem);
     let outcome = taking.outcome;
     match outcome {
         TakenIn::Refused(k) => k as u64,
-        TakenIn::Ticket(ticket) => told(words, taking.desk, ticket, 0),
+        TakenIn::Ticket(ticket) => told(words, taking.front, at, taking.place, ticket, 0),
     }
 }
 
@@ -85,14 +94,17 @@ pub fn step_words(memory: &[u8], words: &mut [u64]) -> u64
     if words.len() < DESK_WORDS {
         return FEW_WORDS;
     }
-    let desk = load(words);
-    let stepping = step(memory, desk);
+    let front = load_front(words);
+    let head = front.head;
+    let at = front.line[head];
+    let place = place_at(words, at);
+    let stepping = step(memory, front, place);
     let outcome = stepping.outcome;
     match outcome {
         Stepped::Refused(k) => k as u64,
         Stepped::NoneWaits => 0,
-        Stepped::GoesOn(ticket) => told(words, stepping.desk, ticket, GOES_ON),
-        Stepped::Done(ticket) => told(words, stepping.desk, ticket, DONE),
+        Stepped::GoesOn(ticket) => told(words, stepping.front, at, stepping.place, ticket, GOES_ON),
+        Stepped::Done(ticket) => told(words, stepping.front, at, stepping.place, ticket, DONE),
     }
 }
 
@@ -107,15 +119,19 @@ pub fn collect_words(memory: &[u8], words: &mut [u64], ticket: u64, buffer: &mut
     if words.len() < DESK_WORDS {
         return FEW_WORDS;
     }
-    let desk = load(words);
-    let collecting = collect(memory, desk, ticket, buffer);
-    let outcome = collecting.outcome;
+    let front = load_front(words);
+    let at = place_of(words, ticket);
+    let place = place_at(words, at);
+    let outcome = collect(memory, at, place, buffer);
+    let free = no_place();
     match outcome {
         Collected::Refused(k) => k as u64,
         Collected::StillWaits => 0,
         Collected::Handed(class, _, own, _) => told(
             words,
-            collecting.desk,
+            front,
+            at,
+            free,
             ticket,
             BYTE * class + OWN * own,
         ),

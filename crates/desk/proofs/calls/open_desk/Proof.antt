@@ -1,4 +1,3 @@
-use mathlib.Core.Path.{refl, sym, ap, _∙_}
 use native.Mathlib.Omega.{arith}
 use Rattle.desk.proofs.Taking.{opened-short, opened-ready}
 use borrow.Author.Needs.{needs}

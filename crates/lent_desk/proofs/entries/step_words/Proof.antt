@@ -1,4 +1,4 @@
-use Rattle.lent_desk.proofs.Calls.{left-as, stepped-arrays, step-not-refused, idle-words, on-words, done-words}
+use Rattle.lent_desk.proofs.Calls.{head-fits, can-step, on-inside, done-inside, step-refused, step-none, step-on, step-done}
 use Rattle.lent_desk.specs.Entries.{SteppedAs}
 use native.Mathlib.Omega.{arith}
 use borrow.Author.Needs.{needs}
@@ -12,18 +12,21 @@ step-words-spec =
     (λ c. SteppedAs.short (c .if1 .taken))
     (λ c. SteppedAs.too-few (omega (arith, c .before .if1 .left)) (c .if2 .taken))
     (λ c κs. search needs)
-    (λ c κs. λ h. left-as (c .before .before .before .before .before .before .pre) (omega (arith, c .before .before .if2 .left)) (c .load .ensures) h)
+    (λ c. let g = head-fits (omega (arith, c .before .before .if2 .left)) (c .before .before .before .before .before .before .pre) (c .load-front .ensures) (omega (arith, c .before .before .before .if1 .left)) in omega (arith, g .0))
+    (λ c. let g = head-fits (omega (arith, c .before .before .if2 .left)) (c .before .before .before .before .before .before .pre) (c .load-front .ensures) (omega (arith, c .before .before .before .if1 .left)) in omega (arith, g .0, g .1))
+    (λ c κs. search needs)
+    (λ c κs. can-step (omega (arith, c .before .before .before .before .before .if2 .left)) (c .before .before .before .before .before .before .before .before .before .pre) (c .before .before .before .load-front .ensures) (c .place-at .ensures))
     (λ c. search needs)
     (λ c. search needs)
     (λ c. search needs)
-    (λ c κs. let a = stepped-arrays (omega (arith, c .before .before .before .before .before .before .before .before .if1 .left)) (omega (arith, c .before .before .before .before .before .before .before .if2 .left)) (c .before .before .before .before .before .load .ensures) (c .before .before .before .before .step .ensures) (c .before .before .before .before .before .before .before .before .before .before .before .pre) in (omega (arith, c .before .before .before .before .before .before .before .if2 .left), a .line-size, a .places-size))
+    (λ c κs. ((omega (arith, c .before .before .before .before .before .before .before .before .before .before .if2 .left)), on-inside (omega (arith, c .before .before .before .before .before .before .before .before .before .before .if2 .left)) (c .before .before .before .before .before .before .before .before .before .before .before .before .before .before .pre) (c .before .before .before .before .before .before .before .before .load-front .ensures) (c .before .before .before .before .before .place-at .ensures) (omega (arith, c .before .before .before .before .before .before .before .before .before .before .before .if1 .left)) (c .before .before .before .before .step .ensures) (c .before .before .outcome2 .given .1)))
     (λ c. search needs)
-    (λ c κs. let a = stepped-arrays (omega (arith, c .before .before .before .before .before .before .before .before .if1 .left)) (omega (arith, c .before .before .before .before .before .before .before .if2 .left)) (c .before .before .before .before .before .load .ensures) (c .before .before .before .before .step .ensures) (c .before .before .before .before .before .before .before .before .before .before .before .pre) in (omega (arith, c .before .before .before .before .before .before .before .if2 .left), a .line-size, a .places-size))
+    (λ c κs. ((omega (arith, c .before .before .before .before .before .before .before .before .before .before .if2 .left)), done-inside (omega (arith, c .before .before .before .before .before .before .before .before .before .before .if2 .left)) (c .before .before .before .before .before .before .before .before .before .before .before .before .before .before .pre) (c .before .before .before .before .before .before .before .before .load-front .ensures) (c .before .before .before .before .before .place-at .ensures) (omega (arith, c .before .before .before .before .before .before .before .before .before .before .before .if1 .left)) (c .before .before .before .before .step .ensures) (c .before .before .outcome3 .given .1)))
     (λ c. search needs)
-    (λ c. step-not-refused (omega (arith, c .before .before .before .before .before .before .before .if1 .left)) (omega (arith, c .before .before .before .before .before .before .if2 .left)) (c .before .before .before .before .load .ensures) (c .before .before .before .step .ensures) (c .before .outcome .given .1))
+    (λ c. step-refused (omega (arith, c .before .before .before .before .before .before .before .before .before .if2 .left)) (c .before .before .before .before .before .before .before .before .before .before .before .before .before .pre) (c .before .before .before .before .before .before .before .load-front .ensures) (c .before .before .before .before .place-at .ensures) (omega (arith, c .before .before .before .before .before .before .before .before .before .before .if1 .left)) (c .before .before .before .step .ensures) (c .before .outcome .given .1))
     (λ c. search needs)
-    (λ c. idle-words (omega (arith, c .before .before .before .before .before .before .if1 .left)) (omega (arith, c .before .before .before .before .before .if2 .left)) (c .before .before .before .load .ensures) (c .before .before .step .ensures) (c .enum-told .given .1))
+    (λ c. step-none (omega (arith, c .before .before .before .before .before .before .before .before .if2 .left)) (c .before .before .before .before .before .before .before .before .before .before .before .before .pre) (c .before .before .before .before .before .before .load-front .ensures) (c .before .before .before .place-at .ensures) (omega (arith, c .before .before .before .before .before .before .before .before .before .if1 .left)) (c .before .before .step .ensures) (c .enum-told .given .1))
     (λ c. search needs)
-    (λ c. on-words (omega (arith, c .before .before .before .before .before .before .before .before .before .before .before .if1 .left)) (omega (arith, c .before .before .before .before .before .before .before .before .before .before .if2 .left)) (c .before .before .before .before .before .before .before .before .load .ensures) (c .before .before .before .before .before .before .before .step .ensures) (c .before .before .before .before .before .outcome2 .given .1) (c .before .before .told .ensures .0) (c .before .before .told .ensures .1))
+    (λ c. step-on (omega (arith, c .before .before .before .before .before .before .before .before .before .before .before .before .before .if2 .left)) (c .before .before .before .before .before .before .before .before .before .before .before .before .before .before .before .before .before .pre) (c .before .before .before .before .before .before .before .before .before .before .before .load-front .ensures) (c .before .before .before .before .before .before .before .before .place-at .ensures) (omega (arith, c .before .before .before .before .before .before .before .before .before .before .before .before .before .before .if1 .left)) (c .before .before .before .before .before .before .before .step .ensures) (c .before .before .before .before .before .outcome2 .given .1) (c .before .before .told .ensures .0) (c .before .before .told .ensures .1))
     (λ c. search needs)
-    (λ c. done-words (omega (arith, c .before .before .before .before .before .before .before .before .before .before .before .if1 .left)) (omega (arith, c .before .before .before .before .before .before .before .before .before .before .if2 .left)) (c .before .before .before .before .before .before .before .before .load .ensures) (c .before .before .before .before .before .before .before .step .ensures) (c .before .before .before .before .before .outcome3 .given .1) (c .before .before .told2 .ensures .0) (c .before .before .told2 .ensures .1)))
+    (λ c. step-done (omega (arith, c .before .before .before .before .before .before .before .before .before .before .before .before .before .if2 .left)) (c .before .before .before .before .before .before .before .before .before .before .before .before .before .before .before .before .before .pre) (c .before .before .before .before .before .before .before .before .before .before .before .load-front .ensures) (c .before .before .before .before .before .before .before .before .place-at .ensures) (omega (arith, c .before .before .before .before .before .before .before .before .before .before .before .before .before .before .if1 .left)) (c .before .before .before .before .before .before .before .step .ensures) (c .before .before .before .before .before .outcome3 .given .1) (c .before .before .told2 .ensures .0) (c .before .before .told2 .ensures .1)))
