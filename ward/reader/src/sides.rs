@@ -310,8 +310,9 @@ fn tail(cursor: &mut Cursor, known: &Known, terms: &[Term], from: usize) -> Resu
     };
     let Some(token) = cursor.take() else { return Ok(None) };
     let length = minutes(cursor, known, token, from)?;
-    if sign > 0 {
-        on_anchor(cursor, known, terms, length, (from, length.to))?;
+    match sign > 0 {
+        true => on_anchor(cursor, known, terms, length, (from, length.to))?,
+        false => window(cursor, known, terms, length, (from, token.from))?,
     }
     if ["+", "-"].contains(&cursor.plain(0)) && cursor.peek(1).is_some_and(|next| length::starts(next.text)) {
         return Err(twice(cursor, known, sign, length, from));
@@ -390,6 +391,37 @@ fn on_anchor(
     Err(Fault::new(colon_from, colon_to, format!("'{written}' can be a time of day, or a length of time"))
         .fix("so long after the anchor", with(cursor.line, colon_from, colon_to, &long))
         .fix("the time of day", with(cursor.line, from, to, &time)))
+}
+
+/// A time of day with a dash and another behind it, `9:00 - 9:30`: from the one to the other, or so much earlier.
+fn window(
+    cursor: &Cursor,
+    known: &Known,
+    terms: &[Term],
+    length: Length,
+    (from, to): (usize, usize),
+) -> Result<(), Fault> {
+    let Some((colon, colon_from, colon_to)) = length.colon else { return Ok(()) };
+    let (line, time) = (cursor.line, cursor.line[from..to].trim_end());
+    let such = terms.len() == 1 && terms[0].0 == Some(0) && !time.to_lowercase().contains("anchor");
+    if !such || !known.clock.judges() {
+        return Ok(());
+    }
+    let message = format!("'{time} - {}' can be two times of day, or so much earlier", &line[colon_from..colon_to]);
+    let fault = Fault::new(from, length.to, message)
+        .fix(format!("so much before {time}"), with(line, colon_from, colon_to, &shown::hours(colon)));
+    let front = line[..from].trim_end();
+    let subject = ["not before", "not after", "by", "=", "<=", ">="].iter().find_map(|word| front.strip_suffix(word));
+    Err(match subject.map(str::trim_end).filter(|subject| !subject.is_empty()) {
+        None => fault,
+        Some(subject) => {
+            let last = &line[length.from..length.to];
+            fault.fixes(
+                "from the one to the other",
+                vec![format!("{subject} not before {time}"), format!("{subject} by {last}")],
+            )
+        }
+    })
 }
 
 /// Words for groups that this language does not have, or has otherwise.

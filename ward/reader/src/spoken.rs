@@ -7,6 +7,7 @@ use crate::length::{self, is_number, Length};
 use crate::limits;
 use crate::rows::{self, Sides};
 use crate::sheet::Lead;
+use crate::shown;
 use crate::sides::{self, bracketed, Side};
 use crate::tokens::{Kind, Token};
 
@@ -105,12 +106,53 @@ fn behind(cursor: &mut Cursor, known: &Known, subject: &Side) -> Result<Vec<Side
             .fix("so long or longer", say("at least"))
             .fix("no longer", say("exactly")));
     }
+    if let Some(fault) = times(cursor, known, subject, (first, range), (least, most)) {
+        return Err(fault);
+    }
     let limits = match range {
         Some(last) => Limits { least: Some(first.minutes), most: Some(last.minutes) },
         None => Limits { least: least.then_some(first.minutes), most: most.then_some(first.minutes) },
     };
     let after = cursor.takes("after") || !cursor.takes("before");
     base(cursor, known, subject, limits, after)
+}
+
+/// Minutes that are written like times of day, and can be such: `at least 9:15 after ready`, where the anchor is at 8:00.
+fn times(
+    cursor: &Cursor,
+    known: &Known,
+    subject: &Side,
+    (first, last): (Length, Option<Length>),
+    (least, most): (bool, bool),
+) -> Option<Fault> {
+    let anchor = known.anchor.filter(|_| known.clock.judges())?;
+    let (line, end) = (cursor.line, last.unwrap_or(first));
+    let of_day = |length: Length| {
+        length.colon.is_some_and(|(colon, from, to)| {
+            (anchor.minute..crate::clock::DAY).contains(&colon) && (from, to) == (length.from, length.to)
+        })
+    };
+    if !of_day(first) || !of_day(end) {
+        return None;
+    }
+    let (early, late) = (&line[first.from..first.to], &line[end.from..end.to]);
+    let long = match last {
+        None => shown::hours(first.minutes),
+        Some(last) => format!("{} to {}", shown::hours(first.minutes), shown::hours(last.minutes)),
+    };
+    let group = &line[subject.from..subject.to];
+    let at = match (last.is_some(), least, most) {
+        (true, ..) => vec![format!("{group} not before {early}"), format!("{group} by {late}")],
+        (_, true, true) => vec![format!("{group} = {early}")],
+        (_, true, false) => vec![format!("{group} not before {early}")],
+        _ => vec![format!("{group} by {early}")],
+    };
+    let message = format!("'{}' can be a time of day, or a length of time", &line[first.from..end.to]);
+    Some(
+        Fault::new(first.from, end.to, message)
+            .fix("so long", with(line, first.from, end.to, &long))
+            .fixes("by the clock", at),
+    )
 }
 
 /// The side that a rule counts from, and the rules.

@@ -105,6 +105,17 @@ fn point_6_a_lead_that_can_be_a_time_of_day_is_asked_about() {
     same("8:00", "anchor + 24:00 <= ready", &["anchor + 1440 <= ready"]);
     same("", "anchor + 8:40 <= ready", &["anchor + 520 <= ready"]);
     same("8:00", "porter + 8:40 <= ready", &["porter + 520 <= ready"]);
+    asks("8:00", "leaves at least 9:00 after anchor", &["leaves at least 9 h after anchor", "leaves not before 9:00"]);
+    asks("8:00", "leaves exactly 9:15 after ready", &["leaves exactly 9 h 15 after ready", "leaves = 9:15"]);
+    asks(
+        "8:00",
+        "leaves 8:40 to 9:00 after ready",
+        &["leaves 8 h 40 to 9 h after ready", "leaves not before 8:40 ; leaves by 9:00"],
+    );
+    same("8:00", "leaves at most 1:30 after ready", &["leaves <= ready + 90"]);
+    asks("8:00", "ready by 9:00 - 9:30", &["ready by 9:00 - 9 h 30", "ready not before 9:00 ; ready by 9:30"]);
+    asks("8:00", "ready = 8:40 – 8:45", &["ready = 8:40 – 8 h 45", "ready not before 8:40 ; ready by 8:45"]);
+    same("8:00", "ready by 9:00 - 10", &["ready <= anchor + 50"]);
 }
 
 #[test]
