@@ -242,21 +242,29 @@ pub fn floor(sheet: &Sheet) -> Option<String> {
     })
 }
 
-/// What a reader of a plan may not expect: moments before the anchor that nothing holds, and days on which clocks change.
+/// What a reader of a plan may not expect: moments before the anchor, which rules hold there or nothing holds, and days on which
+/// clocks change.
 pub fn notes(sheet: &Sheet, span: &Span) -> Vec<String> {
     let Body::Least { plan, .. } = &span.body else { return Vec::new() };
     let stamps = || plan.iter().filter(|placed| !placed.free).filter_map(|placed| Some((placed, placed.stamp?)));
     let mut notes = Vec::new();
-    let before: Vec<String> = stamps()
-        .filter(|(placed, _)| placed.early)
-        .map(|(placed, stamp)| format!("{} ({})", placed.name, time(sheet, stamp)))
-        .collect();
-    if !before.is_empty() {
-        let (is, it) = if before.len() == 1 { ("is", "it") } else { ("are", "them") };
-        notes.push(format!(
-            "{} {is} before the anchor: nothing holds {it} at the anchor or later. The line 'nothing before anchor' would.",
-            list(&before)
-        ));
+    let before = |early: bool| -> Vec<String> {
+        stamps()
+            .filter(|(placed, stamp)| sheet.floor.is_none() && *stamp < 0 && placed.early == early)
+            .map(|(placed, stamp)| format!("{} ({})", placed.name, time(sheet, stamp)))
+            .collect()
+    };
+    let (loose, held) = (before(true), before(false));
+    let words = |names: &[String]| if names.len() == 1 { ("is", "it") } else { ("are", "them") };
+    if !held.is_empty() {
+        let (is, it) = words(&held);
+        notes.push(format!("{} {is} before the anchor: the rules hold {it} there.", list(&held)));
+    }
+    if !loose.is_empty() {
+        let (is, it) = words(&loose);
+        let line = if held.is_empty() { " The line 'nothing before anchor' would." } else { "" };
+        notes
+            .push(format!("{} {is} before the anchor: nothing holds {it} at the anchor or later.{line}", list(&loose)));
     }
     let change = sheet.anchor.and_then(|anchor| {
         let day = |stamp: i32| Some(anchor.date? + day_and_minute(anchor.minute, stamp).0);

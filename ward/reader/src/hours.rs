@@ -122,7 +122,7 @@ fn anchor_otherwise(cursor: &Cursor) -> Option<Fault> {
     let first = cursor.peek(0)?;
     let (line, end) = (cursor.line, cursor.end());
     let whole = |text: String| with(line, first.from, end, &text);
-    if instant::starts(cursor, &known) {
+    if instant::starts(cursor) {
         let second = cursor.peek(1).filter(|token| token.text == ",")?;
         let third = cursor.peek(2)?;
         return Some(

@@ -47,13 +47,10 @@ fn is_date(token: Token) -> bool {
     token.kind == Kind::Word && calendar::numbers(token.text).is_some()
 }
 
-/// Whether a clock time, a day or a date starts here; a day's name alone can be a moment's.
-pub fn starts(cursor: &Cursor, known: &Known) -> bool {
+/// Whether a clock time, a day or a date starts here. A moment that is called like a day stands in quotes.
+pub fn starts(cursor: &Cursor) -> bool {
     let Some(token) = cursor.peek(0).filter(|token| token.kind == Kind::Word) else { return false };
-    let behind = cursor.peek(1).filter(|next| next.kind == Kind::Word);
-    let time =
-        behind.is_some_and(|next| is_hours(next.text) || is_date(next) || next.text.to_lowercase() == "midnight");
-    is_hours(token.text) || is_date(token) || day(token).is_some() && (time || known.moment(token.text).is_none())
+    is_hours(token.text) || is_date(token) || day(token).is_some()
 }
 
 /// Reads an optional day, an optional date, and a time.

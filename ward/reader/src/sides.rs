@@ -9,7 +9,7 @@ use crate::sheet::{Lead, Moment};
 use crate::shown;
 use crate::tokens::{is_quote, Kind, Token, DASHES};
 
-/// Words that name no moment, but in quotes.
+/// Words that name no moment, but in quotes; days of the week are such too.
 const WORDS: [&str; 8] = ["later", "latest", "of", "nothing", "from", "to", "and", "or"];
 
 /// Whether a word can name a moment without quotes, where hyphens may stand within it.
@@ -19,6 +19,7 @@ pub fn is_bare(word: &str) -> bool {
         && !word.contains(strange)
         && word.chars().count() <= limits::NAME
         && !WORDS.contains(&word.to_lowercase().as_str())
+        && crate::clock::day(word).is_none()
 }
 
 /// Whether a word can name a moment without quotes, whatever stands around it.
@@ -173,7 +174,7 @@ fn closed(cursor: &mut Cursor) -> Result<(), Fault> {
 
 /// A time of day, or a moment.
 fn single(cursor: &mut Cursor, known: &Known, listed: bool) -> Result<Term, Fault> {
-    match instant::starts(cursor, known) {
+    match instant::starts(cursor) {
         true => Ok((Some(0), instant::read(cursor, known, listed)?)),
         false => Ok((moment(cursor, known)?, 0)),
     }

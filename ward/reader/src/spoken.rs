@@ -220,7 +220,7 @@ fn point(cursor: &mut Cursor, known: &Known) -> Result<Side, Fault> {
             });
         }
     }
-    if !instant::starts(cursor, known) {
+    if !instant::starts(cursor) {
         if let Some(fault) = instant::meant(cursor, known) {
             return Err(fault);
         }

@@ -120,6 +120,8 @@ fn point_6_a_lead_that_can_be_a_time_of_day_is_asked_about() {
 
 #[test]
 fn point_7_clock_times_days_and_dates() {
+    let named = read("moments: Thu, ready\nspan: from anchor to ready\n");
+    assert_eq!(mistakes(&named)[0].fixes[0].lines, ["moments: \"Thu\", ready"]);
     same("8:00", "ready not before 8:40", &["anchor + 40 <= ready"]);
     same("Tue 8:00", "ready by Thu 14:00", &["ready <= anchor + 3240"]);
     same("2026-11-17 8:00", "ready by Thu 14:00", &["ready <= anchor + 3240"]);

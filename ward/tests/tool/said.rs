@@ -49,6 +49,14 @@ fn rules_that_are_added_are_told() {
 
 /// Over midnight and over months, with the day of the week.
 #[test]
+fn moments_that_rules_hold_before_the_anchor_are_told() {
+    let text = "moments: lab, result, move\nanchor: 0:30\nresult at least 45 after lab\nmove at least 20 after result\nmove by 0:50\nspan: from lab to move\n";
+    let out = answered(text);
+    assert!(out.contains("lab (23:25 -1d) is before the anchor: the rules hold it there.\n"), "{out}");
+    assert!(out.contains("result (0:10) is before the anchor: nothing holds it at the anchor or later.\n"), "{out}");
+}
+
+#[test]
 fn a_dated_anchor_gives_dates() {
     let text = "moments: arrives, home\nanchor: 2026-11-30 21:30\narrives exactly 525 after anchor\nhome exactly 9 days after anchor\nspan: from arrives to home\n";
     let out = answered(text);
