@@ -1,11 +1,18 @@
 -- Laws of parts of lists.
-use Prim.Native.Nat.{ℕ, _-_}
-use mathlib.Core.Path.{_≡_}
-use mathlib.Core.List.{List}
+use Prim.Native.Nat.{ℕ, suc, _-_, _<_}
+use mathlib.Core.Path.{_≡_, refl, ap₂}
+use mathlib.Core.List.{List, [], _∷_}
 use native.Mathlib.Omega.{arith}
-use lib.ListN.{length, take, drop, length-drop}
+use lib.ListN.{length, getD, take, drop, length-drop}
 use lib.Seq.{take-all}
 
 -- The part from a place to the end.
 pub rest-whole : (s : List ℕ) (at : ℕ) → take (length s - at) (drop at s) ≡ drop at s
 rest-whole s at = take-all (length s - at) (drop at s) (omega (arith, length-drop at s))
+
+-- Lists with the same entries are the same.
+pub lists-same : (l r : List ℕ) → length l ≡ length r → ((k : ℕ) → k < length l → getD l k 0 ≡ getD r k 0) → l ≡ r
+lists-same [] [] e h = refl
+lists-same [] (v ∷ r) e h = absurd (omega arith)
+lists-same (u ∷ l) [] e h = absurd (omega arith)
+lists-same (u ∷ l) (v ∷ r) e h = ap₂ _∷_ (h 0 (omega arith)) (lists-same l r (omega arith) (λ k b. h (suc k) (omega arith)))

@@ -38,7 +38,7 @@ use Rattle.look.specs.declared.frame.Frame.{Frame}
 use Rattle.look.specs.Frames.{Raised, Ready, Held}
 use Rattle.look.specs.Look.{level}
 use Rattle.look.specs.Point.{rowsIn, AllRows, PointFor}
-use Rattle.look.proofs.Agree.{Agree, agree-solves, agree-values, agree-policy}
+use Rattle.duality.proofs.Agree.{Agree, agree-solves, agree-values, agree-policy}
 use Rattle.look.proofs.Tables.{raised-tables, raised-ends, level-caps, agree-at, held-within}
 use Rattle.class_answers.specs.Answered.{PointAt}
 

@@ -47,7 +47,7 @@ use Rattle.look.specs.Frames.{Raised, Copied, Coefficients, Ready, Held}
 use Rattle.look.specs.Look.{level, Looked}
 use Rattle.look.specs.Point.{PointFor}
 use Rattle.look.specs.SecondList.{SecondIs}
-use Rattle.look.proofs.Agree.{Agree, agree-side}
+use Rattle.duality.proofs.Agree.{Agree, agree-side}
 use Rattle.look.proofs.Tables.{problem-in, agree-at, held-within}
 use Rattle.look.proofs.SecondList.{number-finite, second-held}
 use Rattle.pick_tables.specs.Shown.{RowPicks, InducedRows}

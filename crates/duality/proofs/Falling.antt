@@ -16,7 +16,7 @@ use Rattle.definitions.proofs.Tropical.{blank-or-finite, ⊑-refl, ⊑-trans, �
 use Rattle.duality.specs.System.{System, sideOf}
 use Rattle.duality.specs.Values.{valueAt, difference, weightBy, exitBy, weights, exits, values, Policy, Fails}
 use Rattle.duality.specs.Gains.{Entry}
-use Rattle.duality.specs.Falling.{Falling, Stays, Falls, RowFalls, Alike}
+use Rattle.duality.specs.Falling.{Falling, Stays, Falls, RowFalls}
 use Rattle.duality.proofs.Walks.{looped, walk-fold, walk-keep, walk-change}
 use Rattle.duality.proofs.Longest.{entries-end, exit-value, arc-value, value-under, value-mono, Stable, stable-potential, stable-exit}
 use Rattle.duality.proofs.Weights.{difference-whole, difference-largest, weight-picked, weight-terminal, exit-picked, exit-terminal, entries-arcs, arcs-entries, values-stable}
@@ -186,29 +186,3 @@ module _ (s : System) (τ : Strategy) where
         over = λ j h. ⊎-elim (λ c. rw (c .value, c .pick) (f .over j h)) (λ c. rw (exit-picked s (τ′ j) j (row-picked j c)) blank-least) (row j h);
         below = λ j h. ⊑-trans (row-lower j h) (f .below j h);
       }
-
--- ---- strategies with the same picks
-
-module _ (s : System) (τ τ′ : Strategy) (alike : Alike s τ τ′) where
-  alike-weight : (j l : ℕ) → j < s .variables → weights s τ′ j l ≡ weights s τ j l
-  alike-weight j l h = ⊎-elim (λ e. ap (λ i. weightBy s i j l) e) (λ e. weight-terminal s (τ′ j) j l (e .1) ∙ sym (weight-terminal s (τ j) j l (e .0))) (alike j h)
-
-  alike-exit : (j : ℕ) → j < s .variables → exits s τ′ j ≡ exits s τ j
-  alike-exit j h = ⊎-elim (λ e. ap (λ i. exitBy s i j) e) (λ e. exit-terminal s (τ′ j) j (e .1) ∙ sym (exit-terminal s (τ j) j (e .0))) (alike j h)
-
-  -- have the same values,
-  pub alike-values : (j : ℕ) → j < s .variables → values s τ′ j ≡ values s τ j
-  unfolding values
-  alike-values j h = ⊑-antisym
-      (value-mono (weights s τ′) (weights s τ) (exits s τ′) (exits s τ) (s .variables) (λ j l h b. ⊑-of-eq (alike-weight j l h)) (λ j h. ⊑-of-eq (alike-exit j h)) (s .variables) j h)
-      (value-mono (weights s τ) (weights s τ′) (exits s τ) (exits s τ′) (s .variables) (λ j l h b. ⊑-of-eq (sym (alike-weight j l h))) (λ j h. ⊑-of-eq (sym (alike-exit j h))) (s .variables) j h)
-
-  -- and where one is kept, so is the other.
-  pub alike-policy : Policy s τ → Policy s τ′
-  alike-policy p = record {
-    valid = λ j h b. ⊎-elim (λ e. rw e (p .valid j h (rw e at b))) (λ e. absurd (omega (arith, e .1))) (alike j h);
-    negative = λ j n w r. p .negative j n w (entries-arcs s τ (walk-keep {B = Entry (weights s τ) (s .variables)} (λ j. j < s .variables)
-        (λ j l w h a. (record { inside = a .inside; entry = sym (alike-weight j l h) ∙ a .entry }, a .inside))
-        (entries-end (omega arith) (arcs-entries s τ′ r)) (arcs-entries s τ′ r) .0));
-    below = λ j h. rw (alike-values j h) (p .below j h);
-  }

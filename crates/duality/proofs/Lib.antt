@@ -8,10 +8,12 @@ pub mod Sweeps
 pub mod Weights
 pub mod Policy
 pub mod Falling
+pub mod Agree
 pub mod Ends
 pub mod Look
 pub mod Height
 pub mod Strong
+pub mod Iteration
 pub mod Solutions
 pub mod Stamps
 pub mod Objective

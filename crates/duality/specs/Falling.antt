@@ -35,7 +35,3 @@ pub record Falls (s : System) (i : ℕ) (x : Point) (τ′ : Strategy) (x′ : P
 -- What row i makes of a strategy and a point.
 abbrev pub RowFalls : System → ℕ → Strategy → Point → Strategy → Point → Type 0
 RowFalls s i τ x τ′ x′ = (j : ℕ) → j < s .variables → Stays s i τ x τ′ x′ j ⊎ Falls s i x τ′ x′ j
-
--- The two strategies have the same picks: whatever is no row is none.
-abbrev pub Alike : System → Strategy → Strategy → Type 0
-Alike s τ τ′ = (j : ℕ) → j < s .variables → (τ′ j ≡ τ j) ⊎ ((s .rows ≤ τ j) × (s .rows ≤ τ′ j))

@@ -10,5 +10,6 @@ pub mod Classes
 pub mod Gains
 pub mod Sweeps
 pub mod Falling
+pub mod Iteration
 pub mod OlderProblems
 pub mod Look

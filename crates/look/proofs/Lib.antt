@@ -1,4 +1,3 @@
-pub mod Agree
 pub mod Tables
 pub mod SecondList
 pub mod Looking

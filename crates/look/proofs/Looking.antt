@@ -37,7 +37,7 @@ use Rattle.look.specs.declared.frame.Frame.{Frame}
 use Rattle.look.specs.declared.greatest.Look.{Look}
 use Rattle.look.specs.Frames.{Coefficients, Ready, Held}
 use Rattle.look.specs.Look.{CapsFor, startFor, rulesIn, secondIn, Under, Decided, Looked}
-use Rattle.look.proofs.Agree.{Agree, agree-sym, agree-solves, agree-values, agree-policy}
+use Rattle.duality.proofs.Agree.{Agree, agree-sym, agree-solves, agree-values, agree-policy}
 use Rattle.look.proofs.Tables.{held-within, caps-capped, agree-rules}
 use Rattle.look.proofs.SecondList.{number-finite, second-coefficient}
 

@@ -33,7 +33,7 @@ use Rattle.search.specs.Trials.{wholeOf, Trialled}
 use Rattle.look.specs.declared.frame.Frame.{Frame}
 use Rattle.look.specs.Frames.{shifted, Raised, Coefficients, Ready, FrameOf, Held}
 use Rattle.look.specs.Look.{level, capFor, CapsFor}
-use Rattle.look.proofs.Agree.{Agree}
+use Rattle.duality.proofs.Agree.{Agree}
 
 -- ---- frames
 

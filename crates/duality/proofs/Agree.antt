@@ -1,7 +1,7 @@
 -- Two systems that agree in their rows, variables and caps, with strategies that agree there, have the same values, the same
 -- kept strategies and the same solutions.
 use Prim.Native.Nat.{ℕ, suc, _≤_, _<_}
-use mathlib.Core.Path.{_≡_, sym, ap, ap₂, subst, _∙_}
+use mathlib.Core.Path.{_≡_, refl, sym, ap, ap₂, subst, _∙_}
 use mathlib.Core.Logic.{_⊎_, ⊎-elim}
 use native.Mathlib.Omega.{arith}
 use lib.IntN.{ℤ, pos}
@@ -24,6 +24,9 @@ pub record Agree (s s′ : System) : Type 0 where
   pub left : (i j : ℕ) → i < s .rows → j < s .variables → s .left i j ≡ s′ .left i j
   pub right : (i j : ℕ) → i < s .rows → j < s .variables → s .right i j ≡ s′ .right i j
   pub caps : (j : ℕ) → j < s .variables → s .caps j ≡ s′ .caps j
+
+pub agree-refl : (s : System) → Agree s s
+agree-refl s = record { variables = refl; rows = refl; left = λ i j h k. refl; right = λ i j h k. refl; caps = λ j k. refl }
 
 pub agree-sym : {s s′ : System} → Agree s s′ → Agree s′ s
 agree-sym a = record {
