@@ -1,10 +1,11 @@
 -- Laws of parts of lists.
-use Prim.Native.Nat.{ℕ, suc, _-_, _<_}
-use mathlib.Core.Path.{_≡_, refl, ap₂}
+use Prim.Native.Nat.{ℕ, suc, _-_, _≤_, _<_}
+use mathlib.Core.Path.{_≡_, refl, sym, ap₂, _∙_}
 use mathlib.Core.List.{List, [], _∷_}
 use native.Mathlib.Omega.{arith}
 use lib.ListN.{length, getD, take, drop, length-drop}
 use lib.Seq.{take-all}
+use Rattle.base.specs.Filled.{Filled}
 
 -- The part from a place to the end.
 pub rest-whole : (s : List ℕ) (at : ℕ) → take (length s - at) (drop at s) ≡ drop at s
@@ -16,3 +17,7 @@ lists-same [] [] e h = refl
 lists-same [] (v ∷ r) e h = absurd (omega arith)
 lists-same (u ∷ l) [] e h = absurd (omega arith)
 lists-same (u ∷ l) (v ∷ r) e h = ap₂ _∷_ (h 0 (omega arith)) (lists-same l r (omega arith) (λ k b. h (suc k) (omega arith)))
+
+-- A list that was copied place by place.
+pub copied-whole : {l out : List ℕ} {size n : ℕ} → Filled (λ k v. v ≡ getD l k 0) size n out → size ≤ n → length l ≡ size → out ≡ l
+copied-whole {l} {out} f h e = lists-same out l (f .size-is ∙ sym e) (λ k b. f .each k (omega (arith, f .size-is)))

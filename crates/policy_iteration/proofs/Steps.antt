@@ -1,30 +1,30 @@
--- Laws of a row that lowers values in place, of a pass over the rows, and of the iteration and its end.
+-- Laws of a row that lowers values in place, of passes over the rows, and of the iteration.
 use Prim.Native.Nat.{ℕ, zero, suc, _+_, _*_, _≤_, _<_}
 use mathlib.Core.Path.{_≡_, refl, sym, ap, subst, _∙_}
 use mathlib.Core.Logic.{_⊎_, inl, inr, ⊎-elim}
 use mathlib.Core.List.{List, [], _∷_}
 use native.Mathlib.Omega.{arith}
-use lib.ListN.{length, getD, length-map}
-use borrow.Author.Tests.{lt-ltb, le-ltb}
-use Rattle.base.proofs.Numbers.{nat-le-or-lt, positive, below-or-last}
-use Rattle.base.proofs.Filled.{filled-map}
+use native.Mathlib.Numerals.{add-one}
+use lib.ListN.{length, getD, replicate, length-map, length-replicate, getD-replicate}
+use Rattle.base.proofs.Numbers.{nat-le-or-lt}
 use Rattle.definitions.specs.Limits.{lead-limit}
-use Rattle.definitions.specs.Tropical.{Trop, plus, largest, _⊑_, blank-least}
+use Rattle.definitions.specs.Tropical.{Trop, bot, plus, largest, _⊑_, blank-least}
+use Rattle.definitions.specs.Certificate.{Strategy}
 use Rattle.definitions.specs.Offset.{tropOf}
-use Rattle.definitions.proofs.Tropical.{⊑-trans, largest-above, Attains, largest-attained}
-use Rattle.definitions.proofs.Offset.{trop-order, plus-trop-zero}
-use Rattle.duality.specs.System.{System, sideOf, Solves}
+use Rattle.definitions.proofs.Tropical.{⊑-trans, largest-above, largest-least}
+use Rattle.definitions.proofs.Offset.{trop-zero, trop-order, tropOf-injective, plus-trop-zero}
+use Rattle.duality.specs.System.{System, sideOf}
 use Rattle.duality.specs.Values.{difference, values, Policy, Fails}
 use Rattle.duality.specs.Height.{Bounded, height}
-use Rattle.duality.specs.Falling.{Falling, RowFalls, Alike}
-use Rattle.duality.proofs.Falling.{values-falling, falling-over, falling-policy, falling-values, row-falling, alike-values, alike-policy}
-use Rattle.duality.proofs.Height.{height-lower}
-use Rattle.duality.proofs.Ends.{finished}
+use Rattle.duality.specs.Falling.{RowFalls}
+use Rattle.duality.specs.Iteration.{RowStands, RowsFall, Passes, Iterates, Iterated}
+use Rattle.duality.proofs.Ends.{none-policy}
+use Rattle.duality.proofs.Iteration.{next-kept, next-lower, last-values, last-solves}
 use Rattle.records.specs.Decoded.{Near}
 use Rattle.policy_iteration.specs.Tables.{entryOf, systemOf, pointOf, pickOf, raised-limit, cap-limit, turn-limit, first-limit, value-limit, high, highs, Table, Ranged, Lows, Within, Caps, Tables}
 use Rattle.policy_iteration.specs.Rounds.{SideIs, ValuesIs}
-use Rattle.policy_iteration.specs.Steps.{Gives, givenBy, LoweredPlace, LoweredBy, Lower, AllStand, Passing, Passed, widePick, Narrowed, Widened, Iterated}
-use Rattle.policy_iteration.proofs.Low.{high-zero, high-whole, high-mono, high-strict, highs-at}
+use Rattle.policy_iteration.specs.Steps.{Gives, givenBy, LoweredPlace, LoweredBy, Passing, Passed, Turned, Ended}
+use Rattle.policy_iteration.proofs.Low.{high-zero, high-whole, high-blank, high-mono, high-strict, highs-at}
 use Rattle.policy_iteration.proofs.Small.{Small, near-small, near-abs, small-near, small-more, small-plus, small-difference, small-largest}
 use Rattle.policy_iteration.proofs.Rounds.{within-more, within-lows, level-ranged, level-lows, level-within}
 use Rattle.policy_iteration.proofs.Given.{gives-held, gives-fails, gives-stands}
@@ -38,6 +38,11 @@ past (v ∷ l) zero h = absurd (omega arith)
 past (v ∷ l) (suc k) h = past l k (omega arith)
 
 -- ---- a row
+
+then-picked : {rows a b c : ℕ} → (c < rows) ⊎ (c ≡ b) → (b < rows) ⊎ (b ≡ a) → (c < rows) ⊎ (c ≡ a)
+then-picked (inl h) p = inl h
+then-picked (inr e) (inl h) = inl (rw e h)
+then-picked (inr e) (inr f) = inr (e ∙ f)
 
 module _ (left right : List ℕ) (width rows n : ℕ) (x picks x′ picks′ : List ℕ) (j : ℕ) where
   -- Row n has left variable j as it was: it stands there,
@@ -70,28 +75,36 @@ module _ (left right : List ℕ) (width rows n : ℕ) (t : Tables left right wid
   near j = rw (highs-at x j) at (g .ranged .near j)
 
   -- A row whose left side is at most its right side stands everywhere.
-  row-whole : there ≤ here → (j : ℕ) → j < width → plus (entryOf left n j) (pointOf (highs x) j) ⊑ here-side
-  row-whole b j k = ⊑-trans (largest-above (λ l. plus (entryOf left n l) (pointOf (highs x) l)) width j k)
+  row-whole : (caps : List ℕ) → there ≤ here → RowStands (systemOf left right caps width rows) n (pointOf (highs x))
+  row-whole caps b j k = ⊑-trans (largest-above (λ l. plus (entryOf left n l) (pointOf (highs x) l)) width j k)
       (subst (λ (z : Trop). largest (λ l. plus (entryOf left n l) (pointOf (highs x) l)) width ⊑ z) (si .is)
       (subst (λ (z : Trop). z ⊑ tropOf (high here)) (li .is) (trop-order (high there) (high here) .1 (high-mono there here b))))
 
+  -- Another does not.
+  row-not : (caps : List ℕ) → here < there → RowStands (systemOf left right caps width rows) n (pointOf (highs x)) → ⊥
+  row-not caps b r = omega (
+    arith,
+    high-strict here there b,
+    trop-order (high there) (high here) .0 (rw (li .is, si .is) (largest-least (λ l. plus (entryOf left n l) (pointOf (highs x) l)) width r)),
+  )
+
   module _ (x′ picks′ : List ℕ) where
-    abbrev Turned : ℕ → Type 0
-    Turned j = KeptHere left right width rows n x picks x′ picks′ j ⊎ FellHere left right width rows n x picks x′ picks′ j
+    abbrev HadTurn : ℕ → Type 0
+    HadTurn j = KeptHere left right width rows n x picks x′ picks′ j ⊎ FellHere left right width rows n x picks x′ picks′ j
 
     -- A variable that had its turn.
     place-turned : (top j : ℕ) → Gives here top → LoweredPlace left n top j x picks x′ picks′
-        → Turned j
+        → HadTurn j
     place-turned top j gi p = ⊎-elim kept fell (nat-le-or-lt (getD x j 0) (givenBy left n top j))
       where
-        kept : getD x j 0 ≤ givenBy left n top j → Turned j
+        kept : getD x j 0 ≤ givenBy left n top j → HadTurn j
         kept b = inl (record {
           value = p .value ∙ sym (lesser-second _ _ b);
           pick = p .choice ∙ sym (chosen-second _ _ _ _ b);
           stands = λ _. row-stands j (gives-stands here top gi _ _ (t .lefts .near (n * 32 + j)) (near j) b);
         })
 
-        fell : givenBy left n top j < getD x j 0 → Turned j
+        fell : givenBy left n top j < getD x j 0 → HadTurn j
         fell b =
             let e : getD x′ j 0 ≡ givenBy left n top j = p .value ∙ sym (lesser-first _ _ b) in
             inr (record {
@@ -104,13 +117,13 @@ module _ (left right : List ℕ) (width rows n : ℕ) (t : Tables left right wid
 
     -- Every variable.
     row-place : (r : ℕ) → LoweredBy left n here there x picks x′ picks′ r → (j : ℕ)
-        → Turned j
+        → HadTurn j
     row-place r w j = ⊎-elim stood fallen (nat-le-or-lt there here)
       where
-        stood : there ≤ here → Turned j
-        stood b = let e = w .stands b in inl (record { value = rw (e .0); pick = rw (e .1); stands = λ k. row-whole b j k })
+        stood : there ≤ here → HadTurn j
+        stood b = let e = w .stands b in inl (record { value = rw (e .0); pick = rw (e .1); stands = λ k. row-whole [] b j k })
 
-        fallen : here < there → Turned j
+        fallen : here < there → HadTurn j
         fallen b = let l = w .lowers b in ⊎-elim
             (λ (k : 32 ≤ j). inl (record {
               value = past x′ j (omega (arith, l .lowered .x-size)) ∙ sym (past x j (omega (arith, g .size)));
@@ -137,9 +150,6 @@ module _ (left right : List ℕ) (width rows n : ℕ) (t : Tables left right wid
           (λ c. inr (record { fails = c .fails; value = c .value; pick = c .pick }))
           (row-place r w j)
 
-      row-low : (j : ℕ) → getD x′ j 0 ≤ getD x j 0
-      row-low j = ⊎-elim (λ c. omega (arith, c .value)) (λ c. omega (arith, c .lower)) (row-place r w j)
-
       row-picked : (j : ℕ) → (pickOf picks′ j < rows) ⊎ (pickOf picks′ j ≡ pickOf picks j)
       row-picked j = ⊎-elim (λ c. inr (c .pick)) (λ c. inl (rw (c .pick) h)) (row-place r w j)
 
@@ -160,108 +170,76 @@ module _ (left right : List ℕ) (width rows n : ℕ) (t : Tables left right wid
               (small-largest _ width (λ l b. small-plus _ _ (near-small raised-limit _ (t .rights .near (n * 32 + l))) (near-small d _ (rw (highs-at x l) (i .near l)))))
               (near-small lead-limit _ (t .lefts .near (n * 32 + k))))
 
-      -- A row that fails lowers a value.
-      row-moved : here < there → Lower width x x′
-      row-moved b = ⊎-elim (λ e. absurd (none (subst (λ (z : Trop). z ⊑ tropOf (high here)) (sym (li .is ∙ e)) blank-least))) at-place (largest-attained terms width)
-        where
-          terms : ℕ → Trop
-          terms l = plus (entryOf left n l) (pointOf (highs x) l)
-
-          none : tropOf (high there) ⊑ tropOf (high here) → ⊥
-          none c = omega (arith, trop-order (high there) (high here) .0 c, high-strict here there b)
-
-          at-place : Attains terms width → Lower width x x′
-          at-place a = ⊎-elim
-              (λ c. absurd (none (subst (λ (z : Trop). tropOf (high there) ⊑ z) (sym (si .is)) (subst (λ (z : Trop). z ⊑ here-side) (sym (li .is ∙ a .same)) (c .stands (a .inside))))))
-              (λ c. record { place = a .place; inside = a .inside; falls = c .lower })
-              (row-place r w (a .place))
-
       -- One row more of a pass.
-      pub passed-more : (x₀ picks₀ : List ℕ) (failed : ℕ) → Passed left right width rows n n x₀ picks₀ x picks failed
-          → Passed left right width rows (n + 1) (n + 1) x₀ picks₀ x′ picks′ (failed + r)
+      pub passed-more : (x₀ picks₀ : List ℕ) (failed : ℕ) → Passed left right width rows n x₀ picks₀ x picks failed
+          → Passed left right width rows (n + 1) x₀ picks₀ x′ picks′ (failed + r)
       passed-more x₀ picks₀ failed p = record {
         size = row-sizes .1;
         within = λ d i. within-more (omega arith) (row-within (d + n * turn-limit) (p .within d i));
-        falling = λ caps f. row-falling (systemOf left right caps width rows) (pickOf picks) (pointOf (highs x)) (p .falling caps f) n h (pickOf picks′) (pointOf (highs x′)) (row-falls caps);
-        lower = λ j. omega (arith, p .lower j, row-low j);
-        picked = λ j. ⊎-elim (λ b. inl b) (λ e. ⊎-elim (λ b. inl (rw e b)) (λ b. inr (e ∙ b)) (p .picked j)) (row-picked j);
-        moved = λ b. ⊎-elim (before b) (λ (q : 0 < failed). let m = p .moved q in record { place = m .place; inside = m .inside; falls = omega (arith, m .falls, row-low (m .place)) }) (nat-le-or-lt failed 0);
-        stand = λ e. ⊎-elim
-            (λ (b : there ≤ here). rw (w .stands b .0) (one-more-row (omega arith) b))
-            (λ (b : here < there). absurd (omega (arith, w .counts b)))
+        picked = λ j. then-picked (row-picked j) (p .picked j);
+        falls = λ caps. ⊎-elim
+            (λ (b : there ≤ here).
+            let e = w .stands b in
+            let f : failed + r ≡ failed = omega (arith, e .2) in
+            rw (add-one, f, e .0, e .1) (RowsFall.stands (p .falls caps) (row-whole caps b)))
+            (λ (b : here < there).
+            let f : failed + r ≡ suc failed = omega (arith, w .counts b) in
+            rw (add-one, f) (RowsFall.falls (p .falls caps) (row-not caps b) (row-falls caps)))
             (nat-le-or-lt there here);
       }
-        where
-          before : 0 < failed + r → failed ≤ 0 → Lower width x₀ x′
-          before b q = ⊎-elim
-              (λ (c : there ≤ here). absurd (omega (arith, w .stands c .2)))
-              (λ (c : here < there). let m = row-moved c in record { place = m .place; inside = m .inside; falls = omega (arith, m .falls, p .lower (m .place)) })
-              (nat-le-or-lt there here)
-
-          one-more-row : failed ≡ 0 → there ≤ here → AllStand (systemOf left right [] width rows) (n + 1) (pointOf (highs x))
-          one-more-row e b i j k l = ⊎-elim
-              (λ q. p .stand e i j q l)
-              (λ z. subst (λ (i : ℕ). plus (entryOf left i j) (pointOf (highs x) j) ⊑ sideOf (systemOf left right [] width rows) (entryOf right i) (pointOf (highs x))) (sym z) (row-whole b j l))
-              (below-or-last i n k)
 
 -- ---- a pass
 
-pub passed-none : (left right : List ℕ) (width rows : ℕ) (x picks : List ℕ) → length picks ≡ 32 → Passed left right width rows 0 0 x picks x picks 0
-passed-none left right width rows x picks e = record {
-  size = e;
-  within = λ d w. within-more (omega arith) w;
-  falling = λ caps f. f;
-  lower = λ j. omega arith;
-  picked = λ j. inr refl;
-  moved = λ h. absurd (omega arith);
-  stand = λ e i j h k. absurd (omega arith);
-}
+pub passed-none : (left right : List ℕ) (width rows : ℕ) (x picks : List ℕ) → length picks ≡ 32 → Passed left right width rows 0 x picks x picks 0
+passed-none left right width rows x picks e =
+    record { size = e; within = λ d w. within-more (omega arith) w; picked = λ j. inr refl; falls = λ caps. RowsFall.none }
 
-pub passed-end : {left right : List ℕ} {width rows n : ℕ} {x picks x′ picks′ : List ℕ} {failed : ℕ} → Passed left right width rows n n x picks x′ picks′ failed
-    → n ≤ rows → rows ≤ n → Passed left right width rows rows rows x picks x′ picks′ failed
+pub passed-end : {left right : List ℕ} {width rows n : ℕ} {x picks x′ picks′ : List ℕ} {failed : ℕ} → Passed left right width rows n x picks x′ picks′ failed
+    → n ≤ rows → rows ≤ n → Passed left right width rows rows x picks x′ picks′ failed
 passed-end {left} {right} {width} {rows} {n} {x} {picks} {x′} {picks′} {failed} p h k =
-    let e : n ≡ rows = omega arith in subst (λ (z : ℕ). Passed left right width rows z z x picks x′ picks′ failed) e p
+    let e : n ≡ rows = omega arith in subst (λ (z : ℕ). Passed left right width rows z x picks x′ picks′ failed) e p
 
--- What the two passes start from.
-pub passing-first : {left right lefts rights x picks : List ℕ} {width rows : ℕ} → Passing first-limit left right lefts rights x picks width rows
-    → Passing (first-limit + 64 * turn-limit) left right lefts rights x picks width rows
-passing-first p = record { tables = p .tables; lefts-are = p .lefts-are; rights-are = p .rights-are; within = within-more (omega arith) (p .within); size = p .size }
+-- Variable 0 is blank where its number is 0.
+blank-is : (x : List ℕ) → getD x 0 0 ≡ 0 → pointOf (highs x) 0 ≡ bot
+blank-is x e = rw (highs-at x 0, e, high-zero) trop-zero
 
-pub passing-second : {left right lefts rights x picks x′ picks′ : List ℕ} {width rows r : ℕ} → Passing first-limit left right lefts rights x picks width rows
-    → Passed left right width rows rows rows x picks x′ picks′ r → Passing (first-limit + 64 * turn-limit) left right lefts rights x′ picks′ width rows
-passing-second p q = record {
-  tables = p .tables;
-  lefts-are = p .lefts-are;
-  rights-are = p .rights-are;
-  within = within-more (omega (arith, p .tables .rows-most)) (q .within first-limit (p .within));
-  size = q .size;
-}
+blank-not : (x : List ℕ) → (getD x 0 0 ≡ 0 → ⊥) → pointOf (highs x) 0 ≡ bot → ⊥
+blank-not x d e = d (high-blank (getD x 0 0) (tropOf-injective (high (getD x 0 0)) 0 (rw (highs-at x 0) at e ∙ sym trop-zero)))
 
--- One pass for two.
-pub passed-once : {left right : List ℕ} {width rows : ℕ} {x picks x′ picks′ : List ℕ} {r : ℕ} → Passed left right width rows rows rows x picks x′ picks′ r
-    → Passed left right width rows (2 * rows) rows x picks x′ picks′ r
-passed-once p = record {
-  size = p .size;
-  within = λ d w. within-more (omega arith) (p .within d w);
-  falling = p .falling;
-  lower = p .lower;
-  picked = p .picked;
-  moved = p .moved;
-  stand = p .stand;
-}
+-- What passes start from, and what they make of it.
+module _ {left right lefts rights x picks : List ℕ} {width rows : ℕ} (p : Passing first-limit left right lefts rights x picks width rows) where
+  pub passing-first : Passing (first-limit + 64 * turn-limit) left right lefts rights x picks width rows
+  passing-first = record { tables = p .tables; lefts-are = p .lefts-are; rights-are = p .rights-are; within = within-more (omega arith) (p .within); size = p .size }
 
--- Two passes, the first of which lowered something.
-pub passed-twice : {left right : List ℕ} {width rows : ℕ} {x picks y there x′ picks′ : List ℕ} {r q : ℕ} → Passed left right width rows rows rows x picks y there r → (r ≡ 0 → ⊥)
-    → Passed left right width rows rows rows y there x′ picks′ q → Passed left right width rows (2 * rows) rows x picks x′ picks′ q
-passed-twice {r = r} a d b = record {
-  size = b .size;
-  within = λ d w. within-more (omega arith) (b .within _ (a .within d w));
-  falling = λ caps f. b .falling caps (a .falling caps f);
-  lower = λ j. omega (arith, a .lower j, b .lower j);
-  picked = λ j. ⊎-elim (λ k. inl k) (λ e. ⊎-elim (λ k. inl (rw e k)) (λ k. inr (e ∙ k)) (a .picked j)) (b .picked j);
-  moved = λ h. let m = a .moved (positive r d) in record { place = m .place; inside = m .inside; falls = omega (arith, m .falls, b .lower (m .place)) };
-  stand = b .stand;
-}
+  pub turned-none : getD x 0 0 ≡ 0 → Turned left right width rows x picks x picks 0
+  turned-none e = record { size = p .size; within = within-more (omega arith) (p .within); picked = λ j. inr refl; passes = λ caps. Passes.none (blank-is x e) }
+
+  module _ {y there : List ℕ} {r : ℕ} (d : getD x 0 0 ≡ 0 → ⊥) (q : Passed left right width rows rows x picks y there r) where
+    pub passing-second : Passing (first-limit + 64 * turn-limit) left right lefts rights y there width rows
+    passing-second = record {
+      tables = p .tables;
+      lefts-are = p .lefts-are;
+      rights-are = p .rights-are;
+      within = within-more (omega (arith, p .tables .rows-most)) (q .within first-limit (p .within));
+      size = q .size;
+    }
+
+    pub turned-once : (r ≡ 0) ⊎ (getD y 0 0 ≡ 0) → Turned left right width rows x picks y there r
+    turned-once e = record {
+      size = q .size;
+      within = within-more (omega (arith, p .tables .rows-most)) (q .within first-limit (p .within));
+      picked = q .picked;
+      passes = λ caps. Passes.once (blank-not x d) (q .falls caps) (⊎-elim (λ z. inl z) (λ z. inr (blank-is y z)) e);
+    }
+
+    pub turned-twice : {x′ picks′ : List ℕ} {failed : ℕ} → (r ≡ 0 → ⊥) → (getD y 0 0 ≡ 0 → ⊥) → Passed left right width rows rows y there x′ picks′ failed
+        → Turned left right width rows x picks x′ picks′ failed
+    turned-twice e f a = record {
+      size = a .size;
+      within = within-more (omega (arith, p .tables .rows-most)) (a .within _ (q .within first-limit (p .within)));
+      picked = λ j. then-picked (a .picked j) (q .picked j);
+      passes = λ caps. Passes.twice (blank-not x d) (q .falls caps) e (blank-not y f) (a .falls caps);
+    }
 
 -- ---- the iteration
 
@@ -293,117 +271,59 @@ values-within left right caps picks x width rows t g v = level-within left right
 pub table-raised : {table : List ℕ} → Table lead-limit table → Table raised-limit table
 table-raised t = record { size = t .size; near = λ k. record { hi = omega (arith, t .near k .hi); lo = λ h. omega (arith, t .near k .lo h) } }
 
--- Picks in 32 bits.
-module _ (s : System) (picks kept : List ℕ) (few : s .variables ≤ 32) (n : Narrowed (s .rows) picks 32 kept) where
-  pub narrowed-policy : Policy s (pickOf picks) → Policy s (pickOf kept)
-  narrowed-policy p = alike-policy s (pickOf picks) (pickOf kept) (λ j h. ⊎-elim
-      (λ (b : s .rows ≤ pickOf picks j). inr (b, n .each j (omega arith) .none b))
-      (λ (b : pickOf picks j < s .rows). inl (n .each j (omega arith) .row b))
-      (nat-le-or-lt (s .rows) (pickOf picks j))) p
+-- What the iteration keeps: a strategy that is kept, and that the strategy without picks has led to.
+pub record Kept (s : System) (kept : List ℕ) : Type 0 where
+  pub policy : Policy s (pickOf kept)
+  pub size : length kept ≡ 32
+  pub picked : (j : ℕ) → j < 32 → pickOf kept j ≤ s .rows
+  pub so-far : (τ : Strategy) → Iterates s (pickOf kept) τ → Iterated s τ
 
--- Each pick is a row, or as it was.
-abbrev pub PickedFrom : ℕ → List ℕ → List ℕ → Type 0
-PickedFrom rows from picks = (j : ℕ) → (pickOf picks j < rows) ⊎ (pickOf picks j ≡ pickOf from j)
-
--- What the iteration keeps, from these picks, and the same in 32 bits.
-abbrev pub Kept : System → List ℕ → List ℕ → List ℕ → Type 0
-Kept s picks first kept = Policy s (pickOf kept) × (length kept ≡ 32) × PickedFrom (s .rows) first kept × (length picks ≡ 32)
-
-pub wide-row : (rows kept pick : ℕ) → kept < rows → kept ≡ widePick rows kept pick
-unfolding widePick
-wide-row rows kept pick h = rw (lt-ltb kept rows h)
-
-pub wide-none : (rows kept pick : ℕ) → rows ≤ kept → pick ≡ widePick rows kept pick
-unfolding widePick
-wide-none rows kept pick h = rw (le-ltb kept rows h)
-
--- The end, with the picks as they were handed in.
-pub widened-end : (s : System) (x picks first kept back : List ℕ) → Kept s picks first kept → s .variables ≤ 32 → Narrowed (s .rows) picks 32 first
-    → Widened (s .rows) kept picks 32 back → ValuesIs s (pickOf kept) x → (0 < getD x 0 0 → Solves s (pointOf x)) → Iterated s picks x back
-widened-end s x picks first kept back k few n w v z = record {
-  size = w .size-is;
-  picked = λ j. ⊎-elim
-      (λ (h : 32 ≤ j). inr (w .rest j h ∙ sym (past picks j (omega (arith, k .3)))))
-      (λ (h : j < 32). ⊎-elim
-      (λ (b : s .rows ≤ pickOf kept j). inr (w .each j h ∙ sym (wide-none (s .rows) _ _ b)))
-      (λ (b : pickOf kept j < s .rows). inl (rw (w .each j h, ← wide-row (s .rows) (pickOf kept j) (pickOf picks j) b) b))
-      (nat-le-or-lt (s .rows) (pickOf kept j)))
-      (nat-le-or-lt 32 j);
-  policy = alike-policy s (pickOf kept) (pickOf back) alike (k .0);
-  values-are = filled-map (λ j u h e. e ∙ sym (alike-values s (pickOf kept) (pickOf back) alike j h)) v;
-  solves = z;
+pub kept-none : (s : System) → s .variables ≤ 32 → Kept s (replicate 32 (s .rows))
+kept-none s h = record {
+  policy = none-policy s _ (λ j k. omega (arith, at j (omega arith)));
+  size = length-replicate {A = ℕ} 32 (s .rows);
+  picked = λ j k. omega (arith, at j k);
+  so-far = λ τ i. record { first = pickOf (replicate 32 (s .rows)); none = λ j k. at j (omega arith); iterates = i };
 }
   where
-    none : (j : ℕ) → j < 32 → s .rows ≤ pickOf kept j → s .rows ≤ pickOf picks j
-    none j h b = ⊎-elim
-        (λ (c : s .rows ≤ pickOf picks j). c)
-        (λ (c : pickOf picks j < s .rows). ⊎-elim (λ (d : pickOf kept j < s .rows). absurd (omega arith)) (λ d. absurd (omega (arith, d, n .each j h .row c))) (k .2 j))
-        (nat-le-or-lt (s .rows) (pickOf picks j))
+    at : (j : ℕ) → j < 32 → pickOf (replicate 32 (s .rows)) j ≡ s .rows
+    at j k = getD-replicate {A = ℕ} 32 j (s .rows) 0 k
 
-    alike : Alike s (pickOf kept) (pickOf back)
-    alike j h = ⊎-elim
-        (λ (b : s .rows ≤ pickOf kept j). inr (b, rw (w .each j (omega arith), ← wide-none (s .rows) (pickOf kept j) (pickOf picks j) b) (none j (omega arith) b)))
-        (λ (b : pickOf kept j < s .rows). inl (w .each j (omega arith) ∙ sym (wide-row (s .rows) _ _ b)))
-        (nat-le-or-lt (s .rows) (pickOf kept j))
-
--- Two passes from the values of a kept strategy.
-module _ {left right caps x kept x′ kept′ : List ℕ} {width rows r : ℕ} (q : Passed left right width rows (2 * rows) rows x kept x′ kept′ r)
-    (g : Caps width caps) (t : Tables left right width rows) (p : Policy (systemOf left right caps width rows) (pickOf kept))
+-- Passes from the values of a kept strategy.
+module _ {left right caps x kept x′ kept′ : List ℕ} {width rows r : ℕ} (q : Turned left right width rows x kept x′ kept′ r)
+    (g : Caps width caps) (t : Tables left right width rows) (k : Kept (systemOf left right caps width rows) kept)
     (v : ValuesIs (systemOf left right caps width rows) (pickOf kept) (highs x)) where
   abbrev s : System
   s = systemOf left right caps width rows
 
-  after : Falling s (pickOf kept′) (pointOf (highs x′))
-  after = q .falling caps (values-falling s (pickOf kept) (pointOf (highs x)) p (λ j h. v .each j h))
+  step-picked : (j : ℕ) → j < 32 → pickOf kept′ j ≤ rows
+  step-picked j h = ⊎-elim (λ (b : pickOf kept′ j < rows). omega arith) (λ e. omega (arith, k .picked j h)) (q .picked j)
 
   -- The next strategy is kept,
-  step-policy : Policy s (pickOf kept′)
-  step-policy = falling-policy s (pickOf kept′) (pointOf (highs x′)) after
-
-  step-picked : (first : List ℕ) → PickedFrom rows first kept → PickedFrom rows first kept′
-  step-picked first o j = ⊎-elim (λ b. inl b) (λ e. ⊎-elim (λ b. inl (rw e b)) (λ b. inr (e ∙ b)) (o j)) (q .picked j)
-
-  pub step-kept : (picks first : List ℕ) → Kept s picks first kept → Kept s picks first kept′
-  step-kept picks first k = (step-policy, q .size, step-picked first (k .2), k .3)
+  pub step-kept : (r ≡ 0 → ⊥) → Kept s kept′
+  step-kept d = record {
+    policy = next-kept s (k .policy) (v .each) (q .passes caps);
+    size = q .size;
+    picked = step-picked;
+    so-far = λ τ i. k .so-far τ (Iterates.onward (v .each) (q .passes caps) d i);
+  }
 
   -- and lower, where a row has failed;
   pub step-lower : (r ≡ 0 → ⊥) → height s cap-limit (pickOf kept′) < height s cap-limit (pickOf kept)
-  step-lower d = height-lower s cap-limit (tables-bounded left right caps width rows t g) (pickOf kept) (pickOf kept′)
-      (λ j h. ⊑-trans (falling-over s (pickOf kept′) (pointOf (highs x′)) after j h) (subst (λ (z : Trop). pointOf (highs x′) j ⊑ z) (v .each j h) (lower j)))
-      (m .place) (m .inside) strict
-    where
-      m : Lower width x x′
-      m = q .moved (positive r d)
+  step-lower d = next-lower s (k .policy) (v .each) (q .passes caps) cap-limit (tables-bounded left right caps width rows t g) d
 
-      lower : (j : ℕ) → pointOf (highs x′) j ⊑ pointOf (highs x) j
-      lower j = rw (highs-at x′ j, highs-at x j) (trop-order _ _ .1 (high-mono _ _ (q .lower j)))
-
-      strict : (values s (pickOf kept) (m .place) ⊑ values s (pickOf kept′) (m .place)) → ⊥
-      strict b = omega (
-        arith,
-        high-strict _ _ (m .falls),
-        trop-order (high (getD x (m .place) 0)) (high (getD x′ (m .place) 0)) .0 (rw (highs-at x (m .place), highs-at x′ (m .place)) at
-            (⊑-trans (subst (λ (z : Trop). z ⊑ values s (pickOf kept′) (m .place)) (sym (v .each (m .place) (m .inside))) b) (falling-over s (pickOf kept′) (pointOf (highs x′)) after (m .place) (m .inside)))),
-      )
-
-  -- else the point is its values, and solves the system.
-  step-values : r ≡ 0 → ValuesIs s (pickOf kept′) (highs x′)
-  step-values e = record {
-    size-is = length-map x′ high ∙ i .size;
-    each = λ j h. falling-values s (pickOf kept′) (pointOf (highs x′)) after (q .stand e) j h;
-    rest = λ j h. highs-at x′ j ∙ ap high (i .rest j h) ∙ high-zero;
+  -- else it is the end.
+  pub step-end : r ≡ 0 → Ended s (highs x′) kept′
+  step-end e = record {
+    size = q .size;
+    picked = step-picked;
+    policy = next-kept s (k .policy) (v .each) (q .passes caps);
+    iterated = k .so-far (pickOf kept′) (Iterates.ends (v .each) (q .passes caps) e);
+    values-are = record {
+      size-is = length-map x′ high ∙ q .within .size;
+      each = last-values s (k .policy) (v .each) (q .passes caps) e;
+      rest = λ j h. highs-at x′ j ∙ ap high (q .within .rest j h) ∙ high-zero;
+    };
+    solves = λ h. last-solves s (k .policy) (v .each) (q .passes caps) e
+        (blank-not x′ (λ z. absurd (omega (arith, h, highs-at x′ 0 ∙ ap high z ∙ high-zero))));
   }
-    where
-      i : Within (first-limit + 2 * rows * turn-limit) width x′
-      i = q .within first-limit (values-within left right caps kept x width rows t g v)
-
-  pub step-end : (picks first back : List ℕ) → Kept s picks first kept → Narrowed rows picks 32 first → Widened rows kept′ picks 32 back → r ≡ 0 → Iterated s picks (highs x′) back
-  step-end picks first back k n w e =
-      widened-end s (highs x′) picks first kept′ back (step-kept picks first k) (t .width-most) n w (step-values e) (λ _. finished s (pointOf (highs x′)) (q .stand e))
-
--- Where variable 0 has no value left.
-pub stop-solves : (s : System) (x : List ℕ) → getD x 0 0 ≡ 0 → 0 < getD (highs x) 0 0 → Solves s (pointOf (highs x))
-stop-solves s x e h = absurd (omega (arith, blank))
-  where
-    blank : getD (highs x) 0 0 ≡ 0
-    blank = highs-at x 0 ∙ ap high e ∙ high-zero

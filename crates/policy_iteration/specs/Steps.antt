@@ -4,16 +4,14 @@ use mathlib.Core.Path.{_≡_}
 use mathlib.Core.Bool.{cond}
 use lib.Dec.{ltb}
 use mathlib.Core.Logic.{_⊎_}
-use mathlib.Core.List.{List, []}
+use mathlib.Core.List.{List}
 use lib.ListN.{length, getD}
 use Rattle.base.specs.Filled.{Filled}
 use Rattle.definitions.specs.Limits.{lead-limit, signed-half, stride, table-size, table-rows}
-use Rattle.definitions.specs.Tropical.{plus, _⊑_}
-use Rattle.definitions.specs.Problem.{Point}
 use Rattle.definitions.specs.Offset.{tropOf}
-use Rattle.duality.specs.System.{System, sideOf, Solves}
+use Rattle.duality.specs.System.{System, Solves}
 use Rattle.duality.specs.Values.{difference, Policy}
-use Rattle.duality.specs.Falling.{Falling}
+use Rattle.duality.specs.Iteration.{RowsFall, Passes, Iterated}
 use Rattle.records.specs.Decoded.{Near}
 use Rattle.policy_iteration.specs.Tables.{systemOf, pointOf, pickOf, turn-limit, value-limit, low-half, high, highs, Within, Tables}
 use Rattle.policy_iteration.specs.Ends.{EndsOf}
@@ -89,27 +87,19 @@ pub record Lowering (left x picks : List ℕ) (i : ℕ) : Type 0 where
   pub picks-size : length picks ≡ stride
   pub row-most : i < table-rows
 
--- A variable has become lower.
-pub record Lower (width : ℕ) (x x′ : List ℕ) : Type 0 where
-  pub place : ℕ
-  pub inside : place < width
-  pub falls : getD x′ place 0 < getD x place 0
-
--- No row below n fails.
-abbrev pub AllStand : System → ℕ → Point → Type 0
-AllStand s n x = (i j : ℕ) → i < n → j < s .variables → plus (s .left i j) (x j) ⊑ sideOf s (s .right i) x
-
--- So many rows, each in its turn, have made x′ of the point x and picks′ of its picks. A strategy that falls, whatever the caps, falls
--- again; no value is higher; where rows have failed a value is lower, else the first n rows stand.
-pub record Passed (left right : List ℕ) (width rows turns n : ℕ) (x picks x′ picks′ : List ℕ) (failed : ℕ) : Type 0 where
+-- The first n rows, each in its turn, have made x′ of the point x and picks′ of its picks, whatever the caps; so many have failed.
+pub record Passed (left right : List ℕ) (width rows n : ℕ) (x picks x′ picks′ : List ℕ) (failed : ℕ) : Type 0 where
   pub size : length picks′ ≡ stride
-  pub within : (d : ℕ) → Within d width x → Within (d + turns * turn-limit) width x′
-  pub falling : (caps : List ℕ) → Falling (systemOf left right caps width rows) (pickOf picks) (pointOf (highs x))
-      → Falling (systemOf left right caps width rows) (pickOf picks′) (pointOf (highs x′))
-  pub lower : (j : ℕ) → getD x′ j 0 ≤ getD x j 0
+  pub within : (d : ℕ) → Within d width x → Within (d + n * turn-limit) width x′
   pub picked : (j : ℕ) → (pickOf picks′ j < rows) ⊎ (pickOf picks′ j ≡ pickOf picks j)
-  pub moved : 0 < failed → Lower width x x′
-  pub stand : failed ≡ 0 → AllStand (systemOf left right [] width rows) n (pointOf (highs x′))
+  pub falls : (caps : List ℕ) → RowsFall (systemOf left right caps width rows) (pickOf picks) (pointOf (highs x)) n failed (pickOf picks′) (pointOf (highs x′))
+
+-- The same of passes over all rows.
+pub record Turned (left right : List ℕ) (width rows : ℕ) (x picks x′ picks′ : List ℕ) (failed : ℕ) : Type 0 where
+  pub size : length picks′ ≡ stride
+  pub within : Within value-limit width x′
+  pub picked : (j : ℕ) → (pickOf picks′ j < rows) ⊎ (pickOf picks′ j ≡ pickOf picks j)
+  pub passes : (caps : List ℕ) → Passes (systemOf left right caps width rows) (pickOf picks) (pointOf (highs x)) failed (pickOf picks′) (pointOf (highs x′))
 
 -- The tables of a pass, its ends, and a point within d of 0.
 pub record Passing (d : ℕ) (left right lefts rights x picks : List ℕ) (width rows : ℕ) : Type 0 where
@@ -119,27 +109,12 @@ pub record Passing (d : ℕ) (left right lefts rights x picks : List ℕ) (width
   pub within : Within d width x
   pub size : length picks ≡ stride
 
--- The same pick: where it is a row it is the same row, and where it is none so is the other.
-pub record SamePick (rows a b : ℕ) : Type 0 where
-  pub row : a < rows → b ≡ a
-  pub none : rows ≤ a → rows ≤ b
-
--- The first n picks of an array in another.
-abbrev pub Narrowed : ℕ → List ℕ → ℕ → List ℕ → Type 0
-Narrowed rows picks n out = Filled (λ j v. SamePick rows (getD picks j 0) v) stride n out
-
--- A pick where it is a row, else another.
-unfoldable pub widePick : ℕ → ℕ → ℕ → ℕ
-widePick rows kept pick = cond (ltb kept rows) kept pick
-
-abbrev pub Widened : ℕ → List ℕ → List ℕ → ℕ → List ℕ → Type 0
-Widened rows kept picks n out = Filled (λ j v. v ≡ widePick rows (getD kept j 0) (getD picks j 0)) stride n out
-
--- The end of the iteration from a strategy: a kept strategy, each pick of which is a row or as it was; its values, and they solve the
--- system, where that of variable 0 is not blank.
-pub record Iterated (s : System) (from x picks : List ℕ) : Type 0 where
+-- The end of the iteration: the one strategy that the system leads to, kept, with a row or no pick for each variable; and its values,
+-- which solve the system, where that of variable 0 is not blank.
+pub record Ended (s : System) (x picks : List ℕ) : Type 0 where
   pub size : length picks ≡ stride
-  pub picked : (j : ℕ) → (pickOf picks j < s .rows) ⊎ (pickOf picks j ≡ pickOf from j)
+  pub picked : (j : ℕ) → j < stride → pickOf picks j ≤ s .rows
   pub policy : Policy s (pickOf picks)
+  pub iterated : Iterated s (pickOf picks)
   pub values-are : ValuesIs s (pickOf picks) x
   pub solves : 0 < getD x 0 0 → Solves s (pointOf x)

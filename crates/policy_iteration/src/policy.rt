@@ -1,13 +1,12 @@
-// Policy iteration from a strategy that is kept, until no row fails. Values are low numbers here, and they fall in place: a row that
+// Policy iteration until no row fails. Values are low numbers here, and they fall in place: a row that
 // fails lowers its variables at once, and they pick it.
 ghost use mathlib.Core.Path.{_≡_};
 ghost use Prim.Native.Nat.{_+_, _-_, _*_, _/_, _%_, _<_, _≤_};
 ghost use lib.ListN.{length};
 ghost use Rattle.definitions.specs.Limits.{stride, table-rows};
-ghost use Rattle.duality.specs.Values.{Policy};
-ghost use Rattle.policy_iteration.specs.Tables.{systemOf, pickOf, turn-limit, first-limit, side-most, side-least, high, highs, Caps, Tables};
+ghost use Rattle.policy_iteration.specs.Tables.{systemOf, turn-limit, first-limit, side-most, side-least, high, highs, Caps, Tables};
 ghost use Rattle.policy_iteration.specs.Ends.{wide, RowEnds, EndsOf};
-ghost use Rattle.policy_iteration.specs.Steps.{Gives, lesser, chosenBy, Lowering, LoweredOne, LoweredAll, LoweredBy, Passing, Passed, SamePick, widePick, Narrowed, Widened, Iterated};
+ghost use Rattle.policy_iteration.specs.Steps.{Gives, lesser, chosenBy, Lowering, LoweredOne, LoweredAll, LoweredBy, Passing, Passed, Turned, Ended};
 use crate::ends::WIDE;
 use crate::values::HALF;
 use crate::values::LOW;
@@ -143,7 +142,7 @@ fn pass(
     rows: usize,
 ) -> u32
     requires { ⌜ Passing (first-limit + table-rows * turn-limit) (now left) (now right) (now lefts) (now rights) (now x) (now picks) width rows ⌝ }
-    ensures { λ r. ⌜ Passed (now (left .entry)) (now (right .entry)) width rows rows rows (now (x .entry)) (now (picks .entry)) (now (x .exit)) (now (picks .exit)) r ⌝ }
+    ensures { λ r. ⌜ Passed (now (left .entry)) (now (right .entry)) width rows rows (now (x .entry)) (now (picks .entry)) (now (x .exit)) (now (picks .exit)) r ⌝ }
 {
     let mut failed = 0;
     let mut i = 0;
@@ -156,7 +155,7 @@ fn pass(
     failed
 }
 
-// Two passes, or one in which no row failed, or after which variable 0 is blank: no later pass changes that.
+// Two passes, or one in which no row failed, or after which variable 0 is blank: no later pass changes that. None where it is already.
 fn passes(
     left: &[u32; TABLE],
     right: &[u32; TABLE],
@@ -168,8 +167,11 @@ fn passes(
     rows: usize,
 ) -> u32
     requires { ⌜ Passing first-limit (now left) (now right) (now lefts) (now rights) (now x) (now picks) width rows ⌝ }
-    ensures { λ r. ⌜ Passed (now (left .entry)) (now (right .entry)) width rows (2 * rows) rows (now (x .entry)) (now (picks .entry)) (now (x .exit)) (now (picks .exit)) r ⌝ }
+    ensures { λ r. ⌜ Turned (now (left .entry)) (now (right .entry)) width rows (now (x .entry)) (now (picks .entry)) (now (x .exit)) (now (picks .exit)) r ⌝ }
 {
+    if x[0] == 0 {
+        return 0;
+    }
     let failed = pass(left, right, lefts, rights, x, picks, width, rows);
     if failed == 0 {
         return failed;
@@ -180,52 +182,22 @@ fn passes(
     pass(left, right, lefts, rights, x, picks, width, rows)
 }
 
-// A pick in 32 bits: a row, or the number of rows for none.
-fn narrow(pick: usize, rows: usize) -> u32
-    requires { ⌜ rows ≤ table-rows ⌝ }
-    ensures { λ r. ⌜ SamePick rows pick r ⌝ }
+// A pick as an index.
+fn index(pick: u32) -> usize
+    ensures { λ r. ⌜ r ≡ pick ⌝ }
 {
-    if pick < rows {
-        pick as u32
-    } else {
-        rows as u32
-    }
+    pick as usize
 }
 
-// Picks in 32 bits: of these the rows' passes have vectors.
-fn narrowed(picks: &[usize; STRIDE], rows: usize) -> [u32; STRIDE]
-    requires { ⌜ (length (now picks) ≡ stride) × (rows ≤ table-rows) ⌝ }
-    ensures { λ r. ⌜ Narrowed rows (now (picks .entry)) stride r ⌝ }
-{
-    let mut out = [0u32; STRIDE];
-    let mut j = 0;
-    while j < STRIDE {
-        out[j] = narrow(picks[j], rows);
-        j += 1;
-    }
-    out
-}
-
-// The row that is picked, or the pick that there was.
-fn widen(kept: u32, pick: usize, rows: usize) -> usize
-    ensures { λ r. ⌜ r ≡ widePick rows kept pick ⌝ }
-{
-    if (kept as usize) < rows {
-        kept as usize
-    } else {
-        pick
-    }
-}
-
-// Picks as they were handed in, where no row is picked.
-fn widened(kept: &[u32; STRIDE], picks: [usize; STRIDE], rows: usize) -> [usize; STRIDE]
-    requires { ⌜ length (now kept) ≡ stride ⌝ }
-    ensures { λ r. ⌜ Widened rows (now (kept .entry)) picks stride r ⌝ }
+// Picks as indices.
+fn indices(picks: &[u32; STRIDE]) -> [usize; STRIDE]
+    requires { ⌜ length (now picks) ≡ stride ⌝ }
+    ensures { λ r. ⌜ r ≡ now (picks .entry) ⌝ }
 {
     let mut out = [0usize; STRIDE];
     let mut j = 0;
     while j < STRIDE {
-        out[j] = widen(kept[j], picks[j], rows);
+        out[j] = index(picks[j]);
         j += 1;
     }
     out
@@ -258,7 +230,7 @@ pub struct Outcome {
     pub picks: [usize; STRIDE],
 }
 
-// Policy iteration under caps, from a strategy that is kept: its values, two passes that lower them, the values of the strategy
+// Policy iteration under caps, from the strategy without picks: its values, passes that lower them, the values of the strategy
 // that these have picked, and so on, until no row fails in a pass or variable 0 has no value left.
 pub fn iterate(
     left: &[u32; TABLE],
@@ -266,28 +238,19 @@ pub fn iterate(
     lefts: &[u32; ROWS],
     rights: &[u32; ROWS],
     caps: &[u32; STRIDE],
-    picks: [usize; STRIDE],
     width: usize,
     rows: usize,
 ) -> Outcome
-    requires { ⌜ Tables (now left) (now right) width rows × Policy (systemOf (now left) (now right) (now caps) width rows) (pickOf picks) × EndsOf (now left) rows (now lefts) × EndsOf (now right) rows (now rights) × Caps width (now caps) ⌝ }
-    ensures { λ r. ⌜ Iterated (systemOf (now (left .entry)) (now (right .entry)) (now (caps .entry)) width rows) picks (highs (r .values)) (r .picks) ⌝ }
+    requires { ⌜ Tables (now left) (now right) width rows × EndsOf (now left) rows (now lefts) × EndsOf (now right) rows (now rights) × Caps width (now caps) ⌝ }
+    ensures { λ r. ⌜ Ended (systemOf (now (left .entry)) (now (right .entry)) (now (caps .entry)) width rows) (highs (r .values)) (r .picks) ⌝ }
 {
-    let mut kept = narrowed(&picks, rows);
+    let mut kept = [rows as u32; STRIDE];
     loop {
         let mut x = evaluate(left, right, rights, caps, &kept, width, rows);
-        if x[0] == 0 {
-            let back = widened(&kept, picks, rows);
-            return Outcome {
-                values: x,
-                picks: back,
-            };
-        }
         if passes(left, right, lefts, rights, &mut x, &mut kept, width, rows) == 0 {
-            let back = widened(&kept, picks, rows);
             return Outcome {
                 values: x,
-                picks: back,
+                picks: indices(&kept),
             };
         }
     }

@@ -10,14 +10,14 @@ use Rattle.policy_iteration.proofs.policy.pass.Statement.{statement}
 use Rattle.policy_iteration.proofs.policy.pass.Tie as tie
 
 abbrev Inv-loop : tie.InvT-loop
-Inv-loop left right lefts rights x₀ picks₀ width rows failed₀ i₀ x picks failed i = (i ≤ rows) × (failed ≤ i) × Passed left right width rows i i x₀ picks₀ x picks failed
+Inv-loop left right lefts rights x₀ picks₀ width rows failed₀ i₀ x picks failed i = (i ≤ rows) × (failed ≤ i) × Passed left right width rows i x₀ picks₀ x picks failed
 
 abbrev μ-loop : tie.MeasureT-loop
 μ-loop left right lefts rights x₀ picks₀ width rows failed₀ i₀ x picks failed i = rows - i
 
 -- The point is low at every turn.
 lows : {left right x₀ picks₀ x picks : List ℕ} {width rows i failed : ℕ} → rows ≤ 64
-    → (i ≤ rows) × (failed ≤ i) × Passed left right width rows i i x₀ picks₀ x picks failed → Within (first-limit + 64 * turn-limit) width x₀ → Lows width x
+    → (i ≤ rows) × (failed ≤ i) × Passed left right width rows i x₀ picks₀ x picks failed → Within (first-limit + 64 * turn-limit) width x₀ → Lows width x
 lows b p w = within-lows (omega (arith, p .0)) (p .2 .within (first-limit + 64 * turn-limit) w)
 
 pub pass-spec : {M : Type 1} → statement M

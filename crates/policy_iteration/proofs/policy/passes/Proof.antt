@@ -1,5 +1,6 @@
+use mathlib.Core.Logic.{inl, inr}
 use borrow.Author.Needs.{needs}
-use Rattle.policy_iteration.proofs.Steps.{passing-first, passing-second, passed-once, passed-twice}
+use Rattle.policy_iteration.proofs.Steps.{passing-first, passing-second, turned-none, turned-once, turned-twice}
 use Rattle.policy_iteration.proofs.policy.passes.Statement.{statement}
 use Rattle.policy_iteration.proofs.policy.passes.Tie as tie
 
@@ -7,9 +8,11 @@ pub passes-spec : {M : Type 1} → statement M
 passes-spec =
     tie.close
     (tie.spec
-    (λ c κs. passing-first (c .before .before .pre))
-    (λ c. passed-once (c .before .pass .ensures))
     (λ c. search needs)
-    (λ c. passed-once (c .before .before .before .pass .ensures))
-    (λ c κs. passing-second (c .before .before .before .before .before .before .before .before .pre) (c .before .before .before .before .before .pass .ensures))
-    (λ c. passed-twice (c .before .before .before .before .before .before .pass .ensures) (c .before .before .before .before .before .if1 .left) (c .pass2 .ensures)))
+    (λ c. turned-none (c .before .before .pre) (c .if1 .taken))
+    (λ c κs. passing-first (c .before .before .before .before .pre))
+    (λ c. turned-once (c .before .before .before .before .before .before .pre) (c .before .before .before .before .if1 .left) (c .before .pass .ensures) (inl (c .if2 .taken)))
+    (λ c. search needs)
+    (λ c. turned-once (c .before .before .before .before .before .before .before .before .pre) (c .before .before .before .before .before .before .if1 .left) (c .before .before .before .pass .ensures) (inr (c .if3 .taken)))
+    (λ c κs. passing-second (c .before .before .before .before .before .before .before .before .before .before .pre) (c .before .before .before .before .before .before .before .before .if1 .left) (c .before .before .before .before .before .pass .ensures))
+    (λ c. turned-twice (c .before .before .before .before .before .before .before .before .before .before .before .pre) (c .before .before .before .before .before .before .before .before .before .if1 .left) (c .before .before .before .before .before .before .pass .ensures) (c .before .before .before .before .before .if2 .left) (c .before .before .before .if3 .left) (c .pass2 .ensures)))
