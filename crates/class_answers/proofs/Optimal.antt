@@ -87,7 +87,7 @@ moved-within p t point k f =
 -- The least span with its point: least.
 module _ {f : Frame} {left right raised : List ℕ} {l : Look} {found : Found} {x out stamps : List ℕ} (y : Ready f left right) (look : Looked (f .n) (f .m) left right l)
     (some : FoundBy (l .second) (found .class) (found .span) (found .trials)) (class : found .class ≡ 1) (r : Raised right (f .m) (found .span) 32 raised)
-    (d : PointFor f left raised x) (s : ShownPicks (f .n) (f .m) right (l .start) (l .picks) out) (z : Stamps x (f .n + 1) stamps) where
+    (d : PointFor (f .n) (f .m) left raised x) (s : ShownPicks (f .n) (f .m) right (l .start) (l .picks) out) (z : Stamps x (f .n + 1) stamps) where
   c : Coefficients (f .n) (f .m) left right
   c = y .coefficients
 

@@ -30,7 +30,7 @@ use Rattle.duality.proofs.Solutions.{solved-finite}
 use Rattle.duality.proofs.Classes.{attainable-exactly}
 use Rattle.duality.proofs.Stamps.{stamps-at-most-32}
 use Rattle.policy_iteration.specs.Tables.{pointOf, pickOf, Ranged}
-use Rattle.policy_iteration.specs.Steps.{Iterated}
+use Rattle.policy_iteration.specs.Steps.{Ended}
 use Rattle.policy_iteration.proofs.Rounds.{zero-is}
 use Rattle.policy_iteration.proofs.Steps.{values-ranged}
 use Rattle.search.specs.Trials.{wholeOf, zero-offset, Trialled}
@@ -49,23 +49,23 @@ all-rows y b r = record { tables = raised-tables y b r; left-ends = y .left-ends
 
 -- The values are in range.
 pub point-ranged : {f : Frame} {left right raised : List ℕ} {t : ℕ} {x : List ℕ} → Ready f left right → Trialled t → Raised right (f .m) t 32 raised
-    → PointFor f left raised x → Ranged x
+    → PointFor (f .n) (f .m) left raised x → Ranged x
 point-ranged {f} {left} {right} {raised} {t} {x} y b r d =
     let w = raised-tables y b r in
-    values-ranged left raised level (d .picks) x (f .n + 1) (f .m + 1) w (level-caps (f .n + 1) (w .width-most)) (d .iterated .values-are)
+    values-ranged left raised level (d .picks) x (f .n + 1) (f .m + 1) w (level-caps (f .n + 1) (w .width-most)) (d .ended .values-are)
 
 module _ {p : Problem} {f : Frame} {left right raised : List ℕ} {t : ℕ} {x : List ℕ} (q : Held p (f .n) (f .m) left right) (y : Ready f left right)
-    (b : Trialled t) (r : Raised right (f .m) t 32 raised) (d : PointFor f left raised x) where
-  agree : Agree (rowsIn f left raised) (systemAt p (wholeOf t))
+    (b : Trialled t) (r : Raised right (f .m) t 32 raised) (d : PointFor (f .n) (f .m) left raised x) where
+  agree : Agree (rowsIn (f .n) (f .m) left raised) (systemAt p (wholeOf t))
   agree = agree-at q (y .coefficients) b r
 
   policy : Policy (systemAt p (wholeOf t)) (pickOf (d .picks))
-  policy = agree-policy (rowsIn f left raised) (systemAt p (wholeOf t)) (pickOf (d .picks)) (pickOf (d .picks)) agree (λ j h. refl) (d .iterated .policy)
+  policy = agree-policy (rowsIn (f .n) (f .m) left raised) (systemAt p (wholeOf t)) (pickOf (d .picks)) (pickOf (d .picks)) agree (λ j h. refl) (d .ended .policy)
 
   value-is : (j : ℕ) → j ≤ p .n → pointOf x j ≡ values (systemAt p (wholeOf t)) (pickOf (d .picks)) j
   value-is j h =
-      d .iterated .values-are .each j (omega (arith, q .n-is))
-      ∙ agree-values (rowsIn f left raised) (systemAt p (wholeOf t)) (pickOf (d .picks)) (pickOf (d .picks)) agree (λ j h. refl) j (omega (arith, q .n-is))
+      d .ended .values-are .each j (omega (arith, q .n-is))
+      ∙ agree-values (rowsIn (f .n) (f .m) left raised) (systemAt p (wholeOf t)) (pickOf (d .picks)) (pickOf (d .picks)) agree (λ j h. refl) j (omega (arith, q .n-is))
 
   -- ---- it is finite where some solution is
 
@@ -93,7 +93,7 @@ module _ {p : Problem} {f : Frame} {left right raised : List ℕ} {t : ℕ} {x :
 
   low : (k : ℕ) (v : ℤ) → pointOf x k ≡ fin v → Low v
   low k v e = ⊎-elim
-      (λ (h : suc (p .n) ≤ k). absurd (bot-not-fin (sym trop-zero ∙ ap tropOf (sym (d .iterated .values-are .rest k (omega (arith, q .n-is)))) ∙ e)))
+      (λ (h : suc (p .n) ≤ k). absurd (bot-not-fin (sym trop-zero ∙ ap tropOf (sym (d .ended .values-are .rest k (omega (arith, q .n-is)))) ∙ e)))
       (λ (h : k < suc (p .n)).
       let z = stamps-at-most-32 p (wholeOf t) (pickOf (d .picks)) lead-limit (held-within q (y .coefficients)) policy (omega (arith, q .n-is, y .coefficients .n-most)) k (omega arith) v (sym (value-is k (omega arith)) ∙ e) in
       record { floor = z .0; top = z .1 })
@@ -121,9 +121,9 @@ module _ {p : Problem} {f : Frame} {left right raised : List ℕ} {t : ℕ} {x :
   point-shows a = record {
     finite = attained-anchor a;
     second = attained-second a;
-    solves = agree-solves (pointOf x) agree (d .iterated .solves (attained-anchor a));
+    solves = agree-solves (pointOf x) agree (d .ended .solves (attained-anchor a));
     stamps = stamp-within _ (trop-fin (getD x 0 0) (attained-anchor a));
-    rest = λ k h. d .iterated .values-are .rest k (omega (arith, q .n-is));
+    rest = λ k h. d .ended .values-are .rest k (omega (arith, q .n-is));
   }
 
   -- and the value of variable 0 is at most zero.

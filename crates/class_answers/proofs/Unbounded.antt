@@ -95,7 +95,7 @@ point-second {n = n} {k = k} q b c x m = ⊎-elim
 -- The lowest trial is possible: bottomless.
 module _ {f : Frame} {left right raised : List ℕ} {l : Look} {found : Found} {x row rows : List ℕ} {k : ℕ} (y : Ready f left right)
     (look : Looked (f .n) (f .m) left right l) (some : FoundBy (l .second) (found .class) (found .span) (found .trials)) (class : found .class ≡ 2)
-    (r : Raised right (f .m) lowest-offset 32 raised) (d : PointFor f left raised x) (i : InducedRows raised x (f .n + 1) (f .m + 1) rows)
+    (r : Raised right (f .m) lowest-offset 32 raised) (d : PointFor (f .n) (f .m) left raised x) (i : InducedRows raised x (f .n + 1) (f .m + 1) rows)
     (copied : Copied right (f .m) 32 row) (met : SecondIs row x (f .n + 1) k) where
   c : Coefficients (f .n) (f .m) left right
   c = y .coefficients

@@ -1,18 +1,16 @@
 -- A point that shows a possible span, by policy iteration over all rows.
 use Prim.Native.Nat.{ℕ, _+_}
 use mathlib.Core.List.{List}
-use lib.ListN.{replicate}
-use Rattle.definitions.specs.Limits.{stride}
 use Rattle.duality.specs.System.{System}
 use Rattle.policy_iteration.specs.Tables.{systemOf, Tables}
 use Rattle.policy_iteration.specs.Ends.{EndsOf}
-use Rattle.policy_iteration.specs.Steps.{Iterated}
+use Rattle.policy_iteration.specs.Steps.{Ended}
 use Rattle.look.specs.declared.frame.Frame.{Frame}
 use Rattle.look.specs.Look.{level}
 
 -- All rows in the tables, with every cap at 0.
-abbrev pub rowsIn : Frame → List ℕ → List ℕ → System
-rowsIn f left raised = systemOf left raised level (f .n + 1) (f .m + 1)
+abbrev pub rowsIn : ℕ → ℕ → List ℕ → List ℕ → System
+rowsIn n m left raised = systemOf left raised level (n + 1) (m + 1)
 
 -- The tables of all rows, with their ends.
 pub record AllRows (f : Frame) (left raised : List ℕ) : Type 0 where
@@ -20,7 +18,7 @@ pub record AllRows (f : Frame) (left raised : List ℕ) : Type 0 where
   pub left-ends : EndsOf left (f .m + 1) (f .lefts)
   pub right-ends : EndsOf raised (f .m + 1) (f .rights)
 
--- The values that the iteration ends with, from the strategy without picks.
-pub record PointFor (f : Frame) (left raised x : List ℕ) : Type 0 where
+-- The values that the iteration ends with.
+pub record PointFor (n m : ℕ) (left raised x : List ℕ) : Type 0 where
   pub picks : List ℕ
-  pub iterated : Iterated (rowsIn f left raised) (replicate stride (f .m + 1)) x picks
+  pub ended : Ended (rowsIn n m left raised) x picks

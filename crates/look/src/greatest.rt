@@ -44,20 +44,11 @@ fn greatest_under(
     caps: &[u32; STRIDE],
 ) -> Look
     requires { ⌜ Ready frame (now left) (now right) × Caps (frame .n + 1) (now caps) ⌝ }
-    ensures { λ r. ⌜ Under frame (now (left .entry)) (now (right .entry)) (now (caps .entry)) r ⌝ }
+    ensures { λ r. ⌜ Under (frame .n) (frame .m) (now (left .entry)) (now (right .entry)) (now (caps .entry)) r ⌝ }
 {
     let lefts = frame.lefts;
     let rights = frame.rights;
-    let end = iterate(
-        left,
-        right,
-        &lefts,
-        &rights,
-        caps,
-        [frame.m; STRIDE],
-        frame.n + 1,
-        frame.m,
-    );
+    let end = iterate(left, right, &lefts, &rights, caps, frame.n + 1, frame.m);
     let values = end.values;
     let picks = end.picks;
     if values[0] == 0 {

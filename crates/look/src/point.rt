@@ -10,7 +10,7 @@ use records::limits::TABLE;
 // The point, as offset numbers, by policy iteration over all rows; the objective's right row is raised by t.
 pub fn point_at(left: &[u32; TABLE], raised: &[u32; TABLE], frame: Frame) -> [u64; STRIDE]
     requires { ⌜ AllRows frame (now left) (now raised) ⌝ }
-    ensures { λ r. ⌜ PointFor frame (now (left .entry)) (now (raised .entry)) r ⌝ }
+    ensures { λ r. ⌜ PointFor (frame .n) (frame .m) (now (left .entry)) (now (raised .entry)) r ⌝ }
 {
     let rows = frame.m + 1;
     let lefts = frame.lefts;
@@ -21,7 +21,6 @@ pub fn point_at(left: &[u32; TABLE], raised: &[u32; TABLE], frame: Frame) -> [u6
         &lefts,
         &rights,
         &level_caps(),
-        [rows; STRIDE],
         frame.n + 1,
         rows,
     );

@@ -4,7 +4,7 @@ use Rattle.policy_iteration.specs.Tables.{highs}
 use Rattle.policy_iteration.proofs.Low.{highs-size}
 use Rattle.policy_iteration.proofs.Steps.{values-lows}
 use Rattle.look.proofs.Tables.{ends-fewer, rules-tables}
-use Rattle.look.proofs.Looking.{none-kept, under-blank, under-second}
+use Rattle.look.proofs.Looking.{under-blank, under-second}
 use borrow.Author.Needs.{needs}
 use Rattle.look.proofs.greatest.greatest_under.Statement.{statement}
 use Rattle.look.proofs.greatest.greatest_under.Tie as tie
@@ -14,11 +14,11 @@ greatest-under-spec =
     tie.close
     (tie.spec
     (λ c. omega (arith, c .before .before .before .before .before .pre .0 .coefficients .n-most))
-    (λ c κs. let start = c .before .before .before .before .before in let a = start .args in let y = start .pre .0 in
-    (rules-tables y, none-kept (a .left .now) (a .right .now) (a .caps .now) (a .frame .n + 1) (a .frame .m) (omega (arith, y .coefficients .n-most)), ends-fewer (omega arith) (y .left-ends), ends-fewer (omega arith) (y .right-ends), start .pre .1))
+    (λ c κs. let start = c .before .before .before .before .before in let y = start .pre .0 in
+    (rules-tables y, ends-fewer (omega arith) (y .left-ends), ends-fewer (omega arith) (y .right-ends), start .pre .1))
     (λ c. search needs)
     (λ c. let a = c .before .before .before .before .before .before .before .before .before .args in let end = c .before .before .before .iterate in
-    under-blank (a .frame) (a .left .now) (a .right .now) (a .caps .now) (end .result .values) (end .result .picks) (end .ensures) (c .if1 .taken))
+    under-blank (a .frame .n) (a .frame .m) (a .left .now) (a .right .now) (a .caps .now) (end .result .values) (end .result .picks) (end .ensures) (c .if1 .taken))
     (λ c. search needs)
     (λ c. search needs)
     (λ c. omega (arith, c .before .before .before .before .before .before .before .before .before .before .before .pre .0 .coefficients .n-most))
@@ -32,4 +32,4 @@ greatest-under-spec =
     (λ c κs. search needs)
     (λ c κs. let y = c .before .before .before .before .before .before .before .before .before .before .before .before .before .pre .0 .coefficients in (y .rights .size, omega (arith, y .m-most)))
     (λ c. let a = c .before .before .before .before .before .before .before .before .before .before .before .before .before .before .args in let end = c .before .before .before .before .before .before .before .before .iterate in
-    rw (c .start-for .ensures, c .before .high-of .ensures) (under-second (a .frame) (a .left .now) (a .right .now) (a .caps .now) (end .result .values) (end .result .picks) (end .ensures) (c .before .before .side .result) (c .before .before .before .before .before .if1 .left) (c .before .before .side .ensures))))
+    rw (c .start-for .ensures, c .before .high-of .ensures) (under-second (a .frame .n) (a .frame .m) (a .left .now) (a .right .now) (a .caps .now) (end .result .values) (end .result .picks) (end .ensures) (c .before .before .side .result) (c .before .before .before .before .before .if1 .left) (c .before .before .side .ensures))))
