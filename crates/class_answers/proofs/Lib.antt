@@ -7,3 +7,4 @@ pub mod Infeasible
 pub mod Unbounded
 pub mod Optimal
 pub mod Found
+pub mod One

@@ -131,7 +131,7 @@ module _ (s : System) where
 
   -- ---- one end
 
-  side-same : {x y : Point} (c : ℕ → Trop) → SamePoint s x y → sideOf s c x ≡ sideOf s c y
+  pub side-same : {x y : Point} (c : ℕ → Trop) → SamePoint s x y → sideOf s c x ≡ sideOf s c y
   side-same c e = largest-ext _ _ (s .variables) (λ j h. ap (plus (c j)) (e j h))
 
   stands-same : (x y : Point) (i : ℕ) → SamePoint s x y → RowStands s i x → RowStands s i y
@@ -180,7 +180,7 @@ module _ (s : System) where
         count = ap suc (o .count);
       }
 
-  values-same : {τ σ : Strategy} → SamePicks s τ σ → SamePoint s (values s τ) (values s σ)
+  pub values-same : {τ σ : Strategy} → SamePicks s τ σ → SamePoint s (values s τ) (values s σ)
   values-same {τ} {σ} t j h = agree-values s s τ σ (agree-refl s) t j h
 
   start-same : {τ σ : Strategy} {x y : Point} → SamePicks s τ σ → SamePoint s x (values s τ) → SamePoint s y (values s σ) → SamePoint s x y

@@ -1,3 +1,4 @@
 pub mod Tables
 pub mod SecondList
 pub mod Looking
+pub mod One

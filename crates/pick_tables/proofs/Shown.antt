@@ -159,7 +159,8 @@ highest-none table row x width = record {
   most = λ l h. absurd (omega arith);
   least = omega arith;
   some = λ h. absurd (omega arith);
-  none = λ h. refl;
+  none = λ h. (refl, refl);
+  first = λ h. absurd (omega arith);
 }
 
 pub highest-on : (table : List ℕ) (row : ℕ) (x : List ℕ) (width n top pick top′ pick′ : ℕ) → Highest table row x width n top pick → n < width
@@ -171,8 +172,9 @@ highest-on table row x width n top pick top′ pick′ s h (inl w) = rw (w .1, w
       (λ (k : l < n). omega (arith, s .most l k, w .0))
       (nat-le-or-lt n l);
   least = omega (arith, s .least, w .0);
-  some = λ _. refl;
+  some = λ _. (refl, omega (arith, s .least, w .0));
   none = λ k. absurd (omega arith);
+  first = λ _ l k. omega (arith, s .most l k, w .0);
 })
 highest-on table row x width n top pick top′ pick′ s h (inr w) = rw (w .1, w .2) (record {
   most = λ l b. ⊎-elim
@@ -182,11 +184,20 @@ highest-on table row x width n top pick top′ pick′ s h (inr w) = rw (w .1, w
   least = s .least;
   some = s .some;
   none = s .none;
+  first = s .first;
 })
 
 pub highest-end : (right : List ℕ) (row : ℕ) (x : List ℕ) (width n top pick : ℕ) → Table raised-limit right → Ranged x
     → Highest right row x width n top pick → width ≤ n → BestIs right row x width pick
-highest-end right row x width n top pick t g s h = record { best = λ f. ⊎-elim (λ k. absurd (blank k f)) found (nat-le-or-lt width pick) }
+highest-end right row x width n top pick t g s h = record {
+  best = λ f. ⊎-elim (λ k. absurd (blank k f)) found (nat-le-or-lt width pick);
+  highest = record {
+    most = λ k l b. omega (arith, s .most l (omega arith), s .some k .0);
+    above = λ k. omega (arith, s .some k .0, s .some k .1);
+    first = λ k l b. omega (arith, s .first k l b, s .some k .0);
+    none = λ k. (s .none k .1, λ l b. omega (arith, s .most l (omega arith), s .none k .0));
+  };
+}
   where
     term : (l : ℕ) → tropOf (foldedAt fold-limit (sums right row x l)) ≡ plus (entryOf right row l) (pointOf x l)
     term l = folded-offsets _ _ (t .near (row * 32 + l)) (g .near l)
@@ -195,7 +206,7 @@ highest-end right row x width n top pick t g s h = record { best = λ f. ⊎-eli
     blank : width ≤ pick → Finite (largest (λ l. plus (entryOf right row l) (pointOf x l)) width) → ⊥
     blank k f =
         let below : largest (λ l. plus (entryOf right row l) (pointOf x l)) width ⊑ bot =
-        largest-least _ width (λ l b. rw (← term l) (⊑-of-eq (low l (omega (arith, s .most l (omega arith), s .none k))))) in
+        largest-least _ width (λ l b. rw (← term l) (⊑-of-eq (low l (omega (arith, s .most l (omega arith), s .none k .0))))) in
         not-finite-bot (subst Finite (below-bot below) f)
       where
         low : (l : ℕ) → sums right row x l ≤ blank-most → tropOf (foldedAt fold-limit (sums right row x l)) ≡ bot
@@ -205,5 +216,5 @@ highest-end right row x width n top pick t g s h = record { best = λ f. ⊎-eli
     found k = (
       k,
       largest-least _ width (λ l b.
-          rw (← term l, ← term pick) (trop-order _ _ .1 (folded-mono fold-limit _ _ (omega (arith, s .most l (omega arith), s .some k))))),
+          rw (← term l, ← term pick) (trop-order _ _ .1 (folded-mono fold-limit _ _ (omega (arith, s .most l (omega arith), s .some k .0))))),
     )

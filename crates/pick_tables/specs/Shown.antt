@@ -108,13 +108,22 @@ blank-most = 3221225471
 pub record Highest (table : List ℕ) (row : ℕ) (x : List ℕ) (width n top pick : ℕ) : Type 0 where
   pub most : (l : ℕ) → l < n → sums table row x l ≤ top
   pub least : blank-most ≤ top
-  pub some : pick < width → top ≡ sums table row x pick
-  pub none : width ≤ pick → top ≡ blank-most
+  pub some : pick < width → (top ≡ sums table row x pick) × (blank-most < top)
+  pub none : width ≤ pick → (top ≡ blank-most) × (pick ≡ width)
+  pub first : pick < width → (l : ℕ) → l < pick → sums table row x l < top
 
--- The pick attains the right side of the row, if that is not blank.
+-- The pick is the first place of the highest sum of a row with a point, or the width where no sum is above the limit.
+pub record FirstHighest (table : List ℕ) (row : ℕ) (x : List ℕ) (width pick : ℕ) : Type 0 where
+  pub most : pick < width → (l : ℕ) → l < width → sums table row x l ≤ sums table row x pick
+  pub above : pick < width → blank-most < sums table row x pick
+  pub first : pick < width → (l : ℕ) → l < pick → sums table row x l < sums table row x pick
+  pub none : width ≤ pick → (pick ≡ width) × ((l : ℕ) → l < width → sums table row x l ≤ blank-most)
+
+-- The pick is the first that attains the right side of the row, if that is not blank.
 pub record BestIs (right : List ℕ) (row : ℕ) (x : List ℕ) (width pick : ℕ) : Type 0 where
   pub best : Finite (largest (λ l. plus (entryOf right row l) (pointOf x l)) width)
       → (pick < width) × (largest (λ l. plus (entryOf right row l) (pointOf x l)) width ⊑ plus (entryOf right row pick) (pointOf x pick))
+  pub highest : FirstHighest right row x width pick
 
 abbrev pub InducedRows : List ℕ → List ℕ → ℕ → ℕ → List ℕ → Type 0
 InducedRows right x width n picks = Filled (λ i v. BestIs right i x width v) table-rows n picks
