@@ -1,5 +1,5 @@
 -- Class 1: the least span with a plan that shows it, and the look's strategy, are an answer that the checker's list accepts.
-use Prim.Native.Nat.{ℕ, suc, _+_, _*_, _-_, _≤_, _<_}
+use Prim.Native.Nat.{ℕ, suc, _+_, _-_, _≤_, _<_}
 use mathlib.Core.Path.{_≡_, refl, sym, ap, subst, fun-ext, _∙_}
 use mathlib.Core.Bool.{true, and-eq-true-iff}
 use mathlib.Core.Logic.{⊎-elim}
@@ -7,8 +7,7 @@ use mathlib.Core.List.{List, map}
 use native.Mathlib.Omega.{arith}
 use lib.Dec.{eqb}
 use lib.ListN.{length, getD, take}
-use lib.IntN.{ℤ, pos, negℤ, natAbs, _+ℤ_, _-ℤ_}
-use lib.Signed.{_≤ℤ_}
+use lib.IntN.{ℤ, pos, negℤ, natAbs, _-ℤ_}
 use borrow.Author.Tests.{le-leb}
 use Rattle.base.proofs.Numbers.{nat-le-or-lt}
 use Rattle.definitions.specs.Limits.{signed-half, lead-limit, span-limit, stamp-limit}

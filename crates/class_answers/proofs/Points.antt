@@ -11,26 +11,23 @@ use lib.IntN.{ℤ, pos, natAbs, _-ℤ_}
 use lib.Signed.{_≤ℤ_}
 use borrow.Author.Tests.{le-leb}
 use Rattle.base.proofs.Numbers.{nat-le-or-lt}
-use Rattle.base.proofs.Filled.{filled-map, filled-end}
 use Rattle.definitions.specs.Limits.{signed-half, lead-limit, span-limit, stamp-limit}
 use Rattle.definitions.specs.Tropical.{Trop, bot, fin, Finite}
-use Rattle.definitions.specs.Problem.{Problem, Point, Attainable}
+use Rattle.definitions.specs.Problem.{Problem, Attainable}
 use Rattle.definitions.specs.Certificate.{Second}
 use Rattle.definitions.specs.Bytes.{blank-or-within}
 use Rattle.definitions.specs.Offset.{tropOf}
 use Rattle.definitions.proofs.Whole.{up, down, whole, minus-read, abs-show, subℕ-read}
 use Rattle.definitions.proofs.Tropical.{bot-not-fin}
 use Rattle.definitions.proofs.Offset.{trop-zero, trop-fin, trop-order, trop-read}
-use Rattle.duality.specs.System.{System, Solution, Meets, systemAt}
+use Rattle.duality.specs.System.{Solution, Meets, systemAt}
 use Rattle.duality.specs.Starts.{Only}
 use Rattle.duality.specs.Values.{Policy, difference, values}
-use Rattle.duality.specs.Within.{Within}
 use Rattle.duality.proofs.Ends.{started-solution}
 use Rattle.duality.proofs.Solutions.{solved-finite}
 use Rattle.duality.proofs.Classes.{attainable-exactly}
 use Rattle.duality.proofs.Stamps.{stamps-at-most-32}
 use Rattle.policy_iteration.specs.Tables.{pointOf, pickOf, Ranged}
-use Rattle.policy_iteration.specs.Steps.{Iterated}
 use Rattle.policy_iteration.proofs.Rounds.{zero-is}
 use Rattle.policy_iteration.proofs.Steps.{values-ranged}
 use Rattle.search.specs.Trials.{wholeOf, zero-offset, Trialled}

@@ -1,5 +1,5 @@
 -- What the answers of the three classes share.
-use Prim.Native.Nat.{ℕ, zero, suc, _+_, _*_, _≤_, _<_}
+use Prim.Native.Nat.{ℕ, zero, suc, _+_, _≤_, _<_}
 use mathlib.Core.Path.{_≡_, refl}
 use mathlib.Core.Bool.{true}
 use mathlib.Core.List.{List}
@@ -19,9 +19,7 @@ use Rattle.definitions.specs.Tropical.{Finite}
 use Rattle.definitions.specs.Problem.{Problem, Attainable}
 use Rattle.definitions.specs.Certificate.{Strategy, startOf}
 use Rattle.definitions.specs.AnswerRecord.{picksFit}
-use Rattle.definitions.specs.Verdict as Verdict
 use Rattle.definitions.specs.Verdict.{strategyOf}
-use Rattle.definitions.specs.Solved as Solved
 use Rattle.definitions.proofs.Offset.{trop-fin}
 use Rattle.duality.specs.System.{Blocks, systemAt}
 use Rattle.duality.specs.Within.{Enough}

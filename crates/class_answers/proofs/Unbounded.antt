@@ -1,6 +1,6 @@
 -- Class 2: the row strategy of a point of the lowest trial is an answer that the checker's list accepts.
-use Prim.Native.Nat.{ℕ, suc, _+_, _*_, _≤_, _<_}
-use mathlib.Core.Path.{_≡_, refl, sym, ap, subst, _∙_}
+use Prim.Native.Nat.{ℕ, suc, _+_, _≤_, _<_}
+use mathlib.Core.Path.{_≡_, refl, sym, ap, subst}
 use mathlib.Core.Bool.{true, _&&_, and-eq-true-iff}
 use mathlib.Core.Logic.{⊎-elim}
 use mathlib.Core.List.{List}
@@ -8,7 +8,6 @@ use native.Mathlib.Omega.{arith}
 use native.Mathlib.Numerals.{add-one}
 use lib.Dec.{leb, ltb}
 use lib.ListN.{length, getD, take}
-use lib.IntN.{ℤ}
 use borrow.Author.Tests.{le-leb, lt-ltb}
 use Rattle.base.proofs.Numbers.{nat-le-or-lt}
 use Rattle.definitions.specs.Limits.{lead-limit, span-limit}
@@ -21,7 +20,6 @@ use Rattle.definitions.specs.Verdict as Verdict
 use Rattle.definitions.specs.Verdict.{strategyOf}
 use Rattle.definitions.specs.Solved as Solved
 use Rattle.definitions.specs.Solved.{Answers, IdleRows}
-use Rattle.definitions.proofs.Whole.{whole, subℕ-read}
 use Rattle.definitions.proofs.Tropical.{⊑-trans, ⊑-of-eq}
 use Rattle.definitions.proofs.Offset.{trop-zero}
 use Rattle.definitions.proofs.AnswerFits.{form-fits}
@@ -38,7 +36,7 @@ use Rattle.duality.proofs.Unused.{unbounded-unused}
 use Rattle.reach.specs.Marks.{StartMarked, AnchoredAnd}
 use Rattle.reach.proofs.Marks.{anchored-and-marked}
 use Rattle.policy_iteration.specs.Tables.{systemOf, pointOf, pickOf}
-use Rattle.search.specs.Trials.{wholeOf, lowest-offset, FoundBy}
+use Rattle.search.specs.Trials.{lowest-offset, FoundBy}
 use Rattle.search.specs.declared.search.Found.{Found}
 use Rattle.search.proofs.Trials.{found-bottomless, bottomless-span}
 use Rattle.look.specs.declared.frame.Frame.{Frame}

@@ -1,5 +1,4 @@
 use Rattle.search.proofs.Trials.{else-least}
-use borrow.Author.Needs.{needs}
 use Rattle.class_answers.proofs.answer.answer_of.Statement.{statement}
 use Rattle.class_answers.proofs.answer.answer_of.Tie as tie
 

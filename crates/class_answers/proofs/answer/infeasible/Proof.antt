@@ -2,7 +2,6 @@ use Prim.Native.Nat.{ℕ}
 use lib.ListN.{length-replicate}
 use Rattle.base.proofs.Filled.{zeros}
 use Rattle.class_answers.proofs.Infeasible.{infeasible-answer}
-use borrow.Author.Needs.{needs}
 use Rattle.class_answers.proofs.answer.infeasible.Statement.{statement}
 use Rattle.class_answers.proofs.answer.infeasible.Tie as tie
 

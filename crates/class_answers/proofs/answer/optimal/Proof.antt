@@ -3,7 +3,6 @@ use Rattle.search.proofs.Trials.{found-least, least-trialled}
 use Rattle.look.proofs.Tables.{problem-in}
 use Rattle.class_answers.proofs.Points.{all-rows, point-ranged, point-anchored}
 use Rattle.class_answers.proofs.Optimal.{optimal-answer}
-use borrow.Author.Needs.{needs}
 use Rattle.class_answers.proofs.answer.optimal.Statement.{statement}
 use Rattle.class_answers.proofs.answer.optimal.Tie as tie
 

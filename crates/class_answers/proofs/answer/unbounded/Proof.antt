@@ -6,7 +6,6 @@ use Rattle.look.proofs.Tables.{raised-tables}
 use Rattle.class_answers.proofs.Shared.{lowest-trialled}
 use Rattle.class_answers.proofs.Points.{all-rows, point-ranged}
 use Rattle.class_answers.proofs.Unbounded.{second-inside, unbounded-answer}
-use borrow.Author.Needs.{needs}
 use Rattle.class_answers.proofs.answer.unbounded.Statement.{statement}
 use Rattle.class_answers.proofs.answer.unbounded.Tie as tie
 
