@@ -89,11 +89,8 @@ module _ {s : List ℕ} {l : Layout} {left₀ right₀ before : List ℕ} (sever
       room : at + answer-most ≤ length after
       room = omega (arith, turns .short, turns .same, several .room)
 
-      pub turn-inside : at ≤ length after
-      turn-inside = omega (arith, room)
-
-      pub turn-room : answer-most ≤ length after - at
-      turn-room = omega (arith, room)
+      inside : at ≤ length after
+      inside = omega (arith, room)
 
       module _ {left′ right′ : List ℕ} (left-is : left′ ≡ leftTable (alone s q)) (right-is : right′ ≡ rightTable (alone s q)) where
         -- The tables are those of its own problem.
@@ -126,7 +123,7 @@ module _ {s : List ℕ} {l : Layout} {left₀ right₀ before : List ℕ} (sever
 
           put-at : putMid at (length after - at) after part ≡ put after at bytes
           unfolding written
-          put-at = rw (w .buffer-is, several .read .n-is) (put-part after at bytes turn-inside)
+          put-at = rw (w .buffer-is, several .read .n-is) (put-part after at bytes inside)
 
           -- One more answer, written where the one before ended.
           pub turn-more : Turns s (q + 1) (at + own .size) (trials + own .trials) before (putMid at (length after - at) after part) left′ right′
@@ -140,7 +137,7 @@ module _ {s : List ℕ} {l : Layout} {left₀ right₀ before : List ℕ} (sever
             buffer-is = put-at ∙ ap (λ (x : List ℕ). put x at bytes) (turns .buffer-is) ∙ put-put before 0 (turns .records) at bytes (omega arith) (omega (arith, turns .at-is));
             few = omega (arith, turns .few, trials-few (alone s q) (one .within) (answers .found));
             short = omega (arith, turns .short, most, size-is);
-            same = ap length put-at ∙ length-put after at bytes turn-inside (omega (arith, most, room)) ∙ turns .same;
+            same = ap length put-at ∙ length-put after at bytes inside (omega (arith, most, room)) ∙ turns .same;
           }
 
           -- Place and trials stay small.

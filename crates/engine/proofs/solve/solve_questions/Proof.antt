@@ -2,7 +2,7 @@ use borrow.Author.Needs.{needs}
 use Prim.Native.Nat.{_-_, _≤_}
 use native.Mathlib.Omega.{arith}
 use Rattle.engine.specs.Outcome.{Turns}
-use Rattle.engine.proofs.Questions.{turns-none, turns-all, turn-held, turn-inside, turn-room, turn-tables, turn-more, turn-at, turn-trials}
+use Rattle.engine.proofs.Questions.{turns-none, turns-all, turn-held, turn-tables, turn-more, turn-at, turn-trials}
 use Rattle.engine.proofs.solve.solve_questions.Statement.{statement}
 use Rattle.engine.proofs.solve.solve_questions.Tie as tie
 
