@@ -1,9 +1,9 @@
 -- What the trials find by a look is the class and the least span of every problem in the tables.
 use Prim.Native.Nat.{ℕ, _-_, _<_}
-use mathlib.Core.Path.{_≡_, subst}
+use mathlib.Core.Path.{subst}
 use mathlib.Core.List.{List}
 use native.Mathlib.Omega.{arith}
-use lib.IntN.{ℤ, pos, _-ℤ_}
+use lib.IntN.{ℤ}
 use Rattle.definitions.specs.Limits.{lead-limit, span-limit}
 use Rattle.definitions.specs.Problem.{Problem, Attainable}
 use Rattle.definitions.specs.Offset.{tropOf}
@@ -17,15 +17,14 @@ use Rattle.look.specs.Frames.{Coefficients, Held}
 use Rattle.look.specs.Look.{Looked}
 use Rattle.look.proofs.Tables.{held-within}
 use Rattle.policy_iteration.specs.Tables.{pickOf}
-use Rattle.class_answers.proofs.Optimal.{below-whole}
-use Rattle.class_answers.proofs.Shared.{enough, top-trialled, lowest-trialled, blocked-unattainable}
+use Rattle.class_answers.proofs.Shared.{enough, below-whole, top-trialled, lowest-trialled, blocked-unattainable}
 
 module _ {n m : ℕ} {left right : List ℕ} {l : Look} (c : Coefficients n m left right) (look : Looked n m left right l) (p : Problem) (q : Held p n m left right) where
   -- As the definitions have it.
   pub looked-found : {class span trials : ℕ} → FoundBy (l .second) class span trials → Solved.Found p class (tropOf span) trials
-  looked-found (FoundBy.none h) = rw trop-zero (Solved.infeasible (infeasible-exactly p lead-limit span-limit (held-within q c) (enough p n (q .n-is) (c .n-most)) .1
+  looked-found (FoundBy.none h) = rw trop-zero (Solved.infeasible (infeasible-exactly p lead-limit span-limit (held-within q c) (enough q c) .1
       (blocked-unattainable p (wholeOf top-offset) (l .start) (pickOf (l .picks)) (look .decided p q .impossible top-offset top-trialled h))))
-  looked-found (FoundBy.bottomless h) = rw trop-zero (Solved.unbounded (unbounded-exactly p lead-limit span-limit (held-within q c) (enough p n (q .n-is) (c .n-most)) .1
+  looked-found (FoundBy.bottomless h) = rw trop-zero (Solved.unbounded (unbounded-exactly p lead-limit span-limit (held-within q c) (enough q c) .1
       (look .decided p q .possible lowest-offset lowest-trialled h)))
   looked-found (FoundBy.least {span = span} h) =
       let some : 0 < span = omega (arith, h .lowest) in

@@ -11,26 +11,23 @@ use lib.IntN.{ℤ, pos, natAbs, _-ℤ_}
 use lib.Signed.{_≤ℤ_}
 use borrow.Author.Tests.{le-leb}
 use Rattle.base.proofs.Numbers.{nat-le-or-lt}
-use Rattle.base.proofs.Filled.{filled-map, filled-end}
 use Rattle.definitions.specs.Limits.{signed-half, lead-limit, span-limit, stamp-limit}
 use Rattle.definitions.specs.Tropical.{Trop, bot, fin, Finite}
-use Rattle.definitions.specs.Problem.{Problem, Point, Attainable}
+use Rattle.definitions.specs.Problem.{Problem, Attainable}
 use Rattle.definitions.specs.Certificate.{Second}
 use Rattle.definitions.specs.Bytes.{blank-or-within}
 use Rattle.definitions.specs.Offset.{tropOf}
 use Rattle.definitions.proofs.Whole.{up, down, whole, minus-read, abs-show, subℕ-read}
 use Rattle.definitions.proofs.Tropical.{bot-not-fin}
 use Rattle.definitions.proofs.Offset.{trop-zero, trop-fin, trop-order, trop-read}
-use Rattle.duality.specs.System.{System, Solution, Meets, systemAt}
+use Rattle.duality.specs.System.{Solution, Meets, systemAt}
 use Rattle.duality.specs.Starts.{Only}
 use Rattle.duality.specs.Values.{Policy, difference, values}
-use Rattle.duality.specs.Within.{Within}
 use Rattle.duality.proofs.Ends.{started-solution}
 use Rattle.duality.proofs.Solutions.{solved-finite}
 use Rattle.duality.proofs.Classes.{attainable-exactly}
 use Rattle.duality.proofs.Stamps.{stamps-at-most-32}
-use Rattle.policy_iteration.specs.Tables.{pointOf, pickOf, Ranged}
-use Rattle.policy_iteration.specs.Steps.{Ended}
+use Rattle.policy_iteration.specs.Tables.{pointOf, pickOf, raised-limit, Table, Ranged}
 use Rattle.policy_iteration.proofs.Rounds.{zero-is}
 use Rattle.policy_iteration.proofs.Steps.{values-ranged}
 use Rattle.search.specs.Trials.{wholeOf, zero-offset, Trialled}
@@ -39,13 +36,16 @@ use Rattle.look.specs.Frames.{Raised, Ready, Held}
 use Rattle.look.specs.Look.{level}
 use Rattle.look.specs.Point.{rowsIn, AllRows, PointFor}
 use Rattle.duality.proofs.Agree.{Agree, agree-solves, agree-values, agree-policy}
-use Rattle.look.proofs.Tables.{raised-tables, raised-ends, level-caps, agree-at, held-within}
+use Rattle.look.proofs.Tables.{raised-tables, raised-ends, level-caps, problem-in, agree-at, held-within}
 use Rattle.class_answers.specs.Answered.{PointAt}
 
 -- ---- the tables of all rows
 
 pub all-rows : {f : Frame} {left right raised : List ℕ} {t : ℕ} → Ready f left right → Trialled t → Raised right (f .m) t 32 raised → AllRows f left raised
 all-rows y b r = record { tables = raised-tables y b r; left-ends = y .left-ends; right-ends = raised-ends y b r }
+
+pub right-raised : {f : Frame} {left right raised : List ℕ} {t : ℕ} → Ready f left right → Trialled t → Raised right (f .m) t 32 raised → Table raised-limit raised
+right-raised y b r = raised-tables y b r .rights
 
 -- The values are in range.
 pub point-ranged : {f : Frame} {left right raised : List ℕ} {t : ℕ} {x : List ℕ} → Ready f left right → Trialled t → Raised right (f .m) t 32 raised
@@ -127,6 +127,10 @@ module _ {p : Problem} {f : Frame} {left right raised : List ℕ} {t : ℕ} {x :
   }
 
   -- and the value of variable 0 is at most zero.
-  pub point-anchored : getD x 0 0 ≤ zero-offset
+  anchored : getD x 0 0 ≤ zero-offset
   unfolding systemAt
-  point-anchored = trop-order (getD x 0 0) zero-offset .0 (rw (value-is 0 (omega arith), zero-is) (policy .below 0 (omega arith)))
+  anchored = trop-order (getD x 0 0) zero-offset .0 (rw (value-is 0 (omega arith), zero-is) (policy .below 0 (omega arith)))
+
+pub point-anchored : {f : Frame} {left right raised : List ℕ} {t : ℕ} {x : List ℕ} → Ready f left right → Trialled t → Raised right (f .m) t 32 raised → PointFor (f .n) (f .m) left raised x
+    → getD x 0 0 ≤ zero-offset
+point-anchored {f} {left} {right} y b r d = anchored (problem-in (f .n) (f .m) left right) y b r d

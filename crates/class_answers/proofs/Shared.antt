@@ -1,32 +1,31 @@
 -- What the answers of the three classes share.
-use Prim.Native.Nat.{ℕ, zero, suc, _+_, _*_, _≤_, _<_}
+use Prim.Native.Nat.{ℕ, zero, suc, _+_, _-_, _≤_, _<_}
 use mathlib.Core.Path.{_≡_, refl}
 use mathlib.Core.Bool.{true}
 use mathlib.Core.List.{List}
 use native.Mathlib.Omega.{arith}
 use native.Mathlib.Numerals.{add-one}
 use lib.ListN.{getD, take}
-use lib.IntN.{ℤ, subℕ, natAbs}
+use lib.IntN.{ℤ, pos, subℕ, natAbs, _-ℤ_}
 use native.Mathlib.Nat.{eq-zero-or-pos}
 use mathlib.Core.Logic.{⊎-elim}
 use borrow.Author.Tests.{leb-true}
 use Rattle.definitions.specs.Bytes.{blank-or-within}
 use Rattle.definitions.specs.Offset.{tropOf}
-use Rattle.definitions.proofs.Whole.{abs-read, subℕ-read}
+use Rattle.definitions.proofs.Whole.{whole, minus-read, abs-read, subℕ-read}
 use Rattle.base.specs.Filled.{Filled}
 use Rattle.definitions.specs.Limits.{signed-half, signed-full, lead-limit, span-limit, stamp-limit}
 use Rattle.definitions.specs.Tropical.{Finite}
 use Rattle.definitions.specs.Problem.{Problem, Attainable}
 use Rattle.definitions.specs.Certificate.{Strategy, startOf}
 use Rattle.definitions.specs.AnswerRecord.{picksFit}
-use Rattle.definitions.specs.Verdict as Verdict
 use Rattle.definitions.specs.Verdict.{strategyOf}
-use Rattle.definitions.specs.Solved as Solved
+use Rattle.definitions.specs.Solved.{IdleVariables}
 use Rattle.definitions.proofs.Offset.{trop-fin}
 use Rattle.duality.specs.System.{Blocks, systemAt}
 use Rattle.duality.specs.Within.{Enough}
+use Rattle.duality.specs.Picks.{picksFrom, AgreeReached}
 use Rattle.duality.proofs.Weak.{not-solved-and-blocked}
-use Rattle.duality.proofs.Attain.{joint-attainable}
 use Rattle.duality.proofs.Classes.{unsolved-unattainable}
 use Rattle.duality.proofs.Numbers.{top-enough}
 use Rattle.reach.specs.Marks.{StartMarked}
@@ -34,15 +33,17 @@ use Rattle.reach.proofs.Marks.{anchored-marked, coefficients-marked}
 use Rattle.policy_iteration.specs.Tables.{pointOf, pickOf}
 use Rattle.search.specs.Trials.{wholeOf, top-offset, lowest-offset, Trialled}
 use Rattle.look.specs.Frames.{Copied, Coefficients, Held}
-use Rattle.look.proofs.Tables.{problem-in}
 use Rattle.look.proofs.SecondList.{second-held}
 use Rattle.class_answers.specs.Answered.{StartMarks, ShownPicks, PointAt}
-use Rattle.class_answers.proofs.Variables.{variables-most}
+use Rattle.class_answers.proofs.Variables.{variables-agree, variables-idle, variables-most}
 use Rattle.class_answers.proofs.Form.{cut-at, cut-strategy, picks-fit}
 
 -- The outer trials are enough.
-pub enough : (p : Problem) (n : ℕ) → p .n ≡ n → n ≤ 31 → Enough (p .n) lead-limit span-limit
-enough p n e h = top-enough (p .n) lead-limit (omega (arith, e))
+pub enough : {p : Problem} {n m : ℕ} {left right : List ℕ} → Held p n m left right → Coefficients n m left right → Enough (p .n) lead-limit span-limit
+enough {p} q c = top-enough (p .n) lead-limit (omega (arith, q .n-is, c .n-most))
+
+pub below-whole : (k : ℕ) → 0 < k → wholeOf (k - 1) ≡ wholeOf k -ℤ pos 1
+below-whole k h = omega (whole, minus-read (wholeOf k) (pos 1), subℕ-read k signed-half, subℕ-read (k - 1) signed-half)
 
 -- They are trials.
 pub top-trialled : Trialled top-offset
@@ -50,10 +51,6 @@ top-trialled = record { lowest = omega arith; highest = omega arith }
 
 pub lowest-trialled : Trialled lowest-offset
 lowest-trialled = record { lowest = omega arith; highest = omega arith }
-
-pub first-inside : (p : Problem) (t : ℤ) → 0 < systemAt p t .variables
-unfolding systemAt
-first-inside p t = omega arith
 
 -- The marks of a start are those of what it means.
 pub start-marked : {p : Problem} {n m : ℕ} {left right row : List ℕ} (start : ℕ) {begin : List ℕ} → Held p n m left right → n ≤ 31 → Copied right m 32 row
@@ -77,15 +74,6 @@ blocked-unattainable p t start τ b = unsolved-unattainable p t start
 pub point-anchor : {p : Problem} {t : ℕ} {x : List ℕ} → PointAt p t x → Finite (pointOf x 0)
 point-anchor {x = x} a = record { whole = wholeOf (getD x 0 0); is = trop-fin (getD x 0 0) (a .finite) }
 
--- Such a point attains it.
-pub point-attainable : (p : Problem) (t : ℕ) (x : List ℕ) → PointAt p t x → Attainable p (wholeOf t)
-point-attainable p t x a = joint-attainable p (wholeOf t) (record {
-  point = pointOf x;
-  solves = a .solves;
-  first = record { at = 0; inside = first-inside p (wholeOf t); started = refl; finite = point-anchor a };
-  second = a .second;
-})
-
 -- The number of rows, or of variables, in both forms.
 pub same-count : (k n : ℕ) → k ≡ n → n + 1 ≡ suc k
 same-count k n e = rw (add-one, e)
@@ -102,9 +90,25 @@ fits-64 highest n out h f b =
 -- Shown picks are few, whatever the problem.
 pub shown-few : {n m : ℕ} {left right : List ℕ} {start : ℕ} {picks out : List ℕ} → Coefficients n m left right → ShownPicks n m right start picks out
     → (j : ℕ) → getD out j 0 ≤ 64
-shown-few {n} {m} {left} {right} {start} {picks} {out} c s j =
-    let q = problem-in n m left right in
-    omega (arith, c .m-most, variables-most _ n m left right picks (s .begin) out q (c .n-most) (start-marked start q (c .n-most) (s .copied) (s .marks)) (s .shown) j)
+shown-few c s j = omega (arith, c .m-most, variables-most (s .shown) j)
+
+-- Shown in a record, they agree with the strategy wherever it reaches, are 0 elsewhere, and have the form.
+module _ {p : Problem} {n m : ℕ} {left right : List ℕ} {start : ℕ} {picks out : List ℕ} (q : Held p n m left right) (c : Coefficients n m left right)
+    (s : ShownPicks n m right start picks out) where
+  starts : StartMarked (startOf p start) (n + 1) (s .begin)
+  starts = start-marked start q (c .n-most) (s .copied) (s .marks)
+
+  pub shown-agree : AgreeReached (startOf p start) p (picksFrom (pickOf picks) (suc (p .m))) (pickOf out)
+  shown-agree = rw (← same-count (p .m) m (q .m-is)) (variables-agree q (c .n-most) starts (s .shown))
+
+  pub shown-strategy : strategyOf (take (suc n) out) ≡ pickOf out
+  shown-strategy = cut-64 n out (omega (arith, c .n-most)) (s .shown .shown)
+
+  pub shown-idle : IdleVariables (startOf p start) p (strategyOf (take (suc n) out))
+  shown-idle = rw shown-strategy (variables-idle q (c .n-most) starts (s .shown))
+
+  pub shown-fit : picksFit (suc m) (take (suc n) out) ≡ true
+  shown-fit = fits-64 (suc m) n out (omega (arith, c .n-most)) (s .shown .shown) (λ j. omega (arith, variables-most (s .shown) j))
 
 -- A number within a stamp's limit has 32 bits.
 pub number-within : (v : ℕ) → blank-or-within stamp-limit (tropOf v) ≡ true → v < signed-full

@@ -13,7 +13,6 @@ use Rattle.definitions.proofs.Inputs.{kept-whole}
 use Rattle.definitions.proofs.Refusals.{or-else-suc}
 use Rattle.definitions.proofs.IdleDay.{meant-some}
 use Rattle.records.specs.declared.problem.Header.{Header}
-use Rattle.records.specs.declared.problem.Header.the-variants as Headers
 use Rattle.records.specs.ProblemHeader.{problemRefused, headerOf}
 use Rattle.records.proofs.ProblemHeader.{long-header}
 use Rattle.engine.specs.declared.solve.Solved.the-variants as Results′

@@ -1,5 +1,5 @@
 -- A problem in bytes under way, one trial at a time: what is kept of it, what a trial leaves, and its answer.
-use Prim.Native.Nat.{ℕ, _+_, _≤_, _<_}
+use Prim.Native.Nat.{ℕ, _+_, _<_}
 use mathlib.Core.Path.{_≡_}
 use mathlib.Core.List.{List}
 use lib.ListN.{length, replicate}
@@ -11,14 +11,19 @@ use Rattle.definitions.specs.ProblemRecord.{problemOf, nField, mField}
 use Rattle.definitions.specs.AnswerRecord as Records
 use Rattle.definitions.specs.AnswerRecord.{answerSize, answerBytes, written}
 use Rattle.definitions.specs.Desk.{deskRefusal, WithinDesk}
-use Rattle.definitions.specs.Solved.{Found, Answers}
+use Rattle.definitions.specs.Solved as Definitions
+use Rattle.definitions.specs.Solved.{Answers}
 use Rattle.problem_records.specs.Tables.{leftTable, rightTable}
-use Rattle.search.specs.Trials.{top-offset, lowest-offset, FoundBy}
+use Rattle.search.specs.Trials.{top-offset, lowest-offset}
 use Rattle.search.specs.Underway.{class-open, spanOf, Underway, Tried}
+use Rattle.search.specs.declared.search.Found.{Found}
 use Rattle.search.specs.declared.steps.Search.{Search}
+use Rattle.look.specs.declared.frame.Frame.{Frame}
 use Rattle.look.specs.declared.greatest.Look.{Look}
+use Rattle.look.specs.Frames.{Ready}
 use Rattle.look.specs.Look.{Looked}
-use Rattle.class_answers.specs.Answered.{answerIn}
+use Rattle.class_answers.specs.declared.answer.Answer as Tables
+use Rattle.class_answers.specs.Answered.{answerIn, AnswerOf}
 use Rattle.engine.specs.declared.one_trial.Pending.{Pending}
 use Rattle.engine.specs.declared.one_trial.Begun.{Begun}
 use Rattle.engine.specs.declared.one_trial.Handed.{Handed}
@@ -39,13 +44,30 @@ lookOf p = record { start = p .start; second = p .second; picks = p .cells }
 abbrev pub spanIn : Pending → ℕ
 spanIn p = spanOf (searchOf p)
 
--- The problem with its search moved on.
-abbrev pub searchedTo : Pending → Search → Pending
-searchedTo p s = record { n = p .n; m = p .m; made = s .made; class = s .class; low = s .low; high = s .high; start = p .start; second = p .second; cells = p .cells }
+-- The problem after a trial.
+abbrev pub movedOn : Pending → Search → Look → Pending
+movedOn p s k = record { n = p .n; m = p .m; made = s .made; class = s .class; low = s .low; high = s .high; start = k .start; second = k .second; cells = k .picks }
+
+-- The tables of the problem in the bytes, and their frame.
+pub record Framed (s : List ℕ) (f : Frame) (left right : List ℕ) : Type 0 where
+  pub bytes : Bytes s
+  pub n-is : f .n ≡ nField s
+  pub m-is : f .m ≡ mField s
+  pub left-is : left ≡ leftTable s
+  pub right-is : right ≡ rightTable s
+  pub ready : Ready f left right
 
 -- The look is one at the problem in the bytes.
-abbrev pub LookedAt : List ℕ → Pending → Type 0
-LookedAt s p = Looked (nField s) (mField s) (leftTable s) (rightTable s) (lookOf p)
+abbrev pub LookedAt : List ℕ → Look → Type 0
+LookedAt s k = Looked (nField s) (mField s) (leftTable s) (rightTable s) k
+
+-- An answer that shows what the trials found is kept in the place of a look: its start, and its stamps and picks in cells.
+pub record AnswerKept (s : List ℕ) (second : ℕ) (found : Found) (r : Look) : Type 0 where
+  pub answer : Tables.Answer
+  pub shows : AnswerOf (nField s) (mField s) (leftTable s) (rightTable s) found answer
+  pub start-is : r .start ≡ answer .start
+  pub second-is : r .second ≡ second
+  pub packed : PackedCells (answer .stamps) (answer .picks) stride (r .picks)
 
 -- The bytes are a problem that the desk takes, with this n and m.
 pub record Of (s : List ℕ) (p : Pending) : Type 0 where
@@ -58,7 +80,7 @@ pub record Of (s : List ℕ) (p : Pending) : Type 0 where
 pub record PendingFor (s : List ℕ) (p : Pending) : Type 0 where
   pub of : Of s p
   pub underway : Underway (p .second) (searchOf p)
-  pub looked : 0 < p .made → LookedAt s p
+  pub looked : 0 < p .made → LookedAt s (lookOf p)
 
 -- A problem begun: the first of its refusals, or the problem of which no trial is made.
 pub record BegunFor (s : List ℕ) (r : Begun) : Type 0 where
@@ -66,20 +88,11 @@ pub record BegunFor (s : List ℕ) (r : Begun) : Type 0 where
   pub begun : r .refused ≡ 0 → PendingFor s (r .pending)
   pub fresh-is : r .refused ≡ 0 → r .pending ≡ fresh (nField s) (mField s)
 
--- The problem with its look; one that has it stays as it is.
-pub record LookedFor (s : List ℕ) (p r : Pending) : Type 0 where
-  pub of : Of s r
-  pub n-same : r .n ≡ p .n
-  pub m-same : r .m ≡ p .m
-  pub search-same : searchOf r ≡ searchOf p
-  pub looked : LookedAt s r
-  pub stays : 0 < p .made → r ≡ p
-
--- A problem whose trials have found its class and span.
-pub record ClosedFor (s : List ℕ) (p : Pending) : Type 0 where
-  pub of : Of s p
-  pub looked : LookedAt s p
-  pub found : FoundBy (p .second) (p .class) (spanOf (searchOf p)) (p .made)
+-- The look at a problem; one that was made stays.
+pub record LookFor (s : List ℕ) (p : Pending) (k : Look) : Type 0 where
+  pub bytes : Bytes s
+  pub looked : LookedAt s k
+  pub stays : 0 < p .made → k ≡ lookOf p
 
 -- The answer of a problem with these stamps and picks.
 abbrev pub answerWith : List ℕ → Pending → List ℕ → List ℕ → Records.Answer
@@ -95,19 +108,11 @@ pub record AnsweredFor (s : List ℕ) (p : Pending) : Type 0 where
   pub packed : PackedCells stamps picks stride (p .cells)
   pub answers : Answers (problemOf s) (p .class) (tropOf (spanOf (searchOf p))) (p .made) (answerWith s p stamps picks)
 
--- It was closed, and is answered now.
-pub record Settled (s : List ℕ) (p r : Pending) : Type 0 where
-  pub n-same : r .n ≡ p .n
-  pub m-same : r .m ≡ p .m
-  pub second-same : r .second ≡ p .second
-  pub search-same : searchOf r ≡ searchOf p
-  pub answered : AnsweredFor s r
-
 -- A problem that goes on after one trial more: its class and span ask for more still.
 pub record Onward (s : List ℕ) (own : ℕ) (r : Pending) : Type 0 where
   pub pending : PendingFor s r
   pub made-is : r .made ≡ own + 1
-  pub more : (class trials : ℕ) (span : Trop) → Found (problemOf s) class span trials → own + 1 < trials
+  pub more : (class trials : ℕ) (span : Trop) → Definitions.Found (problemOf s) class span trials → own + 1 < trials
 
 -- What one trial leaves: document 01's next was made, by what the look found; the problem goes on, or is answered at the last trial that
 -- its class and span ask for.

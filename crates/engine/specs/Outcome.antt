@@ -3,20 +3,26 @@ use Prim.Native.Nat.{ℕ, _*_, _≤_, _<_}
 use mathlib.Core.Path.{_≡_}
 use mathlib.Core.List.{List}
 use lib.ListN.{length}
-use Rattle.definitions.specs.Limits.{highest-n, highest-m, most-trials, answer-most, questions-kind}
+use Rattle.definitions.specs.Limits.{highest-n, highest-m, most-trials, most-questions, answer-most, questions-kind}
+use Rattle.definitions.specs.Bytes.{Bytes}
 use Rattle.definitions.specs.Problem.{Problem}
-use Rattle.definitions.specs.ProblemRecord.{kindField, nField, mField, countField}
-use Rattle.definitions.specs.Questions.{alone}
+use Rattle.definitions.specs.ProblemRecord.{Kinds, engine-kinds, kindField, nField, mField, countField, questionsAsked, refusalFor}
+use Rattle.definitions.specs.Questions.{alone, asking}
 use Rattle.definitions.specs.Offset.{tropOf}
-use Rattle.definitions.specs.AnswerRecord.{Answer, stampCount, pickCount, answerSize, answerBytes, writerRefusal, written}
+use Rattle.definitions.specs.AnswerRecord as Records
+use Rattle.definitions.specs.AnswerRecord.{stampCount, pickCount, answerSize, answerBytes, writerRefusal, written}
 use Rattle.definitions.specs.Solved as Results
-use Rattle.definitions.specs.Solved.{Answers, AnswersInTurn, engineRefusal}
+use Rattle.definitions.specs.Solved.{Answers, AnswersInTurn}
+use Rattle.records.specs.declared.problem.Header.{Header}
+use Rattle.records.specs.declared.problem.Header.the-variants as Headers
 use Rattle.records.specs.declared.problem.Layout.{Layout}
 use Rattle.records.specs.Decoded.{InTables, Rewritten}
 use Rattle.problem_records.specs.Tables.{leftTable, rightTable}
+use Rattle.class_answers.specs.declared.answer.Answer.{Answer}
+use Rattle.class_answers.specs.Answered.{answerIn}
+use Rattle.engine.specs.declared.solve.One.{One}
 use Rattle.engine.specs.declared.solve.Solved.{Solved}
 use Rattle.engine.specs.declared.solve.Solved.the-variants.{Refused, Answered, AllAnswered}
-use Rattle.class_answers.specs.Answered.{answerIn}
 
 -- The papers' result for each case: the refusal's number; class, span, trials and the record's length; or count, trials and the
 -- length of all records.
@@ -25,35 +31,47 @@ solvedOf (Refused k) = Results.refused k
 solvedOf (Answered class span trials size) = Results.answered class (tropOf span) trials size
 solvedOf (AllAnswered count trials size) = Results.all-answered count trials size
 
+-- The answer that was found, as its record shows it.
+abbrev pub shownIn : ℕ → ℕ → Answer → Records.Answer
+shownIn n m a = answerIn n m (a .class) (a .span) (a .start) (a .stamps) (a .picks)
+
 -- What was found is such as the writer takes, with a buffer of `room` bytes.
-pub record FoundFor (n m room class span start : ℕ) (stamps picks : List ℕ) : Type 0 where
+pub record FoundFor (n m room : ℕ) (a : Answer) : Type 0 where
   pub n-most : n ≤ highest-n
   pub m-most : m ≤ highest-m
-  pub stamps-enough : stampCount class n ≤ length stamps
-  pub picks-enough : pickCount class n m ≤ length picks
-  pub taken : writerRefusal (answerIn n m class span start stamps picks) n m room ≡ 0
+  pub stamps-enough : stampCount (a .class) n ≤ length (a .stamps)
+  pub picks-enough : pickCount (a .class) n m ≤ length (a .picks)
+  pub taken : writerRefusal (shownIn n m a) n m room ≡ 0
 
--- Some problem stands in the tables, with this n and m.
-pub record Posed (n m : ℕ) (left right : List ℕ) : Type 0 where
-  pub problem : Problem
-  pub stands : InTables problem n m left right
-
--- The record of an answer of the problem stands at the buffer's start, every byte after it is as it was.
-pub record OneWrote (p : Problem) (n m class span trials size : ℕ) (before after : List ℕ) : Type 0 where
-  pub answer : Answer
-  pub answers : Answers p class (tropOf span) trials answer
-  pub size-is : size ≡ answerSize class n m
+-- The record of an answer of each problem in the tables stands at the buffer's start, every byte after it is as it was.
+pub record OneWrote (n m : ℕ) (left right : List ℕ) (r : One) (before after : List ℕ) : Type 0 where
+  pub answer : Records.Answer
+  pub answers : (p : Problem) → InTables p n m left right → Answers p (r .class) (tropOf (r .span)) (r .trials) answer
+  pub size-is : r .size ≡ answerSize (r .class) n m
   pub buffer-is : after ≡ written before (answerBytes n answer)
 
--- A record of several questions that nothing refuses, its layout, and the tables of its first question.
-pub record SeveralRead (s : List ℕ) (l : Layout) (left right : List ℕ) (room : ℕ) : Type 0 where
-  pub kind-is : kindField s ≡ questions-kind
-  pub none : engineRefusal s room ≡ 0
+-- What was read of a record that an entry with these kinds takes: its layout, and the tables of its rules and its first question.
+pub record Read (kinds : Kinds) (s : List ℕ) (l : Layout) (left right : List ℕ) : Type 0 where
+  pub bytes : Bytes s
+  pub within : refusalFor kinds s ≡ 0
   pub n-is : l .n ≡ nField s
   pub m-is : l .m ≡ mField s
-  pub count-is : l .questions ≡ countField s
-  pub left-is : left ≡ leftTable (alone s 0)
-  pub right-is : right ≡ rightTable (alone s 0)
+  pub kind-is : l .kind ≡ kindField s
+  pub questions-is : l .questions ≡ questionsAsked (kindField s) (countField s)
+  pub questions-most : l .questions ≤ most-questions
+  pub left-is : left ≡ leftTable (asking s 0)
+  pub right-is : right ≡ rightTable (asking s 0)
+
+-- Reading gives this, or the first refusal.
+pub record LayoutRead (kinds : Kinds) (s : List ℕ) (r : Header) (left right : List ℕ) : Type 0 where
+  pub told : (l : Layout) → r ≡ Headers.Told l → Read kinds s l left right
+  pub refused : (k : ℕ) → r ≡ Headers.Refused k → (refusalFor kinds s ≡ k) × (0 < k)
+
+-- One that asks several questions, where the buffer has room for all answers.
+pub record SeveralRead (s : List ℕ) (l : Layout) (left right before : List ℕ) : Type 0 where
+  pub read : Read engine-kinds s l left right
+  pub kind-is : l .kind ≡ questions-kind
+  pub room : l .questions * answer-most ≤ length before
 
 -- The answers to its first questions, one after another at the buffer's start; the tables hold its rules.
 pub record Turns (s : List ℕ) (q at trials : ℕ) (before after left right : List ℕ) : Type 0 where

@@ -5,24 +5,28 @@ ghost use mathlib.Core.Path.{_≡_};
 ghost use lib.ListN.{length};
 ghost use Rattle.definitions.specs.Limits.{answer-most};
 ghost use Rattle.definitions.specs.ProblemRecord.{meant};
+ghost use Rattle.definitions.specs.Desk.{WithinDesk};
+ghost use Rattle.search.specs.Trials.{FoundBy};
 ghost use Rattle.search.specs.Underway.{spanOf};
-ghost use Rattle.engine.specs.OneTrial.{fresh, searchOf, searchedTo, PendingFor, LookedFor, ClosedFor, BegunFor, TrialFor, Settled, Answered, HandedOver};
+ghost use Rattle.engine.specs.OneTrial.{fresh, searchOf, movedOn, LookedAt, Framed, PendingFor, LookFor, AnswerKept, BegunFor, TrialFor, Answered, HandedOver};
 use crate::cells::pack;
 use crate::cells::picks_in;
 use crate::cells::stamps_in;
+use crate::solve::read_layout;
 use crate::solve::write_found;
 use class_answers::answer::Answer;
 use class_answers::answer::answer_of;
+use look::frame::Frame;
 use look::frame::frame_of;
 use look::greatest::Look;
 use look::greatest::look_at;
-use problem_records::reader::read_problem;
 use records::limits::OPTIMAL;
 use records::limits::STRIDE;
 use records::limits::TABLE;
 use records::problem::DESK_KINDS;
 use records::problem::Header;
 use records::problem::problem_refusal;
+use search::search::Found;
 use search::steps::OPEN;
 use search::steps::Search;
 use search::steps::found_of;
@@ -73,7 +77,7 @@ pub fn begin(problem: &[u8]) -> Begun
 {
     let mut left = [0u32; TABLE];
     let mut right = [0u32; TABLE];
-    let header = read_problem(problem, DESK_KINDS, &mut left, &mut right);
+    let header = read_layout(problem, DESK_KINDS, &mut left, &mut right);
     let Header::Told(layout) = header else {
         return Begun {
             refused: problem_refusal(header),
@@ -86,27 +90,54 @@ pub fn begin(problem: &[u8]) -> Begun
     }
 }
 
-// The problem with its look.
-fn looked(problem: &[u8], pending: Pending) -> Pending
+// The tables of a problem that the desk took, and their frame.
+fn framed(problem: &[u8], left: &mut [u32; TABLE], right: &mut [u32; TABLE]) -> Frame
+    requires { ⌜ WithinDesk (meant (now problem)) ⌝ }
+    ensures { λ r. ⌜ Framed (meant (now (problem .entry))) r (now (left .exit)) (now (right .exit)) ⌝ }
+{
+    let header = read_layout(problem, DESK_KINDS, left, right);
+    let Header::Told(layout) = header else {
+        return frame_of(left, right, 0, 0);
+    };
+    frame_of(left, right, layout.n, layout.m)
+}
+
+// The look at a problem, made at its first trial.
+fn looked(problem: &[u8], pending: Pending) -> Look
     requires { ⌜ PendingFor (meant (now problem)) pending ⌝ }
-    ensures { λ r. ⌜ LookedFor (meant (now (problem .entry))) pending r ⌝ }
+    ensures { λ r. ⌜ LookFor (meant (now (problem .entry))) pending r ⌝ }
 {
     if pending.made != 0 {
-        return pending;
+        let picks = pending.cells;
+        return Look {
+            start: pending.start,
+            second: pending.second,
+            picks,
+        };
     }
     let mut left = [0u32; TABLE];
     let mut right = [0u32; TABLE];
-    let header = read_problem(problem, DESK_KINDS, &mut left, &mut right);
-    let Header::Told(layout) = header else {
-        return pending;
-    };
-    let look = look_at(&left, &right, frame_of(&left, &right, layout.n, layout.m));
-    let picks = look.picks;
-    let mut next = pending;
-    next.start = look.start;
-    next.second = look.second;
-    next.cells = picks;
-    next
+    let frame = framed(problem, &mut left, &mut right);
+    look_at(&left, &right, frame)
+}
+
+// The answer that shows what the trials found, in place of the look.
+fn answered(problem: &[u8], look: Look, found: Found) -> Look
+    requires { ⌜ WithinDesk (meant (now problem)) × LookedAt (meant (now problem)) look × FoundBy (look .second) (found .class) (found .span) (found .trials) ⌝ }
+    ensures { λ r. ⌜ AnswerKept (meant (now (problem .entry))) (look .second) found r ⌝ }
+{
+    let mut left = [0u32; TABLE];
+    let mut right = [0u32; TABLE];
+    let frame = framed(problem, &mut left, &mut right);
+    let answer = answer_of(&left, &right, frame, look, found);
+    let stamps = answer.stamps;
+    let shown = answer.picks;
+    let picks = pack(&stamps, &shown);
+    Look {
+        start: answer.start,
+        second: look.second,
+        picks,
+    }
 }
 
 // The search of a problem under way.
@@ -121,50 +152,22 @@ fn search_of(pending: Pending) -> Search
     }
 }
 
-// The problem with its search moved on.
-fn searched_to(pending: Pending, search: Search) -> Pending
-    ensures { λ r. ⌜ r ≡ searchedTo pending search ⌝ }
+// The problem after a trial: the search moved on, and what is kept beside it.
+fn moved_on(pending: Pending, search: Search, kept: Look) -> Pending
+    ensures { λ r. ⌜ r ≡ movedOn pending search kept ⌝ }
 {
-    let mut next = pending;
-    next.made = search.made;
-    next.low = search.low;
-    next.high = search.high;
-    next.class = search.class;
-    next
-}
-
-// The problem with its answer in place of its look.
-fn answered(problem: &[u8], pending: Pending) -> Pending
-    requires { ⌜ ClosedFor (meant (now problem)) pending ⌝ }
-    ensures { λ r. ⌜ Settled (meant (now (problem .entry))) pending r ⌝ }
-{
-    let mut left = [0u32; TABLE];
-    let mut right = [0u32; TABLE];
-    let header = read_problem(problem, DESK_KINDS, &mut left, &mut right);
-    let Header::Told(layout) = header else {
-        return pending;
-    };
-    let picks = pending.cells;
-    let look = Look {
-        start: pending.start,
-        second: pending.second,
-        picks,
-    };
-    let found = found_of(search_of(pending));
-    let answer = answer_of(
-        &left,
-        &right,
-        frame_of(&left, &right, layout.n, layout.m),
-        look,
-        found,
-    );
-    let stamps = answer.stamps;
-    let shown = answer.picks;
-    let cells = pack(&stamps, &shown);
-    let mut next = pending;
-    next.start = answer.start;
-    next.cells = cells;
-    next
+    let cells = kept.picks;
+    Pending {
+        n: pending.n,
+        m: pending.m,
+        made: search.made,
+        class: search.class,
+        low: search.low,
+        high: search.high,
+        start: kept.start,
+        second: kept.second,
+        cells,
+    }
 }
 
 // Document 01's next trial of the problem that the bytes mean.
@@ -172,12 +175,13 @@ pub fn one_trial(problem: &[u8], pending: Pending) -> Pending
     requires { ⌜ PendingFor (meant (now problem)) pending ⌝ }
     ensures { λ r. ⌜ TrialFor (meant (now (problem .entry))) pending r ⌝ }
 {
-    let seen = looked(problem, pending);
-    let tried = searched_to(seen, next_trial(seen.second, search_of(seen)));
-    if tried.class == OPEN {
-        return tried;
+    let look = looked(problem, pending);
+    let search = next_trial(look.second, search_of(pending));
+    if search.class == OPEN {
+        return moved_on(pending, search, look);
     }
-    answered(problem, tried)
+    let kept = answered(problem, look, found_of(search));
+    moved_on(pending, search, kept)
 }
 
 // The span of a problem whose trials have ended, as an offset number: its high where it is least, else 0.

@@ -1,16 +1,15 @@
 // The engine on bytes: refusals 1 to 7, 15, 17 and 20 first, in order; then the answer, or those to several questions one after another, written
 // into the lent buffer.
 ghost use mathlib.Core.Path.{_≡_};
-ghost use Prim.Native.Nat.{ℕ, _*_, _≤_};
+ghost use Prim.Native.Nat.{_*_, _≤_};
 ghost use lib.ListN.{length};
 ghost use Rattle.definitions.specs.Limits.{answer-most, most-questions};
-ghost use Rattle.definitions.specs.ProblemRecord.{meant};
+ghost use Rattle.definitions.specs.ProblemRecord.{engine-kinds, meant};
 ghost use Rattle.definitions.specs.AnswerRecord.{answerSize, answerBytes, written};
-ghost use Rattle.definitions.specs.Problem.{Problem};
 ghost use Rattle.definitions.specs.Solved.{Solves};
-ghost use Rattle.records.specs.Decoded.{InTables};
-ghost use Rattle.class_answers.specs.Answered.{answerIn};
-ghost use Rattle.engine.specs.Outcome.{solvedOf, FoundFor, Posed, OneWrote, SeveralRead};
+ghost use Rattle.records.specs.ProblemHeader.{kindsIn};
+ghost use Rattle.look.specs.Frames.{Coefficients};
+ghost use Rattle.engine.specs.Outcome.{solvedOf, shownIn, FoundFor, OneWrote, Read, LayoutRead, SeveralRead};
 use answer_reader::answer::Head;
 use answer_reader::class::pick_count;
 use answer_reader::class::stamp_count;
@@ -26,8 +25,21 @@ use records::limits::REFUSED_ROOM;
 use records::limits::TABLE;
 use records::problem::ENGINE_KINDS;
 use records::problem::Header;
+use records::problem::Kinds;
 use records::problem::Layout;
 use records::problem::problem_refusal;
+
+// A problem from its bytes, into two lent tables: its layout, or the first refusal that applies in an entry that knows these kinds.
+pub fn read_layout(
+    problem: &[u8],
+    kinds: Kinds,
+    left: &mut [u32; TABLE],
+    right: &mut [u32; TABLE],
+) -> Header
+    ensures { λ r. ⌜ LayoutRead (kindsIn kinds) (meant (now (problem .entry))) r (now (left .exit)) (now (right .exit)) ⌝ }
+{
+    read_problem(problem, kinds, left, right)
+}
 
 // What the engine answers: refused with the number; to one question, answered with class, the span's offset number, trials and the
 // record's length; to several, all answered with their count, the sum of the trials and the length of all records.
@@ -56,9 +68,9 @@ struct One {
 
 // Writes the answer's record at the start of a buffer, and gives its length.
 pub fn write_found(found: Answer, n: usize, m: usize, answer: &mut [u8]) -> usize
-    requires { ⌜ FoundFor n m (length (now answer)) (found .class) (found .span) (found .start) (found .stamps) (found .picks) ⌝ }
+    requires { ⌜ FoundFor n m (length (now answer)) found ⌝ }
     ensures size_is { λ r. ⌜ r ≡ answerSize (found .class) n m ⌝ }
-    ensures record_stands { λ r. ⌜ now (answer .exit) ≡ written (now (answer .entry)) (answerBytes n (answerIn n m (found .class) (found .span) (found .start) (found .stamps) (found .picks))) ⌝ }
+    ensures record_stands { λ r. ⌜ now (answer .exit) ≡ written (now (answer .entry)) (answerBytes n (shownIn n m found)) ⌝ }
 {
     let head = Head {
         class: found.class,
@@ -84,8 +96,8 @@ fn solve_one(
     m: usize,
     answer: &mut [u8],
 ) -> One
-    requires { ⌜ Posed n m (now left) (now right) × (answer-most ≤ length (now answer)) ⌝ }
-    ensures { λ r. ⌜ ((p : Problem) → InTables p n m (now (left .entry)) (now (right .entry)) → OneWrote p n m (r .class) (r .span) (r .trials) (r .size) (now (answer .entry)) (now (answer .exit))) ⌝ }
+    requires { ⌜ Coefficients n m (now left) (now right) × (answer-most ≤ length (now answer)) ⌝ }
+    ensures { λ r. ⌜ OneWrote n m (now (left .entry)) (now (right .entry)) r (now (answer .entry)) (now (answer .exit)) ⌝ }
 {
     let found = solve_tables(left, right, n, m);
     let class = found.class;
@@ -108,7 +120,7 @@ fn solve_questions(
     right: &mut [u32; TABLE],
     answer: &mut [u8],
 ) -> Solved
-    requires { ⌜ SeveralRead (now problem) layout (now left) (now right) (length (now answer)) ⌝ }
+    requires { ⌜ SeveralRead (now problem) layout (now left) (now right) (now answer) ⌝ }
     ensures { λ r. ⌜ Solves (now (problem .entry)) (now (answer .entry)) (solvedOf r) (now (answer .exit)) ⌝ }
 {
     let mut at = 0;
@@ -134,28 +146,42 @@ fn room_for(questions: usize) -> usize
     questions * ANSWER_MOST
 }
 
-// The answer of the problem that the bytes mean, or the answers to its questions, written into the lent buffer; a refusal leaves the
-// buffer as it was. No bytes mean the idle day, as which `read_problem` reads them.
-pub fn solve(problem: &[u8], answer: &mut [u8]) -> Solved
+// The answer of a problem whose rules and first question stand in the tables, or the answers to its questions.
+fn solve_told(
+    problem: &[u8],
+    layout: Layout,
+    left: &mut [u32; TABLE],
+    right: &mut [u32; TABLE],
+    answer: &mut [u8],
+) -> Solved
+    requires { ⌜ Read engine-kinds (meant (now problem)) layout (now left) (now right) ⌝ }
     ensures { λ r. ⌜ Solves (meant (now (problem .entry))) (now (answer .entry)) (solvedOf r) (now (answer .exit)) ⌝ }
 {
-    let mut left = [0u32; TABLE];
-    let mut right = [0u32; TABLE];
-    let header = read_problem(problem, ENGINE_KINDS, &mut left, &mut right);
-    let Header::Told(layout) = header else {
-        return Solved::Refused(problem_refusal(header));
-    };
     if answer.len() < room_for(layout.questions) {
         return Solved::Refused(REFUSED_ROOM);
     }
     if layout.kind == QUESTIONS_KIND {
-        return solve_questions(problem, layout, &mut left, &mut right, answer);
+        return solve_questions(problem, layout, left, right, answer);
     }
-    let one = solve_one(&left, &right, layout.n, layout.m, answer);
+    let one = solve_one(left, right, layout.n, layout.m, answer);
     Solved::Answered {
         class: one.class,
         span: one.span,
         trials: one.trials,
         size: one.size,
     }
+}
+
+// The answer of the problem that the bytes mean, or the answers to its questions, written into the lent buffer; a refusal leaves the
+// buffer as it was. No bytes mean the idle day, as which `read_layout` reads them.
+pub fn solve(problem: &[u8], answer: &mut [u8]) -> Solved
+    ensures { λ r. ⌜ Solves (meant (now (problem .entry))) (now (answer .entry)) (solvedOf r) (now (answer .exit)) ⌝ }
+{
+    let mut left = [0u32; TABLE];
+    let mut right = [0u32; TABLE];
+    let header = read_layout(problem, ENGINE_KINDS, &mut left, &mut right);
+    let Header::Told(layout) = header else {
+        return Solved::Refused(problem_refusal(header));
+    };
+    solve_told(problem, layout, &mut left, &mut right, answer)
 }

@@ -1,6 +1,6 @@
 // The picks of an answer: in the record's form (0 none, i + 1), and 0 where they play no part.
 ghost use mathlib.Core.Path.{_≡_};
-ghost use Prim.Native.Nat.{_+_, _*_, _/_, _%_, _<_, _≤_};
+ghost use Prim.Native.Nat.{_+_, _*_, _/_, _<_, _≤_};
 ghost use lib.ListN.{length};
 ghost use Rattle.definitions.specs.Limits.{table-rows, table-size, stride, arcs-size};
 ghost use Rattle.reach.specs.Marks.{Flags};

@@ -8,8 +8,8 @@ solve-tables-spec =
     tie.close
     (tie.spec
     (λ c κs. search needs)
-    (λ c κs. c .frame-of .ensures .ready)
-    (λ c κs. c .look-at .ensures .second-most)
-    (λ c κs. (c .before .before .frame-of .ensures .ready, c .before .look-at .ensures, c .search .ensures))
+    (λ c κs. search needs)
+    (λ c κs. search needs)
+    (λ c κs. search needs)
     (λ c. let o = c .before .before .before .frame-of .ensures in
     record { answers = λ p d e g. rw (← o .n-is, ← o .m-is) (c .answer-of .ensures .answers p (rw (o .n-is, o .m-is) (decoded-held e g d))) }))

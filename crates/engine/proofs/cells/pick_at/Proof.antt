@@ -9,7 +9,7 @@ pick-at-spec =
     (tie.spec
     (λ c. search needs)
     (λ c. search needs)
-    (λ c. near-pick _ _ (c .before .if1 .taken))
+    (λ c. search near-pick)
     (λ c. search needs)
     (λ c. search needs)
-    (λ c. far-pick _ _ (c .before .if1 .left)))
+    (λ c. search far-pick))

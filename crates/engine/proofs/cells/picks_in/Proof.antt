@@ -26,5 +26,5 @@ picks-in-spec =
     (λ c. search needs)
     (λ c. search needs)
     (λ c. search needs)
-    (λ c. (omega arith, filled-more (c .before .before .loop .inv .1) (omega arith) (c .pick-at .ensures)))
-    (λ c. filled-end (c .before .loop .inv .1) (c .before .loop .inv .0) (c .loop-test .left)))
+    (λ c. (omega arith, search (filled-more, arith)))
+    (λ c. search filled-end))

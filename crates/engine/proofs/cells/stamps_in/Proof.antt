@@ -1,6 +1,6 @@
 use Prim.Native.Nat.{_≤_, _-_}
 use native.Mathlib.Omega.{arith}
-use mathlib.Core.Path.{_≡_, refl}
+use mathlib.Core.Path.{_≡_}
 use lib.ListN.{getD}
 use Rattle.base.specs.Filled.{Filled}
 use Rattle.base.proofs.Filled.{filled-none, filled-more, filled-end}
@@ -28,5 +28,5 @@ stamps-in-spec =
     (λ c. search needs)
     (λ c. search needs)
     (λ c. search needs)
-    (λ c. (omega arith, filled-more (c .before .before .loop .inv .1) (omega arith) refl))
-    (λ c. filled-end (c .before .loop .inv .1) (c .before .loop .inv .0) (c .loop-test .left)))
+    (λ c. (omega arith, search (filled-more, arith)))
+    (λ c. search filled-end))
