@@ -50,6 +50,15 @@ infeasible-answer {f} {left} {right} {l} {found} {out} y look some class s =
       picks-size = s .shown .shown .size-is;
       stamps-most = λ j. omega (arith, zeros 32 j);
       picks-most = shown-few c s;
+      given = record {
+        look = l;
+        looks = look .looks;
+        found = rw (class, none-span some class .0) at some;
+        blocked = λ _. (refl, s);
+        saved = λ e. absurd (omega arith);
+        planned = λ e. absurd (omega arith);
+        unplanned = λ _. refl;
+      };
       answers = answers;
     }
   where

@@ -19,8 +19,7 @@ use Rattle.look.proofs.One.{SameLook, looks-one, raised-one, point-one, second-
 use Rattle.pick_tables.specs.Shown.{InducedRows, RowPicks}
 use Rattle.pick_tables.proofs.One.{variable-picks-one, row-picks-one, induced-one}
 use Rattle.class_answers.specs.declared.answer.Answer.{Answer}
-use Rattle.class_answers.specs.Answered.{Stamps, StartMarks, ShownPicks}
-use Rattle.class_answers.specs.Given.{PlanOf, SavedBy, Given}
+use Rattle.class_answers.specs.Answered.{Stamps, StartMarks, ShownPicks, PlanOf, SavedBy, Given}
 
 copied-one : (table : List ℕ) (row : ℕ) {a b : List ℕ} → Copied table row 32 a → Copied table row 32 b → a ≡ b
 copied-one table row = filled-one (λ k v w h p q. p ∙ sym q)

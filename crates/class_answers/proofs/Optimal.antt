@@ -156,5 +156,14 @@ module _ {f : Frame} {left right raised : List ℕ} {l : Look} {found : Found} {
         (λ (h : j < f .n + 1). number-within (getD stamps j 0) (rw (z .each j h) (shows _ (problem-in (f .n) (f .m) left right) .stamps j)))
         (nat-le-or-lt (f .n + 1) j);
     picks-most = shown-few c s;
+    given = record {
+      look = l;
+      looks = look .looks;
+      found = rw class at some;
+      blocked = λ _. (refl, s);
+      saved = λ e. absurd (omega arith);
+      planned = λ _. record { table = raised; point = x; raised = r; point-is = d; stamps-are = z };
+      unplanned = λ e. absurd (e refl);
+    };
     answers = answers;
   }

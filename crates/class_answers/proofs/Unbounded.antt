@@ -164,5 +164,29 @@ module _ {f : Frame} {left right raised : List ℕ} {l : Look} {found : Found} {
       picks-size = v .shown .size-is;
       stamps-most = λ j. omega (arith, zeros 32 j);
       picks-most = λ j. omega (arith, c .n-most, rows-most v j);
+      given = record {
+        look = l;
+        looks = look .looks;
+        found = rw (class, bottomless-span some class .0) at some;
+        blocked = λ e. absurd (e refl);
+        saved = λ _. record {
+          table = raised;
+          point = x;
+          targets = rows;
+          row = row;
+          begin = begin;
+          second = k;
+          raised = r;
+          point-is = d;
+          induced = i;
+          copied = copied;
+          second-is = met;
+          begin-is = anchored;
+          shown = v;
+          start-is = refl;
+        };
+        planned = λ e. absurd (omega arith);
+        unplanned = λ _. refl;
+      };
       answers = answers;
     }

@@ -178,7 +178,7 @@ pub fn answer_of(
 // The answer of the problem in two tables.
 pub fn solve_tables(left: &[u32; TABLE], right: &[u32; TABLE], n: usize, m: usize) -> Answer
     requires { ⌜ Coefficients n m (now left) (now right) ⌝ }
-    ensures { λ r. ⌜ Answered n m (now (left .entry)) (now (right .entry)) (r .class) (r .span) (r .start) (r .trials) (r .stamps) (r .picks) ⌝ }
+    ensures { λ r. ⌜ Answered n m (now (left .entry)) (now (right .entry)) r ⌝ }
 {
     let frame = frame_of(left, right, n, m);
     let look = look_at(left, right, frame);

@@ -12,4 +12,4 @@ solve-tables-spec =
     (λ c κs. search needs)
     (λ c κs. search needs)
     (λ c. let o = c .before .before .before .frame-of .ensures in
-    record { answers = λ p d e g. rw (← o .n-is, ← o .m-is) (c .answer-of .ensures .answers p (rw (o .n-is, o .m-is) (decoded-held e g d))) }))
+    record { given = rw (← o .n-is, ← o .m-is) (c .answer-of .ensures .given); answers = λ p d e g. rw (← o .n-is, ← o .m-is) (c .answer-of .ensures .answers p (rw (o .n-is, o .m-is) (decoded-held e g d))) }))
