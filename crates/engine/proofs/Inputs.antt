@@ -29,4 +29,4 @@ pub long-refused : {kept input : List ℕ} {size : ℕ} {before : List ℕ} (hea
 unfolding solvedOf refusalFor
 long-refused {input = input} {before = before} header {r} k h e g =
     let q = long-header engine-kinds header k h e g in
-    rw (meant-some input (omega (arith, k .size-is))) (refuses-with input before r (or-else-suc (headerRefusal engine-kinds input (length input)) _ (omega (arith, q .0, q .1)) ∙ q .0) (q .1))
+    rw (meant-some input (omega (arith, k .size-is))) (refuses-with input before r (or-else-suc (headerRefusal engine-kinds input (length input)) _ (omega (arith, q .0, q .1)) ∙ q .0) (q .1) .solves)

@@ -3,3 +3,4 @@ pub mod Inputs
 pub mod Questions
 pub mod Trials
 pub mod Packing
+pub mod One

@@ -12,6 +12,7 @@ use Rattle.definitions.specs.Offset.{tropOf}
 use Rattle.definitions.specs.Problem.{Problem}
 use Rattle.definitions.specs.ProblemRecord.{Kinds, engine-kinds, AsksOne, kindField, nField, mField, countField, questionsAsked, layoutOf, refusalFor, recordRefusal, problemOutcome, WithinLayout, problemOf, meant}
 use Rattle.definitions.specs.AnswerRecord.{stampCount, pickCount, answerSize, answerBytes, writerOutcome, written}
+use Rattle.definitions.specs.Questions.{asking}
 use Rattle.definitions.specs.Solved as Definitions
 use Rattle.definitions.specs.Solved.{Answers, Solves, turned-away, solved, engineRefusal}
 use Rattle.definitions.proofs.Questions.{asking-itself}
@@ -41,7 +42,7 @@ use Rattle.class_answers.specs.Answered.{Answered}
 use Rattle.engine.specs.declared.solve.One.{One}
 use Rattle.engine.specs.declared.solve.Solved.{Solved}
 use Rattle.engine.specs.declared.solve.Solved.the-variants as Results
-use Rattle.engine.specs.Outcome.{solvedOf, shownIn, FoundFor, OneWrote, Read, LayoutRead, SeveralRead}
+use Rattle.engine.specs.Outcome.{solvedOf, shownIn, Gives, Writes, SolvedAs, FoundFor, OneWrote, Read, LayoutRead, SeveralRead}
 
 -- ---- writing what was found
 
@@ -124,7 +125,7 @@ tables-stand {n} {m} {left} {right} c =
       };
     }
 
-module _ {n m : ℕ} {left right : List ℕ} {a : Answer} (found : Answered n m left right (a .class) (a .span) (a .start) (a .trials) (a .stamps) (a .picks)) where
+module _ {n m : ℕ} {left right : List ℕ} {a : Answer} (found : Answered n m left right a) where
   answers : (p : Problem) → InTables p n m left right → Answers p (a .class) (tropOf (a .span)) (a .trials) (shownIn n m a)
   answers p s = found .answers p (s .decoded) (s .n-is) (s .m-is)
 
@@ -135,14 +136,14 @@ module _ {n m : ℕ} {left right : List ℕ} {a : Answer} (found : Answered n m 
   -- as an answer of each problem that stands there.
   pub one-wrote : {size : ℕ} {before after : List ℕ} → size ≡ answerSize (a .class) n m → after ≡ written before (answerBytes n (shownIn n m a))
       → OneWrote n m left right (record { class = a .class; span = a .span; trials = a .trials; size = size }) before after
-  one-wrote e f = record { answer = shownIn n m a; answers = answers; size-is = e; buffer-is = f }
+  one-wrote e f = record { found = a; given = found .given; answer = shownIn n m a; answer-is = refl; answers = answers; size-is = e; buffer-is = f }
 
 -- ---- the result
 
-pub refuses-with : (p before : List ℕ) (k : ℕ) → recordRefusal p ≡ k → 0 < k → Solves p before (solvedOf (Results.Refused k)) before
+pub refuses-with : (p before : List ℕ) (k : ℕ) → recordRefusal p ≡ k → 0 < k → SolvedAs p before (Results.Refused k) before
 unfolding engineRefusal solvedOf
 refuses-with p before zero e h = absurd (omega arith)
-refuses-with p before (suc k) e h = turned-away (or-else-suc (recordRefusal p) _ (rw e h) ∙ e)
+refuses-with p before (suc k) e h = record { solves = turned-away (or-else-suc (recordRefusal p) _ (rw e h) ∙ e); writes = Writes.refused }
 
 -- What was read, or refused.
 pub layout-read : {kinds : Kinds} (p : List ℕ) {left right left′ right′ : List ℕ} {header : Header} → Bytes p → ProblemRead kinds (meant p) left right header left′ right′
@@ -178,7 +179,7 @@ module _ {kinds : Kinds} {s left right : List ℕ} {header : Header} (read : Lay
 
 -- A problem that is refused.
 pub refuses-problem : {p before left right : List ℕ} {header : Header} {k r : ℕ} → LayoutRead engine-kinds p header left right → header ≡ Headers.Refused k → r ≡ problemRefused header
-    → Solves p before (solvedOf (Results.Refused r)) before
+    → SolvedAs p before (Results.Refused r) before
 refuses-problem {p} {before} {r = r} read e g = let h = read-refused read e g in refuses-with p before r (h .0) (h .1)
 
 -- The tables of a problem within the layout hold it.
@@ -191,10 +192,13 @@ read-stands {p = p} r w = rw (r .n-is, r .m-is, r .left-is, r .right-is, asking-
 
 module _ {p : List ℕ} {l : Layout} {left right : List ℕ} (read : Read engine-kinds p l left right) where
   -- A buffer that is too short.
-  pub refuses-room : {before : List ℕ} {room : ℕ} → length before < room → room ≡ l .questions * answer-most → Solves p before (solvedOf (Results.Refused 7)) before
+  pub refuses-room : {before : List ℕ} {room : ℕ} → length before < room → room ≡ l .questions * answer-most → SolvedAs p before (Results.Refused 7) before
   unfolding solvedOf engineRefusal
   refuses-room {before} h e =
-      turned-away {k = 6} (rw (read .within) (ap (λ (t : Bool). cond t 7 0) (lt-ltb (length before) (questionsAsked (kindField p) (countField p) * answer-most) (rw (← read .questions-is) (omega arith)))))
+      record {
+        solves = turned-away {k = 6} (rw (read .within) (ap (λ (t : Bool). cond t 7 0) (lt-ltb (length before) (questionsAsked (kindField p) (countField p) * answer-most) (rw (← read .questions-is) (omega arith)))));
+        writes = Writes.refused;
+      }
 
   -- One that is long enough.
   pub nothing-refused : {room : ℕ} → l .questions * answer-most ≤ room → engineRefusal p room ≡ 0
@@ -216,10 +220,23 @@ module _ {p : List ℕ} {l : Layout} {left right : List ℕ} (read : Read engine
 
     -- Its answer is the result.
     pub solves-one : {r : One} {room : ℕ} {before after : List ℕ} → room ≤ length before → room ≡ l .questions * answer-most → OneWrote (l .n) (l .m) left right r before after
-        → Solves p before (solvedOf (Results.Answered (r .class) (r .span) (r .trials) (r .size))) after
+        → SolvedAs p before (Results.Answered (r .class) (r .span) (r .trials) (r .size)) after
     unfolding solvedOf
-    solves-one long e w =
-        rw (w .size-is, w .buffer-is, read .n-is, read .m-is) (solved (w .answer) one-kind (nothing-refused (omega arith)) (w .answers (problemOf p) one-stands))
+    solves-one {before = before} {after} long e w = record {
+      solves = rw (w .size-is, w .buffer-is, read .n-is, read .m-is) (solved (w .answer) one-kind (nothing-refused (omega arith)) (w .answers (problemOf p) one-stands));
+      writes = rw (w .buffer-is, read .n-is) (Writes.one gives);
+    }
+      where
+        own : asking p 0 ≡ p
+        own = asking-itself p 0 (sym (one-question p one-kind) ∙ read .within)
+
+        gives : Gives p (w .answer)
+        gives = record {
+          found = w .found;
+          n-most = rw (← read .n-is) (one-tables .n-most);
+          given = rw (← read .n-is, ← read .m-is, ← own, ← read .left-is, ← read .right-is) (w .given);
+          is = rw (← read .n-is, ← read .m-is) (w .answer-is);
+        }
 
 -- Several questions are asked by the bytes themselves: the idle day asks one.
 module _ {p : List ℕ} {l : Layout} {left right : List ℕ} (read : Read engine-kinds (meant p) l left right) (k : l .kind ≡ questions-kind) where
@@ -229,7 +246,7 @@ module _ {p : List ℕ} {l : Layout} {left right : List ℕ} (read : Read engine
   pub several-read : {before : List ℕ} {room : ℕ} → room ≤ length before → room ≡ l .questions * answer-most → SeveralRead p l left right before
   several-read h e = record { read = rw itself at read; kind-is = k; room = omega arith }
 
-  pub several-solves : {before after : List ℕ} {r : Definitions.Solved} → Solves p before r after → Solves (meant p) before r after
+  pub several-solves : {before after : List ℕ} {r : Solved} → SolvedAs p before r after → SolvedAs (meant p) before r after
   several-solves s = rw itself s
 
 -- ---- what an answered result means

@@ -1,6 +1,6 @@
 -- Several questions answered one after another: the answers so far, and one more. Document 02, 2.1.
 use Prim.Native.Nat.{ℕ, _+_, _-_, _≤_, _<_, _^_}
-use mathlib.Core.Path.{_≡_, refl, ap, sym, _∙_}
+use mathlib.Core.Path.{_≡_, refl, ap, sym, _∙_, ap₂}
 use mathlib.Core.List.{List, [], _++_}
 use native.Mathlib.Omega.{arith}
 use native.Mathlib.Numerals.{add-one}
@@ -30,7 +30,7 @@ use Rattle.problem_records.proofs.QuestionTables.{left-steady, right-steady}
 use Rattle.look.specs.Frames.{Coefficients}
 use Rattle.engine.specs.declared.solve.One.{One}
 use Rattle.engine.specs.declared.solve.Solved.the-variants.{AllAnswered}
-use Rattle.engine.specs.Outcome.{solvedOf, OneWrote, SeveralRead, Turns}
+use Rattle.engine.specs.Outcome.{shownIn, Gives, GivesInTurn, Writes, SolvedAs, solvedOf, OneWrote, SeveralRead, Turns}
 use Rattle.engine.proofs.Outcomes.{nothing-refused, stands-tables}
 
 module _ {s : List ℕ} {l : Layout} {left₀ right₀ before : List ℕ} (several : SeveralRead s l left₀ right₀ before) where
@@ -51,6 +51,7 @@ module _ {s : List ℕ} {l : Layout} {left₀ right₀ before : List ℕ} (sever
     rights = rw (several .read .right-is, kind-is) (rewritten-refl (right-length (alone s 0)));
     records = [];
     in-turn = no-question;
+    given = GivesInTurn.none;
     at-is = refl;
     buffer-is = sym (put-nil before 0);
     few = omega arith;
@@ -60,11 +61,14 @@ module _ {s : List ℕ} {l : Layout} {left₀ right₀ before : List ℕ} (sever
 
   module _ {q at trials : ℕ} {after left right : List ℕ} (turns : Turns s q at trials before after left right) where
     -- After the last.
-    pub turns-all : q ≤ l .questions → l .questions ≤ q → Solves s before (solvedOf (AllAnswered (l .questions) trials at)) after
+    pub turns-all : q ≤ l .questions → l .questions ≤ q → SolvedAs s before (AllAnswered (l .questions) trials at) after
     unfolding solvedOf
     turns-all h k =
         let e : l .questions ≡ q = omega arith in
-        rw (turns .at-is, turns .buffer-is, count-is) (all-solved {bytes = turns .records} {trials = trials} kind-is (nothing-refused (several .read) (several .room)) (rw (← count-is, e) (turns .in-turn)))
+        record {
+          solves = rw (turns .at-is, turns .buffer-is, count-is) (all-solved {bytes = turns .records} {trials = trials} kind-is (nothing-refused (several .read) (several .room)) (rw (← count-is, e) (turns .in-turn)));
+          writes = rw (turns .buffer-is, count-is) (Writes.several {bytes = turns .records} (rw (← count-is, e) (turns .given)));
+        }
 
     module _ (h : q < l .questions) where
       asked : q < countField s
@@ -85,6 +89,12 @@ module _ {s : List ℕ} {l : Layout} {left₀ right₀ before : List ℕ} (sever
       one : OneAsked s q
       one = one-asked s kind-is (several .read .within) q asked
 
+      n-same : nField (alone s q) ≡ l .n
+      n-same = one .n-is ∙ sym (several .read .n-is)
+
+      m-same : mField (alone s q) ≡ l .m
+      m-same = one .m-is ∙ sym (several .read .m-is)
+
       -- and there is room for its answer.
       room : at + answer-most ≤ length after
       room = omega (arith, turns .short, turns .same, several .room)
@@ -97,8 +107,8 @@ module _ {s : List ℕ} {l : Layout} {left₀ right₀ before : List ℕ} (sever
         stands : InTables (problemOf (alone s q)) (l .n) (l .m) left′ right′
         unfolding problemOf
         stands = record {
-          n-is = one .n-is ∙ sym (several .read .n-is);
-          m-is = one .m-is ∙ sym (several .read .m-is);
+          n-is = n-same;
+          m-is = m-same;
           decoded = rw (left-is, right-is) (problem-decoded (alone s q) (alone-bytes s q (several .read .bytes)) (one .within));
         }
 
@@ -125,6 +135,14 @@ module _ {s : List ℕ} {l : Layout} {left₀ right₀ before : List ℕ} (sever
           unfolding written
           put-at = rw (w .buffer-is, several .read .n-is) (put-part after at bytes inside)
 
+          gives : Gives (alone s q) (w .answer)
+          gives = record {
+            found = w .found;
+            n-most = rw n-same (turn-tables .n-most);
+            given = rw (n-same, m-same, ← left-is, ← right-is) (w .given);
+            is = w .answer-is ∙ ap₂ (λ (n m : ℕ). shownIn n m (w .found)) (sym n-same) (sym m-same);
+          }
+
           -- One more answer, written where the one before ended.
           pub turn-more : Turns s (q + 1) (at + own .size) (trials + own .trials) before (putMid at (length after - at) after part) left′ right′
           unfolding written
@@ -133,6 +151,7 @@ module _ {s : List ℕ} {l : Layout} {left₀ right₀ before : List ℕ} (sever
             rights = rw right-is (record { size = right-length (alone s q); steady = right-steady s (passes .asks) (passes .some) q asked });
             records = turns .records ++ bytes;
             in-turn = rw add-one (one-more (w .answer) (turns .in-turn) answers);
+            given = rw add-one (GivesInTurn.more (turns .given) gives);
             at-is = rw length-append (omega (arith, turns .at-is, size-is));
             buffer-is = put-at ∙ ap (λ (x : List ℕ). put x at bytes) (turns .buffer-is) ∙ put-put before 0 (turns .records) at bytes (omega arith) (omega (arith, turns .at-is));
             few = omega (arith, turns .few, trials-few (alone s q) (one .within) (answers .found));

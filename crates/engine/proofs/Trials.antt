@@ -186,6 +186,12 @@ module _ {s : List ℕ} {p : Pending} {k : Look} {z r : Search} (g : PendingFor 
           packable = answer-packable (o .shows);
           packed = o .packed;
           answers = rw (o .start-is) (rw (o .shows .class-is, o .shows .span-is, o .shows .trials-is, e) at (o .shows .answers (problemOf s) held));
+          gives = record {
+            found = o .answer;
+            n-most = stands-tables stands .n-most;
+            given = o .shows .given;
+            is = rw (o .start-is, o .shows .class-is, o .shows .span-is, e) refl;
+          };
         },
         t .trial .counted,
       );

@@ -28,6 +28,7 @@ use Rattle.engine.specs.declared.one_trial.Pending.{Pending}
 use Rattle.engine.specs.declared.one_trial.Begun.{Begun}
 use Rattle.engine.specs.declared.one_trial.Handed.{Handed}
 use Rattle.engine.specs.Packing.{Packable, PackedCells}
+use Rattle.engine.specs.Outcome.{Gives}
 
 -- No trial is made, and no look.
 abbrev pub fresh : ℕ → ℕ → Pending
@@ -98,7 +99,7 @@ pub record LookFor (s : List ℕ) (p : Pending) (k : Look) : Type 0 where
 abbrev pub answerWith : List ℕ → Pending → List ℕ → List ℕ → Records.Answer
 answerWith s p stamps picks = answerIn (nField s) (mField s) (p .class) (spanOf (searchOf p)) (p .start) stamps picks
 
--- A problem that is answered: an answer that the engine may give for it, whose stamps and picks the cells hold.
+-- A problem that is answered: the answer that the engine gives for it, whose stamps and picks the cells hold.
 pub record AnsweredFor (s : List ℕ) (p : Pending) : Type 0 where
   pub of : Of s p
   pub closed : p .class ≡ class-open → ⊥
@@ -107,6 +108,7 @@ pub record AnsweredFor (s : List ℕ) (p : Pending) : Type 0 where
   pub packable : Packable stamps picks
   pub packed : PackedCells stamps picks stride (p .cells)
   pub answers : Answers (problemOf s) (p .class) (tropOf (spanOf (searchOf p))) (p .made) (answerWith s p stamps picks)
+  pub gives : Gives s (answerWith s p stamps picks)
 
 -- A problem that goes on after one trial more: its class and span ask for more still.
 pub record Onward (s : List ℕ) (own : ℕ) (r : Pending) : Type 0 where

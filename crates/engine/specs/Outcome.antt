@@ -1,9 +1,10 @@
 -- What the engine answers on bytes, in the words of the definitions.
-use Prim.Native.Nat.{ℕ, _*_, _≤_, _<_}
+use Prim.Native.Nat.{ℕ, suc, _*_, _≤_, _<_}
 use mathlib.Core.Path.{_≡_}
-use mathlib.Core.List.{List}
+use mathlib.Core.List.{List, [], _++_}
 use lib.ListN.{length}
 use Rattle.definitions.specs.Limits.{highest-n, highest-m, most-trials, most-questions, answer-most, questions-kind}
+use Rattle.definitions.specs.Tropical.{Trop}
 use Rattle.definitions.specs.Bytes.{Bytes}
 use Rattle.definitions.specs.Problem.{Problem}
 use Rattle.definitions.specs.ProblemRecord.{Kinds, engine-kinds, kindField, nField, mField, countField, questionsAsked, refusalFor}
@@ -19,7 +20,7 @@ use Rattle.records.specs.declared.problem.Layout.{Layout}
 use Rattle.records.specs.Decoded.{InTables, Rewritten}
 use Rattle.problem_records.specs.Tables.{leftTable, rightTable}
 use Rattle.class_answers.specs.declared.answer.Answer.{Answer}
-use Rattle.class_answers.specs.Answered.{answerIn}
+use Rattle.class_answers.specs.Answered.{answerIn, Given}
 use Rattle.engine.specs.declared.solve.One.{One}
 use Rattle.engine.specs.declared.solve.Solved.{Solved}
 use Rattle.engine.specs.declared.solve.Solved.the-variants.{Refused, Answered, AllAnswered}
@@ -35,6 +36,29 @@ solvedOf (AllAnswered count trials size) = Results.all-answered count trials siz
 abbrev pub shownIn : ℕ → ℕ → Answer → Records.Answer
 shownIn n m a = answerIn n m (a .class) (a .span) (a .start) (a .stamps) (a .picks)
 
+-- What the engine gives for a record of one question: the answer to the problem in its tables, which is one.
+pub record Gives (s : List ℕ) (a : Records.Answer) : Type 0 where
+  pub found : Answer
+  pub n-most : nField s ≤ highest-n
+  pub given : Given (nField s) (mField s) (leftTable s) (rightTable s) found
+  pub is : a ≡ shownIn (nField s) (mField s) found
+
+-- The records of its answers to the first questions of several, one after another: each is given for the question alone.
+pub data GivesInTurn (p : List ℕ) : ℕ → List ℕ → Type 0 where
+  none : GivesInTurn p 0 []
+  more : {q : ℕ} {bytes : List ℕ} {a : Records.Answer} → GivesInTurn p q bytes → Gives (alone p q) a → GivesInTurn p (suc q) (bytes ++ answerBytes (nField p) a)
+
+-- What it writes depends on the record alone.
+pub data Writes (p before : List ℕ) : Results.Solved → List ℕ → Type 0 where
+  refused : {k : ℕ} → Writes p before (Results.refused k) before
+  one : {class trials size : ℕ} {span : Trop} {a : Records.Answer} → Gives p a → Writes p before (Results.answered class span trials size) (written before (answerBytes (nField p) a))
+  several : {trials size : ℕ} {bytes : List ℕ} → GivesInTurn p (countField p) bytes → Writes p before (Results.all-answered (countField p) trials size) (written before bytes)
+
+-- The engine's result and its buffer.
+pub record SolvedAs (p before : List ℕ) (r : Solved) (after : List ℕ) : Type 0 where
+  pub solves : Results.Solves p before (solvedOf r) after
+  pub writes : Writes p before (solvedOf r) after
+
 -- What was found is such as the writer takes, with a buffer of `room` bytes.
 pub record FoundFor (n m room : ℕ) (a : Answer) : Type 0 where
   pub n-most : n ≤ highest-n
@@ -45,7 +69,10 @@ pub record FoundFor (n m room : ℕ) (a : Answer) : Type 0 where
 
 -- The record of an answer of each problem in the tables stands at the buffer's start, every byte after it is as it was.
 pub record OneWrote (n m : ℕ) (left right : List ℕ) (r : One) (before after : List ℕ) : Type 0 where
+  pub found : Answer
+  pub given : Given n m left right found
   pub answer : Records.Answer
+  pub answer-is : answer ≡ shownIn n m found
   pub answers : (p : Problem) → InTables p n m left right → Answers p (r .class) (tropOf (r .span)) (r .trials) answer
   pub size-is : r .size ≡ answerSize (r .class) n m
   pub buffer-is : after ≡ written before (answerBytes n answer)
@@ -79,6 +106,7 @@ pub record Turns (s : List ℕ) (q at trials : ℕ) (before after left right : L
   pub rights : Rewritten (mField s) (rightTable (alone s 0)) right
   pub records : List ℕ
   pub in-turn : AnswersInTurn s q records trials
+  pub given : GivesInTurn s q records
   pub at-is : at ≡ length records
   pub buffer-is : after ≡ written before records
   pub few : trials ≤ q * most-trials

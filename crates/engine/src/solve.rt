@@ -6,10 +6,9 @@ ghost use lib.ListN.{length};
 ghost use Rattle.definitions.specs.Limits.{answer-most, most-questions};
 ghost use Rattle.definitions.specs.ProblemRecord.{engine-kinds, meant};
 ghost use Rattle.definitions.specs.AnswerRecord.{answerSize, answerBytes, written};
-ghost use Rattle.definitions.specs.Solved.{Solves};
 ghost use Rattle.records.specs.ProblemHeader.{kindsIn};
 ghost use Rattle.look.specs.Frames.{Coefficients};
-ghost use Rattle.engine.specs.Outcome.{solvedOf, shownIn, FoundFor, OneWrote, Read, LayoutRead, SeveralRead};
+ghost use Rattle.engine.specs.Outcome.{shownIn, SolvedAs, FoundFor, OneWrote, Read, LayoutRead, SeveralRead};
 use answer_reader::answer::Head;
 use answer_reader::class::pick_count;
 use answer_reader::class::stamp_count;
@@ -121,7 +120,7 @@ fn solve_questions(
     answer: &mut [u8],
 ) -> Solved
     requires { ⌜ SeveralRead (now problem) layout (now left) (now right) (now answer) ⌝ }
-    ensures { λ r. ⌜ Solves (now (problem .entry)) (now (answer .entry)) (solvedOf r) (now (answer .exit)) ⌝ }
+    ensures { λ r. ⌜ SolvedAs (now (problem .entry)) (now (answer .entry)) r (now (answer .exit)) ⌝ }
 {
     let mut at = 0;
     let mut trials = 0;
@@ -155,7 +154,7 @@ fn solve_told(
     answer: &mut [u8],
 ) -> Solved
     requires { ⌜ Read engine-kinds (meant (now problem)) layout (now left) (now right) ⌝ }
-    ensures { λ r. ⌜ Solves (meant (now (problem .entry))) (now (answer .entry)) (solvedOf r) (now (answer .exit)) ⌝ }
+    ensures { λ r. ⌜ SolvedAs (meant (now (problem .entry))) (now (answer .entry)) r (now (answer .exit)) ⌝ }
 {
     if answer.len() < room_for(layout.questions) {
         return Solved::Refused(REFUSED_ROOM);
@@ -175,7 +174,7 @@ fn solve_told(
 // The answer of the problem that the bytes mean, or the answers to its questions, written into the lent buffer; a refusal leaves the
 // buffer as it was. No bytes mean the idle day, as which `read_layout` reads them.
 pub fn solve(problem: &[u8], answer: &mut [u8]) -> Solved
-    ensures { λ r. ⌜ Solves (meant (now (problem .entry))) (now (answer .entry)) (solvedOf r) (now (answer .exit)) ⌝ }
+    ensures { λ r. ⌜ SolvedAs (meant (now (problem .entry))) (now (answer .entry)) r (now (answer .exit)) ⌝ }
 {
     let mut left = [0u32; TABLE];
     let mut right = [0u32; TABLE];
