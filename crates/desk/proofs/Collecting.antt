@@ -8,17 +8,16 @@ use native.Mathlib.Nat.{eq-zero-or-pos}
 use lib.ListN.{length}
 use Rattle.definitions.specs.Limits.{desk-places, desk-memory, problem-most, answer-most, refused-room, refused-ticket, refused-memory}
 use Rattle.definitions.specs.Bytes.{Bytes}
-use Rattle.definitions.specs.Offset.{tropOf}
 use Rattle.definitions.specs.ProblemRecord.{meant}
 use Rattle.definitions.specs.AnswerRecord.{answerSize}
 use Rattle.definitions.specs.Desk as Machine
 use Rattle.definitions.specs.Desk.{placeAt, Stands, NotHeld, Collects, handed-over}
 use Rattle.definitions.proofs.IdleDay.{meant-bytes}
 use Rattle.engine.specs.declared.one_trial.Handed.{Handed}
-use Rattle.engine.specs.OneTrial.{spanIn, answerWith, Answered, HandedOver}
+use Rattle.engine.specs.OneTrial.{Answered, HandedOver}
 use Rattle.desk.specs.declared.state.Place.{Place}
 use Rattle.desk.specs.declared.calls.Collected.the-variants as Collections
-use Rattle.desk.specs.State.{Desk, noPlace, placeIn, HoldsTicket, bytesAt, blankPlace, PlaceIs, is-empty}
+use Rattle.desk.specs.State.{Desk, placeIn, HoldsTicket, bytesAt, PlaceIs, is-empty}
 use Rattle.desk.specs.Calls.{Left, DidCollect, CanCollect, CollectedAt}
 use Rattle.tickets.proofs.Sound.{beyond-empty}
 use Rattle.desk.proofs.Kept.{part-bytes}

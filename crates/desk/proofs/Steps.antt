@@ -1,10 +1,10 @@
 -- A step, as the machine's transition: the head's next trial.
 use Prim.Native.Nat.{ℕ, suc, _+_, _-_, _%_, _≤_, _<_}
 use mathlib.Core.Path.{_≡_, refl, sym, ap, subst, _∙_}
-use mathlib.Core.List.{List, [], _∷_, _++_}
+use mathlib.Core.List.{List, _∷_}
 use native.Mathlib.Omega.{arith}
 use native.Mathlib.Numerals.{add-one}
-use lib.ListN.{length, getD, set, length-set}
+use lib.ListN.{length, set, length-set}
 use lib.Seq.{getD-set-same}
 use Rattle.definitions.specs.Limits.{desk-places, desk-memory, refused-memory}
 use Rattle.definitions.specs.ProblemRecord.{problemOf, meant}
@@ -14,7 +14,7 @@ use Rattle.engine.specs.OneTrial.{TrialFor}
 use Rattle.desk.specs.declared.state.Front.{Front}
 use Rattle.desk.specs.declared.state.Place.{Place}
 use Rattle.desk.specs.declared.calls.Stepped.the-variants as Steppings
-use Rattle.desk.specs.State.{Desk, deskOf, Fits, frontJoined, frontGone, noPlace, placeIn, headOf, ring, bytesAt, Seated, PlaceIs, is-waiting, is-answered, Tryable, Tried}
+use Rattle.desk.specs.State.{Desk, deskOf, Fits, frontJoined, frontGone, noPlace, headOf, ring, bytesAt, Seated, PlaceIs, is-waiting, is-answered, Tryable, Tried}
 use Rattle.desk.specs.Calls.{Left, HeadTried, DidStep, AtHead, CanStep, StepAt}
 use Rattle.tickets.proofs.Sound.{classed, from-opening-sound}
 use Rattle.desk.proofs.Ring.{ring-join}
@@ -29,7 +29,7 @@ module _ {f : Front} {c : Place} {memory : List ℕ} where
 
   pub stepped-idle : desk-memory ≤ length memory → f .waiting ≡ 0 → StepAt f c memory (record { outcome = Steppings.NoneWaits; front = f; place = c })
   unfolding DidStep
-  stepped-idle h e = record { short = λ l. absurd (omega arith); moves = λ _ left here. Steps.idle (memory-enough (length memory) h) (none-wait (left .holds) e) }
+  stepped-idle h e = record { short = λ l. absurd (omega arith); moves = λ _ left here. (Steps.idle (memory-enough (length memory) h) (none-wait (left .holds) e), refl) }
 
 -- ---- the head
 

@@ -66,7 +66,7 @@ module _ {f : Front} {at : ℕ} {memory p : List ℕ} {r : Taking} where
     took-nothing : {k : ℕ} → r ≡ refusedIn f (suc k)
         → ((places : List Place) (left : Left (deskOf f places) memory) → FirstFree (deskOf f places) at → takeRefusal (length memory) (left .state) p ≡ suc k) → TookAt f at memory p r memory
     unfolding TookIn
-    took-nothing e refusal = rw e (record { short = λ l. absurd (omega arith); moves = λ _ left free. (TakesIn.turned-away (refusal _ left free), refl) })
+    took-nothing e refusal = rw e (record { short = λ l. absurd (omega arith); moves = λ _ left free. (TakesIn.turned-away (refusal _ left free), refl, refl) })
 
     -- The problem's refusals come first,
     pub took-refused : {b : Begun} → BegunFor (meant p) b → (b .refused ≡ 0 → ⊥) → r ≡ refusedIn f (b .refused) → TookAt f at memory p r memory

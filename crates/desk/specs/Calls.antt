@@ -79,9 +79,9 @@ pub record TakenAt (d : Desk) (memory p : List ℕ) (state : Machine.Desk) (at t
   pub takes : TakesIn (length memory) state p (Machine.ticket ticket) next
   pub holds : Holds d′ memory′ next
 
--- The machine's transition: a refusal leaves memory and state as they were, a ticket every other place.
+-- The machine's transition: a refusal leaves memory, front and state as they were, a ticket every other place.
 unfoldable pub TookIn : Desk → List ℕ → List ℕ → Machine.Desk → ℕ → TakenIn → Desk → List ℕ → Type 0
-TookIn d memory p state at (Takings.Refused k) d′ memory′ = TakesIn (length memory) state p (Machine.TakenIn.refused k) state × (memory′ ≡ memory)
+TookIn d memory p state at (Takings.Refused k) d′ memory′ = TakesIn (length memory) state p (Machine.TakenIn.refused k) state × (d′ .front ≡ d .front) × (memory′ ≡ memory)
 TookIn d memory p state at (Takings.Ticket k) d′ memory′ = TakenAt d memory p state at k d′ memory′
 
 -- 23 where the memory is too short, else that transition of every state that the desk can hold.
@@ -113,7 +113,7 @@ pub record HeadTried (d : Desk) (memory : List ℕ) (state : Machine.Desk) (r : 
 -- The machine's transition, which is never refused: with none waiting nothing changes.
 unfoldable pub DidStep : Desk → List ℕ → Machine.Desk → Stepped → Desk → Type 0
 DidStep d memory state (Steppings.Refused k) d′ = ⊥
-DidStep d memory state Steppings.NoneWaits d′ = Steps (length memory) state Machine.none-waits state
+DidStep d memory state Steppings.NoneWaits d′ = Steps (length memory) state Machine.none-waits state × (d′ .front ≡ d .front)
 DidStep d memory state (Steppings.GoesOn k) d′ = HeadTried d memory state (Machine.goes-on k) d′
 DidStep d memory state (Steppings.Done k) d′ = HeadTried d memory state (Machine.done k) d′
 

@@ -8,7 +8,6 @@ use Rattle.definitions.specs.Offset.{tropOf}
 use Rattle.definitions.specs.ProblemRecord.{meant}
 use Rattle.definitions.specs.Questions.{part}
 use Rattle.definitions.specs.Desk as Machine
-use Rattle.engine.specs.declared.one_trial.Pending.{Pending}
 use Rattle.engine.specs.OneTrial.{fresh, spanIn, PendingFor, answerWith, AnsweredFor, TrialFor}
 use Rattle.desk.specs.declared.state.Place.{Place}
 use Rattle.desk.specs.declared.state.Front.{Front}

@@ -5,7 +5,6 @@ use mathlib.Core.List.{List}
 use native.Mathlib.Omega.{arith}
 use lib.ListN.{length}
 use Rattle.definitions.specs.Limits.{desk-memory, desk-places, most-trials}
-use Rattle.definitions.specs.Offset.{tropOf}
 use Rattle.definitions.specs.Tropical.{Trop}
 use Rattle.definitions.specs.Problem.{Problem}
 use Rattle.definitions.specs.Solved.{Found, optimal, unbounded, infeasible}
@@ -52,7 +51,7 @@ module _ {memory words : List ℕ} {front : Front} {at : ℕ} (w : desk-words �
 module _ {memory words p memory′ : List ℕ} {at : ℕ} {r : Taking} (t : Took memory words p at r memory′) where
   pub take-refused : {k : ℕ} → r .outcome ≡ Takings.Refused k → TakenAs memory words p k memory′ words
   unfolding TookIn
-  take-refused f = rw ((rw f at (t .moves (t .left))) .1) (OverLent.makes (t .enough) (t .long) (λ left. TakenFrom.refused ((rw f at (t .moves left)) .0)))
+  take-refused f = rw ((rw f at (t .moves (t .left))) .2) (OverLent.makes (t .enough) (t .long) (λ left. TakenFrom.refused ((rw f at (t .moves left)) .0)))
 
   module _ {told : ℕ} (f : r .outcome ≡ Takings.Ticket told) where
     -- A ticket has a place.
@@ -103,7 +102,7 @@ module _ {memory words : List ℕ} {at : ℕ} {r : Stepping} (t : Stepped-on mem
 
   pub step-none : r .outcome ≡ Steppings.NoneWaits → SteppedAs memory words 0 words
   unfolding DidStep
-  step-none f = OverLent.makes (t .enough) (t .long) (λ left. SteppedFrom.idle (rw f at (t .moves left)))
+  step-none f = OverLent.makes (t .enough) (t .long) (λ left. SteppedFrom.idle ((rw f at (t .moves left)) .0))
 
   pub on-tried : {told : ℕ} → r .outcome ≡ Steppings.GoesOn told → Tried memory words at r (Machine.goes-on told)
   unfolding DidStep

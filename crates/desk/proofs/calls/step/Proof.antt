@@ -1,6 +1,5 @@
 use native.Mathlib.Omega.{arith}
 use Rattle.desk.proofs.Steps.{stepped-short, stepped-idle, head-fits, head-tryable, gone-fits, stepped-done, stepped-on}
-use borrow.Author.Needs.{needs}
 use Rattle.desk.proofs.calls.step.Statement.{statement}
 use Rattle.desk.proofs.calls.step.Tie as tie
 
