@@ -5,130 +5,127 @@ use mathlib.Core.Logic.{_⊎_, inl, inr}
 use mathlib.Core.List.{List, [], _∷_}
 use native.Mathlib.Omega.{arith}
 use native.Mathlib.Decide.{ℕ-discrete}
-use lib.ListN.{length, getD, set}
+use lib.ListN.{getD, set, length-set}
 use lib.Seq.{getD-set-same, getD-set-other}
 use Rattle.definitions.specs.Limits.{desk-places, problem-most}
 use Rattle.definitions.specs.Offset.{tropOf}
 use Rattle.definitions.specs.ProblemRecord.{meant}
 use Rattle.definitions.specs.Desk as Machine
-use Rattle.definitions.specs.Desk.{placeAt, Stands, ticketOf, held, FirstEmpty}
+use Rattle.definitions.specs.Desk.{placeAt, ticketOf, held, FirstEmpty}
 use Rattle.engine.specs.OneTrial.{spanIn, PendingFor, answerWith, AnsweredFor}
 use Rattle.engine.proofs.Trials.{pending-open}
 use Rattle.desk.specs.declared.state.Place.{Place}
-use Rattle.desk.specs.State.{Desk, noPlace, placeIn, FirstFree, ring, bytesAt, Seated, blankPlace, PlaceIs, is-empty, is-waiting, is-answered, Holds}
+use Rattle.desk.specs.declared.state.Front.{Front}
+use Rattle.desk.specs.State.{Desk, deskOf, Fits, noPlace, placeIn, headOf, OthersStay, FirstFree, ring, bytesAt, Seated, blankPlace, PlaceIs, is-empty, is-waiting, is-answered, Holds}
 use Rattle.tickets.proofs.Line.{At}
-use Rattle.tickets.proofs.Sound.{Sound, Waiting, waiting-inside, empty-not-waits, answered-not-waits, problemHeld, ownHeld}
+use Rattle.tickets.proofs.Sound.{Sound, waiting-inside, empty-not-waits, answered-not-waits}
 use Rattle.tickets.proofs.Places.{held-less, held-all}
 use Rattle.desk.proofs.Ring.{ring-head}
 
 -- ---- what stands at a place
 
--- A place without a ticket is empty,
-pub place-empty : {bytes : List ℕ} {c : Place} {p : Machine.Place} → PlaceIs bytes c p → c .ticket ≡ 0 → p ≡ Machine.empty
-place-empty (is-empty z) e = refl
-place-empty (is-waiting s g) e = absurd (let some = s .some in omega arith)
-place-empty (is-answered s g) e = absurd (let some = s .some in omega arith)
-
--- and one with a ticket holds it.
-pub place-ticket : {bytes : List ℕ} {c : Place} {p : Machine.Place} → PlaceIs bytes c p → ticketOf p ≡ c .ticket
-unfolding ticketOf
-place-ticket (is-empty z) = sym (ap (λ (c : Place). c .ticket) z)
-place-ticket (is-waiting s g) = refl
-place-ticket (is-answered s g) = refl
-
-pub place-some : {bytes : List ℕ} {c : Place} {p : Machine.Place} → PlaceIs bytes c p → 0 < c .ticket → p ≡ Machine.empty → ⊥
-unfolding ticketOf
-place-some {c = c} h some e = let z : _≡_ {A = ℕ} 0 (c .ticket) = sym (ap ticketOf e) ∙ place-ticket h in omega arith
-
--- What the code's place says of a problem that waits.
-pub record WaitsAs (bytes : List ℕ) (c : Place) (number : ℕ) (problem : List ℕ) (own : ℕ) : Type 0 where
-  pub seated : Seated bytes c
+-- What the code's place says of a problem that waits, and of one that is answered.
+pub record WaitsAs (bytes : List ℕ) (c : Place) (p : Machine.Place) : Type 0 where
+  pub seated : Seated c
   pub pending : PendingFor (meant bytes) (c .pending)
-  pub number-is : c .ticket ≡ number
-  pub problem-is : meant bytes ≡ problem
-  pub own-is : c .pending .made ≡ own
+  pub is : p ≡ Machine.waits (c .ticket) (meant bytes) (c .pending .made)
 
-pub place-waits : {bytes : List ℕ} {c : Place} {p : Machine.Place} {number own : ℕ} {problem : List ℕ} → PlaceIs bytes c p → p ≡ Machine.waits number problem own
-    → WaitsAs bytes c number problem own
-unfolding ticketOf problemHeld ownHeld
-place-waits (is-empty z) e = absurd (empty-not-waits e)
-place-waits (is-waiting s g) e = record { seated = s; pending = g; number-is = ap ticketOf e; problem-is = ap problemHeld e; own-is = ap ownHeld e }
-place-waits (is-answered s g) e = absurd (answered-not-waits e)
-
--- A place with a ticket whose class is open waits; else it is answered.
-pub place-open : {bytes : List ℕ} {c : Place} {p : Machine.Place} → PlaceIs bytes c p → 0 < c .ticket → c .pending .class ≡ 0
-    → p ≡ Machine.waits (c .ticket) (meant bytes) (c .pending .made)
-place-open (is-empty z) some e = absurd (omega (arith, ap (λ (c : Place). c .ticket) z))
-place-open (is-waiting s g) some e = refl
-place-open (is-answered s g) some e = absurd (g .closed e)
-
-pub record AnsweredAs (bytes : List ℕ) (c : Place) (p : Machine.Place) : Type 0 where
-  pub seated : Seated bytes c
+pub record AnsweredAs (bytes : List ℕ) (c : Place) (ticket : ℕ) (p : Machine.Place) : Type 0 where
+  pub seated : Seated c
   pub answer : AnsweredFor (meant bytes) (c .pending)
-  pub is : p ≡ Machine.answered (c .ticket) (meant bytes) (c .pending .class) (tropOf (spanIn (c .pending))) (c .pending .made)
+  pub is : p ≡ Machine.answered ticket (meant bytes) (c .pending .class) (tropOf (spanIn (c .pending))) (c .pending .made)
       (answerWith (meant bytes) (c .pending) (answer .stamps) (answer .picks))
 
-pub place-closed : {bytes : List ℕ} {c : Place} {p : Machine.Place} → PlaceIs bytes c p → 0 < c .ticket → (c .pending .class ≡ 0 → ⊥) → AnsweredAs bytes c p
-place-closed (is-empty z) some e = absurd (omega (arith, ap (λ (c : Place). c .ticket) z))
-place-closed (is-waiting s g) some e = absurd (e (pending-open g))
-place-closed (is-answered s g) some e = record { seated = s; answer = g; is = refl }
+module _ {bytes : List ℕ} {c : Place} where
+  -- A place without a ticket is empty,
+  pub place-empty : {p : Machine.Place} → PlaceIs bytes c p → c .ticket ≡ 0 → p ≡ Machine.empty
+  place-empty (is-empty z) e = refl
+  place-empty (is-waiting s g) e = absurd (let some = s .some in omega arith)
+  place-empty (is-answered s g) e = absurd (let some = s .some in omega arith)
 
--- The size that a place tells fits, unless it is empty.
-pub size-known : {bytes : List ℕ} {c : Place} {p : Machine.Place} → PlaceIs bytes c p → (c ≡ blankPlace) ⊎ (c .size ≤ problem-most)
-size-known (is-empty z) = inl z
-size-known (is-waiting s g) = inr (s .size-most)
-size-known (is-answered s g) = inr (s .size-most)
+  -- and one with a ticket holds it.
+  pub place-ticket : {p : Machine.Place} → PlaceIs bytes c p → ticketOf p ≡ c .ticket
+  unfolding ticketOf
+  place-ticket (is-empty z) = sym (ap (λ (c : Place). c .ticket) z)
+  place-ticket (is-waiting s g) = refl
+  place-ticket (is-answered s g) = refl
 
--- ---- the line
+  pub place-waits : {p : Machine.Place} {number own : ℕ} {problem : List ℕ} → PlaceIs bytes c p → p ≡ Machine.waits number problem own → WaitsAs bytes c p
+  place-waits (is-empty z) e = absurd (empty-not-waits e)
+  place-waits (is-waiting s g) e = record { seated = s; pending = g; is = refl }
+  place-waits (is-answered s g) e = absurd (answered-not-waits e)
 
-module _ {d : Desk} {memory : List ℕ} {state : Machine.Desk} (h : Holds d memory state) where
-  -- Nobody waits.
-  pub none-wait : d .waiting ≡ 0 → state .line ≡ []
-  unfolding ring
-  none-wait e = sym (h .line-is) ∙ ap (λ (k : ℕ). ring (d .line) (d .head) k) e
+  -- A place with this ticket whose class is open waits; else it is answered.
+  pub place-open : {p : Machine.Place} {ticket : ℕ} → PlaceIs bytes c p → c .ticket ≡ ticket → 0 < ticket → c .pending .class ≡ 0 → p ≡ Machine.waits ticket (meant bytes) (c .pending .made)
+  place-open (is-empty z) t some e = absurd (omega (arith, ap (λ (c : Place). c .ticket) z))
+  place-open (is-waiting s g) t some e = rw t refl
+  place-open (is-answered s g) t some e = absurd (g .closed e)
 
-  -- The head of the line, and the others.
-  pub line-head : 0 < d .waiting → state .line ≡ getD (d .line) (d .head) 0 ∷ ring (d .line) ((d .head + 1) % 16) (d .waiting - 1)
-  line-head some = sym (h .line-is) ∙ ring-head (d .line) (d .head) (d .waiting) (h .arrays .head-inside) some
+  pub place-closed : {p : Machine.Place} {ticket : ℕ} → PlaceIs bytes c p → c .ticket ≡ ticket → 0 < ticket → (c .pending .class ≡ 0 → ⊥) → AnsweredAs bytes c ticket p
+  place-closed (is-empty z) t some e = absurd (omega (arith, ap (λ (c : Place). c .ticket) z))
+  place-closed (is-waiting s g) t some e = absurd (e (pending-open g))
+  place-closed (is-answered s g) t some e = record { seated = s; answer = g; is = rw t refl }
 
-  -- What the head says of its problem.
-  pub record HeadAs (at : ℕ) : Type 0 where
-    pub inside : at < desk-places
-    pub number : ℕ
-    pub problem : List ℕ
-    pub own : ℕ
-    pub there : Stands state at (Machine.waits number problem own)
-    pub waits-as : WaitsAs (bytesAt memory at (placeIn d at .size)) (placeIn d at) number problem own
+  -- The size that a place tells fits, unless it is empty.
+  pub size-known : {p : Machine.Place} → PlaceIs bytes c p → (c ≡ blankPlace) ⊎ (c .size ≤ problem-most)
+  size-known (is-empty z) = inl z
+  size-known (is-waiting s g) = inr (s .size-most)
+  size-known (is-answered s g) = inr (s .size-most)
 
-  pub head-as : Sound state → 0 < d .waiting → HeadAs (getD (d .line) (d .head) 0)
-  head-as s some =
-      let at = getD (d .line) (d .head) 0 in
-      let first : At (state .line) at 0 = rw (line-head some) (record { inside = omega arith; is = refl }) in
-      let w : Waiting state at = s .line .wait first in
-      let inside = waiting-inside (s .sixteen) w in
-      record { inside = inside; number = w .number; problem = w .problem; own = w .own; there = w .there; waits-as = place-waits (h .places at inside) (w .there .is) }
-
--- ---- a place that changed
-
--- The places after one was seated.
-pub seated-places : (d : Desk) (memory memory′ : List ℕ) (state : Machine.Desk) (i : ℕ) (c : Place) (p : Machine.Place) → length (d .places) ≡ desk-places
-    → length (state .places) ≡ desk-places → i < desk-places
-    → ((k : ℕ) → k < desk-places → (k ≡ i → ⊥) → PlaceIs (bytesAt memory′ k (placeIn d k .size)) (placeIn d k) (placeAt state k))
-    → PlaceIs (bytesAt memory′ i (c .size)) c p
-    → (k : ℕ) → k < desk-places → PlaceIs (bytesAt memory′ k (getD (set (d .places) i c) k noPlace .size)) (getD (set (d .places) i c) k noPlace) (getD (set (state .places) i p) k Machine.empty)
-seated-places d memory memory′ state i c p e f b others new k l = at (ℕ-discrete k i)
-  where
-    at : Dec (k ≡ i) → PlaceIs (bytesAt memory′ k (getD (set (d .places) i c) k noPlace .size)) (getD (set (d .places) i c) k noPlace) (getD (set (state .places) i p) k Machine.empty)
-    at (yes z) = rw (z, getD-set-same (d .places) i c noPlace (omega arith), getD-set-same (state .places) i p Machine.empty (omega arith)) new
-    at (no n) = rw (getD-set-other (d .places) i k c noPlace n, getD-set-other (state .places) i k p Machine.empty n) (others k l n)
-
--- ---- looking
+-- One place changed.
+pub others-stay : {f : Front} (d : Desk) (i : ℕ) (c : Place) → OthersStay d i (deskOf f (set (d .places) i c))
+others-stay d i c = record { stay = λ k n. getD-set-other (d .places) i k c noPlace n }
 
 empty-ticket : ticketOf Machine.empty ≡ 0
 unfolding ticketOf
 empty-ticket = refl
 
 module _ {d : Desk} {memory : List ℕ} {state : Machine.Desk} (h : Holds d memory state) where
+  -- ---- the line
+
+  -- Nobody waits.
+  pub none-wait : d .front .waiting ≡ 0 → state .line ≡ []
+  unfolding ring
+  none-wait e = sym (h .line-is) ∙ ap (λ (k : ℕ). ring (d .front .line) (d .front .head) k) e
+
+  -- The head of the line, and the others.
+  pub line-head : 0 < d .front .waiting → state .line ≡ headOf (d .front) ∷ ring (d .front .line) ((d .front .head + 1) % 16) (d .front .waiting - 1)
+  line-head some = sym (h .line-is) ∙ ring-head (d .front .line) (d .front .head) (d .front .waiting) (h .fits .head-inside) some
+
+  -- What the head says of its problem.
+  pub record HeadAs (at : ℕ) : Type 0 where
+    pub inside : at < desk-places
+    pub waits-as : WaitsAs (bytesAt memory at (placeIn d at .size)) (placeIn d at) (placeAt state at)
+
+  pub head-as : Sound state → 0 < d .front .waiting → HeadAs (headOf (d .front))
+  head-as s some =
+      let first : At (state .line) (headOf (d .front)) 0 = rw (line-head some) (record { inside = omega arith; is = refl }) in
+      let w = s .line .wait first in
+      let inside = waiting-inside (s .sixteen) w in
+      record { inside = inside; waits-as = place-waits (h .places (headOf (d .front)) inside) (w .there .is) }
+
+  -- ---- a place that changed
+
+  -- With another front, and another place at this one.
+  pub holds-moved : {f : Front} {memory′ line : List ℕ} {given i : ℕ} {c : Place} {p : Machine.Place} → Fits f → f .given ≡ given → ring (f .line) (f .head) (f .waiting) ≡ line → i < desk-places
+      → ((k : ℕ) → k < desk-places → (k ≡ i → ⊥) → PlaceIs (bytesAt memory′ k (placeIn d k .size)) (placeIn d k) (placeAt state k))
+      → PlaceIs (bytesAt memory′ i (c .size)) c p
+      → Holds (deskOf f (set (d .places) i c)) memory′ (record { given = given; line = line; places = set (state .places) i p })
+  holds-moved {f} {memory′} {line} {given} {i} {c} {p} fits g l inside others new = record {
+    fits = fits;
+    size = length-set (d .places) i c ∙ h .size;
+    given-is = g;
+    line-is = l;
+    places-size = length-set (state .places) i p ∙ h .places-size;
+    places = λ k b. at k b (ℕ-discrete k i);
+  }
+    where
+      at : (k : ℕ) → k < desk-places → Dec (k ≡ i) → PlaceIs (bytesAt memory′ k (getD (set (d .places) i c) k noPlace .size)) (getD (set (d .places) i c) k noPlace) (getD (set (state .places) i p) k Machine.empty)
+      at k b (yes z) = rw (z, getD-set-same (d .places) i c noPlace (omega (arith, h .size)), getD-set-same (state .places) i p Machine.empty (omega (arith, h .places-size))) new
+      at k b (no n) = rw (getD-set-other (d .places) i k c noPlace n, getD-set-other (state .places) i k p Machine.empty n) (others k b n)
+
+  -- ---- looking
+
   ticket-at : (i : ℕ) → i < desk-places → ticketOf (placeAt state i) ≡ placeIn d i .ticket
   ticket-at i b = place-ticket (h .places i b)
 

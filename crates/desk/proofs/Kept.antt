@@ -5,65 +5,55 @@ use mathlib.Core.Logic.{_⊎_, ⊎-elim}
 use mathlib.Core.List.{List, [], _∷_, _++_}
 use native.Mathlib.Omega.{arith}
 use native.Mathlib.Nat.{mul-le-mul-left, mul-le-mul-right}
-use lib.ListN.{length, getD, set, take, drop, length-set, List·getD-eq-default}
-use lib.Seq.{ext-getD, getD-take, take-at, getD-append-add, length-take-le, take-length}
+use lib.ListN.{length, getD, set, take, drop, length-set, List·getD-append, List·getD-eq-default}
+use lib.Seq.{ext-getD, getD-take, take-append-seam, drop-at, length-take-le, take-length}
 use Rattle.base.proofs.Numbers.{nat-le-or-lt}
 use Rattle.definitions.specs.Limits.{desk-places, desk-memory, problem-most}
 use Rattle.definitions.specs.Bytes.{Bytes, put}
 use Rattle.definitions.specs.ProblemRecord.{problemSize, meant}
 use Rattle.definitions.specs.Desk.{WithinDesk}
 use Rattle.definitions.specs.Questions.{part}
-use Rattle.definitions.proofs.Put.{take-put, length-put, getD-put-after, put-more, put-nil}
+use Rattle.definitions.proofs.Put.{drop-put, length-put, put-more, put-nil}
 use Rattle.definitions.proofs.Questions.{part-length, part-at}
 use Rattle.definitions.proofs.Layouts.{plain-desk}
 use Rattle.engine.specs.declared.one_trial.Pending.{Pending}
 use Rattle.engine.specs.OneTrial.{TrialFor}
 use Rattle.desk.specs.State.{bytesAt}
 
--- What a list with values put holds before them, and in them.
+-- What a list with values put holds at them, before them and after them.
 module _ (l : List ℕ) (at : ℕ) (vs : List ℕ) (inside : at + length vs ≤ length l) where
-  put-front-at : (k : ℕ) → k < at + length vs → getD (put l at vs) k 0 ≡ getD (take at l ++ vs) k 0
-  put-front-at k h = sym (getD-take (at + length vs) (put l at vs) k 0 h) ∙ ap (λ (z : List ℕ). getD z k 0) (take-put l at vs (omega arith))
+  pub part-put : (n : ℕ) → n ≡ length vs → part (put l at vs) at n ≡ vs
+  unfolding put
+  part-put n e = rw (e, drop-at (take at l) (vs ++ drop (at + length vs) l) at (length-take-le at l (omega arith)), take-append-seam) refl
 
-  pub put-before-at : (k : ℕ) → k < at → getD (put l at vs) k 0 ≡ getD l k 0
-  put-before-at k h =
-      let long = length-take-le at l (omega arith) in
-      put-front-at k (omega arith) ∙ sym (getD-take at (take at l ++ vs) k 0 h) ∙ ap (λ (z : List ℕ). getD z k 0) (take-at (take at l) vs at long) ∙ getD-take at l k 0 h
+  before-at : (k : ℕ) → k < at → getD (put l at vs) k 0 ≡ getD l k 0
+  unfolding put
+  before-at k h = List·getD-append (take at l) (vs ++ drop (at + length vs) l) 0 k (omega (arith, length-take-le at l (omega arith))) ∙ getD-take at l k 0 h
 
-  pub put-in-at : (k : ℕ) → k < length vs → getD (put l at vs) (at + k) 0 ≡ getD vs k 0
-  put-in-at k h =
-      let long = length-take-le at l (omega arith) in
-      let e : at + k ≡ length (take at l) + k = omega arith in
-      put-front-at (at + k) (omega arith) ∙ ap (λ (z : ℕ). getD (take at l ++ vs) z 0) e ∙ getD-append-add (take at l) vs k 0
+  pub part-before : (from size : ℕ) → from + size ≤ at → part (put l at vs) from size ≡ part l from size
+  part-before from size h =
+      let long = length-put l at vs (omega arith) inside in
+      let new = part-length (put l at vs) from size (omega arith) in
+      ext-getD 0 (part (put l at vs) from size) (part l from size) (new ∙ sym (part-length l from size (omega arith)))
+      (λ k b. part-at (put l at vs) from size k (omega arith) ∙ before-at (from + k) (omega arith) ∙ sym (part-at l from size k (omega arith)))
 
--- The problem stands at its place.
-pub kept-here : (memory p : List ℕ) (i : ℕ) → desk-memory ≤ length memory → i < desk-places → length p ≤ problem-most
-    → bytesAt (put memory (i * problem-most) p) i (length p) ≡ p
-kept-here memory p i h b s =
-    let room : i * problem-most + length p ≤ length memory = omega arith in
-    let long = part-length (put memory (i * problem-most) p) (i * problem-most) (length p) (omega (arith, length-put memory (i * problem-most) p (omega arith) room)) in
-    ext-getD 0 (bytesAt (put memory (i * problem-most) p) i (length p)) p long
-    (λ k l. part-at (put memory (i * problem-most) p) (i * problem-most) (length p) k (omega arith) ∙ put-in-at memory (i * problem-most) p room k (omega arith))
+  pub part-after : (from size : ℕ) → at + length vs ≤ from → part (put l at vs) from size ≡ part l from size
+  part-after from size h = rw (drop-put l at vs (omega arith) from h) refl
 
--- The others stay.
-pub kept-there : (memory p : List ℕ) (i k size : ℕ) → desk-memory ≤ length memory → i < desk-places → k < desk-places → (k ≡ i → ⊥) → length p ≤ problem-most
-    → size ≤ problem-most → bytesAt (put memory (i * problem-most) p) k size ≡ bytesAt memory k size
-kept-there memory p i k size h b c d s t =
-    let room : i * problem-most + length p ≤ length memory = omega arith in
-    let same = length-put memory (i * problem-most) p (omega arith) room in
-    let long = part-length (put memory (i * problem-most) p) (k * problem-most) size (omega arith) in
-    let old = part-length memory (k * problem-most) size (omega arith) in
-    ext-getD 0 (bytesAt (put memory (i * problem-most) p) k size) (bytesAt memory k size) (long ∙ sym old)
-    (λ j l. part-at (put memory (i * problem-most) p) (k * problem-most) size j (omega arith) ∙ each j (omega arith) room ∙ sym (part-at memory (k * problem-most) size j (omega arith)))
-  where
-    each : (j : ℕ) → j < size → i * problem-most + length p ≤ length memory → getD (put memory (i * problem-most) p) (k * problem-most + j) 0 ≡ getD memory (k * problem-most + j) 0
-    each j l room = ⊎-elim
-        (λ (g : suc i ≤ k). getD-put-after memory (i * problem-most) p (omega arith) (k * problem-most + j) (omega arith))
-        (λ (g : k < suc i). put-before-at memory (i * problem-most) p room (k * problem-most + j) (before (omega arith)))
-        (nat-le-or-lt (suc i) k)
-      where
-        before : k < i → k * problem-most + j < i * problem-most
-        before g = omega arith
+module _ (memory p : List ℕ) (i : ℕ) (enough : desk-memory ≤ length memory) (inside : i < desk-places) (short : length p ≤ problem-most) where
+  -- The problem stands at its place.
+  pub kept-here : bytesAt (put memory (i * problem-most) p) i (length p) ≡ p
+  kept-here = part-put memory (i * problem-most) p (omega arith) (length p) refl
+
+  -- The others stay.
+  pub kept-there : (k size : ℕ) → (k ≡ i → ⊥) → size ≤ problem-most → bytesAt (put memory (i * problem-most) p) k size ≡ bytesAt memory k size
+  kept-there k size d t = ⊎-elim
+      (λ (g : suc i ≤ k). part-after memory (i * problem-most) p (omega arith) (k * problem-most) size (omega arith))
+      (λ (g : k < suc i). part-before memory (i * problem-most) p (omega arith) (k * problem-most) size (before (omega arith)))
+      (nat-le-or-lt (suc i) k)
+    where
+      before : k < i → k * problem-most + size ≤ i * problem-most
+      before g = omega arith
 
 -- A problem that nothing refuses fits its place.
 pub fits-place : (p : List ℕ) → WithinDesk (meant p) → length p ≤ problem-most

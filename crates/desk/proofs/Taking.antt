@@ -1,35 +1,31 @@
 -- Opening and taking in, as the machine's transitions.
-use Prim.Native.Nat.{ℕ, zero, suc, _+_, _*_, _-_, _%_, _≤_, _<_}
+use Prim.Native.Nat.{ℕ, zero, suc, _+_, _*_, _%_, _≤_, _<_}
 use mathlib.Core.Path.{_≡_, refl, sym, ap, subst, _∙_}
-use mathlib.Core.Bool.{Bool, true, false, cond}
-use mathlib.Core.Logic.{_⊎_, ⊎-elim}
+use mathlib.Core.Bool.{Bool, cond}
+use mathlib.Core.Logic.{⊎-elim}
 use mathlib.Core.List.{List, [], _∷_, _++_}
 use native.Mathlib.Omega.{arith}
-use native.Mathlib.Numerals.{add-one}
-use lib.Dec.{leb, ltb}
 use lib.ListN.{length, getD, set, replicate, length-set, length-replicate, getD-replicate, length-append}
-use lib.Seq.{getD-set-same, getD-set-other}
-use borrow.Author.Tests.{lt-ltb, le-ltb, le-leb, lt-leb}
+use lib.Seq.{getD-set-same}
+use borrow.Author.Tests.{le-ltb, le-leb, lt-leb}
 use Rattle.definitions.specs.Limits.{desk-places, desk-memory, problem-most, last-ticket, refused-memory, refused-full}
-use Rattle.definitions.specs.Bytes.{first, or-else, put}
-use Rattle.definitions.specs.ProblemRecord.{meant, nField, mField}
+use Rattle.definitions.specs.Bytes.{first, put}
+use Rattle.definitions.specs.ProblemRecord.{meant}
 use Rattle.definitions.specs.Desk as Machine
-use Rattle.definitions.specs.Desk.{memoryRefused, fullRefused, deskRefusal, WithinDesk, placeAt, held, FirstEmpty, FromOpening, takeRefusal, TakesIn, taken}
+use Rattle.definitions.specs.Desk.{memoryRefused, WithinDesk, placeAt, held, takeRefusal, TakesIn, taken}
 use Rattle.definitions.proofs.Put.{length-put}
 use Rattle.engine.specs.declared.one_trial.Begun.{Begun}
 use Rattle.engine.specs.declared.one_trial.Pending.{Pending}
-use Rattle.engine.specs.OneTrial.{PendingFor, BegunFor}
-use Rattle.desk.specs.declared.state.Place.{Place}
-use Rattle.desk.specs.declared.calls.TakenIn.{TakenIn}
-use Rattle.desk.specs.declared.calls.Taking.{Taking}
-use Rattle.desk.specs.declared.calls.TakenIn.the-variants as Takings
+use Rattle.engine.specs.OneTrial.{BegunFor}
 use Rattle.desk.specs.declared.state.Front.{Front}
-use Rattle.desk.specs.State.{Desk, deskOf, Fits, Arrays, noPlace, placeIn, FirstFree, entered, Room, ring, bytesAt, Seated, blankPlace, PlaceIs, is-empty, is-waiting, Holds}
-use Rattle.desk.specs.Calls.{Left, takenOf, OpenedBy, NextTaken, SearchBegun, TookIn, CanTakeOf, CanTake, entry, takenTo, TookAt}
-use Rattle.tickets.proofs.Sound.{Sound, from-opening-sound, sound-taken, line-few}
+use Rattle.desk.specs.declared.state.Place.{Place}
+use Rattle.desk.specs.declared.calls.Taking.{Taking}
+use Rattle.desk.specs.State.{Desk, deskOf, noPlace, placeIn, FirstFree, Room, ring, bytesAt, blankPlace, PlaceIs, is-empty, is-waiting}
+use Rattle.desk.specs.Calls.{Left, OpenedBy, TakenAt, TookIn, CanTake, refusedIn, entry, TookAt}
+use Rattle.tickets.proofs.Sound.{from-opening-sound, sound-taken, line-few}
 use Rattle.desk.proofs.Ring.{ring-length, ring-join}
 use Rattle.desk.proofs.Kept.{kept-here, kept-there, fits-place}
-use Rattle.desk.proofs.Holding.{place-empty, seated-places, first-empty, held-sixteen, held-fewer, size-known}
+use Rattle.desk.proofs.Holding.{place-empty, others-stay, holds-moved, first-empty, held-sixteen, held-fewer, size-known}
 
 -- ---- 23
 
@@ -38,172 +34,137 @@ memory-enough memory h = ap (λ (b : Bool). cond b refused-memory 0) (le-ltb mem
 
 -- ---- opening
 
-pub opened-holds : (memory : List ℕ) (c : Place) → c ≡ blankPlace
-    → Holds (record { given = 0; head = 0; waiting = 0; line = replicate 16 0; places = replicate 16 c }) memory Machine.opened
-unfolding ring
-opened-holds memory c e = record {
-  arrays = record { line-size = length-replicate {A = ℕ} 16 0; places-size = length-replicate {A = Place} 16 c; head-inside = omega arith; few = omega arith };
-  given-is = refl;
-  line-is = refl;
-  places-size = length-replicate {A = Machine.Place} desk-places Machine.empty;
-  places = λ i h. rw (getD-replicate {A = Place} 16 i c noPlace h, getD-replicate {A = Machine.Place} desk-places i Machine.empty Machine.empty h) (is-empty e);
-}
-
 pub opened-ready : {memory : List ℕ} (c : Place) → c ≡ blankPlace → desk-memory ≤ length memory
-    → OpenedBy memory 0 (record { given = 0; head = 0; waiting = 0; line = replicate 16 0; places = replicate 16 c })
-opened-ready {memory} c e h = record { short = λ l. absurd (omega arith); ready = λ _. (refl, opened-holds memory c e) }
+    → OpenedBy memory 0 (deskOf (record { given = 0; head = 0; waiting = 0; line = replicate 16 0 }) (replicate 16 c))
+unfolding ring
+opened-ready c e h = record {
+  short = λ l. absurd (omega arith);
+  ready = λ _. (
+    refl,
+    record {
+      fits = record { line-size = length-replicate {A = ℕ} 16 0; head-inside = omega arith; few = omega arith };
+      size = length-replicate {A = Place} 16 c;
+      given-is = refl;
+      line-is = refl;
+      places-size = length-replicate {A = Machine.Place} desk-places Machine.empty;
+      places = λ i h. rw (getD-replicate {A = Place} 16 i c noPlace h, getD-replicate {A = Machine.Place} desk-places i Machine.empty Machine.empty h) (is-empty e);
+    },
+  );
+}
 
 pub opened-short : {memory : List ℕ} {d : Desk} → length memory < desk-memory → OpenedBy memory refused-memory d
 opened-short h = record { short = λ _. refl; ready = λ l. absurd (omega arith) }
 
 -- ---- refusals of taking in
 
-pub took-short : (d : Desk) (memory p : List ℕ) → length memory < desk-memory → TookIn d memory p (Takings.Refused refused-memory) d memory
-took-short d memory p h = record { same-length = refl; still = λ e. (refl, refl); enters = λ e. absurd (let z : _≡_ {A = ℕ} 0 1 = cc in omega arith); short = λ _. (refl, refl, refl); moves = λ l. absurd (omega arith) }
+module _ {f : Front} {at : ℕ} {memory p : List ℕ} {r : Taking} where
+  pub took-short : length memory < desk-memory → r ≡ refusedIn f refused-memory → TookAt f at memory p r memory
+  took-short h e = rw e (record { short = λ _. (refl, refl); moves = λ l. absurd (omega arith) })
 
--- A refusal changes nothing.
-took-nothing : (d : Desk) (memory p : List ℕ) (k : ℕ) → desk-memory ≤ length memory
-    → ((state : Machine.Desk) → FromOpening (length memory) state → Holds d memory state → takeRefusal (length memory) state p ≡ suc k) → TookIn d memory p (Takings.Refused (suc k)) d memory
-unfolding takenOf
-took-nothing d memory p k h refusal = record {
-  same-length = refl;
-  still = λ e. (refl, refl);
-  enters = λ e. absurd (let z : _≡_ {A = ℕ} 0 1 = cc in omega arith);
-  short = λ l. absurd (omega arith);
-  moves = λ _ state f g. record { next = state; takes = TakesIn.turned-away (refusal state f g); holds = g };
-}
+  module _ (enough : desk-memory ≤ length memory) where
+    -- A refusal changes nothing.
+    took-nothing : {k : ℕ} → r ≡ refusedIn f (suc k)
+        → ((places : List Place) (left : Left (deskOf f places) memory) → FirstFree (deskOf f places) at → takeRefusal (length memory) (left .state) p ≡ suc k) → TookAt f at memory p r memory
+    unfolding TookIn
+    took-nothing e refusal = rw e (record { short = λ l. absurd (omega arith); moves = λ _ left free. (TakesIn.turned-away (refusal _ left free), refl, refl) })
 
--- The problem's refusals come first,
-pub took-refused : {d : Desk} {memory p : List ℕ} {b : Begun} → desk-memory ≤ length memory → BegunFor (meant p) b → (b .refused ≡ 0 → ⊥)
-    → TookIn d memory p (Takings.Refused (b .refused)) d memory
-unfolding takeRefusal
-took-refused {d} {memory} {p} {b} h g n = go (b .refused) refl
-  where
-    go : (k : ℕ) → b .refused ≡ k → TookIn d memory p (Takings.Refused k) d memory
-    go zero e = absurd (n e)
-    go (suc k) e = took-nothing d memory p k h (λ state f holds. rw (memory-enough (length memory) h, sym (g .refused-is) ∙ e) refl)
+    -- The problem's refusals come first,
+    pub took-refused : {b : Begun} → BegunFor (meant p) b → (b .refused ≡ 0 → ⊥) → r ≡ refusedIn f (b .refused) → TookAt f at memory p r memory
+    unfolding takeRefusal
+    took-refused {b} g n = go (b .refused) refl
+      where
+        go : (k : ℕ) → b .refused ≡ k → r ≡ refusedIn f k → TookAt f at memory p r memory
+        go zero e is = absurd (n e)
+        go (suc k) e is = took-nothing is (λ places left free. rw (memory-enough (length memory) enough, sym (g .refused-is) ∙ e) refl)
 
--- then 21: all places are held,
-pub took-full : {d : Desk} {memory p : List ℕ} {at : ℕ} → desk-memory ≤ length memory → WithinDesk (meant p) → FirstFree d at → at ≡ desk-places
-    → TookIn d memory p (Takings.Refused refused-full) d memory
-unfolding takeRefusal
-took-full {d} {memory} {p} {at} h w f e = took-nothing d memory p 20 h (λ state o g.
-    let all = held-sixteen g (subst (FirstFree d) e f) in
-    rw (memory-enough (length memory) h, w, le-leb desk-places (held (state .places)) (omega arith)) refl)
+    module _ {b : Begun} (g : BegunFor (meant p) b) (z : b .refused ≡ 0) (is : r ≡ refusedIn f refused-full) where
+      -- then 21: all places are held,
+      pub took-full : at ≡ desk-places → TookAt f at memory p r memory
+      unfolding takeRefusal
+      took-full e = took-nothing is (λ places left free.
+          let all = held-sixteen (left .holds) (subst (FirstFree (deskOf f places)) e free) in
+          rw (memory-enough (length memory) enough, sym (g .refused-is) ∙ z, le-leb desk-places (held (left .state .places)) (omega arith)) refl)
 
--- or the tickets are used up.
-pub took-last : {d : Desk} {memory p : List ℕ} {at : ℕ} → desk-memory ≤ length memory → WithinDesk (meant p) → FirstFree d at → (at ≡ desk-places → ⊥) → d .given ≡ last-ticket
-    → TookIn d memory p (Takings.Refused refused-full) d memory
-unfolding takeRefusal
-took-last {d} {memory} {p} {at} h w f n e = took-nothing d memory p 20 h (λ state o g.
-    let some = held-fewer g f (omega (arith, f .most)) in
-    rw (memory-enough (length memory) h, w, lt-leb desk-places (held (state .places)) some, le-leb last-ticket (state .given) (omega (arith, g .given-is))) refl)
+      -- or the tickets are used up.
+      pub took-last : (at ≡ desk-places → ⊥) → f .given ≡ last-ticket → TookAt f at memory p r memory
+      unfolding takeRefusal
+      took-last n e = took-nothing is (λ places left free.
+          let some = held-fewer (left .holds) free (omega (arith, free .most)) in
+          rw (memory-enough (length memory) enough, sym (g .refused-is) ∙ z, lt-leb desk-places (held (left .state .places)) some, le-leb last-ticket (left .state .given) (omega (arith, left .holds .given-is))) refl)
 
 -- ---- one taken in
 
--- Nothing refuses it.
-not-refused : (d : Desk) (memory p : List ℕ) (at : ℕ) (state : Machine.Desk) → desk-memory ≤ length memory → WithinDesk (meant p) → FirstFree d at → at < desk-places → d .given < last-ticket
-    → Holds d memory state → takeRefusal (length memory) state p ≡ 0
-unfolding takeRefusal
-not-refused d memory p at state h w f b l g =
-    let some = held-fewer g f b in
-    rw (memory-enough (length memory) h, w, lt-leb desk-places (held (state .places)) some, lt-leb last-ticket (state .given) (omega (arith, g .given-is))) refl
+module _ (f : Front) (at : ℕ) (memory p : List ℕ) {b : Begun} (enough : desk-memory ≤ length memory) (g : BegunFor (meant p) b) (z : b .refused ≡ 0) (n : at ≡ desk-places → ⊥)
+    (below : f .given < last-ticket) where
+  within : WithinDesk (meant p)
+  within = sym (g .refused-is) ∙ z
 
--- There is room for it: the line is shorter than 16.
-pub room-for : {f : Front} {places : List Place} {memory p : List ℕ} {at : ℕ} → desk-memory ≤ length memory → WithinDesk (meant p) → FirstFree (deskOf f places) at → (at ≡ desk-places → ⊥) → (f .given ≡ last-ticket → ⊥)
-    → f .given ≤ last-ticket → Left (deskOf f places) memory → Room f at p memory
-room-for {f} {places} {memory} {p} {at} h w free n l most left =
-    let d = deskOf f places in
-    let g = left .holds in
-    let state = left .state in
-    let inside : at < desk-places = omega (arith, free .most) in
-    let below : f .given < last-ticket = omega arith in
-    let s = sound-taken (from-opening-sound (left .from-opening)) (taken (not-refused d memory p at state h w free inside below g) (first-empty g free inside)) in
-    let few = line-few s in
-    let long : length (state .line) ≡ d .waiting = ap (λ (z : List ℕ). length z) (sym (g .line-is)) ∙ ring-length (f .line) (f .head) (f .waiting) in
-    record { fits = record { line-size = g .arrays .line-size; head-inside = g .arrays .head-inside; few = g .arrays .few }; inside = inside; few = omega (arith, length-append (state .line) (at ∷ [])); ticket-left = below; short = fits-place p w; memory-enough = h }
+  abbrev c : Place
+  c = entry f at p (b .pending) .place
 
--- It is taken in.
-pub took-in : (front : Front) (places : List Place) {memory memory′ p : List ℕ} {at : ℕ} {b : Begun} → desk-memory ≤ length memory → BegunFor (meant p) b → b .refused ≡ 0 → FirstFree (deskOf front places) at
-    → length places ≡ desk-places → Room front at p memory → memory′ ≡ put memory (at * problem-most) p → TookIn (deskOf front places) memory p (Takings.Ticket (front .given + 1)) (entered (deskOf front places) at p (b .pending)) memory′
-unfolding takenOf
-took-in front places {memory} {memory′} {p} {at} {b} h g z f sixteen room m = record {
-  same-length = rw m (length-put memory (at * problem-most) p (omega arith) (omega (arith, room .short, room .inside)));
-  still = λ e. absurd (let z : _≡_ {A = ℕ} 0 1 = cc in omega arith);
-  enters = λ _. record { at = at; inside = room .inside; free = f; memory-is = m; begun = begun; others = record { stay = λ k n. getD-set-other places at k c noPlace n } };
-  short = λ l. absurd (omega arith);
-  moves = λ _ state o holds. record { next = next state; takes = takes state holds; holds = rw m (held-after state holds) };
-}
-  where
-    d : Desk
-    d = deskOf front places
+  module _ {places : List Place} (left : Left (deskOf f places) memory) (free : FirstFree (deskOf f places) at) where
+    abbrev d : Desk
+    d = deskOf f places
 
-    c : Place
-    c = record { ticket = d .given + 1; size = length p; pending = b .pending }
+    abbrev state : Machine.Desk
+    state = left .state
 
-    begun : SearchBegun p at (entered d at p (b .pending))
-    begun =
-        let here : placeIn (entered d at p (b .pending)) at ≡ c = getD-set-same places at c noPlace (omega (arith, room .inside)) in
-        (ap (λ (x : Place). x .size) here, ap (λ (x : Place). x .pending) here ∙ g .fresh-is z)
+    inside : at < desk-places
+    inside = omega (arith, free .most)
 
-    within : WithinDesk (meant p)
-    within = sym (g .refused-is) ∙ z
+    abbrev next : Machine.Desk
+    next = record { given = suc (state .given); line = state .line ++ (at ∷ []); places = set (state .places) at (Machine.waits (suc (state .given)) (meant p) 0) }
 
-    next : Machine.Desk → Machine.Desk
-    next state = record { given = suc (state .given); line = state .line ++ (at ∷ []); places = set (state .places) at (Machine.waits (suc (state .given)) (meant p) 0) }
+    -- Nothing refuses it.
+    takes : TakesIn (length memory) state p (Machine.ticket (suc (state .given))) next
+    unfolding takeRefusal
+    takes = taken (rw (memory-enough (length memory) enough, within, lt-leb desk-places (held (state .places)) (held-fewer (left .holds) free inside), lt-leb last-ticket (state .given) (omega (arith, left .holds .given-is))) refl)
+        (first-empty (left .holds) free inside)
 
-    takes : (state : Machine.Desk) → Holds d memory state → TakesIn (length memory) state p (Machine.ticket (d .given + 1)) (next state)
-    takes state holds =
-        let same : d .given + 1 ≡ suc (state .given) = omega (arith, holds .given-is) in
-        rw same (taken (not-refused d memory p at state h within f (room .inside) (room .ticket-left) holds) (first-empty holds f (room .inside)))
+    -- There is room for it: the line is shorter than 16.
+    room : Room f at p memory
+    room =
+        let few = line-few (sound-taken (from-opening-sound (left .from-opening)) takes) in
+        let long = ap (λ (z : List ℕ). length z) (sym (left .holds .line-is)) ∙ ring-length (f .line) (f .head) (f .waiting) in
+        record { fits = left .holds .fits; inside = inside; few = omega (arith, length-append (state .line) (at ∷ [])); ticket-left = below; short = fits-place p within; memory-enough = enough }
 
-    there : bytesAt (put memory (at * problem-most) p) at (c .size) ≡ p
-    there = kept-here memory p at h (room .inside) (room .short)
+    abbrev memory′ : List ℕ
+    memory′ = put memory (at * problem-most) p
 
-    new : (state : Machine.Desk) → Holds d memory state → PlaceIs (bytesAt (put memory (at * problem-most) p) at (c .size)) c (Machine.waits (suc (state .given)) (meant p) 0)
-    new state holds =
-        let ticket : d .given + 1 ≡ suc (state .given) = omega (arith, holds .given-is) in
+    new : PlaceIs (bytesAt memory′ at (length p)) c (Machine.waits (suc (state .given)) (meant p) 0)
+    new =
+        let ticket : f .given + 1 ≡ suc (state .given) = omega (arith, left .holds .given-is) in
         let none : b .pending .made ≡ 0 = ap (λ (s : Pending). s .made) (g .fresh-is z) in
-        let w : PlaceIs p c (Machine.waits (d .given + 1) (meant p) (b .pending .made)) = is-waiting (record { some = omega arith; size-most = room .short }) (g .begun z) in
-        rw there (subst (λ (t : ℕ). PlaceIs p c (Machine.waits t (meant p) 0)) ticket (subst (λ (o : ℕ). PlaceIs p c (Machine.waits (d .given + 1) (meant p) o)) none w))
+        rw (kept-here memory p at enough inside (room .short), ← ticket, ← none) (is-waiting (record { some = omega arith; size-most = room .short }) (g .begun z))
 
-    others : (state : Machine.Desk) → Holds d memory state → (k : ℕ) → k < desk-places → (k ≡ at → ⊥)
-        → PlaceIs (bytesAt (put memory (at * problem-most) p) k (placeIn d k .size)) (placeIn d k) (placeAt state k)
-    others state holds k l n = ⊎-elim
-        (λ (free : placeIn d k ≡ blankPlace). rw (place-empty (holds .places k l) (ap (λ (x : Place). x .ticket) free)) (is-empty free))
-        (λ (size : placeIn d k .size ≤ problem-most). rw (kept-there memory p at k (placeIn d k .size) h (room .inside) l n (room .short) size) (holds .places k l))
-        (size-known (holds .places k l))
+    others : (k : ℕ) → k < desk-places → (k ≡ at → ⊥) → PlaceIs (bytesAt memory′ k (placeIn d k .size)) (placeIn d k) (placeAt state k)
+    others k l n = ⊎-elim
+        (λ (free : placeIn d k ≡ blankPlace). rw (place-empty (left .holds .places k l) (ap (λ (x : Place). x .ticket) free)) (is-empty free))
+        (λ (size : placeIn d k .size ≤ problem-most). rw (kept-there memory p at enough inside (room .short) k (placeIn d k .size) n size) (left .holds .places k l))
+        (size-known (left .holds .places k l))
 
-    held-after : (state : Machine.Desk) → Holds d memory state
-        → Holds (entered d at p (b .pending)) (put memory (at * problem-most) p) (next state)
-    held-after state holds = record {
-      arrays = record {
-        line-size = length-set (d .line) ((d .head + d .waiting) % desk-places) at ∙ holds .arrays .line-size;
-        places-size = length-set (d .places) at c ∙ holds .arrays .places-size;
-        head-inside = holds .arrays .head-inside;
-        few = omega (arith, room .few);
-      };
-      given-is = omega (arith, holds .given-is);
-      line-is = ring-join (d .line) (d .head) (d .waiting) at (holds .arrays .line-size) (room .few) ∙ ap (λ (l : List ℕ). l ++ (at ∷ [])) (holds .line-is);
-      places-size = length-set (state .places) at (Machine.waits (suc (state .given)) (meant p) 0) ∙ holds .places-size;
-      places = seated-places d memory (put memory (at * problem-most) p) state at c _ (holds .arrays .places-size) (holds .places-size) (room .inside) (others state holds) (new state holds);
-    }
+    taken-at : TakenAt d memory p state at (f .given + 1) (deskOf (entry f at p (b .pending) .front) (set places at c)) memory′
+    taken-at =
+        let ticket : f .given + 1 ≡ suc (state .given) = omega (arith, left .holds .given-is) in
+        let here : getD (set places at c) at noPlace ≡ c = getD-set-same places at c noPlace (omega (arith, inside, left .holds .size)) in
+        record {
+          first = first-empty (left .holds) free inside;
+          memory-is = refl;
+          same-length = length-put memory (at * problem-most) p (omega arith) (omega (arith, room .short, inside));
+          begun = (ap (λ (x : Place). x .size) here, ap (λ (x : Place). x .pending) here ∙ g .fresh-is z);
+          others = others-stay _ _ _;
+          next = next;
+          takes = rw ticket takes;
+          holds = holds-moved (left .holds)
+              (record { line-size = length-set (f .line) ((f .head + f .waiting) % desk-places) at ∙ left .holds .fits .line-size; head-inside = left .holds .fits .head-inside; few = omega (arith, room .few) })
+              ticket
+              (ring-join (f .line) (f .head) (f .waiting) at (left .holds .fits .line-size) (room .few) ∙ ap (λ (l : List ℕ). l ++ (at ∷ [])) (left .holds .line-is))
+              inside others new;
+        }
 
--- ---- the call
+  pub can-room : CanTake f at memory → Room f at p memory
+  can-room can = room (can .left enough) (can .free)
 
--- Nothing is taken in.
-pub took-not : {f : Front} {at k : ℕ} {memory p : List ℕ} {r : Taking} → r ≡ record { outcome = Takings.Refused k; front = f; place = blankPlace }
-    → ((places : List Place) → CanTakeOf f at memory places → TookIn (deskOf f places) memory p (Takings.Refused k) (deskOf f places) memory) → TookAt f at memory p r memory
-unfolding takenTo
-took-not e t = rw e (record { did = t })
-
--- There is room for it.
-pub can-room : {f : Front} {at : ℕ} {memory p : List ℕ} {b : Begun} → desk-memory ≤ length memory → BegunFor (meant p) b → b .refused ≡ 0 → (at ≡ desk-places → ⊥) → (f .given ≡ last-ticket → ⊥)
-    → f .given ≤ last-ticket → (places : List Place) → CanTakeOf f at memory places → Room f at p memory
-can-room h g z n l most places can = room-for {places = places} h (sym (g .refused-is) ∙ z) (can .free) n l most (can .left h)
-
--- It is taken in.
-pub took-one : {f : Front} {at : ℕ} {memory memory′ p : List ℕ} {b : Begun} {r : Taking} → desk-memory ≤ length memory → BegunFor (meant p) b → b .refused ≡ 0 → (at ≡ desk-places → ⊥)
-    → (f .given ≡ last-ticket → ⊥) → f .given ≤ last-ticket → r ≡ entry f at p (b .pending) → memory′ ≡ put memory (at * problem-most) p → TookAt f at memory p r memory′
-unfolding takenTo
-took-one {f = f} h g z n l most e m = rw e (record { did = λ places can. took-in f places h g z (can .free) (can .left h .holds .arrays .places-size) (can-room h g z n l most places can) m })
+  pub took-one : {r : Taking} {memory′ : List ℕ} → r ≡ entry f at p (b .pending) → memory′ ≡ put memory (at * problem-most) p → TookAt f at memory p r memory′
+  unfolding TookIn
+  took-one e m = rw (e, m) (record { short = λ l. absurd (omega arith); moves = λ _ left free. taken-at left free })

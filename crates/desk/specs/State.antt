@@ -8,34 +8,23 @@ use Rattle.definitions.specs.Offset.{tropOf}
 use Rattle.definitions.specs.ProblemRecord.{meant}
 use Rattle.definitions.specs.Questions.{part}
 use Rattle.definitions.specs.Desk as Machine
-use Rattle.engine.specs.declared.one_trial.Pending.{Pending}
 use Rattle.engine.specs.OneTrial.{fresh, spanIn, PendingFor, answerWith, AnsweredFor, TrialFor}
 use Rattle.desk.specs.declared.state.Place.{Place}
 use Rattle.desk.specs.declared.state.Front.{Front}
 
 -- The desk: its front, and its places.
 pub record Desk : Type 0 where
-  pub given : ℕ
-  pub head : ℕ
-  pub waiting : ℕ
-  pub line : List ℕ
+  pub front : Front
   pub places : List Place
 
 abbrev pub deskOf : Front → List Place → Desk
-deskOf f places = record { given = f .given; head = f .head; waiting = f .waiting; line = f .line; places = places }
+deskOf f places = record { front = f; places = places }
 
 -- The size of a front's line, and numbers within it.
 pub record Fits (f : Front) : Type 0 where
   pub line-size : length (f .line) ≡ desk-places
   pub head-inside : f .head < desk-places
   pub few : f .waiting ≤ desk-places
-
--- The sizes of the arrays, and numbers within them.
-pub record Arrays (d : Desk) : Type 0 where
-  pub line-size : length (d .line) ≡ desk-places
-  pub places-size : length (d .places) ≡ desk-places
-  pub head-inside : d .head < desk-places
-  pub few : d .waiting ≤ desk-places
 
 -- ---- changes
 
@@ -44,15 +33,6 @@ frontJoined f at = record { given = f .given; head = f .head; waiting = f .waiti
 
 abbrev pub frontGone : Front → Front
 frontGone f = record { given = f .given; head = (f .head + 1) % desk-places; waiting = f .waiting - 1; line = f .line }
-
-abbrev pub seatedAt : Desk → ℕ → Place → Desk
-seatedAt d at p = record { given = d .given; head = d .head; waiting = d .waiting; line = d .line; places = set (d .places) at p }
-
-abbrev pub joinedBy : Desk → ℕ → Desk
-joinedBy d at = record { given = d .given; head = d .head; waiting = d .waiting + 1; line = set (d .line) ((d .head + d .waiting) % desk-places) at; places = d .places }
-
-abbrev pub headGone : Desk → Desk
-headGone d = record { given = d .given; head = (d .head + 1) % desk-places; waiting = d .waiting - 1; line = d .line; places = d .places }
 
 -- ---- looking
 
@@ -69,8 +49,8 @@ abbrev pub placeIn : Desk → ℕ → Place
 placeIn d i = getD (d .places) i noPlace
 
 -- The place at the head of the line.
-abbrev pub headOf : Desk → ℕ
-headOf d = getD (d .line) (d .head) 0
+abbrev pub headOf : Front → ℕ
+headOf f = getD (f .line) (f .head) 0
 
 -- Every place but this one stands as it stood.
 pub record OthersStay (d : Desk) (at : ℕ) (d′ : Desk) : Type 0 where
@@ -90,17 +70,7 @@ pub record HoldsTicket (d : Desk) (ticket r : ℕ) : Type 0 where
 
 -- ---- parts of calls
 
--- A problem that was begun is entered at a place, with the next ticket, at the end of the line.
-abbrev pub entered : Desk → ℕ → List ℕ → Pending → Desk
-entered d at p pending = record {
-  given = d .given + 1;
-  head = d .head;
-  waiting = d .waiting + 1;
-  line = set (d .line) ((d .head + d .waiting) % desk-places) at;
-  places = set (d .places) at (record { ticket = d .given + 1; size = length p; pending = pending });
-}
-
--- There is room for it, where the place is free.
+-- There is room for a problem that was begun, where the place is free.
 pub record Room (f : Front) (at : ℕ) (p memory : List ℕ) : Type 0 where
   pub fits : Fits f
   pub inside : at < desk-places
@@ -121,7 +91,7 @@ abbrev pub bytesAt : List ℕ → ℕ → ℕ → List ℕ
 bytesAt memory i size = part memory (i * problem-most) size
 
 -- A place with a ticket, and a problem that fits it.
-pub record Seated (bytes : List ℕ) (c : Place) : Type 0 where
+pub record Seated (c : Place) : Type 0 where
   pub some : 0 < c .ticket
   pub size-most : c .size ≤ problem-most
 
@@ -132,17 +102,18 @@ blankPlace = record { ticket = 0; size = 0; pending = fresh 0 0 }
 -- What a place with these bytes holds.
 pub data PlaceIs (bytes : List ℕ) (c : Place) : Machine.Place → Type 0 where
   is-empty : c ≡ blankPlace → PlaceIs bytes c Machine.empty
-  is-waiting : Seated bytes c → PendingFor (meant bytes) (c .pending) → PlaceIs bytes c (Machine.waits (c .ticket) (meant bytes) (c .pending .made))
+  is-waiting : Seated c → PendingFor (meant bytes) (c .pending) → PlaceIs bytes c (Machine.waits (c .ticket) (meant bytes) (c .pending .made))
   is-answered :
-      Seated bytes c → (a : AnsweredFor (meant bytes) (c .pending))
+      Seated c → (a : AnsweredFor (meant bytes) (c .pending))
       → PlaceIs bytes c (Machine.answered (c .ticket) (meant bytes) (c .pending .class) (tropOf (spanIn (c .pending))) (c .pending .made)
       (answerWith (meant bytes) (c .pending) (a .stamps) (a .picks)))
 
 -- The state and the memory hold this state of the machine.
 pub record Holds (d : Desk) (memory : List ℕ) (state : Machine.Desk) : Type 0 where
-  pub arrays : Arrays d
-  pub given-is : d .given ≡ state .given
-  pub line-is : ring (d .line) (d .head) (d .waiting) ≡ state .line
+  pub fits : Fits (d .front)
+  pub size : length (d .places) ≡ desk-places
+  pub given-is : d .front .given ≡ state .given
+  pub line-is : ring (d .front .line) (d .front .head) (d .front .waiting) ≡ state .line
   pub places-size : length (state .places) ≡ desk-places
   pub places : (i : ℕ) → i < desk-places → PlaceIs (bytesAt memory i (placeIn d i .size)) (placeIn d i) (Machine.placeAt state i)
 

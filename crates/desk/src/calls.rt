@@ -9,8 +9,7 @@ ghost use Rattle.definitions.specs.ProblemRecord.{meant};
 ghost use Rattle.definitions.specs.Questions.{part};
 ghost use Rattle.engine.specs.OneTrial.{PendingFor, TrialFor};
 ghost use Rattle.desk.specs.State.{deskOf, bytesAt, blankPlace, Room, Tryable, Tried};
-ghost use Rattle.desk.specs.declared.calls.TakenIn.the-variants as TakenIn;
-ghost use Rattle.desk.specs.Calls.{OpenedBy, entry, CanTake, TookAt, CanStep, StepAt, CanCollect, CollectedAt};
+ghost use Rattle.desk.specs.Calls.{OpenedBy, refusedIn, entry, CanTake, TookAt, CanStep, StepAt, CanCollect, CollectedAt};
 use crate::limits::LAST_TICKET;
 use crate::limits::MEMORY;
 use crate::limits::PLACES;
@@ -84,7 +83,7 @@ pub fn no_place() -> Place
 
 // A taking-in that changes nothing.
 fn refused_in(front: Front, number: usize) -> Taking
-    ensures { λ r. ⌜ r ≡ record { outcome = TakenIn.Refused number; front = front; place = blankPlace } ⌝ }
+    ensures { λ r. ⌜ r ≡ refusedIn front number ⌝ }
 {
     let place = no_place();
     Taking {

@@ -1,5 +1,6 @@
 // Runs of words: put from a list, and read into an array.
 ghost use mathlib.Core.Path.{_≡_};
+ghost use mathlib.Core.List.{_++_};
 ghost use Prim.Native.Nat.{_+_, _≤_};
 ghost use lib.ListN.{length};
 ghost use Rattle.definitions.specs.Limits.{desk-places, stride};
@@ -9,7 +10,7 @@ use desk::limits::PLACES;
 use records::limits::STRIDE;
 
 // Puts numbers from a word on.
-pub fn put_numbers(words: &mut [u64], at: usize, run: &[u64])
+fn put_numbers(words: &mut [u64], at: usize, run: &[u64])
     requires { ⌜ at + length (now run) ≤ length (now words) ⌝ }
     ensures { λ _. ⌜ PutAt (now (words .entry)) at (now (run .entry)) (now (words .exit)) ⌝ }
 {
@@ -19,13 +20,22 @@ pub fn put_numbers(words: &mut [u64], at: usize, run: &[u64])
 }
 
 // Puts numbers of places or cells from a word on.
-pub fn put_indices(words: &mut [u64], at: usize, run: &[usize])
+fn put_indices(words: &mut [u64], at: usize, run: &[usize])
     requires { ⌜ at + length (now run) ≤ length (now words) ⌝ }
     ensures { λ _. ⌜ PutAt (now (words .entry)) at (now (run .entry)) (now (words .exit)) ⌝ }
 {
     for j in 0..run.len() {
         words[at + j] = run[j] as u64;
     }
+}
+
+// Puts numbers, then numbers of places or cells, from a word on.
+pub fn put_run(words: &mut [u64], at: usize, numbers: &[u64], indices: &[usize])
+    requires { ⌜ at + length (now numbers) + length (now indices) ≤ length (now words) ⌝ }
+    ensures { λ _. ⌜ PutAt (now (words .entry)) at (now (numbers .entry) ++ now (indices .entry)) (now (words .exit)) ⌝ }
+{
+    put_numbers(words, at, numbers);
+    put_indices(words, at + numbers.len(), indices);
 }
 
 // Sixteen words as numbers of places.

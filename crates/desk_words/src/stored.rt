@@ -2,13 +2,12 @@
 ghost use mathlib.Core.Path.{_≡_};
 ghost use Prim.Native.Nat.{_+_, _≤_, _<_};
 ghost use lib.ListN.{length, replicate};
-ghost use Rattle.definitions.specs.Limits.{desk-places};
+ghost use Rattle.definitions.specs.Limits.{desk-places, stride};
 ghost use Rattle.desk.specs.State.{deskOf, placeIn, FirstFree, HoldsTicket};
-ghost use Rattle.desk_words.specs.Words.{place-words, desk-words, placeWords, placeFrom, Sized, PutAt, frontFrom, deskFrom, seatedIn, DeskPut};
+ghost use Rattle.desk_words.specs.Words.{place-words, desk-words, placeWords, placeFrom, PutAt, frontFrom, deskFrom, seatedIn, DeskPut};
 use crate::runs::cells_at;
 use crate::runs::line_at;
-use crate::runs::put_indices;
-use crate::runs::put_numbers;
+use crate::runs::put_run;
 use desk::calls::no_place;
 use desk::limits::PLACES;
 use desk::state::Front;
@@ -16,23 +15,23 @@ use desk::state::Place;
 use engine::one_trial::Pending;
 use records::limits::STRIDE;
 
-// Where the cells of a place start, and its words; where the line and the places of a desk start, and its words.
-const CELLS: usize = 10;
+// The numbers of a place before its cells, and its words; those of a desk before its line, its words before the places, and its words.
+const PLACE_NUMBERS: usize = 10;
 
-const PLACE_WORDS: usize = CELLS + STRIDE;
+const PLACE_WORDS: usize = PLACE_NUMBERS + STRIDE;
 
-const LINE: usize = 4;
+const FRONT_NUMBERS: usize = 4;
 
-const FIRST_PLACE: usize = 20;
+const FRONT_WORDS: usize = FRONT_NUMBERS + PLACES;
 
-pub const DESK_WORDS: usize = FIRST_PLACE + PLACES * PLACE_WORDS;
+pub const DESK_WORDS: usize = FRONT_WORDS + PLACES * PLACE_WORDS;
 
 // The place in the words from one on.
 fn load_place(words: &[u64], at: usize) -> Place
     requires { ⌜ at + place-words ≤ length (now words) ⌝ }
     ensures { λ r. ⌜ r ≡ placeFrom (now (words .entry)) at ⌝ }
 {
-    let cells = cells_at(words, at + CELLS);
+    let cells = cells_at(words, at + PLACE_NUMBERS);
     let pending = Pending {
         n: words[at + 2] as usize,
         m: words[at + 3] as usize,
@@ -54,7 +53,7 @@ fn load_place(words: &[u64], at: usize) -> Place
 // Stores a place in the words from one on; the others stay.
 fn store_place(words: &mut [u64], at: usize, place: Place)
     requires { ⌜ at + place-words ≤ length (now words) ⌝ }
-    ensures { λ _. ⌜ PutAt (now (words .entry)) at (placeWords place) (now (words .exit)) × Sized place ⌝ }
+    ensures { λ _. ⌜ PutAt (now (words .entry)) at (placeWords place) (now (words .exit)) × (length (place .pending .cells) ≡ stride) ⌝ }
 {
     let pending = place.pending;
     let cells = pending.cells;
@@ -70,8 +69,7 @@ fn store_place(words: &mut [u64], at: usize, place: Place)
         pending.start,
         pending.second,
     ];
-    put_numbers(words, at, &head);
-    put_indices(words, at + CELLS, &cells);
+    put_run(words, at, &head, &cells);
 }
 
 // The front of the desk in the words.
@@ -79,7 +77,7 @@ pub fn load_front(words: &[u64]) -> Front
     requires { ⌜ desk-words ≤ length (now words) ⌝ }
     ensures { λ r. ⌜ r ≡ frontFrom (now (words .entry)) ⌝ }
 {
-    let line = line_at(words, LINE);
+    let line = line_at(words, FRONT_NUMBERS);
     Front {
         given: words[0],
         head: words[1] as usize,
@@ -94,7 +92,7 @@ pub fn place_at(words: &[u64], at: usize) -> Place
     ensures { λ r. ⌜ (at < desk-places → placeIn (deskFrom (now (words .entry))) at ≡ r) ⌝ }
 {
     if at < PLACES {
-        return load_place(words, FIRST_PLACE + at * PLACE_WORDS);
+        return load_place(words, FRONT_WORDS + at * PLACE_WORDS);
     }
     no_place()
 }
@@ -106,7 +104,7 @@ pub fn first_free(words: &[u64]) -> usize
 {
     let mut i = 0;
     while i < PLACES {
-        if words[FIRST_PLACE + i * PLACE_WORDS] == 0 {
+        if words[FRONT_WORDS + i * PLACE_WORDS] == 0 {
             return i;
         }
         i += 1;
@@ -124,7 +122,7 @@ pub fn place_of(words: &[u64], ticket: u64) -> usize
     }
     let mut i = 0;
     while i < PLACES {
-        if words[FIRST_PLACE + i * PLACE_WORDS] == ticket {
+        if words[FRONT_WORDS + i * PLACE_WORDS] == ticket {
             return i;
         }
         i += 1;
@@ -139,9 +137,8 @@ pub fn store(words: &mut [u64], front: Front, at: usize, place: Place, told: u64
 {
     let head = [front.given, front.head as u64, front.waiting as u64, told];
     let line = front.line;
-    put_numbers(words, 0, &head);
-    put_indices(words, LINE, &line);
-    store_place(words, FIRST_PLACE + at * PLACE_WORDS, place);
+    put_run(words, 0, &head, &line);
+    store_place(words, FRONT_WORDS + at * PLACE_WORDS, place);
 }
 
 // Stores a desk on which every place is the same.

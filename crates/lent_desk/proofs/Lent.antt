@@ -1,51 +1,50 @@
 -- What each call over lent words leaves is what the next one asks for: the premise holds after an opening, and after every call.
-use Prim.Native.Nat.{ℕ, suc, _≤_, _<_}
-use mathlib.Core.Path.{_≡_, refl, sym, subst}
+use Prim.Native.Nat.{ℕ, suc}
+use mathlib.Core.Path.{sym, subst}
 use mathlib.Core.List.{List}
 use native.Mathlib.Omega.{arith}
 use lib.ListN.{length}
-use Rattle.definitions.specs.Limits.{desk-memory}
 use Rattle.definitions.specs.Desk as Machine
 use Rattle.definitions.specs.Desk.{FromOpening, Run}
-use Rattle.desk.specs.Calls.{Left}
-use Rattle.desk_words.specs.Words.{desk-words, deskFrom}
-use Rattle.lent_desk.specs.Entries.{AsLent, Stored, OpenedAs, TakenFrom, TakenAs, SteppedFrom, SteppedAs, CollectedFrom, CollectedAs}
+use Rattle.desk.specs.State.{Holds}
+use Rattle.desk_words.specs.Words.{deskFrom}
+use Rattle.lent_desk.specs.Entries.{AsLent, OverLent, Moves, OpenedAs, TakenFrom, TakenAs, SteppedFrom, SteppedAs, CollectedFrom, CollectedAs}
 
-stored-left : {words memory after : List ℕ} {state : Machine.Desk} {told : ℕ} → Stored words memory state told after → FromOpening (length memory) state → Left (deskFrom after) memory
-stored-left {state = state} s o = record { state = state; from-opening = o; holds = rw (s .stored .back) (s .holds) }
+-- Memory and words hold a state that calls lead to.
+held-lent : {memory words : List ℕ} {state : Machine.Desk} → FromOpening (length memory) state → Holds (deskFrom words) memory state → AsLent memory words
+held-lent {state = state} o h = record { left = λ _ _. record { state = state; from-opening = o; holds = h } }
+
+-- A call that changes nothing, or moves the machine.
+moved-lent : {memory words memory′ words′ : List ℕ} {Still : ℕ → Type 0} {From : Machine.Desk → Type 0} → AsLent memory words → OverLent memory words Still (Moves memory words From)
+    → ((k : ℕ) → Still k → AsLent memory′ words′) → ((state : Machine.Desk) → FromOpening (length memory) state → From state → AsLent memory′ words′) → AsLent memory′ words′
+moved-lent lent (OverLent.short h s) still moved = still _ s
+moved-lent lent (OverLent.too-few h f s) still moved = still _ s
+moved-lent lent (OverLent.makes h w m) still moved = let l = lent .left w h in moved (l .state) (l .from-opening) (m l)
 
 pub opened-lent : {memory words after : List ℕ} {number : ℕ} → OpenedAs memory words number after → AsLent memory after
-opened-lent (OpenedAs.short h) = record { left = λ w l. absurd (omega arith) }
-opened-lent (OpenedAs.too-few h f) = record { left = λ w l. absurd (omega arith) }
-opened-lent (OpenedAs.opens w o s) = record { left = λ _ _. stored-left s (record { steps = 0; run = Run.nothing }) }
+opened-lent (OverLent.short h s) = record { left = λ w l. absurd (omega arith) }
+opened-lent (OverLent.too-few h f s) = rw (s .1) (record { left = λ w l. absurd (omega arith) })
+opened-lent (OverLent.makes h w m) = held-lent (record { steps = 0; run = Run.nothing }) (m .2)
 
-taken-next : {memory words p memory′ after : List ℕ} {state : Machine.Desk} {number : ℕ} → AsLent memory words → FromOpening (length memory) state → TakenFrom memory words p state number memory′ after → AsLent memory′ after
-taken-next lent o (TakenFrom.refused t) = lent
-taken-next {memory = memory} lent o (TakenFrom.taken {next = next} t first m e begun others s) =
-    record { left = λ _ _. stored-left s (subst (λ (n : ℕ). FromOpening n next) (sym e) (record { steps = o .steps; run = Run.take-in (o .run) t })) }
+module _ {memory words : List ℕ} (lent : AsLent memory words) where
+  taken-next : {p memory′ after : List ℕ} {number : ℕ} {state : Machine.Desk} → FromOpening (length memory) state → TakenFrom memory words p state number memory′ after → AsLent memory′ after
+  taken-next o (TakenFrom.refused t) = lent
+  taken-next o (TakenFrom.taken t s) = held-lent (subst (λ (n : ℕ). FromOpening n (t .next)) (sym (t .same-length)) (record { steps = o .steps; run = Run.take-in (o .run) (t .takes) })) (t .holds)
 
-pub taken-lent : {memory words p memory′ after : List ℕ} {number : ℕ} → AsLent memory words → TakenAs memory words p number memory′ after → AsLent memory′ after
-taken-lent lent (TakenAs.short h) = lent
-taken-lent lent (TakenAs.too-few h f) = lent
-taken-lent lent (TakenAs.moves h w m) = let l = lent .left w h in taken-next lent (l .from-opening) (m (l .state) (l .from-opening) (l .holds))
+  pub taken-lent : {p memory′ after : List ℕ} {number : ℕ} → TakenAs memory words p number memory′ after → AsLent memory′ after
+  taken-lent t = moved-lent lent t (λ k s. rw (s .1, s .2) lent) (λ state o m. taken-next o m)
 
-stepped-next : {memory words after : List ℕ} {state : Machine.Desk} {number : ℕ} → AsLent memory words → FromOpening (length memory) state → SteppedFrom memory words state number after → AsLent memory after
-stepped-next lent o (SteppedFrom.idle t) = lent
-stepped-next lent o (SteppedFrom.goes-on t tried others s) = record { left = λ _ _. stored-left s (record { steps = suc (o .steps); run = Run.one-step (o .run) t }) }
-stepped-next lent o (SteppedFrom.done t tried others s) = record { left = λ _ _. stored-left s (record { steps = suc (o .steps); run = Run.one-step (o .run) t }) }
+  stepped-next : {after : List ℕ} {number : ℕ} {state : Machine.Desk} → FromOpening (length memory) state → SteppedFrom memory words state number after → AsLent memory after
+  stepped-next o (SteppedFrom.idle t) = lent
+  stepped-next o (SteppedFrom.tried n t s) = held-lent (record { steps = suc (o .steps); run = Run.one-step (o .run) (t .steps) }) (t .holds)
 
-pub stepped-lent : {memory words after : List ℕ} {number : ℕ} → AsLent memory words → SteppedAs memory words number after → AsLent memory after
-stepped-lent lent (SteppedAs.short h) = lent
-stepped-lent lent (SteppedAs.too-few h f) = lent
-stepped-lent lent (SteppedAs.moves h w m) = let l = lent .left w h in stepped-next lent (l .from-opening) (m (l .state) (l .from-opening) (l .holds))
+  pub stepped-lent : {after : List ℕ} {number : ℕ} → SteppedAs memory words number after → AsLent memory after
+  stepped-lent t = moved-lent lent t (λ k s. rw (s .1) lent) (λ state o m. stepped-next o m)
 
-collected-next : {memory words buffer after buffer′ : List ℕ} {state : Machine.Desk} {ticket number : ℕ} → AsLent memory words → FromOpening (length memory) state
-    → CollectedFrom memory words ticket buffer state number after buffer′ → AsLent memory after
-collected-next lent o (CollectedFrom.refused t) = lent
-collected-next lent o (CollectedFrom.still-waits t) = lent
-collected-next lent o (CollectedFrom.handed t freed s) = record { left = λ _ _. stored-left s (record { steps = o .steps; run = Run.collect (o .run) t }) }
+  collected-next : {buffer after buffer′ : List ℕ} {ticket number : ℕ} {state : Machine.Desk} → FromOpening (length memory) state → CollectedFrom memory words ticket buffer state number after buffer′ → AsLent memory after
+  collected-next o (CollectedFrom.refused t) = lent
+  collected-next o (CollectedFrom.still-waits t) = lent
+  collected-next o (CollectedFrom.handed t s) = held-lent (record { steps = o .steps; run = Run.collect (o .run) (t .collects) }) (t .holds)
 
-pub collected-lent : {memory words buffer after buffer′ : List ℕ} {ticket number : ℕ} → AsLent memory words → CollectedAs memory words ticket buffer number after buffer′ → AsLent memory after
-collected-lent lent (CollectedAs.short h) = lent
-collected-lent lent (CollectedAs.too-few h f) = lent
-collected-lent lent (CollectedAs.moves h w m) = let l = lent .left w h in collected-next lent (l .from-opening) (m (l .state) (l .from-opening) (l .holds))
+  pub collected-lent : {buffer after buffer′ : List ℕ} {ticket number : ℕ} → CollectedAs memory words ticket buffer number after buffer′ → AsLent memory after
+  collected-lent t = moved-lent lent t (λ k s. rw (s .1) lent) (λ state o m. collected-next o m)

@@ -3,13 +3,12 @@ use Prim.Native.Nat.{ℕ, _+_, _*_, _≤_, _<_}
 use mathlib.Core.Path.{_≡_}
 use mathlib.Core.List.{List}
 use lib.ListN.{length}
-use Rattle.definitions.specs.Limits.{desk-memory, problem-most, refused-memory}
-use Rattle.definitions.specs.Bytes.{put}
+use Rattle.definitions.specs.Limits.{desk-memory, refused-memory}
 use Rattle.definitions.specs.Tropical.{Trop}
 use Rattle.definitions.specs.Desk as Machine
-use Rattle.definitions.specs.Desk.{FirstEmpty, FromOpening, Opens, TakesIn, Steps, Collects}
-use Rattle.desk.specs.State.{Desk, headOf, OthersStay, Holds}
-use Rattle.desk.specs.Calls.{AsLeft, SearchBegun, HeadTried, FreedAt}
+use Rattle.definitions.specs.Desk.{Opens, TakesIn, Steps, Collects}
+use Rattle.desk.specs.State.{Holds}
+use Rattle.desk.specs.Calls.{Left, AsLeft, TakenAt, HeadTried, FreedAt}
 use Rattle.desk_words.specs.Words.{desk-words, deskFrom, DeskPut}
 
 -- ---- numbers
@@ -38,57 +37,52 @@ pub record AsLent (memory words : List ℕ) : Type 0 where
 
 -- ---- what the calls leave
 
--- The words of a desk that holds this state of the machine, with the ticket that the call tells.
-pub record Stored (words memory : List ℕ) (state : Machine.Desk) (told : ℕ) (after : List ℕ) : Type 0 where
-  pub desk : Desk
-  pub holds : Holds desk memory state
-  pub stored : DeskPut desk told words after
+-- The words hold a desk, with the ticket that the call tells; those behind it are as they were.
+abbrev pub Stored : List ℕ → ℕ → List ℕ → Type 0
+Stored words told after = DeskPut (deskFrom after) told words after
 
--- Opening: 23; 255; or 0, with the words of a desk with nothing on it, whatever memory and words held.
-pub data OpenedAs (memory words : List ℕ) : ℕ → List ℕ → Type 0 where
-  short : length memory < desk-memory → OpenedAs memory words refused-memory words
-  too-few : desk-memory ≤ length memory → length words < desk-words → OpenedAs memory words few-words words
-  opens :
-      {after : List ℕ} → desk-words ≤ length words → Opens (length memory) Machine.ready Machine.opened → Stored words memory Machine.opened 0 after
-      → OpenedAs memory words 0 after
+-- 23 where the memory is too short, 255 where the words are too few, and nothing is changed; else what the call makes of them.
+pub data OverLent (memory words : List ℕ) (Still : ℕ → Type 0) (Made : Type 0) : Type 0 where
+  short : length memory < desk-memory → Still refused-memory → OverLent memory words Still Made
+  too-few : desk-memory ≤ length memory → length words < desk-words → Still few-words → OverLent memory words Still Made
+  makes : desk-memory ≤ length memory → desk-words ≤ length words → Made → OverLent memory words Still Made
+
+-- A call that moves the machine: this holds of every state of it that memory and words can hold.
+abbrev pub Moves : List ℕ → List ℕ → (Machine.Desk → Type 0) → Type 0
+Moves memory words From = (left : Left (deskFrom words) memory) → From (left .state)
+
+-- Opening: 0, with the words of a desk with nothing on it, whatever memory and words held.
+abbrev pub OpenedAs : List ℕ → List ℕ → ℕ → List ℕ → Type 0
+OpenedAs memory words number after = OverLent memory words (λ k. (number ≡ k) × (after ≡ words))
+    ((number ≡ 0) × Opens (length memory) Machine.ready Machine.opened × Holds (deskFrom after) memory Machine.opened × Stored words 0 after)
 
 -- Taking in, from the state of the machine that memory and words hold: the refusal, and both as they were; or 0, with the ticket told, the
 -- problem put into the memory at the first empty place, its search begun there, and every other byte and every other place as it was.
 pub data TakenFrom (memory words p : List ℕ) (state : Machine.Desk) : ℕ → List ℕ → List ℕ → Type 0 where
   refused : {k : ℕ} → TakesIn (length memory) state p (Machine.TakenIn.refused k) state → TakenFrom memory words p state k memory words
   taken :
-      {told at : ℕ} {next : Machine.Desk} {memory′ after : List ℕ} → TakesIn (length memory) state p (Machine.ticket told) next
-      → FirstEmpty state at → memory′ ≡ put memory (at * problem-most) p → length memory′ ≡ length memory → SearchBegun p at (deskFrom after)
-      → OthersStay (deskFrom words) at (deskFrom after) → Stored words memory′ next told after → TakenFrom memory words p state 0 memory′ after
+      {told at : ℕ} {memory′ after : List ℕ} → TakenAt (deskFrom words) memory p state at told (deskFrom after) memory′ → Stored words told after
+      → TakenFrom memory words p state 0 memory′ after
 
-pub data TakenAs (memory words p : List ℕ) : ℕ → List ℕ → List ℕ → Type 0 where
-  short : length memory < desk-memory → TakenAs memory words p refused-memory memory words
-  too-few : desk-memory ≤ length memory → length words < desk-words → TakenAs memory words p few-words memory words
-  moves :
-      {number : ℕ} {memory′ after : List ℕ} → desk-memory ≤ length memory → desk-words ≤ length words
-      → ((state : Machine.Desk) → FromOpening (length memory) state → Holds (deskFrom words) memory state → TakenFrom memory words p state number memory′ after)
-      → TakenAs memory words p number memory′ after
+abbrev pub TakenAs : List ℕ → List ℕ → List ℕ → ℕ → List ℕ → List ℕ → Type 0
+TakenAs memory words p number memory′ after = OverLent memory words (λ k. (number ≡ k) × (memory′ ≡ memory) × (after ≡ words))
+    (Moves memory words (λ state. TakenFrom memory words p state number memory′ after))
+
+-- The ticket and the number that a step's answer tells.
+pub data Tells : Machine.Stepped → ℕ → ℕ → Type 0 where
+  goes-on : {told : ℕ} → Tells (Machine.goes-on told) told goes-on-number
+  done : {told : ℕ} → Tells (Machine.done told) told done-number
 
 -- A step: 0 and the words as they were where none waits; else 256 or 512, with the ticket told, the head's place after its next trial, and
 -- every other as it was.
 pub data SteppedFrom (memory words : List ℕ) (state : Machine.Desk) : ℕ → List ℕ → Type 0 where
   idle : Steps (length memory) state Machine.none-waits state → SteppedFrom memory words state 0 words
-  goes-on :
-      {told : ℕ} {next : Machine.Desk} {after : List ℕ} → Steps (length memory) state (Machine.goes-on told) next
-      → HeadTried (deskFrom words) memory (deskFrom after) → OthersStay (deskFrom words) (headOf (deskFrom words)) (deskFrom after) → Stored words memory next told after
-      → SteppedFrom memory words state goes-on-number after
-  done :
-      {told : ℕ} {next : Machine.Desk} {after : List ℕ} → Steps (length memory) state (Machine.done told) next
-      → HeadTried (deskFrom words) memory (deskFrom after) → OthersStay (deskFrom words) (headOf (deskFrom words)) (deskFrom after) → Stored words memory next told after
-      → SteppedFrom memory words state done-number after
+  tried :
+      {r : Machine.Stepped} {told number : ℕ} {after : List ℕ} → Tells r told number → HeadTried (deskFrom words) memory state r (deskFrom after) → Stored words told after
+      → SteppedFrom memory words state number after
 
-pub data SteppedAs (memory words : List ℕ) : ℕ → List ℕ → Type 0 where
-  short : length memory < desk-memory → SteppedAs memory words refused-memory words
-  too-few : desk-memory ≤ length memory → length words < desk-words → SteppedAs memory words few-words words
-  moves :
-      {number : ℕ} {after : List ℕ} → desk-memory ≤ length memory → desk-words ≤ length words
-      → ((state : Machine.Desk) → FromOpening (length memory) state → Holds (deskFrom words) memory state → SteppedFrom memory words state number after)
-      → SteppedAs memory words number after
+abbrev pub SteppedAs : List ℕ → List ℕ → ℕ → List ℕ → Type 0
+SteppedAs memory words number after = OverLent memory words (λ k. (number ≡ k) × (after ≡ words)) (Moves memory words (λ state. SteppedFrom memory words state number after))
 
 -- Collecting: the refusal, or 0 where the ticket still waits, and words and buffer as they were; or class and own trials, with the record at
 -- the buffer's start, the place empty, and every other as it was.
@@ -99,15 +93,10 @@ pub data CollectedFrom (memory words : List ℕ) (ticket : ℕ) (buffer : List �
   still-waits :
       Collects (length memory) state ticket buffer Machine.still-waits state buffer → CollectedFrom memory words ticket buffer state 0 words buffer
   handed :
-      {class own size : ℕ} {span : Trop} {next : Machine.Desk} {after buffer′ : List ℕ}
-      → Collects (length memory) state ticket buffer (Machine.collected class span own size) next buffer′
-      → FreedAt (deskFrom words) ticket (deskFrom after) → Stored words memory next ticket after
+      {class own size at : ℕ} {span : Trop} {after buffer′ : List ℕ}
+      → FreedAt (deskFrom words) memory state ticket buffer at (Machine.collected class span own size) (deskFrom after) buffer′ → Stored words ticket after
       → CollectedFrom memory words ticket buffer state (handedNumber class own) after buffer′
 
-pub data CollectedAs (memory words : List ℕ) (ticket : ℕ) (buffer : List ℕ) : ℕ → List ℕ → List ℕ → Type 0 where
-  short : length memory < desk-memory → CollectedAs memory words ticket buffer refused-memory words buffer
-  too-few : desk-memory ≤ length memory → length words < desk-words → CollectedAs memory words ticket buffer few-words words buffer
-  moves :
-      {number : ℕ} {after buffer′ : List ℕ} → desk-memory ≤ length memory → desk-words ≤ length words
-      → ((state : Machine.Desk) → FromOpening (length memory) state → Holds (deskFrom words) memory state → CollectedFrom memory words ticket buffer state number after buffer′)
-      → CollectedAs memory words ticket buffer number after buffer′
+abbrev pub CollectedAs : List ℕ → List ℕ → ℕ → List ℕ → ℕ → List ℕ → List ℕ → Type 0
+CollectedAs memory words ticket buffer number after buffer′ = OverLent memory words (λ k. (number ≡ k) × (after ≡ words) × (buffer′ ≡ buffer))
+    (Moves memory words (λ state. CollectedFrom memory words ticket buffer state number after buffer′))

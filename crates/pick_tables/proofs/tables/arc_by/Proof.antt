@@ -11,5 +11,5 @@ arc-by-spec =
     (λ c. search needs)
     (λ c. search needs)
     (λ c. search needs)
-    (λ c. arc-picked _ _ _ _ (c .before .if1 .taken))
-    (λ c. arc-none _ _ _ _ (c .if1 .left)))
+    (λ c. search arc-picked)
+    (λ c. search arc-none))

@@ -33,4 +33,4 @@ best-spec =
     (λ c. let a = c .before .before .before .before .before .before .args in
     let e = c .before .plus .ensures in
     (omega arith, highest-on (a .right .now) (a .row) (a .x .now) (a .width) _ _ _ _ _ (c .before .before .before .before .before .loop .inv .1) (c .before .before .before .before .loop-test .taken) (⊎-elim (λ w. inl (omega (arith, e, w .0 .taken), w .1 ∙ e, w .2)) (λ w. inr (omega (arith, e, w .0 .left), w .1, w .2)) (c .if1 .came))))
-    (λ c. highest-end _ _ _ _ _ _ _ (c .before .before .pre .2) (c .before .before .pre .3) (c .before .loop .inv .1) (c .loop-test .left)))
+    (λ c. search highest-end))

@@ -29,6 +29,5 @@ fill-variable-spec =
     (λ c. search needs)
     (λ c. search needs)
     (λ c. omega arith)
-    (λ c. let a = c .before .before .before .before .args in
-    (omega arith, arcs-more (a .right .now) (a .picks .now) (a .rows) (a .j) (c .before .before .loop .l) (c .before .before .loop .inv .1) (omega arith) (omega arith) (c .arc-by .ensures)))
+    (λ c. (omega arith, search (arcs-more, arith)))
     (λ c. filled-end (c .before .loop .inv .1) (omega arith) (omega arith)))

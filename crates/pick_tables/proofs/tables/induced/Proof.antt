@@ -19,10 +19,10 @@ induced-spec =
     Inv-loop
     μ-loop
     (λ c. (omega arith, filled-none 64))
-    (λ c κs. (omega arith, omega arith, c .before .before .pre .2, c .before .before .pre .3))
+    (λ c κs. search needs)
     (λ c. search needs)
     (λ c. search needs)
     (λ c. search needs)
     (λ c. search needs)
     (λ c. (omega arith, filled-more (c .before .before .loop .inv .1) (omega arith) (c .best .ensures)))
-    (λ c. filled-end (c .before .loop .inv .1) (c .before .loop .inv .0) (c .loop-test .left)))
+    (λ c. search filled-end))

@@ -24,7 +24,7 @@ row-arcs-spec =
     (λ c. search needs)
     (λ c. search needs)
     (λ c. search needs)
-    (λ c κs. (c .before .before .before .before .loop .inv .1 .size-is, omega arith, omega arith, omega arith, omega arith))
+    (λ c κs. search needs)
     (λ c. search needs)
     (λ c. omega arith)
     (λ c. (

@@ -28,4 +28,4 @@ shown-rows-spec =
     (λ c. search needs)
     (λ c. search needs)
     (λ c. (omega arith, filled-more (c .before .before .before .before .loop .inv .1) (omega arith) (record { mark = c .before .before .used .result; used = c .before .before .used .ensures; is = c .shown .ensures })))
-    (λ c. filled-end (c .before .loop .inv .1) (c .before .loop .inv .0) (c .loop-test .left)))
+    (λ c. search filled-end))

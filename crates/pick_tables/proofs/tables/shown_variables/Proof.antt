@@ -28,4 +28,4 @@ shown-variables-spec =
     (λ c. search needs)
     (λ c. search needs)
     (λ c. (omega arith, filled-more (c .before .before .before .before .loop .inv .1) (omega arith) (c .shown .ensures)))
-    (λ c. filled-end (c .before .loop .inv .1) (c .before .loop .inv .0) (c .loop-test .left)))
+    (λ c. search filled-end))

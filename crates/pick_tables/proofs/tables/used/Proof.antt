@@ -27,7 +27,7 @@ used-spec =
     (λ c. search needs)
     (λ c. search needs)
     (λ c κs. search needs)
-    (λ c. let a = c .before .before .before .before .before .before .args in used-found (a .left .now) (a .marks .now) (a .width) (a .i) (c .before .before .before .before .before .loop .j) _ (c .before .before .before .before .loop-test .taken) (c .before .both .ensures) (c .if1 .taken))
+    (λ c. search used-found)
     (λ c. search needs)
     (λ c. search needs)
     (λ c. (omega arith, below-more _ _ (c .before .before .before .before .before .loop .inv .1) (c .before .both .ensures .no (c .if1 .left))))

@@ -19,7 +19,7 @@ variable-arcs-spec =
     Inv-loop
     μ-loop
     (λ c. (omega arith, filled-none 1024))
-    (λ c κs. (omega arith, omega arith, omega arith, omega arith, c .before .before .loop .inv .1))
+    (λ c κs. search needs)
     (λ c. search needs)
     (λ c. omega arith)
     (λ c. (omega arith, filled-end (c .fill-variable .ensures) (omega arith) (omega arith)))
