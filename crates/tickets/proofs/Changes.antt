@@ -122,8 +122,8 @@ given-run s h (collect run (Desks.Collects.turned-away g)) = given-run s h run
 given-run s h (collect run (Desks.Collects.no-such-ticket g n)) = given-run s h run
 given-run s h (collect run (Desks.Collects.waits-yet g st)) = given-run s h run
 given-run s h (collect run (Desks.Collects.short-buffer g st b)) = given-run s h run
-given-run s h (collect run (handed-over {i = i} g st b)) =
-    let z = sound-run run s in each-moved _ _ i _ z (beyond-empty _ i (z .sixteen) (λ e. empty-not-answered (sym e ∙ st .is))) given-empty (given-run s h run)
+given-run s h (collect {e = e} run (handed-over {i = i} g st b)) =
+    let z = sound-run run s in each-moved _ _ i _ z (beyond-empty e i (z .sixteen) (λ n. empty-not-answered (sym n ∙ st .is))) given-empty (given-run s h run)
 
 of-answered : {number class own : ℕ} {span : Trop} {problem : List ℕ} {a : Answer} {Gives : Giving} → Given Gives (answered number problem class span own a) → Gives problem a
 of-answered (given-answered g) = g
