@@ -5,11 +5,10 @@ use mathlib.Core.Logic.{_⊎_, ⊎-elim}
 use mathlib.Core.Bool.{Bool, cond}
 use mathlib.Core.List.{List, [], _∷_, _++_}
 use native.Mathlib.Omega.{arith}
-use native.Mathlib.Decide.{ℕ-discrete}
 use borrow.Author.Tests.{lt-ltb}
 use lib.ListN.{length, set}
 use Rattle.base.proofs.Numbers.{nat-le-or-lt}
-use Rattle.definitions.specs.Limits.{desk-places, desk-memory, answer-most, refused-ticket, refused-room, refused-memory}
+use Rattle.definitions.specs.Limits.{desk-memory, answer-most, refused-ticket, refused-room, refused-memory}
 use Rattle.definitions.specs.Tropical.{Trop}
 use Rattle.definitions.specs.Bytes.{first}
 use Rattle.definitions.specs.ProblemRecord.{problemOf, meant, nField, mField}
@@ -20,7 +19,7 @@ use Rattle.definitions.specs.DeskLaws.{TellsWaiting, NoneWaiting, OneOutcome}
 use Rattle.definitions.specs.Desk as Desks
 use Rattle.definitions.proofs.Refusals.{or-else-suc, or-else-none}
 use Rattle.duality.proofs.Classes.{found-one}
-use Rattle.tickets.proofs.Sound.{Sound, empty-not-waits, empty-not-answered, answered-not-waits, same-number, same-problem, same-own, waiting-inside, moved, here, elsewhere, from-opening-sound}
+use Rattle.tickets.proofs.Sound.{empty-not-waits, empty-not-answered, answered-not-waits, same-number, same-problem, same-own, from-opening-sound}
 use Rattle.tickets.proofs.Tickets.{from-opening-apart}
 
 -- ---- opening and taking in
