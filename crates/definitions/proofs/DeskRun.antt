@@ -57,7 +57,7 @@ place-held places (suc k) b e = omega arith
 
 pub second-in : TakesIn desk-memory (deskWith 1 (0 ∷ []) (firstWaits 0) empty) second (ticket 2) (deskWith 2 (0 ∷ 1 ∷ []) (firstWaits 0) secondWaits)
 unfolding takeRefusal held ticketOf
-second-in = taken {i = 1} (rw second-within refl) (record { inside = omega arith; is-empty = refl; before = place-held (replicate 15 empty) })
+second-in = taken {i = 1} (rw second-within refl) (record { inside = omega arith; is-empty = refl; before = λ k b e. place-held (replicate 15 empty) k (omega arith) e })
 
 -- ---- steps
 
@@ -102,6 +102,10 @@ short-opening (Desks.Opens.turned-away h) = ap (λ (k : ℕ). Desks.Opening.refu
 short-opening (Desks.Opens.opens h) = absurd (omega arith)
 
 -- Also where the problem is refused,
+pub short-and-refused : takeRefusal 262303 opened (14 ∷ []) ≡ 23
+unfolding takeRefusal refusalFor headerRefusal headerJudged
+short-and-refused = refl
+
 pub short-taking : (d : Desk) (p : List ℕ) → takeRefusal 262303 d p ≡ 23
 unfolding takeRefusal
 short-taking d p = refl
@@ -127,9 +131,9 @@ unfoldable pub full : Desk
 full = record { given = 16; line = listOf (λ i. i) 16; places = listOf (λ i. waits (suc i) (meant []) 0) 16 }
 
 -- A problem that the desk takes gets 21; one of a single byte gets its own refusal, 1.
-pub full-good : TakesIn desk-memory full [] (Desks.TakenIn.refused 21) full
-unfolding full listOf takeRefusal held ticketOf
-full-good = Desks.TakesIn.turned-away {k = 20} (rw first-within refl)
+pub full-good : TakesIn desk-memory full second (Desks.TakenIn.refused 21) full
+unfolding full second example-A listOf takeRefusal held ticketOf refusalFor headerRefusal headerJudged leadsOf numAt numsAt all blank-or-within tropField signed some-below
+full-good = Desks.TakesIn.turned-away refl
 
 pub full-refused : TakesIn desk-memory full (14 ∷ []) (Desks.TakenIn.refused 1) full
 unfolding full listOf takeRefusal held ticketOf refusalFor headerRefusal headerJudged
