@@ -114,7 +114,7 @@ pub record DeskHolds (Gives : Giving) : Type 0 where
       {memory : ℕ} {d e f : Desk} {p : List ℕ} {number k : ℕ} → FromOpening Gives memory d → TakesIn memory d p (ticket number) e
       → Run Gives memory e k f → {i class own : ℕ} {span : Trop} {problem : List ℕ} {a : Answer}
       → Stands f i (answered number problem class span own a) → problem ≡ meant p
-  -- the answer is the one that the engine gives for that problem alone, which is one that the desk takes;
+  -- the answer is one that the engine may give, and gives, for that problem alone, which is one that the desk takes;
   pub answers-alone :
       {memory : ℕ} {d : Desk} → FromOpening Gives memory d → {i number class own : ℕ} {span : Trop} {problem : List ℕ} {a : Answer}
       → Stands d i (answered number problem class span own a) → WithinDesk problem × Answers (problemOf problem) class span own a × Gives problem a
