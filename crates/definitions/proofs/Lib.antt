@@ -36,3 +36,4 @@ pub mod Marks
 pub mod Merging
 pub mod ReasonsFacts
 pub mod DeskFacts
+pub mod DeskRun

@@ -10,7 +10,7 @@ use Rattle.definitions.specs.Tropical.{Trop}
 use Rattle.definitions.specs.Bytes.{Clause, first, or-else}
 use Rattle.definitions.specs.ProblemRecord.{desk-kinds, refusalFor, problemOf, meant, nField, mField}
 use Rattle.definitions.specs.AnswerRecord.{Answer, answerSize, answerBytes, written}
-use Rattle.definitions.specs.Solved.{Found, Answers}
+use Rattle.definitions.specs.Solved.{Found, Answers, Giving}
 
 -- Each call is a move from a desk to the next (`Opens`, `TakesIn`, `Steps`, `Collects`) with what it answers (`Opening`, `TakenIn`, `Stepped`,
 -- `Collected`).
@@ -121,21 +121,21 @@ pub data Stepped : Type 0 where
 
 -- A step makes the next trial of the problem at the head of the line, and the state counts it. The problem's class and span give how many
 -- trials it takes (1 for none, 2 for bottomless, 2 + the halvings for least): at the last of them it is answered and leaves the line, at
--- another it goes to the end of the line. The other places stay as they are.
-pub data Steps (memory : ℕ) (d : Desk) : Stepped → Desk → Type 0 where
-  turned-away : {k : ℕ} → first (memoryRefused memory ∷ []) ≡ suc k → Steps memory d (refused (suc k)) d
-  idle : first (memoryRefused memory ∷ []) ≡ 0 → d .line ≡ [] → Steps memory d none-waits d
+-- another it goes to the end of the line. The answer is one that the engine gives for the problem (`Gives`). The other places stay as they are.
+pub data Steps (Gives : Giving) (memory : ℕ) (d : Desk) : Stepped → Desk → Type 0 where
+  turned-away : {k : ℕ} → first (memoryRefused memory ∷ []) ≡ suc k → Steps Gives memory d (refused (suc k)) d
+  idle : first (memoryRefused memory ∷ []) ≡ 0 → d .line ≡ [] → Steps Gives memory d none-waits d
   one-more :
       {i number own class trials : ℕ} {span : Trop} {problem rest : List ℕ} → first (memoryRefused memory ∷ []) ≡ 0
       → d .line ≡ i ∷ rest → Stands d i (waits number problem own)
       → Found (problemOf problem) class span trials → suc own < trials
-      → Steps memory d (goes-on number)
+      → Steps Gives memory d (goes-on number)
       (record { given = d .given; line = rest ++ (i ∷ []); places = set (d .places) i (waits number problem (suc own)) })
   last-one :
       {i number own class trials : ℕ} {span : Trop} {problem rest : List ℕ} {a : Answer} → first (memoryRefused memory ∷ []) ≡ 0
       → d .line ≡ i ∷ rest → Stands d i (waits number problem own)
-      → suc own ≡ trials → Answers (problemOf problem) class span trials a
-      → Steps memory d (done number)
+      → suc own ≡ trials → Answers (problemOf problem) class span trials a → Gives problem a
+      → Steps Gives memory d (done number)
       (record { given = d .given; line = rest; places = set (d .places) i (answered number problem class span trials a) })
 
 -- ---- collecting
@@ -174,15 +174,15 @@ pub data Collects (memory : ℕ) (d : Desk) (number : ℕ) (buffer : List ℕ) :
 
 -- Every sequence of takings-in, steps and collections that leads from one state to another, with a memory of so many bytes; the number counts
 -- its steps, also those with none waiting.
-pub data Run (memory : ℕ) : Desk → ℕ → Desk → Type 0 where
-  nothing : {d : Desk} → Run memory d 0 d
-  take-in : {d e f : Desk} {k : ℕ} {p : List ℕ} {r : TakenIn} → Run memory d k e → TakesIn memory e p r f → Run memory d k f
-  one-step : {d e f : Desk} {k : ℕ} {r : Stepped} → Run memory d k e → Steps memory e r f → Run memory d (suc k) f
+pub data Run (Gives : Giving) (memory : ℕ) : Desk → ℕ → Desk → Type 0 where
+  nothing : {d : Desk} → Run Gives memory d 0 d
+  take-in : {d e f : Desk} {k : ℕ} {p : List ℕ} {r : TakenIn} → Run Gives memory d k e → TakesIn memory e p r f → Run Gives memory d k f
+  one-step : {d e f : Desk} {k : ℕ} {r : Stepped} → Run Gives memory d k e → Steps Gives memory e r f → Run Gives memory d (suc k) f
   collect :
-      {d e f : Desk} {k number : ℕ} {before after : List ℕ} {r : Collected} → Run memory d k e → Collects memory e number before r f after
-      → Run memory d k f
+      {d e f : Desk} {k number : ℕ} {before after : List ℕ} {r : Collected} → Run Gives memory d k e → Collects memory e number before r f after
+      → Run Gives memory d k f
 
 -- A state that some sequence of calls leads to from an opening on; with a memory that is too short only the opened state is one.
-pub record FromOpening (memory : ℕ) (d : Desk) : Type 0 where
+pub record FromOpening (Gives : Giving) (memory : ℕ) (d : Desk) : Type 0 where
   pub steps : ℕ
-  pub run : Run memory opened steps d
+  pub run : Run Gives memory opened steps d

@@ -55,6 +55,15 @@ pub record Answers (p : Problem) (class : ℕ) (span : Trop) (trials : ℕ) (a :
   pub idle-rows : class ≡ class-unbounded → (k : ℕ) → a .start ≡ suc k → IdleRows (AnchorAnd k) p (strategyOf (a .picks))
   pub accepted : Accepted p a
 
+-- What the engine gives for a record: a relation between records and answers, of which nothing else is known here. Document 02, 2.1 ("the
+-- answer to a kind 1 problem").
+abbrev pub Giving : Type 1
+Giving = List ℕ → Answer → Type 0
+
+-- It gives at most one answer for a record. Document 02, 2.11 ("a problem's answer does not depend on the others").
+pub record OneValued (Gives : Giving) : Type 0 where
+  pub one : (p : List ℕ) (a b : Answer) → Gives p a → Gives p b → a ≡ b
+
 -- The answers to the first questions of a record of several, one after another: their bytes, and the sum of their trials. Each is one
 -- that the engine may give to the kind 1 problem with its question alone.
 pub data AnswersInTurn (p : List ℕ) : ℕ → List ℕ → ℕ → Type 0 where

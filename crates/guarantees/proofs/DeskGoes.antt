@@ -15,18 +15,15 @@ use Rattle.definitions.specs.Tropical.{Trop}
 use Rattle.definitions.specs.Bytes.{first, or-else}
 use Rattle.definitions.specs.ProblemRecord.{problemOf, meant}
 use Rattle.definitions.specs.AnswerRecord.{Answer}
-use Rattle.definitions.specs.Solved.{Found}
-use Rattle.definitions.specs.Desk.{memoryRefused, fullRefused, deskRefusal, Place, empty, waits, answered, Desk, opened, placeAt, Stands, ticketOf, held, TakesIn, taken, takeRefusal, Steps, one-more, last-one, NotHeld, Collects, handed-over, FromOpening}
-use Rattle.definitions.specs.DeskLaws.{SomeOpening, SomeTaking, SomeStep, SomeCollecting, NeverStuck}
+use Rattle.definitions.specs.Solved.{Found, Giving}
+use Rattle.definitions.specs.Desk.{memoryRefused, fullRefused, deskRefusal, Place, empty, waits, answered, Desk, opened, placeAt, Stands, ticketOf, held, WithinDesk, TakesIn, taken, takeRefusal, Steps, one-more, last-one, NotHeld, Collects, handed-over, FromOpening}
+use Rattle.definitions.specs.DeskLaws.{SomeOpening, SomeTaking, SomeStep, SomeCollecting, SomeGiven, NeverStuck}
 use Rattle.definitions.specs.Desk as Desks
 use Rattle.definitions.proofs.Refusals.{or-else-none}
-use Rattle.definitions.proofs.Layouts.{problem-fits, desk-within}
-use Rattle.duality.proofs.SmallLeads.{layout-within}
 use Rattle.duality.proofs.Classes.{found-one}
 use Rattle.tickets.proofs.Line.{At}
 use Rattle.tickets.proofs.Sound.{found-some, Sound, Waiting, empty-not-waits, empty-not-answered, waits-fit, beyond-empty, sound-opened, sixteen-empty, from-opening-sound}
 use Rattle.tickets.proofs.Changes.{Becomes, enters, goes-on, closes, frees, Each, each-run}
-use Rattle.guarantees.proofs.Solvable.{SomeAnswer, answer-exists}
 
 -- ---- what holds of every place
 
@@ -48,7 +45,7 @@ going-becomes given was p l (goes-on {own = own} found more) g = going-waits {ow
 going-becomes given was p l closes g = going-answered (of-waits g .0)
 going-becomes given was p l frees g = going-empty
 
-from-opening-going : {memory : ℕ} {d : Desk} → FromOpening memory d → Each Going d
+from-opening-going : {memory : ℕ} {d : Desk} {Gives : Giving} → FromOpening Gives memory d → Each Going d
 from-opening-going o = each-run 0 (omega arith) going-becomes sound-opened (record { at = λ i. rw (sixteen-empty i) going-empty }) (o .run)
 
 -- ---- taking in
@@ -97,7 +94,7 @@ room-left memory {d} p s g h =
     (λ (l : held (d .places) < desk-places). empty-in (d .places) (g .at) (omega (arith, s .sixteen)))
     (nat-le-or-lt desk-places (held (d .places)))
 
-some-taking : {memory : ℕ} {d : Desk} → FromOpening memory d → (p : List ℕ) → SomeTaking memory d p
+some-taking : {memory : ℕ} {d : Desk} {Gives : Giving} → FromOpening Gives memory d → (p : List ℕ) → SomeTaking memory d p
 some-taking {memory} {d} o p = go (takeRefusal memory d p) refl
   where
     go : (k : ℕ) → takeRefusal memory d p ≡ k → SomeTaking memory d p
@@ -110,34 +107,33 @@ some-taking {memory} {d} o p = go (takeRefusal memory d p) refl
 -- ---- a step
 
 -- The next trial of a problem at the head, whose class and span ask for one more at least.
-next-step : {memory i number own : ℕ} {d : Desk} {problem rest : List ℕ} → first (memoryRefused memory ∷ []) ≡ 0 → d .line ≡ i ∷ rest → Stands d i (waits number problem own)
-    → (a : SomeAnswer (problemOf problem)) → own < a .trials → SomeStep memory d
+next-step : {memory i number own : ℕ} {d : Desk} {problem rest : List ℕ} {Gives : Giving} → first (memoryRefused memory ∷ []) ≡ 0 → d .line ≡ i ∷ rest → Stands d i (waits number problem own)
+    → (a : SomeGiven Gives problem) → own < a .trials → SomeStep Gives memory d
 next-step {own = own} enough head there a more = ⊎-elim
-    (λ (l : a .trials ≤ suc own). record { result = _; next = _; moves = last-one enough head there (omega arith) (a .answers) })
+    (λ (l : a .trials ≤ suc own). record { result = _; next = _; moves = last-one enough head there (omega arith) (a .answers) (a .gives) })
     (λ (l : suc own < a .trials). record { result = _; next = _; moves = one-more enough head there (a .answers .found) l })
     (nat-le-or-lt (a .trials) (suc own))
 
-head-step : {memory i : ℕ} {d : Desk} {rest : List ℕ} → FromOpening memory d → first (memoryRefused memory ∷ []) ≡ 0 → d .line ≡ i ∷ rest → SomeStep memory d
-unfolding problemOf
-head-step {memory} {i} {d} {rest} o enough head =
-    let s = from-opening-sound o in
-    let at : At (d .line) i 0 = rw head (record { inside = omega arith; is = refl }) in
-    let w : Waiting d i = s .line .wait at in
-    let within = desk-within (w .problem) (waits-fit s (w .there) .0) in
-    let more = of-waits (subst Going (w .there .is) (from-opening-going o .at i)) .1 in
-    let go : SomeAnswer (problemOf (w .problem)) → SomeStep memory d = λ a. next-step enough head (w .there) a (more (a .class) (a .trials) (a .span) (a .answers .found)) in
-    go (answer-exists (problemOf (w .problem)) (problem-fits (w .problem) within .n-most) (layout-within (w .problem) within))
+module _ {memory : ℕ} {d : Desk} {Gives : Giving} (given : (p : List ℕ) → WithinDesk p → SomeGiven Gives p) (o : FromOpening Gives memory d) where
+  head-step : {i : ℕ} {rest : List ℕ} → first (memoryRefused memory ∷ []) ≡ 0 → d .line ≡ i ∷ rest → SomeStep Gives memory d
+  head-step {i} {rest} enough head =
+      let s = from-opening-sound o in
+      let at : At (d .line) i 0 = rw head (record { inside = omega arith; is = refl }) in
+      let w : Waiting d i = s .line .wait at in
+      let more = of-waits (subst Going (w .there .is) (from-opening-going o .at i)) .1 in
+      let a : SomeGiven Gives (w .problem) = given (w .problem) (waits-fit s (w .there) .0) in
+      next-step enough head (w .there) a (more (a .class) (a .trials) (a .span) (a .answers .found))
 
-some-step : {memory : ℕ} {d : Desk} → FromOpening memory d → SomeStep memory d
-some-step {memory} {d} o = go (first (memoryRefused memory ∷ [])) refl
-  where
-    line : first (memoryRefused memory ∷ []) ≡ 0 → (l : List ℕ) → d .line ≡ l → SomeStep memory d
-    line enough [] e = record { result = _; next = d; moves = Steps.idle enough e }
-    line enough (i ∷ rest) e = head-step o enough e
+  some-step : SomeStep Gives memory d
+  some-step = go (first (memoryRefused memory ∷ [])) refl
+    where
+      line : first (memoryRefused memory ∷ []) ≡ 0 → (l : List ℕ) → d .line ≡ l → SomeStep Gives memory d
+      line enough [] e = record { result = _; next = d; moves = Steps.idle enough e }
+      line enough (i ∷ rest) e = head-step enough e
 
-    go : (k : ℕ) → first (memoryRefused memory ∷ []) ≡ k → SomeStep memory d
-    go zero e = line e (d .line) refl
-    go (suc k) e = record { result = _; next = d; moves = Steps.turned-away e }
+      go : (k : ℕ) → first (memoryRefused memory ∷ []) ≡ k → SomeStep Gives memory d
+      go zero e = line e (d .line) refl
+      go (suc k) e = record { result = _; next = d; moves = Steps.turned-away e }
 
 -- ---- collecting
 
@@ -166,7 +162,7 @@ holder-below d number (suc n) = ⊎-elim (λ h. inl h) (λ none. here-or none (p
     here-or none (waits t q own) e (yes k) = inl (record { place = n; some = λ z. empty-not-waits (sym z ∙ e); is = k })
     here-or none (answered t q class span own a) e (yes k) = inl (record { place = n; some = λ z. empty-not-answered (sym z ∙ e); is = k })
 
-module _ {memory : ℕ} {d : Desk} (o : FromOpening memory d) (number : ℕ) (buffer : List ℕ) (enough : first (memoryRefused memory ∷ []) ≡ 0) where
+module _ {memory : ℕ} {d : Desk} {Gives : Giving} (o : FromOpening Gives memory d) (number : ℕ) (buffer : List ℕ) (enough : first (memoryRefused memory ∷ []) ≡ 0) where
   none-held : ((i : ℕ) → i < desk-places → (placeAt d i ≡ empty → ⊥) → ticketOf (placeAt d i) ≡ number → ⊥) → NotHeld d number
   none-held none i some is = none i (beyond-empty d i (from-opening-sound o .sixteen) some) some is
 
@@ -190,7 +186,7 @@ module _ {memory : ℕ} {d : Desk} (o : FromOpening memory d) (number : ℕ) (bu
   enough-collects : SomeCollecting memory d number buffer
   enough-collects = ⊎-elim held-collects (λ none. record { result = _; next = d; after = buffer; moves = Collects.no-such-ticket enough (none-held none) }) (holder-below d number desk-places)
 
-some-collecting : {memory : ℕ} {d : Desk} → FromOpening memory d → (number : ℕ) (buffer : List ℕ) → SomeCollecting memory d number buffer
+some-collecting : {memory : ℕ} {d : Desk} {Gives : Giving} → FromOpening Gives memory d → (number : ℕ) (buffer : List ℕ) → SomeCollecting memory d number buffer
 some-collecting {memory} {d} o number buffer = go (first (memoryRefused memory ∷ [])) refl
   where
     go : (k : ℕ) → first (memoryRefused memory ∷ []) ≡ k → SomeCollecting memory d number buffer
@@ -206,5 +202,5 @@ some-opening memory = go (first (memoryRefused memory ∷ [])) refl
     go zero e = record { result = _; next = opened; moves = Desks.opens e }
     go (suc k) e = record { result = _; next = opened; moves = Desks.Opens.turned-away e }
 
-pub never-stuck : NeverStuck
+pub never-stuck : {Gives : Giving} → NeverStuck Gives
 never-stuck = record { opening = some-opening; taking-in = some-taking; stepping = some-step; collecting = some-collecting }

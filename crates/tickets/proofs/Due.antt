@@ -9,7 +9,7 @@ use lib.ListN.{length}
 use Rattle.definitions.specs.Limits.{desk-places}
 use Rattle.definitions.specs.Tropical.{Trop}
 use Rattle.definitions.specs.ProblemRecord.{problemOf, meant}
-use Rattle.definitions.specs.Solved.{Found}
+use Rattle.definitions.specs.Solved.{Found, Giving}
 use Rattle.definitions.specs.Bytes.{first, or-else}
 use Rattle.definitions.specs.Desk.{memoryRefused, fullRefused, deskRefusal, Place, empty, waits, answered, Desk, placeAt, Stands, ticketOf, TakenIn, TakesIn, taken, takeRefusal, Stepped, Steps, one-more, last-one, Collected, Collects, handed-over, Run, nothing, take-in, one-step, collect, FromOpening}
 use Rattle.definitions.specs.Desk as Desks
@@ -44,7 +44,7 @@ module _ {memory : ℕ} {d : Desk} {number trials passed most : ℕ} (s : Sound 
           let o = owed .due (record { is = sym (elsewhere d (suc (d .given)) (d .line ++ (i ∷ [])) i (waits (suc (d .given)) (meant p) 0) j n) ∙ st .is }) in
           (o .0, at-kept i (o .1), o .2)
 
-  due-stepped : {e : Desk} {r : Stepped} → Asks d number trials → first (memoryRefused memory ∷ []) ≡ 0 → Steps memory d r e → Due e number trials (suc passed) most
+  due-stepped : {e : Desk} {r : Stepped} {Gives : Giving} → Asks d number trials → first (memoryRefused memory ∷ []) ≡ 0 → Steps Gives memory d r e → Due e number trials (suc passed) most
   due-stepped asks enough (Desks.Steps.turned-away h) = absurd (omega arith)
   due-stepped asks enough (Desks.Steps.idle h none) = record {
     due = λ {i = j} st. let o = owed .due st in let inside : o .0 < length (d .line) = o .1 .inside in absurd (omega (arith, ap (λ (l : List ℕ). length l) none));
@@ -68,7 +68,7 @@ module _ {memory : ℕ} {d : Desk} {number trials passed most : ℕ} (s : Sound 
           let before = owed .due (record { is = sym (elsewhere d (d .given) (rest ++ (i ∷ [])) i (waits n problem (suc own)) j k) ∙ t .is }) in
           let next = at-next k (subst (λ (l : List ℕ). At l j (before .0)) head (before .1)) in
           (next .0, at-kept i (next .2), omega (arith, before .2, next .1))
-  due-stepped asks enough (last-one {i = i} {number = n} {own = own} {class = class} {trials = made} {span = span} {problem = problem} {rest = rest} {a = a} h head st last ans) = record { due = λ {i = j} {own = o} {problem = p} t. at j t (ℕ-discrete j i); given = owed .given }
+  due-stepped asks enough (last-one {i = i} {number = n} {own = own} {class = class} {trials = made} {span = span} {problem = problem} {rest = rest} {a = a} h head st last ans gave) = record { due = λ {i = j} {own = o} {problem = p} t. at j t (ℕ-discrete j i); given = owed .given }
     where
       at : (j : ℕ) {o : ℕ} {p : List ℕ} → Stands (moved d (d .given) rest i (answered n problem class span made a)) j (waits number p o) → Dec (j ≡ i)
           → (q : ℕ) × At rest j q × (q + 1 + desk-places * (trials - 1 - o) + suc passed ≤ most)
@@ -120,8 +120,8 @@ unfolding takeRefusal
 taken-enough {memory} {d = d} {p = p} (taken h f) = or-else-none (first (memoryRefused memory ∷ [])) (or-else (deskRefusal (meant p)) (first (fullRefused d))) .0 h .0
 
 -- Over a run: as long as the ticket waits, its due with the steps passed stays within what it was.
-due-run : {memory : ℕ} {d e f : Desk} {p : List ℕ} {number k class trials : ℕ} {span : Trop} → FromOpening memory d → TakesIn memory d p (Desks.ticket number) e
-    → Found (problemOf (meant p)) class span trials → Run memory e k f → Due f number trials k (desk-places * trials)
+due-run : {memory : ℕ} {d e f : Desk} {p : List ℕ} {number k class trials : ℕ} {span : Trop} {Gives : Giving} → FromOpening Gives memory d → TakesIn memory d p (Desks.ticket number) e
+    → Found (problemOf (meant p)) class span trials → Run Gives memory e k f → Due f number trials k (desk-places * trials)
 due-run o t found nothing = due-at-first (from-opening-sound o) (found-some found) t
 due-run o t found (take-in run c) = due-taken (sound-still o t run) (due-run o t found run) c
 due-run {p = p} o t found (one-step run c) =
@@ -130,6 +130,6 @@ due-run {p = p} o t found (one-step run c) =
 due-run o t found (collect run c) = due-collected (sound-still o t run) (due-run o t found run) c
 
 -- So after 16 steps for each trial that it takes it waits no longer.
-pub waits-no-longer : {memory : ℕ} {d e f : Desk} {p : List ℕ} {number k class trials : ℕ} {span : Trop} → FromOpening memory d → TakesIn memory d p (Desks.ticket number) e
-    → Found (problemOf (meant p)) class span trials → Run memory e k f → desk-places * trials ≤ k → {i own : ℕ} {problem : List ℕ} → Stands f i (waits number problem own) → ⊥
+pub waits-no-longer : {memory : ℕ} {d e f : Desk} {p : List ℕ} {number k class trials : ℕ} {span : Trop} {Gives : Giving} → FromOpening Gives memory d → TakesIn memory d p (Desks.ticket number) e
+    → Found (problemOf (meant p)) class span trials → Run Gives memory e k f → desk-places * trials ≤ k → {i own : ℕ} {problem : List ℕ} → Stands f i (waits number problem own) → ⊥
 waits-no-longer o t found run long st = let owed = due-run o t found run .due st in omega (arith, owed .2)

@@ -1,26 +1,25 @@
--- Each call has one answer: what it answers and leaves is settled by what it gets, but for the free parts of an answer.
+-- Each call has one answer: what it answers and leaves is settled by what it gets; of a step, where the engine gives one answer for a problem.
 use Prim.Native.Nat.{ℕ, suc, _+_, _≤_, _<_}
 use mathlib.Core.Path.{_≡_, refl, sym, ap, subst, _∙_}
 use mathlib.Core.Logic.{_⊎_, ⊎-elim}
 use mathlib.Core.Bool.{Bool, cond}
 use mathlib.Core.List.{List, [], _∷_, _++_}
 use native.Mathlib.Omega.{arith}
-use native.Mathlib.Decide.{ℕ-discrete}
 use borrow.Author.Tests.{lt-ltb}
 use lib.ListN.{length, set}
 use Rattle.base.proofs.Numbers.{nat-le-or-lt}
-use Rattle.definitions.specs.Limits.{desk-places, desk-memory, answer-most, refused-ticket, refused-room, refused-memory}
+use Rattle.definitions.specs.Limits.{desk-memory, answer-most, refused-ticket, refused-room, refused-memory}
 use Rattle.definitions.specs.Tropical.{Trop}
 use Rattle.definitions.specs.Bytes.{first}
 use Rattle.definitions.specs.ProblemRecord.{problemOf, meant, nField, mField}
 use Rattle.definitions.specs.AnswerRecord.{Answer, answerSize, answerBytes, written}
-use Rattle.definitions.specs.Solved.{Found}
+use Rattle.definitions.specs.Solved.{Found, Giving, OneValued}
 use Rattle.definitions.specs.Desk.{memoryRefused, Place, empty, waits, answered, Desk, placeAt, Stands, ticketOf, FirstEmpty, Opening, Opens, TakenIn, TakesIn, taken, takeRefusal, Stepped, Steps, one-more, last-one, NotHeld, Collected, Collects, handed-over, FromOpening}
 use Rattle.definitions.specs.DeskLaws.{TellsWaiting, NoneWaiting, OneOutcome}
 use Rattle.definitions.specs.Desk as Desks
 use Rattle.definitions.proofs.Refusals.{or-else-suc, or-else-none}
 use Rattle.duality.proofs.Classes.{found-one}
-use Rattle.tickets.proofs.Sound.{Sound, empty-not-waits, empty-not-answered, answered-not-waits, same-number, same-problem, same-own, waiting-inside, moved, here, elsewhere, from-opening-sound}
+use Rattle.tickets.proofs.Sound.{empty-not-waits, empty-not-answered, answered-not-waits, same-number, same-problem, same-own, from-opening-sound}
 use Rattle.tickets.proofs.Tickets.{from-opening-apart}
 
 -- ---- opening and taking in
@@ -81,57 +80,39 @@ not-last {c = c} {t = t} {s = s} found more other last asked made =
     let same = subst (λ (q : List ℕ). Found (problemOf q) c s t) (sym asked) other in
     omega (arith, found-one found same .2)
 
--- Two states with the same tickets given out, the same line, and the same ticket at each place.
-record SameShape (e f : Desk) : Type 0 where
-  given : e .given ≡ f .given
-  line : e .line ≡ f .line
-  tickets : (i : ℕ) → ticketOf (placeAt e i) ≡ ticketOf (placeAt f i)
-
-same-shape : {e f : Desk} → e ≡ f → SameShape e f
-same-shape {e} h = subst (SameShape e) h (record { given = refl; line = refl; tickets = λ i. refl })
-
--- After a last trial the place at the head is answered.
-closed-shape : {d : Desk} {i k n number : ℕ} {rest tail : List ℕ} (p q : Place) → Sound d → i < desk-places → i ≡ k → rest ≡ tail → ticketOf p ≡ number → ticketOf q ≡ n → number ≡ n
-    → SameShape (moved d (d .given) rest i p) (moved d (d .given) tail k q)
-closed-shape {d} {i} {k} {n} {number} {rest} {tail} p q s inside place others mine yours same = record { given = refl; line = others; tickets = λ j. at j (ℕ-discrete j i) }
-  where
-    at : (j : ℕ) → Dec (j ≡ i) → ticketOf (placeAt (moved d (d .given) rest i p) j) ≡ ticketOf (placeAt (moved d (d .given) tail k q) j)
-    at j (yes e) =
-        let left = ap (λ (z : ℕ). placeAt (moved d (d .given) rest i p) z) e ∙ here d (d .given) rest i p (s .sixteen) inside in
-        let right = ap (λ (z : ℕ). placeAt (moved d (d .given) tail k q) z) (e ∙ place) ∙ here d (d .given) tail k q (s .sixteen) (omega arith) in
-        ap ticketOf left ∙ mine ∙ same ∙ sym yours ∙ sym (ap ticketOf right)
-    at j (no m) = ap ticketOf (elsewhere d (d .given) rest i p j m ∙ sym (elsewhere d (d .given) tail k q j (λ e. m (e ∙ sym place))))
-
-stepping-one : {memory : ℕ} {d e f : Desk} {r q : Stepped} → Sound d → Steps memory d r e → Steps memory d q f
-    → (r ≡ q) × (((number : ℕ) → r ≡ Desks.done number → ⊥) → e ≡ f) × SameShape e f
-unfolding ticketOf
-stepping-one sound (Desks.Steps.turned-away h) (Desks.Steps.turned-away g) = (ap (λ (z : ℕ). Desks.Stepped.refused z) (sym h ∙ g), λ _. refl, same-shape refl)
-stepping-one sound (Desks.Steps.turned-away h) (Desks.Steps.idle g l) = absurd (omega arith)
-stepping-one sound (Desks.Steps.turned-away h) (one-more g l st f m) = absurd (omega arith)
-stepping-one sound (Desks.Steps.turned-away h) (last-one g l st e a) = absurd (omega arith)
-stepping-one sound (Desks.Steps.idle h none) (Desks.Steps.turned-away g) = absurd (omega arith)
-stepping-one sound (Desks.Steps.idle h none) (Desks.Steps.idle g l) = (refl, λ _. refl, same-shape refl)
-stepping-one sound (Desks.Steps.idle h none) (one-more g l st f m) = absurd (no-head none l)
-stepping-one sound (Desks.Steps.idle h none) (last-one g l st e a) = absurd (no-head none l)
-stepping-one sound (one-more h head st found more) (Desks.Steps.turned-away g) = absurd (omega arith)
-stepping-one sound (one-more h head st found more) (Desks.Steps.idle g none) = absurd (no-head none head)
-stepping-one {d = d} sound (one-more {i = i} {number = number} {own = own} {problem = problem} {rest = rest} h head st found more) (one-more {i = k} {number = n} {own = o} {problem = p} {rest = tail} g l there f m) =
+stepping-one : {memory : ℕ} {d e f : Desk} {r q : Stepped} {Gives : Giving} → OneValued Gives → Steps Gives memory d r e → Steps Gives memory d q f
+    → (r ≡ q) × (e ≡ f)
+stepping-one v (Desks.Steps.turned-away h) (Desks.Steps.turned-away g) = (ap (λ (z : ℕ). Desks.Stepped.refused z) (sym h ∙ g), refl)
+stepping-one v (Desks.Steps.turned-away h) (Desks.Steps.idle g l) = absurd (omega arith)
+stepping-one v (Desks.Steps.turned-away h) (one-more g l st f m) = absurd (omega arith)
+stepping-one v (Desks.Steps.turned-away h) (last-one g l st e a gave) = absurd (omega arith)
+stepping-one v (Desks.Steps.idle h none) (Desks.Steps.turned-away g) = absurd (omega arith)
+stepping-one v (Desks.Steps.idle h none) (Desks.Steps.idle g l) = (refl, refl)
+stepping-one v (Desks.Steps.idle h none) (one-more g l st f m) = absurd (no-head none l)
+stepping-one v (Desks.Steps.idle h none) (last-one g l st e a gave) = absurd (no-head none l)
+stepping-one v (one-more h head st found more) (Desks.Steps.turned-away g) = absurd (omega arith)
+stepping-one v (one-more h head st found more) (Desks.Steps.idle g none) = absurd (no-head none head)
+stepping-one {d = d} v (one-more {i = i} {number = number} {own = own} {problem = problem} {rest = rest} h head st found more) (one-more {i = k} {number = n} {own = o} {problem = p} {rest = tail} g l there f m) =
     let s = same-head head l st there in
-    let one = same (s .place) (s .others) (s .ticket) (s .asked) (s .made) in
-    (ap (λ (z : ℕ). Desks.goes-on z) (s .ticket), λ _. one, same-shape one)
+    (ap (λ (z : ℕ). Desks.goes-on z) (s .ticket), same (s .place) (s .others) (s .ticket) (s .asked) (s .made))
   where
     same : i ≡ k → rest ≡ tail → number ≡ n → problem ≡ p → own ≡ o
         → _≡_ {A = Desk} (record { given = d .given; line = rest ++ (i ∷ []); places = set (d .places) i (waits number problem (suc own)) })
         (record { given = d .given; line = tail ++ (k ∷ []); places = set (d .places) k (waits n p (suc o)) })
     same a b c e f = cc
-stepping-one sound (one-more h head st found more) (last-one g l there last ans) = let s = same-head head l st there in absurd (not-last found more (ans .found) last (s .asked) (s .made))
-stepping-one sound (last-one h head st last ans) (Desks.Steps.turned-away g) = absurd (omega arith)
-stepping-one sound (last-one h head st last ans) (Desks.Steps.idle g none) = absurd (no-head none head)
-stepping-one sound (last-one h head st last ans) (one-more g l there found more) = let s = same-head l head there st in absurd (not-last found more (ans .found) last (s .asked) (s .made))
-stepping-one sound (last-one {i = i} {number = number} {own = own} {problem = problem} h head st last ans) (last-one g l there end other) =
+stepping-one v (one-more h head st found more) (last-one g l there last ans gave) = let s = same-head head l st there in absurd (not-last found more (ans .found) last (s .asked) (s .made))
+stepping-one v (last-one h head st last ans gave) (Desks.Steps.turned-away g) = absurd (omega arith)
+stepping-one v (last-one h head st last ans gave) (Desks.Steps.idle g none) = absurd (no-head none head)
+stepping-one v (last-one h head st last ans gave) (one-more g l there found more) = let s = same-head l head there st in absurd (not-last found more (ans .found) last (s .asked) (s .made))
+stepping-one {d = d} {Gives = Gives} v (last-one {i = i} {number = number} {own = own} {class = class} {trials = trials} {span = span} {problem = problem} {rest = rest} {a = a} h head st last ans gave) (last-one {i = k} {number = n} {own = o} {class = c} {trials = t} {span = z} {problem = p} {rest = tail} {a = b} g l there end other told) =
     let s = same-head head l st there in
-    let inside = waiting-inside (sound .sixteen) (record { number = number; problem = problem; own = own; there = st }) in
-    (ap (λ (z : ℕ). Desks.done z) (s .ticket), λ more. absurd (more number refl), closed-shape _ _ sound inside (s .place) (s .others) refl refl (s .ticket))
+    let f = found-one (ans .found) (subst (λ (q : List ℕ). Found (problemOf q) c z t) (sym (s .asked)) (other .found)) in
+    (ap (λ (z : ℕ). Desks.done z) (s .ticket), same (s .place) (s .others) (s .ticket) (s .asked) (f .0) (f .1) (f .2) (v .one problem a b gave (subst (λ (q : List ℕ). Gives q b) (sym (s .asked)) told)))
+  where
+    same : i ≡ k → rest ≡ tail → number ≡ n → problem ≡ p → class ≡ c → span ≡ z → trials ≡ t → a ≡ b
+        → _≡_ {A = Desk} (record { given = d .given; line = rest; places = set (d .places) i (answered number problem class span trials a) })
+        (record { given = d .given; line = tail; places = set (d .places) k (answered n p c z t b) })
+    same e₁ e₂ e₃ e₄ e₅ e₆ e₇ e₈ = cc
 
 -- ---- collecting
 
@@ -147,13 +128,13 @@ recordHeld (waits number problem own) = []
 recordHeld (answered number problem class span own a) = answerBytes (nField problem) a
 
 -- A ticket stands at one place, and what stands there is one.
-one-place : {memory number i k : ℕ} {d : Desk} {p q : Place} → FromOpening memory d → Stands d i p → Stands d k q → (p ≡ empty → ⊥) → (q ≡ empty → ⊥) → ticketOf p ≡ number → ticketOf q ≡ number
+one-place : {memory number i k : ℕ} {d : Desk} {p q : Place} {Gives : Giving} → FromOpening Gives memory d → Stands d i p → Stands d k q → (p ≡ empty → ⊥) → (q ≡ empty → ⊥) → ticketOf p ≡ number → ticketOf q ≡ number
     → (i ≡ k) × (p ≡ q)
 one-place {i = i} {k = k} {d = d} o st there a b e f =
     let z = from-opening-apart o .apart i k (λ z. a (sym (st .is) ∙ z)) (λ z. b (sym (there .is) ∙ z)) (ap ticketOf (st .is) ∙ e ∙ sym f ∙ sym (ap ticketOf (there .is))) in
     (z, sym (st .is) ∙ ap (λ (j : ℕ). placeAt d j) z ∙ there .is)
 
-module _ {memory number : ℕ} {d : Desk} (o : FromOpening memory d) where
+module _ {memory number : ℕ} {d : Desk} {Gives : Giving} (o : FromOpening Gives memory d) where
   -- A ticket that waits is not answered, and one that is held is not missing.
   waits-not-answered : {i k own class made : ℕ} {span : Trop} {problem p : List ℕ} {a : Answer} → Stands d i (waits number problem own)
       → Stands d k (answered number p class span made a) → ⊥
@@ -203,35 +184,35 @@ module _ {memory number : ℕ} {d : Desk} (o : FromOpening memory d) where
       freed i = record { given = d .given; line = d .line; places = set (d .places) i empty }
 
 -- What a call answers and leaves is one.
-pub one-outcome : OneOutcome
+pub one-outcome : {Gives : Giving} → OneOutcome Gives
 one-outcome = record {
   opening = opening-one;
   taking-in = taking-one;
-  stepping = λ o one two. let s = stepping-one (from-opening-sound o) one two in (s .0, s .1, s .2 .given, s .2 .line, s .2 .tickets);
+  stepping = stepping-one;
   collecting = λ o one two. collecting-one o one two;
 }
 
 -- ---- a ticket that still waits, and a step with none waiting
 
-pub waiting-still : {memory number i own : ℕ} {problem : List ℕ} {d e : Desk} {before after : List ℕ} {r : Collected} → FromOpening memory d
+pub waiting-still : {memory number i own : ℕ} {problem : List ℕ} {d e : Desk} {before after : List ℕ} {r : Collected} {Gives : Giving} → FromOpening Gives memory d
     → first (memoryRefused memory ∷ []) ≡ 0 → Stands d i (waits number problem own) → Collects memory d number before r e after
     → (r ≡ Desks.still-waits) × (e ≡ d) × (after ≡ before)
 waiting-still o h st c = collecting-one o c (Desks.Collects.waits-yet h st)
 
-pub idle-still : {memory : ℕ} {d e : Desk} {r : Stepped} → first (memoryRefused memory ∷ []) ≡ 0 → NoneWaiting d → Steps memory d r e
+pub idle-still : {memory : ℕ} {d e : Desk} {r : Stepped} {Gives : Giving} → first (memoryRefused memory ∷ []) ≡ 0 → NoneWaiting d → Steps Gives memory d r e
     → (r ≡ Desks.none-waits) × (e ≡ d)
 idle-still h none (Desks.Steps.turned-away g) = absurd (omega arith)
 idle-still h none (Desks.Steps.idle g l) = (refl, refl)
 idle-still h none (one-more {i = i} {number = number} {own = own} {problem = problem} g l st f m) = absurd (none i number own problem st)
-idle-still h none (last-one {i = i} {number = number} {own = own} {problem = problem} g l st e a) = absurd (none i number own problem st)
+idle-still h none (last-one {i = i} {number = number} {own = own} {problem = problem} g l st e a gave) = absurd (none i number own problem st)
 
 -- ---- a ticket that is not held, and one that is answered
 
-pub unheld-still : {memory number : ℕ} {d e : Desk} {before after : List ℕ} {r : Collected} → FromOpening memory d → first (memoryRefused memory ∷ []) ≡ 0 → NotHeld d number
+pub unheld-still : {memory number : ℕ} {d e : Desk} {before after : List ℕ} {r : Collected} {Gives : Giving} → FromOpening Gives memory d → first (memoryRefused memory ∷ []) ≡ 0 → NotHeld d number
     → Collects memory d number before r e after → (r ≡ Desks.Collected.refused refused-ticket) × (e ≡ d) × (after ≡ before)
 unheld-still o h n c = collecting-one o c (Desks.Collects.no-such-ticket h n)
 
-module _ {memory number i class own : ℕ} {span : Trop} {problem : List ℕ} {a : Answer} {d e : Desk} {before after : List ℕ} {r : Collected} (o : FromOpening memory d)
+module _ {memory number i class own : ℕ} {span : Trop} {problem : List ℕ} {a : Answer} {d e : Desk} {before after : List ℕ} {r : Collected} {Gives : Giving} (o : FromOpening Gives memory d)
     (h : first (memoryRefused memory ∷ []) ≡ 0) (st : Stands d i (answered number problem class span own a)) where
   pub handed-so : answer-most ≤ length before → Collects memory d number before r e after
       → (r ≡ Desks.collected class span own (answerSize class (nField problem) (mField problem))) × (after ≡ written before (answerBytes (nField problem) a))
@@ -250,7 +231,7 @@ refused-collects (Desks.Collects.turned-away h) = (refl, refl)
 refused-collects (Desks.Collects.no-such-ticket h n) = (refl, refl)
 refused-collects (Desks.Collects.short-buffer h st b) = (refl, refl)
 
-pub refused-steps : {memory k : ℕ} {d e : Desk} → Steps memory d (Desks.Stepped.refused k) e → e ≡ d
+pub refused-steps : {memory k : ℕ} {d e : Desk} {Gives : Giving} → Steps Gives memory d (Desks.Stepped.refused k) e → e ≡ d
 refused-steps (Desks.Steps.turned-away h) = refl
 
 -- ---- 23 comes first
@@ -265,11 +246,11 @@ taking-short {memory} h (Desks.TakesIn.turned-away g) =
     (ap (λ (k : ℕ). Desks.TakenIn.refused k) (sym g ∙ or-else-suc (first (memoryRefused memory ∷ [])) _ (omega (arith, z)) ∙ z), refl)
 taking-short {memory} h (taken g f) = let z = memory-short memory h in absurd (omega (arith, or-else-none (first (memoryRefused memory ∷ [])) _ .0 g .0, z))
 
-pub step-short : {memory : ℕ} {d e : Desk} {r : Stepped} → memory < desk-memory → Steps memory d r e → (r ≡ Desks.Stepped.refused refused-memory) × (e ≡ d)
+pub step-short : {memory : ℕ} {d e : Desk} {r : Stepped} {Gives : Giving} → memory < desk-memory → Steps Gives memory d r e → (r ≡ Desks.Stepped.refused refused-memory) × (e ≡ d)
 step-short {memory} h (Desks.Steps.turned-away g) = (ap (λ (k : ℕ). Desks.Stepped.refused k) (sym g ∙ memory-short memory h), refl)
 step-short {memory} h (Desks.Steps.idle g l) = absurd (omega (arith, memory-short memory h))
 step-short {memory} h (one-more g l st f m) = absurd (omega (arith, memory-short memory h))
-step-short {memory} h (last-one g l st e a) = absurd (omega (arith, memory-short memory h))
+step-short {memory} h (last-one g l st e a gave) = absurd (omega (arith, memory-short memory h))
 
 pub collecting-short : {memory number : ℕ} {d e : Desk} {before after : List ℕ} {r : Collected} → memory < desk-memory → Collects memory d number before r e after
     → (r ≡ Desks.Collected.refused refused-memory) × (e ≡ d) × (after ≡ before)
@@ -281,12 +262,12 @@ collecting-short {memory} h (handed-over g st b) = absurd (omega (arith, memory-
 
 -- ---- where somebody waits
 
-pub busy : {memory i number own : ℕ} {d e : Desk} {problem : List ℕ} {r : Stepped} → FromOpening memory d → first (memoryRefused memory ∷ []) ≡ 0 → Stands d i (waits number problem own)
-    → Steps memory d r e → TellsWaiting d r
+pub busy : {memory i number own : ℕ} {d e : Desk} {problem : List ℕ} {r : Stepped} {Gives : Giving} → FromOpening Gives memory d → first (memoryRefused memory ∷ []) ≡ 0 → Stands d i (waits number problem own)
+    → Steps Gives memory d r e → TellsWaiting d r
 unfolding TellsWaiting
 busy o h st (Desks.Steps.turned-away g) = absurd (omega arith)
 busy {number = number} {own = own} {problem = problem} o h st (Desks.Steps.idle g l) =
     let place = from-opening-sound o .line .all (record { number = number; problem = problem; own = own; there = st }) in
     absurd (omega (arith, place .there .inside, ap (λ (k : List ℕ). length k) l))
 busy o h st (one-more {i = i} {own = own} {problem = problem} g l there f m) = (problem, record { place = i; own = own; there = there })
-busy o h st (last-one {i = i} {own = own} {problem = problem} g l there e a) = (problem, record { place = i; own = own; there = there })
+busy o h st (last-one {i = i} {own = own} {problem = problem} g l there e a gave) = (problem, record { place = i; own = own; there = there })

@@ -13,6 +13,7 @@ use Rattle.definitions.specs.Tropical.{Trop}
 use Rattle.definitions.specs.AnswerRecord.{Answer}
 use Rattle.definitions.specs.ProblemRecord.{meant}
 use Rattle.definitions.specs.Bytes.{first}
+use Rattle.definitions.specs.Solved.{Giving}
 use Rattle.definitions.specs.Desk.{memoryRefused, fullRefused, WithinDesk, takeRefusal, Place, empty, answered, Desk, placeAt, Stands, ticketOf, held, TakenIn, TakesIn, taken, Stepped, Steps, one-more, last-one, Collected, Collects, handed-over, Run, nothing, take-in, one-step, collect, FromOpening}
 use Rattle.definitions.specs.DeskLaws.{Reported, HandsOver, HandedOver, HeldAnswered}
 use Rattle.definitions.specs.Desk as Desks
@@ -53,7 +54,7 @@ not-full : (d : Desk) → held (d .places) < desk-places → d .given < last-tic
 not-full d h t = rw (lt-leb desk-places (held (d .places)) h, lt-leb last-ticket (d .given) t) refl
 
 -- A place that was collected is usable again.
-pub freed-usable : {memory number class own size : ℕ} {span : Trop} {d e : Desk} {before after : List ℕ} → FromOpening memory d
+pub freed-usable : {memory number class own size : ℕ} {span : Trop} {d e : Desk} {before after : List ℕ} {Gives : Giving} → FromOpening Gives memory d
     → Collects memory d number before (Desks.collected class span own size) e after → e .given < last-ticket → first (fullRefused e) ≡ 0
 unfolding ticketOf
 freed-usable {d = d} o (handed-over {i = i} h st b) t =
@@ -65,7 +66,7 @@ freed-usable {d = d} o (handed-over {i = i} h st b) t =
     not-full n (omega arith) t
 
 -- Where a place is empty and a ticket is left, a problem that the desk takes gets one.
-pub room-ticket : {memory i : ℕ} {d e : Desk} {p : List ℕ} {r : TakenIn} → FromOpening memory d → first (memoryRefused memory ∷ []) ≡ 0 → WithinDesk (meant p) → i < desk-places
+pub room-ticket : {memory i : ℕ} {d e : Desk} {p : List ℕ} {r : TakenIn} {Gives : Giving} → FromOpening Gives memory d → first (memoryRefused memory ∷ []) ≡ 0 → WithinDesk (meant p) → i < desk-places
     → placeAt d i ≡ empty → d .given < last-ticket → TakesIn memory d p r e → r ≡ Desks.ticket (suc (d .given))
 unfolding takeRefusal ticketOf
 room-ticket {memory} {i} {d} {p = p} o enough within inside free left (Desks.TakesIn.turned-away h) =
@@ -89,11 +90,11 @@ module _ {d : Desk} {i number class own : ℕ} {span : Trop} {problem : List ℕ
   stays-taken (Desks.TakesIn.turned-away h) = st
   stays-taken (taken {i = k} h f) = stays-there _ _ k _ (λ e. empty-not-answered (sym (f .is-empty) ∙ at-place e))
 
-  stays-stepped : {memory : ℕ} {e : Desk} {r : Stepped} → Steps memory d r e → Stands e i (answered number problem class span own a)
+  stays-stepped : {memory : ℕ} {e : Desk} {r : Stepped} {Gives : Giving} → Steps Gives memory d r e → Stands e i (answered number problem class span own a)
   stays-stepped (Desks.Steps.turned-away h) = st
   stays-stepped (Desks.Steps.idle h empty-line) = st
   stays-stepped (one-more {i = k} h head w found more) = stays-there _ _ k _ (λ e. answered-not-waits (sym (at-place e) ∙ w .is))
-  stays-stepped (last-one {i = k} h head w last ans) = stays-there _ _ k _ (λ e. answered-not-waits (sym (at-place e) ∙ w .is))
+  stays-stepped (last-one {i = k} h head w last ans gave) = stays-there _ _ k _ (λ e. answered-not-waits (sym (at-place e) ∙ w .is))
 
   stays-collected : {memory n : ℕ} {e : Desk} {before after : List ℕ} {r : Collected} → Collects memory d n before r e after
       → HandsOver number n r ⊎ Stands e i (answered number problem class span own a)
@@ -108,8 +109,8 @@ module _ {d : Desk} {i number class own : ℕ} {span : Trop} {problem : List ℕ
       at (yes e) = inl (ap ticketOf (sym (w .is) ∙ at-place e))
       at (no m) = inr (stays-there (d .given) (d .line) k empty m)
 
-pub kept-or-handed : {memory : ℕ} {d e : Desk} {i number class own k : ℕ} {span : Trop} {problem : List ℕ} {a : Answer}
-    → Stands d i (answered number problem class span own a) → (run : Run memory d k e) → HandedOver number run ⊎ Stands e i (answered number problem class span own a)
+pub kept-or-handed : {memory : ℕ} {d e : Desk} {i number class own k : ℕ} {span : Trop} {problem : List ℕ} {a : Answer} {Gives : Giving}
+    → Stands d i (answered number problem class span own a) → (run : Run Gives memory d k e) → HandedOver number run ⊎ Stands e i (answered number problem class span own a)
 unfolding HandedOver
 kept-or-handed st nothing = inr st
 kept-or-handed st (take-in run t) = ⊎-elim (λ h. inl h) (λ now. inr (stays-taken now t)) (kept-or-handed st run)
@@ -127,11 +128,11 @@ record AnsweredSo (d : Desk) (number : ℕ) : Type 0 where
   held-so : HeldAnswered d number problem
 
 -- The step that reported it left it so,
-reports : {memory number : ℕ} {d e : Desk} {r : Stepped} → Sound d → Steps memory d r e → r ≡ Desks.done number → AnsweredSo e number
+reports : {memory number : ℕ} {d e : Desk} {r : Stepped} {Gives : Giving} → Sound d → Steps Gives memory d r e → r ≡ Desks.done number → AnsweredSo e number
 reports s (Desks.Steps.turned-away h) e = absurd (let z : _≡_ {A = ℕ} 0 1 = cc in omega arith)
 reports s (Desks.Steps.idle h empty-line) e = absurd (let z : _≡_ {A = ℕ} 0 1 = cc in omega arith)
 reports s (one-more h head st found more) e = absurd (let z : _≡_ {A = ℕ} 0 1 = cc in omega arith)
-reports {d = d} s (last-one {i = i} {number = n} {own = own} {class = class} {trials = trials} {span = span} {problem = problem} {rest = rest} {a = a} h head st last ans) e =
+reports {d = d} s (last-one {i = i} {number = n} {own = own} {class = class} {trials = trials} {span = span} {problem = problem} {rest = rest} {a = a} h head st last ans gave) e =
     let inside : i < desk-places = waiting-inside (s .sixteen) (record { number = n; problem = problem; own = own; there = st }) in
     let now = here d (d .given) rest i (answered n problem class span trials a) (s .sixteen) inside in
     record {
@@ -151,7 +152,7 @@ still-so : {number : ℕ} {d e : Desk} (w : AnsweredSo d number)
     → Stands e (w .held-so .place) (answered number (w .problem) (w .held-so .class) (w .held-so .span) (w .held-so .own) (w .held-so .answer)) → AnsweredSo e number
 still-so w st = record { problem = w .problem; held-so = record { place = w .held-so .place; class = w .held-so .class; span = w .held-so .span; own = w .held-so .own; answer = w .held-so .answer; there = st } }
 
-reported-so : {memory number k : ℕ} {d e : Desk} → Sound d → (run : Run memory d k e) → Reported number run → HandedOver number run ⊎ AnsweredSo e number
+reported-so : {memory number k : ℕ} {d e : Desk} {Gives : Giving} → Sound d → (run : Run Gives memory d k e) → Reported number run → HandedOver number run ⊎ AnsweredSo e number
 unfolding Reported HandedOver
 reported-so s nothing r = absurd r
 reported-so s (take-in run t) r = ⊎-elim (λ h. inl h) (λ w. inr (still-so w (stays-taken (w .held-so .there) t))) (reported-so s run r)
@@ -161,7 +162,7 @@ reported-so s (collect run c) r =
     ⊎-elim (λ h. inl (inl h)) (λ w. ⊎-elim (λ h. inl (inr h)) (λ z. inr (still-so w z)) (stays-collected (w .held-so .there) c)) (reported-so s run r)
 
 -- Of the problem that was taken in.
-pub reported-answered : {memory : ℕ} {d e f : Desk} {p : List ℕ} {number k : ℕ} → FromOpening memory d → TakesIn memory d p (Desks.ticket number) e
-    → (run : Run memory e k f) → Reported number run → HandedOver number run ⊎ HeldAnswered f number (meant p)
+pub reported-answered : {memory : ℕ} {d e f : Desk} {p : List ℕ} {number k : ℕ} {Gives : Giving} → FromOpening Gives memory d → TakesIn memory d p (Desks.ticket number) e
+    → (run : Run Gives memory e k f) → Reported number run → HandedOver number run ⊎ HeldAnswered f number (meant p)
 reported-answered {f = f} {p = p} {number = number} o t run r =
     ⊎-elim (λ h. inl h) (λ w. inr (subst (λ (q : List ℕ). HeldAnswered f number q) (answered-mine o t run (w .held-so .there)) (w .held-so))) (reported-so (sound-taken (from-opening-sound o) t) run r)

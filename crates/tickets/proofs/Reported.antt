@@ -8,7 +8,7 @@ use native.Mathlib.Decide.{ℕ-discrete}
 use Rattle.definitions.specs.Limits.{desk-places, desk-steps}
 use Rattle.definitions.specs.Tropical.{Trop}
 use Rattle.definitions.specs.ProblemRecord.{problemOf, meant}
-use Rattle.definitions.specs.Solved.{Found}
+use Rattle.definitions.specs.Solved.{Found, Giving}
 use Rattle.definitions.specs.Desk.{Place, empty, waits, answered, Desk, placeAt, Stands, TakenIn, TakesIn, taken, Stepped, Steps, one-more, last-one, Collected, Collects, handed-over, Run, nothing, take-in, one-step, collect, FromOpening}
 use Rattle.definitions.specs.DeskLaws.{Reported, HeldWaiting}
 use Rattle.definitions.specs.Desk as Desks
@@ -18,13 +18,13 @@ use Rattle.tickets.proofs.Due.{waits-no-longer}
 
 -- ---- one sequence after another
 
-pub from-run : {memory k : ℕ} {d e : Desk} → FromOpening memory d → Run memory d k e → FromOpening memory e
+pub from-run : {memory k : ℕ} {d e : Desk} {Gives : Giving} → FromOpening Gives memory d → Run Gives memory d k e → FromOpening Gives memory e
 from-run o nothing = o
 from-run o (take-in run t) = let g = from-run o run in record { steps = g .steps; run = take-in (g .run) t }
 from-run o (one-step run t) = let g = from-run o run in record { steps = suc (g .steps); run = one-step (g .run) t }
 from-run o (collect run t) = let g = from-run o run in record { steps = g .steps; run = collect (g .run) t }
 
-pub run-on : {memory k number : ℕ} {d e f : Desk} {p : List ℕ} → FromOpening memory d → TakesIn memory d p (Desks.ticket number) e → Run memory e k f → FromOpening memory f
+pub run-on : {memory k number : ℕ} {d e f : Desk} {p : List ℕ} {Gives : Giving} → FromOpening Gives memory d → TakesIn memory d p (Desks.ticket number) e → Run Gives memory e k f → FromOpening Gives memory f
 run-on o t run = from-run (record { steps = o .steps; run = take-in (o .run) t }) run
 
 -- ---- a ticket waits until a step reports it
@@ -48,7 +48,7 @@ module _ {number : ℕ} {d : Desk} (w : StillWaits d number) where
   waits-taken (Desks.TakesIn.turned-away h) = w
   waits-taken {p = p} (taken {i = i} h f) = waits-there (suc (d .given)) (d .line ++ (i ∷ [])) i (waits (suc (d .given)) (meant p) 0) (λ e. empty-not-waits (sym (f .is-empty) ∙ at-place e))
 
-  waits-stepped : {memory : ℕ} {e : Desk} {r : Stepped} → Sound d → Steps memory d r e → StillWaits e number ⊎ (r ≡ Desks.done number)
+  waits-stepped : {memory : ℕ} {e : Desk} {r : Stepped} {Gives : Giving} → Sound d → Steps Gives memory d r e → StillWaits e number ⊎ (r ≡ Desks.done number)
   waits-stepped s (Desks.Steps.turned-away h) = inl w
   waits-stepped s (Desks.Steps.idle h none) = inl w
   waits-stepped s (one-more {i = i} {number = n} {own = own} {problem = problem} {rest = rest} h head st found more) = inl (at (ℕ-discrete (w .place) i))
@@ -64,7 +64,7 @@ module _ {number : ℕ} {d : Desk} (w : StillWaits d number) where
             there = record { is = here d (d .given) (rest ++ (i ∷ [])) i (waits n problem (suc own)) (s .sixteen) inside ∙ ap (λ (z : ℕ). waits z problem (suc own)) mine };
           }
       at (no k) = waits-there (d .given) (rest ++ (i ∷ [])) i (waits n problem (suc own)) k
-  waits-stepped s (last-one {i = i} {number = n} {own = own} {class = class} {trials = trials} {span = span} {problem = problem} {rest = rest} {a = a} h head st last ans) = at (ℕ-discrete (w .place) i)
+  waits-stepped s (last-one {i = i} {number = n} {own = own} {class = class} {trials = trials} {span = span} {problem = problem} {rest = rest} {a = a} h head st last ans gave) = at (ℕ-discrete (w .place) i)
     where
       at : Dec (w .place ≡ i) → StillWaits (moved d (d .given) rest i (answered n problem class span trials a)) number ⊎ (Desks.done n ≡ Desks.done number)
       at (yes e) = let mine : n ≡ number = same-number (sym (st .is) ∙ at-place e) in inr (ap (λ (z : ℕ). Desks.done z) mine)
@@ -78,7 +78,7 @@ module _ {number : ℕ} {d : Desk} (w : StillWaits d number) where
   waits-collected (handed-over {i = i} h st b) = waits-there (d .given) (d .line) i empty (λ e. answered-not-waits (sym (st .is) ∙ at-place e))
 
 -- Over a run: reported, or it waits.
-pub reported-or-waits : {memory number k : ℕ} {d e : Desk} → Sound d → StillWaits d number → (run : Run memory d k e) → Reported number run ⊎ StillWaits e number
+pub reported-or-waits : {memory number k : ℕ} {d e : Desk} {Gives : Giving} → Sound d → StillWaits d number → (run : Run Gives memory d k e) → Reported number run ⊎ StillWaits e number
 unfolding Reported
 reported-or-waits s w nothing = inr w
 reported-or-waits s w (take-in run t) = ⊎-elim (λ h. inl h) (λ v. inr (waits-taken v t)) (reported-or-waits s w run)
@@ -96,14 +96,14 @@ waits-at-first {d = d} {p = p} s (taken {i = i} h f) = record {
 }
 
 -- So of 16 steps for each trial that it takes one reports it,
-pub reported-by-trials : {memory : ℕ} {d e f : Desk} {p : List ℕ} {number k class trials : ℕ} {span : Trop} → FromOpening memory d → TakesIn memory d p (Desks.ticket number) e
-    → Found (problemOf (meant p)) class span trials → (run : Run memory e k f) → desk-places * trials ≤ k → Reported number run
+pub reported-by-trials : {memory : ℕ} {d e f : Desk} {p : List ℕ} {number k class trials : ℕ} {span : Trop} {Gives : Giving} → FromOpening Gives memory d → TakesIn memory d p (Desks.ticket number) e
+    → Found (problemOf (meant p)) class span trials → (run : Run Gives memory e k f) → desk-places * trials ≤ k → Reported number run
 reported-by-trials o t found run long =
     let s = from-opening-sound o in
     ⊎-elim (λ h. h) (λ w. absurd (waits-no-longer o t found run long (w .there))) (reported-or-waits (sound-taken s t) (waits-at-first s t) run)
 
 -- and none takes more than 24.
-pub reported-within : {memory : ℕ} {d e f : Desk} {p : List ℕ} {number k : ℕ} → FromOpening memory d → TakesIn memory d p (Desks.ticket number) e → (run : Run memory e k f) → desk-steps ≤ k
+pub reported-within : {memory : ℕ} {d e f : Desk} {p : List ℕ} {number k : ℕ} {Gives : Giving} → FromOpening Gives memory d → TakesIn memory d p (Desks.ticket number) e → (run : Run Gives memory e k f) → desk-steps ≤ k
     → Reported number run
 reported-within {p = p} o t run long =
     let c = classed (problemOf (meant p)) in
@@ -111,7 +111,7 @@ reported-within {p = p} o t run long =
     reported-by-trials o t (c .found) run (omega arith)
 
 -- Before that it is held, waiting.
-pub waiting-or-reported : {memory : ℕ} {d e f : Desk} {p : List ℕ} {number k : ℕ} → FromOpening memory d → TakesIn memory d p (Desks.ticket number) e → (run : Run memory e k f)
+pub waiting-or-reported : {memory : ℕ} {d e f : Desk} {p : List ℕ} {number k : ℕ} {Gives : Giving} → FromOpening Gives memory d → TakesIn memory d p (Desks.ticket number) e → (run : Run Gives memory e k f)
     → Reported number run ⊎ HeldWaiting f number (meant p)
 waiting-or-reported {f = f} {number = number} o t run =
     let s = from-opening-sound o in

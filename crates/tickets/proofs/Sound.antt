@@ -14,7 +14,7 @@ use Rattle.definitions.specs.Problem.{Problem}
 use Rattle.definitions.specs.Bisection.{trials-optimal}
 use Rattle.definitions.specs.ProblemRecord.{problemOf, meant}
 use Rattle.definitions.specs.AnswerRecord.{Answer}
-use Rattle.definitions.specs.Solved.{Found, optimal, unbounded, infeasible, Answers}
+use Rattle.definitions.specs.Solved.{Found, optimal, unbounded, infeasible, Answers, Giving}
 use Rattle.definitions.specs.Bytes.{first, or-else}
 use Rattle.definitions.specs.Desk.{memoryRefused, fullRefused, deskRefusal, WithinDesk, Place, empty, waits, answered, Desk, opened, placeAt, Stands, ticketOf, TakenIn, TakesIn, taken, takeRefusal, Stepped, Steps, one-more, last-one, Collected, Collects, handed-over, Run, nothing, take-in, one-step, collect, FromOpening}
 use Rattle.definitions.specs.Desk as Desks
@@ -200,7 +200,7 @@ module _ {memory : ℕ} {d : Desk} (s : Sound d) where
       old k w (yes e) = inr e
       old k w (no n) = inl (waited-elsewhere d _ _ i _ k n w)
 
-  pub sound-stepped : {e : Desk} {r : Stepped} → Steps memory d r e → Sound e
+  pub sound-stepped : {e : Desk} {r : Stepped} {Gives : Giving} → Steps Gives memory d r e → Sound e
   unfolding ticketOf
   sound-stepped (Desks.Steps.turned-away h) = s
   sound-stepped (Desks.Steps.idle h none) = s
@@ -218,7 +218,7 @@ module _ {memory : ℕ} {d : Desk} (s : Sound d) where
       old : (k : ℕ) → Waiting (moved d (d .given) (rest ++ (i ∷ [])) i (waits number problem (suc own))) k → Dec (k ≡ i) → (Waiting d k × (k ≡ i → ⊥)) ⊎ (k ≡ i)
       old k w (yes e) = inr e
       old k w (no n) = inl (waited-elsewhere d _ _ i _ k n w, n)
-  sound-stepped (last-one {i = i} {number = number} {own = own} {class = class} {trials = trials} {span = span} {problem = problem} {rest = rest} {a = a} h head st last ans) =
+  sound-stepped (last-one {i = i} {number = number} {own = own} {class = class} {trials = trials} {span = span} {problem = problem} {rest = rest} {a = a} h head st last ans gave) =
       let inside : i < desk-places = waiting-inside (s .sixteen) (record { number = number; problem = problem; own = own; there = st }) in
       let fit = waits-fit s st in
       sound-moved d (d .given) rest i (answered number problem class span trials a) s inside
@@ -249,13 +249,13 @@ module _ {memory : ℕ} {d : Desk} (s : Sound d) where
       old inside k w (no n) = waited-elsewhere d _ _ i _ k n w
 
 -- So it holds of every state from an opening on.
-pub sound-run : {memory k : ℕ} {d e : Desk} → Run memory d k e → Sound d → Sound e
+pub sound-run : {memory k : ℕ} {d e : Desk} {Gives : Giving} → Run Gives memory d k e → Sound d → Sound e
 sound-run nothing s = s
 sound-run (take-in run t) s = sound-taken (sound-run run s) t
 sound-run (one-step run t) s = sound-stepped (sound-run run s) t
 sound-run (collect run t) s = sound-collected (sound-run run s) t
 
-pub from-opening-sound : {memory : ℕ} {d : Desk} → FromOpening memory d → Sound d
+pub from-opening-sound : {memory : ℕ} {d : Desk} {Gives : Giving} → FromOpening Gives memory d → Sound d
 from-opening-sound f = sound-run (f .run) sound-opened
 
 -- At most sixteen wait.

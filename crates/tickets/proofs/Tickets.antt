@@ -14,6 +14,7 @@ use Rattle.definitions.specs.Tropical.{Trop}
 use Rattle.definitions.specs.ProblemRecord.{meant}
 use Rattle.definitions.specs.AnswerRecord.{Answer}
 use Rattle.definitions.specs.Bytes.{first, or-else}
+use Rattle.definitions.specs.Solved.{Giving}
 use Rattle.definitions.specs.Desk.{memoryRefused, fullRefused, deskRefusal, WithinDesk, Place, empty, waits, answered, Desk, placeAt, Stands, ticketOf, held, TakesIn, taken, takeRefusal, NotHeld, Collects, handed-over, Run, nothing, take-in, one-step, collect, FromOpening}
 use Rattle.definitions.specs.Desk as Desks
 use Rattle.definitions.proofs.Refusals.{or-else-none}
@@ -52,7 +53,7 @@ tied-at-first s t = each-at-first (Tied _ _) s t (record { tie = λ _. refl }) (
 pub taken-number : {memory number : ℕ} {d e : Desk} {p : List ℕ} → TakesIn memory d p (Desks.ticket number) e → (number ≡ suc (d .given)) × (e .given ≡ number)
 taken-number (taken h f) = (refl, refl)
 
-module _ {memory : ℕ} {d e f : Desk} {p : List ℕ} {number k : ℕ} (o : FromOpening memory d) (t : TakesIn memory d p (Desks.ticket number) e) (run : Run memory e k f) where
+module _ {memory : ℕ} {d e f : Desk} {p : List ℕ} {number k : ℕ} {Gives : Giving} (o : FromOpening Gives memory d) (t : TakesIn memory d p (Desks.ticket number) e) (run : Run Gives memory e k f) where
   tied-still : Each (Tied number (meant p)) f
   tied-still =
       let s = from-opening-sound o in
@@ -112,13 +113,13 @@ module _ {d : Desk} (s : Sound d) (t : Apart d) where
   apart-changed none = t
   apart-changed (one given line {i = i} {p = p} inside st b) = apart-moved given line i p inside (others st b)
 
-apart-run : {memory k : ℕ} {d e : Desk} → Sound d → Apart d → Run memory d k e → Apart e
+apart-run : {memory k : ℕ} {d e : Desk} {Gives : Giving} → Sound d → Apart d → Run Gives memory d k e → Apart e
 apart-run s t nothing = t
 apart-run s t (take-in run c) = let z = sound-run run s in apart-changed z (apart-run s t run) (taken-changes z c)
 apart-run s t (one-step run c) = let z = sound-run run s in apart-changed z (apart-run s t run) (stepped-changes z c)
 apart-run s t (collect run c) = let z = sound-run run s in apart-changed z (apart-run s t run) (collected-changes z c)
 
-pub from-opening-apart : {memory : ℕ} {d : Desk} → FromOpening memory d → Apart d
+pub from-opening-apart : {memory : ℕ} {d : Desk} {Gives : Giving} → FromOpening Gives memory d → Apart d
 from-opening-apart o = apart-run sound-opened (record { apart = λ i k a b e. absurd (a (sixteen-empty i)) }) (o .run)
 
 -- ---- a ticket that was collected
@@ -135,7 +136,7 @@ without-becomes number given was p l closes w = record { other = λ some e. w .o
 without-becomes number given was p l frees w = record { other = λ some e. some refl }
 
 -- It is held no more,
-without-collected : {memory number class own size : ℕ} {span : Trop} {d e : Desk} {before after : List ℕ} → FromOpening memory d
+without-collected : {memory number class own size : ℕ} {span : Trop} {d e : Desk} {before after : List ℕ} {Gives : Giving} → FromOpening Gives memory d
     → Collects memory d number before (Desks.collected class span own size) e after → Each (Without number) e × (number ≤ e .given)
 unfolding ticketOf
 without-collected {number = number} {d = d} o (handed-over {i = i} h st b) =
@@ -151,8 +152,8 @@ without-collected {number = number} {d = d} o (handed-over {i = i} h st b) =
         n (from-opening-apart o .apart k i (λ z. some (same ∙ z)) (λ z. empty-not-answered (sym z ∙ st .is)) (ap ticketOf (sym same) ∙ is ∙ sym (ap ticketOf (st .is))))
 
 -- and never again.
-pub collected-gone : {memory number class own size k : ℕ} {span : Trop} {d e f : Desk} {before after : List ℕ} → FromOpening memory d
-    → Collects memory d number before (Desks.collected class span own size) e after → Run memory e k f → NotHeld f number
+pub collected-gone : {memory number class own size k : ℕ} {span : Trop} {d e f : Desk} {before after : List ℕ} {Gives : Giving} → FromOpening Gives memory d
+    → Collects memory d number before (Desks.collected class span own size) e after → Run Gives memory e k f → NotHeld f number
 collected-gone {number = number} o c run i some is =
     let w = without-collected o c in each-run number (w .1) (without-becomes number) (sound-collected (from-opening-sound o) c) (w .0) run .at i .other some is
 
@@ -168,7 +169,7 @@ some-becomes given was p l (goes-on f m) s = record { some = λ _. s .some (λ z
 some-becomes given was p l closes s = record { some = λ _. s .some (λ z. empty-not-waits (sym z)) }
 some-becomes given was p l frees s = record { some = λ n. absurd (n refl) }
 
-pub held-some : {memory : ℕ} {d : Desk} → FromOpening memory d → (i : ℕ) → (placeAt d i ≡ empty → ⊥) → (0 < ticketOf (placeAt d i)) × (ticketOf (placeAt d i) ≤ d .given)
+pub held-some : {memory : ℕ} {d : Desk} {Gives : Giving} → FromOpening Gives memory d → (i : ℕ) → (placeAt d i ≡ empty → ⊥) → (0 < ticketOf (placeAt d i)) × (ticketOf (placeAt d i) ≤ d .given)
 held-some o i n = (
   each-run 0 (omega arith) some-becomes sound-opened (record { at = λ k. record { some = λ m. absurd (m (sixteen-empty k)) } }) (o .run) .at i .some n,
   from-opening-sound o .tickets i,
@@ -176,7 +177,7 @@ held-some o i n = (
 
 -- ---- tickets count up
 
-pub tickets-later : {memory : ℕ} {d e f g : Desk} {p q : List ℕ} {number later k : ℕ} → TakesIn memory d p (Desks.ticket number) e → Run memory e k f
+pub tickets-later : {memory : ℕ} {d e f g : Desk} {p q : List ℕ} {number later k : ℕ} {Gives : Giving} → TakesIn memory d p (Desks.ticket number) e → Run Gives memory e k f
     → TakesIn memory f q (Desks.ticket later) g → number < later
 tickets-later (taken h f) run (taken i g) = omega (arith, run-given run)
 

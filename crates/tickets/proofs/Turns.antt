@@ -11,6 +11,7 @@ use Rattle.definitions.specs.Limits.{desk-places}
 use Rattle.definitions.specs.Tropical.{Trop}
 use Rattle.definitions.specs.ProblemRecord.{meant}
 use Rattle.definitions.specs.AnswerRecord.{Answer}
+use Rattle.definitions.specs.Solved.{Giving}
 use Rattle.definitions.specs.Desk.{Place, empty, waits, answered, Desk, placeAt, Stands, ticketOf, TakenIn, TakesIn, taken, Stepped, Steps, one-more, last-one, Collected, Collects, handed-over, Run, nothing, take-in, one-step, collect, FromOpening}
 use Rattle.definitions.specs.DeskLaws.{turn, turns}
 use Rattle.definitions.specs.Desk as Desks
@@ -60,24 +61,24 @@ module _ {d : Desk} {number count : ℕ} (some : 0 < number) (s : Sound d) (t : 
       now k (no d′) (yes f) = rw (elsewhere d given line i p k d′) (record { tells = λ z. absurd (other k d′ f z) })
       now k (no d′) (no m) = rw (elsewhere d given line i p k d′, ne-eqb n number m) (record { tells = λ z. omega (arith, t .at k .tells z) })
 
-  tells-stepped : {memory : ℕ} {e : Desk} {r : Stepped} → Apart d → Steps memory d r e → Each (Tells number (count + turn number r)) e
+  tells-stepped : {memory : ℕ} {e : Desk} {r : Stepped} {Gives : Giving} → Apart d → Steps Gives memory d r e → Each (Tells number (count + turn number r)) e
   unfolding turn ticketOf ownHeld
   tells-stepped a (Desks.Steps.turned-away h) = subst (λ (c : ℕ). Each (Tells number c) d) (omega arith) t
   tells-stepped a (Desks.Steps.idle h empty-line) = subst (λ (c : ℕ). Each (Tells number c) d) (omega arith) t
   tells-stepped a (one-more {i = i} {number = n} {own = own} {problem = problem} {rest = rest} h head st found more) =
       tells-tried (d .given) (rest ++ (i ∷ [])) (waits n problem (suc own)) a st refl refl
-  tells-stepped a (last-one {i = i} {number = n} {own = own} {class = class} {trials = trials} {span = span} {problem = problem} {rest = rest} {a = b} h head st last ans) =
+  tells-stepped a (last-one {i = i} {number = n} {own = own} {class = class} {trials = trials} {span = span} {problem = problem} {rest = rest} {a = b} h head st last ans gave) =
       tells-tried (d .given) rest (answered n problem class span trials b) a st refl last
 
-module _ {memory : ℕ} {d e : Desk} {p : List ℕ} {number : ℕ} (o : FromOpening memory d) (t : TakesIn memory d p (Desks.ticket number) e) where
-  tells-run : {f : Desk} {k : ℕ} (run : Run memory e k f) → Each (Tells number (turns number run)) f
+module _ {memory : ℕ} {d e : Desk} {p : List ℕ} {number : ℕ} {Gives : Giving} (o : FromOpening Gives memory d) (t : TakesIn memory d p (Desks.ticket number) e) where
+  tells-run : {f : Desk} {k : ℕ} (run : Run Gives memory e k f) → Each (Tells number (turns number run)) f
   unfolding turns ticketOf ownHeld
   tells-run nothing = each-at-first (Tells number 0) (from-opening-sound o) t (record { tells = λ _. refl }) (λ q l. record { tells = λ z. absurd (omega arith) })
   tells-run (take-in run c) = let new = taken-number t in tells-taken (omega (arith, new .0)) (sound-still o t run) (tells-run run) (omega (arith, new .1, run-given run)) c
   tells-run (one-step run c) = let new = taken-number t in tells-stepped (omega (arith, new .0)) (sound-still o t run) (tells-run run) (from-opening-apart (run-on o t run)) c
   tells-run (collect run c) = let new = taken-number t in tells-collected (omega (arith, new .0)) (sound-still o t run) (tells-run run) c
 
-module _ {memory : ℕ} {d e f : Desk} {p : List ℕ} {number k : ℕ} (o : FromOpening memory d) (t : TakesIn memory d p (Desks.ticket number) e) (run : Run memory e k f) where
+module _ {memory : ℕ} {d e f : Desk} {p : List ℕ} {number k : ℕ} {Gives : Giving} (o : FromOpening Gives memory d) (t : TakesIn memory d p (Desks.ticket number) e) (run : Run Gives memory e k f) where
   pub turns-waiting : {i own : ℕ} {problem : List ℕ} → Stands f i (waits number problem own) → turns number run ≡ own
   unfolding ticketOf ownHeld
   turns-waiting {i} st = subst (Tells number (turns number run)) (st .is) (tells-run o t run .at i) .tells refl
