@@ -11,6 +11,7 @@ use Rattle.definitions.specs.ProblemRecord.{problemOf, meant}
 use Rattle.definitions.specs.Desk as Machine
 use Rattle.definitions.specs.Desk.{Stands, Steps, one-more, last-one}
 use Rattle.engine.specs.OneTrial.{TrialFor}
+use Rattle.engine.specs.Outcome.{Gives}
 use Rattle.desk.specs.declared.state.Front.{Front}
 use Rattle.desk.specs.declared.state.Place.{Place}
 use Rattle.desk.specs.declared.calls.Stepped.the-variants as Steppings
@@ -81,7 +82,7 @@ module _ (f : Front) (c : Place) (memory : List ℕ) (enough : desk-memory ≤ l
 
       -- The head's place was tried.
       head-tried : {next : Front} {line : List ℕ} {p : Machine.Place} {outcome : Machine.Stepped} → Fits next → next .given ≡ state .given → ring (next .line) (next .head) (next .waiting) ≡ line → PlaceIs bytes r p
-          → Steps (length memory) state outcome (record { given = state .given; line = line; places = set (state .places) at p })
+          → Steps Gives (length memory) state outcome (record { given = state .given; line = line; places = set (state .places) at p })
           → HeadTried (deskOf f places) memory state outcome (deskOf next (set places at r))
       head-tried fits given line new steps =
           let same = getD-set-same places at r noPlace (omega (arith, head left here .inside, left .holds .size)) in
@@ -106,7 +107,7 @@ module _ (f : Front) (c : Place) (memory : List ℕ) (enough : desk-memory ≤ l
           let s = trial left here .ends e in
           let last : suc (c .pending .made) ≡ r .pending .made = omega (arith, s .1) in
           head-tried left here (gone-fits (left .holds .fits) some refl .0) (left .holds .given-is) refl (is-answered (seated left here) (s .0))
-          (last-one (memory-enough (length memory) enough) (line-is left here) (stands left here) last (s .0 .answers));
+          (last-one (memory-enough (length memory) enough) (line-is left here) (stands left here) last (s .0 .answers) (s .0 .gives));
     })
 
     -- or goes on, at the end of the line.

@@ -11,6 +11,7 @@ use Rattle.definitions.specs.Desk as Machine
 use Rattle.definitions.specs.Desk.{FirstEmpty, FromOpening, TakesIn, Steps, Collects}
 use Rattle.engine.specs.OneTrial.{fresh}
 use Rattle.engine.specs.declared.one_trial.Pending.{Pending}
+use Rattle.engine.specs.Outcome.{Gives}
 use Rattle.desk.specs.declared.calls.TakenIn.{TakenIn}
 use Rattle.desk.specs.declared.calls.TakenIn.the-variants as Takings
 use Rattle.desk.specs.declared.calls.Stepped.{Stepped}
@@ -29,7 +30,7 @@ use Rattle.desk.specs.State.{Desk, deskOf, placeIn, headOf, blankPlace, 
 -- is too short nothing is asked, and 23 is given.
 pub record Left (d : Desk) (memory : List ℕ) : Type 0 where
   pub state : Machine.Desk
-  pub from-opening : FromOpening (length memory) state
+  pub from-opening : FromOpening Gives (length memory) state
   pub holds : Holds d memory state
 
 abbrev pub AsLeft : Desk → List ℕ → Type 0
@@ -107,13 +108,13 @@ pub record HeadTried (d : Desk) (memory : List ℕ) (state : Machine.Desk) (r : 
   pub trial : Tried (bytesAt memory (headOf (d .front)) (placeIn d (headOf (d .front)) .size)) (placeIn d (headOf (d .front))) (placeIn d′ (headOf (d .front)))
   pub others : OthersStay d (headOf (d .front)) d′
   pub next : Machine.Desk
-  pub steps : Steps (length memory) state r next
+  pub steps : Steps Gives (length memory) state r next
   pub holds : Holds d′ memory next
 
 -- The machine's transition, which is never refused: with none waiting nothing changes.
 unfoldable pub DidStep : Desk → List ℕ → Machine.Desk → Stepped → Desk → Type 0
 DidStep d memory state (Steppings.Refused k) d′ = ⊥
-DidStep d memory state Steppings.NoneWaits d′ = Steps (length memory) state Machine.none-waits state × (d′ .front ≡ d .front)
+DidStep d memory state Steppings.NoneWaits d′ = Steps Gives (length memory) state Machine.none-waits state × (d′ .front ≡ d .front)
 DidStep d memory state (Steppings.GoesOn k) d′ = HeadTried d memory state (Machine.goes-on k) d′
 DidStep d memory state (Steppings.Done k) d′ = HeadTried d memory state (Machine.done k) d′
 

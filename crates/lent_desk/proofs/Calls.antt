@@ -10,6 +10,7 @@ use Rattle.definitions.specs.Problem.{Problem}
 use Rattle.definitions.specs.Solved.{Found, optimal, unbounded, infeasible}
 use Rattle.definitions.specs.Desk as Machine
 use Rattle.definitions.specs.Desk.{FromOpening, Collects}
+use Rattle.engine.specs.Outcome.{Gives}
 use Rattle.desk.specs.declared.state.Front.{Front}
 use Rattle.desk.specs.declared.state.Place.{Place}
 use Rattle.desk.specs.declared.calls.Taking.{Taking}
@@ -127,7 +128,7 @@ found-class (unbounded u) = omega arith
 found-class (infeasible i) = omega arith
 
 -- Class and own trials of a collected answer are small.
-collected-few : {memory number class own size : ℕ} {span : Trop} {state next : Machine.Desk} {before after : List ℕ} → FromOpening memory state
+collected-few : {memory number class own size : ℕ} {span : Trop} {state next : Machine.Desk} {before after : List ℕ} → FromOpening Gives memory state
     → Collects memory state number before (Machine.collected class span own size) next after → (class ≤ 3) × (own ≤ most-trials)
 collected-few o (Collects.handed-over e g l) = (found-class (desk-holds .answers-alone o g .1 .found), desk-holds .trials-of-answered o g)
 

@@ -7,6 +7,7 @@ use Rattle.definitions.specs.Limits.{desk-memory, refused-memory}
 use Rattle.definitions.specs.Tropical.{Trop}
 use Rattle.definitions.specs.Desk as Machine
 use Rattle.definitions.specs.Desk.{Opens, TakesIn, Steps, Collects}
+use Rattle.engine.specs.Outcome.{Gives}
 use Rattle.desk.specs.State.{Holds}
 use Rattle.desk.specs.Calls.{Left, AsLeft, TakenAt, HeadTried, FreedAt}
 use Rattle.desk_words.specs.Words.{desk-words, deskFrom, DeskPut}
@@ -76,7 +77,7 @@ pub data Tells : Machine.Stepped → ℕ → ℕ → Type 0 where
 -- A step: 0 and the words as they were where none waits; else 256 or 512, with the ticket told, the head's place after its next trial, and
 -- every other as it was.
 pub data SteppedFrom (memory words : List ℕ) (state : Machine.Desk) : ℕ → List ℕ → Type 0 where
-  idle : Steps (length memory) state Machine.none-waits state → SteppedFrom memory words state 0 words
+  idle : Steps Gives (length memory) state Machine.none-waits state → SteppedFrom memory words state 0 words
   tried :
       {r : Machine.Stepped} {told number : ℕ} {after : List ℕ} → Tells r told number → HeadTried (deskFrom words) memory state r (deskFrom after) → Stored words told after
       → SteppedFrom memory words state number after

@@ -8,6 +8,6 @@ span-solve-spec =
     tie.close
     (tie.spec
     (λ c κs. search needs)
-    (λ c κs. few-trials (c .before .before .solve .ensures))
+    (λ c κs. few-trials (c .before .before .solve .ensures .solves))
     (λ c. search needs)
-    (λ c. record { result = _; solves = c .before .before .before .solve .ensures; number-is = c .solved-number .ensures }))
+    (λ c. record { result = _; solves = c .before .before .before .solve .ensures .solves; number-is = c .solved-number .ensures }))
