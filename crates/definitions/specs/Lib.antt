@@ -22,6 +22,7 @@ pub mod Suspended
 pub mod Marks
 pub mod Desk
 pub mod DeskLaws
+pub mod OneAnswer
 pub mod Merging
 pub mod Census
 pub mod Reasons

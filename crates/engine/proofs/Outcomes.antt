@@ -224,7 +224,7 @@ module _ {p : List ℕ} {l : Layout} {left right : List ℕ} (read : Read engine
     unfolding solvedOf
     solves-one {before = before} {after} long e w = record {
       solves = rw (w .size-is, w .buffer-is, read .n-is, read .m-is) (solved (w .answer) one-kind (nothing-refused (omega arith)) (w .answers (problemOf p) one-stands));
-      writes = rw (w .buffer-is, read .n-is) (Writes.one gives);
+      writes = rw (w .size-is, w .buffer-is, read .n-is, read .m-is) (Writes.one one-kind (w .answers (problemOf p) one-stands) gives);
     }
       where
         own : asking p 0 ≡ p

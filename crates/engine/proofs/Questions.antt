@@ -67,7 +67,7 @@ module _ {s : List ℕ} {l : Layout} {left₀ right₀ before : List ℕ} (sever
         let e : l .questions ≡ q = omega arith in
         record {
           solves = rw (turns .at-is, turns .buffer-is, count-is) (all-solved {bytes = turns .records} {trials = trials} kind-is (nothing-refused (several .read) (several .room)) (rw (← count-is, e) (turns .in-turn)));
-          writes = rw (turns .buffer-is, count-is) (Writes.several {bytes = turns .records} (rw (← count-is, e) (turns .given)));
+          writes = rw (turns .at-is, turns .buffer-is, count-is) (Writes.several {trials = trials} {bytes = turns .records} kind-is (rw (← count-is, e) (turns .given)));
         }
 
     module _ (h : q < l .questions) where
@@ -151,7 +151,7 @@ module _ {s : List ℕ} {l : Layout} {left₀ right₀ before : List ℕ} (sever
             rights = rw right-is (record { size = right-length (alone s q); steady = right-steady s (passes .asks) (passes .some) q asked });
             records = turns .records ++ bytes;
             in-turn = rw add-one (one-more (w .answer) (turns .in-turn) answers);
-            given = rw add-one (GivesInTurn.more (turns .given) gives);
+            given = rw add-one (GivesInTurn.more (turns .given) answers gives);
             at-is = rw length-append (omega (arith, turns .at-is, size-is));
             buffer-is = put-at ∙ ap (λ (x : List ℕ). put x at bytes) (turns .buffer-is) ∙ put-put before 0 (turns .records) at bytes (omega arith) (omega (arith, turns .at-is));
             few = omega (arith, turns .few, trials-few (alone s q) (one .within) (answers .found));

@@ -1,5 +1,5 @@
 -- What the engine answers on bytes, in the words of the definitions.
-use Prim.Native.Nat.{ℕ, suc, _*_, _≤_, _<_}
+use Prim.Native.Nat.{ℕ, suc, _+_, _*_, _≤_, _<_}
 use mathlib.Core.Path.{_≡_}
 use mathlib.Core.List.{List, [], _++_}
 use lib.ListN.{length}
@@ -7,7 +7,7 @@ use Rattle.definitions.specs.Limits.{highest-n, highest-m, most-trials, most-qu
 use Rattle.definitions.specs.Tropical.{Trop}
 use Rattle.definitions.specs.Bytes.{Bytes}
 use Rattle.definitions.specs.Problem.{Problem}
-use Rattle.definitions.specs.ProblemRecord.{Kinds, engine-kinds, kindField, nField, mField, countField, questionsAsked, refusalFor}
+use Rattle.definitions.specs.ProblemRecord.{Kinds, engine-kinds, AsksOne, problemOf, kindField, nField, mField, countField, questionsAsked, refusalFor}
 use Rattle.definitions.specs.Questions.{alone, asking}
 use Rattle.definitions.specs.Offset.{tropOf}
 use Rattle.definitions.specs.AnswerRecord as Records
@@ -43,16 +43,22 @@ pub record Gives (s : List ℕ) (a : Records.Answer) : Type 0 where
   pub given : Given (nField s) (mField s) (leftTable s) (rightTable s) found
   pub is : a ≡ shownIn (nField s) (mField s) found
 
--- The records of its answers to the first questions of several, one after another: each is given for the question alone.
-pub data GivesInTurn (p : List ℕ) : ℕ → List ℕ → Type 0 where
-  none : GivesInTurn p 0 []
-  more : {q : ℕ} {bytes : List ℕ} {a : Records.Answer} → GivesInTurn p q bytes → Gives (alone p q) a → GivesInTurn p (suc q) (bytes ++ answerBytes (nField p) a)
+-- Its answers to the first questions of several, one after another: each is given for the question alone. Their bytes and their trials.
+pub data GivesInTurn (p : List ℕ) : ℕ → List ℕ → ℕ → Type 0 where
+  none : GivesInTurn p 0 [] 0
+  more :
+      {q class own trials : ℕ} {span : Trop} {bytes : List ℕ} {a : Records.Answer} → GivesInTurn p q bytes trials
+      → Answers (problemOf (alone p q)) class span own a → Gives (alone p q) a → GivesInTurn p (suc q) (bytes ++ answerBytes (nField p) a) (trials + own)
 
--- What it writes depends on the record alone.
+-- What it writes: the answer that it gives for the record, or those that it gives for its questions.
 pub data Writes (p before : List ℕ) : Results.Solved → List ℕ → Type 0 where
   refused : {k : ℕ} → Writes p before (Results.refused k) before
-  one : {class trials size : ℕ} {span : Trop} {a : Records.Answer} → Gives p a → Writes p before (Results.answered class span trials size) (written before (answerBytes (nField p) a))
-  several : {trials size : ℕ} {bytes : List ℕ} → GivesInTurn p (countField p) bytes → Writes p before (Results.all-answered (countField p) trials size) (written before bytes)
+  one :
+      {class trials : ℕ} {span : Trop} {a : Records.Answer} → AsksOne p → Answers (problemOf p) class span trials a → Gives p a
+      → Writes p before (Results.answered class span trials (answerSize class (nField p) (mField p))) (written before (answerBytes (nField p) a))
+  several :
+      {trials : ℕ} {bytes : List ℕ} → kindField p ≡ questions-kind → GivesInTurn p (countField p) bytes trials
+      → Writes p before (Results.all-answered (countField p) trials (length bytes)) (written before bytes)
 
 -- The engine's result and its buffer.
 pub record SolvedAs (p before : List ℕ) (r : Solved) (after : List ℕ) : Type 0 where
@@ -106,7 +112,7 @@ pub record Turns (s : List ℕ) (q at trials : ℕ) (before after left right : L
   pub rights : Rewritten (mField s) (rightTable (alone s 0)) right
   pub records : List ℕ
   pub in-turn : AnswersInTurn s q records trials
-  pub given : GivesInTurn s q records
+  pub given : GivesInTurn s q records trials
   pub at-is : at ≡ length records
   pub buffer-is : after ≡ written before records
   pub few : trials ≤ q * most-trials

@@ -170,7 +170,7 @@ accepts-record check judges p b w a ans =
     (rw (within-itself p w) at (judges p (answerBytes (nField p) a) b (record-slice (nField p) (mField p) answer-most a (answer-takes p w a ans))))
 
 -- The record of one question can be handed over.
-alone-slice : (p : List ℕ) → Slice p → {q : ℕ} → OneAsked p q → Slice (alone p q)
+pub alone-slice : (p : List ℕ) → Slice p → {q : ℕ} → OneAsked p q → Slice (alone p q)
 alone-slice p b {q} o = record { bytes = alone-bytes p q (b .bytes); size = omega (arith, header-most checker-kinds (alone p q) (length (alone p q)) (header-none checker-kinds (alone p q) (o .within))) }
 
 module _ (check : Checker) (judges : CheckerJudges check) (read : Reader) (reads : ReadsFields read) (p : List ℕ) (b : Slice p) (k : kindField p ≡ questions-kind) (w : WithinLayouts p) where

@@ -15,3 +15,4 @@ pub mod Reached
 pub mod Solvable
 pub mod DeskGoes
 pub mod Inhabited
+pub mod OneAnswer
