@@ -16,7 +16,7 @@ pub fn is_hours(word: &str) -> bool {
 }
 
 /// A unit, in minutes.
-fn unit(word: &str) -> Option<i32> {
+pub fn unit(word: &str) -> Option<i32> {
     Some(match word.to_lowercase().as_str() {
         "min" | "mins" | "minute" | "minutes" => 1,
         "h" | "hr" | "hrs" | "hour" | "hours" => 60,

@@ -32,7 +32,8 @@ use crate::limits;
 use crate::lines::{headed, without_colon, Key};
 use crate::outcome::Expected;
 use crate::remark::{Place, Remark, Weight};
-use crate::sheet::{Origin, Row, Sheet};
+use crate::repair::{self, FIXED};
+use crate::sheet::{Origin, Sheet};
 use crate::shown;
 use crate::sides;
 use crate::source;
@@ -48,12 +49,6 @@ pub struct Read {
     /// The lines, for showing a remark.
     pub lines: Vec<String>,
 }
-
-/// How many mistakes are looked at for what to write in their stead.
-const FIXED: usize = 100;
-
-/// The longest line, in bytes, that is looked at for that, and the longest that is shown so.
-const LONGEST: usize = 1_000;
 
 /// Reads a whole text. No bytes are an idle day.
 pub fn read(bytes: &[u8], clock: &Clock) -> Read {
@@ -99,23 +94,27 @@ pub fn title(line: &str) -> Option<String> {
 pub(crate) struct Draft<'c> {
     pub(crate) clock: &'c Clock,
     pub(crate) sheet: Sheet,
-    remarks: Vec<Remark>,
+    pub(crate) remarks: Vec<Remark>,
     /// Lines `span:` so far, those with a mistake too.
-    spans: usize,
+    pub(crate) spans: usize,
     /// Names that no line declares, with their places.
-    unknown: BTreeMap<String, Vec<Place>>,
+    pub(crate) unknown: BTreeMap<String, Vec<Place>>,
     /// Whether a line of moments could not be read, so that nobody knows which names it has.
     pub(crate) unread: bool,
     /// Lines `expect:`: of which span, on which line, and what.
-    expected: Vec<(usize, usize, Expected)>,
+    pub(crate) expected: Vec<(usize, usize, Expected)>,
     /// The moments by what they look like.
     pub(crate) looks: BTreeMap<String, usize>,
     /// How many moments there are beyond those that are kept.
     pub(crate) beyond: usize,
     /// Whether the anchor's line is a mistake.
-    doubtful: bool,
+    pub(crate) doubtful: bool,
     /// The line `nothing before anchor`.
     pub(crate) floor: Option<Floor>,
+    /// How deep this is a trial of lines that may be written in another's stead; the text itself is none.
+    pub(crate) depth: usize,
+    /// How many mistaken lines may still be looked at for other words.
+    pub(crate) looks_left: usize,
 }
 
 /// A part of a line as a place. Places of a line count bytes there, and characters here.
@@ -125,7 +124,7 @@ pub(crate) fn place(number: usize, line: &str, from: usize, to: usize) -> Place 
 }
 
 impl<'c> Draft<'c> {
-    fn new(clock: &'c Clock) -> Draft<'c> {
+    pub(crate) fn new(clock: &'c Clock) -> Draft<'c> {
         Draft {
             clock,
             sheet: Sheet::new(),
@@ -138,6 +137,8 @@ impl<'c> Draft<'c> {
             beyond: 0,
             doubtful: false,
             floor: None,
+            depth: 0,
+            looks_left: repair::FIXED,
         }
     }
 
@@ -158,7 +159,7 @@ impl<'c> Draft<'c> {
     }
 
     /// Reads the lines of some kinds.
-    fn all(&mut self, lines: &[String], wanted: fn(Key) -> bool) {
+    pub(crate) fn all(&mut self, lines: &[String], wanted: fn(Key) -> bool) {
         for (number, line) in (1..).zip(lines) {
             // A fault of the line as a whole is told once, with the lines that are rules.
             let end = match tokens::comment(line).and_then(|end| hash::doubtful(self, line, end).map_or(Ok(end), Err)) {
@@ -195,10 +196,11 @@ impl<'c> Draft<'c> {
         if !wanted(headed.key.unwrap_or(Key::Rule)) {
             return;
         }
+        let before = self.remarks.len();
         if let Some(fault) = headed.fault {
             self.wrong(number, line, fault);
         }
-        let Some(key) = headed.key else { return };
+        let Some(key) = headed.key else { return self.other_words(number, line, end, before) };
         self.unread |= key == Key::Moments && tokens.is_err();
         let done = tokens.and_then(|tokens| {
             let mut cursor = Cursor::new(line, tokens, end);
@@ -214,6 +216,7 @@ impl<'c> Draft<'c> {
             self.wrong(number, line, fault);
         }
         self.spans += (key == Key::Span) as usize;
+        self.other_words(number, line, end, before);
     }
 
     fn take(&mut self, key: Key, number: usize, cursor: &mut Cursor) -> Result<(), Fault> {
@@ -352,7 +355,7 @@ impl<'c> Draft<'c> {
     }
 
     /// A name that is not declared is told once, with the other lines that have it.
-    fn unknown_names(&mut self, lines: &[String]) {
+    pub(crate) fn unknown_names(&mut self, lines: &[String]) {
         let mut unknown: Vec<(String, Vec<Place>)> = std::mem::take(&mut self.unknown).into_iter().collect();
         unknown.sort_by_key(|(_, places)| places[0]);
         for (number, (name, places)) in unknown.into_iter().enumerate() {
@@ -389,71 +392,6 @@ impl<'c> Draft<'c> {
             let fixes = fixes.into_iter().collect();
             self.remarks.push(Remark { weight: Weight::Mistake, place: places[0], message, hint, fixes });
         }
-    }
-
-    /// Whether one of the first mistakes has lines to be written in its stead that are mistakes themselves: these are not shown. Nor
-    /// are two that say the same.
-    fn taken(&mut self, lines: &[String]) {
-        let mut remarks = std::mem::take(&mut self.remarks);
-        remarks.sort_by_key(|remark| remark.place);
-        let mut trial = Draft::new(self.clock);
-        trial.sheet.anchor = self.sheet.anchor;
-        std::mem::swap(&mut trial.sheet.moments, &mut self.sheet.moments);
-        for (number, remark) in remarks.iter_mut().enumerate() {
-            let line = lines.get(remark.place.line - 1).map_or("", String::as_str);
-            if number >= FIXED {
-                remark.fixes.clear();
-            }
-            if remark.fixes.is_empty() || line.len() > LONGEST {
-                remark.fixes.clear();
-                continue;
-            }
-            let mistakes = trial.says(&[line.into()], line).0.max(1);
-            let mut seen = Vec::new();
-            remark.fixes.retain(|fix| {
-                let (left, said) = trial.says(&fix.lines, line);
-                let short = fix.lines.iter().all(|line| line.len() <= LONGEST);
-                let new = short && left < mistakes && !seen.contains(&said) && fix.lines != [line];
-                seen.push(said);
-                new
-            });
-        }
-        std::mem::swap(&mut trial.sheet.moments, &mut self.sheet.moments);
-        self.remarks = remarks;
-    }
-
-    /// How many mistakes some lines have in the place of a line, and what they say: rules, spans and what else they leave behind.
-    fn says(&mut self, lines: &[String], line: &str) -> (usize, String) {
-        let (moments, anchor) = (self.sheet.moments.clone(), self.sheet.anchor);
-        let has = |key: Key| {
-            lines.iter().map(String::as_str).chain([line]).any(|line| headed(line, line.len()).key == Some(key))
-        };
-        if has(Key::Moments) {
-            self.sheet.moments.truncate(1);
-        }
-        if has(Key::Anchor) {
-            self.sheet.anchor = None;
-        }
-        self.spans = 1;
-        self.all(lines, |key| key == Key::Moments);
-        self.all(lines, |key| key == Key::Anchor);
-        self.all(lines, |key| key != Key::Moments && key != Key::Anchor);
-        let mistakes = self.remarks.len() + self.unknown.len();
-        let rows = |row: &Row| (row.left.clone(), row.right.clone(), row.in_force);
-        let sheet = &self.sheet;
-        let rules: Vec<_> = sheet.rules.iter().map(rows).collect();
-        let spans: Vec<_> = sheet.questions.iter().map(|question| rows(&question.row)).collect();
-        let names: Vec<&str> = sides::names(&sheet.moments).collect();
-        let but = self.floor.as_ref().map(|floor| floor.but.clone());
-        let said = match mistakes {
-            0 => {
-                format!("{rules:?} {spans:?} {names:?} {:?} {:?} {but:?} {:?}", sheet.anchor, sheet.week, self.expected)
-            }
-            _ => lines.join("\n"),
-        };
-        let (clock, sheet) = (self.clock, Sheet { moments, anchor, ..Sheet::new() });
-        *self = Draft { sheet, ..Draft::new(clock) };
-        (mistakes, said)
     }
 }
 

@@ -1,0 +1,191 @@
+//! What can be written in a mistaken line's stead: each line that is shown is read without a mistake.
+//!
+//! A reading that leaves another mistake of its line is followed: the readings of that one are put in, and theirs, until nothing is
+//! left. One that comes to no end is not shown.
+
+use crate::fault::{Fault, Fix};
+use crate::lines::{headed, Key};
+use crate::parse::Draft;
+use crate::plain;
+use crate::remark::Remark;
+use crate::sheet::{Row, Sheet};
+use crate::sides;
+use crate::whole;
+
+/// How many mistakes are looked at for what to write in their stead.
+pub const FIXED: usize = 100;
+
+/// The longest line, in bytes, that is looked at for that, and the longest that is shown so.
+const LONGEST: usize = 1_000;
+
+/// How many mistakes of one line are followed, one behind another.
+const STEPS: usize = 3;
+
+/// The most readings of a mistake that are shown.
+const MOST: usize = 6;
+
+/// Readings that nothing is followed into: guesses at what is missing.
+const GUESSES: [&str; 3] = ["later", "earlier", "from the anchor"];
+
+/// A reading that is not followed: what else is wrong shows that it was not meant.
+const SEVERAL: &str = "several names";
+
+/// What stands below a mistake whose readings are not shown, since the line has another.
+const OTHER: &str = "this line has another mistake: mend that first, and what to write for this one is shown";
+
+/// What stands below a mistake that the readings of another one of its line mend too.
+const SAME: &str = "what is shown for the line's other mistake mends this too";
+
+/// What lines say that were read on trial: nothing where they have a mistake.
+struct Tried {
+    mistakes: Vec<Remark>,
+    said: String,
+}
+
+impl<'c> Draft<'c> {
+    /// Leaves those lines alone of the mistakes that are read without a mistake, and no two that say the same.
+    pub(crate) fn taken(&mut self, lines: &[String]) {
+        let mut remarks = std::mem::take(&mut self.remarks);
+        remarks.sort_by_key(|remark| remark.place);
+        let places: Vec<usize> = remarks.iter().map(|remark| remark.place.line).collect();
+        let mut before: Option<(usize, Vec<Fix>)> = None;
+        for (number, remark) in remarks.iter_mut().enumerate() {
+            let offered = std::mem::take(&mut remark.fixes);
+            let here = remark.place.line;
+            let line = lines.get(here - 1).map_or("", String::as_str);
+            if number >= FIXED || offered.is_empty() || line.len() > LONGEST {
+                continue;
+            }
+            remark.fixes = self.repairs(&offered, line);
+            let alone = places.iter().filter(|place| **place == here).count() == 1;
+            if remark.fixes.is_empty() && !alone {
+                remark.hint.get_or_insert(OTHER.into());
+            }
+            let told = before.as_ref().is_some_and(|(place, fixes)| *place == here && same(fixes, &remark.fixes));
+            match told && !remark.fixes.is_empty() {
+                true => {
+                    remark.fixes.clear();
+                    remark.hint = Some(SAME.into());
+                }
+                false => before = Some((here, remark.fixes.clone())),
+            }
+        }
+        self.remarks = remarks;
+    }
+
+    /// The readings among those offered that are read without a mistake, each followed as far as it needs.
+    pub(crate) fn repairs(&self, offered: &[Fix], line: &str) -> Vec<Fix> {
+        let mut seen: Vec<String> = Vec::new();
+        let mut good = Vec::new();
+        for fix in offered {
+            for (fix, said) in self.followed(fix, line, STEPS) {
+                let short = fix.lines.iter().all(|line| line.len() <= LONGEST);
+                if short && fix.lines != [line] && !seen.contains(&said) && good.len() < MOST {
+                    seen.push(said);
+                    good.push(fix);
+                }
+            }
+        }
+        good
+    }
+
+    /// A reading with what else its lines lack: itself where they lack nothing.
+    fn followed(&self, fix: &Fix, line: &str, steps: usize) -> Vec<(Fix, String)> {
+        let Tried { mistakes, said } = self.tried(&fix.lines, line);
+        let Some(first) = mistakes.first() else { return vec![(fix.clone(), said)] };
+        let bare = mistakes.iter().any(|mistake| mistake.fixes.is_empty());
+        let place = first.place.line - 1;
+        if steps == 0 || bare || place >= fix.lines.len() || fix.says == SEVERAL {
+            return Vec::new();
+        }
+        let next = first.fixes.iter().filter(|next| !GUESSES.contains(&next.says.as_str()) && next.lines.len() < 40);
+        let next = next.flat_map(|next| {
+            let mut lines = fix.lines.clone();
+            lines.splice(place..=place, next.lines.iter().cloned());
+            self.followed(&Fix { says: joined(&fix.says, &next.says), lines }, line, steps - 1)
+        });
+        next.take(2 * MOST).collect()
+    }
+
+    /// Reads lines in the place of one, with the moments and the anchor of the text.
+    fn tried(&self, lines: &[String], line: &str) -> Tried {
+        let moments = |line: &str| is(line, Key::Moments);
+        let anchors = |line: &str| is(line, Key::Anchor);
+        let own = |such: &dyn Fn(&str) -> bool| such(line) || lines.len() == 1 && such(&lines[0]);
+        let (named, dated) = (own(&moments), own(&anchors));
+        let mut sheet = Sheet { anchor: self.sheet.anchor.filter(|_| !dated), ..Sheet::new() };
+        if !named {
+            sheet.moments = self.sheet.moments.clone();
+        }
+        let looks = if named { Default::default() } else { self.looks.clone() };
+        let doubtful = self.doubtful && !dated;
+        let mut trial = Draft { sheet, looks, doubtful, ..Draft::new(self.clock) };
+        trial.spans = 1;
+        trial.depth = self.depth + 1;
+        trial.all(lines, |key| key == Key::Moments);
+        trial.all(lines, |key| key == Key::Anchor);
+        trial.all(lines, |key| key != Key::Moments && key != Key::Anchor);
+        if !trial.unread && !self.unread {
+            trial.unknown_names(lines);
+        }
+        trial.remarks.sort_by_key(|remark| remark.place);
+        let said = trial.says();
+        Tried { said, mistakes: trial.remarks }
+    }
+
+    /// What was read, in a form that is the same for lines that say the same.
+    fn says(&self) -> String {
+        let rows = |row: &Row| (row.left.clone(), row.right.clone(), row.in_force);
+        let sheet = &self.sheet;
+        let rules: Vec<_> = sheet.rules.iter().map(rows).collect();
+        let spans: Vec<_> = sheet.questions.iter().map(|question| rows(&question.row)).collect();
+        let names: Vec<&str> = sides::names(&sheet.moments).collect();
+        let week: Vec<_> = sheet.week.iter().map(|window| (window.opening, window.closing)).collect();
+        let but = self.floor.as_ref().map(|floor| floor.but.clone());
+        let expected: Vec<_> = self.expected.iter().map(|(span, _, outcome)| (span, outcome)).collect();
+        format!("{rules:?} {spans:?} {names:?} {:?} {week:?} {but:?} {expected:?} {:?}", sheet.anchor, sheet.admits)
+    }
+
+    /// Puts one mistake in the place of those of a line, where the line is read with other words for those that it has.
+    pub(crate) fn other_words(&mut self, number: usize, line: &str, end: usize, before: usize) {
+        let unknown = self.unknown.values().flatten().any(|place| place.line == number);
+        let wrong = self.remarks.len() > before || unknown;
+        if !wrong || self.depth > STEPS || self.looks_left == 0 || line.len() > LONGEST {
+            return;
+        }
+        self.looks_left -= 1;
+        let Some(fault) = self.otherwise(line, end) else { return };
+        self.remarks.truncate(before);
+        self.unknown.values_mut().for_each(|places| places.retain(|place| place.line != number));
+        self.unknown.retain(|_, places| !places.is_empty());
+        self.wrong(number, line, fault);
+    }
+
+    /// A line in other words, or in another form: the readings of it that are read.
+    fn otherwise(&self, line: &str, end: usize) -> Option<Fault> {
+        let forms = [plain::otherwise(&self.known(), line, end), whole::otherwise(&self.known(), line, end)];
+        forms.into_iter().flatten().find_map(|fault| {
+            let fixes = self.repairs(&fault.fixes, line);
+            (!fixes.is_empty()).then_some(Fault { fixes, ..fault })
+        })
+    }
+}
+
+/// Whether a line is of a kind.
+fn is(line: &str, key: Key) -> bool {
+    headed(line, line.len()).key == Some(key)
+}
+
+/// What two readings say, one behind the other.
+fn joined(first: &str, second: &str) -> String {
+    match (first.is_empty(), second.is_empty()) {
+        (_, true) => first.into(),
+        (true, _) => second.into(),
+        _ => format!("{first}; {second}"),
+    }
+}
+
+/// Whether two mistakes show the same lines.
+fn same(first: &[Fix], second: &[Fix]) -> bool {
+    first.len() == second.len() && first.iter().all(|fix| second.iter().any(|other| other.lines == fix.lines))
+}
