@@ -2,6 +2,7 @@
 
 use crate::calendar;
 use crate::clock::{self, DAY, DAYS};
+use crate::instant;
 use crate::length::{is_hours, is_number};
 use crate::plain::{one, Put, Seen};
 
@@ -106,12 +107,25 @@ pub fn clock(seen: &Seen) -> Option<Put> {
         }
     }
     let parts: Vec<&str> = word.split(':').collect();
+    if let ([hours, minutes], Some(anchor)) = (&parts[..], seen.known.anchor) {
+        return next_day(seen, hours.parse().ok()?, minutes, anchor.minute);
+    }
     let [hours, minutes, seconds] = parts[..] else { return None };
     let such = is_number(hours) && two(minutes) && two(seconds) && seconds != "00";
     let (hours, minutes): (i32, i32) = (hours.parse().ok().filter(|_| such)?, minutes.parse().ok()?);
     let time = |minute: i32| format!("{}:{:02}", minute / 60, minute % 60);
     let minute = hours.checked_mul(60)? + minutes;
     Some((1, vec![("without its seconds", time(minute)), ("the next whole minute", time(minute + 1))]))
+}
+
+/// A time behind 24:00: one of the next day.
+fn next_day(seen: &Seen, hours: i32, minutes: &str, start: i32) -> Option<Put> {
+    let (anchor, clock) = (seen.known.anchor?, seen.known.clock);
+    let such = (24..48).contains(&hours) && minutes.len() == 2 && clock.judges();
+    let minute: i32 = minutes.parse().ok().filter(|minute| such && (0..60).contains(minute))?;
+    (60 * hours + minute > DAY).then_some(())?;
+    let text = instant::point(&anchor, 60 * hours + minute - start, clock, false);
+    Some((1, vec![("on the next day", text)]))
 }
 
 /// An hour in words or digits, up to twelve.

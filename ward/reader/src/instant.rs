@@ -117,7 +117,7 @@ fn half(cursor: &Cursor, time: Token) -> Option<Fault> {
     match token.text.to_lowercase().as_str() {
         "am" | "pm" | "a.m." | "p.m." => {
             let text = of_half(time.text, token.text.to_lowercase().starts_with('p'))?;
-            fault(format!("'{written}': the hours of a day are 0 to 24")).map(|fault| fault.fix("", say(&text)))
+            fault(format!("'{written}': times of day go from 0:00 to 24:00")).map(|fault| fault.fix("", say(&text)))
         }
         "uhr" | "h" | "o'clock" | "hrs" | "hours" => {
             fault(format!("'{}' is too much", token.text)).map(|fault| fault.fix("", say(time.text)))
@@ -153,6 +153,9 @@ fn no_time(cursor: &Cursor, from: usize, named: bool) -> Fault {
         let to = cursor.peek(1).map_or(to, |token| token.to);
         return fault.fix("", with(cursor.line, from, to, &format!("{before} {time}")));
     }
+    if let Some(fault) = next.filter(|_| named).and_then(|next| hour_of_day(cursor, next, from)) {
+        return fault;
+    }
     let to = if word == "midnight" { to } else { from + before.len() };
     match named {
         true => fault
@@ -160,6 +163,19 @@ fn no_time(cursor: &Cursor, from: usize, named: bool) -> Fault {
             .fix("when the day ends", with(cursor.line, from, to, &format!("{before} 24:00"))),
         false => fault.hint("times are written 8:40 or 14:05"),
     }
+}
+
+/// An hour, or a time in another form, behind a day: `Thu 9`, `Thu 2pm`, `Thu 14.00`.
+fn hour_of_day(cursor: &Cursor, next: Token, from: usize) -> Option<Fault> {
+    let none = Known { moments: &[], anchor: None, doubtful: false, clock: &Clock::unjudged() };
+    let fault = meant(cursor, &none).unwrap_or_else(|| bare(cursor, next));
+    let digits = next.text.starts_with(|c: char| c.is_ascii_digit());
+    let minutes = |fix: &crate::fault::Fix| !fix.says.starts_with("minutes");
+    let fixes: Vec<_> = fault.fixes.into_iter().filter(minutes).collect();
+    (digits && !fixes.is_empty()).then(|| {
+        let message = format!("'{}' has no time as it is written here", &cursor.line[from..next.to]);
+        Fault { fixes, ..Fault::new(from, next.to, message) }
+    })
 }
 
 /// Reads a clock time as minutes from the anchor. `listed` says whether it stands in a list, where minutes need brackets.
@@ -300,7 +316,7 @@ pub fn meant(cursor: &Cursor, known: &Known) -> Option<Fault> {
     if ["am", "pm", "a.m.", "p.m."].contains(&behind.as_str()) && is_number(token.text) {
         let to = next?.to;
         let written = &cursor.line[token.from..to];
-        let fault = fault(to, format!("'{written}': the hours of a day are 0 to 24"));
+        let fault = fault(to, format!("'{written}': times of day go from 0:00 to 24:00"));
         return Some(match of_half(token.text, behind.starts_with('p')) {
             Some(text) if text == "12:00" => fault.fix("noon", say(to, "12:00")).fix("midnight", say(to, "24:00")),
             Some(text) => fault.fix("", say(to, &text)),
@@ -328,7 +344,7 @@ pub fn meant(cursor: &Cursor, known: &Known) -> Option<Fault> {
             return Some(no_time().fix("", say(to, &format!("{hours}:{minutes}"))));
         }
     }
-    if token.text.len() == 4 && is_number(token.text) && behind.is_empty() {
+    if token.text.len() == 4 && token.text.starts_with('0') && is_number(token.text) && behind.is_empty() {
         return Some(no_time().fix("", say(token.to, &format!("{}:{}", &token.text[..2], &token.text[2..]))));
     }
     let clock = ["o'clock", "uhr"].contains(&behind.as_str());
@@ -350,7 +366,20 @@ pub fn bare(cursor: &Cursor, token: Token) -> Fault {
             fault = fault.fix("by the clock, in the afternoon or evening", say(format!("{}:00", hour + 12)));
         }
     }
+    if let Some((hours, minutes)) = digits_of_day(token.text) {
+        fault = fault.fix("by the clock", say(format!("{hours}:{minutes:02}")));
+        if (1..12).contains(&hours) && token.text.len() == 3 {
+            fault = fault.fix("by the clock, in the afternoon or evening", say(format!("{}:{minutes:02}", hours + 12)));
+        }
+    }
     fault.fix("minutes after the anchor", say(format!("anchor + {}", token.text)))
+}
+
+/// Three or four digits as hours and minutes: `845`, `0845`.
+fn digits_of_day(text: &str) -> Option<(i32, i32)> {
+    let place = text.len().checked_sub(2).filter(|place| (1..=2).contains(place) && is_number(text))?;
+    let (hours, minutes): (i32, i32) = (text[..place].parse().ok()?, text[place..].parse().ok()?);
+    (hours * 60 + minutes <= DAY && minutes < 60).then_some((hours, minutes))
 }
 
 /// `next Thu 14:00`, `tomorrow 10:00`, `today 8:00`.
@@ -403,8 +432,11 @@ pub fn other_date(cursor: &Cursor, token: Token) -> Option<Fault> {
     let fault = fault().hint("a date is written as year, month and day: 2026-11-17");
     let mut days: Vec<i64> = match (first.len(), third.len()) {
         (4, _) => calendar::day(a, b, c).into_iter().collect(),
-        (_, 4) if token.text.contains('.') => calendar::day(c, b, a).into_iter().collect(),
-        (_, 4) => [calendar::day(c, a, b), calendar::day(c, b, a)].into_iter().flatten().collect(),
+        (_, 4) => [calendar::day(c, b, a), calendar::day(c, a, b)].into_iter().flatten().collect(),
+        (2, 2) => [(c, b, a), (c, a, b), (a, b, c)]
+            .into_iter()
+            .filter_map(|(year, month, date)| calendar::day(2000 + year, month, date))
+            .collect(),
         _ => Vec::new(),
     };
     days.dedup();

@@ -264,6 +264,10 @@ fn no_length(cursor: &Cursor, token: Token) -> Fault {
             _ => fault,
         };
     }
+    let likely = token.text.replace(['O', 'o'], "0").replace(['l', 'I'], "1");
+    if likely != token.text && is_number(&likely) && token.text.contains(|c: char| c.is_ascii_digit()) {
+        return fault.fix("with digits alone", say(likely));
+    }
     let digits: String = token.text.chars().take_while(char::is_ascii_digit).collect();
     let rest = token.text[digits.len()..].to_lowercase();
     match rest.as_str() {

@@ -25,6 +25,8 @@ mod length;
 pub mod limits;
 mod lines;
 mod naming;
+mod offers;
+mod open;
 pub mod outcome;
 mod parse;
 mod phrases;

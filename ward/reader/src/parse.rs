@@ -22,7 +22,7 @@ use std::collections::BTreeMap;
 use crate::alike;
 use crate::clock::Clock;
 use crate::cursor::Cursor;
-use crate::fault::{with, Fault, Fix};
+use crate::fault::{with, Fault};
 use crate::floor::{self, Floor};
 use crate::hash;
 use crate::hints;
@@ -30,6 +30,7 @@ use crate::instant::Known;
 use crate::length;
 use crate::limits;
 use crate::lines::{headed, without_colon, Key};
+use crate::naming;
 use crate::outcome::Expected;
 use crate::remark::{Place, Remark, Weight};
 use crate::repair::{self, FIXED};
@@ -229,8 +230,9 @@ impl<'c> Draft<'c> {
             Key::Rule if no_sign && floor::starts(cursor) => self.floor_line(number, cursor),
             Key::Suspended if no_sign && floor::starts(cursor) => {
                 let from = cursor.place();
-                Err(Fault::new(from, from + cursor.rest().len(), "this line is no rule, and is not suspended")
-                    .hint("make it a comment, with # at the line's start"))
+                let (line, rest) = (cursor.line, cursor.rest());
+                Err(Fault::new(from, from + rest.len(), "this line is no rule, and is not suspended")
+                    .fix("a comment", format!("# {rest}{}", &line[cursor.end()..])))
             }
             Key::Rule => self.rule(number, cursor, true),
             Key::Suspended => self.rule(number, cursor, false),
@@ -244,10 +246,13 @@ impl<'c> Draft<'c> {
         let (from, text, line) = (cursor.place(), cursor.rest(), cursor.line);
         let fault = |message: String| Fault::new(from, from + text.len(), message);
         let Some(span) = self.spans.checked_sub(1) else {
-            return Err(fault("an 'expect:' stands below its span".into()));
+            return Err(fault("an 'expect:' stands below its span".into()).hint("move this line below its 'span:'"));
         };
         if let Some((_, other, _)) = self.expected.iter().find(|(other, ..)| *other == span) {
-            return Err(fault(format!("a span has one 'expect:' only, and line {other} has it")));
+            let start = line.len() - line.trim_start().len();
+            return Err(fault(format!("a span has one 'expect:' only, and line {other} has it"))
+                .hint("delete one of the two lines")
+                .fix("the other line alone", with(line, start, start, "# ")));
         }
         let words: Vec<String> = text.split_whitespace().map(str::to_lowercase).collect();
         let words: Vec<&str> = words.iter().map(String::as_str).collect();
@@ -270,6 +275,16 @@ impl<'c> Draft<'c> {
             return Err(match words[..] {
                 [number] if self.number(number).is_some() => fault.fix("", say(format!("least {number}"))),
                 ["no", "plan"] => fault.fix("", say("none".into())),
+                ["at", limit, ..] => {
+                    let least = say(format!("least {}", words[2..].join(" ")));
+                    let fault = fault.hint("what is expected is one answer, and no limit of it");
+                    if limit == "least" {
+                        fault.fix("the least span", least)
+                    } else {
+                        fault
+                    }
+                }
+                ["least", ..] => self.expected_length(cursor, fault),
                 _ => fault,
             });
         };
@@ -278,6 +293,13 @@ impl<'c> Draft<'c> {
         }
         self.expected.push((span, number, outcome));
         Ok(())
+    }
+
+    /// What is wrong with the length of an expected span, with what to write.
+    fn expected_length(&self, cursor: &Cursor, fault: Fault) -> Fault {
+        let mut rest = Cursor::new(cursor.line, cursor.left().to_vec(), cursor.end());
+        let wrong = length::read(&mut rest, self.clock).err();
+        wrong.filter(|wrong| !wrong.fixes.is_empty()).unwrap_or(fault)
     }
 
     /// A span from the anchor that is expected to be as long as a time of day that it may run to.
@@ -382,24 +404,28 @@ impl<'c> Draft<'c> {
                 }
                 None => format!("no moment is called '{name}'{also}"),
             };
-            let hint = match near {
-                Some(_) => None,
-                None if self.sheet.moments.len() == 1 => Some("name it first, on a line 'moments: ..'".into()),
-                None => Some("name it on the line 'moments: ..'".into()),
-            };
             let line = lines.get(places[0].line - 1).map_or("", String::as_str);
-            let fixes = near.map(|near| Fix { says: String::new(), lines: vec![renamed(line, places[0], &near)] });
-            let fixes = fixes.into_iter().collect();
+            let hint = match &near {
+                Some(_) => None,
+                None => Some(naming::unknown_hint(&name, self.sheet.moments.len() == 1).into()),
+            };
+            let fixes =
+                if number < FIXED { self.names_for(&name, near.as_deref(), line, places[0]) } else { Vec::new() };
             self.remarks.push(Remark { weight: Weight::Mistake, place: places[0], message, hint, fixes });
         }
     }
 }
 
 /// A line with another name at a place.
-fn renamed(line: &str, place: Place, name: &str) -> String {
+pub(crate) fn renamed(line: &str, place: Place, name: &str) -> String {
+    renamed_to(line, place, &shown::name(name))
+}
+
+/// A line with another text at a place.
+pub(crate) fn renamed_to(line: &str, place: Place, text: &str) -> String {
     let byte = |column: usize| line.char_indices().nth(column).map_or(line.len(), |(byte, _)| byte);
     let (from, to) = (byte(place.column - 1), byte(place.column - 1 + place.width));
-    with(line, from, to, &shown::name(name))
+    with(line, from, to, text)
 }
 
 /// The tokens of a part of a line, as a rule has them.

@@ -133,6 +133,11 @@ impl<'c> Draft<'c> {
         Tried { said, mistakes: trial.remarks }
     }
 
+    /// Whether lines in the place of one are read without a mistake.
+    pub(crate) fn reads(&self, lines: &[String], line: &str) -> bool {
+        line.len() <= LONGEST && self.tried(lines, line).mistakes.is_empty()
+    }
+
     /// What was read, in a form that is the same for lines that say the same.
     fn says(&self) -> String {
         let rows = |row: &Row| (row.left.clone(), row.right.clone(), row.in_force);
@@ -148,7 +153,7 @@ impl<'c> Draft<'c> {
 
     /// Puts one mistake in the place of those of a line, where the line is read with other words for those that it has.
     pub(crate) fn other_words(&mut self, number: usize, line: &str, end: usize, before: usize) {
-        let unknown = self.unknown.values().flatten().any(|place| place.line == number);
+        let unknown = !self.unread && self.unknown.values().flatten().any(|place| place.line == number);
         let wrong = self.remarks.len() > before || unknown;
         if !wrong || self.depth > STEPS || self.looks_left == 0 || line.len() > LONGEST {
             return;

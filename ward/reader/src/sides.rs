@@ -204,6 +204,10 @@ fn list(cursor: &mut Cursor, known: &Known, start: usize) -> Result<Vec<Term>, F
     }
     let mut items = Vec::new();
     loop {
+        if let Some(comma) = cursor.last().filter(|last| last.text == "," && cursor.peek(0).is_none()) {
+            let fault = cursor.fault("a moment's name is expected");
+            return Err(fault.fix("", with(cursor.line, comma.from, comma.to, "")));
+        }
         items.push(item(cursor, known)?);
         if cursor.takes(",") {
             continue;
@@ -323,16 +327,18 @@ fn tail(cursor: &mut Cursor, known: &Known, terms: &[Term], from: usize) -> Resu
 
 /// The minutes behind a sign.
 fn minutes(cursor: &mut Cursor, known: &Known, sign: Token, from: usize) -> Result<Length, Fault> {
-    let Some(token) = cursor.peek(0) else { return Err(cursor.fault("minutes are expected")) };
+    let Some(token) = cursor.peek(0) else {
+        return Err(cursor.fault("minutes are expected").hint("how many? A number is missing behind the sign"));
+    };
     if token.text == "(" {
         let (mark, unknown) = (cursor.mark(), cursor.unknown.len());
         cursor.take();
-        let inner = length::read(cursor, known.clock).ok().filter(|_| cursor.plain(0) == ")");
+        let inner = added(cursor, known).filter(|_| cursor.plain(0) == ")");
         let to = cursor.peek(0).map_or(token.to, |token| token.to);
         cursor.back(mark, unknown);
         let fault = cursor.fault("minutes are expected");
         return Err(match inner {
-            Some(inner) => fault.fix("", with(cursor.line, token.from, to, &cursor.line[inner.from..inner.to])),
+            Some(inner) => fault.fix("", with(cursor.line, token.from, to, &inner)),
             None => fault,
         });
     }
@@ -351,6 +357,20 @@ fn minutes(cursor: &mut Cursor, known: &Known, sign: Token, from: usize) -> Resu
         });
     }
     length::read(cursor, known.clock)
+}
+
+/// Minutes within brackets, and the sum of several: as they can be written without them.
+fn added(cursor: &mut Cursor, known: &Known) -> Option<String> {
+    let first = length::read(cursor, known.clock).ok()?;
+    let mut minutes = first.minutes;
+    while ["+", "-"].contains(&cursor.plain(0)) {
+        let sign = if cursor.take()?.text == "-" { -1 } else { 1 };
+        minutes += sign * length::read(cursor, known.clock).ok()?.minutes;
+    }
+    match minutes == first.minutes {
+        true => Some(cursor.line[first.from..first.to].into()),
+        false => (minutes > 0).then(|| shown::length(minutes)),
+    }
 }
 
 /// Minutes that are given twice: their sum.
@@ -473,7 +493,7 @@ fn moment(cursor: &mut Cursor, known: &Known) -> Result<Option<usize>, Fault> {
 }
 
 /// The declared name of several words that starts where a word does, the longest of them.
-fn without_quotes(cursor: &Cursor, token: Token, known: &Known) -> Option<Fault> {
+pub fn without_quotes(cursor: &Cursor, token: Token, known: &Known) -> Option<Fault> {
     if token.kind != Kind::Word {
         return None;
     }

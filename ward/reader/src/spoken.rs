@@ -5,6 +5,7 @@ use crate::fault::{with, Fault};
 use crate::instant::{self, Known};
 use crate::length::{self, is_number, Length};
 use crate::limits;
+use crate::offers;
 use crate::rows::{self, Sides};
 use crate::sheet::Lead;
 use crate::shown;
@@ -74,15 +75,15 @@ pub fn read(cursor: &mut Cursor, known: &Known) -> Result<Vec<Sides>, Fault> {
 /// What stands behind a rule's first side.
 fn behind(cursor: &mut Cursor, known: &Known, subject: &Side) -> Result<Vec<Sides>, Fault> {
     let one = |left: &[Lead], right: &[Lead]| Ok(vec![(left.to_vec(), right.to_vec())]);
+    let amount = cursor.place();
     if cursor.takes("not before") {
-        let point = point(cursor, known)?;
+        let point = point(cursor, known, amount, false)?;
         return one(&point.leads, &subject.leads);
     }
     if cursor.takes("by") || cursor.takes("not after") {
-        let point = point(cursor, known)?;
+        let point = point(cursor, known, amount, true)?;
         return one(&subject.leads, &point.leads);
     }
-    let amount = cursor.place();
     let (least, most) = match () {
         _ if cursor.takes("at least") => (true, false),
         _ if cursor.takes("at most") => (false, true),
@@ -95,9 +96,13 @@ fn behind(cursor: &mut Cursor, known: &Known, subject: &Side) -> Result<Vec<Side
         return Err(other(cursor, subject));
     }
     let first = length::read(cursor, known.clock)?;
-    let range = range(cursor, known, first, said)?;
+    if let Some(fault) = offers::both_limits(cursor, known, first, (least, most), amount) {
+        return Err(fault);
+    }
+    let range = range(cursor, known, first, said.then_some(amount))?;
     if !["after", "before"].contains(&cursor.plain(0).to_lowercase().as_str()) {
-        return Err(no_after(cursor, subject, first, said));
+        let at_time = offers::at_time(cursor, subject, (first, range), (least, most));
+        return Err(at_time.unwrap_or_else(|| no_after(cursor, subject, first, said)));
     }
     if !said && range.is_none() {
         let (text, line) = (&cursor.line[first.from..first.to], cursor.line);
@@ -179,13 +184,14 @@ fn base(cursor: &mut Cursor, known: &Known, subject: &Side, limits: Limits, afte
     Ok(rules)
 }
 
-/// The second number of a range, behind `to`.
-fn range(cursor: &mut Cursor, known: &Known, first: Length, said: bool) -> Result<Option<Length>, Fault> {
+/// The second number of a range, behind `to`. `said` is where words like `at least` stand before the first, if they do.
+fn range(cursor: &mut Cursor, known: &Known, first: Length, said: Option<usize>) -> Result<Option<Length>, Fault> {
     let Some(to) = cursor.peek(0).filter(|token| token.kind == Kind::Word && token.text.to_lowercase() == "to") else {
         return Ok(None);
     };
-    if said {
-        return Err(Fault::new(to.from, to.to, "a range has neither 'at least' nor 'at most' nor 'exactly' before it"));
+    if let Some(amount) = said {
+        let fault = Fault::new(to.from, to.to, "a range has neither 'at least' nor 'at most' nor 'exactly' before it");
+        return Err(fault.fix("both limits", with(cursor.line, amount, first.from, "")));
     }
     cursor.take();
     let last = length::read(cursor, known.clock)?;
@@ -206,18 +212,12 @@ fn range(cursor: &mut Cursor, known: &Known, first: Length, said: bool) -> Resul
     Ok(Some(last))
 }
 
-/// A time of day or a side, behind `by` and `not before`.
-fn point(cursor: &mut Cursor, known: &Known) -> Result<Side, Fault> {
-    if let Some(token) = cursor.peek(0).filter(|token| token.kind == Kind::Word && is_number(token.text)) {
-        let plus = cursor.peek(1).is_some_and(|next| next.text == "+");
-        if let Some(fault) = instant::meant(cursor, known) {
+/// A time of day or a side, behind `by` and `not before`, which stand at a place.
+fn point(cursor: &mut Cursor, known: &Known, word: usize, by: bool) -> Result<Side, Fault> {
+    let first = cursor.peek(0).filter(|token| token.kind == Kind::Word && known.moment(token.text).is_none());
+    if first.is_some_and(|token| length::starts(token.text)) {
+        if let Some(fault) = offers::so_long(cursor, known, word, by) {
             return Err(fault);
-        }
-        if !plus && known.moment(token.text).is_none() {
-            return Err(match cursor.plain(1).to_lowercase().as_str() {
-                "after" | "before" | "min" | "h" => cursor.fault("a time of day or a moment is expected"),
-                _ => instant::bare(cursor, token),
-            });
         }
     }
     if !instant::starts(cursor) {
@@ -225,7 +225,11 @@ fn point(cursor: &mut Cursor, known: &Known) -> Result<Side, Fault> {
             return Err(fault);
         }
     }
-    sides::read(cursor, known)
+    let plus = cursor.peek(1).is_some_and(|next| next.text == "+");
+    match first.filter(|token| is_number(token.text) && !plus) {
+        Some(token) => Err(instant::bare(cursor, token)),
+        None => sides::read(cursor, known),
+    }
 }
 
 /// Minutes with neither `after` nor `before` behind them.
@@ -249,7 +253,14 @@ fn no_after(cursor: &Cursor, subject: &Side, first: Length, said: bool) -> Fault
             return fault.fix("", with(line, first.from, to, &format!("{meant} {minutes}")));
         }
     }
+    if let Some(why) = rows::no_unit(&cursor.plain(0).to_lowercase()) {
+        return fault.hint(why);
+    }
+    if let Some(last) = cursor.peek(1).filter(|last| cursor.plain(0) == "-" && length::starts(last.text) && !said) {
+        return fault.fix("both limits", with(line, first.from, last.to, &format!("{minutes} to {}", last.text)));
+    }
     match token {
+        None if said => fault.hint("after what? A rule names two moments, as in 'leaves at least 10 after ready'"),
         _ if said => fault,
         Some(token) if token.kind == Kind::Word => {
             let rest = line[token.from..cursor.end()].trim();
@@ -276,7 +287,7 @@ fn other(cursor: &Cursor, subject: &Side) -> Fault {
     if ["before", "after"].contains(&small.as_str()) {
         let (early, late) = if small == "before" { (group, rest(1)) } else { (rest(1), group) };
         if list(cursor) {
-            return fault.hint("write a rule for each of them, or 'later of' before them");
+            return offers::than_several(fault, group, rest(1), small == "before", &whole);
         }
         return fault
             .fix("the same minute is good enough", whole(format!("{early} <= {late}")))
@@ -330,6 +341,9 @@ fn other(cursor: &Cursor, subject: &Side) -> Fault {
         }
         let last = cursor.peek(ahead(words) - 1).map_or(token.to, |token| token.to);
         let numbered = cursor.peek(ahead(words)).is_some_and(|next| length::starts(next.text));
+        if let Some(hours) = offers::hour(cursor, ahead(words)).filter(|_| meant == "=") {
+            return hours.iter().fold(fault, |fault, time| fault.fix("", whole(format!("{group} = {time}"))));
+        }
         let meant = match (meant, relative.as_deref().filter(|_| numbered)) {
             ("by", Some("after")) | ("not before", Some("before")) => "at most",
             ("by", Some(_)) | ("not before", Some(_)) => "at least",
@@ -340,7 +354,14 @@ fn other(cursor: &Cursor, subject: &Side) -> Fault {
     for (words, meant) in AMOUNTS {
         if cursor.sees(words) {
             let last = cursor.peek(ahead(words) - 1).map_or(token.to, |token| token.to);
-            return fault.fix("", with(line, token.from, last, meant));
+            let say = |words: &str| with(line, token.from, last, words);
+            return match (meant, relative.as_deref()) {
+                ("at most", Some("after")) => {
+                    fault.fix("it may be before, too", say(meant)).fix("and not before", say("0 to"))
+                }
+                ("at most", Some(_)) => fault.fix("it may be after, too", say(meant)).fix("and not after", say("0 to")),
+                _ => fault.fix("", say(meant)),
+            };
         }
     }
     if small == "on" {
@@ -351,9 +372,15 @@ fn other(cursor: &Cursor, subject: &Side) -> Fault {
         );
     }
     if ["and", "&", ","].contains(&small.as_str()) {
-        return fault.hint("several moments stand behind 'later of', with commas between them");
+        let fault = fault.hint("several moments stand behind 'later of', with commas between them");
+        return offers::each(cursor, subject)
+            .into_iter()
+            .fold(fault, |fault, lines| fault.fixes("each of them", lines));
     }
-    rows::more(cursor, fault)
+    match offers::vague(&small) {
+        Some(hint) => fault.hint(hint),
+        None => rows::more(cursor, fault),
+    }
 }
 
 /// Whether several moments stand here without `later of`.
@@ -393,7 +420,7 @@ fn more(cursor: &Cursor, subject: &Side, token: Token, from: usize) -> Fault {
     match token.text.to_lowercase().as_str() {
         "and" | "&" | "," if cursor.peek(1).is_some() => {
             let words = rest.split_whitespace().next().unwrap_or("").to_lowercase();
-            if ["not", "by", "at", "no", "exactly"].contains(&words.as_str()) {
+            if ["not", "by", "at", "no", "exactly", "until", "till"].contains(&words.as_str()) {
                 return fault.fixes("", vec![format!("{before}{first}"), format!("{before}{group} {rest}{after}")]);
             }
             // Several moments behind `after`.
@@ -404,6 +431,9 @@ fn more(cursor: &Cursor, subject: &Side, token: Token, from: usize) -> Fault {
                 .fix("the later of them", format!("{before}{head}later of {name}, {rest}{after}"))
                 .fixes("each of them", vec![format!("{before}{head}{name}"), format!("{before}{head}{rest}{after}")])
         }
-        _ => rows::more(cursor, fault),
+        _ => match offers::behind(cursor, subject, token, from) {
+            Some(fault) => fault,
+            None => rows::more(cursor, fault),
+        },
     }
 }

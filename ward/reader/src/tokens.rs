@@ -165,8 +165,24 @@ fn quoted(rest: &str) -> Option<usize> {
 
 fn open_quote(line: &str, at: usize, to: usize) -> Fault {
     let shown = line[at..to].chars().skip(1).collect::<String>();
-    Fault::new(at, to, format!("the quote before '{}' is not closed", shown.trim_end()))
-        .hint("a name in quotes ends with another quote of the same kind on the same line")
+    let fault = Fault::new(at, to, format!("the quote before '{}' is not closed", shown.trim_end()))
+        .hint("a name in quotes ends with another quote of the same kind on the same line");
+    // Another kind of quote behind it, or none before the next comma or sign, in the first name that is left open so.
+    let start = line[..to].find(is_quote).unwrap_or(at);
+    let open = line[start..].chars().next().map_or(1, char::len_utf8);
+    let rest = &line[start + open..to];
+    let other = rest.find(|c: char| is_quote(c) || "'’".contains(c));
+    let ends = rest.find(|c: char| ",+<>=≤≥".contains(c)).unwrap_or(rest.len());
+    let name = rest[..ends].trim_end();
+    let closed = format!("{}\"{name}\"{}", &line[..start], &line[start + open + name.len()..]);
+    match other.filter(|place| *place < ends) {
+        Some(place) => {
+            let quote = rest[place..].chars().next().map_or(1, char::len_utf8);
+            let after = &line[start + open + place + quote..];
+            fault.fix("", format!("{}\"{}\"{after}", &line[..start], &rest[..place]))
+        }
+        None => fault.fix("", closed),
+    }
 }
 
 /// Where a line's comment starts, or its end. A comment starts at the line's start, or behind a space and before one; outside

@@ -56,8 +56,8 @@ impl<'l> Line<'l> {
 }
 
 /// What is looked for, in this order.
-const LOOKS: [fn(&Line) -> Option<Fault>; 10] =
-    [turned, lifted, asked, bracketed, plus_minus, distance, colon, arrow, doubt, alone];
+const LOOKS: [fn(&Line) -> Option<Fault>; 12] =
+    [turned, lifted, asked, bracketed, plus_minus, distance, colon, arrow, doubt, alone, unsigned, range];
 
 /// The line in a form that is read, where it can be told what it means.
 pub fn otherwise(known: &Known, line: &str, end: usize) -> Option<Fault> {
@@ -67,6 +67,9 @@ pub fn otherwise(known: &Known, line: &str, end: usize) -> Option<Fault> {
     }
     let start = end - line[..end].trim_start().len();
     let from = if head.key == Some(Key::Suspended) { head.from.min(end) } else { start };
+    if let Some(fault) = negative(line, from, end) {
+        return Some(fault);
+    }
     let tokens = part(line, from, end)?;
     let (first, last) = (tokens.first()?, tokens.last()?);
     let line = Line { line, from: first.from, end: last.to, known, tokens: tokens.clone() };
@@ -201,4 +204,51 @@ fn alone(line: &Line) -> Option<Fault> {
     let such = named && cursor.unknown.is_empty() && line.known.moment(token.text).is_none() && token.text != "anchor";
     let fault = line.fault("a name alone is no rule");
     such.then(|| fault.fix("a moment", line.say(&format!("moments: {}", line.text(dash, dash + 1)))))
+}
+
+/// `free + 35 cleaned`: the sign between the sides is missing.
+fn unsigned(line: &Line) -> Option<Fault> {
+    let count = line.tokens.len();
+    let last = line.tokens.last().filter(|last| line.names(last))?;
+    let sum = count > 3 && ["+", "-"].contains(&line.word(1).as_str()) && line.relation().is_none();
+    let text = format!("{} <= {}", line.text(0, count - 1), line.text(count - 1, count));
+    let fault = Fault::new(last.from, last.to, "a sign is missing between the sides");
+    sum.then(|| fault.fix("", line.say(&text)))
+}
+
+/// `free + 35-40 <= cleaned`: both limits as a lead.
+fn range(line: &Line) -> Option<Fault> {
+    let sign = line.relation().filter(|&sign| line.text(sign, sign + 1) == "<=" && sign > 2)?;
+    let (low, high) = line.text(sign - 1, sign).split_once(['-', '–'])?;
+    let such = crate::length::starts(low) && crate::length::starts(high) && line.word(sign - 2) == "+";
+    let (base, late) = (line.text(0, sign - 2), line.text(sign + 1, line.tokens.len()));
+    let token = line.tokens[sign - 1];
+    let fault = Fault::new(token.from, token.to, "both limits stand with 'to' between them, in words");
+    such.then(|| fault.fix("", line.say(&format!("{late} {low} to {high} after {base}"))))
+}
+
+/// `free - cleaned <= -30`, `cleaned -5 to 10 after free`: minutes below 0.
+fn negative(line: &str, from: usize, end: usize) -> Option<Fault> {
+    let body = line[from..end].trim();
+    let start = from + line[from..end].find(body)?;
+    let whole = |text: String| with(line, start, start + body.len(), &text);
+    let fault = |message: &str| Fault::new(start, start + body.len(), message);
+    if let Some((early, late, minutes)) = below(body) {
+        let message = "a rule has moments on both sides, and no difference of two";
+        return Some(fault(message).fix("", whole(format!("{early} + {minutes} <= {late}"))));
+    }
+    let (head, rest) = body.split_once(" -")?;
+    let (first, rest) = rest.split_once(" to ")?;
+    let (last, base) = rest.split_once(" after ")?;
+    let such = crate::length::starts(first) && crate::length::starts(last) && !head.contains(['<', '=', '>']);
+    let lines = vec![whole(format!("{base} - {first} <= {head}")), whole(format!("{head} <= {base} + {last}"))];
+    such.then(|| fault("minutes before and after a moment are two rules").fixes("", lines))
+}
+
+/// A difference that is at most a number below 0: the earlier, the later, and the minutes between them.
+fn below(body: &str) -> Option<(&str, &str, &str)> {
+    let (difference, minutes) = body.split_once("<=").or(body.split_once('≤'))?;
+    let minutes = minutes.trim().strip_prefix(['-', '−', '–'])?.trim();
+    let (early, late) = difference.split_once(" - ")?;
+    crate::length::starts(minutes.split(' ').next()?).then_some((early.trim(), late.trim(), minutes))
 }

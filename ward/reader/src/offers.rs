@@ -1,0 +1,243 @@
+//! Rules in words that nearly say something: what they can mean, as lines that are read.
+
+use crate::clock::DAY;
+use crate::cursor::Cursor;
+use crate::fault::{with, Fault};
+use crate::instant::{self, Known};
+use crate::length::{self, Length};
+use crate::sides::{bracketed, Side};
+use crate::tokens::{Kind, Token};
+
+/// Words behind a time that say on which side of it something is.
+const SIDES: [(&str, &str); 12] = [
+    ("at the latest", "by"),
+    ("at latest", "by"),
+    ("latest", "by"),
+    ("or earlier", "by"),
+    ("or before", "by"),
+    ("or sooner", "by"),
+    ("at the earliest", "not before"),
+    ("at earliest", "not before"),
+    ("earliest", "not before"),
+    ("or later", "not before"),
+    ("or after", "not before"),
+    ("onwards", "not before"),
+];
+
+/// Words that stand here and end the line: where they start, and what they say.
+fn side_behind(cursor: &Cursor, ahead: usize) -> Option<&'static str> {
+    let plain = |place: usize| cursor.plain(ahead + place).to_lowercase();
+    let stands = |words: &str| words.split(' ').enumerate().all(|(place, word)| plain(place) == word);
+    let ends = |words: &str| cursor.peek(ahead + words.split(' ').count()).is_none();
+    SIDES.iter().find(|(words, _)| stands(words) && ends(words)).map(|(_, side)| *side)
+}
+
+/// `ready 8:40`, `ready at least 8:40`, `ready 8:40 to 8:45`: a time of day where minutes and a moment are expected.
+pub fn at_time(
+    cursor: &Cursor,
+    subject: &Side,
+    (first, last): (Length, Option<Length>),
+    (least, most): (bool, bool),
+) -> Option<Fault> {
+    let line = cursor.line;
+    let of_day = |length: Length| length.colon.is_some_and(|(_, from, _)| from == length.from);
+    if !of_day(first) || !last.is_none_or(of_day) {
+        return None;
+    }
+    // `am`, `pm` and `Uhr` go with the time; what stands behind may say on which side of it.
+    let half = ["am", "pm", "a.m.", "p.m.", "uhr"].contains(&cursor.plain(0).to_lowercase().as_str());
+    let side = side_behind(cursor, half as usize);
+    let rest = cursor.peek(half as usize).filter(|_| side.is_none());
+    let time_to = cursor.peek(0).filter(|_| half).map_or(first.to, |token| token.to);
+    let (group, time) = (&line[subject.from..subject.to], &line[first.from..time_to]);
+    let whole = |words: String| with(line, subject.from, cursor.end(), &words);
+    let fault = Fault::new(
+        first.from,
+        time_to,
+        format!("is this the latest time, the earliest, or both? '{time}' alone does not say"),
+    );
+    if rest.is_some() {
+        return None;
+    }
+    if let Some(last) = last {
+        let late = &line[last.from..last.to];
+        let message = format!("'{}' are two times, and no minutes", &line[first.from..last.to]);
+        let lines = vec![whole(format!("{group} not before {time}")), whole(format!("{group} by {late}"))];
+        return Some(Fault::new(first.from, last.to, message).fixes("from the one to the other", lines));
+    }
+    let (by, from, at) =
+        (format!("{group} by {time}"), format!("{group} not before {time}"), format!("{group} = {time}"));
+    let said = format!("'{time}' is a time of day, and no length of time");
+    Some(match (least, most, side) {
+        (true, true, _) => Fault::new(first.from, time_to, said).fix("", whole(at)),
+        (true, ..) => Fault::new(first.from, time_to, said).fix("", whole(from)),
+        (_, true, _) => Fault::new(first.from, time_to, said).fix("", whole(by)),
+        (_, _, Some("by")) => Fault::new(first.from, time_to, "the word stands before its time").fix("", whole(by)),
+        (_, _, Some(_)) => Fault::new(first.from, time_to, "the word stands before its time").fix("", whole(from)),
+        _ => fault.fix("then", whole(at)).fix("then or earlier", whole(by)).fix("then or later", whole(from)),
+    })
+}
+
+/// `at least 35 and at most 40 after ..`.
+pub fn both_limits(
+    cursor: &mut Cursor,
+    known: &Known,
+    first: Length,
+    (least, most): (bool, bool),
+    amount: usize,
+) -> Option<Fault> {
+    let joins = ["and", "but", ",", "&"].contains(&cursor.plain(0).to_lowercase().as_str());
+    let second =
+        |words: &str| words.split(' ').enumerate().all(|(place, word)| cursor.plain(place + 1).to_lowercase() == word);
+    let other = least && !most && second("at most") || most && !least && second("at least");
+    let token = cursor.peek(0).filter(|_| joins && other)?;
+    let mark = cursor.mark();
+    for _ in 0..3 {
+        cursor.take();
+    }
+    let last = length::read(cursor, known.clock).ok();
+    cursor.back(mark, cursor.unknown.len());
+    let (line, last) = (cursor.line, last?);
+    let (one, other) = (&line[first.from..first.to], &line[last.from..last.to]);
+    let range = if least { format!("{one} to {other}") } else { format!("{other} to {one}") };
+    let fault = Fault::new(token.from, token.to, "both limits stand with 'to' between them");
+    Some(fault.fix("", with(line, amount, last.to, &range)))
+}
+
+/// A length of time where a time of day belongs: `by 2 days`, `by 10 after porter`.
+pub fn so_long(cursor: &mut Cursor, known: &Known, word: usize, by: bool) -> Option<Fault> {
+    let (mark, from) = (cursor.mark(), cursor.place());
+    let length = length::read(cursor, known.clock).ok();
+    let behind = cursor.plain(0).to_lowercase();
+    let plus = behind == "+";
+    cursor.back(mark, cursor.unknown.len());
+    let (length, line) = (length?, cursor.line);
+    let written = &line[length.from..length.to];
+    let fault = Fault::new(
+        from,
+        length.to,
+        format!("'{written}' is a length of time, and a time of day or a moment is expected"),
+    );
+    if ["after", "before"].contains(&behind.as_str()) && length.colon.is_none() {
+        let words = if by == (behind == "after") { "at most" } else { "at least" };
+        return Some(fault.fix("", with(line, word, length.to, &format!("{words} {written}"))));
+    }
+    if length.bare || length.colon.is_some() || plus {
+        return None;
+    }
+    let say = |text: String| with(line, length.from, length.to, &text);
+    let fault = fault.fix("so long after the anchor", say(format!("anchor + {written}")));
+    let days = length.minutes / DAY;
+    Some(match known.anchor.filter(|_| known.clock.judges() && length.minutes % DAY == 0) {
+        Some(anchor) if by => {
+            let end = (days + 1) * DAY - anchor.minute;
+            let text = match anchor.date {
+                Some(date) => format!("{} 24:00", crate::calendar::written(date + i64::from(days))),
+                None => instant::from_anchor(end, false),
+            };
+            fault.fix("until the end of that day", say(text))
+        }
+        _ => fault,
+    })
+}
+
+/// An hour as a bare number at the end of a line: the times that it can be.
+pub fn hour(cursor: &Cursor, ahead: usize) -> Option<Vec<String>> {
+    let token = cursor.peek(ahead).filter(|token| length::is_number(token.text) && token.text.len() < 3)?;
+    let hour: i32 = token.text.parse().ok().filter(|hour| *hour <= 24 && cursor.peek(ahead + 1).is_none())?;
+    let late = (1..12).contains(&hour).then(|| format!("{}:00", hour + 12));
+    Some([format!("{hour}:00")].into_iter().chain(late).collect())
+}
+
+/// `leaves after ready and porter`, `leaves before ready, porter`: after the later of them, before each of them.
+pub fn than_several(fault: Fault, group: &str, text: &str, before: bool, whole: &dyn Fn(String) -> String) -> Fault {
+    let names = text.replace(" and ", ",").replace('&', ",");
+    let names: Vec<&str> = names.split(',').map(str::trim).filter(|name| !name.is_empty()).collect();
+    if text.contains(" or ") {
+        return fault.hint("is it all of them, or one of them? A rule with 'later of' on the right holds when one of them is late enough");
+    }
+    let later = format!("later of {}", names.join(", "));
+    let each = |early: &str| names.iter().map(|name| whole(format!("{early} <= {name}"))).collect::<Vec<_>>();
+    match before {
+        true => fault
+            .fixes("the same minute is good enough", each(group))
+            .fixes("it is not", each(&format!("{} + 1", bracketed(group)))),
+        false => fault
+            .fix("the same minute is good enough", whole(format!("{later} <= {group}")))
+            .fix("it is not", whole(format!("({later}) + 1 <= {group}"))),
+    }
+}
+
+/// Several moments before the words of a rule: a line for each.
+pub fn each(cursor: &Cursor, subject: &Side) -> Option<Vec<String>> {
+    let line = cursor.line;
+    let mut names = vec![&line[subject.from..subject.to]];
+    let mut at = 0;
+    while ["and", "&", ","].contains(&cursor.plain(at).to_lowercase().as_str()) {
+        at += 1;
+        if cursor.plain(at).to_lowercase() == "and" {
+            at += 1;
+        }
+        let name = cursor.peek(at).filter(|token| token.kind != Kind::Sign)?;
+        names.push(&line[name.from..name.to]);
+        at += 1;
+    }
+    let rest = &line[cursor.peek(at)?.from..cursor.end()];
+    Some(names.iter().map(|name| with(line, subject.from, cursor.end(), &format!("{name} {rest}"))).collect())
+}
+
+/// Words that say nothing exact.
+pub fn vague(word: &str) -> Option<&'static str> {
+    let words = ["about", "around", "circa", "ca.", "ca", "approximately", "roughly", "nearly", "almost"];
+    if words.contains(&word) {
+        return Some("how far from it may it be? Both limits are said, as in 'leaves 35 to 40 after ready'");
+    }
+    if ["soon", "shortly", "immediately", "right"].contains(&word) {
+        return Some("how soon? It is said in minutes, as in 'leaves 0 to 10 after ready'");
+    }
+    (word == "not").then_some("what is not so cannot be said; say what is, as in 'leaves at most 34 after ready'")
+}
+
+/// What stands behind a whole rule: a second limit, another time, or on which side of its time it is.
+pub fn behind(cursor: &Cursor, subject: &Side, token: Token, from: usize) -> Option<Fault> {
+    let line = cursor.line;
+    let (before, after) = (&line[..from], &line[cursor.end()..]);
+    let (group, first) = (&line[subject.from..subject.to], line[from..token.from].trim_end());
+    let rule = first[group.len()..].trim_start().to_lowercase();
+    let rest = |ahead: usize| cursor.peek(ahead).map_or("", |token| line[token.from..cursor.end()].trim());
+    let early = rule.starts_with("not before");
+    let by = rule.starts_with("by") || rule.starts_with("not after");
+    let whole = |words: &str| format!("{before}{words}{after}");
+    if let Some(side) = side_behind(cursor, 0).filter(|_| early || by) {
+        let fault = Fault::new(token.from, cursor.end(), format!("'{}' is too much", rest(0)));
+        let time = first[group.len()..].trim_start()[if early {
+            10
+        } else if rule.starts_with("by") {
+            2
+        } else {
+            9
+        }..]
+            .trim();
+        return Some(match (side == "by") == by {
+            true => fault.fix("", whole(first)),
+            false => fault
+                .fix("the latest", whole(&format!("{group} by {time}")))
+                .fix("the earliest", whole(&format!("{group} not before {time}"))),
+        });
+    }
+    let word = token.text.to_lowercase();
+    let fault = Fault::new(token.from, token.to, format!("'{}' is too much: a line has one limit", token.text));
+    let two = |words: String| vec![format!("{before}{first}"), whole(&words)];
+    match word.as_str() {
+        "to" | "until" | "till" | "-" if early => Some(fault.fixes("", two(format!("{group} by {}", rest(1))))),
+        "by" | "not" | "at" if early || by => Some(fault.fixes("", two(format!("{group} {}", rest(0))))),
+        "or" if early || by => {
+            let words = &line[from..token.from];
+            let time = words.rfind(|c: char| c.is_whitespace()).map_or(words, |_| words.trim_end());
+            let head = time.rfind(' ').map_or("", |place| &time[..place]);
+            let fault = Fault::new(token.from, token.to, "which of both? A line has one limit");
+            Some(fault.fix("the first", whole(first)).fix("the second", whole(&format!("{head} {}", rest(1)))))
+        }
+        _ => None,
+    }
+}
