@@ -69,6 +69,11 @@ fn of_month(word: &str) -> Option<i64> {
     digits.parse().ok().filter(|day| behind && (1..=31).contains(day))
 }
 
+/// Whether two words are a day of a month and its month.
+pub fn is_date(first: &str, second: &str) -> bool {
+    of_month(first).is_some() && month(second).is_some() || month(first).is_some() && of_month(second).is_some()
+}
+
 /// A date with the name of its month: `19 Nov 2026`, `November 19, 2026`, `19. Nov`. Without its year it is the one that is nearest to the
 /// anchor's date.
 pub fn named(seen: &Seen) -> Option<Put> {

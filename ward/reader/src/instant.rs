@@ -3,6 +3,7 @@
 use crate::calendar;
 use crate::clock::{self, Anchor, Clock, DAY, DAYS, WEEK};
 use crate::cursor::Cursor;
+use crate::dates;
 use crate::fault::{with, Fault};
 use crate::length::{self, is_hours, is_number};
 use crate::limits;
@@ -132,7 +133,11 @@ fn half(cursor: &Cursor, time: Token) -> Option<Fault> {
 fn of_half(text: &str, late: bool) -> Option<String> {
     let (hours, minutes) = text.split_once(':').unwrap_or((text, "00"));
     let hours: i32 = hours.parse().ok().filter(|hours| (1..=12).contains(hours))?;
-    Some(format!("{}:{minutes}", hours % 12 + if late { 12 } else { 0 }))
+    // The zero before an hour of the morning says that it is none of the evening.
+    Some(match late || hours == 12 || hours > 9 {
+        true => format!("{}:{minutes}", hours % 12 + if late { 12 } else { 0 }),
+        false => format!("0{hours}:{minutes}"),
+    })
 }
 
 /// What stands where a time belongs.
@@ -222,7 +227,8 @@ pub fn read(cursor: &mut Cursor, known: &Known, listed: bool) -> Result<i32, Fau
             of_day(first, day, offset)
         }
         (None, None) if offset < 0 => {
-            let late = (stamp.minute < DAY / 2 && offset + DAY / 2 >= 0).then_some(offset + DAY / 2);
+            let half = (60..DAY / 2).contains(&stamp.minute) && !written.starts_with('0');
+            let late = (half && offset + DAY / 2 >= 0).then_some(offset + DAY / 2);
             [offset, offset + DAY].into_iter().chain(late).collect()
         }
         (None, None) => vec![offset],
@@ -313,6 +319,10 @@ pub fn meant(cursor: &Cursor, known: &Known) -> Option<Fault> {
     let fault = |to: usize, message: String| Fault::new(token.from, to, message);
     let say = |to: usize, text: &str| with(cursor.line, token.from, to, text);
     let no_time = || fault(token.to, format!("'{}' is no time of day", token.text));
+    if dates::is_date(&small, &behind) {
+        let fault = fault(next?.to, format!("'{} {behind}' is no date as it is written here", token.text));
+        return Some(fault.hint("a date is written as year, month and day: 2026-11-17"));
+    }
     if ["am", "pm", "a.m.", "p.m."].contains(&behind.as_str()) && is_number(token.text) {
         let to = next?.to;
         let written = &cursor.line[token.from..to];

@@ -264,6 +264,9 @@ fn no_length(cursor: &Cursor, token: Token) -> Fault {
             _ => fault,
         };
     }
+    if token.text.starts_with('~') {
+        return fault.hint("how much? Both limits are said, as in 'leaves 35 to 40 after ready'");
+    }
     let likely = token.text.replace(['O', 'o'], "0").replace(['l', 'I'], "1");
     if likely != token.text && is_number(&likely) && token.text.contains(|c: char| c.is_ascii_digit()) {
         return fault.fix("with digits alone", say(likely));

@@ -98,8 +98,15 @@ fn before_colon(line: &str, word: &str, start: usize, from: usize) -> Headed {
         }
         None => {
             let words: Vec<String> = KEYS.iter().map(|(known, _)| format!("{known}:")).collect();
-            let fault =
-                fault.hint(format!("lines start with {}, or are rules; a comment starts with #", words.join(", ")));
+            let start = line.len() - line.trim_start().len();
+            let fault = match small.as_str() {
+                "closed" | "shut" | "geschlossen" => {
+                    fault.hint("when the ward is open stands on a line 'open: ..'; it is closed at all other times")
+                }
+                _ => fault
+                    .hint(format!("lines start with {}, or are rules; a comment starts with #", words.join(", ")))
+                    .fix("a comment", with(line, start, start, "# ")),
+            };
             Headed { key: None, from, fault: Some(fault) }
         }
     }

@@ -3,6 +3,7 @@
 use crate::alike;
 use crate::cursor::Cursor;
 use crate::fault::{with, Fault, Fix};
+use crate::length;
 use crate::limits;
 use crate::parse::{place, renamed, renamed_to, Draft};
 use crate::remark::Place;
@@ -133,6 +134,13 @@ fn several(line: &str, written: &Written, fault: Fault) -> Fault {
     }
     names.retain(|name| !name.is_empty() && !["and", "or", "-"].contains(&name.to_lowercase().as_str()));
     let dashed = written.tokens[0].text == "-";
+    if let [name @ .., time] = &written.tokens[..] {
+        if length::is_hours(time.text) && name.len() == 1 {
+            let rule = format!("{} {}", &line[name[0].from..name[0].to], time.text);
+            let alone = say(&line[name[0].from..name[0].to]);
+            return fault.hint("a time stands in a rule, and names stand alone").fixes("", vec![alone, rule]);
+        }
+    }
     let quotes = ['\'', '‘', '’', '`', '´'];
     if text.starts_with(quotes) && text.ends_with(quotes) {
         let hint = "names with spaces stand in double quotes";
@@ -217,7 +225,8 @@ impl Draft<'_> {
         let known = sides::names(&self.sheet.moments).filter(|known| name.starts_with(known));
         let known = known.max_by_key(|known| known.len())?;
         let rest = name[known.len()..].trim_start();
-        rest.starts_with(['+', '-']).then_some((known, rest))
+        let minutes = rest.strip_prefix(['+', '-'])?.trim_start();
+        length::starts(minutes.split(' ').next()?).then_some((known, rest))
     }
 
     /// The one declared name that has a word as its first or its last.

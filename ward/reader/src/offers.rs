@@ -126,6 +126,11 @@ pub fn so_long(cursor: &mut Cursor, known: &Known, word: usize, by: bool) -> Opt
         return None;
     }
     let say = |text: String| with(line, length.from, length.to, &text);
+    let hour = written.to_lowercase().strip_suffix('h').and_then(|hour| hour.trim_end().parse::<i32>().ok());
+    let hour = hour.filter(|hour| *hour <= 24).map(|hour| say(format!("{hour}:00")));
+    let times = instant::meant(cursor, known).into_iter().flat_map(|fault| fault.fixes);
+    let fault = times.fold(fault, |fault, fix| fault.fixes("by the clock", fix.lines));
+    let fault = hour.into_iter().fold(fault, |fault, line| fault.fix("by the clock", line));
     let fault = fault.fix("so long after the anchor", say(format!("anchor + {written}")));
     let days = length.minutes / DAY;
     Some(match known.anchor.filter(|_| known.clock.judges() && length.minutes % DAY == 0) {

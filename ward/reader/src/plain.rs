@@ -51,8 +51,11 @@ impl<'s> Seen<'s> {
     }
 }
 
-/// What is looked for at each token, in this order.
-const LOOKS: [fn(&Seen) -> Option<Put>; 12] = [
+/// What is looked for at a token.
+type Look = fn(&Seen) -> Option<Put>;
+
+/// What is looked for at each token, in this order; the last is for lines of names too.
+const LOOKS: [Look; 13] = [
     numbered,
     dates::named,
     dates::day,
@@ -64,6 +67,7 @@ const LOOKS: [fn(&Seen) -> Option<Put>; 12] = [
     units::between,
     phrases::found,
     sign,
+    remark,
     end,
 ];
 
@@ -73,8 +77,11 @@ pub fn otherwise(known: &Known, line: &str, end: usize) -> Option<Fault> {
     let head = headed(&seen, seen.len());
     let dashes = if head.key == Some(Key::Open) { Dashes::Between } else { Dashes::Within };
     let from = head.from.min(seen.len());
+    // Names are nobody's words: in lines of names only their ends are looked at.
+    let names = [Some(Key::Moments), Some(Key::Span), Some(Key::Admits)].contains(&head.key);
+    let looks = if names { &LOOKS[LOOKS.len() - 1..] } else { &LOOKS[..] };
     let (lines, first) = match tokens::tokens(&seen, from, seen.len(), dashes) {
-        Ok(found) => all(known, &seen, from, &found),
+        Ok(found) => all(known, &seen, from, &found, looks),
         Err(_) => (vec![(String::new(), seen.clone())], None),
     };
     // Where signs were put in, places of the line are others: the first of them is shown.
@@ -112,12 +119,18 @@ fn signs(line: &str) -> String {
 }
 
 /// All readings of a line with the words put in, and the place of the first that is another.
-fn all(known: &Known, line: &str, from: usize, tokens: &[Token]) -> (Vec<(String, String)>, Option<(usize, usize)>) {
+fn all(
+    known: &Known,
+    line: &str,
+    from: usize,
+    tokens: &[Token],
+    looks: &[Look],
+) -> (Vec<(String, String)>, Option<(usize, usize)>) {
     let mut lines = vec![(String::new(), line[..from].to_string())];
     let (mut at, mut done, mut first) = (0, from, None);
     while at < tokens.len() {
         let seen = Seen { line, tokens, at, known };
-        let Some((count, texts)) = LOOKS.iter().find_map(|look| look(&seen)) else {
+        let Some((count, texts)) = looks.iter().find_map(|look| look(&seen)) else {
             at += 1;
             continue;
         };
@@ -133,7 +146,9 @@ fn all(known: &Known, line: &str, from: usize, tokens: &[Token]) -> (Vec<(String
         (at, done) = (at + count, end);
     }
     let tail = &line[done..];
-    lines.iter_mut().for_each(|(_, text)| *text = format!("{text}{tail}").trim_end().into());
+    let start = line.len() - line.trim_start().len();
+    let whole = |text: &str| format!("{}{}", &line[..start], format!("{text}{tail}").trim());
+    lines.iter_mut().for_each(|(_, text)| *text = whole(text));
     (lines, first)
 }
 
@@ -165,7 +180,7 @@ fn sign(seen: &Seen) -> Option<Put> {
     }
 }
 
-/// What stands at the end of a line, or starts a remark: a comma, a full stop, `//`, words in brackets.
+/// What stands at the end of a line: a comma or a full stop.
 fn end(seen: &Seen) -> Option<Put> {
     let token = seen.token(0)?;
     if seen.ends(1) && [",", ";", ".", "!"].contains(&seen.plain(0)) && seen.at > 0 {
@@ -175,14 +190,15 @@ fn end(seen: &Seen) -> Option<Put> {
     if seen.ends(1) && token.kind == Kind::Word && short.len() < token.text.len() && !short.is_empty() {
         return seen.known.moment(token.text).is_none().then(|| one(1, short))?;
     }
+    None
+}
+
+/// What starts a remark behind a rule: `//`, or words in brackets at its end, none of which is a moment or a number.
+fn remark(seen: &Seen) -> Option<Put> {
+    let token = seen.token(0)?;
     if seen.at > 0 && token.kind == Kind::Word && token.text.starts_with("//") {
         return one(1, format!("# {}", token.text.trim_start_matches('/')).trim_end());
     }
-    remark(seen)
-}
-
-/// Words in brackets at the end of a rule, none of which is a moment or a number.
-fn remark(seen: &Seen) -> Option<Put> {
     let rest = seen.tokens.get(seen.at..)?;
     let [open, words @ .., close] = rest else { return None };
     let strange = |token: &Token| {

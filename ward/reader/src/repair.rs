@@ -7,8 +7,8 @@ use crate::fault::{Fault, Fix};
 use crate::lines::{headed, Key};
 use crate::parse::Draft;
 use crate::plain;
-use crate::remark::Remark;
-use crate::sheet::{Row, Sheet};
+use crate::remark::{Place, Remark, Weight};
+use crate::sheet::{Lead, Row, Sheet};
 use crate::sides;
 use crate::whole;
 
@@ -25,10 +25,10 @@ const STEPS: usize = 3;
 const MOST: usize = 6;
 
 /// Readings that nothing is followed into: guesses at what is missing.
-const GUESSES: [&str; 3] = ["later", "earlier", "from the anchor"];
+const GUESSES: [&str; 4] = ["later", "earlier", "from the anchor", "the later of both"];
 
-/// A reading that is not followed: what else is wrong shows that it was not meant.
-const SEVERAL: &str = "several names";
+/// Readings that are not followed: what else is wrong shows that they were not meant.
+const ENDS: [&str; 2] = ["several names", "a comment"];
 
 /// What stands below a mistake whose readings are not shown, since the line has another.
 const OTHER: &str = "this line has another mistake: mend that first, and what to write for this one is shown";
@@ -94,17 +94,23 @@ impl<'c> Draft<'c> {
         let Tried { mistakes, said } = self.tried(&fix.lines, line);
         let Some(first) = mistakes.first() else { return vec![(fix.clone(), said)] };
         let bare = mistakes.iter().any(|mistake| mistake.fixes.is_empty());
-        let place = first.place.line - 1;
-        if steps == 0 || bare || place >= fix.lines.len() || fix.says == SEVERAL {
+        if steps == 0 || bare || mistakes.iter().any(|mistake| mistake.place.line > fix.lines.len()) {
             return Vec::new();
         }
-        let next = first.fixes.iter().filter(|next| !GUESSES.contains(&next.says.as_str()) && next.lines.len() < 40);
-        let next = next.flat_map(|next| {
+        // Where several lines lack the same, the same reading is taken in each.
+        let alike = mistakes.iter().all(|mistake| mistake.fixes.len() == first.fixes.len());
+        let apart = mistakes.windows(2).all(|pair| pair[0].place.line != pair[1].place.line);
+        let count = if alike && apart { mistakes.len() } else { 1 };
+        let next = (0..first.fixes.len()).filter(|&reading| goes_on(fix, &first.fixes, reading)).map(|reading| {
             let mut lines = fix.lines.clone();
-            lines.splice(place..=place, next.lines.iter().cloned());
-            self.followed(&Fix { says: joined(&fix.says, &next.says), lines }, line, steps - 1)
+            for mistake in mistakes[..count].iter().rev() {
+                let place = mistake.place.line - 1;
+                lines.splice(place..=place, mistake.fixes[reading].lines.iter().cloned());
+            }
+            Fix { says: joined(&fix.says, &first.fixes[reading].says), lines }
         });
-        next.take(2 * MOST).collect()
+        let next = next.filter(|next| next.lines.len() < 40);
+        next.flat_map(|next| self.followed(&next, line, steps - 1)).take(2 * MOST).collect()
     }
 
     /// Reads lines in the place of one, with the moments and the anchor of the text.
@@ -129,8 +135,13 @@ impl<'c> Draft<'c> {
             trial.unknown_names(lines);
         }
         trial.remarks.sort_by_key(|remark| remark.place);
-        let said = trial.says();
-        Tried { said, mistakes: trial.remarks }
+        if let Some(place) = trial.remarks.is_empty().then(|| contradiction(&trial.sheet)).flatten() {
+            let message = "these two lines contradict each other".into();
+            trial.remarks.push(Remark { weight: Weight::Mistake, place, message, hint: None, fixes: Vec::new() });
+        }
+        // What is not known is not told apart by what was read.
+        let lines = if trial.unknown.is_empty() && !doubtful { String::new() } else { lines.join("\n") };
+        Tried { said: format!("{}{lines}", trial.says()), mistakes: trial.remarks }
     }
 
     /// Whether lines in the place of one are read without a mistake.
@@ -176,6 +187,16 @@ impl<'c> Draft<'c> {
     }
 }
 
+/// Whether a reading is followed into one of those of what it leaves: one that says the same comes before all others.
+fn goes_on(fix: &Fix, next: &[Fix], reading: usize) -> bool {
+    let says = next[reading].says.as_str();
+    let same = next.iter().any(|next| !next.says.is_empty() && next.says == fix.says);
+    match same {
+        true => says == fix.says,
+        false => !GUESSES.contains(&says) && !ENDS.contains(&fix.says.as_str()),
+    }
+}
+
 /// Whether a line is of a kind.
 fn is(line: &str, key: Key) -> bool {
     headed(line, line.len()).key == Some(key)
@@ -183,7 +204,7 @@ fn is(line: &str, key: Key) -> bool {
 
 /// What two readings say, one behind the other.
 fn joined(first: &str, second: &str) -> String {
-    match (first.is_empty(), second.is_empty()) {
+    match (first.is_empty(), second.is_empty() || first == second) {
         (_, true) => first.into(),
         (true, _) => second.into(),
         _ => format!("{first}; {second}"),
@@ -193,4 +214,19 @@ fn joined(first: &str, second: &str) -> String {
 /// Whether two mistakes show the same lines.
 fn same(first: &[Fix], second: &[Fix]) -> bool {
     first.len() == second.len() && first.iter().all(|fix| second.iter().any(|other| other.lines == fix.lines))
+}
+
+/// The place of a rule that holds a moment before a time at which another of the same lines holds it.
+fn contradiction(sheet: &Sheet) -> Option<Place> {
+    let only = |leads: &[Lead]| {
+        let mut found = leads.iter().enumerate().filter_map(|(moment, lead)| Some((moment, (*lead)?)));
+        found.next().filter(|_| found.next().is_none())
+    };
+    let from = |row: &Row| Some((only(&row.left)?, only(&row.right)?)).filter(|((left, _), _)| *left == 0);
+    let to = |row: &Row| Some((only(&row.left)?, only(&row.right)?)).filter(|(_, (right, _))| *right == 0);
+    let late = |(_, early): ((usize, i32), (usize, i32)), bound: i32| {
+        sheet.rules.iter().filter_map(to).any(|((moment, lead), (_, most))| moment == early.0 && most - lead < bound)
+    };
+    let wrong = |row: &&Row| from(row).is_some_and(|sides| late(sides, sides.0 .1 - sides.1 .1));
+    sheet.rules.iter().find(wrong).map(|row| row.place)
 }

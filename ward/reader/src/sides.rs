@@ -169,7 +169,9 @@ fn brackets(cursor: &mut Cursor, known: &Known) -> Result<Vec<Term>, Fault> {
 }
 
 fn closed(cursor: &mut Cursor) -> Result<(), Fault> {
-    cursor.expect(")").map_err(|fault| fault.hint("a bracket is open"))
+    let place = cursor.last().map_or(cursor.place(), |last| last.to);
+    let closed = with(cursor.line, place, place, ")");
+    cursor.expect(")").map_err(|fault| fault.hint("a bracket is open").fix("", closed))
 }
 
 /// A time of day, or a moment.
@@ -206,6 +208,7 @@ fn list(cursor: &mut Cursor, known: &Known, start: usize) -> Result<Vec<Term>, F
     loop {
         if let Some(comma) = cursor.last().filter(|last| last.text == "," && cursor.peek(0).is_none()) {
             let fault = cursor.fault("a moment's name is expected");
+            let fault = fault.hint("a rule stands on one line, and commas stand between names");
             return Err(fault.fix("", with(cursor.line, comma.from, comma.to, "")));
         }
         items.push(item(cursor, known)?);
@@ -500,6 +503,7 @@ pub fn without_quotes(cursor: &Cursor, token: Token, known: &Known) -> Option<Fa
     let line = &cursor.line[..cursor.end()];
     let ends = |name: &str| !line[token.from + name.len()..].starts_with(char::is_alphanumeric);
     let names = known.moments.iter().map(|known| known.name.as_str());
+    let names = names.filter(|name| name.starts_with(char::is_alphanumeric));
     let longer = |name: &&str| name.len() > token.text.len() && line[token.from..].starts_with(*name) && ends(name);
     let name = names.filter(longer).max_by_key(|name| name.len())?;
     let to = token.from + name.len();

@@ -20,7 +20,7 @@ struct Limits {
 }
 
 /// Other words before a time of day or a side, and those that are read.
-const POINTS: [(&str, &str); 20] = [
+const POINTS: [(&str, &str); 19] = [
     ("no later than", "by"),
     ("not later than", "by"),
     ("at the latest", "by"),
@@ -40,7 +40,6 @@ const POINTS: [(&str, &str); 20] = [
     ("at", "="),
     ("together with", "="),
     ("directly after", "="),
-    ("later than", "not before"),
 ];
 
 /// Other words before minutes, and those that are read.
@@ -284,10 +283,13 @@ fn other(cursor: &Cursor, subject: &Side) -> Fault {
     let whole = |text: String| with(line, subject.from, end, &text);
     let rest = |skip: usize| cursor.peek(skip).map_or("", |token| line[token.from..end].trim());
     let small = token.text.to_lowercase();
-    if ["before", "after"].contains(&small.as_str()) {
-        let (early, late) = if small == "before" { (group, rest(1)) } else { (rest(1), group) };
+    let than = cursor.sees("later than") || cursor.sees("earlier than");
+    if ["before", "after"].contains(&small.as_str()) || than {
+        let other = rest(1 + than as usize);
+        let (early, late) =
+            if ["before", "earlier"].contains(&small.as_str()) { (group, other) } else { (other, group) };
         if list(cursor) {
-            return offers::than_several(fault, group, rest(1), small == "before", &whole);
+            return offers::than_several(fault, group, other, early == group, &whole);
         }
         return fault
             .fix("the same minute is good enough", whole(format!("{early} <= {late}")))
@@ -403,9 +405,9 @@ fn between(cursor: &Cursor, fault: &Fault, group: &str, subject: &Side) -> Optio
     let relative = tokens.iter().any(|token| ["after", "before"].contains(&token.text.to_lowercase().as_str()));
     Some(match relative {
         true => fault.fix("", whole(format!("{group} {first} to {rest}"))),
-        false => {
-            fault.fixes("", vec![whole(format!("{group} not before {first}")), whole(format!("{group} by {rest}"))])
-        }
+        false => fault
+            .hint("both times stand in two lines, the earlier one first")
+            .fixes("", vec![whole(format!("{group} not before {first}")), whole(format!("{group} by {rest}"))]),
     })
 }
 

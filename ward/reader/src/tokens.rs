@@ -151,7 +151,9 @@ fn spaced(line: &str, from: usize, at: usize, c: char) -> Result<(), Fault> {
     let sign = |sign: char| before.ends_with(sign).then(|| before[..before.len() - sign.len_utf8()].trim_end());
     Err(match (sign('+'), sign('-')) {
         (Some(group), _) => fault.fix("", format!("{group} - {after}")),
-        (_, Some(group)) => fault.fix("less than less is more", format!("{group} + {after}")),
+        (_, Some(group)) => fault
+            .fix("less than less is more", format!("{group} + {after}"))
+            .fix("a comment", format!("{group} # {after}")),
         _ => fault.hint("without spaces a hyphen is a part of a name").fix("a minus", format!("{before} - {after}")),
     })
 }

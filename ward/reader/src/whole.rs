@@ -1,6 +1,5 @@
 //! Whole lines in a form that is not read, with lines that are.
 
-use crate::cursor::Cursor;
 use crate::fault::{with, Fault};
 use crate::instant::Known;
 use crate::lines::{headed, Key};
@@ -56,8 +55,9 @@ impl<'l> Line<'l> {
 }
 
 /// What is looked for, in this order.
-const LOOKS: [fn(&Line) -> Option<Fault>; 12] =
-    [turned, lifted, asked, bracketed, plus_minus, distance, colon, arrow, doubt, alone, unsigned, range];
+const LOOKS: [fn(&Line) -> Option<Fault>; 14] = [
+    turned, lifted, asked, bracketed, plus_minus, distance, colon, arrow, doubt, alone, unsigned, range, anchored, then,
+];
 
 /// The line in a form that is read, where it can be told what it means.
 pub fn otherwise(known: &Known, line: &str, end: usize) -> Option<Fault> {
@@ -69,6 +69,11 @@ pub fn otherwise(known: &Known, line: &str, end: usize) -> Option<Fault> {
     let from = if head.key == Some(Key::Suspended) { head.from.min(end) } else { start };
     if let Some(fault) = negative(line, from, end) {
         return Some(fault);
+    }
+    if let Some(place) = line[..end].find("+/-") {
+        let line = with(line, place, place + 3, "± ");
+        let fault = otherwise(known, &line, end)?;
+        return Some(Fault { from: place, to: place + 3, ..fault });
     }
     let tokens = part(line, from, end)?;
     let (first, last) = (tokens.first()?, tokens.last()?);
@@ -200,10 +205,11 @@ fn alone(line: &Line) -> Option<Fault> {
     let dash = (line.word(0) == "-" || line.word(0) == "*" || line.word(0) == "•") as usize;
     let [token] = line.tokens.get(dash..)? else { return None };
     let named = token.kind == Kind::Quoted || sides::is_bare(token.text);
-    let cursor = Cursor::new(line.line, line.tokens.clone(), line.end);
-    let such = named && cursor.unknown.is_empty() && line.known.moment(token.text).is_none() && token.text != "anchor";
+    let plain = |c: char| c.is_alphanumeric() || " -'’_".contains(c);
+    let such = named && token.text.chars().all(plain) && line.known.moment(token.text).is_none();
     let fault = line.fault("a name alone is no rule");
-    such.then(|| fault.fix("a moment", line.say(&format!("moments: {}", line.text(dash, dash + 1)))))
+    (such && token.text.to_lowercase() != "anchor")
+        .then(|| fault.fix("a moment", line.say(&format!("moments: {}", line.text(dash, dash + 1)))))
 }
 
 /// `free + 35 cleaned`: the sign between the sides is missing.
@@ -251,4 +257,31 @@ fn below(body: &str) -> Option<(&str, &str, &str)> {
     let minutes = minutes.trim().strip_prefix(['-', '−', '–'])?.trim();
     let (early, late) = difference.split_once(" - ")?;
     crate::length::starts(minutes.split(' ').next()?).then_some((early.trim(), late.trim(), minutes))
+}
+
+/// `anchor = 8:00`, `anchor at 8:00`: the anchor's own line.
+fn anchored(line: &Line) -> Option<Fault> {
+    let sign = ["=", "at", "is", ":="].contains(&line.word(1).as_str());
+    let at = (line.word(2) == "at") as usize;
+    let such = line.word(0) == "anchor" && sign && line.known.anchor.is_none() && !line.known.doubtful;
+    let text = format!("anchor: {}", line.text(2 + at, line.tokens.len()));
+    such.then(|| line.fault("when the anchor is stands on a line 'anchor: ..'").fix("", line.say(&text)))
+}
+
+/// `free, then 35, then cleaned`: one after another, with minutes between.
+fn then(line: &Line) -> Option<Fault> {
+    let count = line.tokens.len();
+    let (first, last) = (line.tokens.first()?, line.tokens.last()?);
+    let such = line.names(first) && line.names(last) && count > 2 && line.relation().is_none();
+    let words = line.tokens.get(1..count.saturating_sub(1))?;
+    let thens = words.iter().any(|token| token.text.to_lowercase() == "then");
+    let rest: Vec<&str> = words
+        .iter()
+        .map(|token| token.text)
+        .filter(|text| ![",", "then", "and"].contains(&text.to_lowercase().as_str()))
+        .collect();
+    let minutes = rest.join(" ");
+    let text = format!("{} {minutes} after {}", line.text(count - 1, count), line.text(0, 1)).replace("  ", " ");
+    let fault = line.fault("what comes after what is said with 'after'");
+    (such && thens).then(|| fault.fix("", line.say(&text)))
 }
