@@ -10,7 +10,7 @@ use crate::answer::{Body, Placed, Report, Span, Verdict};
 use crate::opening::Door;
 use crate::times::{Bound, Slack};
 use crate::told;
-use crate::why::Blocked;
+use crate::why::{Blocked, Part};
 
 /// A value.
 enum Value {
@@ -190,7 +190,10 @@ fn body(report: &Report, span: &Span) -> Vec<(&'static str, Value)> {
                 Blocked::Contradiction(rules) => ("contradiction", &rules[..]),
                 Blocked::StartLeftOut(rules) => ("start left out", &rules[..]),
             };
-            vec![("class", text("none")), ("why", text(why)), ("rules_behind", numbers(rules))]
+            let places: Vec<usize> = rules.iter().map(|part| part.rule).collect();
+            let role = |part: &Part| text(told::role(sheet, *part));
+            let roles = List(rules.iter().map(role).collect());
+            vec![("class", text("none")), ("why", text(why)), ("rules_behind", numbers(&places)), ("roles", roles)]
         }
         Body::Claim(words, placed) => vec![("class", Null), ("claim", text(words)), ("claimed_plan", plan(placed))],
     }

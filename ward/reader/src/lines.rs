@@ -14,10 +14,11 @@ pub enum Key {
     Suspended,
     Span,
     Expect,
+    Record,
 }
 
 /// The words that stand before a colon.
-const KEYS: [(&str, Key); 7] = [
+const KEYS: [(&str, Key); 8] = [
     ("moments", Key::Moments),
     ("anchor", Key::Anchor),
     ("open", Key::Open),
@@ -25,6 +26,7 @@ const KEYS: [(&str, Key); 7] = [
     ("suspended", Key::Suspended),
     ("span", Key::Span),
     ("expect", Key::Expect),
+    ("record", Key::Record),
 ];
 
 /// Other words for them.
@@ -119,7 +121,7 @@ pub fn without_colon(line: &str, tokens: &[Token]) -> Option<(Key, Fault)> {
         return None;
     }
     let small = first.text.to_lowercase();
-    let key = key(&small)?;
+    let key = key(&small).filter(|key| *key != Key::Record)?;
     let has_relation = tokens.iter().any(|token| token.kind == Kind::Relation);
     let spoken = ["not", "by", "at", "exactly", "before", "after"].contains(&second.text.to_lowercase().as_str());
     if has_relation != (key == Key::Suspended) || spoken {

@@ -34,7 +34,7 @@ use crate::naming;
 use crate::outcome::Expected;
 use crate::remark::{Place, Remark, Weight};
 use crate::repair::{self, FIXED};
-use crate::sheet::{Origin, Sheet};
+use crate::sheet::{Form, Origin, Sheet};
 use crate::shown;
 use crate::sides;
 use crate::source;
@@ -112,6 +112,8 @@ pub(crate) struct Draft<'c> {
     pub(crate) doubtful: bool,
     /// The line `nothing before anchor`.
     pub(crate) floor: Option<Floor>,
+    /// Where the line `record:` stands.
+    pub(crate) form: Option<Place>,
     /// How deep this is a trial of lines that may be written in another's stead; the text itself is none.
     pub(crate) depth: usize,
     /// How many mistaken lines may still be looked at for other words.
@@ -138,6 +140,7 @@ impl<'c> Draft<'c> {
             beyond: 0,
             doubtful: false,
             floor: None,
+            form: None,
             depth: 0,
             looks_left: repair::FIXED,
         }
@@ -238,7 +241,26 @@ impl<'c> Draft<'c> {
             Key::Suspended => self.rule(number, cursor, false),
             Key::Span => self.ask(number, cursor),
             Key::Expect => self.expect(number, cursor),
+            Key::Record => self.record(number, cursor),
         }
+    }
+
+    /// Which layout the record has: `with a count of its spans`, `with the state of each rule`.
+    fn record(&mut self, number: usize, cursor: &mut Cursor) -> Result<(), Fault> {
+        let (from, text, line) = (cursor.place(), cursor.rest(), cursor.line);
+        let said = text.split_whitespace().map(str::to_lowercase).collect::<Vec<_>>().join(" ");
+        let form = [Form::Counted, Form::States].into_iter().find(|form| form.words() == Some(&said));
+        let Some(form) = form else {
+            let fault = Fault::new(from, from + text.len(), "this line says how the record is written, and not so");
+            let say = |form: Form| with(line, from, from + text.len(), form.words().unwrap_or(""));
+            return Err(fault
+                .hint("it is for texts that 'ward text' writes; leave it out elsewhere")
+                .fix("as for several spans", say(Form::Counted))
+                .fix("as for suspended rules", say(Form::States)));
+        };
+        self.sheet.form = form;
+        self.form = Some(place(number, line, from, from + text.len()));
+        Ok(())
     }
 
     /// What is expected of the span above.
@@ -351,6 +373,10 @@ impl<'c> Draft<'c> {
         let day = self.sheet.anchor.and_then(|anchor| anchor.day).or(self.doubtful.then_some(0));
         if let (Some(place), None) = (self.sheet.week.first().map(|window| window.place), day) {
             self.missing(place, "opening hours need the day of the anchor", "as in 'anchor: Monday 8:00'");
+        }
+        if let Some(place) = self.form.filter(|_| self.sheet.form == Form::Counted && self.sheet.has_suspended()) {
+            let hint = "leave this line out: a rule of the text is suspended";
+            self.missing(place, "no record has a count of its spans and suspended rules", hint);
         }
         if let (Some(&moment), true) = (self.sheet.admits.first(), self.sheet.week.is_empty()) {
             let place = self.sheet.moments[moment].place;

@@ -159,7 +159,8 @@ impl<'c> Draft<'c> {
         let week: Vec<_> = sheet.week.iter().map(|window| (window.opening, window.closing)).collect();
         let but = self.floor.as_ref().map(|floor| floor.but.clone());
         let expected: Vec<_> = self.expected.iter().map(|(span, _, outcome)| (span, outcome)).collect();
-        format!("{rules:?} {spans:?} {names:?} {:?} {week:?} {but:?} {expected:?} {:?}", sheet.anchor, sheet.admits)
+        let more = (sheet.anchor, &sheet.admits, sheet.form);
+        format!("{rules:?} {spans:?} {names:?} {week:?} {but:?} {expected:?} {more:?}")
     }
 
     /// Puts one mistake in the place of those of a line, where the line is read with other words for those that it has.

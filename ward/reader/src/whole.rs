@@ -62,7 +62,8 @@ const LOOKS: [fn(&Line) -> Option<Fault>; 14] = [
 /// The line in a form that is read, where it can be told what it means.
 pub fn otherwise(known: &Known, line: &str, end: usize) -> Option<Fault> {
     let head = headed(line, end);
-    if let Some(Key::Moments | Key::Anchor | Key::Open | Key::Span | Key::Expect | Key::Admits) = head.key {
+    if let Some(Key::Moments | Key::Anchor | Key::Open | Key::Span | Key::Expect | Key::Admits | Key::Record) = head.key
+    {
         return None;
     }
     let start = end - line[..end].trim_start().len();
