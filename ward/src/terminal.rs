@@ -305,11 +305,15 @@ fn legend(plan: &[Placed], signs: &Signs, beyond: [Option<char>; 2], (label, wid
         items.push(format!("{} and further than is shown", beyond.join(" ")));
     }
     let margin = format!("  {}  ", padded("", label));
-    let line = format!("{margin}{}\n", items.join("   "));
-    match line.chars().count() > width {
-        true => items.iter().map(|item| format!("{margin}{item}\n")).collect(),
-        false => line,
+    let mut lines: Vec<String> = Vec::new();
+    for item in items {
+        let room = |line: &String| line.chars().count() + 3 + item.chars().count() <= width;
+        match lines.last_mut().filter(|line| room(line)) {
+            Some(line) => *line += &format!("   {item}"),
+            None => lines.push(format!("{margin}{item}")),
+        }
     }
+    lines.join("\n") + "\n"
 }
 
 /// A name in a column; a long one is cut.

@@ -99,7 +99,9 @@ fn before_colon(line: &str, word: &str, start: usize, from: usize) -> Headed {
             Headed { key: key(meant), from, fault: Some(fault) }
         }
         None => {
-            let words: Vec<String> = KEYS.iter().map(|(known, _)| format!("{known}:")).collect();
+            // The line of a record's form is for texts that the tool writes.
+            let words = KEYS.iter().filter(|(_, key)| *key != Key::Record);
+            let words: Vec<String> = words.map(|(known, _)| format!("{known}:")).collect();
             let start = line.len() - line.trim_start().len();
             let fault = match small.as_str() {
                 "closed" | "shut" | "geschlossen" => {

@@ -73,12 +73,13 @@ const LOOKS: [Look; 13] = [
 
 /// The line in the words that are read, where it has others.
 pub fn otherwise(known: &Known, line: &str, end: usize) -> Option<Fault> {
-    let seen = signs(&line[..end]);
+    let kind = headed(&line[..end], end).key;
+    // Names are nobody's words: in lines of names only commas and their ends are looked at.
+    let names = [Some(Key::Moments), Some(Key::Span), Some(Key::Admits)].contains(&kind);
+    let seen = signs(&line[..end], names);
     let head = headed(&seen, seen.len());
     let dashes = if head.key == Some(Key::Open) { Dashes::Between } else { Dashes::Within };
     let from = head.from.min(seen.len());
-    // Names are nobody's words: in lines of names only their ends are looked at.
-    let names = [Some(Key::Moments), Some(Key::Span), Some(Key::Admits)].contains(&head.key);
     let looks = if names { &LOOKS[LOOKS.len() - 1..] } else { &LOOKS[..] };
     let (lines, first) = match tokens::tokens(&seen, from, seen.len(), dashes) {
         Ok(found) => all(known, &seen, from, &found, looks),
@@ -96,13 +97,15 @@ pub fn otherwise(known: &Known, line: &str, end: usize) -> Option<Fault> {
     Some(lines.into_iter().fold(fault, |fault, (says, text)| fault.fix(says, format!("{text}{}", &line[end..]))))
 }
 
-/// Signs and digits as everybody's keyboard has them, outside quotes.
-fn signs(line: &str) -> String {
+/// Signs and digits as everybody's keyboard has them, outside quotes; in lines of names the commas alone.
+fn signs(line: &str, names: bool) -> String {
     let mut quoted = false;
     let sign = |c: char| {
         quoted ^= tokens::is_quote(c);
         match c {
             _ if quoted => c,
+            '，' | '、' | '،' => ',',
+            _ if names => c,
             '\u{FF01}'..='\u{FF5E}' => char::from_u32(c as u32 - 0xFEE0).unwrap_or(c),
             '‹' | '〈' | '≺' => '<',
             '›' | '〉' | '≻' => '>',
@@ -111,7 +114,6 @@ fn signs(line: &str) -> String {
             '∶' | '꞉' => ':',
             '[' | '{' => '(',
             ']' | '}' => ')',
-            '、' | '،' => ',',
             _ => c,
         }
     };

@@ -71,6 +71,7 @@ fn paste(text: &str) -> usize {
             assert!(here < on_line || unnamed && all.len() > 1, "{fix:?}\nof {mistake:?}\n{better}\n{left:?}");
             // Other names are other lines' business, and a name that several lines have is told once.
             let names = fix.lines[0].to_lowercase().trim_start().starts_with("moments")
+                || fix.lines[0].to_lowercase().starts_with("anchor:")
                 || mistake.message.contains("; also on line");
             assert!(names || left.len() < all.len(), "{fix:?}\nof {mistake:?}\n{better}\n{left:?}");
             count += 1;

@@ -68,7 +68,7 @@ fn plans_without_the_span_s_start_do_not_count() {
     let out = answered("moments: one, two\none <= two\ntwo <= nothing\nspan: from two to one\n");
     assert!(
         out.contains("accepted none\n")
-            && out.contains("starts from, because of:\n  rule 2 (line 3): two <= nothing\n"),
+            && out.contains("starts from, because of:\n  rule 2 (line 3): two <= nothing (it leaves two out)\n"),
         "{out}"
     );
     let out = answered("moments: one, two\none <= nothing\nspan: from two to one\n");
@@ -101,9 +101,9 @@ fn no_span_is_told_with_the_rules_that_contradict_each_other() {
     assert_eq!(
         rules,
         [
-            "  rule 1 (line 2): anchor + 30 <= a",
-            "  rule 2 (line 3): a + 25 <= b",
-            "  rule 4 (line 5): b <= anchor + 54"
+            "  rule 1 (line 2): anchor + 30 <= a (its minutes count)",
+            "  rule 2 (line 3): a + 25 <= b (its minutes count)",
+            "  rule 4 (line 5): b <= anchor + 54 (its minutes count)"
         ]
     );
     let out = answered("moments: a\nanchor + 1 <= anchor\nspan: from anchor to a\n");
@@ -115,7 +115,7 @@ fn no_span_is_told_where_its_start_is_always_left_out() {
     let out = answered("moments: a, b\nanchor + 5 <= b\na <= nothing\nspan: from a to b\n");
     assert!(out.contains("accepted none"), "{out}");
     assert!(
-        out.contains("leaves out all that the span starts from, because of:\n  rule 2 (line 3): a <= nothing\n"),
+        out.contains("leaves out all that the span starts from, because of:\n  rule 2 (line 3): a <= nothing (it leaves a out)\n"),
         "{out}"
     );
 }
