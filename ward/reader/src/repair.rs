@@ -19,7 +19,10 @@ pub const FIXED: usize = 100;
 const LONGEST: usize = 1_000;
 
 /// How many mistakes of one line are followed, one behind another.
-const STEPS: usize = 3;
+const STEPS: usize = 5;
+
+/// How deep a trial may be in which other words are looked for.
+const DEPTH: usize = 1;
 
 /// The most readings of a mistake that are shown.
 const MOST: usize = 6;
@@ -167,7 +170,7 @@ impl<'c> Draft<'c> {
     pub(crate) fn other_words(&mut self, number: usize, line: &str, end: usize, before: usize) {
         let unknown = !self.unread && self.unknown.values().flatten().any(|place| place.line == number);
         let wrong = self.remarks.len() > before || unknown;
-        if !wrong || self.depth > STEPS || self.looks_left == 0 || line.len() > LONGEST {
+        if !wrong || self.depth > DEPTH || self.looks_left == 0 || line.len() > LONGEST {
             return;
         }
         self.looks_left -= 1;

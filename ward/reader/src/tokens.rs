@@ -147,6 +147,11 @@ fn spaced(line: &str, from: usize, at: usize, c: char) -> Result<(), Fault> {
     }
     let (before, after) = (line[..at].trim_end(), line[to..].trim_start());
     let fault = Fault::new(at, to, "a minus has a space on both sides");
+    let rest = line[at..].trim_start_matches(|c| DASHES.contains(c));
+    let two = line.len() - at - rest.len() > c.len_utf8();
+    if two && space(line[from..at].chars().next_back()) && rest.starts_with(' ') && !before.ends_with(['+', '-']) {
+        return Err(fault.fix("a comment", format!("{before} # {}", rest.trim_start())));
+    }
     // Two signs in a row are one.
     let sign = |sign: char| before.ends_with(sign).then(|| before[..before.len() - sign.len_utf8()].trim_end());
     Err(match (sign('+'), sign('-')) {

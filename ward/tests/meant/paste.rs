@@ -162,7 +162,7 @@ const MORE: &[&str] = &[
     "ready bis 8.45 Uhr,",
     "Moments: porter, bed 4, nurse,",
     "moments: 'bed 4', bed 5",
-    "the later of ready or cleaned, + 1,5 h < leaves.",
+    "the later of ready or cleaned < leaves.",
     "open: Mo-Fr 7-18, Sa 9-12",
 ];
 
