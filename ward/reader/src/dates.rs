@@ -58,8 +58,8 @@ pub fn day(seen: &Seen) -> Option<Put> {
 fn month(word: &str) -> Option<i64> {
     let short = word.strip_suffix('.').unwrap_or(word);
     let letters = short.chars().count() >= 3 && short.chars().all(char::is_alphabetic);
-    let names = |names: &&[&str]| names.iter().any(|name| short.starts_with(name));
-    MONTHS.iter().position(|month| letters && names(&month)).map(|place| place as i64 + 1)
+    let names = |names: &[&str]| names.iter().any(|name| short.starts_with(name));
+    MONTHS.iter().position(|month| letters && names(month)).map(|place| place as i64 + 1)
 }
 
 /// The day of a month: `19`, `19.`, `19th`.

@@ -250,6 +250,16 @@ pub fn point(cursor: &Cursor, first: Token) -> Option<Fault> {
     }
 }
 
+/// A number that is not exact, or that has letters which look like digits.
+fn nearly(text: &str, fault: &Fault, say: &dyn Fn(String) -> String) -> Option<Fault> {
+    if text.starts_with('~') {
+        return Some(fault.clone().hint("how much? Both limits are said, as in 'leaves 35 to 40 after ready'"));
+    }
+    let likely = text.replace(['O', 'o'], "0").replace(['l', 'I'], "1");
+    let such = likely != text && is_number(&likely) && text.contains(|c: char| c.is_ascii_digit());
+    such.then(|| fault.clone().fix("with digits alone", say(likely)))
+}
+
 /// What stands where a length belongs.
 fn no_length(cursor: &Cursor, token: Token) -> Fault {
     if let Some(fault) = point(cursor, token) {
@@ -264,12 +274,8 @@ fn no_length(cursor: &Cursor, token: Token) -> Fault {
             _ => fault,
         };
     }
-    if token.text.starts_with('~') {
-        return fault.hint("how much? Both limits are said, as in 'leaves 35 to 40 after ready'");
-    }
-    let likely = token.text.replace(['O', 'o'], "0").replace(['l', 'I'], "1");
-    if likely != token.text && is_number(&likely) && token.text.contains(|c: char| c.is_ascii_digit()) {
-        return fault.fix("with digits alone", say(likely));
+    if let Some(fault) = nearly(token.text, &fault, &say) {
+        return fault;
     }
     let digits: String = token.text.chars().take_while(char::is_ascii_digit).collect();
     let rest = token.text[digits.len()..].to_lowercase();

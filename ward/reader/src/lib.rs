@@ -5,10 +5,11 @@
 //! text of hours and minutes says (`1:30`), and how early rules let a moment be, is told by the [`Clock`] that it is handed: the
 //! tool hands it the archive's.
 //!
-//! A line is cut into `tokens`, of which `cursor` keeps count. `lines` tells its kind; `naming` reads moments, `hours` the anchor
-//! and the opening hours, `rows` rules with a sign and spans, `spoken` rules in words, `floor` the line `nothing before anchor`.
-//! They are made of `sides`, `length`s of time and `instant`s. What is wrong is a `fault`, with lines to be written in its stead;
-//! `parse` shows those alone that it takes itself.
+//! A line is cut into `tokens`, of which `cursor` keeps count. `lines` tells its kind; `naming` reads moments, `hours` the anchor,
+//! `open` the opening hours, `rows` rules with a sign and spans, `spoken` rules in words, `floor` the line `nothing before anchor`.
+//! They are made of `sides`, `length`s of time and `instant`s. What is wrong is a `fault`, with lines to be written in its stead.
+//! Lines with other words than those that are read are put in these by `plain` (with `phrases`, `units`, `dates`), lines in other
+//! forms by `whole` and `offers`; `repair` shows what is read without a mistake, and nothing else.
 
 mod alike;
 pub mod calendar;

@@ -99,21 +99,24 @@ fn before_colon(line: &str, word: &str, start: usize, from: usize) -> Headed {
             Headed { key: key(meant), from, fault: Some(fault) }
         }
         None => {
-            // The line of a record's form is for texts that the tool writes.
-            let words = KEYS.iter().filter(|(_, key)| *key != Key::Record);
-            let words: Vec<String> = words.map(|(known, _)| format!("{known}:")).collect();
-            let start = line.len() - line.trim_start().len();
-            let fault = match small.as_str() {
-                "closed" | "shut" | "geschlossen" => {
-                    fault.hint("when the ward is open stands on a line 'open: ..'; it is closed at all other times")
-                }
-                _ => fault
-                    .hint(format!("lines start with {}, or are rules; a comment starts with #", words.join(", ")))
-                    .fix("a comment", with(line, start, start, "# ")),
-            };
+            let fault = no_key(line, &small, fault);
             Headed { key: None, from, fault: Some(fault) }
         }
     }
+}
+
+/// A word and a colon that start no line: a comment, or a kind of line that there is not.
+fn no_key(line: &str, small: &str, fault: Fault) -> Fault {
+    if ["closed", "shut", "geschlossen"].contains(&small) {
+        return fault.hint("when the ward is open stands on a line 'open: ..'; it is closed at all other times");
+    }
+    // The line of a record's form is for texts that the tool writes.
+    let words = KEYS.iter().filter(|(_, key)| *key != Key::Record);
+    let words: Vec<String> = words.map(|(known, _)| format!("{known}:")).collect();
+    let start = line.len() - line.trim_start().len();
+    fault
+        .hint(format!("lines start with {}, or are rules; a comment starts with #", words.join(", ")))
+        .fix("a comment", with(line, start, start, "# "))
 }
 
 /// Whether the tokens of what looks like a rule are another line without its colon: its kind, and the fault.

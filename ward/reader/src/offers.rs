@@ -41,41 +41,40 @@ pub fn at_time(
 ) -> Option<Fault> {
     let line = cursor.line;
     let of_day = |length: Length| length.colon.is_some_and(|(_, from, _)| from == length.from);
-    if !of_day(first) || !last.is_none_or(of_day) {
-        return None;
-    }
     // `am`, `pm` and `Uhr` go with the time; what stands behind may say on which side of it.
     let half = ["am", "pm", "a.m.", "p.m.", "uhr"].contains(&cursor.plain(0).to_lowercase().as_str());
     let side = side_behind(cursor, half as usize);
     let rest = cursor.peek(half as usize).filter(|_| side.is_none());
-    let time_to = cursor.peek(0).filter(|_| half).map_or(first.to, |token| token.to);
-    let (group, time) = (&line[subject.from..subject.to], &line[first.from..time_to]);
-    let whole = |words: String| with(line, subject.from, cursor.end(), &words);
-    let fault = Fault::new(
-        first.from,
-        time_to,
-        format!("is this the latest time, the earliest, or both? '{time}' alone does not say"),
-    );
-    if rest.is_some() {
+    if !of_day(first) || !last.is_none_or(of_day) || rest.is_some() {
         return None;
     }
+    let to = cursor.peek(0).filter(|_| half).map_or(first.to, |token| token.to);
+    let (group, time) = (&line[subject.from..subject.to], &line[first.from..to]);
+    let whole = |words: &str, time: &str| with(line, subject.from, cursor.end(), &format!("{group} {words} {time}"));
     if let Some(last) = last {
-        let late = &line[last.from..last.to];
         let message = format!("'{}' are two times, and no minutes", &line[first.from..last.to]);
-        let lines = vec![whole(format!("{group} not before {time}")), whole(format!("{group} by {late}"))];
+        let lines = vec![whole("not before", time), whole("by", &line[last.from..last.to])];
         return Some(Fault::new(first.from, last.to, message).fixes("from the one to the other", lines));
     }
-    let (by, from, at) =
-        (format!("{group} by {time}"), format!("{group} not before {time}"), format!("{group} = {time}"));
-    let said = format!("'{time}' is a time of day, and no length of time");
-    Some(match (least, most, side) {
-        (true, true, _) => Fault::new(first.from, time_to, said).fix("", whole(at)),
-        (true, ..) => Fault::new(first.from, time_to, said).fix("", whole(from)),
-        (_, true, _) => Fault::new(first.from, time_to, said).fix("", whole(by)),
-        (_, _, Some("by")) => Fault::new(first.from, time_to, "the word stands before its time").fix("", whole(by)),
-        (_, _, Some(_)) => Fault::new(first.from, time_to, "the word stands before its time").fix("", whole(from)),
-        _ => fault.fix("then", whole(at)).fix("then or earlier", whole(by)).fix("then or later", whole(from)),
-    })
+    let words = match (least, most, side) {
+        (true, true, _) => "=",
+        (true, ..) => "not before",
+        (_, true, _) => "by",
+        (_, _, Some(side)) => side,
+        _ => return Some(at_which(Fault::new(first.from, to, ""), time, &|words| whole(words, time))),
+    };
+    let message = match side {
+        Some(_) => "the word stands before its time".into(),
+        None => format!("'{time}' is a time of day, and no length of time"),
+    };
+    Some(Fault::new(first.from, to, message).fix("", whole(words, time)))
+}
+
+/// A time of day with nothing that says on which side of it something is.
+fn at_which(fault: Fault, time: &str, whole: &dyn Fn(&str) -> String) -> Fault {
+    let message = format!("is this the latest time, the earliest, or both? '{time}' alone does not say");
+    let fault = Fault { message, ..fault };
+    fault.fix("then", whole("=")).fix("then or earlier", whole("by")).fix("then or later", whole("not before"))
 }
 
 /// `at least 35 and at most 40 after ..`.
@@ -208,40 +207,27 @@ pub fn behind(cursor: &Cursor, subject: &Side, token: Token, from: usize) -> Opt
     let line = cursor.line;
     let (before, after) = (&line[..from], &line[cursor.end()..]);
     let (group, first) = (&line[subject.from..subject.to], line[from..token.from].trim_end());
-    let rule = first[group.len()..].trim_start().to_lowercase();
+    let rule = first[group.len()..].trim_start();
+    let word = ["not before", "not after", "by"].into_iter().find(|word| rule.to_lowercase().starts_with(word))?;
     let rest = |ahead: usize| cursor.peek(ahead).map_or("", |token| line[token.from..cursor.end()].trim());
-    let early = rule.starts_with("not before");
-    let by = rule.starts_with("by") || rule.starts_with("not after");
     let whole = |words: &str| format!("{before}{words}{after}");
-    if let Some(side) = side_behind(cursor, 0).filter(|_| early || by) {
+    let (early, time) = (word == "not before", rule[word.len()..].trim());
+    let said = |words: &str, time: &str| whole(&format!("{group} {words} {time}"));
+    if let Some(side) = side_behind(cursor, 0) {
         let fault = Fault::new(token.from, cursor.end(), format!("'{}' is too much", rest(0)));
-        let time = first[group.len()..].trim_start()[if early {
-            10
-        } else if rule.starts_with("by") {
-            2
-        } else {
-            9
-        }..]
-            .trim();
-        return Some(match (side == "by") == by {
+        return Some(match (side == "by") != early {
             true => fault.fix("", whole(first)),
-            false => fault
-                .fix("the latest", whole(&format!("{group} by {time}")))
-                .fix("the earliest", whole(&format!("{group} not before {time}"))),
+            false => fault.fix("the latest", said("by", time)).fix("the earliest", said("not before", time)),
         });
     }
-    let word = token.text.to_lowercase();
     let fault = Fault::new(token.from, token.to, format!("'{}' is too much: a line has one limit", token.text));
-    let two = |words: String| vec![format!("{before}{first}"), whole(&words)];
-    match word.as_str() {
-        "to" | "until" | "till" | "-" if early => Some(fault.fixes("", two(format!("{group} by {}", rest(1))))),
-        "by" | "not" | "at" if early || by => Some(fault.fixes("", two(format!("{group} {}", rest(0))))),
-        "or" if early || by => {
-            let words = &line[from..token.from];
-            let time = words.rfind(|c: char| c.is_whitespace()).map_or(words, |_| words.trim_end());
-            let head = time.rfind(' ').map_or("", |place| &time[..place]);
+    let two = |second: String| vec![format!("{before}{first}"), second];
+    match token.text.to_lowercase().as_str() {
+        "to" | "until" | "till" | "-" if early => Some(fault.fixes("", two(said("by", rest(1))))),
+        "by" | "not" | "at" => Some(fault.fixes("", two(whole(&format!("{group} {}", rest(0)))))),
+        "or" => {
             let fault = Fault::new(token.from, token.to, "which of both? A line has one limit");
-            Some(fault.fix("the first", whole(first)).fix("the second", whole(&format!("{head} {}", rest(1)))))
+            Some(fault.fix("the first", whole(first)).fix("the second", said(word, rest(1))))
         }
         _ => None,
     }

@@ -51,6 +51,9 @@ impl<'s> Seen<'s> {
     }
 }
 
+/// A line, and before it what it says.
+type Reading = (String, String);
+
 /// What is looked for at a token.
 type Look = fn(&Seen) -> Option<Put>;
 
@@ -127,7 +130,7 @@ fn all(
     from: usize,
     tokens: &[Token],
     looks: &[Look],
-) -> (Vec<(String, String)>, Option<(usize, usize)>) {
+) -> (Vec<Reading>, Option<(usize, usize)>) {
     let mut lines = vec![(String::new(), line[..from].to_string())];
     let (mut at, mut done, mut first) = (0, from, None);
     while at < tokens.len() {
