@@ -9,7 +9,7 @@
 //! `open` the opening hours, `rows` rules with a sign and spans, `spoken` rules in words, `floor` the line `nothing before anchor`.
 //! They are made of `sides`, `length`s of time and `instant`s. What is wrong is a `fault`, with lines to be written in its stead.
 //! Lines with other words than those that are read are put in these by `plain` (with `phrases`, `units`, `dates`), lines in other
-//! forms by `whole` and `offers`; `repair` shows what is read without a mistake, and nothing else.
+//! forms by `whole`, `worded` and `offers`; `repair` shows what is read without a mistake, and nothing else.
 
 mod alike;
 pub mod calendar;
@@ -45,6 +45,7 @@ mod tokens;
 mod units;
 pub mod vain;
 mod whole;
+mod worded;
 
 pub use clock::Clock;
 pub use parse::{read, title, Read};

@@ -9,8 +9,9 @@ use crate::offers;
 use crate::rows::{self, Sides};
 use crate::sheet::Lead;
 use crate::shown;
-use crate::sides::{self, bracketed, Side};
+use crate::sides::{self, Side};
 use crate::tokens::{Kind, Token};
+use crate::worded;
 
 /// How two limits bound the minutes between two sides.
 #[derive(Clone, Copy, Debug, PartialEq, Eq)]
@@ -18,47 +19,6 @@ struct Limits {
     least: Option<i32>,
     most: Option<i32>,
 }
-
-/// Other words before a time of day or a side, and those that are read.
-const POINTS: [(&str, &str); 19] = [
-    ("no later than", "by"),
-    ("not later than", "by"),
-    ("at the latest", "by"),
-    ("at latest", "by"),
-    ("latest", "by"),
-    ("until", "by"),
-    ("till", "by"),
-    ("no earlier than", "not before"),
-    ("not earlier than", "not before"),
-    ("at the earliest", "not before"),
-    ("at earliest", "not before"),
-    ("earliest", "not before"),
-    ("from", "not before"),
-    ("not until", "not before"),
-    ("exactly at", "="),
-    ("is at", "="),
-    ("at", "="),
-    ("together with", "="),
-    ("directly after", "="),
-];
-
-/// Other words before minutes, and those that are read.
-const AMOUNTS: [(&str, &str); 14] = [
-    ("no more than", "at most"),
-    ("not more than", "at most"),
-    ("up to", "at most"),
-    ("maximum", "at most"),
-    ("max", "at most"),
-    ("max.", "at most"),
-    ("no less than", "at least"),
-    ("not less than", "at least"),
-    ("minimum", "at least"),
-    ("min", "at least"),
-    ("min.", "at least"),
-    ("within", "0 to"),
-    ("precisely", "exactly"),
-    ("just", "exactly"),
-];
 
 /// Reads a rule in words: one rule, or two.
 pub fn read(cursor: &mut Cursor, known: &Known) -> Result<Vec<Sides>, Fault> {
@@ -92,7 +52,7 @@ fn behind(cursor: &mut Cursor, known: &Known, subject: &Side) -> Result<Vec<Side
     let said = least || most;
     let numbered = cursor.peek(0).is_some_and(|token| token.kind == Kind::Word && length::starts(token.text));
     if !said && !numbered {
-        return Err(other(cursor, subject));
+        return Err(worded::other(cursor, subject));
     }
     let first = length::read(cursor, known.clock)?;
     if let Some(fault) = offers::both_limits(cursor, known, first, (least, most), amount) {
@@ -269,146 +229,6 @@ fn no_after(cursor: &Cursor, subject: &Side, first: Length, said: bool) -> Fault
         }
         _ => fault.hint("a rule is written 'ready + 10 <= leaves', or 'leaves at least 10 after ready'"),
     }
-}
-
-/// Words that are not read, with those that are.
-fn other(cursor: &Cursor, subject: &Side) -> Fault {
-    let fault = cursor.fault("'<=' is expected");
-    let line = cursor.line;
-    let group = &line[subject.from..subject.to];
-    let Some(token) = cursor.peek(0) else {
-        return fault.hint("a rule is written 'ready + 10 <= leaves', or 'leaves at least 10 after ready'");
-    };
-    let end = cursor.end();
-    let whole = |text: String| with(line, subject.from, end, &text);
-    let rest = |skip: usize| cursor.peek(skip).map_or("", |token| line[token.from..end].trim());
-    let small = token.text.to_lowercase();
-    let than = cursor.sees("later than") || cursor.sees("earlier than");
-    if ["before", "after"].contains(&small.as_str()) || than {
-        let other = rest(1 + than as usize);
-        let (early, late) =
-            if ["before", "earlier"].contains(&small.as_str()) { (group, other) } else { (other, group) };
-        if list(cursor) {
-            return offers::than_several(fault, group, other, early == group, &whole);
-        }
-        return fault
-            .fix("the same minute is good enough", whole(format!("{early} <= {late}")))
-            .fix("it is not", whole(format!("{} + 1 <= {late}", bracketed(early))));
-    }
-    if let Some(fault) = between(cursor, &fault, group, subject) {
-        return fault;
-    }
-    let ahead = |words: &str| words.split(' ').count();
-    let range = token.text.split_once(['-', '–']).filter(|(a, b)| length::starts(a) && length::starts(b));
-    if let Some((a, b)) = range {
-        let times = [a, b].iter().all(|text| length::is_hours(text));
-        let fault = fault.fix("both limits", with(line, token.from, token.to, &format!("{a} to {b}")));
-        return match times {
-            true => fault
-                .fixes("both times", vec![whole(format!("{group} not before {a}")), whole(format!("{group} by {b}"))]),
-            false => fault,
-        };
-    }
-    if cursor.sees("within") {
-        let of = cursor.left().iter().position(|token| token.text.to_lowercase() == "of");
-        if let Some(of) = of.filter(|of| *of > 1) {
-            let (from, to) = (cursor.left()[1].from, cursor.left()[of - 1].to);
-            let (minutes, base) = (&line[from..to], rest(of + 1));
-            let rules =
-                vec![whole(format!("{base} - {minutes} <= {group}")), whole(format!("{group} <= {base} + {minutes}"))];
-            return fault
-                .fix("not before it", whole(format!("{group} 0 to {minutes} after {base}")))
-                .fixes("before it or after it", rules);
-        }
-    }
-    for (words, low) in [("more than", true), ("less than", false), ("longer than", true)] {
-        let number = cursor.peek(2).filter(|_| cursor.sees(words)).and_then(|token| token.text.parse::<i32>().ok());
-        if let (Some(number), Some(last)) = (number, cursor.peek(2)) {
-            let say = |text: String| with(line, token.from, last.to, &text);
-            return match low {
-                true => fault
-                    .fix("so many or more", say(format!("at least {number}")))
-                    .fix("one more or more", say(format!("at least {}", number + 1))),
-                false => fault
-                    .fix("so many or less", say(format!("at most {number}")))
-                    .fix("one less or less", say(format!("at most {}", number - 1))),
-            };
-        }
-    }
-    let relative =
-        cursor.left().iter().map(|token| token.text.to_lowercase()).find(|word| word == "after" || word == "before");
-    for (words, meant) in POINTS {
-        if !cursor.sees(words) {
-            continue;
-        }
-        let last = cursor.peek(ahead(words) - 1).map_or(token.to, |token| token.to);
-        let numbered = cursor.peek(ahead(words)).is_some_and(|next| length::starts(next.text));
-        if let Some(hours) = offers::hour(cursor, ahead(words)).filter(|_| meant == "=") {
-            return hours.iter().fold(fault, |fault, time| fault.fix("", whole(format!("{group} = {time}"))));
-        }
-        let meant = match (meant, relative.as_deref().filter(|_| numbered)) {
-            ("by", Some("after")) | ("not before", Some("before")) => "at most",
-            ("by", Some(_)) | ("not before", Some(_)) => "at least",
-            (meant, _) => meant,
-        };
-        return fault.fix("", with(line, token.from, last, meant));
-    }
-    for (words, meant) in AMOUNTS {
-        if cursor.sees(words) {
-            let last = cursor.peek(ahead(words) - 1).map_or(token.to, |token| token.to);
-            let say = |words: &str| with(line, token.from, last, words);
-            return match (meant, relative.as_deref()) {
-                ("at most", Some("after")) => {
-                    fault.fix("it may be before, too", say(meant)).fix("and not before", say("0 to"))
-                }
-                ("at most", Some(_)) => fault.fix("it may be after, too", say(meant)).fix("and not after", say("0 to")),
-                _ => fault.fix("", say(meant)),
-            };
-        }
-    }
-    if small == "on" {
-        let day = rest(1);
-        return fault.fixes(
-            "at some time of that day",
-            vec![whole(format!("{group} not before {day} 0:00")), whole(format!("{group} by {day} 24:00"))],
-        );
-    }
-    if ["and", "&", ","].contains(&small.as_str()) {
-        let fault = fault.hint("several moments stand behind 'later of', with commas between them");
-        return offers::each(cursor, subject)
-            .into_iter()
-            .fold(fault, |fault, lines| fault.fixes("each of them", lines));
-    }
-    match offers::vague(&small) {
-        Some(hint) => fault.hint(hint),
-        None => rows::more(cursor, fault),
-    }
-}
-
-/// Whether several moments stand here without `later of`.
-fn list(cursor: &Cursor) -> bool {
-    let word = |words: &[&str]| cursor.left().iter().any(|token| words.contains(&token.text.to_lowercase().as_str()));
-    word(&["and", "or", ",", "&"]) && !word(&["later", "latest"])
-}
-
-/// `between 8:40 and 8:45`, `between 35 and 40 after ..`.
-fn between(cursor: &Cursor, fault: &Fault, group: &str, subject: &Side) -> Option<Fault> {
-    cursor.sees("between").then_some(())?;
-    let tokens = cursor.left();
-    let and = tokens.iter().position(|token| token.text.to_lowercase() == "and").filter(|and| *and > 1)?;
-    let line = cursor.line;
-    let first = &line[tokens[1].from..tokens[and - 1].to];
-    let behind = tokens.get(and + 1)?;
-    let rest = line[behind.from..cursor.end()].trim();
-    let whole = |text: String| with(line, subject.from, cursor.end(), &text);
-    let fault = fault.clone();
-    let relative = tokens.iter().any(|token| ["after", "before"].contains(&token.text.to_lowercase().as_str()));
-    Some(match relative {
-        true => fault.fix("", whole(format!("{group} {first} to {rest}"))),
-        false => fault
-            .hint("both times stand in two lines, the earlier one first")
-            .fixes("", vec![whole(format!("{group} not before {first}")), whole(format!("{group} by {rest}"))]),
-    })
 }
 
 /// What is too much behind a rule in words.
