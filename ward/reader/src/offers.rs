@@ -24,8 +24,8 @@ const SIDES: [(&str, &str); 12] = [
     ("onwards", "not before"),
 ];
 
-/// Words that stand here and end the line: where they start, and what they say.
-fn side_behind(cursor: &Cursor, ahead: usize) -> Option<&'static str> {
+/// On which side of a time words say that something is, where they stand so many tokens ahead and end the line.
+pub fn side_behind(cursor: &Cursor, ahead: usize) -> Option<&'static str> {
     let plain = |place: usize| cursor.plain(ahead + place).to_lowercase();
     let stands = |words: &str| words.split(' ').enumerate().all(|(place, word)| plain(place) == word);
     let ends = |words: &str| cursor.peek(ahead + words.split(' ').count()).is_none();
@@ -227,7 +227,14 @@ pub fn behind(cursor: &Cursor, subject: &Side, token: Token, from: usize) -> Opt
         "by" | "not" | "at" => Some(fault.fixes("", two(whole(&format!("{group} {}", rest(0)))))),
         "or" => {
             let fault = Fault::new(token.from, token.to, "which of both? A line has one limit");
-            Some(fault.fix("the first", whole(first)).fix("the second", said(word, rest(1))))
+            let second = rest(1);
+            let later = said(word, &format!("later of {time}, {second}"));
+            let each = vec![format!("{before}{first}"), said(word, second)];
+            Some(match (second.starts_with(|c: char| c.is_ascii_digit()), early) {
+                (true, _) => fault.fix("the first", whole(first)).fix("the second", said(word, second)),
+                (_, true) => fault.hint("that one of them is early enough cannot be said").fix("both", later),
+                _ => fault.fix("one of them is late enough", later).fixes("each of them is late enough", each),
+            })
         }
         _ => None,
     }

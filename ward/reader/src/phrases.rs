@@ -3,7 +3,7 @@
 use crate::plain::{one, Put, Seen};
 
 /// What is written, and what is read in its place; nothing where it is left out.
-const PHRASES: [(&str, &str); 72] = [
+const PHRASES: [(&str, &str); 88] = [
     ("must not be before", "not before"),
     ("must not be after", "not after"),
     ("may not be before", "not before"),
@@ -66,6 +66,22 @@ const PHRASES: [(&str, &str); 72] = [
     ("a week", "7 days"),
     ("one week", "7 days"),
     ("a fortnight", "14 days"),
+    ("end of day", "24:00"),
+    ("the end of the day", "24:00"),
+    ("eod", "24:00"),
+    ("is", ""),
+    ("ist", ""),
+    ("muss", ""),
+    ("one", "1"),
+    ("two", "2"),
+    ("three", "3"),
+    ("four", "4"),
+    ("six", "6"),
+    ("seven", "7"),
+    ("eight", "8"),
+    ("nine", "9"),
+    ("eleven", "11"),
+    ("twelve", "12"),
     ("five", "5"),
     ("ten", "10"),
     ("fifteen", "15"),
@@ -96,6 +112,11 @@ pub fn found(seen: &Seen) -> Option<Put> {
     if seen.plain(0) == "(" {
         let found = BRACKETS.iter().find(|(phrase, _)| stands(phrase, 1) && seen.plain(1 + count(phrase)) == ")");
         return found.and_then(|(phrase, meant)| one(2 + count(phrase), *meant));
+    }
+    match seen.word(0).as_str() {
+        "spätestens" if seen.ends(1) => return one(1, "at the latest"),
+        "frühestens" if seen.ends(1) => return one(1, "at the earliest"),
+        _ => {}
     }
     let found = PHRASES.iter().filter(|(phrase, _)| stands(phrase, 0)).max_by_key(|(phrase, _)| count(phrase));
     found.and_then(|(phrase, meant)| one(count(phrase), *meant))

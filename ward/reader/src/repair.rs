@@ -36,6 +36,10 @@ const ENDS: [&str; 2] = ["several names", "a comment"];
 /// What stands below a mistake whose readings are not shown, since the line has another.
 const OTHER: &str = "this line has another mistake: mend that first, and what to write for this one is shown";
 
+/// What stands below a mistake in a rule of which nothing can be told.
+const WAYS: &str =
+    "say it as in 'ready by 8:45', 'ready not before 8:40', 'leaves at least 10 after ready' or 'ready + 10 <= leaves'";
+
 /// What stands below a mistake that the readings of another one of its line mend too.
 const SAME: &str = "what is shown for the line's other mistake mends this too";
 
@@ -56,13 +60,17 @@ impl<'c> Draft<'c> {
             let offered = std::mem::take(&mut remark.fixes);
             let here = remark.place.line;
             let line = lines.get(here - 1).map_or("", String::as_str);
-            if number >= FIXED || offered.is_empty() || line.len() > LONGEST {
+            if number >= FIXED || line.len() > LONGEST {
                 continue;
             }
             remark.fixes = self.repairs(&offered, line);
+            let rule = is(line, Key::Rule) || is(line, Key::Suspended);
             let alone = places.iter().filter(|place| **place == here).count() == 1;
-            if remark.fixes.is_empty() && !alone {
+            if remark.fixes.is_empty() && !alone && !offered.is_empty() {
                 remark.hint.get_or_insert(OTHER.into());
+            }
+            if remark.fixes.is_empty() && rule {
+                remark.hint.get_or_insert(WAYS.into());
             }
             let told = before.as_ref().is_some_and(|(place, fixes)| *place == here && same(fixes, &remark.fixes));
             match told && !remark.fixes.is_empty() {

@@ -482,6 +482,10 @@ fn moment(cursor: &mut Cursor, known: &Known) -> Result<Option<usize>, Fault> {
     if let Some(fault) = hyphen(cursor, token, known, moment) {
         return Err(fault);
     }
+    let noon = ["noon", "midnight"].contains(&token.text.to_lowercase().as_str());
+    if let Some(fault) = instant::meant(cursor, known).filter(|_| noon && moment.is_none()) {
+        return Err(fault);
+    }
     if token.kind != Kind::Quoted && moment.is_none() && !is_bare(token.text) {
         return Err(no_name(cursor, token, known));
     }

@@ -9,7 +9,7 @@ use crate::sides::{bracketed, Side};
 use crate::tokens::Token;
 
 /// Other words before a time of day or a side, and those that are read.
-const POINTS: [(&str, &str); 19] = [
+const POINTS: [(&str, &str); 22] = [
     ("no later than", "by"),
     ("not later than", "by"),
     ("at the latest", "by"),
@@ -29,6 +29,9 @@ const POINTS: [(&str, &str); 19] = [
     ("at", "="),
     ("together with", "="),
     ("directly after", "="),
+    ("no sooner than", "not before"),
+    ("not sooner than", "not before"),
+    ("@", "="),
 ];
 
 /// Other words before minutes, and those that are read.
@@ -200,6 +203,10 @@ fn point(worded: &Worded) -> Option<Fault> {
     if let Some(hours) = offers::hour(cursor, count).filter(|_| meant == "=") {
         let rule = |time: &String| worded.whole(format!("{} = {time}", worded.group));
         return Some(hours.iter().fold(worded.fault(), |fault, time| fault.fix("", rule(time))));
+    }
+    if let Some(side) = offers::side_behind(cursor, count + 1).filter(|_| meant == "=") {
+        let time = cursor.peek(count).map_or("", |token| token.text);
+        return Some(worded.fault().fix("", worded.whole(format!("{} {side} {time}", worded.group))));
     }
     let numbered = cursor.peek(count).is_some_and(|next| length::starts(next.text));
     let relative = worded.relative().filter(|_| numbered);
