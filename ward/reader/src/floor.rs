@@ -95,8 +95,12 @@ impl Draft<'_> {
                 None if token.text.to_lowercase() == "not" => {
                     let line = cursor.line;
                     let but = line[..token.from].trim_end();
-                    let alone = but[..but.len() - 3].trim_end();
-                    let said = Fault::new(token.from, token.to, "'but not' can be taken both ways");
+                    let said = Fault::new(token.from, token.to, "'but not' can be taken both ways")
+                        .hint("a name behind 'but' may be before the anchor");
+                    let Some(alone) = but.len().checked_sub(3).and_then(|place| but.get(..place)) else {
+                        return Err(said);
+                    };
+                    let alone = alone.trim_end();
                     return Err(said
                         .fix("it may be before the anchor", format!("{but} {}", line[token.to..].trim_start()))
                         .fix("it may not", format!("{alone}{}", &line[cursor.end()..])));
