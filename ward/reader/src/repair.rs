@@ -4,6 +4,7 @@
 //! left. One that comes to no end is not shown.
 
 use crate::fault::{Fault, Fix};
+use crate::limits;
 use crate::lines::{headed, Key};
 use crate::parse::Draft;
 use crate::plain;
@@ -17,6 +18,9 @@ pub const FIXED: usize = 100;
 
 /// The longest line, in bytes, that is looked at for that, and the longest that is shown so.
 const LONGEST: usize = 1_000;
+
+/// The longest text, in lines, that is read as a whole with each of its readings.
+const WHOLE: usize = 300;
 
 /// How many mistakes of one line are followed, one behind another.
 const STEPS: usize = 5;
@@ -64,6 +68,7 @@ impl<'c> Draft<'c> {
                 continue;
             }
             remark.fixes = self.repairs(&offered, line);
+            remark.fixes.retain(|fix| number >= limits::SHOWN || lines.len() > WHOLE || self.holds(lines, here, fix));
             let rule = is(line, Key::Rule) || is(line, Key::Suspended);
             let alone = places.iter().filter(|place| **place == here).count() == 1;
             if remark.fixes.is_empty() && !alone && !offered.is_empty() {
@@ -82,6 +87,21 @@ impl<'c> Draft<'c> {
             }
         }
         self.remarks = remarks;
+    }
+
+    /// Whether the whole text has no mistake in the lines of a reading, in the place of a line.
+    fn holds(&self, lines: &[String], place: usize, fix: &Fix) -> bool {
+        let mut all = lines.to_vec();
+        let own = place..place + fix.lines.len();
+        all.splice(place - 1..place.min(all.len()), fix.lines.iter().cloned());
+        let mut draft = Draft { depth: DEPTH + 1, ..Draft::new(self.clock) };
+        draft.all(&all, |key| key == Key::Moments);
+        draft.all(&all, |key| key == Key::Anchor);
+        draft.all(&all, |key| key != Key::Moments && key != Key::Anchor);
+        if !draft.unread {
+            draft.unknown_names(&all);
+        }
+        !draft.remarks.iter().any(|remark| own.contains(&remark.place.line))
     }
 
     /// The readings among those offered that are read without a mistake, each followed as far as it needs.
