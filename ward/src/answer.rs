@@ -27,6 +27,8 @@ pub struct Span {
     /// Both groups as they were read.
     pub from: String,
     pub to: String,
+    /// The moments that the span starts from, one of which a plan must have to count; empty where the anchor is among them.
+    pub start: Vec<String>,
     /// The answer's record.
     pub record: Vec<u8>,
     pub verdict: Verdict,
@@ -119,11 +121,11 @@ impl Report {
         };
         if let Some(sheet) = &report.sheet {
             if let Some(window) = archive::wrong_window(&sheet.week) {
-                let hint = "a window closes after it opens, by 24:00 of the same day, and starts when the one before it is over; 14 are the most";
+                let (message, hint) = opening::why_wrong(&sheet.week, window);
                 report.remarks.push(Remark {
                     weight: Weight::Mistake,
                     place: window.place,
-                    message: "these opening hours are refused (19)".into(),
+                    message: message.into(),
                     hint: Some(hint.into()),
                     fixes: Vec::new(),
                 });
@@ -222,7 +224,15 @@ fn span_of(sheet: &Sheet, question: usize, answer: &[u8], wishes: Wishes) -> Res
         Verdict::Accepted(Outcome::None) => Body::None(why::blocked(sheet, question)?),
         Verdict::NotAccepted(_) => claim(sheet, question, answer),
     };
-    Ok(Span { from: side(&row.right), to: side(&row.left), record: answer.to_vec(), verdict, expected, body })
+    let (from, to, record) = (side(&row.right), side(&row.left), answer.to_vec());
+    Ok(Span { from, to, start: start_of(sheet, question), record, verdict, expected, body })
+}
+
+/// The names of the moments that a span starts from, where the anchor, which every plan has, is none of them.
+fn start_of(sheet: &Sheet, question: usize) -> Vec<String> {
+    let leads = &sheet.questions[question].row.right;
+    let named = (1..leads.len()).filter(|&moment| leads[moment].is_some() && leads[0].is_none());
+    named.map(|moment| shown::name(&sheet.moments[moment].name)).collect()
 }
 
 fn stamps(sheet: &Sheet, answer: &[u8]) -> Option<(i32, Vec<Option<i32>>)> {

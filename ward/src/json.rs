@@ -4,7 +4,7 @@ use std::fmt::Write;
 
 use ward_reader::remark::Fix;
 use ward_reader::sheet::Origin;
-use ward_reader::{record, shown, Remark, Weight};
+use ward_reader::{record, shown, Remark, Sheet, Weight};
 
 use crate::answer::{Body, Placed, Report, Span, Verdict};
 use crate::opening::Door;
@@ -184,16 +184,21 @@ fn body(report: &Report, span: &Span) -> Vec<(&'static str, Value)> {
         Body::Bottomless(loose) => {
             vec![("class", text("bottomless")), ("no_latest", names(&loose.late)), ("no_earliest", names(&loose.early))]
         }
-        Body::None(blocked) => {
-            let (why, rules) = match blocked {
-                Blocked::FromNothing => ("from nothing", &[][..]),
-                Blocked::Contradiction(rules) => ("contradiction", &rules[..]),
-                Blocked::StartLeftOut(rules) => ("start left out", &rules[..]),
-            };
-            vec![("class", text("none")), ("why", text(why)), ("rules_behind", numbers(rules))]
-        }
+        Body::None(blocked) => none(sheet, blocked),
         Body::Claim(words, placed) => vec![("class", Null), ("claim", text(words)), ("claimed_plan", plan(placed))],
     }
+}
+
+/// Why there is no span.
+fn none(sheet: &Sheet, blocked: &Blocked) -> Vec<(&'static str, Value)> {
+    let (why, rules) = match blocked {
+        Blocked::FromNothing => ("from nothing", &[][..]),
+        Blocked::Contradiction(rules) => ("contradiction", &rules[..]),
+        Blocked::StartLeftOut(rules) => ("start left out", &rules[..]),
+    };
+    let places: Vec<usize> = rules.iter().map(|part| part.rule).collect();
+    let roles = rules.iter().map(|part| text(told::role(sheet, *part))).collect();
+    vec![("class", text("none")), ("why", text(why)), ("rules_behind", numbers(&places)), ("roles", List(roles))]
 }
 
 fn moment(report: &Report, placed: &Placed) -> Value {

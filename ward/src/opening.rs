@@ -1,6 +1,6 @@
 //! Whether the ward is open at the times of a plan (document 02, 2.8).
 
-use ward_reader::clock::DAY;
+use ward_reader::clock::{Window, DAY};
 use ward_reader::Sheet;
 
 use crate::archive;
@@ -18,6 +18,22 @@ pub enum Door {
     },
     /// A time that is too far away to be looked up.
     Far,
+}
+
+/// Why the archive refuses a window, the first of a week that it does, and what to write.
+pub fn why_wrong(week: &[Window], wrong: &Window) -> (&'static str, &'static str) {
+    let place = week.iter().position(|window| window == wrong).unwrap_or(0);
+    let before = place.checked_sub(1).and_then(|place| week.get(place));
+    match before {
+        _ if wrong.closing <= wrong.opening => {
+            ("the ward closes before it opens", "a window ends by 24:00; what is behind is one of the next day")
+        }
+        Some(before) if before.closing > wrong.opening => (
+            "two windows are open at the same time",
+            "write one window for both, from the first opening to the last closing",
+        ),
+        _ => ("there are more than 14 windows in a week", "write windows that meet as one, or leave some out"),
+    }
 }
 
 /// Whether a text asks for a moment's door.

@@ -172,13 +172,11 @@ fn result(span: &Span) -> String {
             let long = minutes.abs() >= 60;
             let words =
                 if long { format!("({}) is the least span. ", hours(*minutes)) } else { "is the least span. ".into() };
-            ("result", format!("{minutes} min"), format!("{words}No plan that keeps the rules has a smaller one."))
+            ("result", format!("{minutes} min"), format!("{words}{}", told::no_smaller(span)))
         }
-        Body::Bottomless(_) => (
-            "result none",
-            "Bottomless".into(),
-            "Whatever span you name, some plan that keeps the rules has a smaller one.".into(),
-        ),
+        Body::Bottomless(_) => {
+            ("result none", "Bottomless".into(), format!("Whatever span you name, {}", told::some_smaller(span)))
+        }
         Body::None(_) => ("result none", "None".into(), "No plan that keeps the rules has a span.".into()),
         Body::Claim(words, _) => ("result none", "Not accepted".into(), words.clone()),
     };
@@ -266,7 +264,7 @@ fn timeline(sheet: &Sheet, plan: &[Placed], start: i32, minutes: i32) -> String 
         "<figure>\n<div class=\"chart\">\n<ol class=\"names\" aria-hidden=\"true\">{names}<li class=\"span\">span</li></ol>\n\
          <svg width=\"100%\" height=\"{height}\" role=\"img\" aria-label=\"Timeline of the plan; the table above has its times\">\n{drawing}</svg>\n\
          </div>\n<figcaption class=\"legend\">{}</figcaption>\n</figure>\n",
-        legend(round, slack)
+        legend(round, slack, beyond(&scale, plan))
     )
 }
 
@@ -322,7 +320,12 @@ fn moment(scale: &Scale, placed: &Placed, stamp: i32, y: usize) -> String {
     }
 }
 
-fn legend(round: bool, slack: bool) -> String {
+/// Whether a bar goes on beyond what is shown.
+fn beyond(scale: &Scale, plan: &[Placed]) -> bool {
+    drawn(plan).map(|(placed, stamp)| bar(scale, placed, stamp)).any(|bar| bar.before || bar.after)
+}
+
+fn legend(round: bool, slack: bool, beyond: bool) -> String {
     let item = |drawing: &str, words: &str| {
         format!("<span><svg width=\"22\" height=\"14\" aria-hidden=\"true\">{drawing}</svg>{words}</span>")
     };
@@ -335,6 +338,12 @@ fn legend(round: bool, slack: bool) -> String {
     }
     if slack {
         legend += &item("<rect class=\"slack\" width=\"22\" height=\"14\" rx=\"3\"/>", "where it can be at this span");
+    }
+    if beyond {
+        legend += &item(
+            "<polygon class=\"slack\" points=\"9,1 1,7 9,13\"/><polygon class=\"slack\" points=\"13,1 21,7 13,13\"/>",
+            "and further than is shown",
+        );
     }
     legend + &item("<rect class=\"length\" y=\"5\" width=\"22\" height=\"4\"/>", "the span")
 }
@@ -349,21 +358,23 @@ fn explained(sheet: &Sheet, span: &Span) -> String {
         let _ = writeln!(page, "<p>{}</p>", safe(&words));
         if !rules.is_empty() {
             page += "<ul class=\"rules\">\n";
-            rules
-                .iter()
-                .for_each(|&place| page += &format!("<li>{}</li>\n", rule(sheet, place, steps.contains(&Some(place)))));
+            for listed in &rules {
+                let of_round = steps.contains(&Some(listed.rule));
+                page += &format!("<li>{}</li>\n", rule(sheet, listed, of_round));
+            }
             page += "</ul>\n";
         }
     }
     page
 }
 
-/// A rule, its number and line, and whether the round runs over it.
-fn rule(sheet: &Sheet, place: usize, of_round: bool) -> String {
-    let rule = &sheet.rules[place];
+/// A rule, its number and line, what it does, and whether the round runs over it.
+fn rule(sheet: &Sheet, told::Listed { rule: place, role }: &told::Listed, of_round: bool) -> String {
+    let rule = &sheet.rules[*place];
     let round = if of_round { ", of the round" } else { "" };
-    let words = safe(&told::words(sheet, place));
-    format!("{words} <span class=\"line\">rule {}, line {}{round}</span>", place + 1, rule.place.line)
+    let role = if role.is_empty() { String::new() } else { format!(": {}", safe(role)) };
+    let words = safe(&told::words(sheet, *place));
+    format!("{words} <span class=\"line\">rule {}, line {}{round}{role}</span>", place + 1, rule.place.line)
 }
 
 /// All rules, at the end.

@@ -207,7 +207,8 @@ fn one(sheet: &Sheet, span: &Span, look: Look) -> String {
 fn table(sheet: &Sheet, plan: &[Placed]) -> String {
     let timed = plan.iter().any(|placed| placed.times.is_some());
     let clocked = sheet.anchor.is_some();
-    let mut rows = vec![heads(clocked, timed)];
+    let noted = plan.iter().any(|placed| !told::note(sheet, placed).is_empty());
+    let mut rows = vec![heads(clocked, timed, noted)];
     rows.extend(plan.iter().map(|placed| cells(sheet, placed, clocked, timed)));
     let columns = rows[0].len();
     let width = |column: usize| rows.iter().map(|row| row[column].chars().count()).max().unwrap_or(0);
@@ -223,7 +224,7 @@ fn table(sheet: &Sheet, plan: &[Placed]) -> String {
     text
 }
 
-fn heads(clocked: bool, timed: bool) -> Vec<String> {
+fn heads(clocked: bool, timed: bool, noted: bool) -> Vec<String> {
     let mut heads = vec![if clocked { "time" } else { "after anchor" }, "moment"];
     if clocked {
         heads.push("after anchor");
@@ -231,7 +232,7 @@ fn heads(clocked: bool, timed: bool) -> Vec<String> {
     if timed {
         heads.extend(["earliest", "latest"]);
     }
-    heads.push("");
+    heads.push(if noted { "note" } else { "" });
     heads.into_iter().map(String::from).collect()
 }
 
@@ -284,11 +285,14 @@ fn timeline(sheet: &Sheet, plan: &[Placed], span: Option<(i32, i32)>, look: Look
         }
         let _ = writeln!(text, "  {}  {}", padded("span", label), line.into_iter().collect::<String>());
     }
-    text + &legend(plan, signs, label, look.width)
+    let bars = drawn(plan).map(|(placed, stamp)| bar(&scale, placed, stamp));
+    let (before, after) = bars.fold((false, false), |(before, after), bar| (before || bar.before, after || bar.after));
+    let beyond = [before.then_some(signs.before), after.then_some(signs.after)];
+    text + &legend(plan, signs, beyond, (label, look.width))
 }
 
 /// What the signs mean, on a line or on several.
-fn legend(plan: &[Placed], signs: &Signs, label: usize, width: usize) -> String {
+fn legend(plan: &[Placed], signs: &Signs, beyond: [Option<char>; 2], (label, width): (usize, usize)) -> String {
     let mut items = vec![format!("{} planned", signs.moment)];
     if plan.iter().any(|placed| placed.round) {
         items.push(format!("{} planned, and of the round", signs.round));
@@ -296,12 +300,20 @@ fn legend(plan: &[Placed], signs: &Signs, label: usize, width: usize) -> String 
     if plan.iter().any(|placed| placed.times.is_some()) {
         items.push(format!("{} where it can be", signs.slack));
     }
-    let margin = format!("  {}  ", padded("", label));
-    let line = format!("{margin}{}\n", items.join("   "));
-    match line.chars().count() > width {
-        true => items.iter().map(|item| format!("{margin}{item}\n")).collect(),
-        false => line,
+    let beyond: Vec<String> = beyond.into_iter().flatten().map(String::from).collect();
+    if !beyond.is_empty() {
+        items.push(format!("{} and further than is shown", beyond.join(" ")));
     }
+    let margin = format!("  {}  ", padded("", label));
+    let mut lines: Vec<String> = Vec::new();
+    for item in items {
+        let room = |line: &String| line.chars().count() + 3 + item.chars().count() <= width;
+        match lines.last_mut().filter(|line| room(line)) {
+            Some(line) => *line += &format!("   {item}"),
+            None => lines.push(format!("{margin}{item}")),
+        }
+    }
+    lines.join("\n") + "\n"
 }
 
 /// A name in a column; a long one is cut.

@@ -9,7 +9,7 @@ use crate::answer::{Body, Placed, Span};
 use crate::archive::hours;
 use crate::opening::Door;
 use crate::times::{Bound, Slack};
-use crate::why::{Blocked, Loose};
+use crate::why::{Blocked, Loose, Part};
 
 /// Minutes, and hours and minutes where that helps.
 pub fn minutes(value: i32) -> String {
@@ -76,11 +76,11 @@ pub fn note(sheet: &Sheet, placed: &Placed) -> String {
     }
     match placed.door {
         None => String::new(),
-        Some(Door::Open) => "open".into(),
+        Some(Door::Open) => "open at the planned time".into(),
         Some(Door::Far) => "opening hours cannot be looked up so far away".into(),
-        Some(Door::Shut { opens, fits: None }) => format!("shut, opens {}", time(sheet, opens)),
+        Some(Door::Shut { opens, fits: None }) => format!("shut at the planned time, opens {}", time(sheet, opens)),
         Some(Door::Shut { fits: Some(fits), .. }) => {
-            format!("shut; open {}, which fits the least span", time(sheet, fits))
+            format!("shut at the planned time; open {}, which fits the least span", time(sheet, fits))
         }
     }
 }
@@ -102,14 +102,42 @@ fn names(sheet: &Sheet, moments: &[usize]) -> String {
 pub fn headline(span: &Span) -> String {
     match &span.body {
         Body::Least { minutes: value, .. } => {
-            format!("The least span is {}. No plan that keeps the rules has a smaller one.", minutes(*value))
+            format!("The least span is {}. {}", minutes(*value), no_smaller(span))
         }
-        Body::Bottomless(_) => {
-            "Bottomless: whatever span you name, some plan that keeps the rules has a smaller one.".into()
-        }
+        Body::Bottomless(_) => format!("Bottomless: whatever span you name, {}", some_smaller(span)),
         Body::None(_) => "None: no plan that keeps the rules has a span.".into(),
         Body::Claim(words, _) => words.clone(),
     }
+}
+
+/// Which plans count (document 02, 2.4): those that have somebody of the group that the span starts from.
+fn counting(span: &Span) -> String {
+    match &span.start[..] {
+        [] => "that keeps the rules".into(),
+        [only] => format!("that keeps the rules and has {only} in it"),
+        [first @ .., last] => format!("that keeps the rules and has {} or {last} in it", first.join(", ")),
+    }
+}
+
+/// That a span is the least one, and what it means where it is below 0.
+pub fn no_smaller(span: &Span) -> String {
+    let words = format!("No plan {} has a smaller one.", counting(span));
+    match &span.body {
+        Body::Least { minutes: value @ ..0, .. } => {
+            let last = |group: &str| match group.strip_prefix("later of ") {
+                Some(list) => format!("the last of {list}"),
+                None => group.to_string(),
+            };
+            let apart = minutes(-value);
+            format!("{words} It is below 0: {} is {apart} before {}.", last(&span.to), last(&span.from))
+        }
+        _ => words,
+    }
+}
+
+/// That there is no least span.
+pub fn some_smaller(span: &Span) -> String {
+    format!("some plan {} has a smaller one.", counting(span))
 }
 
 /// What the checker says, in a line.
@@ -123,17 +151,29 @@ pub fn verdict(span: &Span) -> String {
     }
 }
 
+/// A rule in a list, by its place in the text, and what it does there, if that is told.
+#[derive(Clone, Debug, PartialEq, Eq)]
+pub struct Listed {
+    pub rule: usize,
+    pub role: String,
+}
+
+/// Rules in a list with nothing more to tell of them.
+fn listed(rules: &[usize]) -> Vec<Listed> {
+    rules.iter().map(|&rule| Listed { rule, role: String::new() }).collect()
+}
+
 /// What is said below the plan: why there is none, and what could not be found. Each with the rules that it names.
-pub fn explained(sheet: &Sheet, span: &Span) -> Vec<(String, Vec<usize>)> {
+pub fn explained(sheet: &Sheet, span: &Span) -> Vec<(String, Vec<Listed>)> {
     match &span.body {
         Body::Least { slack, reasons, .. } => {
-            let mut told: Vec<(String, Vec<usize>)> =
+            let mut told: Vec<(String, Vec<Listed>)> =
                 notes(sheet, span).into_iter().map(|note| (note, Vec::new())).collect();
             if let Slack::Cannot(why) = slack {
                 told.push((format!("Earliest and latest times cannot be told: {why}."), Vec::new()));
             }
             if let Some(reasons) = reasons {
-                told.push((behind(reasons.rules.len()).into(), reasons.rules.clone()));
+                told.push((behind(reasons.rules.len()).into(), listed(&reasons.rules)));
                 if !reasons.round.is_empty() {
                     told.push((
                         format!(
@@ -148,7 +188,7 @@ pub fn explained(sheet: &Sheet, span: &Span) -> Vec<(String, Vec<usize>)> {
             told
         }
         Body::Bottomless(loose) => loose_words(sheet, loose).into_iter().map(|words| (words, Vec::new())).collect(),
-        Body::None(blocked) => vec![blocked_words(blocked)],
+        Body::None(blocked) => vec![blocked_words(sheet, blocked)],
         Body::Claim(..) => Vec::new(),
     }
 }
@@ -181,37 +221,61 @@ fn loose_words(sheet: &Sheet, loose: &Loose) -> Vec<String> {
     told
 }
 
-fn blocked_words(blocked: &Blocked) -> (String, Vec<usize>) {
+fn blocked_words(sheet: &Sheet, blocked: &Blocked) -> (String, Vec<Listed>) {
+    let roles = |parts: &[Part]| {
+        let listed = |part: &Part| Listed { rule: part.rule, role: role(sheet, *part) };
+        parts.iter().map(listed).collect::<Vec<_>>()
+    };
     match blocked {
         Blocked::FromNothing => {
             ("The group that the span starts from is empty: no plan counts, whatever the rules.".into(), Vec::new())
         }
-        Blocked::Contradiction(rules) if rules.len() == 1 => ("No plan can keep this rule:".into(), rules.clone()),
+        Blocked::Contradiction(rules) if rules.len() == 1 => {
+            ("No plan can keep this rule:".into(), listed(&[rules[0].rule]))
+        }
         Blocked::Contradiction(rules) => (
             "These rules contradict each other; without any one of them there is a plan that keeps the others:".into(),
-            rules.clone(),
+            roles(rules),
         ),
         Blocked::StartLeftOut(rules) => (
             "Every plan that keeps the rules leaves out all that the span starts from, because of:".into(),
-            rules.clone(),
+            roles(rules),
         ),
+    }
+}
+
+/// What a rule does in a quarrel: its minutes count, or it only makes moments happen that others are about, or leaves some out.
+pub fn role(sheet: &Sheet, part: Part) -> String {
+    let rule = &sheet.rules[part.rule];
+    let of = |leads: &[ward_reader::Lead]| -> Vec<String> {
+        let named = (0..leads.len()).filter(|&moment| leads[moment].is_some());
+        named.map(|moment| sheet.moments[moment].name.clone()).collect()
+    };
+    let (early, late) = (of(&rule.left), of(&rule.right));
+    match part.minutes {
+        true => "its minutes count".into(),
+        false if late.is_empty() => format!("it leaves {} out", list(&early)),
+        false if rule.left[0].is_some() => format!("it only makes {} happen", late.join(" or ")),
+        false => format!("it only makes {} happen when {} does", late.join(" or "), early.join(" or ")),
     }
 }
 
 /// Rules as a text has them: number, line and words of each. Two that one line makes are told together, and one of them with what
 /// it says alone.
-pub fn rules(sheet: &Sheet, places: &[usize]) -> Vec<String> {
+pub fn rules(sheet: &Sheet, places: &[Listed]) -> Vec<String> {
     let mut told = Vec::new();
     let mut rest = places;
-    while let [place, behind @ ..] = rest {
+    while let [Listed { rule: place, role }, behind @ ..] = rest {
         let rule = &sheet.rules[*place];
         let line = rule.place.line;
-        let pair = behind.first().filter(|&&next| rule.origin == Origin::Half && sheet.rules[next].place == rule.place);
+        let half = |next: &Listed| rule.origin == Origin::Half && sheet.rules[next.rule].place == rule.place;
+        let pair = behind.first().filter(|next| half(next) && next.role == *role);
         rest = if pair.is_some() { &behind[1..] } else { behind };
-        told.push(match pair {
-            Some(next) => format!("rules {} and {} (line {line}): {}", place + 1, next + 1, rule.text),
+        let words = match pair {
+            Some(next) => format!("rules {} and {} (line {line}): {}", place + 1, next.rule + 1, rule.text),
             None => format!("rule {} (line {line}): {}", place + 1, words(sheet, *place)),
-        });
+        };
+        told.push(if role.is_empty() { words } else { format!("{words} ({role})") });
     }
     told
 }
@@ -291,7 +355,7 @@ mod tests {
         let text =
             "moments: free, cleaned\nanchor <= free\ncleaned 35 to 40 after free\nspan: from anchor to cleaned\n";
         let sheet = Report::read("day.txt", text.as_bytes()).sheet.expect("a good text");
-        let told = |places: &[usize]| rules(&sheet, places).join("; ");
+        let told = |places: &[usize]| rules(&sheet, &listed(places)).join("; ");
         assert_eq!(
             told(&[0, 1, 2]),
             "rule 1 (line 2): anchor <= free; rules 2 and 3 (line 3): cleaned 35 to 40 after free"

@@ -2,6 +2,7 @@
 //! engine more questions, each answer judged by the checker.
 
 use span::Outcome;
+use ward_reader::limits;
 use ward_reader::sheet::Row;
 use ward_reader::Sheet;
 
@@ -24,9 +25,17 @@ pub enum Blocked {
     /// The span starts from nothing, so that no plan counts (document 02, 2.4).
     FromNothing,
     /// No plan keeps these rules together; without any one of them some plan keeps the others.
-    Contradiction(Vec<usize>),
+    Contradiction(Vec<Part>),
     /// Plans that keep the rules leave all moments blank that the span starts from, by these rules.
-    StartLeftOut(Vec<usize>),
+    StartLeftOut(Vec<Part>),
+}
+
+/// A rule of a quarrel, by its place in the text, and whether its minutes count there. Where they do not, it only makes a moment
+/// happen, which others are about.
+#[derive(Clone, Copy, Debug, PartialEq, Eq)]
+pub struct Part {
+    pub rule: usize,
+    pub minutes: bool,
 }
 
 /// The moments of a list, without the anchor.
@@ -90,7 +99,7 @@ fn is_none(rules: &[(usize, &Row)], question: &Row) -> Result<bool, Error> {
 
 /// Rules without which there is a span: one after another is left out where there is none without it too. Fewer rules leave
 /// more plans, so that each rule that is left in the end is needed.
-fn narrowed(mut rules: Vec<(usize, &Row)>, question: &Row) -> Result<Vec<usize>, Error> {
+fn narrowed(mut rules: Vec<(usize, &Row)>, question: &Row) -> Result<Vec<Part>, Error> {
     let mut place = 0;
     while place < rules.len() {
         let rule = rules.remove(place);
@@ -99,5 +108,15 @@ fn narrowed(mut rules: Vec<(usize, &Row)>, question: &Row) -> Result<Vec<usize>,
             place += 1;
         }
     }
-    Ok(rules.into_iter().map(|(number, _)| number).collect())
+    (0..rules.len()).map(|place| part(&rules, place, question)).collect()
+}
+
+/// What a rule of a quarrel does: its minutes do not count where the quarrel stays with as much room as a rule can give.
+fn part(rules: &[(usize, &Row)], place: usize, question: &Row) -> Result<Part, Error> {
+    let (rule, row) = rules[place];
+    let all = |leads: &[ward_reader::Lead], minutes: i32| leads.iter().map(|lead| lead.map(|_| minutes)).collect();
+    let loose = Row { left: all(&row.left, -limits::LEAD), right: all(&row.right, limits::LEAD), ..row.clone() };
+    let mut other = rules.to_vec();
+    other[place] = (rule, &loose);
+    Ok(Part { rule, minutes: !is_none(&other, question)? })
 }

@@ -39,10 +39,9 @@ impl Draft<'_> {
                 cursor.peek(2).and_then(|token| self.clock.hours(token.text)).filter(|_| cursor.sees("nothing before"));
             let anchors = time.is_some() && self.sheet.anchor.map(|anchor| anchor.minute) == time;
             let near = cursor.sees("nothing before the anchor") || cursor.sees("everything after anchor") || anchors;
-            return Err(if near {
-                fault.fix("", whole(""))
-            } else {
-                fault.hint("other limits are rules, one a moment")
+            return Err(match near {
+                true => fault.fix("", whole("")),
+                false => self.each_moment(cursor, fault.hint("other limits are rules, one a moment"), from),
             });
         }
         let excepted = cursor.takes("but");
@@ -68,6 +67,22 @@ impl Draft<'_> {
         Ok(())
     }
 
+    /// `nothing before 7:30`, `nothing after 18:00`: a rule for each moment.
+    fn each_moment(&self, cursor: &Cursor, fault: Fault, from: usize) -> Fault {
+        let words = if cursor.sees("nothing after") { "by" } else { "not before" };
+        let Some(point) = cursor.peek(2) else { return fault };
+        let point = &cursor.line[point.from..cursor.end()];
+        let names = self.sheet.moments[1..].iter().map(|moment| crate::shown::name(&moment.name));
+        let lines: Vec<String> = names
+            .filter(|name| name != point)
+            .map(|name| with(cursor.line, from, cursor.end(), &format!("{name} {words} {point}")))
+            .collect();
+        match cursor.sees("everything after") || lines.is_empty() {
+            true => fault,
+            false => fault.fixes("each moment", lines),
+        }
+    }
+
     /// The names behind `but`, with commas between them.
     fn excepted(&self, cursor: &mut Cursor) -> Result<Vec<usize>, Fault> {
         let mut but = Vec::new();
@@ -78,7 +93,17 @@ impl Draft<'_> {
                 Some(0) => return fault("the anchor is never before itself"),
                 Some(moment) => but.push(moment),
                 None if token.text.to_lowercase() == "not" => {
-                    return fault("'but not' can be taken both ways: a name behind 'but' may be before the anchor");
+                    let line = cursor.line;
+                    let but = line[..token.from].trim_end();
+                    let said = Fault::new(token.from, token.to, "'but not' can be taken both ways")
+                        .hint("a name behind 'but' may be before the anchor");
+                    let Some(alone) = but.len().checked_sub(3).and_then(|place| but.get(..place)) else {
+                        return Err(said);
+                    };
+                    let alone = alone.trim_end();
+                    return Err(said
+                        .fix("it may be before the anchor", format!("{but} {}", line[token.to..].trim_start()))
+                        .fix("it may not", format!("{alone}{}", &line[cursor.end()..])));
                 }
                 None => cursor.unknown.push(Unknown { name: token.text.into(), from: token.from, to: token.to }),
             }

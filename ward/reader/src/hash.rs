@@ -26,6 +26,10 @@ pub fn told(draft: &Draft, line: &str, fault: Fault) -> Fault {
         true if before.is_char_boundary(word.len()) => before[word.len()..].trim_start(),
         _ => before,
     });
+    let before = match head.key {
+        Some(Key::Span) => before.rsplit(" to ").next().unwrap_or(before),
+        _ => before,
+    };
     let from = at - before.len();
     let name = line[from..to].trim();
     let declared = draft.known().moment(name).is_some() || head.key == Some(Key::Moments);

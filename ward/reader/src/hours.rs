@@ -1,13 +1,12 @@
-//! The lines about times: when the anchor is, and when the ward is open.
+//! The lines about times: when the anchor is, and at which moments the ward must be open.
 
 use crate::calendar;
-use crate::clock::{self, Anchor, Window, DAY};
+use crate::clock::{self, Anchor, DAY};
 use crate::cursor::{Cursor, Unknown};
 use crate::fault::{with, Fault};
 use crate::instant;
 use crate::length;
-use crate::parse::{place, Draft};
-use crate::tokens::Kind;
+use crate::parse::Draft;
 
 impl Draft<'_> {
     /// `8:00`, `Monday 8:00`, or `2026-11-17 8:00`.
@@ -27,68 +26,14 @@ impl Draft<'_> {
                 .hint("as in 'anchor: 8:00', 'anchor: Monday 8:00' or 'anchor: 2026-11-17 8:00'"));
         }
         if self.sheet.anchor.is_some() {
-            return Err(Fault::new(from, cursor.place(), "the anchor has a time already"));
+            let start = cursor.line.len() - cursor.line.trim_start().len();
+            return Err(Fault::new(from, cursor.place(), "the anchor has a time already")
+                .hint("delete one of the two lines")
+                .fix("the other line alone", with(cursor.line, start, start, "# ")));
         }
         let day = stamp.date.map(calendar::weekday).or(stamp.day);
         self.sheet.anchor = Some(Anchor { day, date: stamp.date, minute: stamp.minute });
         Ok(())
-    }
-
-    /// A time of day.
-    fn time(&self, cursor: &mut Cursor, latest: i32) -> Result<i32, Fault> {
-        let Some(token) = cursor.peek(0).filter(|token| token.kind == Kind::Word) else {
-            return Err(cursor.fault("a time of day is expected").hint("hours are written 7:00-18:00"));
-        };
-        let minute = if length::is_hours(token.text) { self.clock.hours(token.text) } else { None };
-        match minute.filter(|minute| (0..=latest).contains(minute)) {
-            Some(minute) => {
-                cursor.take();
-                Ok(minute)
-            }
-            None => {
-                let fault = Fault::new(token.from, token.to, format!("'{}' is no time of day", token.text));
-                Err(fault.hint("hours are written 7:00-18:00"))
-            }
-        }
-    }
-
-    /// `Monday to Friday 7:00-18:00, Saturday 9:00-12:00`.
-    pub(crate) fn open(&mut self, number: usize, cursor: &mut Cursor) -> Result<(), Fault> {
-        loop {
-            let from = cursor.place();
-            let first = self.day(cursor)?;
-            let last = if cursor.takes("-") || cursor.takes("to") { self.day(cursor)? } else { first };
-            let opening = self.time(cursor, DAY)?;
-            if !cursor.takes("-") {
-                cursor.expect("to").map_err(|fault| fault.hint("hours are written 7:00-18:00"))?;
-            }
-            let to = cursor.peek(0).map_or(from, |token| token.to);
-            let closing = self.time(cursor, DAY)?;
-            let place = place(number, cursor.line, from, to);
-            let count = (last + 7 - first) % 7 + 1;
-            for day in (0..count).map(|step| (first + step) % 7 * DAY as usize) {
-                let [opening, closing] = [opening, closing].map(|time| (day as i32 + time) as u32);
-                self.sheet.week.push(Window { opening, closing, place });
-            }
-            if !cursor.takes(",") {
-                break;
-            }
-        }
-        self.sheet.week.sort_by_key(|window| window.opening);
-        match cursor.peek(0) {
-            None => Ok(()),
-            Some(_) => Err(cursor
-                .fault("a comma is expected")
-                .hint("as in 'open: Monday to Friday 7:00-18:00, Saturday 9:00-12:00'")),
-        }
-    }
-
-    fn day(&self, cursor: &mut Cursor) -> Result<usize, Fault> {
-        let day = cursor.peek(0).and_then(|token| clock::day(token.text));
-        let fault = || cursor.fault("a day is expected").hint("days are Monday to Sunday, or Mon to Sun");
-        let day = day.ok_or_else(fault)?;
-        cursor.take();
-        Ok(day)
     }
 
     /// Names of moments at which the ward must be open.
@@ -111,7 +56,14 @@ impl Draft<'_> {
                 let comma = format!("{}, {}", line[..and.from].trim_end(), line[and.to..].trim_start());
                 Err(cursor.fault("a comma is expected").fix("", comma))
             }
-            Some(_) => Err(cursor.fault("a comma is expected")),
+            Some(token) => {
+                let (line, end) = (cursor.line, cursor.end());
+                let name = cursor.last().map_or("", |last| &line[last.from..last.to]);
+                let rule = format!("{name} {}", &line[token.from..end]);
+                let first = line[..token.from].trim_end().to_string();
+                let fault = cursor.fault("a comma is expected");
+                Err(fault.fixes("a rule too", vec![first, format!("{rule}{}", &line[end..])]))
+            }
         }
     }
 }

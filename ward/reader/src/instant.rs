@@ -3,6 +3,7 @@
 use crate::calendar;
 use crate::clock::{self, Anchor, Clock, DAY, DAYS, WEEK};
 use crate::cursor::Cursor;
+use crate::dates;
 use crate::fault::{with, Fault};
 use crate::length::{self, is_hours, is_number};
 use crate::limits;
@@ -117,7 +118,7 @@ fn half(cursor: &Cursor, time: Token) -> Option<Fault> {
     match token.text.to_lowercase().as_str() {
         "am" | "pm" | "a.m." | "p.m." => {
             let text = of_half(time.text, token.text.to_lowercase().starts_with('p'))?;
-            fault(format!("'{written}': the hours of a day are 0 to 24")).map(|fault| fault.fix("", say(&text)))
+            fault(format!("'{written}': times of day go from 0:00 to 24:00")).map(|fault| fault.fix("", say(&text)))
         }
         "uhr" | "h" | "o'clock" | "hrs" | "hours" => {
             fault(format!("'{}' is too much", token.text)).map(|fault| fault.fix("", say(time.text)))
@@ -132,7 +133,11 @@ fn half(cursor: &Cursor, time: Token) -> Option<Fault> {
 fn of_half(text: &str, late: bool) -> Option<String> {
     let (hours, minutes) = text.split_once(':').unwrap_or((text, "00"));
     let hours: i32 = hours.parse().ok().filter(|hours| (1..=12).contains(hours))?;
-    Some(format!("{}:{minutes}", hours % 12 + if late { 12 } else { 0 }))
+    // The zero before an hour of the morning says that it is none of the evening.
+    Some(match late || hours == 12 || hours > 9 {
+        true => format!("{}:{minutes}", hours % 12 + if late { 12 } else { 0 }),
+        false => format!("0{hours}:{minutes}"),
+    })
 }
 
 /// What stands where a time belongs.
@@ -153,6 +158,9 @@ fn no_time(cursor: &Cursor, from: usize, named: bool) -> Fault {
         let to = cursor.peek(1).map_or(to, |token| token.to);
         return fault.fix("", with(cursor.line, from, to, &format!("{before} {time}")));
     }
+    if let Some(fault) = next.filter(|_| named).and_then(|next| hour_of_day(cursor, next, from)) {
+        return fault;
+    }
     let to = if word == "midnight" { to } else { from + before.len() };
     match named {
         true => fault
@@ -160,6 +168,19 @@ fn no_time(cursor: &Cursor, from: usize, named: bool) -> Fault {
             .fix("when the day ends", with(cursor.line, from, to, &format!("{before} 24:00"))),
         false => fault.hint("times are written 8:40 or 14:05"),
     }
+}
+
+/// An hour, or a time in another form, behind a day: `Thu 9`, `Thu 2pm`, `Thu 14.00`.
+fn hour_of_day(cursor: &Cursor, next: Token, from: usize) -> Option<Fault> {
+    let none = Known { moments: &[], anchor: None, doubtful: false, clock: &Clock::unjudged() };
+    let fault = meant(cursor, &none).unwrap_or_else(|| bare(cursor, next));
+    let digits = next.text.starts_with(|c: char| c.is_ascii_digit());
+    let minutes = |fix: &crate::fault::Fix| !fix.says.starts_with("minutes");
+    let fixes: Vec<_> = fault.fixes.into_iter().filter(minutes).collect();
+    (digits && !fixes.is_empty()).then(|| {
+        let message = format!("'{}' has no time as it is written here", &cursor.line[from..next.to]);
+        Fault { fixes, ..Fault::new(from, next.to, message) }
+    })
 }
 
 /// Reads a clock time as minutes from the anchor. `listed` says whether it stands in a list, where minutes need brackets.
@@ -206,7 +227,8 @@ pub fn read(cursor: &mut Cursor, known: &Known, listed: bool) -> Result<i32, Fau
             of_day(first, day, offset)
         }
         (None, None) if offset < 0 => {
-            let late = (stamp.minute < DAY / 2 && offset + DAY / 2 >= 0).then_some(offset + DAY / 2);
+            let half = (60..DAY / 2).contains(&stamp.minute) && !written.starts_with('0');
+            let late = (half && offset + DAY / 2 >= 0).then_some(offset + DAY / 2);
             [offset, offset + DAY].into_iter().chain(late).collect()
         }
         (None, None) => vec![offset],
@@ -297,10 +319,14 @@ pub fn meant(cursor: &Cursor, known: &Known) -> Option<Fault> {
     let fault = |to: usize, message: String| Fault::new(token.from, to, message);
     let say = |to: usize, text: &str| with(cursor.line, token.from, to, text);
     let no_time = || fault(token.to, format!("'{}' is no time of day", token.text));
+    if dates::is_date(&small, &behind) {
+        let fault = fault(next?.to, format!("'{} {behind}' is no date as it is written here", token.text));
+        return Some(fault.hint("a date is written as year, month and day: 2026-11-17"));
+    }
     if ["am", "pm", "a.m.", "p.m."].contains(&behind.as_str()) && is_number(token.text) {
         let to = next?.to;
         let written = &cursor.line[token.from..to];
-        let fault = fault(to, format!("'{written}': the hours of a day are 0 to 24"));
+        let fault = fault(to, format!("'{written}': times of day go from 0:00 to 24:00"));
         return Some(match of_half(token.text, behind.starts_with('p')) {
             Some(text) if text == "12:00" => fault.fix("noon", say(to, "12:00")).fix("midnight", say(to, "24:00")),
             Some(text) => fault.fix("", say(to, &text)),
@@ -328,7 +354,7 @@ pub fn meant(cursor: &Cursor, known: &Known) -> Option<Fault> {
             return Some(no_time().fix("", say(to, &format!("{hours}:{minutes}"))));
         }
     }
-    if token.text.len() == 4 && is_number(token.text) && behind.is_empty() {
+    if token.text.len() == 4 && token.text.starts_with('0') && is_number(token.text) && behind.is_empty() {
         return Some(no_time().fix("", say(token.to, &format!("{}:{}", &token.text[..2], &token.text[2..]))));
     }
     let clock = ["o'clock", "uhr"].contains(&behind.as_str());
@@ -350,7 +376,20 @@ pub fn bare(cursor: &Cursor, token: Token) -> Fault {
             fault = fault.fix("by the clock, in the afternoon or evening", say(format!("{}:00", hour + 12)));
         }
     }
+    if let Some((hours, minutes)) = digits_of_day(token.text) {
+        fault = fault.fix("by the clock", say(format!("{hours}:{minutes:02}")));
+        if (1..12).contains(&hours) && token.text.len() == 3 {
+            fault = fault.fix("by the clock, in the afternoon or evening", say(format!("{}:{minutes:02}", hours + 12)));
+        }
+    }
     fault.fix("minutes after the anchor", say(format!("anchor + {}", token.text)))
+}
+
+/// Three or four digits as hours and minutes: `845`, `0845`.
+fn digits_of_day(text: &str) -> Option<(i32, i32)> {
+    let place = text.len().checked_sub(2).filter(|place| (1..=2).contains(place) && is_number(text))?;
+    let (hours, minutes): (i32, i32) = (text[..place].parse().ok()?, text[place..].parse().ok()?);
+    (hours * 60 + minutes <= DAY && minutes < 60).then_some((hours, minutes))
 }
 
 /// `next Thu 14:00`, `tomorrow 10:00`, `today 8:00`.
@@ -403,8 +442,11 @@ pub fn other_date(cursor: &Cursor, token: Token) -> Option<Fault> {
     let fault = fault().hint("a date is written as year, month and day: 2026-11-17");
     let mut days: Vec<i64> = match (first.len(), third.len()) {
         (4, _) => calendar::day(a, b, c).into_iter().collect(),
-        (_, 4) if token.text.contains('.') => calendar::day(c, b, a).into_iter().collect(),
-        (_, 4) => [calendar::day(c, a, b), calendar::day(c, b, a)].into_iter().flatten().collect(),
+        (_, 4) => [calendar::day(c, b, a), calendar::day(c, a, b)].into_iter().flatten().collect(),
+        (2, 2) => [(c, b, a), (c, a, b), (a, b, c)]
+            .into_iter()
+            .filter_map(|(year, month, date)| calendar::day(2000 + year, month, date))
+            .collect(),
         _ => Vec::new(),
     };
     days.dedup();

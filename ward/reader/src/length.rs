@@ -16,7 +16,7 @@ pub fn is_hours(word: &str) -> bool {
 }
 
 /// A unit, in minutes.
-fn unit(word: &str) -> Option<i32> {
+pub fn unit(word: &str) -> Option<i32> {
     Some(match word.to_lowercase().as_str() {
         "min" | "mins" | "minute" | "minutes" => 1,
         "h" | "hr" | "hrs" | "hour" | "hours" => 60,
@@ -250,6 +250,16 @@ pub fn point(cursor: &Cursor, first: Token) -> Option<Fault> {
     }
 }
 
+/// A number that is not exact, or that has letters which look like digits.
+fn nearly(text: &str, fault: &Fault, say: &dyn Fn(String) -> String) -> Option<Fault> {
+    if text.starts_with('~') {
+        return Some(fault.clone().hint("how much? Both limits are said, as in 'leaves 35 to 40 after ready'"));
+    }
+    let likely = text.replace(['O', 'o'], "0").replace(['l', 'I'], "1");
+    let such = likely != text && is_number(&likely) && text.contains(|c: char| c.is_ascii_digit());
+    such.then(|| fault.clone().fix("with digits alone", say(likely)))
+}
+
 /// What stands where a length belongs.
 fn no_length(cursor: &Cursor, token: Token) -> Fault {
     if let Some(fault) = point(cursor, token) {
@@ -263,6 +273,9 @@ fn no_length(cursor: &Cursor, token: Token) -> Fault {
             Kind::Sign | Kind::Relation => cursor.fault("minutes are expected"),
             _ => fault,
         };
+    }
+    if let Some(fault) = nearly(token.text, &fault, &say) {
+        return fault;
     }
     let digits: String = token.text.chars().take_while(char::is_ascii_digit).collect();
     let rest = token.text[digits.len()..].to_lowercase();

@@ -5,15 +5,17 @@
 //! text of hours and minutes says (`1:30`), and how early rules let a moment be, is told by the [`Clock`] that it is handed: the
 //! tool hands it the archive's.
 //!
-//! A line is cut into `tokens`, of which `cursor` keeps count. `lines` tells its kind; `naming` reads moments, `hours` the anchor
-//! and the opening hours, `rows` rules with a sign and spans, `spoken` rules in words, `floor` the line `nothing before anchor`.
-//! They are made of `sides`, `length`s of time and `instant`s. What is wrong is a `fault`, with lines to be written in its stead;
-//! `parse` shows those alone that it takes itself.
+//! A line is cut into `tokens`, of which `cursor` keeps count. `lines` tells its kind; `naming` reads moments, `hours` the anchor,
+//! `open` the opening hours, `rows` rules with a sign and spans, `spoken` rules in words, `floor` the line `nothing before anchor`.
+//! They are made of `sides`, `length`s of time and `instant`s. What is wrong is a `fault`, with lines to be written in its stead.
+//! Lines with other words than those that are read are put in these by `plain` (with `phrases`, `units`, `dates`), lines in other
+//! forms by `whole`, `worded` and `offers`; `repair` shows what is read without a mistake, and nothing else.
 
 mod alike;
 pub mod calendar;
 pub mod clock;
 mod cursor;
+mod dates;
 mod fault;
 mod floor;
 mod hash;
@@ -24,10 +26,15 @@ mod length;
 pub mod limits;
 mod lines;
 mod naming;
+mod offers;
+mod open;
 pub mod outcome;
 mod parse;
+mod phrases;
+mod plain;
 pub mod record;
 pub mod remark;
+mod repair;
 mod rows;
 pub mod sheet;
 pub mod shown;
@@ -35,7 +42,10 @@ mod sides;
 pub mod source;
 mod spoken;
 mod tokens;
+mod units;
 pub mod vain;
+mod whole;
+mod worded;
 
 pub use clock::Clock;
 pub use parse::{read, title, Read};

@@ -14,10 +14,11 @@ pub enum Key {
     Suspended,
     Span,
     Expect,
+    Record,
 }
 
 /// The words that stand before a colon.
-const KEYS: [(&str, Key); 7] = [
+const KEYS: [(&str, Key); 8] = [
     ("moments", Key::Moments),
     ("anchor", Key::Anchor),
     ("open", Key::Open),
@@ -25,6 +26,7 @@ const KEYS: [(&str, Key); 7] = [
     ("suspended", Key::Suspended),
     ("span", Key::Span),
     ("expect", Key::Expect),
+    ("record", Key::Record),
 ];
 
 /// Other words for them.
@@ -97,12 +99,24 @@ fn before_colon(line: &str, word: &str, start: usize, from: usize) -> Headed {
             Headed { key: key(meant), from, fault: Some(fault) }
         }
         None => {
-            let words: Vec<String> = KEYS.iter().map(|(known, _)| format!("{known}:")).collect();
-            let fault =
-                fault.hint(format!("lines start with {}, or are rules; a comment starts with #", words.join(", ")));
+            let fault = no_key(line, &small, fault);
             Headed { key: None, from, fault: Some(fault) }
         }
     }
+}
+
+/// A word and a colon that start no line: a comment, or a kind of line that there is not.
+fn no_key(line: &str, small: &str, fault: Fault) -> Fault {
+    if ["closed", "shut", "geschlossen"].contains(&small) {
+        return fault.hint("when the ward is open stands on a line 'open: ..'; it is closed at all other times");
+    }
+    // The line of a record's form is for texts that the tool writes.
+    let words = KEYS.iter().filter(|(_, key)| *key != Key::Record);
+    let words: Vec<String> = words.map(|(known, _)| format!("{known}:")).collect();
+    let start = line.len() - line.trim_start().len();
+    fault
+        .hint(format!("lines start with {}, or are rules; a comment starts with #", words.join(", ")))
+        .fix("a comment", with(line, start, start, "# "))
 }
 
 /// Whether the tokens of what looks like a rule are another line without its colon: its kind, and the fault.
@@ -112,7 +126,7 @@ pub fn without_colon(line: &str, tokens: &[Token]) -> Option<(Key, Fault)> {
         return None;
     }
     let small = first.text.to_lowercase();
-    let key = key(&small)?;
+    let key = key(&small).filter(|key| *key != Key::Record)?;
     let has_relation = tokens.iter().any(|token| token.kind == Kind::Relation);
     let spoken = ["not", "by", "at", "exactly", "before", "after"].contains(&second.text.to_lowercase().as_str());
     if has_relation != (key == Key::Suspended) || spoken {

@@ -2,10 +2,13 @@
 
 use crate::alike;
 use crate::cursor::Cursor;
-use crate::fault::{with, Fault};
+use crate::fault::{with, Fault, Fix};
+use crate::length;
 use crate::limits;
-use crate::parse::{place, Draft};
+use crate::parse::{place, renamed, renamed_to, Draft};
+use crate::remark::Place;
 use crate::sheet::Moment;
+use crate::shown;
 use crate::sides;
 use crate::tokens::{Kind, Token};
 
@@ -81,7 +84,8 @@ impl Draft<'_> {
                 "anchor" => "it is always there".into(),
                 _ => format!("line {} has it", known.place.line),
             };
-            return Some(fault(format!("'{name}' is named twice")).hint(hint));
+            let alone = without_name(line, from, to);
+            return Some(fault(format!("'{name}' is named twice")).hint(hint).fix("once", alone));
         }
         let anchor = (look == "anchor").then_some(&0);
         if let Some(known) = self.looks.get(look).or(anchor).map(|&place| &self.sheet.moments[place]) {
@@ -93,7 +97,8 @@ impl Draft<'_> {
                 ),
             };
             let differ = alike::difference(name, &known.name);
-            return Some(fault(format!("'{name}' and '{}' look alike: {differ}", known.name)).hint(hint));
+            let alike = format!("'{name}' and '{}' look alike: {differ}", known.name);
+            return Some(fault(alike).hint(hint).fix("one moment", without_name(line, from, to)));
         }
         if quoted {
             let trimmed = format!("\"{}\"", name.trim());
@@ -129,6 +134,18 @@ fn several(line: &str, written: &Written, fault: Fault) -> Fault {
     }
     names.retain(|name| !name.is_empty() && !["and", "or", "-"].contains(&name.to_lowercase().as_str()));
     let dashed = written.tokens[0].text == "-";
+    if let [name @ .., time] = &written.tokens[..] {
+        if length::is_hours(time.text) && name.len() == 1 {
+            let rule = format!("{} {}", &line[name[0].from..name[0].to], time.text);
+            let alone = say(&line[name[0].from..name[0].to]);
+            return fault.hint("a time stands in a rule, and names stand alone").fixes("", vec![alone, rule]);
+        }
+    }
+    let quotes = ['\'', '‘', '’', '`', '´'];
+    if text.starts_with(quotes) && text.ends_with(quotes) {
+        let hint = "names with spaces stand in double quotes";
+        return fault.hint(hint).fix("", say(&format!("\"{}\"", text.trim_matches(quotes))));
+    }
     let fault = fault.hint("commas stand between names, and a name with spaces stands in quotes");
     let fault = match dashed {
         true => fault,
@@ -144,6 +161,81 @@ fn no_name(cursor: &Cursor) -> Fault {
     let comma = cursor.peek(0).or(cursor.last()).filter(|token| token.text == ",");
     match comma {
         Some(comma) => fault.fix("", format!("{}{}", line[..comma.from].trim_end(), &line[comma.to..])),
-        None => fault,
+        None => fault.hint("the names stand on this line, with commas between them"),
+    }
+}
+
+/// A list without one of its names, and one of the commas beside it.
+fn without_name(line: &str, from: usize, to: usize) -> String {
+    let (before, after) = (line[..from].trim_end(), line[to..].trim_start());
+    match (after.strip_prefix(','), before.strip_suffix(',')) {
+        (Some(after), _) => format!("{} {}", before, after.trim_start()),
+        (None, Some(before)) => format!("{before}{}", &line[to..]),
+        _ => line.into(),
+    }
+}
+
+/// What there is to know of a name that no line declares.
+pub fn unknown_hint(name: &str, first: bool) -> &'static str {
+    match name.to_lowercase().as_str() {
+        "if" | "when" | "unless" | "wenn" => "a rule has no 'if': it always holds, or is suspended",
+        "about" | "around" | "circa" | "ca." => "times are exact here: say both limits, in two lines",
+        _ if first => "name it first, on a line 'moments: ..'",
+        _ => "name it on the line 'moments: ..'",
+    }
+}
+
+/// Words of rules, which nobody means as a name.
+const WORDS: [&str; 20] = [
+    "if", "then", "when", "unless", "by", "at", "not", "before", "after", "until", "till", "exactly", "about",
+    "around", "is", "must", "within", "on", "than", "half",
+];
+
+impl Draft<'_> {
+    /// What can be written for a name that no line declares: a name that is near, one that it is a part of, or a moment more.
+    pub(crate) fn names_for(&self, name: &str, near: Option<&str>, line: &str, at: Place) -> Vec<Fix> {
+        let fix = |says: String, lines: Vec<String>| Fix { says, lines };
+        let mut fixes = Vec::new();
+        if let Some((known, minutes)) = self.slipped(name) {
+            let text = format!("{} {minutes}", shown::name(known));
+            return vec![fix("the moment and its minutes".into(), vec![renamed_to(line, at, &text)])];
+        }
+        let longer = self.longer(name).filter(|_| near.is_none());
+        if let Some(known) = near.or(longer) {
+            fixes.push(fix(format!("the moment '{known}'"), vec![renamed(line, at, known)]));
+        }
+        let digits = |name: &str| name.chars().filter(char::is_ascii_digit).collect::<String>();
+        let own = near.is_none_or(|near| digits(near) != digits(name) && !digits(name).is_empty());
+        let plain = |c: char| c.is_alphanumeric() || " -'’#_".contains(c);
+        let word = WORDS.contains(&name.to_lowercase().as_str()) || sides::quoted_fault(name).is_some();
+        if own && self.depth == 0 && name.chars().all(plain) && !word {
+            let lines = vec![format!("moments: {}", shown::name(name)), line.to_string()];
+            if self.reads(&lines, line) {
+                fixes.push(fix("a moment more".into(), lines));
+            }
+        }
+        if let [only] = &mut fixes[..] {
+            only.says = if near.is_some() { String::new() } else { std::mem::take(&mut only.says) };
+        }
+        fixes
+    }
+
+    /// A name in quotes that holds a declared name with a sign and minutes behind it.
+    fn slipped<'n>(&'n self, name: &'n str) -> Option<(&'n str, &'n str)> {
+        let known = sides::names(&self.sheet.moments).filter(|known| name.starts_with(known));
+        let known = known.max_by_key(|known| known.len())?;
+        let rest = name[known.len()..].trim_start();
+        let minutes = rest.strip_prefix(['+', '-'])?.trim_start();
+        length::starts(minutes.split(' ').next()?).then_some((known, rest))
+    }
+
+    /// The one declared name that has a word as its first or its last.
+    fn longer(&self, word: &str) -> Option<&str> {
+        let has = |name: &&str| {
+            name.strip_prefix(word).is_some_and(|rest| rest.starts_with(' '))
+                || name.strip_suffix(word).is_some_and(|rest| rest.ends_with(' '))
+        };
+        let mut found = sides::names(&self.sheet.moments).filter(has);
+        found.next().filter(|_| found.next().is_none())
     }
 }

@@ -22,7 +22,7 @@ use std::collections::BTreeMap;
 use crate::alike;
 use crate::clock::Clock;
 use crate::cursor::Cursor;
-use crate::fault::{with, Fault, Fix};
+use crate::fault::{with, Fault};
 use crate::floor::{self, Floor};
 use crate::hash;
 use crate::hints;
@@ -30,9 +30,11 @@ use crate::instant::Known;
 use crate::length;
 use crate::limits;
 use crate::lines::{headed, without_colon, Key};
+use crate::naming;
 use crate::outcome::Expected;
 use crate::remark::{Place, Remark, Weight};
-use crate::sheet::{Origin, Row, Sheet};
+use crate::repair::{self, FIXED};
+use crate::sheet::{Form, Origin, Sheet};
 use crate::shown;
 use crate::sides;
 use crate::source;
@@ -48,12 +50,6 @@ pub struct Read {
     /// The lines, for showing a remark.
     pub lines: Vec<String>,
 }
-
-/// How many mistakes are looked at for what to write in their stead.
-const FIXED: usize = 100;
-
-/// The longest line, in bytes, that is looked at for that, and the longest that is shown so.
-const LONGEST: usize = 1_000;
 
 /// Reads a whole text. No bytes are an idle day.
 pub fn read(bytes: &[u8], clock: &Clock) -> Read {
@@ -99,23 +95,29 @@ pub fn title(line: &str) -> Option<String> {
 pub(crate) struct Draft<'c> {
     pub(crate) clock: &'c Clock,
     pub(crate) sheet: Sheet,
-    remarks: Vec<Remark>,
+    pub(crate) remarks: Vec<Remark>,
     /// Lines `span:` so far, those with a mistake too.
-    spans: usize,
+    pub(crate) spans: usize,
     /// Names that no line declares, with their places.
-    unknown: BTreeMap<String, Vec<Place>>,
+    pub(crate) unknown: BTreeMap<String, Vec<Place>>,
     /// Whether a line of moments could not be read, so that nobody knows which names it has.
     pub(crate) unread: bool,
     /// Lines `expect:`: of which span, on which line, and what.
-    expected: Vec<(usize, usize, Expected)>,
+    pub(crate) expected: Vec<(usize, usize, Expected)>,
     /// The moments by what they look like.
     pub(crate) looks: BTreeMap<String, usize>,
     /// How many moments there are beyond those that are kept.
     pub(crate) beyond: usize,
     /// Whether the anchor's line is a mistake.
-    doubtful: bool,
+    pub(crate) doubtful: bool,
     /// The line `nothing before anchor`.
     pub(crate) floor: Option<Floor>,
+    /// Where the line `record:` stands.
+    pub(crate) form: Option<Place>,
+    /// How deep this is a trial of lines that may be written in another's stead; the text itself is none.
+    pub(crate) depth: usize,
+    /// How many mistaken lines may still be looked at for other words.
+    pub(crate) looks_left: usize,
 }
 
 /// A part of a line as a place. Places of a line count bytes there, and characters here.
@@ -125,7 +127,7 @@ pub(crate) fn place(number: usize, line: &str, from: usize, to: usize) -> Place 
 }
 
 impl<'c> Draft<'c> {
-    fn new(clock: &'c Clock) -> Draft<'c> {
+    pub(crate) fn new(clock: &'c Clock) -> Draft<'c> {
         Draft {
             clock,
             sheet: Sheet::new(),
@@ -138,6 +140,9 @@ impl<'c> Draft<'c> {
             beyond: 0,
             doubtful: false,
             floor: None,
+            form: None,
+            depth: 0,
+            looks_left: repair::FIXED,
         }
     }
 
@@ -158,7 +163,7 @@ impl<'c> Draft<'c> {
     }
 
     /// Reads the lines of some kinds.
-    fn all(&mut self, lines: &[String], wanted: fn(Key) -> bool) {
+    pub(crate) fn all(&mut self, lines: &[String], wanted: fn(Key) -> bool) {
         for (number, line) in (1..).zip(lines) {
             // A fault of the line as a whole is told once, with the lines that are rules.
             let end = match tokens::comment(line).and_then(|end| hash::doubtful(self, line, end).map_or(Ok(end), Err)) {
@@ -195,10 +200,11 @@ impl<'c> Draft<'c> {
         if !wanted(headed.key.unwrap_or(Key::Rule)) {
             return;
         }
+        let before = self.remarks.len();
         if let Some(fault) = headed.fault {
             self.wrong(number, line, fault);
         }
-        let Some(key) = headed.key else { return };
+        let Some(key) = headed.key else { return self.other_words(number, line, end, before) };
         self.unread |= key == Key::Moments && tokens.is_err();
         let done = tokens.and_then(|tokens| {
             let mut cursor = Cursor::new(line, tokens, end);
@@ -214,6 +220,7 @@ impl<'c> Draft<'c> {
             self.wrong(number, line, fault);
         }
         self.spans += (key == Key::Span) as usize;
+        self.other_words(number, line, end, before);
     }
 
     fn take(&mut self, key: Key, number: usize, cursor: &mut Cursor) -> Result<(), Fault> {
@@ -226,14 +233,34 @@ impl<'c> Draft<'c> {
             Key::Rule if no_sign && floor::starts(cursor) => self.floor_line(number, cursor),
             Key::Suspended if no_sign && floor::starts(cursor) => {
                 let from = cursor.place();
-                Err(Fault::new(from, from + cursor.rest().len(), "this line is no rule, and is not suspended")
-                    .hint("make it a comment, with # at the line's start"))
+                let (line, rest) = (cursor.line, cursor.rest());
+                Err(Fault::new(from, from + rest.len(), "this line is no rule, and is not suspended")
+                    .fix("a comment", format!("# {rest}{}", &line[cursor.end()..])))
             }
             Key::Rule => self.rule(number, cursor, true),
             Key::Suspended => self.rule(number, cursor, false),
             Key::Span => self.ask(number, cursor),
             Key::Expect => self.expect(number, cursor),
+            Key::Record => self.record(number, cursor),
         }
+    }
+
+    /// Which layout the record has: `with a count of its spans`, `with the state of each rule`.
+    fn record(&mut self, number: usize, cursor: &mut Cursor) -> Result<(), Fault> {
+        let (from, text, line) = (cursor.place(), cursor.rest(), cursor.line);
+        let said = text.split_whitespace().map(str::to_lowercase).collect::<Vec<_>>().join(" ");
+        let form = [Form::Counted, Form::States].into_iter().find(|form| form.words() == Some(&said));
+        let Some(form) = form else {
+            let fault = Fault::new(from, from + text.len(), "this line says how the record is written, and not so");
+            let say = |form: Form| with(line, from, from + text.len(), form.words().unwrap_or(""));
+            return Err(fault
+                .hint("it is for texts that 'ward text' writes; leave it out elsewhere")
+                .fix("as for several spans", say(Form::Counted))
+                .fix("as for suspended rules", say(Form::States)));
+        };
+        self.sheet.form = form;
+        self.form = Some(place(number, line, from, from + text.len()));
+        Ok(())
     }
 
     /// What is expected of the span above.
@@ -241,10 +268,13 @@ impl<'c> Draft<'c> {
         let (from, text, line) = (cursor.place(), cursor.rest(), cursor.line);
         let fault = |message: String| Fault::new(from, from + text.len(), message);
         let Some(span) = self.spans.checked_sub(1) else {
-            return Err(fault("an 'expect:' stands below its span".into()));
+            return Err(fault("an 'expect:' stands below its span".into()).hint("move this line below its 'span:'"));
         };
         if let Some((_, other, _)) = self.expected.iter().find(|(other, ..)| *other == span) {
-            return Err(fault(format!("a span has one 'expect:' only, and line {other} has it")));
+            let start = line.len() - line.trim_start().len();
+            return Err(fault(format!("a span has one 'expect:' only, and line {other} has it"))
+                .hint("delete one of the two lines")
+                .fix("the other line alone", with(line, start, start, "# ")));
         }
         let words: Vec<String> = text.split_whitespace().map(str::to_lowercase).collect();
         let words: Vec<&str> = words.iter().map(String::as_str).collect();
@@ -267,6 +297,16 @@ impl<'c> Draft<'c> {
             return Err(match words[..] {
                 [number] if self.number(number).is_some() => fault.fix("", say(format!("least {number}"))),
                 ["no", "plan"] => fault.fix("", say("none".into())),
+                ["at", limit, ..] => {
+                    let least = say(format!("least {}", words[2..].join(" ")));
+                    let fault = fault.hint("what is expected is one answer, and no limit of it");
+                    if limit == "least" {
+                        fault.fix("the least span", least)
+                    } else {
+                        fault
+                    }
+                }
+                ["least", ..] => self.expected_length(cursor, fault),
                 _ => fault,
             });
         };
@@ -275,6 +315,13 @@ impl<'c> Draft<'c> {
         }
         self.expected.push((span, number, outcome));
         Ok(())
+    }
+
+    /// What is wrong with the length of an expected span, with what to write.
+    fn expected_length(&self, cursor: &Cursor, fault: Fault) -> Fault {
+        let mut rest = Cursor::new(cursor.line, cursor.left().to_vec(), cursor.end());
+        let wrong = length::read(&mut rest, self.clock).err();
+        wrong.filter(|wrong| !wrong.fixes.is_empty()).unwrap_or(fault)
     }
 
     /// A span from the anchor that is expected to be as long as a time of day that it may run to.
@@ -327,6 +374,10 @@ impl<'c> Draft<'c> {
         if let (Some(place), None) = (self.sheet.week.first().map(|window| window.place), day) {
             self.missing(place, "opening hours need the day of the anchor", "as in 'anchor: Monday 8:00'");
         }
+        if let Some(place) = self.form.filter(|_| self.sheet.form == Form::Counted && self.sheet.has_suspended()) {
+            let hint = "leave this line out: a rule of the text is suspended";
+            self.missing(place, "no record has a count of its spans and suspended rules", hint);
+        }
         if let (Some(&moment), true) = (self.sheet.admits.first(), self.sheet.week.is_empty()) {
             let place = self.sheet.moments[moment].place;
             self.missing(
@@ -352,7 +403,7 @@ impl<'c> Draft<'c> {
     }
 
     /// A name that is not declared is told once, with the other lines that have it.
-    fn unknown_names(&mut self, lines: &[String]) {
+    pub(crate) fn unknown_names(&mut self, lines: &[String]) {
         let mut unknown: Vec<(String, Vec<Place>)> = std::mem::take(&mut self.unknown).into_iter().collect();
         unknown.sort_by_key(|(_, places)| places[0]);
         for (number, (name, places)) in unknown.into_iter().enumerate() {
@@ -379,89 +430,28 @@ impl<'c> Draft<'c> {
                 }
                 None => format!("no moment is called '{name}'{also}"),
             };
-            let hint = match near {
-                Some(_) => None,
-                None if self.sheet.moments.len() == 1 => Some("name it first, on a line 'moments: ..'".into()),
-                None => Some("name it on the line 'moments: ..'".into()),
-            };
             let line = lines.get(places[0].line - 1).map_or("", String::as_str);
-            let fixes = near.map(|near| Fix { says: String::new(), lines: vec![renamed(line, places[0], &near)] });
-            let fixes = fixes.into_iter().collect();
+            let hint = match &near {
+                Some(_) => None,
+                None => Some(naming::unknown_hint(&name, self.sheet.moments.len() == 1).into()),
+            };
+            let fixes =
+                if number < FIXED { self.names_for(&name, near.as_deref(), line, places[0]) } else { Vec::new() };
             self.remarks.push(Remark { weight: Weight::Mistake, place: places[0], message, hint, fixes });
         }
-    }
-
-    /// Whether one of the first mistakes has lines to be written in its stead that are mistakes themselves: these are not shown. Nor
-    /// are two that say the same.
-    fn taken(&mut self, lines: &[String]) {
-        let mut remarks = std::mem::take(&mut self.remarks);
-        remarks.sort_by_key(|remark| remark.place);
-        let mut trial = Draft::new(self.clock);
-        trial.sheet.anchor = self.sheet.anchor;
-        std::mem::swap(&mut trial.sheet.moments, &mut self.sheet.moments);
-        for (number, remark) in remarks.iter_mut().enumerate() {
-            let line = lines.get(remark.place.line - 1).map_or("", String::as_str);
-            if number >= FIXED {
-                remark.fixes.clear();
-            }
-            if remark.fixes.is_empty() || line.len() > LONGEST {
-                remark.fixes.clear();
-                continue;
-            }
-            let mistakes = trial.says(&[line.into()], line).0.max(1);
-            let mut seen = Vec::new();
-            remark.fixes.retain(|fix| {
-                let (left, said) = trial.says(&fix.lines, line);
-                let short = fix.lines.iter().all(|line| line.len() <= LONGEST);
-                let new = short && left < mistakes && !seen.contains(&said) && fix.lines != [line];
-                seen.push(said);
-                new
-            });
-        }
-        std::mem::swap(&mut trial.sheet.moments, &mut self.sheet.moments);
-        self.remarks = remarks;
-    }
-
-    /// How many mistakes some lines have in the place of a line, and what they say: rules, spans and what else they leave behind.
-    fn says(&mut self, lines: &[String], line: &str) -> (usize, String) {
-        let (moments, anchor) = (self.sheet.moments.clone(), self.sheet.anchor);
-        let has = |key: Key| {
-            lines.iter().map(String::as_str).chain([line]).any(|line| headed(line, line.len()).key == Some(key))
-        };
-        if has(Key::Moments) {
-            self.sheet.moments.truncate(1);
-        }
-        if has(Key::Anchor) {
-            self.sheet.anchor = None;
-        }
-        self.spans = 1;
-        self.all(lines, |key| key == Key::Moments);
-        self.all(lines, |key| key == Key::Anchor);
-        self.all(lines, |key| key != Key::Moments && key != Key::Anchor);
-        let mistakes = self.remarks.len() + self.unknown.len();
-        let rows = |row: &Row| (row.left.clone(), row.right.clone(), row.in_force);
-        let sheet = &self.sheet;
-        let rules: Vec<_> = sheet.rules.iter().map(rows).collect();
-        let spans: Vec<_> = sheet.questions.iter().map(|question| rows(&question.row)).collect();
-        let names: Vec<&str> = sides::names(&sheet.moments).collect();
-        let but = self.floor.as_ref().map(|floor| floor.but.clone());
-        let said = match mistakes {
-            0 => {
-                format!("{rules:?} {spans:?} {names:?} {:?} {:?} {but:?} {:?}", sheet.anchor, sheet.week, self.expected)
-            }
-            _ => lines.join("\n"),
-        };
-        let (clock, sheet) = (self.clock, Sheet { moments, anchor, ..Sheet::new() });
-        *self = Draft { sheet, ..Draft::new(clock) };
-        (mistakes, said)
     }
 }
 
 /// A line with another name at a place.
-fn renamed(line: &str, place: Place, name: &str) -> String {
+pub(crate) fn renamed(line: &str, place: Place, name: &str) -> String {
+    renamed_to(line, place, &shown::name(name))
+}
+
+/// A line with another text at a place.
+pub(crate) fn renamed_to(line: &str, place: Place, text: &str) -> String {
     let byte = |column: usize| line.char_indices().nth(column).map_or(line.len(), |(byte, _)| byte);
     let (from, to) = (byte(place.column - 1), byte(place.column - 1 + place.width));
-    with(line, from, to, &shown::name(name))
+    with(line, from, to, text)
 }
 
 /// The tokens of a part of a line, as a rule has them.

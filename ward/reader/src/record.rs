@@ -1,16 +1,17 @@
 //! Problem records of a sheet (documents 01 and 02), and a sheet of a record.
 
 use crate::remark::Place;
-use crate::sheet::{Lead, Moment, Origin, Question, Row, Sheet};
+use crate::sheet::{Form, Lead, Moment, Origin, Question, Row, Sheet};
 
 /// How a record writes blank.
 const BLANK: i32 = i32::MIN;
 
 /// The records that are sent for a sheet: one of kind 1 for one span, one of kind 3 for several; with suspended rules one of
-/// kind 5 a span. An idle day has no bytes.
+/// kind 5 a span. A text can ask for kind 3 or 5 where it need not be. An idle day has no bytes.
 pub fn sent(sheet: &Sheet) -> Vec<Vec<u8>> {
     let all = 0..sheet.questions.len();
-    if sheet.idle || sheet.has_suspended() || sheet.questions.len() == 1 {
+    let counted = sheet.form == Form::Counted || sheet.questions.len() > 1 && sheet.form == Form::Short;
+    if sheet.idle || sheet.has_suspended() || !counted {
         return all.map(|question| alone(sheet, question)).collect();
     }
     let questions: Vec<&Row> = sheet.questions.iter().map(|question| &question.row).collect();
@@ -22,7 +23,7 @@ pub fn sent(sheet: &Sheet) -> Vec<Vec<u8>> {
 pub fn alone(sheet: &Sheet, question: usize) -> Vec<u8> {
     let question = &sheet.questions[question].row;
     let rules: Vec<&Row> = sheet.rules.iter().collect();
-    match (sheet.idle, sheet.has_suspended()) {
+    match (sheet.idle, sheet.has_suspended() || sheet.form == Form::States) {
         (true, _) => Vec::new(),
         (_, true) => with_states(&rules, question),
         _ => one(&rules, question),
@@ -95,6 +96,11 @@ pub fn sheet(bytes: &[u8]) -> Option<Sheet> {
     for number in m..m + questions {
         sheet.questions.push(Question { row: row(number, true)?, expected: None });
     }
+    sheet.form = match kind {
+        3 if questions == 1 => Form::Counted,
+        5 if !sheet.has_suspended() => Form::States,
+        _ => Form::Short,
+    };
     Some(sheet)
 }
 

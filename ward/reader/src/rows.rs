@@ -64,6 +64,12 @@ impl Draft<'_> {
             return Ok(None);
         };
         let found = sign(relation.text);
+        if first.peek(0).is_none() || second.peek(0).is_none() {
+            let side = if first.peek(0).is_none() { &first } else { &second };
+            return Err(side
+                .fault("a moment's name is expected")
+                .hint("a rule stands on one line, with a side before its sign and one behind it"));
+        }
         if let Some(fault) = found.and_then(|sign| difference(&first, &second, relation, sign)) {
             return Err(fault);
         }
@@ -122,6 +128,9 @@ impl Draft<'_> {
             return Err(no_from(cursor, from, text));
         }
         let known = self.known();
+        if let Some(fault) = cursor.peek(0).and_then(|token| sides::without_quotes(cursor, token, &known)) {
+            return Err(fault);
+        }
         let to = |token: &Token| token.kind == Kind::Word && token.text.to_lowercase() == "to";
         let Some((mut first, _, mut second)) = cursor.split(to) else {
             let read = sides::read(cursor, &known);
@@ -189,8 +198,33 @@ fn left_over(cursor: &Cursor) -> Fault {
         "or" => {
             fault.hint("a rule cannot say 'one of these is early enough'; 'later of' on the left means all of them")
         }
-        _ => more(cursor, fault),
+        "," => grouped(cursor, fault),
+        _ => {
+            let comma = format!("{}, {}", cursor.line[..token.from].trim_end(), &cursor.line[token.from..]);
+            let before = cursor.line[..token.from].trim_start().to_lowercase();
+            let fault = more(cursor, fault);
+            let listed = before.starts_with("later of") || before.starts_with("latest of");
+            if listed && token.kind != Kind::Sign {
+                fault.fix("a comma more", comma)
+            } else {
+                fault
+            }
+        }
     }
+}
+
+/// `later of (ready, porter) + 15, nurse`: minutes of some and one more behind them.
+fn grouped(cursor: &Cursor, fault: Fault) -> Fault {
+    let Some(comma) = cursor.peek(0) else { return fault };
+    let (line, before) = (cursor.line, &cursor.line[..comma.from]);
+    let (Some(open), Some(close)) = (before.find('('), before.rfind(')')) else { return fault };
+    let minutes = before[close + 1..].trim();
+    if !minutes.starts_with(['+', '-']) || open > close {
+        return fault;
+    }
+    let each: Vec<String> =
+        before[open + 1..close].split(',').map(|name| format!("({} {minutes})", name.trim())).collect();
+    fault.fix("each with its minutes", with(line, open, comma.from, &each.join(", ")))
 }
 
 /// What is too much behind a rule's right side.
@@ -213,10 +247,23 @@ pub fn more(cursor: &Cursor, fault: Fault) -> Fault {
         let (plus, minus) = (format!("+ {}", token.text), format!("- {}", token.text));
         return fault.hint("a sign is missing").fix("later", say(&plus)).fix("earlier", say(&minus));
     }
+    if let Some(why) = no_unit(&token.text.to_lowercase()) {
+        return fault.hint(why);
+    }
     if token.kind == Kind::Word && token.text.starts_with(char::is_alphabetic) && fault.hint.is_none() {
         return fault.hint("a name with spaces stands in quotes; several moments stand behind 'later of', with commas");
     }
     fault
+}
+
+/// Why some words are no units.
+pub fn no_unit(word: &str) -> Option<&'static str> {
+    match word {
+        "night" | "nights" | "nächte" => Some("a night has no length of its own: write hours or days"),
+        "working" | "business" | "werktage" => Some("which days are working days is not known here: write days"),
+        "month" | "months" | "monat" | "monate" => Some("months differ, and two weeks are the most: write days"),
+        _ => None,
+    }
 }
 
 /// Several moments on a side without `later of`: what that can be.
@@ -298,6 +345,10 @@ fn difference(first: &Cursor, second: &Cursor, relation: Token, sign: Sign) -> O
         Some(_) => line[relation.to..end].trim(),
         None => line[from..relation.from].trim(),
     };
+    let fault = Fault::new(from, end, "a rule has moments on both sides, and no difference of two");
+    if later.starts_with(|c: char| c.is_ascii_digit()) {
+        return Some(fault.hint("minutes can be taken from a moment, and no moment from minutes"));
+    }
     let base = bracketed(earlier);
     let sign = match (sign, left_is) {
         (Sign::NotLater, None) => Sign::NotEarlier,
@@ -309,7 +360,6 @@ fn difference(first: &Cursor, second: &Cursor, relation: Token, sign: Sign) -> O
         Sign::NotLater => format!("{later} <= {base} + {minutes}"),
         Sign::Same => format!("{later} = {base} + {minutes}"),
     };
-    let fault = Fault::new(from, end, "a rule has moments on both sides, and no difference of two");
     Some(fault.fix("", with(line, from, end, &rule)))
 }
 
@@ -362,6 +412,11 @@ fn chain(cursor: &Cursor, from: usize) -> Fault {
         (Some(first), Some(last)) => &cursor.line[first.from..last.to],
         _ => "",
     };
+    if let Some(fault) =
+        bounds_of(cursor, from, &fault, &[text(pieces[0]), text(pieces[1]), text(pieces[pieces.len() - 1])])
+    {
+        return if pieces.len() == 3 { fault } else { fault.hint("write a rule for each sign") };
+    }
     // Two rules with a word between them.
     if let ([_, middle, _], Some(word)) = (&pieces[..], pieces[1].iter().position(parts_words)) {
         let (first, second) = (&middle[..word], &middle[word + 1..]);
@@ -394,13 +449,35 @@ fn chain(cursor: &Cursor, from: usize) -> Fault {
     }
 }
 
+/// `35 <= cleaned - free <= 40`, and `free + 35 <= cleaned <= 40`, where 40 can be counted from both.
+fn bounds_of(cursor: &Cursor, from: usize, fault: &Fault, [first, middle, last]: &[&str; 3]) -> Option<Fault> {
+    let number = |text: &str| crate::length::starts(text.split(' ').next().unwrap_or(""));
+    let whole = |text: String| lines(cursor, from, &[text]);
+    let signs = cursor.left().iter().filter(|token| token.kind == Kind::Relation);
+    if !number(last) || !signs.clone().all(|token| sign(token.text) == Some(Sign::NotLater)) {
+        return None;
+    }
+    if let Some((late, early)) = middle.split_once(" - ").filter(|_| number(first)) {
+        let rule = format!("{} {first} to {last} after {}", late.trim(), early.trim());
+        return Some(fault.clone().fixes("", whole(rule)));
+    }
+    let (base, minutes) = first.rsplit_once(" + ")?;
+    let rules = [format!("{first} <= {middle}"), format!("{middle} <= anchor + {last}")];
+    let both = format!("{middle} {} to {last} after {}", minutes.trim(), base.trim());
+    let after = format!("both counted from {}", base.trim());
+    Some(fault.clone().fixes(after, whole(both)).fixes("the last counted from the anchor", lines(cursor, from, &rules)))
+}
+
 /// What is too much behind a group of a span.
 fn group_over(cursor: &Cursor, expected: &str) -> Fault {
     let fault = cursor.fault(expected);
     match cursor.peek(0).map(|token| token.text.to_lowercase()).as_deref() {
         Some("and" | "or" | "&" | ",") => {
-            fault.hint("a group of several moments stands behind 'later of'; for each of them a span is asked for")
+            let fault =
+                fault.hint("a group of several moments stands behind 'later of'; for each of them a span is asked for");
+            span_of_several(cursor, fault)
         }
+        Some("to") => through(cursor, fault),
         Some("until" | "till") => {
             let token = cursor.peek(0).map_or((0, 0), |token| (token.from, token.to));
             fault.fix("", with(cursor.line, token.0, token.1, "to"))
@@ -408,6 +485,37 @@ fn group_over(cursor: &Cursor, expected: &str) -> Fault {
         Some(_) => more(cursor, fault),
         None => fault.hint("a span is written 'span: from .. to ..'"),
     }
+}
+
+/// `from ready, porter to leaves`: from the later of them, or a span for each.
+fn span_of_several(cursor: &Cursor, fault: Fault) -> Fault {
+    let (line, at) = (cursor.line, cursor.place());
+    let small = line[..at].to_lowercase();
+    let (from, to) = (small.rfind("from "), small.rfind(" to "));
+    let Some(start) = to.map(|place| place + 4).or(from.map(|place| place + 5)).filter(|_| line.is_ascii()) else {
+        return fault;
+    };
+    let rest = &line[start..];
+    let end = rest.to_lowercase().find(" to ").filter(|_| to.is_none()).unwrap_or(rest.len());
+    let names = rest[..end].replace(" and ", ",").replace(" or ", ",").replace('&', ",");
+    let names: Vec<&str> = names.split(',').map(str::trim).filter(|name| !name.is_empty()).collect();
+    let say = |text: &str| format!("{}{text}{}", &line[..start], &rest[end..]);
+    fault
+        .fix("the later of them", say(&format!("later of {}", names.join(", "))))
+        .fixes("each of them", names.iter().map(|name| say(name)).collect())
+}
+
+/// `from ready to leaves to arrives`: one way after another.
+fn through(cursor: &Cursor, fault: Fault) -> Fault {
+    let line = cursor.line;
+    let Some(from) = line.to_lowercase().find("from ").filter(|_| line.is_ascii()) else { return fault };
+    let body = &line[from + 5..cursor.end()];
+    let places: Vec<&str> = body.split(" to ").map(str::trim).collect();
+    let span = |start: &str, end: &str| format!("{}from {start} to {end}{}", &line[..from], &line[cursor.end()..]);
+    let (Some(first), Some(last)) = (places.first(), places.last()) else { return fault };
+    fault
+        .fixes("a span for each way", places.windows(2).map(|pair| span(pair[0], pair[1])).collect())
+        .fix("the whole way", span(first, last))
 }
 
 /// How a span that does not begin with `from` is written.

@@ -26,6 +26,29 @@ pub enum Origin {
     Floor,
 }
 
+/// Which layout the record of a sheet has, where several say the same. The line `record:` tells it, and `ward text` writes it.
+#[derive(Clone, Copy, Debug, Default, PartialEq, Eq)]
+pub enum Form {
+    /// The shortest: kind 1 for one span, kind 3 for several, kind 5 where a rule is suspended.
+    #[default]
+    Short,
+    /// Kind 3, with a count of its spans, also where it has one.
+    Counted,
+    /// Kind 5, with the state of each rule, also where all are in force.
+    States,
+}
+
+impl Form {
+    /// The words behind `record:`.
+    pub fn words(self) -> Option<&'static str> {
+        match self {
+            Form::Short => None,
+            Form::Counted => Some("with a count of its spans"),
+            Form::States => Some("with the state of each rule"),
+        }
+    }
+}
+
 /// A rule, or a span that is asked for.
 #[derive(Clone, Debug, PartialEq, Eq)]
 pub struct Row {
@@ -65,6 +88,8 @@ pub struct Sheet {
     pub admits: Vec<usize>,
     /// Where the line `nothing before anchor` stands, if it does.
     pub floor: Option<Place>,
+    /// Which layout its record has.
+    pub form: Form,
     /// An empty text is an idle day (document 02, 2.9), and its record has no bytes.
     pub idle: bool,
 }
@@ -82,6 +107,7 @@ impl Sheet {
             week: Vec::new(),
             admits: Vec::new(),
             floor: None,
+            form: Form::Short,
             idle: false,
         }
     }

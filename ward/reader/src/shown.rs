@@ -96,6 +96,9 @@ pub fn text(sheet: &Sheet, clock: &Clock) -> String {
     if sheet.moments.len() > 1 {
         let _ = writeln!(text, "moments: {}", names(&(1..sheet.moments.len()).collect::<Vec<_>>()));
     }
+    if let Some(words) = sheet.form.words() {
+        let _ = writeln!(text, "record: {words}");
+    }
     if let Some(anchor) = sheet.anchor {
         let day = anchor.day.map_or(String::new(), |day| format!("{} ", DAYS[day]));
         let day = anchor.date.map_or(day, |date| format!("{} ", calendar::written(date)));

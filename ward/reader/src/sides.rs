@@ -169,7 +169,9 @@ fn brackets(cursor: &mut Cursor, known: &Known) -> Result<Vec<Term>, Fault> {
 }
 
 fn closed(cursor: &mut Cursor) -> Result<(), Fault> {
-    cursor.expect(")").map_err(|fault| fault.hint("a bracket is open"))
+    let place = cursor.last().map_or(cursor.place(), |last| last.to);
+    let closed = with(cursor.line, place, place, ")");
+    cursor.expect(")").map_err(|fault| fault.hint("a bracket is open").fix("", closed))
 }
 
 /// A time of day, or a moment.
@@ -204,6 +206,11 @@ fn list(cursor: &mut Cursor, known: &Known, start: usize) -> Result<Vec<Term>, F
     }
     let mut items = Vec::new();
     loop {
+        if let Some(comma) = cursor.last().filter(|last| last.text == "," && cursor.peek(0).is_none()) {
+            let fault = cursor.fault("a moment's name is expected");
+            let fault = fault.hint("a rule stands on one line, and commas stand between names");
+            return Err(fault.fix("", with(cursor.line, comma.from, comma.to, "")));
+        }
         items.push(item(cursor, known)?);
         if cursor.takes(",") {
             continue;
@@ -323,16 +330,18 @@ fn tail(cursor: &mut Cursor, known: &Known, terms: &[Term], from: usize) -> Resu
 
 /// The minutes behind a sign.
 fn minutes(cursor: &mut Cursor, known: &Known, sign: Token, from: usize) -> Result<Length, Fault> {
-    let Some(token) = cursor.peek(0) else { return Err(cursor.fault("minutes are expected")) };
+    let Some(token) = cursor.peek(0) else {
+        return Err(cursor.fault("minutes are expected").hint("how many? A number is missing behind the sign"));
+    };
     if token.text == "(" {
         let (mark, unknown) = (cursor.mark(), cursor.unknown.len());
         cursor.take();
-        let inner = length::read(cursor, known.clock).ok().filter(|_| cursor.plain(0) == ")");
+        let inner = added(cursor, known).filter(|_| cursor.plain(0) == ")");
         let to = cursor.peek(0).map_or(token.to, |token| token.to);
         cursor.back(mark, unknown);
         let fault = cursor.fault("minutes are expected");
         return Err(match inner {
-            Some(inner) => fault.fix("", with(cursor.line, token.from, to, &cursor.line[inner.from..inner.to])),
+            Some(inner) => fault.fix("", with(cursor.line, token.from, to, &inner)),
             None => fault,
         });
     }
@@ -351,6 +360,20 @@ fn minutes(cursor: &mut Cursor, known: &Known, sign: Token, from: usize) -> Resu
         });
     }
     length::read(cursor, known.clock)
+}
+
+/// Minutes within brackets, and the sum of several: as they can be written without them.
+fn added(cursor: &mut Cursor, known: &Known) -> Option<String> {
+    let first = length::read(cursor, known.clock).ok()?;
+    let mut minutes = first.minutes;
+    while ["+", "-"].contains(&cursor.plain(0)) {
+        let sign = if cursor.take()?.text == "-" { -1 } else { 1 };
+        minutes += sign * length::read(cursor, known.clock).ok()?.minutes;
+    }
+    match minutes == first.minutes {
+        true => Some(cursor.line[first.from..first.to].into()),
+        false => (minutes > 0).then(|| shown::length(minutes)),
+    }
 }
 
 /// Minutes that are given twice: their sum.
@@ -459,6 +482,10 @@ fn moment(cursor: &mut Cursor, known: &Known) -> Result<Option<usize>, Fault> {
     if let Some(fault) = hyphen(cursor, token, known, moment) {
         return Err(fault);
     }
+    let noon = ["noon", "midnight"].contains(&token.text.to_lowercase().as_str());
+    if let Some(fault) = instant::meant(cursor, known).filter(|_| noon && moment.is_none()) {
+        return Err(fault);
+    }
     if token.kind != Kind::Quoted && moment.is_none() && !is_bare(token.text) {
         return Err(no_name(cursor, token, known));
     }
@@ -473,13 +500,14 @@ fn moment(cursor: &mut Cursor, known: &Known) -> Result<Option<usize>, Fault> {
 }
 
 /// The declared name of several words that starts where a word does, the longest of them.
-fn without_quotes(cursor: &Cursor, token: Token, known: &Known) -> Option<Fault> {
+pub fn without_quotes(cursor: &Cursor, token: Token, known: &Known) -> Option<Fault> {
     if token.kind != Kind::Word {
         return None;
     }
     let line = &cursor.line[..cursor.end()];
     let ends = |name: &str| !line[token.from + name.len()..].starts_with(char::is_alphanumeric);
     let names = known.moments.iter().map(|known| known.name.as_str());
+    let names = names.filter(|name| name.starts_with(char::is_alphanumeric));
     let longer = |name: &&str| name.len() > token.text.len() && line[token.from..].starts_with(*name) && ends(name);
     let name = names.filter(longer).max_by_key(|name| name.len())?;
     let to = token.from + name.len();

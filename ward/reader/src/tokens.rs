@@ -147,11 +147,18 @@ fn spaced(line: &str, from: usize, at: usize, c: char) -> Result<(), Fault> {
     }
     let (before, after) = (line[..at].trim_end(), line[to..].trim_start());
     let fault = Fault::new(at, to, "a minus has a space on both sides");
+    let rest = line[at..].trim_start_matches(|c| DASHES.contains(c));
+    let two = line.len() - at - rest.len() > c.len_utf8();
+    if two && space(line[from..at].chars().next_back()) && rest.starts_with(' ') && !before.ends_with(['+', '-']) {
+        return Err(fault.fix("a comment", format!("{before} # {}", rest.trim_start())));
+    }
     // Two signs in a row are one.
     let sign = |sign: char| before.ends_with(sign).then(|| before[..before.len() - sign.len_utf8()].trim_end());
     Err(match (sign('+'), sign('-')) {
         (Some(group), _) => fault.fix("", format!("{group} - {after}")),
-        (_, Some(group)) => fault.fix("less than less is more", format!("{group} + {after}")),
+        (_, Some(group)) => fault
+            .fix("less than less is more", format!("{group} + {after}"))
+            .fix("a comment", format!("{group} # {after}")),
         _ => fault.hint("without spaces a hyphen is a part of a name").fix("a minus", format!("{before} - {after}")),
     })
 }
@@ -165,8 +172,24 @@ fn quoted(rest: &str) -> Option<usize> {
 
 fn open_quote(line: &str, at: usize, to: usize) -> Fault {
     let shown = line[at..to].chars().skip(1).collect::<String>();
-    Fault::new(at, to, format!("the quote before '{}' is not closed", shown.trim_end()))
-        .hint("a name in quotes ends with another quote of the same kind on the same line")
+    let fault = Fault::new(at, to, format!("the quote before '{}' is not closed", shown.trim_end()))
+        .hint("a name in quotes ends with another quote of the same kind on the same line");
+    // Another kind of quote behind it, or none before the next comma or sign, in the first name that is left open so.
+    let start = line[..to].find(is_quote).unwrap_or(at);
+    let open = line[start..].chars().next().map_or(1, char::len_utf8);
+    let rest = &line[start + open..to];
+    let other = rest.find(|c: char| is_quote(c) || "'’".contains(c));
+    let ends = rest.find(|c: char| ",+<>=≤≥".contains(c)).unwrap_or(rest.len());
+    let name = rest[..ends].trim_end();
+    let closed = format!("{}\"{name}\"{}", &line[..start], &line[start + open + name.len()..]);
+    match other.filter(|place| *place < ends) {
+        Some(place) => {
+            let quote = rest[place..].chars().next().map_or(1, char::len_utf8);
+            let after = &line[start + open + place + quote..];
+            fault.fix("", format!("{}\"{}\"{after}", &line[..start], &rest[..place]))
+        }
+        None => fault.fix("", closed),
+    }
 }
 
 /// Where a line's comment starts, or its end. A comment starts at the line's start, or behind a space and before one; outside

@@ -46,7 +46,7 @@ fn what_is_asked_about_shows_the_readings_beside_it() {
         let read = read(&text(form));
         let found = mistakes(&read);
         assert_eq!(found.len(), 1, "{form}: {found:?}");
-        let mut shown: Vec<&str> = found[0].fixes.iter().map(|fix| fix.lines[0].as_str()).collect();
+        let mut shown: Vec<&str> = found[0].fixes.iter().flat_map(|fix| &fix.lines).map(String::as_str).collect();
         let mut wanted = readings.clone();
         shown.sort();
         wanted.sort();

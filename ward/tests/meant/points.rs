@@ -61,7 +61,7 @@ fn point_3_a_minus_has_spaces() {
     same("", "ready – 5 <= leaves", &["ready - 5 <= leaves"]);
     asks("", "ready-4 <= leaves", &["ready - 4 <= leaves"]);
     asks("", "ready -4 <= leaves", &["ready - 4 <= leaves"]);
-    asks("", "ward-5 <= leaves", &["\"ward-4\" <= leaves"]);
+    asks("", "ward-5 <= leaves", &["\"ward-4\" <= leaves", "moments: \"ward-5\" ; ward-5 <= leaves"]);
     let both = "moments: a, ward, ward-4\nward-4 <= a\nspan: from a to a\n";
     let read = read(both);
     let shown: Vec<_> = mistakes(&read)[0].fixes.iter().map(|fix| fix.lines.concat()).collect();
@@ -204,4 +204,113 @@ fn point_10_what_is_plainly_understood_is_taken() {
     let read =
         read("Moments: a\nANCHOR: Tue 08:00\nOpen: Mon–Fri 07:00–18:00\nSpan: From Anchor To a\nExpect: Bottomless\n");
     assert!(read.sheet.is_some_and(|sheet| sheet.week.len() == 5), "{:?}", read.remarks);
+}
+
+/// Words by other names are shown as they are read here; what they mean is one thing.
+#[test]
+fn other_words_are_shown_as_they_are_read() {
+    let dated = "2026-11-17 8:00";
+    for (line, read) in [
+        ("ready by Thur 14:00", "ready by Thu 14:00"),
+        ("ready by Do 14:00", "ready by Thu 14:00"),
+        ("ready by Tu 14:00", "ready by Tue 14:00"),
+        ("ready by Th 14:00", "ready by Thu 14:00"),
+        ("ready by Donnerstag 14:00", "ready by Thu 14:00"),
+        ("by 8:45 ready", "ready by 8:45"),
+        ("ready ‹＝ leaves", "ready <= leaves"),
+        ("ready nicht vor 8:40", "ready not before 8:40"),
+        ("ready bis 8:45", "ready by 8:45"),
+        ("ready must be by 8:45", "ready by 8:45"),
+        ("ready by 9:00,", "ready by 9:00"),
+        ("ready by 9:00.", "ready by 9:00"),
+        ("ready by 8:45h", "ready by 8:45"),
+        ("ready by 8: 45", "ready by 8:45"),
+        ("ready by 8:45 (latest)", "ready by 8:45"),
+        ("ready 8:45 (latest)", "ready by 8:45"),
+        ("ready 8:40 (earliest)", "ready not before 8:40"),
+        ("leaves at least 1 h, 30 min after ready", "leaves at least 1 h 30 min after ready"),
+        ("leaves at least 3 m after ready", "leaves at least 3 min after ready"),
+        ("leaves at least 1 week after ready", "leaves at least 7 days after ready"),
+        ("leaves at least 35 Minuten after ready", "leaves at least 35 min after ready"),
+        ("ready by 19 Nov 9:00", "ready by 2026-11-19 9:00"),
+        ("ready by Nov 19, 2026 9:00", "ready by 2026-11-19 9:00"),
+        ("ready by 11/19/2026 9:00", "ready by 2026-11-19 9:00"),
+        ("ready not before 8:40 am", "ready not before 08:40"),
+    ] {
+        asks(dated, line, &[read]);
+    }
+    // A moment that is called like such a word is a moment.
+    let named = read("moments: Do, bis, ready\nDo <= bis\nbis by ready\nspan: from Do to bis\n");
+    assert!(named.sheet.is_some(), "{:?}", named.remarks);
+}
+
+/// What can be several things shows them all, and nothing that nobody means.
+#[test]
+fn what_can_be_several_things_shows_them() {
+    for (line, readings) in [
+        ("ready by 845", &["ready by 8:45", "ready by 20:45", "ready by anchor + 845"][..]),
+        ("ready by 1440", &["ready by 14:40", "ready by anchor + 1440"]),
+        ("ready by 2 days", &["ready by anchor + 2 days", "ready by 2026-11-19 24:00"]),
+        ("ready by 2:00 am", &["ready by 2026-11-17 2:00", "ready by 2026-11-18 2:00"]),
+        ("ready 8:40", &["ready = 8:40", "ready by 8:40", "ready not before 8:40"]),
+        ("ready 8:40 am", &["ready = 08:40", "ready by 08:40", "ready not before 08:40"]),
+        ("ready exactly 8:40", &["ready = 8:40"]),
+        ("ready at least 8:40", &["ready not before 8:40"]),
+        ("ready at most 8:40", &["ready by 8:40"]),
+        ("ready by 8:45 or 9:00", &["ready by 8:45", "ready by 9:00"]),
+        ("leaves up to 10 after ready", &["leaves at most 10 after ready", "leaves 0 to 10 after ready"]),
+        ("leaves max 10 after ready", &["leaves at most 10 after ready", "leaves 0 to 10 after ready"]),
+        ("leaves not more than 10 after ready", &["leaves at most 10 after ready", "leaves 0 to 10 after ready"]),
+        ("ready at 9", &["ready = 9:00", "ready = 21:00"]),
+        ("ready from 8:40 to 8:45", &["ready not before 8:40 ; ready by 8:45"]),
+        ("ready 8:40 to 8:45", &["ready not before 8:40 ; ready by 8:45"]),
+        ("ready not before 8:40 by 8:45", &["ready not before 8:40 ; ready by 8:45"]),
+        ("leaves at least 35 and at most 40 after ready", &["leaves 35 to 40 after ready"]),
+        ("ready by Thu 9", &["ready by Thu 9:00", "ready by Thu 21:00"]),
+        ("ready, porter by 9:00", &["ready by 9:00 ; porter by 9:00"]),
+        (
+            "leaves before ready, porter",
+            &["leaves <= ready ; leaves <= porter", "leaves + 1 <= ready ; leaves + 1 <= porter"],
+        ),
+        ("ready between 9:00 and 8:40", &[]),
+        ("ready by about 9:00", &[]),
+        ("leaves soon after ready", &[]),
+    ] {
+        let read = read(&text("2026-11-17 8:00", line));
+        let shown: Vec<String> =
+            mistakes(&read).iter().flat_map(|mistake| &mistake.fixes).map(|fix| fix.lines.join(" ; ")).collect();
+        assert_eq!(shown, readings, "{line}: {:?}", read.remarks);
+    }
+    let dates = read("moments: a\nanchor: 05.06.2027 9:00\nspan: from anchor to a\n");
+    let shown: Vec<_> = mistakes(&dates)[0].fixes.iter().map(|fix| fix.lines.concat()).collect();
+    assert_eq!(shown, ["anchor: 2027-06-05 9:00", "anchor: 2027-05-06 9:00"]);
+}
+
+/// Opening hours: what means one thing is read, and what does not shows what it can be.
+#[test]
+fn opening_hours_of_the_night_and_of_several_days() {
+    for (line, readings) in [
+        ("open: Friday 22:00-6:00", &["open: Friday 22:00-24:00, Saturday 0:00-6:00"][..]),
+        ("open: Mon-Sun 22:00-6:00", &["open: Monday to Sunday 22:00-24:00, Monday to Sunday 0:00-6:00"]),
+        (
+            "open: Mon-Fri 7:00-6:00",
+            &["open: Monday to Friday 7:00-24:00, Tuesday to Saturday 0:00-6:00", "open: Monday to Friday 7:00-18:00"],
+        ),
+        ("open: Mon-Fri 7:00-0:00", &["open: Monday to Friday 7:00-24:00"]),
+        ("open: 7:00-18:00", &["open: daily 7:00-18:00", "open: Monday to Friday 7:00-18:00"]),
+        ("open: weekdays 7:00-18:00", &["open: Monday to Friday 7:00-18:00", "open: Monday to Saturday 7:00-18:00"]),
+    ] {
+        asks("Fri 9:00", line, readings);
+    }
+    let windows = |line: &str| {
+        let read = read(&text("Fri 9:00", line));
+        let sheet = read.sheet.unwrap_or_else(|| panic!("{line}: {:?}", read.remarks));
+        sheet.week.iter().map(|window| (window.opening, window.closing)).collect::<Vec<_>>()
+    };
+    assert_eq!(windows("open: daily 7:00-18:00"), windows("open: Monday to Sunday 7:00-18:00"));
+    assert_eq!(windows("open: Monday, Friday 9:00-12:00"), windows("open: Monday 9:00-12:00, Friday 9:00-12:00"));
+    assert_eq!(
+        windows("open: Mon and Tue 7:00-12:00, 13:00-18:00"),
+        windows("open: Mon-Tue 7:00-12:00, Mon-Tue 13:00-18:00")
+    );
 }

@@ -68,7 +68,7 @@ fn plans_without_the_span_s_start_do_not_count() {
     let out = answered("moments: one, two\none <= two\ntwo <= nothing\nspan: from two to one\n");
     assert!(
         out.contains("accepted none\n")
-            && out.contains("starts from, because of:\n  rule 2 (line 3): two <= nothing\n"),
+            && out.contains("starts from, because of:\n  rule 2 (line 3): two <= nothing (it leaves two out)\n"),
         "{out}"
     );
     let out = answered("moments: one, two\none <= nothing\nspan: from two to one\n");
@@ -101,9 +101,9 @@ fn no_span_is_told_with_the_rules_that_contradict_each_other() {
     assert_eq!(
         rules,
         [
-            "  rule 1 (line 2): anchor + 30 <= a",
-            "  rule 2 (line 3): a + 25 <= b",
-            "  rule 4 (line 5): b <= anchor + 54"
+            "  rule 1 (line 2): anchor + 30 <= a (its minutes count)",
+            "  rule 2 (line 3): a + 25 <= b (its minutes count)",
+            "  rule 4 (line 5): b <= anchor + 54 (its minutes count)"
         ]
     );
     let out = answered("moments: a\nanchor + 1 <= anchor\nspan: from anchor to a\n");
@@ -115,7 +115,7 @@ fn no_span_is_told_where_its_start_is_always_left_out() {
     let out = answered("moments: a, b\nanchor + 5 <= b\na <= nothing\nspan: from a to b\n");
     assert!(out.contains("accepted none"), "{out}");
     assert!(
-        out.contains("leaves out all that the span starts from, because of:\n  rule 2 (line 3): a <= nothing\n"),
+        out.contains("leaves out all that the span starts from, because of:\n  rule 2 (line 3): a <= nothing (it leaves a out)\n"),
         "{out}"
     );
 }
@@ -168,4 +168,69 @@ fn suspended_rules_are_sent_with_their_states() {
     let again = ward_reader::record::sheet(&bytes).expect("a record");
     assert_eq!(again.rules.iter().map(|rule| rule.in_force).collect::<Vec<_>>(), [true, false]);
     assert_eq!(ward_reader::record::sent(&again), [bytes]);
+}
+
+/// A rule of a quarrel says what it does there: its minutes count, or it only makes a moment happen.
+#[test]
+fn a_quarrel_says_what_each_rule_does() {
+    let out = answered("moments: a, b, c\nanchor <= b\nb + 25 <= c\nc <= b + 20\nspan: from anchor to a\n");
+    for line in [
+        "  rule 1 (line 2): anchor <= b (it only makes b happen)\n",
+        "  rule 2 (line 3): b + 25 <= c (its minutes count)\n",
+        "  rule 3 (line 4): c <= b + 20 (its minutes count)\n",
+    ] {
+        assert!(out.contains(line), "{out}");
+    }
+    let text = "moments: a, b, c\nanchor <= a\na <= b\nb + 25 <= c\nc <= b + 20\nspan: from anchor to a\n";
+    let out = answered(text);
+    assert!(out.contains("rule 2 (line 3): a <= b (it only makes b happen when a does)\n"), "{out}");
+    let page = ward(&["--html", "-"], text).out;
+    assert!(page.contains("rule 1, line 2: it only makes a happen</span>"), "{page}");
+    assert!(ward(&["--json", "-"], text).out.contains("\"it only makes a happen\""));
+}
+
+/// An answer says which plans count: those that have somebody of the group that the span starts from.
+#[test]
+fn an_answer_says_which_plans_count() {
+    let text =
+        |span: &str| format!("moments: a, \"bed 4\"\nanchor <= a\na <= \"bed 4\" + 10\n\"bed 4\" <= a\n{span}\n");
+    for (span, words) in [
+        ("span: from anchor to a", "No plan that keeps the rules has a smaller one."),
+        ("span: from later of anchor, a to a", "No plan that keeps the rules has a smaller one."),
+        ("span: from a to \"bed 4\"", "No plan that keeps the rules and has a in it has a smaller one."),
+        ("span: from \"bed 4\" to a", "No plan that keeps the rules and has \"bed 4\" in it has a smaller one."),
+        (
+            "span: from later of a, \"bed 4\" to a",
+            "No plan that keeps the rules and has a or \"bed 4\" in it has a smaller one.",
+        ),
+        ("span: from a to anchor", "some plan that keeps the rules and has a in it has a smaller one."),
+    ] {
+        let out = answered(&text(span));
+        assert!(out.contains(words), "{span}: {out}");
+        let page = ward(&["--html", "-"], text(span)).out;
+        assert!(page.contains(&words.replace('"', "&quot;")), "{span}: {page}");
+    }
+}
+
+/// A span below 0 is told in words.
+#[test]
+fn a_span_below_0_is_explained() {
+    let out = answered("moments: a, b, c\na - 70 <= b\nspan: from a to b\nspan: from later of a, c to b\n");
+    assert!(out.contains("It is below 0: b is 70 minutes (1:10) before a.\n"), "{out}");
+    let text = "moments: a, b, c\nc <= a - 5\na - 10 <= b\nspan: from later of a, c to b\n";
+    assert!(answered(text).contains("It is below 0: b is 10 minutes before the last of a, c.\n"));
+    assert!(ward(&["--html", "-"], text).out.contains("It is below 0: b is 10 minutes before the last of a, c."));
+    assert!(!answered("moments: a\nanchor + 5 <= a\nspan: from anchor to a\n").contains("below 0"));
+}
+
+/// Signs at the ends of a timeline are in its legend, where they stand.
+#[test]
+fn the_legend_has_the_signs_of_the_ends() {
+    let open = "moments: a, b\nanchor + 5 <= a\na <= b\nspan: from anchor to a\n";
+    let out = answered(open);
+    assert!(out.contains("▸ and further than is shown\n") && !out.contains("◂ ▸"), "{out}");
+    assert!(ward(&["--html", "-"], open).out.contains("and further than is shown"));
+    assert!(ward(&["--plain", "-"], open).out.contains("> and further than is shown"));
+    let held = "moments: a\na = anchor + 5\nspan: from anchor to a\n";
+    assert!(!answered(held).contains("further") && !ward(&["--html", "-"], held).out.contains("further"));
 }

@@ -134,8 +134,9 @@ fn csv_has_a_line_a_moment() {
     assert_eq!((lines.len(), lines[1][4].as_str(), lines[1].len()), (2, "accepted bottomless", 12), "{out}");
     let out = ward(&["--csv", "-"], "moments: a\nanchor + 5 <= a\na <= anchor + 4\nspan: from anchor to a\n").out;
     let lines: Vec<Vec<String>> = out.lines().map(cells).collect();
-    let named = "others: rule 1 (line 2): anchor + 5 <= a; rule 2 (line 3): a <= anchor + 4";
-    assert!(lines[1].len() == 12 && lines[1][10].ends_with(named), "{out}");
+    let count = "(its minutes count)";
+    let named = format!("others: rule 1 (line 2): anchor + 5 <= a {count}; rule 2 (line 3): a <= anchor + 4 {count}");
+    assert!(lines[1].len() == 12 && lines[1][10].ends_with(&named), "{out}");
 }
 
 /// The last cell of a line is the answer that the text expects, where it is another.

@@ -201,7 +201,7 @@ fn random_texts_go_there_and_back() {
     }
 }
 
-/// A random record: of kind 1, of kind 3 with several questions, or of kind 5 with suspended rules.
+/// A random record: of kind 1, of kind 3 with one question or several, or of kind 5 with suspended rules or none.
 fn random_record(random: &mut Random) -> Vec<u8> {
     let (n, m) = (random.below(32), random.below(64));
     let side = |random: &mut Random| -> Vec<i32> {
@@ -215,16 +215,15 @@ fn random_record(random: &mut Random) -> Vec<u8> {
         }
         [left, right].concat()
     };
-    let questions = 1 + random.below(8) * random.below(2);
+    let kind = [1, 3, 5][random.below(3)];
+    let questions = if kind == 3 { 1 + random.below(8) * random.below(2) } else { 1 };
     let rows: Vec<Vec<i32>> = (0..m + questions).map(|place| row(random, place < m)).collect();
-    let record = put_together(n, m, questions, &rows);
-    if questions > 1 || m == 0 || random.chance(1, 2) {
-        return record;
-    }
-    // Kind 5 has a state a rule behind the counts; one rule at least is suspended.
-    let off = random.below(m);
-    let states: Vec<u8> = (0..m).flat_map(|place| [(place != off && random.chance(2, 3)) as u8, 0]).collect();
-    let body = [&[5, 0], &record[6..10], &states, &record[10..]].concat();
+    let mut numbers = vec![kind, n, m];
+    numbers.extend((kind == 3).then_some(questions));
+    let all = random.chance(1, 3);
+    numbers.extend((0..m).filter(|_| kind == 5).map(|_| (all || random.chance(2, 3)) as usize).collect::<Vec<_>>());
+    let mut body: Vec<u8> = numbers.iter().flat_map(|&number| (number as u16).to_le_bytes()).collect();
+    body.extend(rows.iter().flatten().flat_map(|lead| lead.to_le_bytes()));
     [&(body.len() as u32).to_le_bytes()[..], &body].concat()
 }
 
@@ -233,6 +232,7 @@ fn random_record(random: &mut Random) -> Vec<u8> {
 fn random_records_go_there_and_back() {
     let mut random = Random::new(227);
     let mut kinds = [0; 6];
+    let mut told = [0; 2];
     for number in 0..500 {
         let record = random_record(&mut random);
         kinds[usize::from(record[4])] += 1;
@@ -241,6 +241,9 @@ fn random_records_go_there_and_back() {
         let read = ward_reader::read(text.as_bytes(), &clock());
         let sheet = read.sheet.unwrap_or_else(|| panic!("{:?}\n{text}", read.remarks));
         assert_eq!(record::sent(&sheet), std::slice::from_ref(&record), "{text}");
+        assert_eq!(crate::second::record(&text).as_ref(), Some(&record), "{text}");
+        told[0] += text.contains("record: with a count of its spans\n") as usize;
+        told[1] += text.contains("record: with the state of each rule\n") as usize;
         if number % 10 == 0 {
             let told = ward(&["text", "-"], record::hex(&record));
             assert_eq!((told.status, told.out.as_str()), (Some(0), text.as_str()), "{told:?}");
@@ -248,6 +251,24 @@ fn random_records_go_there_and_back() {
         }
     }
     assert!([1, 3, 5].iter().all(|&kind| kinds[kind] >= 80), "{kinds:?}");
+    assert!(told.iter().all(|&count| count >= 30), "{told:?}");
+}
+
+/// A record whose form the line `record:` tells is answered as the shorter one is.
+#[test]
+fn the_form_of_a_record_changes_no_answer() {
+    let text = "moments: bed\nanchor + 30 <= bed\nspan: from anchor to bed\nexpect: least 30\n";
+    for (line, kind) in
+        [("", 1), ("record: with a count of its spans\n", 3), ("record: with the state of each rule\n", 5)]
+    {
+        let text = format!("{line}{text}");
+        assert_eq!(ward(&["-"], &text).status, Some(0), "{text}");
+        assert_eq!(ward(&["record", "-"], &text).out[8..12], format!("{kind:02X}00"), "{text}");
+    }
+    let told = ward(&["check", "-"], format!("record: with a count of its spans\nsuspended: anchor <= bed\n{text}"));
+    assert!(told.err.contains("no record has a count of its spans and suspended rules"), "{told:?}");
+    let told = ward(&["check", "-"], format!("record: short\n{text}"));
+    assert!(told.status == Some(1) && told.err.contains("record: with the state of each rule"), "{told:?}");
 }
 
 /// The limits that the messages name are the archive's.

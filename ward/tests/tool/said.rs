@@ -12,7 +12,11 @@ fn two_rules_of_a_line_are_told_together() {
     assert!(out.contains("  rule 4 (line 4): home = cleaned + 5, that is cleaned + 5 <= home\n"), "{out}");
     let text = format!("{text}home at least 46 after free\nspan: from free to home\n");
     let out = answered(&text);
-    assert!(out.contains("  rule 3 (line 3): cleaned 35 to 40 after free, that is cleaned <= free + 40\n"), "{out}");
+    let role = "(its minutes count)";
+    assert!(
+        out.contains(&format!("  rule 3 (line 3): cleaned 35 to 40 after free, that is cleaned <= free + 40 {role}\n")),
+        "{out}"
+    );
     let both = "moments: a, b\nb 35 to 40 after a\nanchor <= a\nspan: from a to b\n";
     let told = ward(&["--html", "-"], both);
     assert!(told.out.contains("b 35 to 40 after a, that is a + 35 &lt;= b"), "{told:?}");

@@ -197,9 +197,14 @@ pub fn record(text: &str) -> Option<Vec<u8>> {
         names.extend(line[1..].iter().filter(|part| *part != ",").map(|name| name.trim_start_matches('"').to_string()));
     }
     let (mut rules, mut states, mut spans) = (Vec::new(), Vec::new(), Vec::new());
+    let (mut counted, mut stated) = (false, false);
     for line in &lines {
         match line[0].to_lowercase().as_str() {
             "moments:" | "anchor:" | "expect:" | "open:" | "admits:" => {}
+            "record:" => {
+                counted |= line.iter().any(|part| part == "count");
+                stated |= line.iter().any(|part| part == "state");
+            }
             "span:" => {
                 let to = line.iter().position(|part| part.to_lowercase() == "to")?;
                 (line.get(1)?.to_lowercase() == "from").then_some(())?;
@@ -227,11 +232,11 @@ pub fn record(text: &str) -> Option<Vec<u8>> {
         }
     }
     let (n, m) = (names.len() - 1, rules.len());
-    if states.contains(&0) {
+    if states.contains(&0) || stated {
         let head = [&[5, n, m], &states[..]].concat();
         return Some(spans.iter().flat_map(|span| put_together(&head, rules.iter().chain([span]))).collect());
     }
-    let head = if spans.len() == 1 { vec![1, n, m] } else { vec![3, n, m, spans.len()] };
+    let head = if spans.len() == 1 && !counted { vec![1, n, m] } else { vec![3, n, m, spans.len()] };
     Some(put_together(&head, rules.iter().chain(&spans)))
 }
 
@@ -248,7 +253,7 @@ fn headed(mut line: Vec<String>) -> Vec<String> {
         let second = line.remove(1);
         line[0] += &second;
     }
-    let known = ["moments:", "span:", "expect:", "anchor:", "open:", "admits:", "suspended:"]
+    let known = ["moments:", "span:", "expect:", "anchor:", "open:", "admits:", "suspended:", "record:"]
         .into_iter()
         .find(|key| line[0].to_lowercase().starts_with(key));
     if let Some(key) = known.filter(|key| line[0].len() > key.len()) {
