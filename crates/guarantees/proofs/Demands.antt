@@ -73,8 +73,9 @@ module _ (solve : Solve) (check : Check) {left₀ right₀ : List ℕ} (readProb
   pub demands : Demands (engineOf solve) (checkerOf check) (problemReaderOf readProblem) (readerOf readAnswer) (writerOf writeAnswer) (programOf span) (programOf verdict)
   demands = record { first = demand-1; second = demand-2; third = demand-3; each-question = questions }
 
--- The release note: a quoted span is the smallest there is. Where the engine answers least with span s, some plan that keeps
--- the rules has span s, and every plan that keeps the rules, in blanks or whole minutes without limit, has at least that.
+-- The release note: a quoted span is the smallest there is. Where the engine answers least with span s, some plan that keeps the rules and
+-- has somebody of the group that the span starts from has span s, and every such plan, in blanks or whole minutes without limit, has at least
+-- that (document 02, 2.4).
 pub quoted-span-is-the-smallest :
     (engine : Engine) → EngineSolves engine → (p buffer : List ℕ) → Slice p → Slice buffer → WithinLayout (meant p) → answer-most ≤ length buffer
     → (s : ℤ) (trials size : ℕ) → engine .result p buffer ≡ answered class-optimal (fin s) trials size → Optimal (problemOf (meant p)) s
