@@ -75,17 +75,17 @@ module _ (s : System) where
   passes-falling : {τ τ′ : Strategy} {x x′ : Point} {failed : ℕ} → Passes s τ x failed τ′ x′ → Falling s τ x → Falling s τ′ x′
   passes-falling (Passes.none b) f = f
   passes-falling (Passes.once b p e) f = rows-falling p (omega arith) f
-  passes-falling (Passes.twice b p d e q) f = rows-falling q (omega arith) (rows-falling p (omega arith) f)
+  passes-falling (Passes.twice b p d e n q) f = rows-falling q (omega arith) (rows-falling p (omega arith) f)
 
   passes-lower : {τ τ′ : Strategy} {x x′ : Point} {failed : ℕ} → Passes s τ x failed τ′ x′ → Falling s τ x → (j : ℕ) → j < s .variables → x′ j ⊑ x j
   passes-lower {x = x} (Passes.none b) f j h = ⊑-refl (x j)
   passes-lower (Passes.once b p e) f j h = rows-lower p (omega arith) f j h
-  passes-lower (Passes.twice b p d e q) f j h = ⊑-trans (rows-lower q (omega arith) (rows-falling p (omega arith) f) j h) (rows-lower p (omega arith) f j h)
+  passes-lower (Passes.twice b p d e n q) f j h = ⊑-trans (rows-lower q (omega arith) (rows-falling p (omega arith) f) j h) (rows-lower p (omega arith) f j h)
 
   passes-dropped : {τ τ′ : Strategy} {x x′ : Point} {failed : ℕ} → Passes s τ x failed τ′ x′ → Falling s τ x → (failed ≡ 0 → ⊥) → Dropped s x x′
   passes-dropped (Passes.none b) f d = absurd (d refl)
   passes-dropped (Passes.once b p e) f d = rows-dropped p (omega arith) f d
-  passes-dropped (Passes.twice b p d e q) f _ =
+  passes-dropped (Passes.twice b p d e n q) f _ =
       let m = rows-dropped p (omega arith) f d in
       record { place = m .place; inside = m .inside; drops = λ b. m .drops (⊑-trans b (rows-lower q (omega arith) (rows-falling p (omega arith) f) (m .place) (m .inside))) }
 
@@ -93,13 +93,13 @@ module _ (s : System) where
       → (i : ℕ) → i < s .rows → RowStands s i x′
   passes-stand (Passes.none b) z d = absurd (d b)
   passes-stand (Passes.once b p e) z d = rows-stand p z
-  passes-stand (Passes.twice b p c e q) z d = rows-stand q z
+  passes-stand (Passes.twice b p c e n q) z d = rows-stand q z
 
   passes-values : {τ τ′ : Strategy} {x x′ : Point} {failed : ℕ} → Passes s τ x failed τ′ x′ → failed ≡ 0 → Falling s τ x → SamePoint s x (values s τ)
       → SamePoint s x′ (values s τ′)
   passes-values (Passes.none b) e f v = v
   passes-values (Passes.once b p d) e f v = falling-values s _ _ (rows-falling p (omega arith) f) (λ i j h k. rows-stand p e i h j k)
-  passes-values (Passes.twice b p d c q) e f v =
+  passes-values (Passes.twice b p d c n q) e f v =
       falling-values s _ _ (rows-falling q (omega arith) (rows-falling p (omega arith) f)) (λ i j h k. rows-stand q e i h j k)
 
   module _ {τ τ′ : Strategy} {x x′ : Point} {failed : ℕ} (policy : Policy s τ) (v : SamePoint s x (values s τ)) (p : Passes s τ x failed τ′ x′) where
@@ -191,15 +191,17 @@ module _ (s : System) where
       → SamePicks s τ σ → SamePoint s x y → One τ′ σ′ x′ y′ failed lost
   passes-one v (Passes.none b) (Passes.none c) t e = record { picks = t; point = e; count = refl }
   passes-one v (Passes.none b) (Passes.once c q k) t e = absurd (c (sym (e 0 v) ∙ b))
-  passes-one v (Passes.none b) (Passes.twice c q d k q′) t e = absurd (c (sym (e 0 v) ∙ b))
+  passes-one v (Passes.none b) (Passes.twice c q d k n q′) t e = absurd (c (sym (e 0 v) ∙ b))
   passes-one v (Passes.once b p h) (Passes.none c) t e = absurd (b (e 0 v ∙ c))
   passes-one v (Passes.once b p h) (Passes.once c q k) t e = rows-one p q refl t e
-  passes-one v (Passes.once b p h) (Passes.twice c q d k q′) t e =
-      let o = rows-one p q refl t e in absurd (⊎-elim (λ z. d (sym (o .count) ∙ z)) (λ z. k (sym (o .point 0 v) ∙ z)) h)
-  passes-one v (Passes.twice b p d h p′) (Passes.none c) t e = absurd (b (e 0 v ∙ c))
-  passes-one v (Passes.twice b p d h p′) (Passes.once c q k) t e =
-      let o = rows-one p q refl t e in absurd (⊎-elim (λ z. d (o .count ∙ z)) (λ z. h (o .point 0 v ∙ z)) k)
-  passes-one v (Passes.twice b p d h p′) (Passes.twice c q d′ h′ q′) t e =
+  passes-one v (Passes.once b p h) (Passes.twice c q d k n q′) t e =
+      let o = rows-one p q refl t e in
+      absurd (⊎-elim (λ z. d (sym (o .count) ∙ z)) (λ y. ⊎-elim (λ z. k (sym (o .point 0 v) ∙ z)) (λ z. n (λ j b. rw (← o .picks j b) (z j b))) y) h)
+  passes-one v (Passes.twice b p d h n p′) (Passes.none c) t e = absurd (b (e 0 v ∙ c))
+  passes-one v (Passes.twice b p d h n p′) (Passes.once c q k) t e =
+      let o = rows-one p q refl t e in
+      absurd (⊎-elim (λ z. d (o .count ∙ z)) (λ y. ⊎-elim (λ z. h (o .point 0 v ∙ z)) (λ z. n (λ j b. rw (o .picks j b) (z j b))) y) k)
+  passes-one v (Passes.twice b p d h n p′) (Passes.twice c q d′ h′ n′ q′) t e =
       let o = rows-one p q refl t e in rows-one p′ q′ refl (o .picks) (o .point)
 
   -- and of the iteration.

@@ -29,14 +29,18 @@ pub data RowsFall (s : System) (τ : Strategy) (x : Point) : ℕ → ℕ → Str
   falls : {n failed : ℕ} {τ′ τ″ : Strategy} {x′ x″ : Point} → RowsFall s τ x n failed τ′ x′ → (RowStands s n x′ → ⊥) → RowFalls s n τ′ x′ τ″ x″
       → RowsFall s τ x (suc n) (suc failed) τ″ x″
 
--- None, where variable 0 is blank; two passes over all rows; or one, if no row failed in it or variable 0 is blank after it. So many
--- rows failed in the last.
+-- No variable is without a pick. Then all values are blank.
+abbrev pub NoExit : System → Strategy → Type 0
+NoExit s τ = (j : ℕ) → j < s .variables → τ j < s .rows
+
+-- None, where variable 0 is blank; two passes over all rows; or one, if no row failed in it, variable 0 is blank after it, or no variable is
+-- left without a pick. So many rows failed in the last.
 pub data Passes (s : System) (τ : Strategy) (x : Point) : ℕ → Strategy → Point → Type 0 where
   none : x 0 ≡ bot → Passes s τ x 0 τ x
-  once : {failed : ℕ} {τ′ : Strategy} {x′ : Point} → (x 0 ≡ bot → ⊥) → RowsFall s τ x (s .rows) failed τ′ x′ → (failed ≡ 0) ⊎ (x′ 0 ≡ bot)
+  once : {failed : ℕ} {τ′ : Strategy} {x′ : Point} → (x 0 ≡ bot → ⊥) → RowsFall s τ x (s .rows) failed τ′ x′ → (failed ≡ 0) ⊎ ((x′ 0 ≡ bot) ⊎ NoExit s τ′)
       → Passes s τ x failed τ′ x′
   twice : {first failed : ℕ} {τ′ τ″ : Strategy} {x′ x″ : Point} → (x 0 ≡ bot → ⊥) → RowsFall s τ x (s .rows) first τ′ x′ → (first ≡ 0 → ⊥)
-      → (x′ 0 ≡ bot → ⊥) → RowsFall s τ′ x′ (s .rows) failed τ″ x″ → Passes s τ x failed τ″ x″
+      → (x′ 0 ≡ bot → ⊥) → (NoExit s τ′ → ⊥) → RowsFall s τ′ x′ (s .rows) failed τ″ x″ → Passes s τ x failed τ″ x″
 
 -- The iteration from one strategy to another: passes from its values, until no row fails in the last.
 pub data Iterates (s : System) : Strategy → Strategy → Type 0 where

@@ -23,7 +23,7 @@ use Rattle.duality.proofs.Iteration.{next-kept, next-lower, last-values, last-s
 use Rattle.records.specs.Decoded.{Near}
 use Rattle.policy_iteration.specs.Tables.{entryOf, systemOf, pointOf, pickOf, raised-limit, cap-limit, turn-limit, first-limit, value-limit, high, highs, Table, Ranged, Lows, Within, Caps, Tables}
 use Rattle.policy_iteration.specs.Rounds.{SideIs, ValuesIs}
-use Rattle.policy_iteration.specs.Steps.{Gives, givenBy, LoweredPlace, LoweredBy, Passing, Passed, Turned, Ended}
+use Rattle.policy_iteration.specs.Steps.{Gives, givenBy, LoweredPlace, LoweredBy, Passing, Passed, AllPicked, Turned, Ended}
 use Rattle.policy_iteration.proofs.Low.{high-zero, high-whole, high-blank, high-mono, high-strict, highs-at}
 use Rattle.policy_iteration.proofs.Small.{Small, near-small, near-abs, small-near, small-more, small-plus, small-difference, small-largest}
 use Rattle.policy_iteration.proofs.Rounds.{within-more, within-lows, level-ranged, level-lows, level-within}
@@ -224,21 +224,21 @@ module _ {left right lefts rights x picks : List ℕ} {width rows : ℕ} (p : Pa
       size = q .size;
     }
 
-    pub turned-once : (r ≡ 0) ⊎ (getD y 0 0 ≡ 0) → Turned left right width rows x picks y there r
+    pub turned-once : (r ≡ 0) ⊎ ((getD y 0 0 ≡ 0) ⊎ AllPicked there width rows) → Turned left right width rows x picks y there r
     turned-once e = record {
       size = q .size;
       within = within-more (omega (arith, p .tables .rows-most)) (q .within first-limit (p .within));
       picked = q .picked;
-      passes = λ caps. Passes.once (blank-not x d) (q .falls caps) (⊎-elim (λ z. inl z) (λ z. inr (blank-is y z)) e);
+      passes = λ caps. Passes.once (blank-not x d) (q .falls caps) (⊎-elim (λ z. inl z) (λ z. inr (⊎-elim (λ b. inl (blank-is y b)) (λ n. inr n) z)) e);
     }
 
-    pub turned-twice : {x′ picks′ : List ℕ} {failed : ℕ} → (r ≡ 0 → ⊥) → (getD y 0 0 ≡ 0 → ⊥) → Passed left right width rows rows y there x′ picks′ failed
+    pub turned-twice : {x′ picks′ : List ℕ} {failed : ℕ} → (r ≡ 0 → ⊥) → (getD y 0 0 ≡ 0 → ⊥) → (AllPicked there width rows → ⊥) → Passed left right width rows rows y there x′ picks′ failed
         → Turned left right width rows x picks x′ picks′ failed
-    turned-twice e f a = record {
+    turned-twice e f n a = record {
       size = a .size;
       within = within-more (omega (arith, p .tables .rows-most)) (a .within _ (q .within first-limit (p .within)));
       picked = λ j. then-picked (a .picked j) (q .picked j);
-      passes = λ caps. Passes.twice (blank-not x d) (q .falls caps) e (blank-not y f) (a .falls caps);
+      passes = λ caps. Passes.twice (blank-not x d) (q .falls caps) e (blank-not y f) n (a .falls caps);
     }
 
 -- ---- the iteration

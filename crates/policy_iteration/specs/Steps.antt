@@ -94,6 +94,10 @@ pub record Passed (left right : List ℕ) (width rows n : ℕ) (x picks x′ pic
   pub picked : (j : ℕ) → (pickOf picks′ j < rows) ⊎ (pickOf picks′ j ≡ pickOf picks j)
   pub falls : (caps : List ℕ) → RowsFall (systemOf left right caps width rows) (pickOf picks) (pointOf (highs x)) n failed (pickOf picks′) (pointOf (highs x′))
 
+-- Every variable picks a row.
+abbrev pub AllPicked : List ℕ → ℕ → ℕ → Type 0
+AllPicked picks width rows = (j : ℕ) → j < width → pickOf picks j < rows
+
 -- The same of passes over all rows.
 pub record Turned (left right : List ℕ) (width rows : ℕ) (x picks x′ picks′ : List ℕ) (failed : ℕ) : Type 0 where
   pub size : length picks′ ≡ stride

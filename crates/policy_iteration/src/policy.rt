@@ -3,10 +3,11 @@
 ghost use mathlib.Core.Path.{_≡_};
 ghost use Prim.Native.Nat.{_+_, _-_, _*_, _/_, _%_, _<_, _≤_};
 ghost use lib.ListN.{length};
+ghost use Rattle.base.specs.Decides.{Decides};
 ghost use Rattle.definitions.specs.Limits.{stride, table-rows};
 ghost use Rattle.policy_iteration.specs.Tables.{systemOf, turn-limit, first-limit, side-most, side-least, high, highs, Caps, Tables};
 ghost use Rattle.policy_iteration.specs.Ends.{wide, RowEnds, EndsOf};
-ghost use Rattle.policy_iteration.specs.Steps.{Gives, lesser, chosenBy, Lowering, LoweredOne, LoweredAll, LoweredBy, Passing, Passed, Turned, Ended};
+ghost use Rattle.policy_iteration.specs.Steps.{Gives, lesser, chosenBy, Lowering, LoweredOne, LoweredAll, LoweredBy, Passing, Passed, AllPicked, Turned, Ended};
 use crate::ends::WIDE;
 use crate::values::HALF;
 use crate::values::LOW;
@@ -155,7 +156,23 @@ fn pass(
     failed
 }
 
-// Two passes, or one in which no row failed, or after which variable 0 is blank: no later pass changes that. None where it is already.
+// Whether no variable is without a pick: then all values are blank.
+fn no_exit(picks: &[u32; STRIDE], width: usize, rows: usize) -> bool
+    requires { ⌜ (length (now picks) ≡ stride) × (width ≤ stride) ⌝ }
+    ensures { λ r. ⌜ Decides (AllPicked (now (picks .entry)) width rows) r ⌝ }
+{
+    let mut j = 0;
+    while j < width {
+        if rows <= index(picks[j]) {
+            return false;
+        }
+        j += 1;
+    }
+    true
+}
+
+// Two passes; or one in which no row failed, or after which variable 0 is blank or no variable is without a pick: no later pass changes
+// that. None where variable 0 is blank already.
 fn passes(
     left: &[u32; TABLE],
     right: &[u32; TABLE],
@@ -177,6 +194,9 @@ fn passes(
         return failed;
     }
     if x[0] == 0 {
+        return failed;
+    }
+    if no_exit(picks, width, rows) {
         return failed;
     }
     pass(left, right, lefts, rights, x, picks, width, rows)

@@ -1,9 +1,9 @@
 // Mark bytes compared, eight to a word (document 02, 2.3).
 ghost use mathlib.Core.Path.{_≡_};
-ghost use Prim.Native.Nat.{_+_, _*_, _≤_};
+ghost use Prim.Native.Nat.{_+_, _*_, _≤_, _<_};
 ghost use lib.ListN.{length};
 ghost use Rattle.definitions.specs.Bytes.{numAt};
-ghost use Rattle.definitions.specs.Marks.{MarksCompared};
+ghost use Rattle.definitions.specs.Marks.{DifferBelow, MarksCompared};
 use records::bytes::word_in;
 use records::limits::FULL;
 
@@ -33,6 +33,21 @@ fn words_differ(old: &[u8], new: &[u8], words: usize) -> bool
     false
 }
 
+// Whether two lists, the same up to a place, differ in some byte from there on: fewer than eight are left.
+fn rest_differs(old: &[u8], new: &[u8], from: usize, count: usize) -> bool
+    requires { ⌜ (count ≤ length (now old)) × (count ≤ length (now new)) × (from ≤ count) × (count < from + 8) × (DifferBelow from (now old) (now new) → ⊥) ⌝ }
+    ensures { λ r. ⌜ MarksCompared count (now (old .entry)) (now (new .entry)) r ⌝ }
+{
+    let mut k = from;
+    while 0 < count - k {
+        if old[k] != new[k] {
+            return true;
+        }
+        k += 1;
+    }
+    false
+}
+
 // Whether two lists differ in some byte of their first `count`: word by word, then byte by byte where fewer than eight are left.
 // Public for `reach` and `capi::marks`.
 pub fn marks_differ(old: &[u8], new: &[u8], count: usize) -> bool
@@ -43,12 +58,5 @@ pub fn marks_differ(old: &[u8], new: &[u8], count: usize) -> bool
     if words_differ(old, new, words) {
         return true;
     }
-    let mut k = WORD * words;
-    while 0 < count - k {
-        if old[k] != new[k] {
-            return true;
-        }
-        k += 1;
-    }
-    false
+    rest_differs(old, new, WORD * words, count)
 }

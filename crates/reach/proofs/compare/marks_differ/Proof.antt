@@ -1,32 +1,15 @@
-use Prim.Native.Nat.{_-_, _≤_}
 use native.Mathlib.Omega.{arith}
 use borrow.Author.Needs.{needs}
-use Rattle.definitions.specs.Marks.{DifferBelow}
-use Rattle.definitions.proofs.Marks.{differ-more, differ-here, same-byte, says-yes, says-no, told-yes, told-no}
+use Rattle.definitions.proofs.Marks.{differ-more, says-yes, told-yes, told-no}
 use Rattle.reach.proofs.compare.marks_differ.Statement.{statement}
 use Rattle.reach.proofs.compare.marks_differ.Tie as tie
-
-abbrev Inv-loop : tie.InvT-loop
-Inv-loop old new count words k₀ k = (k ≤ count) × (DifferBelow k old new → ⊥)
-
-abbrev μ-loop : tie.MeasureT-loop
-μ-loop old new count words k₀ k = count - k
 
 pub marks-differ-spec : {M : Type 1} → statement M
 marks-differ-spec =
     tie.close
     (tie.spec
-    Inv-loop
-    μ-loop
     (λ c κs. search needs)
     (λ c. says-yes (differ-more (omega arith) (told-yes (c .before .words-differ .ensures) (c .if1 .taken))))
     (λ c. search needs)
-    (λ c. (omega arith, λ d. told-no (c .before .words-differ .ensures) (c .if1 .left) (differ-more (omega arith) d)))
-    (λ c. search needs)
-    (λ c. search needs)
-    (λ c. search needs)
-    (λ c. says-yes (differ-here (omega arith) (c .if2 .taken)))
-    (λ c. search needs)
-    (λ c. search needs)
-    (λ c. (omega arith, same-byte (c .before .before .before .before .loop .inv .1) (c .if2 .left)))
-    (λ c. says-no (λ d. c .before .loop .inv .1 (differ-more (omega arith) d))))
+    (λ c κs. (search needs, search needs, omega arith, omega arith, λ d. told-no (c .before .words-differ .ensures) (c .if1 .left) (differ-more (omega arith) d)))
+    (λ c. search needs))
