@@ -14,4 +14,5 @@ pub mod WrongPrograms
 pub mod Reached
 pub mod Solvable
 pub mod DeskGoes
+pub mod DeskCalls
 pub mod Inhabited
