@@ -14,5 +14,6 @@ pub mod WrongPrograms
 pub mod Reached
 pub mod Solvable
 pub mod DeskGoes
+pub mod DeskCalls
 pub mod Inhabited
 pub mod OneAnswer

@@ -2,3 +2,4 @@ pub mod Entries
 pub mod OwnAnswers
 pub mod Pipe
 pub mod ClassHolds
+pub mod DeskCalls

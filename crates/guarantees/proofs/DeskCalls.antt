@@ -1,0 +1,386 @@
+-- The laws of the desk hold of the code's calls, one after another since an opening.
+use Prim.Native.Nat.{ℕ, zero, suc, _+_, _-_, _≤_, _<_}
+use mathlib.Core.Path.{_≡_, refl, sym, ap, ap₂, subst, _∙_}
+use mathlib.Core.Bool.{cond, false≢true}
+use mathlib.Core.Logic.{_⊎_, inl, inr, ⊎-elim}
+use mathlib.Core.List.{List, [], _∷_, _++_, append-assoc}
+use native.Mathlib.Omega.{arith}
+use native.Mathlib.Decide.{ℕ-discrete}
+use lib.Dec.{eqb}
+use lib.ListN.{length}
+use borrow.Author.Tests.{eq-eqb, ne-eqb}
+use Rattle.definitions.specs.Limits.{most-trials, desk-steps, answer-most, questions-kind}
+use Rattle.definitions.specs.Tropical.{Trop}
+use Rattle.definitions.specs.ProblemRecord.{AsksOne, WithinLayout, kindField, problemOf, meant, nField, mField}
+use Rattle.definitions.specs.AnswerRecord.{Answer, answerSize, answerBytes, written}
+use Rattle.definitions.specs.Solved as Results
+use Rattle.definitions.specs.Solved.{Found, Answers, Solves, solved, all-solved, answered, engineRefusal}
+use Rattle.definitions.specs.Verdict.{accepted}
+use Rattle.definitions.specs.Demands.{Slice, Checker, CheckerJudges}
+use Rattle.definitions.specs.Desk as Machine
+use Rattle.definitions.specs.Desk.{Desk, Stands, FromOpening, WithinDesk, TakesIn, Steps, Collects, Run, nothing, take-in, one-step, collect, one-more, last-one}
+use Rattle.definitions.specs.DeskLaws.{Reported, turn, turns, SomeGiven}
+use Rattle.definitions.proofs.Layouts.{desk-within, problem-fits, within-asks}
+use Rattle.definitions.proofs.RoundTrip.{answer-length}
+use Rattle.definitions.proofs.Solved.{answer-takes, one-refused}
+use Rattle.duality.proofs.Classes.{found-one}
+use Rattle.duality.proofs.SmallLeads.{layout-within}
+use Rattle.tickets.proofs.Reported.{run-on}
+use Rattle.tickets.proofs.Holds.{desk-holds}
+use Rattle.engine.specs.declared.one_trial.Pending.{Pending}
+use Rattle.engine.specs.OneTrial.{PendingFor, AnsweredFor, answerWith}
+use Rattle.engine.specs.Outcome.{Gives, Writes, SolvedAs}
+use Rattle.engine.proofs.One.{gives-one}
+use Rattle.lent_desk.specs.Entries.{Tells, done-number, handedNumber}
+use Rattle.lent_desk.specs.Sequence.{Seen, took-in, stepped, collected, Calls, SinceOpening, Report, taking-in, stepping, collecting, reports, SeenAs, AllSeen}
+use Rattle.lent_desk.proofs.Sequence.{cut, Standing, opened-standing, TookNext, took-next, HandedNext, collected-next, RunsOn, calls-run}
+use Rattle.guarantees.specs.DeskCalls.{sum, oneStep, oneTrial, oneTicket, AnsweredIn, TakenWith, TakenBoth, CollectedWith, HandedOver, DeskCalls, TrialCalls, LeadTo, TrialsMeet}
+use Rattle.guarantees.proofs.Engine.{accepts-it, within-itself}
+use Rattle.guarantees.proofs.Solvable.{answer-exists}
+
+-- ---- what a caller counts is what the machine reports
+
+total : (Report → ℕ) → List Report → ℕ
+total f [] = 0
+total f (r ∷ told) = f r + total f told
+
+total-then : (f : Report → ℕ) (told : List Report) (r : Report) → total f (told ++ (r ∷ [])) ≡ total f told + f r
+unfolding total
+total-then f [] r = omega arith
+total-then f (x ∷ told) r = omega (arith, total-then f told r)
+
+sum-total : (f : Seen → ℕ) (g : Report → ℕ) → ((x : Seen) (r : Report) → SeenAs x r → f x ≡ g r) → {seen : List Seen} {told : List Report} → AllSeen seen told → sum f seen ≡ total g told
+unfolding sum total
+sum-total f g same AllSeen.none = refl
+sum-total f g same (AllSeen.more s all) = ap₂ _+_ (same _ _ s) (sum-total f g same all)
+
+sum-append : (f : Seen → ℕ) (xs ys : List Seen) → sum f (xs ++ ys) ≡ sum f xs + sum f ys
+unfolding sum
+sum-append f [] ys = omega arith
+sum-append f (x ∷ xs) ys = omega (arith, sum-append f xs ys)
+
+-- Steps.
+stepBy : Report → ℕ
+stepBy (taking-in p r) = 0
+stepBy (stepping r) = 1
+stepBy (collecting number before r after) = 0
+
+step-same : (x : Seen) (r : Report) → SeenAs x r → oneStep x ≡ stepBy r
+unfolding oneStep stepBy
+step-same x r SeenAs.ticket = refl
+step-same x r (SeenAs.not-taken h) = refl
+step-same x r SeenAs.idle = refl
+step-same x r (SeenAs.tried t) = refl
+step-same x r (SeenAs.not-collected h l) = refl
+step-same x r SeenAs.still-waits = refl
+step-same x r (SeenAs.handed h) = refl
+
+run-steps : {n k : ℕ} {d e : Desk} (run : Run Gives n d k e) → total stepBy (reports run) ≡ k
+unfolding reports total stepBy
+run-steps nothing = refl
+run-steps (take-in run t) = total-then stepBy (reports run) _ ∙ (let e = run-steps run in omega arith)
+run-steps (one-step run t) = total-then stepBy (reports run) _ ∙ (let e = run-steps run in omega arith)
+run-steps (collect run t) = total-then stepBy (reports run) _ ∙ (let e = run-steps run in omega arith)
+
+-- Trials of a ticket.
+trialBy : ℕ → Report → ℕ
+trialBy ticket (taking-in p r) = 0
+trialBy ticket (stepping r) = turn ticket r
+trialBy ticket (collecting number before r after) = 0
+
+trial-same : (ticket : ℕ) (x : Seen) (r : Report) → SeenAs x r → oneTrial ticket x ≡ trialBy ticket r
+unfolding oneTrial trialBy turn
+trial-same ticket x r SeenAs.ticket = refl
+trial-same ticket x r (SeenAs.not-taken h) = refl
+trial-same ticket x r SeenAs.idle = refl
+trial-same ticket x r (SeenAs.tried Tells.goes-on) = refl
+trial-same ticket x r (SeenAs.tried Tells.done) = refl
+trial-same ticket x r (SeenAs.not-collected h l) = refl
+trial-same ticket x r SeenAs.still-waits = refl
+trial-same ticket x r (SeenAs.handed h) = refl
+
+run-trials : (ticket : ℕ) {n k : ℕ} {d e : Desk} (run : Run Gives n d k e) → total (trialBy ticket) (reports run) ≡ turns ticket run
+unfolding reports total trialBy turns
+run-trials ticket nothing = refl
+run-trials ticket (take-in run t) = total-then (trialBy ticket) (reports run) _ ∙ (let e = run-trials ticket run in omega arith)
+run-trials ticket (one-step run t) = total-then (trialBy ticket) (reports run) _ ∙ (let e = run-trials ticket run in omega arith)
+run-trials ticket (collect run t) = total-then (trialBy ticket) (reports run) _ ∙ (let e = run-trials ticket run in omega arith)
+
+-- Tickets.
+ticketBy : Report → ℕ
+ticketBy (taking-in p (Machine.TakenIn.refused k)) = 0
+ticketBy (taking-in p (Machine.ticket told)) = 1
+ticketBy (stepping r) = 0
+ticketBy (collecting number before r after) = 0
+
+ticket-same : (x : Seen) (r : Report) → SeenAs x r → oneTicket x ≡ ticketBy r
+unfolding oneTicket ticketBy
+ticket-same x r SeenAs.ticket = refl
+ticket-same x r (SeenAs.not-taken {k = k} h) = rw (ne-eqb k 0 (λ e. omega arith)) refl
+ticket-same x r SeenAs.idle = refl
+ticket-same x r (SeenAs.tried t) = refl
+ticket-same x r (SeenAs.not-collected h l) = refl
+ticket-same x r SeenAs.still-waits = refl
+ticket-same x r (SeenAs.handed h) = refl
+
+taking-tickets : {n : ℕ} {d e : Desk} {p : List ℕ} (r : Machine.TakenIn) → TakesIn n d p r e → e .given ≡ d .given + ticketBy (taking-in p r)
+unfolding ticketBy
+taking-tickets (Machine.TakenIn.refused k) t = ap (λ (z : Desk). z .given) (desk-holds {Gives = Gives} .refused-still t) ∙ omega arith
+taking-tickets (Machine.ticket k) t = let h = desk-holds {Gives = Gives} .tickets-count t in omega (arith, h .0, h .1)
+
+run-tickets : {n k : ℕ} {d e : Desk} (run : Run Gives n d k e) → e .given ≡ d .given + total ticketBy (reports run)
+unfolding reports total ticketBy
+run-tickets nothing = omega arith
+run-tickets (take-in {p = p} {r = r} run t) = omega (arith, total-then ticketBy (reports run) (taking-in p r), run-tickets run, taking-tickets r t)
+run-tickets (one-step {r = r} run t) = omega (arith, total-then ticketBy (reports run) (stepping r), run-tickets run, desk-holds .steps-give-none t)
+run-tickets (collect {number = number} {before = before} {after = after} {r = r} run t) =
+    omega (arith, total-then ticketBy (reports run) (collecting number before r after), run-tickets run, desk-holds {Gives = Gives} .collecting-gives-none t)
+
+-- A ticket reported as answered.
+DoneIn : ℕ → List Report → Type 0
+DoneIn number [] = ⊥
+DoneIn number (r ∷ told) = (r ≡ stepping (Machine.done number)) ⊎ DoneIn number told
+
+done-still : (number : ℕ) (told : List Report) (r : Report) → DoneIn number told → DoneIn number (told ++ (r ∷ []))
+unfolding DoneIn
+done-still number [] r h = absurd h
+done-still number (x ∷ told) r h = ⊎-elim (λ e. inl e) (λ g. inr (done-still number told r g)) h
+
+done-last : (number : ℕ) (told : List Report) (r : Report) → r ≡ stepping (Machine.done number) → DoneIn number (told ++ (r ∷ []))
+unfolding DoneIn
+done-last number [] r e = inl e
+done-last number (x ∷ told) r e = inr (done-last number told r e)
+
+run-done : (number : ℕ) {n k : ℕ} {d e : Desk} (run : Run Gives n d k e) → Reported number run → DoneIn number (reports run)
+unfolding reports Reported
+run-done number nothing h = absurd h
+run-done number (take-in run t) h = done-still number (reports run) _ (run-done number run h)
+run-done number (one-step run t) h = ⊎-elim (λ g. done-still number (reports run) _ (run-done number run g)) (λ e. done-last number (reports run) _ (ap stepping e)) h
+run-done number (collect run t) h = done-still number (reports run) _ (run-done number run h)
+
+done-same : {number : ℕ} {x : Seen} → SeenAs x (stepping (Machine.done number)) → x ≡ stepped done-number number
+done-same (SeenAs.tried Tells.done) = refl
+
+seen-done : (number : ℕ) {seen : List Seen} {told : List Report} → AllSeen seen told → DoneIn number told → AnsweredIn number seen
+unfolding DoneIn AnsweredIn
+seen-done number AllSeen.none h = absurd h
+seen-done number (AllSeen.more {x = x} s all) h = ⊎-elim (λ e. inl (done-same (subst (SeenAs x) e s))) (λ g. inr (seen-done number all g)) h
+
+-- ---- own trials
+
+module _ {n number : ℕ} {d e : Desk} {p : List ℕ} (o : FromOpening Gives n d) (t : TakesIn n d p (Machine.ticket number) e) where
+  -- A step that tells a ticket that waits: where it is this one, fewer than 24 did before.
+  told-most : {k i own : ℕ} {f : Desk} {problem : List ℕ} (run : Run Gives n e k f) (m : ℕ) → Stands f i (Machine.waits m problem own) → turns number run ≤ most-trials
+      → turns number run + cond (eqb m number) 1 0 ≤ most-trials
+  told-most {i = i} {own} {f} {problem} run m st few = go (ℕ-discrete m number)
+    where
+      go : Dec (m ≡ number) → turns number run + cond (eqb m number) 1 0 ≤ most-trials
+      go (yes same) =
+          let mine = subst (λ (z : ℕ). Stands f i (Machine.waits z problem own)) same st in
+          rw (eq-eqb m number same) (omega (arith, desk-holds .own-waiting o t run mine, desk-holds .own-trials (run-on o t run) mine))
+      go (no other) = rw (ne-eqb m number other) (omega arith)
+
+  turns-most : {k : ℕ} {f : Desk} (run : Run Gives n e k f) → turns number run ≤ most-trials
+  unfolding turns turn
+  turns-most nothing = omega arith
+  turns-most (take-in run u) = turns-most run
+  turns-most (one-step run (Steps.turned-away h)) = let few = turns-most run in omega arith
+  turns-most (one-step run (Steps.idle h l)) = let few = turns-most run in omega arith
+  turns-most (one-step run (one-more {number = m} h head st found more)) = told-most run m st (turns-most run)
+  turns-most (one-step run (last-one {number = m} h head st last ans gave)) = told-most run m st (turns-most run)
+  turns-most (collect run c) = turns-most run
+
+-- ---- a sequence cut at a taking-in
+
+record Taken (p : List ℕ) (ticket : ℕ) (earlier later : List Seen) : Type 0 where
+  size : ℕ
+  state : Desk
+  memory₁ : List ℕ
+  words₁ : List ℕ
+  memory₂ : List ℕ
+  words₂ : List ℕ
+  memory₃ : List ℕ
+  words₃ : List ℕ
+  before : RunsOn size Machine.opened earlier memory₁ words₁
+  took : TookNext size (before .as-run .state) p ticket memory₂ words₂
+  calls : Calls memory₂ words₂ later memory₃ words₃
+
+take-apart : {n ticket : ℕ} {p memory words memory₃ words₃ : List ℕ} {earlier later : List Seen} → RunsOn n Machine.opened earlier memory words
+    → Calls memory words (took-in p 0 ticket ∷ later) memory₃ words₃ → Taken p ticket earlier later
+take-apart {n} {memory = memory} {words} {memory₃} {words₃} r (Calls.take-in {memory₁ = memory₁} {words₁ = words₁} t calls) = record {
+  size = n;
+  state = r .as-run .state;
+  memory₁ = memory;
+  words₁ = words;
+  memory₂ = memory₁;
+  words₂ = words₁;
+  memory₃ = memory₃;
+  words₃ = words₃;
+  before = r;
+  took = took-next (r .standing) t;
+  calls = calls;
+}
+
+taken-apart : (earlier : List Seen) {p : List ℕ} {ticket : ℕ} {later : List Seen} → TakenWith p ticket earlier later → Taken p ticket earlier later
+taken-apart earlier s = let c = cut earlier (s .calls .calls) in take-apart (calls-run (opened-standing (s .calls .opening)) (c .before)) (c .after)
+
+module _ {p : List ℕ} {ticket : ℕ} {earlier later : List Seen} (s : TakenWith p ticket earlier later) where
+  apart : Taken p ticket earlier later
+  apart = taken-apart earlier s
+
+  -- The state before, and the run since.
+  from : FromOpening Gives (apart .size) (apart .before .as-run .state)
+  from = apart .before .standing .from-opening
+
+  since : RunsOn (apart .size) (apart .took .next) later (apart .memory₃) (apart .words₃)
+  since = calls-run (apart .took .standing) (apart .calls)
+
+  calls-own : sum (oneTrial ticket) later ≤ most-trials
+  calls-own =
+      let run = since .as-run .run in
+      omega (arith, sum-total (oneTrial ticket) (trialBy ticket) (trial-same ticket) (since .as-run .same), run-trials ticket run, turns-most from (apart .took .takes) run)
+
+  calls-within : desk-steps ≤ sum oneStep later → AnsweredIn ticket later
+  calls-within h =
+      let run = since .as-run .run in
+      let same = sum-total oneStep stepBy step-same (since .as-run .same) in
+      seen-done ticket (since .as-run .same) (run-done ticket run (desk-holds .steps-after from (apart .took .takes) run (omega (arith, same, run-steps run))))
+
+  calls-ticket : ticket ≡ suc (sum oneTicket earlier)
+  calls-ticket =
+      let before = apart .before .as-run in
+      omega (arith, sum-total oneTicket ticketBy ticket-same (before .same), run-tickets (before .run), desk-holds {Gives = Gives} .tickets-count (apart .took .takes) .0)
+
+calls-rise : {p q : List ℕ} {ticket other : ℕ} → TakenBoth p ticket q other → ticket < other
+unfolding sum oneTicket
+calls-rise {p} {q} {ticket} {other} b =
+    let whole = sym (append-assoc (b .earlier) (took-in p 0 ticket ∷ b .between) (took-in q 0 other ∷ b .later)) in
+    let again : TakenWith q other (b .earlier ++ (took-in p 0 ticket ∷ b .between)) (b .later) = record { calls = subst SinceOpening whole (b .taken .calls) } in
+    omega (arith, calls-ticket (b .taken), calls-ticket again, sum-append oneTicket (b .earlier) (took-in p 0 ticket ∷ b .between))
+
+-- ---- what `solve` writes for the problem alone
+
+result-found : {q before after : List ℕ} {r : Results.Solved} {class own : ℕ} {span : Trop} → Solves q before r after → AsksOne q → engineRefusal q (length before) ≡ 0 → Found (problemOf q) class span own
+    → r ≡ answered class span own (answerSize class (nField q) (mField q))
+result-found (Results.turned-away e) k h f = absurd (let z : suc _ ≡ 0 = sym e ∙ h in omega arith)
+result-found {q} (all-solved three e all) k h f = absurd (false≢true (sym k ∙ eq-eqb (kindField q) questions-kind three))
+result-found (solved a one e ans) k h f = let same = found-one (ans .found) f in rw (same .0, same .1, same .2) refl
+
+record-written : {q before after : List ℕ} {r : Results.Solved} {class own size : ℕ} {span : Trop} {a : Answer} → Writes q before r after → r ≡ answered class span own size → Gives q a
+    → after ≡ written before (answerBytes (nField q) a)
+record-written Writes.refused e g = absurd (let z : _≡_ {A = ℕ} 0 1 = cc in omega arith)
+record-written {q} {before} {a = a} (Writes.one {a = b} h) e g = ap (λ (x : Answer). written before (answerBytes (nField q) x)) (gives-one q b a h g)
+record-written (Writes.several t) e g = absurd (let z : _≡_ {A = ℕ} 0 1 = cc in omega arith)
+
+-- ---- what is collected
+
+-- The answer of the problem that the bytes mean, as a record at the buffer's start.
+record Handed (problem before : List ℕ) (class : ℕ) (span : Trop) (own : ℕ) (after : List ℕ) : Type 0 where
+  answer : Answer
+  within : WithinLayout problem
+  answers : Answers (problemOf problem) class span own answer
+  gives : Gives problem answer
+  few : own ≤ most-trials
+  buffer-is : after ≡ written before (answerBytes (nField problem) answer)
+
+collects-handed : {n number k class own size : ℕ} {span : Trop} {d e f g : Desk} {p before after : List ℕ} → FromOpening Gives n d → TakesIn n d p (Machine.ticket number) e → Run Gives n e k f
+    → Collects n f number before (Machine.collected class span own size) g after → Handed (meant p) before class span own after
+collects-handed {class = class} {own} {span = span} {before = before} {after} o t run (Collects.handed-over {problem = problem} {a = a} h st room) =
+    let v = desk-holds .answers-alone (run-on o t run) st in
+    subst (λ (z : List ℕ). Handed z before class span own after) (desk-holds .ticket-answered o t run st) (record {
+      answer = a;
+      within = desk-within problem (v .0);
+      answers = v .1;
+      gives = v .2;
+      few = desk-holds .trials-of-answered (run-on o t run) st;
+      buffer-is = refl;
+    })
+
+module _ (check : Checker) (judges : CheckerJudges check) where
+  handed-right : {p before after : List ℕ} {number class own : ℕ} {span : Trop} → number ≡ handedNumber class own → Handed (meant p) before class span own after → HandedOver check p before number after
+  handed-right {p} {class = class} {own} {span} e h =
+      let q = meant p in
+      let size : length (answerBytes (nField q) (h .answer)) ≡ answerSize class (nField q) (mField q) =
+      answer-length (h .answer) (nField q) (mField q) answer-most (answer-takes q (h .within) (h .answer) (h .answers)) ∙ ap (λ (c : ℕ). answerSize c (nField q) (mField q)) (h .answers .class-is) in
+      record {
+        class = class;
+        span = span;
+        own = own;
+        answer = h .answer;
+        bytes = answerBytes (nField q) (h .answer);
+        number-is = e;
+        few = h .few;
+        found = h .answers .found;
+        gives = h .gives;
+        bytes-are = refl;
+        size-is = size;
+        buffer-is = h .buffer-is;
+        accepted-is = λ slice. accepts-it check judges p slice (h .within) (h .answer) (h .answers);
+        solve-writes = λ {buffer} room s.
+            let k = within-asks q (h .within) in
+            let result = result-found (s .solves) k (one-refused q (length buffer) k .1 (h .within, room)) (h .answers .found) in
+            (result ∙ ap (answered class span own) (sym size), record-written (s .writes) result (h .gives));
+      }
+
+  collect-apart : {n ticket number k : ℕ} {d e f : Desk} {p before after memory words memory₃ words₃ : List ℕ} {later : List Seen} → FromOpening Gives n d → TakesIn n d p (Machine.ticket ticket) e
+      → Run Gives n e k f → Standing n f memory words → 256 ≤ number → Calls memory words (collected ticket before number after ∷ later) memory₃ words₃ → HandedOver check p before number after
+  collect-apart o t run s h (Calls.collect c calls) = let w = collected-next s h c in handed-right (w .number-is) (collects-handed o t run (w .collects))
+
+  calls-handed : {p before after : List ℕ} {ticket number : ℕ} → CollectedWith p ticket before number after → HandedOver check p before number after
+  calls-handed c =
+      let a = apart (c .taken) in
+      let t = cut (c .between) (a .calls) in
+      let r = calls-run (a .took .standing) (t .before) in
+      collect-apart (from (c .taken)) (a .took .takes) (r .as-run .run) (r .standing) (c .handed) (t .after)
+
+  -- Two answers of the same bytes.
+  same-handed : {p before after before′ after′ : List ℕ} {number number′ : ℕ} (h : HandedOver check p before number after) (g : HandedOver check p before′ number′ after′)
+      → (number ≡ number′) × (h .bytes ≡ g .bytes)
+  same-handed {p} h g =
+      let one = found-one (h .found) (g .found) in
+      let same = gives-one (meant p) (h .answer) (g .answer) (h .gives) (g .gives) in
+      (h .number-is ∙ ap₂ handedNumber (one .0) (one .2) ∙ sym (g .number-is), h .bytes-are ∙ ap (answerBytes (nField (meant p))) same ∙ sym (g .bytes-are))
+
+  pub desk-calls : DeskCalls check
+  desk-calls = record {
+    own-trials = calls-own;
+    within-steps = calls-within;
+    next-ticket = calls-ticket;
+    never-twice = calls-rise;
+    handed-over = calls-handed;
+    same-answer = λ c d. same-handed (calls-handed c) (calls-handed d);
+  }
+
+-- ---- the engine gives an answer for every problem that the desk takes
+
+module _ (calls : TrialCalls) (meet : TrialsMeet calls) (p : List ℕ) (slice : Slice p) where
+  answered-some : {q : Pending} → AnsweredFor (meant p) q → SomeGiven Gives (meant p)
+  answered-some a = record { class = _; span = _; trials = _; answer = _; answers = a .answers; gives = a .gives }
+
+  -- One trial: it is answered, or goes on.
+  next-some : (q : Pending) → LeadTo calls p q → PendingFor (meant p) q → (calls .trial p q .class ≡ 0 → SomeGiven Gives (meant p)) → Dec (calls .trial p q .class ≡ 0) → SomeGiven Gives (meant p)
+  next-some q led pending on (yes still) = on still
+  next-some q led pending on (no closed) = answered-some (meet .tries p q slice led pending .ends closed .0)
+
+  -- All trials that its class and span ask for.
+  tried-some : (fuel : ℕ) {class trials : ℕ} {span : Trop} → Found (problemOf (meant p)) class span trials → (q : Pending) → LeadTo calls p q → PendingFor (meant p) q → trials ≤ q .made + fuel → SomeGiven Gives (meant p)
+  tried-some zero {class} {trials} {span} found q led pending enough =
+      next-some q led pending (λ still. absurd (omega (arith, meet .tries p q slice led pending .goes-on still .more class trials span found))) (ℕ-discrete (calls .trial p q .class) 0)
+  tried-some (suc fuel) found q led pending enough = next-some q led pending
+      (λ still. let on = meet .tries p q slice led pending .goes-on still in tried-some fuel found (calls .trial p q) (LeadTo.tried led) (on .pending) (omega (arith, on .made-is)))
+      (ℕ-discrete (calls .trial p q .class) 0)
+
+  pub some-given : WithinDesk (meant p) → SomeGiven Gives (meant p)
+  unfolding problemOf
+  some-given w =
+      let own = desk-within (meant p) w in
+      let s = answer-exists (problemOf (meant p)) (problem-fits (meant p) own .n-most) (layout-within (meant p) own) in
+      let b = meet .begins p slice in
+      let none = b .refused-is ∙ w in
+      tried-some (s .trials) (s .answers .found) (calls .begin p .pending) LeadTo.begun (b .begun none) (omega arith)
+
+  -- So too for a record that the desk takes as it stands.
+  pub desk-given : WithinDesk p → SomeGiven Gives p
+  desk-given w =
+      let same = within-itself p (desk-within p w) in
+      subst (SomeGiven Gives) same (some-given (subst WithinDesk (sym same) w))
