@@ -1,16 +1,18 @@
 -- What the trials find by a look is the class and the least span of every problem in the tables.
-use Prim.Native.Nat.{ℕ, _-_, _<_}
+use Prim.Native.Nat.{ℕ, _+_, _-_, _<_}
 use mathlib.Core.Path.{subst}
+use mathlib.Core.Logic.{_↔_, ⊎-elim}
 use mathlib.Core.List.{List}
 use native.Mathlib.Omega.{arith}
 use lib.IntN.{ℤ}
-use Rattle.definitions.specs.Limits.{lead-limit, span-limit}
+use Rattle.base.proofs.Numbers.{nat-le-or-lt}
+use Rattle.definitions.specs.Limits.{signed-half, lead-limit, span-limit}
 use Rattle.definitions.specs.Problem.{Problem, Attainable}
 use Rattle.definitions.specs.Offset.{tropOf}
 use Rattle.definitions.specs.Solved as Solved
 use Rattle.definitions.proofs.Offset.{trop-zero, trop-fin}
 use Rattle.duality.proofs.Classes.{infeasible-exactly, unbounded-exactly, optimal-exactly}
-use Rattle.search.specs.Trials.{wholeOf, top-offset, lowest-offset, FoundBy}
+use Rattle.search.specs.Trials.{wholeOf, top-offset, lowest-offset, Trialled, PossibleBy, FoundBy}
 use Rattle.search.proofs.Trials.{least-trialled, below-trialled}
 use Rattle.look.specs.declared.greatest.Look.{Look}
 use Rattle.look.specs.Frames.{Coefficients, Held}
@@ -33,3 +35,14 @@ module _ {n m : ℕ} {left right : List ℕ} {l : Look} (c : Coefficients n m le
         subst (λ (t : ℤ). Attainable p t → ⊥) (below-whole span some)
             (blocked-unattainable p (wholeOf (span - 1)) (l .start) (pickOf (l .picks)) (look .decided p q .impossible (span - 1) (below-trialled h) (h .impossible))),
       )))
+
+  -- A trial says of t what document 01 means by possible.
+  pub looked-possible : (t : ℕ) → Trialled t → PossibleBy (l .second) t ↔ Attainable p (wholeOf t)
+  looked-possible t b = (
+    λ h. look .decided p q .possible t b h,
+    λ a. ⊎-elim
+        (λ (h : PossibleBy (l .second) t). h)
+        (λ (h : t + l .second < signed-half + signed-half).
+        absurd (blocked-unattainable p (wholeOf t) (l .start) (pickOf (l .picks)) (look .decided p q .impossible t b (λ z. omega arith)) a))
+        (nat-le-or-lt (signed-half + signed-half) (t + l .second)),
+  )

@@ -119,9 +119,10 @@ pub data Stepped : Type 0 where
   goes-on : ℕ → Stepped
   done : ℕ → Stepped
 
--- A step makes the next trial of the problem at the head of the line, and the state counts it. The problem's class and span give how many
+-- A step makes the next trial of the problem at the head of the line; the machine counts it, and which t is tried is the engine's (`OneTrial` there).
+-- The problem's class and span give how many
 -- trials it takes (1 for none, 2 for bottomless, 2 + the halvings for least): at the last of them it is answered and leaves the line, at
--- another it goes to the end of the line. The answer is one that the engine gives for the problem (`Gives`). The other places stay as they are.
+-- another it goes to the end of the line. The answer stands in the relation `Gives` with the problem. The other places stay as they are.
 pub data Steps (Gives : Giving) (memory : ℕ) (d : Desk) : Stepped → Desk → Type 0 where
   turned-away : {k : ℕ} → first (memoryRefused memory ∷ []) ≡ suc k → Steps Gives memory d (refused (suc k)) d
   idle : first (memoryRefused memory ∷ []) ≡ 0 → d .line ≡ [] → Steps Gives memory d none-waits d

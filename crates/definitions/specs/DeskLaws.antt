@@ -118,12 +118,12 @@ pub record DeskHolds (Gives : Giving) : Type 0 where
   pub answers-alone :
       {memory : ℕ} {d : Desk} → FromOpening Gives memory d → {i number class own : ℕ} {span : Trop} {problem : List ℕ} {a : Answer}
       → Stands d i (answered number problem class span own a) → WithinDesk problem × Answers (problemOf problem) class span own a × Gives problem a
-  -- "a problem's answer does not depend on the others": over two sequences the same problem has the same class, span, own trials and answer, where
-  -- the engine gives one answer for a problem;
+  -- "a problem's answer does not depend on the others": over two sequences the same problem has the same class, span and own trials, and the same
+  -- answer, as the engine gives one for a problem;
   pub independent :
-      {memory other : ℕ} {d e : Desk} → OneValued Gives → FromOpening Gives memory d → FromOpening Gives other e
+      {memory other : ℕ} {d e : Desk} → FromOpening Gives memory d → FromOpening Gives other e
       → {problem : List ℕ} {i k x y c z own trials : ℕ} {s t : Trop} {a b : Answer} → Stands d i (answered x problem c s own a)
-      → Stands e k (answered y problem z t trials b) → (c ≡ z) × (s ≡ t) × (own ≡ trials) × (a ≡ b)
+      → Stands e k (answered y problem z t trials b) → (c ≡ z) × (s ≡ t) × (own ≡ trials) × (OneValued Gives → a ≡ b)
   -- 23, "looked at first in every call", where the memory is too short; it changes nothing;
   pub short-taking : {memory : ℕ} {d e : Desk} {p : List ℕ} {r : TakenIn} → memory < desk-memory → TakesIn memory d p r e → (r ≡ refused refused-memory) × (e ≡ d)
   pub short-step : {memory : ℕ} {d e : Desk} {r : Stepped} → memory < desk-memory → Steps Gives memory d r e → (r ≡ refused refused-memory) × (e ≡ d)

@@ -1,4 +1,4 @@
--- The numbers of documents 01 and 02, each once for what it limits; those that follow from others are derived. (Refusals 14, 16, 18 and 19 are named in
+-- The numbers of documents 01 and 02, each once for what it limits; those that the papers derive from others are derived here too. (Refusals 14, 16, 18 and 19 are named in
 -- Verdict, Reasons, Hours and Week, and the two outer trials are counted in Bisection.)
 use Prim.Native.Nat.{ℕ, suc, _+_, _*_, _-_}
 use lib.IntN.{ℤ, pos, negsuc}

@@ -150,7 +150,7 @@ blank-left s i = runBlank s (suc (nField s)) (rowPlace (leadsPlace (kindField s)
 abbrev pub silentRefused : List ℕ → Bool
 silentRefused s = some-below (blank-left s) (mField s)
 
--- The first of refusals 1 to 5, 15, 20, 6 and 17 that applies to a problem, 0 where none does, in an entry that knows these kinds.
+-- The first of refusals 1 to 4, 15, 5, 20, 6 and 17 that applies to a problem, 0 where none does, in an entry that knows these kinds.
 unfoldable pub refusalFor : Kinds → List ℕ → ℕ
 refusalFor kinds s =
     or-else (headerRefusal kinds s (length s))

@@ -1,5 +1,5 @@
 -- Tropical numbers: minus infinity, which document 01 calls blank, or a whole number without limit.
--- Their sum, their order, the larger of two and the largest of a list (formula 1).
+-- Their ordinary sum (the tropical product), their order, the larger of two (the tropical sum) and the largest of a list (formula 1).
 use Prim.Native.Nat.{ℕ, zero, suc}
 use mathlib.Core.Bool.{cond}
 use mathlib.Core.Path.{_≡_}
@@ -11,7 +11,7 @@ pub data Trop : Type 0 where
   bot : Trop
   fin : ℤ → Trop
 
--- The sum: blank plus anything is blank.
+-- The ordinary sum: blank plus anything is blank.
 unfoldable pub plus : Trop → Trop → Trop
 plus bot y = bot
 plus (fin a) bot = bot

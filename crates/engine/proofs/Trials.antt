@@ -1,7 +1,7 @@
 -- One trial on the bytes of a problem: what is read, begun, looked at, tried and answered.
 use Prim.Native.Nat.{ℕ, _+_, _≤_, _<_}
 use mathlib.Core.Path.{_≡_, refl, sym, ap, _∙_}
-use mathlib.Core.Logic.{⊎-elim}
+use mathlib.Core.Logic.{⊎-elim, _↔_}
 use mathlib.Core.List.{List}
 use native.Mathlib.Omega.{arith}
 use native.Mathlib.Nat.{eq-zero-or-pos}
@@ -9,6 +9,7 @@ use lib.ListN.{length, getD, length-replicate}
 use Rattle.base.specs.Filled.{Filled}
 use Rattle.definitions.specs.Limits.{answer-most}
 use Rattle.definitions.specs.Tropical.{Trop}
+use Rattle.definitions.specs.Problem.{Attainable}
 use Rattle.definitions.specs.Bytes.{Bytes}
 use Rattle.definitions.specs.ProblemRecord.{desk-kinds, WithinLayout, problemOf, meant, nField, mField}
 use Rattle.definitions.specs.AnswerRecord.{answerSize, answerBytes, written}
@@ -25,7 +26,7 @@ use Rattle.records.specs.ProblemHeader.{problemRefused}
 use Rattle.problem_records.specs.Tables.{leftTable, rightTable}
 use Rattle.search.specs.declared.search.Found.{Found}
 use Rattle.search.specs.declared.steps.Search.{Search}
-use Rattle.search.specs.Trials.{FoundBy}
+use Rattle.search.specs.Trials.{FoundBy, wholeOf, Trialled, PossibleBy}
 use Rattle.search.specs.Underway.{class-open, foundOf, Underway, Tried}
 use Rattle.search.proofs.Trials.{finds}
 use Rattle.search.proofs.Underway.{start-underway, underway-more}
@@ -36,7 +37,7 @@ use Rattle.look.specs.Look.{Looked}
 use Rattle.look.proofs.Tables.{decoded-held}
 use Rattle.class_answers.specs.declared.answer.Answer.{Answer}
 use Rattle.class_answers.specs.Answered.{answerIn, AnswerOf}
-use Rattle.class_answers.proofs.Found.{looked-found}
+use Rattle.class_answers.proofs.Found.{looked-found, looked-possible}
 use Rattle.engine.specs.declared.one_trial.Pending.{Pending}
 use Rattle.engine.specs.Outcome.{FoundFor, Read, LayoutRead}
 use Rattle.engine.specs.Packing.{stampIn, pickAt, Packable, PackedCells}
@@ -147,6 +148,9 @@ module _ {s : List ℕ} {p : Pending} {k : Look} {z r : Search} (g : PendingFor 
   second-stays : 0 < p .made → k .second ≡ p .second
   second-stays h = ap (λ (z : Look). z .second) (l .stays h)
 
+  possible : (t : ℕ) → Trialled t → PossibleBy (k .second) t ↔ Attainable (problemOf s) (wholeOf t)
+  possible = looked-possible (stands-tables stands) (l .looked) (problemOf s) held
+
   -- A problem that goes on asks for more trials.
   more : r .class ≡ class-open → (class trials : ℕ) (span : Trop) → Definitions.Found (problemOf s) class span trials → p .made + 1 < trials
   more e class trials span found =
@@ -160,6 +164,7 @@ module _ {s : List ℕ} {p : Pending} {k : Look} {z r : Search} (g : PendingFor 
     m-same = refl;
     stays = second-stays;
     trial = t;
+    possible = possible;
     goes-on = λ _. record { pending = record { of = of k (l .looked .picks-size); underway = t .goes-on e; looked = λ _. l .looked }; made-is = t .trial .counted; more = more e };
     ends = λ d. absurd (d e);
   })
@@ -176,6 +181,7 @@ module _ {s : List ℕ} {p : Pending} {k : Look} {z r : Search} (g : PendingFor 
       m-same = refl;
       stays = λ h. o .second-is ∙ second-stays h;
       trial = rw (o .second-is) t;
+      possible = rw (o .second-is) possible;
       goes-on = λ e. absurd (d e);
       ends = λ _. (
         record {

@@ -1,10 +1,12 @@
 -- A problem in bytes under way, one trial at a time: what is kept of it, what a trial leaves, and its answer.
 use Prim.Native.Nat.{ℕ, _+_, _<_}
 use mathlib.Core.Path.{_≡_}
+use mathlib.Core.Logic.{_↔_}
 use mathlib.Core.List.{List}
 use lib.ListN.{length, replicate}
 use Rattle.definitions.specs.Limits.{stride}
 use Rattle.definitions.specs.Tropical.{Trop}
+use Rattle.definitions.specs.Problem.{Attainable}
 use Rattle.definitions.specs.Bytes.{Bytes}
 use Rattle.definitions.specs.Offset.{tropOf}
 use Rattle.definitions.specs.ProblemRecord.{problemOf, nField, mField}
@@ -14,7 +16,7 @@ use Rattle.definitions.specs.Desk.{deskRefusal, WithinDesk}
 use Rattle.definitions.specs.Solved as Definitions
 use Rattle.definitions.specs.Solved.{Answers}
 use Rattle.problem_records.specs.Tables.{leftTable, rightTable}
-use Rattle.search.specs.Trials.{top-offset, lowest-offset}
+use Rattle.search.specs.Trials.{top-offset, lowest-offset, wholeOf, Trialled, PossibleBy}
 use Rattle.search.specs.Underway.{class-open, spanOf, Underway, Tried}
 use Rattle.search.specs.declared.search.Found.{Found}
 use Rattle.search.specs.declared.steps.Search.{Search}
@@ -116,13 +118,14 @@ pub record Onward (s : List ℕ) (own : ℕ) (r : Pending) : Type 0 where
   pub made-is : r .made ≡ own + 1
   pub more : (class trials : ℕ) (span : Trop) → Definitions.Found (problemOf s) class span trials → own + 1 < trials
 
--- What one trial leaves: document 01's next was made, by what the look found; the problem goes on, or is answered at the last trial that
+-- What one trial leaves: document 01's next was made, by what the look found, which says of each t whether it is possible; the problem goes on, or is answered at the last trial that
 -- its class and span ask for.
 pub record TrialFor (s : List ℕ) (p r : Pending) : Type 0 where
   pub n-same : r .n ≡ p .n
   pub m-same : r .m ≡ p .m
   pub stays : 0 < p .made → r .second ≡ p .second
   pub trial : Tried (r .second) (searchOf p) (searchOf r)
+  pub possible : (t : ℕ) → Trialled t → PossibleBy (r .second) t ↔ Attainable (problemOf s) (wholeOf t)
   pub goes-on : r .class ≡ class-open → Onward s (p .made) r
   pub ends : (r .class ≡ class-open → ⊥) → AnsweredFor s r × (r .made ≡ p .made + 1)
 

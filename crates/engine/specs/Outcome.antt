@@ -36,7 +36,7 @@ solvedOf (AllAnswered count trials size) = Results.all-answered count trials siz
 abbrev pub shownIn : ℕ → ℕ → Answer → Records.Answer
 shownIn n m a = answerIn n m (a .class) (a .span) (a .start) (a .stamps) (a .picks)
 
--- What the engine gives for a record of one question: the answer to the problem in its tables, which is one.
+-- What the engine gives for a record of one question: the answer to the problem in its tables. It is one (`One.gives-one`).
 pub record Gives (s : List ℕ) (a : Records.Answer) : Type 0 where
   pub found : Answer
   pub n-most : nField s ≤ highest-n
@@ -50,7 +50,7 @@ pub data GivesInTurn (p : List ℕ) : ℕ → List ℕ → ℕ → Type 0 where
       {q class own trials : ℕ} {span : Trop} {bytes : List ℕ} {a : Records.Answer} → GivesInTurn p q bytes trials
       → Answers (problemOf (alone p q)) class span own a → Gives (alone p q) a → GivesInTurn p (suc q) (bytes ++ answerBytes (nField p) a) (trials + own)
 
--- What it writes: the answer that it gives for the record, or those that it gives for its questions.
+-- What it writes where nothing is refused: the answer that it gives for the record, or those that it gives for its questions. `Solves` says when it is refused.
 pub data Writes (p before : List ℕ) : Results.Solved → List ℕ → Type 0 where
   refused : {k : ℕ} → Writes p before (Results.refused k) before
   one :

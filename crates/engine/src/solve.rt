@@ -1,4 +1,4 @@
-// The engine on bytes: refusals 1 to 7, 15, 17 and 20 first, in order; then the answer, or those to several questions one after another, written
+// The engine on bytes: the first refusal (1 to 4, 15, 5, 20, 6, 17, 7); else the answer, or those to several questions one after another, written
 // into the lent buffer.
 ghost use mathlib.Core.Path.{_≡_};
 ghost use Prim.Native.Nat.{_*_, _≤_};

@@ -38,7 +38,7 @@ pub record AsLent (memory words : List ℕ) : Type 0 where
 
 -- ---- what the calls leave
 
--- The words hold a desk, with the ticket that the call tells; those behind it are as they were.
+-- As many words as before, with the ticket that the call tells; those behind the desk are as they were.
 abbrev pub Stored : List ℕ → ℕ → List ℕ → Type 0
 Stored words told after = DeskPut (deskFrom after) told words after
 

@@ -22,9 +22,9 @@ desk-holds = record {
   ticket-waits = waits-mine;
   ticket-answered = answered-mine;
   answers-alone = λ f st. let h = answered-fit (from-opening-sound f) st in (h .0, h .1, answered-given f st);
-  independent = λ v f g st same.
+  independent = λ f g st same.
       let e = found-one (answered-fit (from-opening-sound f) st .1 .found) (answered-fit (from-opening-sound g) same .1 .found) in
-      (e .0, e .1, e .2, v .one _ _ _ (answered-given f st) (answered-given g same));
+      (e .0, e .1, e .2, λ v. v .one _ _ _ (answered-given f st) (answered-given g same));
   short-taking = taking-short;
   short-step = step-short;
   short-collecting = collecting-short;
