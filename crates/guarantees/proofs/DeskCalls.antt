@@ -1,5 +1,5 @@
 -- The laws of the desk hold of the code's calls, one after another since an opening.
-use Prim.Native.Nat.{ℕ, zero, suc, _+_, _-_, _≤_, _<_}
+use Prim.Native.Nat.{ℕ, zero, suc, _+_, _≤_, _<_}
 use mathlib.Core.Path.{_≡_, refl, sym, ap, ap₂, subst, _∙_}
 use mathlib.Core.Bool.{cond, false≢true}
 use mathlib.Core.Logic.{_⊎_, inl, inr, ⊎-elim}
@@ -9,17 +9,16 @@ use native.Mathlib.Decide.{ℕ-discrete}
 use lib.Dec.{eqb}
 use lib.ListN.{length}
 use borrow.Author.Tests.{eq-eqb, ne-eqb}
-use Rattle.definitions.specs.Limits.{most-trials, desk-steps, answer-most, questions-kind, refused-room}
+use Rattle.definitions.specs.Limits.{most-trials, desk-steps, answer-most, questions-kind, refused-room, refused-ticket}
 use Rattle.definitions.specs.Tropical.{Trop}
 use Rattle.definitions.specs.Bytes.{first}
 use Rattle.definitions.specs.ProblemRecord.{AsksOne, WithinLayout, kindField, problemOf, meant, nField, mField}
 use Rattle.definitions.specs.AnswerRecord.{Answer, answerSize, answerBytes, written}
 use Rattle.definitions.specs.Solved as Results
 use Rattle.definitions.specs.Solved.{Found, Solves, solved, all-solved, answered, engineRefusal}
-use Rattle.definitions.specs.Verdict.{accepted}
 use Rattle.definitions.specs.Demands.{Slice, Checker, CheckerJudges}
 use Rattle.definitions.specs.Desk as Machine
-use Rattle.definitions.specs.Desk.{Desk, Stands, FromOpening, WithinDesk, TakesIn, Steps, Collects, Run, nothing, take-in, one-step, collect, one-more, last-one, memoryRefused}
+use Rattle.definitions.specs.Desk.{Desk, Stands, FromOpening, WithinDesk, TakesIn, Steps, Collects, Run, nothing, take-in, one-step, collect, one-more, last-one, memoryRefused, NotHeld}
 use Rattle.definitions.specs.DeskLaws as Laws
 use Rattle.definitions.specs.DeskLaws.{Reported, HeldWaiting, HeldAnswered, turn, turns, SomeGiven}
 use Rattle.definitions.proofs.Layouts.{desk-within, problem-fits, within-asks}
@@ -27,17 +26,17 @@ use Rattle.definitions.proofs.RoundTrip.{answer-length}
 use Rattle.definitions.proofs.Solved.{answer-takes, one-refused}
 use Rattle.duality.proofs.Classes.{found-one}
 use Rattle.duality.proofs.SmallLeads.{layout-within}
-use Rattle.tickets.proofs.Reported.{run-on}
+use Rattle.tickets.proofs.Reported.{from-run, run-on}
 use Rattle.tickets.proofs.Holds.{desk-holds}
 use Rattle.engine.specs.declared.one_trial.Pending.{Pending}
-use Rattle.engine.specs.OneTrial.{PendingFor, AnsweredFor, answerWith}
-use Rattle.engine.specs.Outcome.{Gives, Writes, SolvedAs}
+use Rattle.engine.specs.OneTrial.{PendingFor, AnsweredFor}
+use Rattle.engine.specs.Outcome.{Gives, Writes}
 use Rattle.engine.proofs.One.{gives-one}
 use Rattle.desk.proofs.Taking.{memory-enough}
 use Rattle.lent_desk.specs.Entries.{Tells, goes-on-number, done-number, handedNumber}
 use Rattle.lent_desk.specs.Sequence.{Seen, took-in, stepped, collected, Calls, SinceOpening, Report, taking-in, stepping, collecting, reports, SeenAs, AllSeen}
 use Rattle.lent_desk.proofs.Sequence.{since-lent, cut, opened-standing, TookNext, took-next, CollectingNext, collecting-next, RunsOn, calls-run, since-run}
-use Rattle.guarantees.specs.DeskCalls.{sum, oneStep, oneTrial, oneTicket, Some, Answers, HandsOver, TakenWith, TakenBoth, Collecting, CollectedWith, HandedOver, DeskCalls, TrialCalls, LeadTo, TrialsMeet}
+use Rattle.guarantees.specs.DeskCalls.{sum, oneStep, oneTrial, oneTicket, Some, ReportsDone, HandsOver, TakenWith, TakenBoth, Collecting, CollectedWith, HandedOver, DeskCalls, TrialCalls, LeadTo, TrialsMeet}
 use Rattle.guarantees.proofs.Engine.{accepts-it, within-itself}
 use Rattle.guarantees.proofs.Solvable.{answer-exists}
 
@@ -192,10 +191,10 @@ done-run number (take-in run t) h = ⊎-elim (λ g. done-run number run g) (λ e
 done-run number (one-step run t) h = ⊎-elim (λ g. inl (done-run number run g)) (λ e. inr e) (some-split (DoneBy number) (reports run) _ h)
 done-run number (collect run t) h = ⊎-elim (λ g. done-run number run g) (λ e. absurd e) (some-split (DoneBy number) (reports run) _ h)
 
-done-step : {number : ℕ} {x : Seen} → SeenAs x (stepping (Machine.done number)) → Answers number x
+done-step : {number : ℕ} {x : Seen} → SeenAs x (stepping (Machine.done number)) → ReportsDone number x
 done-step (SeenAs.tried Tells.done) = refl
 
-done-seen : (number : ℕ) (x : Seen) (r : Report) → SeenAs x r → DoneBy number r → Answers number x
+done-seen : (number : ℕ) (x : Seen) (r : Report) → SeenAs x r → DoneBy number r → ReportsDone number x
 unfolding DoneBy
 done-seen number x (taking-in p r) s h = absurd h
 done-seen number x (stepping r) s h = done-step (subst (λ (z : Machine.Stepped). SeenAs x (stepping z)) h s)
@@ -212,7 +211,7 @@ stepTicket (took-in p number told) = 0
 stepTicket (stepped number told) = told
 stepTicket (collected ticket before number after) = 0
 
-seen-told : (number : ℕ) (x : Seen) (r : Report) → SeenAs x r → Answers number x → DoneBy number r
+seen-told : (number : ℕ) (x : Seen) (r : Report) → SeenAs x r → ReportsDone number x → DoneBy number r
 unfolding stepNumber stepTicket DoneBy
 seen-told number x r SeenAs.ticket e = absurd (let z : 0 ≡ done-number = ap stepNumber e in omega arith)
 seen-told number x r (SeenAs.not-taken l) e = absurd (let z : 0 ≡ done-number = ap stepNumber e in omega arith)
@@ -235,6 +234,23 @@ run-hands number nothing h = absurd h
 run-hands number (take-in run t) h = some-still (HandsBy number) (reports run) _ (run-hands number run h)
 run-hands number (one-step run t) h = some-still (HandsBy number) (reports run) _ (run-hands number run h)
 run-hands number (collect run t) h = ⊎-elim (λ g. some-still (HandsBy number) (reports run) _ (run-hands number run g)) (λ e. some-last (HandsBy number) (reports run) _ e) h
+
+hands-run : (number : ℕ) {n k : ℕ} {d e : Desk} (run : Run Gives n d k e) → SomeTold (HandsBy number) (reports run) → Laws.HandedOver number run
+unfolding reports Laws.HandedOver HandsBy SomeTold
+hands-run number nothing h = absurd h
+hands-run number (take-in run t) h = ⊎-elim (λ g. hands-run number run g) (λ e. absurd e) (some-split (HandsBy number) (reports run) _ h)
+hands-run number (one-step run t) h = ⊎-elim (λ g. hands-run number run g) (λ e. absurd e) (some-split (HandsBy number) (reports run) _ h)
+hands-run number (collect run t) h = ⊎-elim (λ g. inl (hands-run number run g)) (λ e. inr e) (some-split (HandsBy number) (reports run) _ h)
+
+hands-told : (number : ℕ) (x : Seen) (r : Report) → SeenAs x r → HandsOver number x → HandsBy number r
+unfolding HandsBy HandsOver Laws.HandsOver
+hands-told number x r SeenAs.ticket h = absurd h
+hands-told number x r (SeenAs.not-taken l) h = absurd h
+hands-told number x r SeenAs.idle h = absurd h
+hands-told number x r (SeenAs.tried t) h = absurd h
+hands-told number x r (SeenAs.not-collected l m) h = absurd (omega (arith, h .1))
+hands-told number x r SeenAs.still-waits h = absurd (omega (arith, h .1))
+hands-told number x r (SeenAs.handed l) h = h .0
 
 hands-seen : (number : ℕ) (x : Seen) (r : Report) → SeenAs x r → HandsBy number r → HandsOver number x
 unfolding HandsBy HandsOver Laws.HandsOver
@@ -281,11 +297,40 @@ module _ {n number : ℕ} {d e : Desk} {p : List ℕ} (o : FromOpening Gives n d
   turns-most (one-step run (last-one {number = m} h head st last ans gave)) = told-most run m st (turns-most run)
   turns-most (collect run c) = turns-most run
 
+-- ---- a ticket whose answer was handed over is held no more
+
+-- The collection that did, and the run since.
+record Gone (n number : ℕ) (f : Desk) : Type 0 where
+  next : Desk
+  steps : ℕ
+  not-held : {k : ℕ} {g : Desk} → Run Gives n next k g → NotHeld g number
+  run : Run Gives n next steps f
+
+gone-now : {n m number : ℕ} {d e : Desk} {before after : List ℕ} (r : Machine.Collected) → FromOpening Gives n d → Collects n d m before r e after → Laws.HandsOver number m r → Gone n number e
+unfolding Laws.HandsOver
+gone-now (Machine.Collected.refused k) o c h = absurd h
+gone-now Machine.still-waits o c h = absurd h
+gone-now {e = e} (Machine.collected class span own size) o c h = record {
+  next = e;
+  steps = 0;
+  not-held = λ {k} {g} run. subst (NotHeld g) h (desk-holds .collected-once o c run);
+  run = nothing;
+}
+
+gone : (number : ℕ) {n k : ℕ} {d e : Desk} → FromOpening Gives n d → (run : Run Gives n d k e) → Laws.HandedOver number run → Gone n number e
+unfolding Laws.HandedOver
+gone number o nothing h = absurd h
+gone number o (take-in run t) h = let g = gone number o run h in record { next = g .next; steps = _; not-held = g .not-held; run = take-in (g .run) t }
+gone number o (one-step run t) h = let g = gone number o run h in record { next = g .next; steps = _; not-held = g .not-held; run = one-step (g .run) t }
+gone number o (collect {r = r} run t) h = ⊎-elim
+    (λ h. let g = gone number o run h in record { next = g .next; steps = _; not-held = g .not-held; run = collect (g .run) t })
+    (λ h. gone-now r (from-run o run) t h)
+    h
+
 -- ---- a sequence cut at a taking-in
 
 record Taken (p : List ℕ) (ticket : ℕ) (earlier later : List Seen) : Type 0 where
   size : ℕ
-  state : Desk
   memory₁ : List ℕ
   words₁ : List ℕ
   memory₂ : List ℕ
@@ -300,7 +345,6 @@ take-apart : {n ticket : ℕ} {p memory words memory₃ words₃ : List ℕ} {ea
     → Calls memory words (took-in p 0 ticket ∷ later) memory₃ words₃ → Taken p ticket earlier later
 take-apart {n} {memory = memory} {words} {memory₃} {words₃} r (Calls.take-in {memory₁ = memory₁} {words₁ = words₁} t calls) = record {
   size = n;
-  state = r .as-run .state;
   memory₁ = memory;
   words₁ = words;
   memory₂ = memory₁;
@@ -331,11 +375,11 @@ module _ {p : List ℕ} {ticket : ℕ} {earlier later : List Seen} (s : TakenWit
       let run = since .as-run .run in
       omega (arith, sum-total (oneTrial ticket) (trialBy ticket) (trial-same ticket) (since .as-run .same), run-trials ticket run, turns-most from (apart .took .takes) run)
 
-  calls-within : desk-steps ≤ sum oneStep later → Some (Answers ticket) later
+  calls-within : desk-steps ≤ sum oneStep later → Some (ReportsDone ticket) later
   calls-within h =
       let run = since .as-run .run in
       let same = sum-total oneStep stepBy step-same (since .as-run .same) in
-      seen-some (DoneBy ticket) (Answers ticket) (done-seen ticket) (since .as-run .same) (run-done ticket run (desk-holds .steps-after from (apart .took .takes) run (omega (arith, same, run-steps run))))
+      seen-some (DoneBy ticket) (ReportsDone ticket) (done-seen ticket) (since .as-run .same) (run-done ticket run (desk-holds .steps-after from (apart .took .takes) run (omega (arith, same, run-steps run))))
 
   calls-ticket : ticket ≡ suc (sum oneTicket earlier)
   calls-ticket =
@@ -391,33 +435,40 @@ module _ {p before after : List ℕ} {ticket number : ℕ} {between : List Seen}
   enough : first (memoryRefused (a .size) ∷ []) ≡ 0
   enough = memory-enough (a .size) (a .runs .standing .enough)
 
-  reported : Some (Answers ticket) between → Reported ticket (a .runs .as-run .run)
-  reported h = done-run ticket (a .runs .as-run .run) (told-some (DoneBy ticket) (Answers ticket) (seen-told ticket) (a .runs .as-run .same) h)
+  reported : Some (ReportsDone ticket) between → Reported ticket (a .runs .as-run .run)
+  reported h = done-run ticket (a .runs .as-run .run) (told-some (DoneBy ticket) (ReportsDone ticket) (seen-told ticket) (a .runs .as-run .same) h)
 
-  asked-waits : (Some (Answers ticket) between → ⊥) → (number ≡ 0) × (after ≡ before)
+  asked-waits : (Some (ReportsDone ticket) between → ⊥) → (number ≡ 0) × (after ≡ before)
   asked-waits none = ⊎-elim
-      (λ (r : Reported ticket (a .runs .as-run .run)). absurd (none (seen-some (DoneBy ticket) (Answers ticket) (done-seen ticket) (a .runs .as-run .same) (run-done ticket (a .runs .as-run .run) r))))
+      (λ (r : Reported ticket (a .runs .as-run .run)). absurd (none (seen-some (DoneBy ticket) (ReportsDone ticket) (done-seen ticket) (a .runs .as-run .same) (run-done ticket (a .runs .as-run .run) r))))
       (λ (w : HeldWaiting (a .runs .as-run .state) ticket (meant p)).
       let h = desk-holds .waiting-says-so now enough (w .there) (a .asks .collects) in
       (waits-number (subst (λ (z : Machine.Collected). SeenAs (collected ticket before number after) (collecting ticket before z after)) (h .0) (a .asks .seen)), h .2))
       (desk-holds .held-until-reported (a .from) (a .takes) (a .runs .as-run .run))
 
   -- An answer that was handed over before, or is there.
-  asked-held : {T : Type 0} → Some (Answers ticket) between → (HeldAnswered (a .runs .as-run .state) ticket (meant p) → T) → Some (HandsOver ticket) between ⊎ T
+  asked-held : {T : Type 0} → Some (ReportsDone ticket) between → (HeldAnswered (a .runs .as-run .state) ticket (meant p) → T) → Some (HandsOver ticket) between ⊎ T
   asked-held h there = ⊎-elim
       (λ (g : Laws.HandedOver ticket (a .runs .as-run .run)). inl (seen-some (HandsBy ticket) (HandsOver ticket) (hands-seen ticket) (a .runs .as-run .same) (run-hands ticket (a .runs .as-run .run) g)))
       (λ (g : HeldAnswered (a .runs .as-run .state) ticket (meant p)). inr (there g))
       (desk-holds .reported-held (a .from) (a .takes) (a .runs .as-run .run) (reported h))
 
-  asked-short : Some (Answers ticket) between → length before < answer-most → Some (HandsOver ticket) between ⊎ ((number ≡ refused-room) × (after ≡ before))
+  asked-short : Some (ReportsDone ticket) between → length before < answer-most → Some (HandsOver ticket) between ⊎ ((number ≡ refused-room) × (after ≡ before))
   asked-short h short = asked-held h (λ g.
       let w = desk-holds .short-says-so now enough (g .there) short (a .asks .collects) in
       (refused-number (subst (λ (z : Machine.Collected). SeenAs (collected ticket before number after) (collecting ticket before z after)) (w .0) (a .asks .seen)), w .2))
 
-  asked-handed : Some (Answers ticket) between → answer-most ≤ length before → Some (HandsOver ticket) between ⊎ (256 ≤ number)
+  asked-handed : Some (ReportsDone ticket) between → answer-most ≤ length before → Some (HandsOver ticket) between ⊎ (256 ≤ number)
   asked-handed h long = asked-held h (λ g.
       let w = desk-holds .answered-handed now enough (g .there) long (a .asks .collects) in
       handed-number (subst (λ (z : Machine.Collected). SeenAs (collected ticket before number after) (collecting ticket before z after)) (w .0) (a .asks .seen)) .1)
+
+  asked-gone : Some (HandsOver ticket) between → (number ≡ refused-ticket) × (after ≡ before)
+  asked-gone h =
+      let run = a .runs .as-run .run in
+      let g = gone ticket (record { steps = _; run = take-in (a .from .run) (a .takes) }) run (hands-run ticket run (told-some (HandsBy ticket) (HandsOver ticket) (hands-told ticket) (a .runs .as-run .same) h)) in
+      let w = desk-holds .unheld-says-so now enough (g .not-held (g .run)) (a .asks .collects) in
+      (refused-number (subst (λ (z : Machine.Collected). SeenAs (collected ticket before number after) (collecting ticket before z after)) (w .0) (a .asks .seen)), w .2)
 
 -- ---- what `solve` writes for the problem alone
 
@@ -511,6 +562,7 @@ module _ (check : Checker) (judges : CheckerJudges check) where
     waits-so = λ c. asked-waits (asked c);
     short-so = λ c. asked-short (asked c);
     handed-so = λ c. asked-handed (asked c);
+    gone-so = λ c. asked-gone (asked c);
     handed-over = calls-handed;
     same-answer = λ c d. same-handed (calls-handed c) (calls-handed d);
   }

@@ -6,7 +6,7 @@ use mathlib.Core.Logic.{_⊎_}
 use mathlib.Core.List.{List, [], _∷_, _++_}
 use lib.Dec.{eqb}
 use lib.ListN.{length}
-use Rattle.definitions.specs.Limits.{most-trials, desk-steps, answer-most, refused-room}
+use Rattle.definitions.specs.Limits.{most-trials, desk-steps, answer-most, refused-room, refused-ticket}
 use Rattle.definitions.specs.Tropical.{Trop}
 use Rattle.definitions.specs.ProblemRecord.{problemOf, meant, nField, mField}
 use Rattle.definitions.specs.AnswerRecord.{Answer, answerSize, answerBytes, written}
@@ -46,14 +46,14 @@ oneTicket (took-in p number told) = cond (eqb number 0) 1 0
 oneTicket (stepped number told) = 0
 oneTicket (collected ticket before number after) = 0
 
--- Of some call.
+-- Some call does this.
 unfoldable pub Some : (Seen → Type 0) → List Seen → Type 0
 Some P [] = ⊥
 Some P (x ∷ seen) = P x ⊎ Some P seen
 
 -- A step reports the ticket as answered now.
-abbrev pub Answers : ℕ → Seen → Type 0
-Answers ticket x = x ≡ stepped done-number ticket
+abbrev pub ReportsDone : ℕ → Seen → Type 0
+ReportsDone ticket x = x ≡ stepped done-number ticket
 
 -- A collection hands its answer over: a number of 256 or more comes back, others hand nothing over.
 unfoldable pub HandsOver : ℕ → Seen → Type 0
@@ -67,7 +67,7 @@ HandsOver ticket (collected other before number after) = (other ≡ ticket) × (
 pub record TakenWith (p : List ℕ) (ticket : ℕ) (earlier later : List Seen) : Type 0 where
   pub calls : SinceOpening (earlier ++ (took-in p 0 ticket ∷ later))
 
--- And after some calls another problem with that one.
+-- And after some calls a second problem, with the ticket `other`.
 pub record TakenBoth (p : List ℕ) (ticket : ℕ) (q : List ℕ) (other : ℕ) : Type 0 where
   pub earlier : List Seen
   pub between : List Seen
@@ -119,7 +119,7 @@ pub record DeskCalls (check : Checker) : Type 0 where
   -- "and at most 384 steps after it was taken in": of so many one reported it;
   pub within-steps :
       {p : List ℕ} {ticket : ℕ} {earlier later : List Seen} → TakenWith p ticket earlier later → desk-steps ≤ sum oneStep later
-      → Some (Answers ticket) later
+      → Some (ReportsDone ticket) later
   -- "tickets count up from 1 at each opening": each is one more than the tickets given out before,
   pub next-ticket : {p : List ℕ} {ticket : ℕ} {earlier later : List Seen} → TakenWith p ticket earlier later → ticket ≡ suc (sum oneTicket earlier)
   -- "and never come twice before the next": a later one is greater;
@@ -127,16 +127,20 @@ pub record DeskCalls (check : Checker) : Type 0 where
   -- "collecting a ticket that still waits says so and changes nothing": 0, until a step reported it;
   pub waits-so :
       {p before after : List ℕ} {ticket number : ℕ} {between : List Seen} → Collecting p ticket between before number after
-      → (Some (Answers ticket) between → ⊥) → (number ≡ 0) × (after ≡ before)
+      → (Some (ReportsDone ticket) between → ⊥) → (number ≡ 0) × (after ≡ before)
   -- then 7 where the buffer is short, "after which the answer can still be collected", and with 208 bytes or more the answer, unless it was handed
   -- over before;
   pub short-so :
       {p before after : List ℕ} {ticket number : ℕ} {between : List Seen} → Collecting p ticket between before number after
-      → Some (Answers ticket) between → length before < answer-most
+      → Some (ReportsDone ticket) between → length before < answer-most
       → Some (HandsOver ticket) between ⊎ ((number ≡ refused-room) × (after ≡ before))
   pub handed-so :
       {p before after : List ℕ} {ticket number : ℕ} {between : List Seen} → Collecting p ticket between before number after
-      → Some (Answers ticket) between → answer-most ≤ length before → Some (HandsOver ticket) between ⊎ (256 ≤ number)
+      → Some (ReportsDone ticket) between → answer-most ≤ length before → Some (HandsOver ticket) between ⊎ (256 ≤ number)
+  -- and 22 after that, "no such ticket is held";
+  pub gone-so :
+      {p before after : List ℕ} {ticket number : ℕ} {between : List Seen} → Collecting p ticket between before number after
+      → Some (HandsOver ticket) between → (number ≡ refused-ticket) × (after ≡ before)
   -- "and the checker accepts it": what is handed over is as `HandedOver` says;
   pub handed-over :
       {p before after : List ℕ} {ticket number : ℕ} → CollectedWith p ticket before number after → HandedOver check p before number after

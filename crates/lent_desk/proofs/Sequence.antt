@@ -1,5 +1,5 @@
 -- Calls one after another, from an opening that gave 0 on, are a run of the machine with the same reports.
-use Prim.Native.Nat.{ℕ, zero, suc, _+_, _≤_, _<_}
+use Prim.Native.Nat.{ℕ, suc, _≤_, _<_}
 use mathlib.Core.Path.{_≡_, refl, sym, ap, subst, _∙_}
 use mathlib.Core.List.{List, [], _∷_, _++_, append-assoc, append-nil}
 use native.Mathlib.Omega.{arith}
@@ -17,7 +17,7 @@ use Rattle.desk.specs.State.{Holds}
 use Rattle.desk.specs.Calls.{Left}
 use Rattle.desk.proofs.Taking.{memory-enough}
 use Rattle.desk_words.specs.Words.{desk-words, deskFrom, toldIn}
-use Rattle.lent_desk.specs.Entries.{AsLent, OverLent, Moves, OpenedAs, TakenFrom, TakenAs, Tells, SteppedFrom, SteppedAs, CollectedFrom, CollectedAs, handedNumber}
+use Rattle.lent_desk.specs.Entries.{AsLent, OverLent, Moves, OpenedAs, TakenFrom, TakenAs, Tells, SteppedFrom, SteppedAs, CollectedFrom, CollectedAs}
 use Rattle.lent_desk.specs.Sequence.{Seen, took-in, stepped, collected, Calls, SinceOpening, Report, taking-in, stepping, collecting, reports, SeenAs, AllSeen, AsRun}
 use Rattle.lent_desk.proofs.Lent.{opened-lent, taken-lent, stepped-lent, collected-lent}
 
