@@ -1,5 +1,5 @@
 -- The laws of the desk hold of the code's calls, one after another since an opening.
-use Prim.Native.Nat.{ℕ, zero, suc, _+_, _-_, _≤_, _<_}
+use Prim.Native.Nat.{ℕ, zero, suc, _+_, _≤_, _<_}
 use mathlib.Core.Path.{_≡_, refl, sym, ap, ap₂, subst, _∙_}
 use mathlib.Core.Bool.{cond, false≢true}
 use mathlib.Core.Logic.{_⊎_, inl, inr, ⊎-elim}
@@ -9,32 +9,34 @@ use native.Mathlib.Decide.{ℕ-discrete}
 use lib.Dec.{eqb}
 use lib.ListN.{length}
 use borrow.Author.Tests.{eq-eqb, ne-eqb}
-use Rattle.definitions.specs.Limits.{most-trials, desk-steps, answer-most, questions-kind}
+use Rattle.definitions.specs.Limits.{most-trials, desk-steps, answer-most, questions-kind, refused-room, refused-ticket}
 use Rattle.definitions.specs.Tropical.{Trop}
+use Rattle.definitions.specs.Bytes.{first}
 use Rattle.definitions.specs.ProblemRecord.{AsksOne, WithinLayout, kindField, problemOf, meant, nField, mField}
 use Rattle.definitions.specs.AnswerRecord.{Answer, answerSize, answerBytes, written}
 use Rattle.definitions.specs.Solved as Results
-use Rattle.definitions.specs.Solved.{Found, Answers, Solves, solved, all-solved, answered, engineRefusal}
-use Rattle.definitions.specs.Verdict.{accepted}
+use Rattle.definitions.specs.Solved.{Found, Solves, solved, all-solved, answered, engineRefusal}
 use Rattle.definitions.specs.Demands.{Slice, Checker, CheckerJudges}
 use Rattle.definitions.specs.Desk as Machine
-use Rattle.definitions.specs.Desk.{Desk, Stands, FromOpening, WithinDesk, TakesIn, Steps, Collects, Run, nothing, take-in, one-step, collect, one-more, last-one}
-use Rattle.definitions.specs.DeskLaws.{Reported, turn, turns, SomeGiven}
+use Rattle.definitions.specs.Desk.{Desk, Stands, FromOpening, WithinDesk, TakesIn, Steps, Collects, Run, nothing, take-in, one-step, collect, one-more, last-one, memoryRefused, NotHeld}
+use Rattle.definitions.specs.DeskLaws as Laws
+use Rattle.definitions.specs.DeskLaws.{Reported, HeldWaiting, HeldAnswered, turn, turns, SomeGiven}
 use Rattle.definitions.proofs.Layouts.{desk-within, problem-fits, within-asks}
 use Rattle.definitions.proofs.RoundTrip.{answer-length}
 use Rattle.definitions.proofs.Solved.{answer-takes, one-refused}
 use Rattle.duality.proofs.Classes.{found-one}
 use Rattle.duality.proofs.SmallLeads.{layout-within}
-use Rattle.tickets.proofs.Reported.{run-on}
+use Rattle.tickets.proofs.Reported.{from-run, run-on}
 use Rattle.tickets.proofs.Holds.{desk-holds}
 use Rattle.engine.specs.declared.one_trial.Pending.{Pending}
-use Rattle.engine.specs.OneTrial.{PendingFor, AnsweredFor, answerWith}
-use Rattle.engine.specs.Outcome.{Gives, Writes, SolvedAs}
+use Rattle.engine.specs.OneTrial.{PendingFor, AnsweredFor}
+use Rattle.engine.specs.Outcome.{Gives, Writes}
 use Rattle.engine.proofs.One.{gives-one}
-use Rattle.lent_desk.specs.Entries.{Tells, done-number, handedNumber}
+use Rattle.desk.proofs.Taking.{memory-enough}
+use Rattle.lent_desk.specs.Entries.{Tells, goes-on-number, done-number, handedNumber}
 use Rattle.lent_desk.specs.Sequence.{Seen, took-in, stepped, collected, Calls, SinceOpening, Report, taking-in, stepping, collecting, reports, SeenAs, AllSeen}
-use Rattle.lent_desk.proofs.Sequence.{cut, Standing, opened-standing, TookNext, took-next, HandedNext, collected-next, RunsOn, calls-run}
-use Rattle.guarantees.specs.DeskCalls.{sum, oneStep, oneTrial, oneTicket, AnsweredIn, TakenWith, TakenBoth, CollectedWith, HandedOver, DeskCalls, TrialCalls, LeadTo, TrialsMeet}
+use Rattle.lent_desk.proofs.Sequence.{since-lent, cut, opened-standing, TookNext, took-next, CollectingNext, collecting-next, RunsOn, calls-run, since-run}
+use Rattle.guarantees.specs.DeskCalls.{sum, oneStep, oneTrial, oneTicket, Some, ReportsDone, HandsOver, TakenWith, TakenBoth, Collecting, CollectedWith, HandedOver, DeskCalls, TrialCalls, LeadTo, TrialsMeet}
 use Rattle.guarantees.proofs.Engine.{accepts-it, within-itself}
 use Rattle.guarantees.proofs.Solvable.{answer-exists}
 
@@ -136,35 +138,140 @@ run-tickets (one-step {r = r} run t) = omega (arith, total-then ticketBy (report
 run-tickets (collect {number = number} {before = before} {after = after} {r = r} run t) =
     omega (arith, total-then ticketBy (reports run) (collecting number before r after), run-tickets run, desk-holds {Gives = Gives} .collecting-gives-none t)
 
+-- ---- what some call shows, some report says
+
+SomeTold : (Report → Type 0) → List Report → Type 0
+SomeTold Q [] = ⊥
+SomeTold Q (r ∷ told) = Q r ⊎ SomeTold Q told
+
+module _ (Q : Report → Type 0) where
+  some-still : (told : List Report) (r : Report) → SomeTold Q told → SomeTold Q (told ++ (r ∷ []))
+  unfolding SomeTold
+  some-still [] r h = absurd h
+  some-still (x ∷ told) r h = ⊎-elim (λ e. inl e) (λ g. inr (some-still told r g)) h
+
+  some-last : (told : List Report) (r : Report) → Q r → SomeTold Q (told ++ (r ∷ []))
+  unfolding SomeTold
+  some-last [] r e = inl e
+  some-last (x ∷ told) r e = inr (some-last told r e)
+
+  some-split : (told : List Report) (r : Report) → SomeTold Q (told ++ (r ∷ [])) → SomeTold Q told ⊎ Q r
+  unfolding SomeTold
+  some-split [] r h = ⊎-elim (λ e. inr e) (λ g. absurd g) h
+  some-split (x ∷ told) r h = ⊎-elim (λ e. inl (inl e)) (λ g. ⊎-elim (λ f. inl (inr f)) (λ e. inr e) (some-split told r g)) h
+
+  module _ (P : Seen → Type 0) where
+    seen-some : ((x : Seen) (r : Report) → SeenAs x r → Q r → P x) → {seen : List Seen} {told : List Report} → AllSeen seen told → SomeTold Q told → Some P seen
+    unfolding SomeTold Some
+    seen-some same AllSeen.none h = absurd h
+    seen-some same (AllSeen.more s all) h = ⊎-elim (λ e. inl (same _ _ s e)) (λ g. inr (seen-some same all g)) h
+
+    told-some : ((x : Seen) (r : Report) → SeenAs x r → P x → Q r) → {seen : List Seen} {told : List Report} → AllSeen seen told → Some P seen → SomeTold Q told
+    unfolding SomeTold Some
+    told-some same AllSeen.none h = absurd h
+    told-some same (AllSeen.more s all) h = ⊎-elim (λ e. inl (same _ _ s e)) (λ g. inr (told-some same all g)) h
+
 -- A ticket reported as answered.
-DoneIn : ℕ → List Report → Type 0
-DoneIn number [] = ⊥
-DoneIn number (r ∷ told) = (r ≡ stepping (Machine.done number)) ⊎ DoneIn number told
+DoneBy : ℕ → Report → Type 0
+DoneBy number (taking-in p r) = ⊥
+DoneBy number (stepping r) = r ≡ Machine.done number
+DoneBy number (collecting other before r after) = ⊥
 
-done-still : (number : ℕ) (told : List Report) (r : Report) → DoneIn number told → DoneIn number (told ++ (r ∷ []))
-unfolding DoneIn
-done-still number [] r h = absurd h
-done-still number (x ∷ told) r h = ⊎-elim (λ e. inl e) (λ g. inr (done-still number told r g)) h
-
-done-last : (number : ℕ) (told : List Report) (r : Report) → r ≡ stepping (Machine.done number) → DoneIn number (told ++ (r ∷ []))
-unfolding DoneIn
-done-last number [] r e = inl e
-done-last number (x ∷ told) r e = inr (done-last number told r e)
-
-run-done : (number : ℕ) {n k : ℕ} {d e : Desk} (run : Run Gives n d k e) → Reported number run → DoneIn number (reports run)
-unfolding reports Reported
+run-done : (number : ℕ) {n k : ℕ} {d e : Desk} (run : Run Gives n d k e) → Reported number run → SomeTold (DoneBy number) (reports run)
+unfolding reports Reported DoneBy
 run-done number nothing h = absurd h
-run-done number (take-in run t) h = done-still number (reports run) _ (run-done number run h)
-run-done number (one-step run t) h = ⊎-elim (λ g. done-still number (reports run) _ (run-done number run g)) (λ e. done-last number (reports run) _ (ap stepping e)) h
-run-done number (collect run t) h = done-still number (reports run) _ (run-done number run h)
+run-done number (take-in run t) h = some-still (DoneBy number) (reports run) _ (run-done number run h)
+run-done number (one-step run t) h = ⊎-elim (λ g. some-still (DoneBy number) (reports run) _ (run-done number run g)) (λ e. some-last (DoneBy number) (reports run) _ e) h
+run-done number (collect run t) h = some-still (DoneBy number) (reports run) _ (run-done number run h)
 
-done-same : {number : ℕ} {x : Seen} → SeenAs x (stepping (Machine.done number)) → x ≡ stepped done-number number
-done-same (SeenAs.tried Tells.done) = refl
+done-run : (number : ℕ) {n k : ℕ} {d e : Desk} (run : Run Gives n d k e) → SomeTold (DoneBy number) (reports run) → Reported number run
+unfolding reports Reported DoneBy SomeTold
+done-run number nothing h = absurd h
+done-run number (take-in run t) h = ⊎-elim (λ g. done-run number run g) (λ e. absurd e) (some-split (DoneBy number) (reports run) _ h)
+done-run number (one-step run t) h = ⊎-elim (λ g. inl (done-run number run g)) (λ e. inr e) (some-split (DoneBy number) (reports run) _ h)
+done-run number (collect run t) h = ⊎-elim (λ g. done-run number run g) (λ e. absurd e) (some-split (DoneBy number) (reports run) _ h)
 
-seen-done : (number : ℕ) {seen : List Seen} {told : List Report} → AllSeen seen told → DoneIn number told → AnsweredIn number seen
-unfolding DoneIn AnsweredIn
-seen-done number AllSeen.none h = absurd h
-seen-done number (AllSeen.more {x = x} s all) h = ⊎-elim (λ e. inl (done-same (subst (SeenAs x) e s))) (λ g. inr (seen-done number all g)) h
+done-step : {number : ℕ} {x : Seen} → SeenAs x (stepping (Machine.done number)) → ReportsDone number x
+done-step (SeenAs.tried Tells.done) = refl
+
+done-seen : (number : ℕ) (x : Seen) (r : Report) → SeenAs x r → DoneBy number r → ReportsDone number x
+unfolding DoneBy
+done-seen number x (taking-in p r) s h = absurd h
+done-seen number x (stepping r) s h = done-step (subst (λ (z : Machine.Stepped). SeenAs x (stepping z)) h s)
+done-seen number x (collecting other before r after) s h = absurd h
+
+-- Number and ticket of a step.
+stepNumber : Seen → ℕ
+stepNumber (took-in p number told) = 0
+stepNumber (stepped number told) = number
+stepNumber (collected ticket before number after) = 0
+
+stepTicket : Seen → ℕ
+stepTicket (took-in p number told) = 0
+stepTicket (stepped number told) = told
+stepTicket (collected ticket before number after) = 0
+
+seen-told : (number : ℕ) (x : Seen) (r : Report) → SeenAs x r → ReportsDone number x → DoneBy number r
+unfolding stepNumber stepTicket DoneBy
+seen-told number x r SeenAs.ticket e = absurd (let z : 0 ≡ done-number = ap stepNumber e in omega arith)
+seen-told number x r (SeenAs.not-taken l) e = absurd (let z : 0 ≡ done-number = ap stepNumber e in omega arith)
+seen-told number x r SeenAs.idle e = absurd (let z : 0 ≡ done-number = ap stepNumber e in omega arith)
+seen-told number x r (SeenAs.tried Tells.goes-on) e = absurd (let z : goes-on-number ≡ done-number = ap stepNumber e in omega arith)
+seen-told number x r (SeenAs.tried Tells.done) e = ap (λ (k : ℕ). Machine.done k) (ap stepTicket e)
+seen-told number x r (SeenAs.not-collected l m) e = absurd (let z : 0 ≡ done-number = ap stepNumber e in omega arith)
+seen-told number x r SeenAs.still-waits e = absurd (let z : 0 ≡ done-number = ap stepNumber e in omega arith)
+seen-told number x r (SeenAs.handed l) e = absurd (let z : 0 ≡ done-number = ap stepNumber e in omega arith)
+
+-- An answer handed over.
+HandsBy : ℕ → Report → Type 0
+HandsBy number (taking-in p r) = ⊥
+HandsBy number (stepping r) = ⊥
+HandsBy number (collecting other before r after) = Laws.HandsOver number other r
+
+run-hands : (number : ℕ) {n k : ℕ} {d e : Desk} (run : Run Gives n d k e) → Laws.HandedOver number run → SomeTold (HandsBy number) (reports run)
+unfolding reports Laws.HandedOver HandsBy
+run-hands number nothing h = absurd h
+run-hands number (take-in run t) h = some-still (HandsBy number) (reports run) _ (run-hands number run h)
+run-hands number (one-step run t) h = some-still (HandsBy number) (reports run) _ (run-hands number run h)
+run-hands number (collect run t) h = ⊎-elim (λ g. some-still (HandsBy number) (reports run) _ (run-hands number run g)) (λ e. some-last (HandsBy number) (reports run) _ e) h
+
+hands-run : (number : ℕ) {n k : ℕ} {d e : Desk} (run : Run Gives n d k e) → SomeTold (HandsBy number) (reports run) → Laws.HandedOver number run
+unfolding reports Laws.HandedOver HandsBy SomeTold
+hands-run number nothing h = absurd h
+hands-run number (take-in run t) h = ⊎-elim (λ g. hands-run number run g) (λ e. absurd e) (some-split (HandsBy number) (reports run) _ h)
+hands-run number (one-step run t) h = ⊎-elim (λ g. hands-run number run g) (λ e. absurd e) (some-split (HandsBy number) (reports run) _ h)
+hands-run number (collect run t) h = ⊎-elim (λ g. inl (hands-run number run g)) (λ e. inr e) (some-split (HandsBy number) (reports run) _ h)
+
+hands-told : (number : ℕ) (x : Seen) (r : Report) → SeenAs x r → HandsOver number x → HandsBy number r
+unfolding HandsBy HandsOver Laws.HandsOver
+hands-told number x r SeenAs.ticket h = absurd h
+hands-told number x r (SeenAs.not-taken l) h = absurd h
+hands-told number x r SeenAs.idle h = absurd h
+hands-told number x r (SeenAs.tried t) h = absurd h
+hands-told number x r (SeenAs.not-collected l m) h = absurd (omega (arith, h .1))
+hands-told number x r SeenAs.still-waits h = absurd (omega (arith, h .1))
+hands-told number x r (SeenAs.handed l) h = h .0
+
+hands-seen : (number : ℕ) (x : Seen) (r : Report) → SeenAs x r → HandsBy number r → HandsOver number x
+unfolding HandsBy HandsOver Laws.HandsOver
+hands-seen number x r SeenAs.ticket h = absurd h
+hands-seen number x r (SeenAs.not-taken l) h = absurd h
+hands-seen number x r SeenAs.idle h = absurd h
+hands-seen number x r (SeenAs.tried t) h = absurd h
+hands-seen number x r (SeenAs.not-collected l m) h = absurd h
+hands-seen number x r SeenAs.still-waits h = absurd h
+hands-seen number x r (SeenAs.handed l) h = (h, omega arith)
+
+-- The number of a collection's answer.
+waits-number : {ticket number : ℕ} {before after : List ℕ} → SeenAs (collected ticket before number after) (collecting ticket before Machine.still-waits after) → number ≡ 0
+waits-number SeenAs.still-waits = refl
+
+refused-number : {ticket number k : ℕ} {before after : List ℕ} → SeenAs (collected ticket before number after) (collecting ticket before (Machine.Collected.refused k) after) → number ≡ k
+refused-number (SeenAs.not-collected l m) = refl
+
+handed-number : {ticket number class own size : ℕ} {span : Trop} {before after : List ℕ} → SeenAs (collected ticket before number after) (collecting ticket before (Machine.collected class span own size) after)
+    → (number ≡ handedNumber class own) × (256 ≤ number)
+handed-number (SeenAs.handed l) = (refl, omega arith)
 
 -- ---- own trials
 
@@ -190,11 +297,40 @@ module _ {n number : ℕ} {d e : Desk} {p : List ℕ} (o : FromOpening Gives n d
   turns-most (one-step run (last-one {number = m} h head st last ans gave)) = told-most run m st (turns-most run)
   turns-most (collect run c) = turns-most run
 
+-- ---- a ticket whose answer was handed over is held no more
+
+-- The collection that did, and the run since.
+record Gone (n number : ℕ) (f : Desk) : Type 0 where
+  next : Desk
+  steps : ℕ
+  not-held : {k : ℕ} {g : Desk} → Run Gives n next k g → NotHeld g number
+  run : Run Gives n next steps f
+
+gone-now : {n m number : ℕ} {d e : Desk} {before after : List ℕ} (r : Machine.Collected) → FromOpening Gives n d → Collects n d m before r e after → Laws.HandsOver number m r → Gone n number e
+unfolding Laws.HandsOver
+gone-now (Machine.Collected.refused k) o c h = absurd h
+gone-now Machine.still-waits o c h = absurd h
+gone-now {e = e} (Machine.collected class span own size) o c h = record {
+  next = e;
+  steps = 0;
+  not-held = λ {k} {g} run. subst (NotHeld g) h (desk-holds .collected-once o c run);
+  run = nothing;
+}
+
+gone : (number : ℕ) {n k : ℕ} {d e : Desk} → FromOpening Gives n d → (run : Run Gives n d k e) → Laws.HandedOver number run → Gone n number e
+unfolding Laws.HandedOver
+gone number o nothing h = absurd h
+gone number o (take-in run t) h = let g = gone number o run h in record { next = g .next; steps = _; not-held = g .not-held; run = take-in (g .run) t }
+gone number o (one-step run t) h = let g = gone number o run h in record { next = g .next; steps = _; not-held = g .not-held; run = one-step (g .run) t }
+gone number o (collect {r = r} run t) h = ⊎-elim
+    (λ h. let g = gone number o run h in record { next = g .next; steps = _; not-held = g .not-held; run = collect (g .run) t })
+    (λ h. gone-now r (from-run o run) t h)
+    h
+
 -- ---- a sequence cut at a taking-in
 
 record Taken (p : List ℕ) (ticket : ℕ) (earlier later : List Seen) : Type 0 where
   size : ℕ
-  state : Desk
   memory₁ : List ℕ
   words₁ : List ℕ
   memory₂ : List ℕ
@@ -209,7 +345,6 @@ take-apart : {n ticket : ℕ} {p memory words memory₃ words₃ : List ℕ} {ea
     → Calls memory words (took-in p 0 ticket ∷ later) memory₃ words₃ → Taken p ticket earlier later
 take-apart {n} {memory = memory} {words} {memory₃} {words₃} r (Calls.take-in {memory₁ = memory₁} {words₁ = words₁} t calls) = record {
   size = n;
-  state = r .as-run .state;
   memory₁ = memory;
   words₁ = words;
   memory₂ = memory₁;
@@ -240,11 +375,11 @@ module _ {p : List ℕ} {ticket : ℕ} {earlier later : List Seen} (s : TakenWit
       let run = since .as-run .run in
       omega (arith, sum-total (oneTrial ticket) (trialBy ticket) (trial-same ticket) (since .as-run .same), run-trials ticket run, turns-most from (apart .took .takes) run)
 
-  calls-within : desk-steps ≤ sum oneStep later → AnsweredIn ticket later
+  calls-within : desk-steps ≤ sum oneStep later → Some (ReportsDone ticket) later
   calls-within h =
       let run = since .as-run .run in
       let same = sum-total oneStep stepBy step-same (since .as-run .same) in
-      seen-done ticket (since .as-run .same) (run-done ticket run (desk-holds .steps-after from (apart .took .takes) run (omega (arith, same, run-steps run))))
+      seen-some (DoneBy ticket) (ReportsDone ticket) (done-seen ticket) (since .as-run .same) (run-done ticket run (desk-holds .steps-after from (apart .took .takes) run (omega (arith, same, run-steps run))))
 
   calls-ticket : ticket ≡ suc (sum oneTicket earlier)
   calls-ticket =
@@ -257,6 +392,83 @@ calls-rise {p} {q} {ticket} {other} b =
     let whole = sym (append-assoc (b .earlier) (took-in p 0 ticket ∷ b .between) (took-in q 0 other ∷ b .later)) in
     let again : TakenWith q other (b .earlier ++ (took-in p 0 ticket ∷ b .between)) (b .later) = record { calls = subst SinceOpening whole (b .taken .calls) } in
     omega (arith, calls-ticket (b .taken), calls-ticket again, sum-append oneTicket (b .earlier) (took-in p 0 ticket ∷ b .between))
+
+-- ---- and at a collection
+
+record Asked (p : List ℕ) (ticket : ℕ) (between : List Seen) (before : List ℕ) (number : ℕ) (after : List ℕ) : Type 0 where
+  size : ℕ
+  state : Desk
+  from : FromOpening Gives size state
+  then : Desk
+  takes : TakesIn size state p (Machine.ticket ticket) then
+  memory : List ℕ
+  words : List ℕ
+  words′ : List ℕ
+  runs : RunsOn size then between memory words
+  asks : CollectingNext size (runs .as-run .state) ticket before number after memory words′
+
+ask-apart : {n ticket number : ℕ} {d e : Desk} {p before after memory words memory₃ words₃ : List ℕ} {between later : List Seen} → FromOpening Gives n d → TakesIn n d p (Machine.ticket ticket) e
+    → RunsOn n e between memory words → Calls memory words (collected ticket before number after ∷ later) memory₃ words₃ → Asked p ticket between before number after
+ask-apart {n} {d = d} {e} {memory = memory} {words} o t r (Calls.collect {words₁ = words₁} c calls) = record {
+  size = n;
+  state = d;
+  from = o;
+  then = e;
+  takes = t;
+  memory = memory;
+  words = words;
+  words′ = words₁;
+  runs = r;
+  asks = collecting-next (r .standing) c;
+}
+
+asked : {p before after : List ℕ} {ticket number : ℕ} {between : List Seen} → Collecting p ticket between before number after → Asked p ticket between before number after
+asked {between = between} c =
+    let a = apart (c .taken) in
+    let t = cut between (a .calls) in
+    ask-apart (from (c .taken)) (a .took .takes) (calls-run (a .took .standing) (t .before)) (t .after)
+
+module _ {p before after : List ℕ} {ticket number : ℕ} {between : List Seen} (a : Asked p ticket between before number after) where
+  now : FromOpening Gives (a .size) (a .runs .as-run .state)
+  now = a .runs .standing .from-opening
+
+  enough : first (memoryRefused (a .size) ∷ []) ≡ 0
+  enough = memory-enough (a .size) (a .runs .standing .enough)
+
+  reported : Some (ReportsDone ticket) between → Reported ticket (a .runs .as-run .run)
+  reported h = done-run ticket (a .runs .as-run .run) (told-some (DoneBy ticket) (ReportsDone ticket) (seen-told ticket) (a .runs .as-run .same) h)
+
+  asked-waits : (Some (ReportsDone ticket) between → ⊥) → (number ≡ 0) × (after ≡ before)
+  asked-waits none = ⊎-elim
+      (λ (r : Reported ticket (a .runs .as-run .run)). absurd (none (seen-some (DoneBy ticket) (ReportsDone ticket) (done-seen ticket) (a .runs .as-run .same) (run-done ticket (a .runs .as-run .run) r))))
+      (λ (w : HeldWaiting (a .runs .as-run .state) ticket (meant p)).
+      let h = desk-holds .waiting-says-so now enough (w .there) (a .asks .collects) in
+      (waits-number (subst (λ (z : Machine.Collected). SeenAs (collected ticket before number after) (collecting ticket before z after)) (h .0) (a .asks .seen)), h .2))
+      (desk-holds .held-until-reported (a .from) (a .takes) (a .runs .as-run .run))
+
+  -- An answer that was handed over before, or is there.
+  asked-held : {T : Type 0} → Some (ReportsDone ticket) between → (HeldAnswered (a .runs .as-run .state) ticket (meant p) → T) → Some (HandsOver ticket) between ⊎ T
+  asked-held h there = ⊎-elim
+      (λ (g : Laws.HandedOver ticket (a .runs .as-run .run)). inl (seen-some (HandsBy ticket) (HandsOver ticket) (hands-seen ticket) (a .runs .as-run .same) (run-hands ticket (a .runs .as-run .run) g)))
+      (λ (g : HeldAnswered (a .runs .as-run .state) ticket (meant p)). inr (there g))
+      (desk-holds .reported-held (a .from) (a .takes) (a .runs .as-run .run) (reported h))
+
+  asked-short : Some (ReportsDone ticket) between → length before < answer-most → Some (HandsOver ticket) between ⊎ ((number ≡ refused-room) × (after ≡ before))
+  asked-short h short = asked-held h (λ g.
+      let w = desk-holds .short-says-so now enough (g .there) short (a .asks .collects) in
+      (refused-number (subst (λ (z : Machine.Collected). SeenAs (collected ticket before number after) (collecting ticket before z after)) (w .0) (a .asks .seen)), w .2))
+
+  asked-handed : Some (ReportsDone ticket) between → answer-most ≤ length before → Some (HandsOver ticket) between ⊎ (256 ≤ number)
+  asked-handed h long = asked-held h (λ g.
+      let w = desk-holds .answered-handed now enough (g .there) long (a .asks .collects) in
+      handed-number (subst (λ (z : Machine.Collected). SeenAs (collected ticket before number after) (collecting ticket before z after)) (w .0) (a .asks .seen)) .1)
+
+  asked-gone : Some (HandsOver ticket) between → (number ≡ refused-ticket) × (after ≡ before)
+  asked-gone h =
+      let run = a .runs .as-run .run in
+      let g = gone ticket (record { steps = _; run = take-in (a .from .run) (a .takes) }) run (hands-run ticket run (told-some (HandsBy ticket) (HandsOver ticket) (hands-told ticket) (a .runs .as-run .same) h)) in
+      let w = desk-holds .unheld-says-so now enough (g .not-held (g .run)) (a .asks .collects) in
+      (refused-number (subst (λ (z : Machine.Collected). SeenAs (collected ticket before number after) (collecting ticket before z after)) (w .0) (a .asks .seen)), w .2)
 
 -- ---- what `solve` writes for the problem alone
 
@@ -278,7 +490,7 @@ record-written (Writes.several t) e g = absurd (let z : _≡_ {A = ℕ} 0 1 = cc
 record Handed (problem before : List ℕ) (class : ℕ) (span : Trop) (own : ℕ) (after : List ℕ) : Type 0 where
   answer : Answer
   within : WithinLayout problem
-  answers : Answers (problemOf problem) class span own answer
+  answers : Results.Answers (problemOf problem) class span own answer
   gives : Gives problem answer
   few : own ≤ most-trials
   buffer-is : after ≡ written before (answerBytes (nField problem) answer)
@@ -322,16 +534,14 @@ module _ (check : Checker) (judges : CheckerJudges check) where
             (result ∙ ap (answered class span own) (sym size), record-written (s .writes) result (h .gives));
       }
 
-  collect-apart : {n ticket number k : ℕ} {d e f : Desk} {p before after memory words memory₃ words₃ : List ℕ} {later : List Seen} → FromOpening Gives n d → TakesIn n d p (Machine.ticket ticket) e
-      → Run Gives n e k f → Standing n f memory words → 256 ≤ number → Calls memory words (collected ticket before number after ∷ later) memory₃ words₃ → HandedOver check p before number after
-  collect-apart o t run s h (Calls.collect c calls) = let w = collected-next s h c in handed-right (w .number-is) (collects-handed o t run (w .collects))
+  asked-over : {p before after : List ℕ} {ticket number n k : ℕ} {d e f g : Desk} {r : Machine.Collected} → FromOpening Gives n d → TakesIn n d p (Machine.ticket ticket) e → Run Gives n e k f
+      → Collects n f ticket before r g after → SeenAs (collected ticket before number after) (collecting ticket before r after) → 256 ≤ number → HandedOver check p before number after
+  asked-over o t run c (SeenAs.not-collected l m) h = absurd (omega arith)
+  asked-over o t run c SeenAs.still-waits h = absurd (omega arith)
+  asked-over o t run c (SeenAs.handed l) h = handed-right refl (collects-handed o t run c)
 
   calls-handed : {p before after : List ℕ} {ticket number : ℕ} → CollectedWith p ticket before number after → HandedOver check p before number after
-  calls-handed c =
-      let a = apart (c .taken) in
-      let t = cut (c .between) (a .calls) in
-      let r = calls-run (a .took .standing) (t .before) in
-      collect-apart (from (c .taken)) (a .took .takes) (r .as-run .run) (r .standing) (c .handed) (t .after)
+  calls-handed c = let a = asked (c .collecting) in asked-over (a .from) (a .takes) (a .runs .as-run .run) (a .asks .collects) (a .asks .seen) (c .handed)
 
   -- Two answers of the same bytes.
   same-handed : {p before after before′ after′ : List ℕ} {number number′ : ℕ} (h : HandedOver check p before number after) (g : HandedOver check p before′ number′ after′)
@@ -343,10 +553,16 @@ module _ (check : Checker) (judges : CheckerJudges check) where
 
   pub desk-calls : DeskCalls check
   desk-calls = record {
+    next-call = since-lent;
+    as-run = since-run;
     own-trials = calls-own;
     within-steps = calls-within;
     next-ticket = calls-ticket;
     never-twice = calls-rise;
+    waits-so = λ c. asked-waits (asked c);
+    short-so = λ c. asked-short (asked c);
+    handed-so = λ c. asked-handed (asked c);
+    gone-so = λ c. asked-gone (asked c);
     handed-over = calls-handed;
     same-answer = λ c d. same-handed (calls-handed c) (calls-handed d);
   }

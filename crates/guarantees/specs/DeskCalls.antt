@@ -6,20 +6,21 @@ use mathlib.Core.Logic.{_⊎_}
 use mathlib.Core.List.{List, [], _∷_, _++_}
 use lib.Dec.{eqb}
 use lib.ListN.{length}
-use Rattle.definitions.specs.Limits.{most-trials, desk-steps, answer-most}
+use Rattle.definitions.specs.Limits.{most-trials, desk-steps, answer-most, refused-room, refused-ticket}
 use Rattle.definitions.specs.Tropical.{Trop}
 use Rattle.definitions.specs.ProblemRecord.{problemOf, meant, nField, mField}
 use Rattle.definitions.specs.AnswerRecord.{Answer, answerSize, answerBytes, written}
 use Rattle.definitions.specs.Solved.{Found, answered}
 use Rattle.definitions.specs.Verdict.{accepted}
 use Rattle.definitions.specs.Demands.{Slice, Checker}
+use Rattle.definitions.specs.Desk.{opened}
 use Rattle.engine.specs.declared.solve.Solved.{Solved}
 use Rattle.engine.specs.declared.one_trial.Begun.{Begun}
 use Rattle.engine.specs.declared.one_trial.Pending.{Pending}
 use Rattle.engine.specs.OneTrial.{PendingFor, BegunFor, TrialFor}
 use Rattle.engine.specs.Outcome.{solvedOf, Gives, SolvedAs}
-use Rattle.lent_desk.specs.Entries.{done-number, handedNumber}
-use Rattle.lent_desk.specs.Sequence.{Seen, took-in, stepped, collected, SinceOpening}
+use Rattle.lent_desk.specs.Entries.{AsLent, done-number, handedNumber}
+use Rattle.lent_desk.specs.Sequence.{Seen, took-in, stepped, collected, SinceOpening, AsRun}
 
 -- ---- what a caller counts
 
@@ -45,10 +46,20 @@ oneTicket (took-in p number told) = cond (eqb number 0) 1 0
 oneTicket (stepped number told) = 0
 oneTicket (collected ticket before number after) = 0
 
--- Some step reported the ticket as answered now.
-unfoldable pub AnsweredIn : ℕ → List Seen → Type 0
-AnsweredIn ticket [] = ⊥
-AnsweredIn ticket (x ∷ seen) = (x ≡ stepped done-number ticket) ⊎ AnsweredIn ticket seen
+-- Some call does this.
+unfoldable pub Some : (Seen → Type 0) → List Seen → Type 0
+Some P [] = ⊥
+Some P (x ∷ seen) = P x ⊎ Some P seen
+
+-- A step reports the ticket as answered now.
+abbrev pub ReportsDone : ℕ → Seen → Type 0
+ReportsDone ticket x = x ≡ stepped done-number ticket
+
+-- A collection hands its answer over: a number of 256 or more comes back, others hand nothing over.
+unfoldable pub HandsOver : ℕ → Seen → Type 0
+HandsOver ticket (took-in p number told) = ⊥
+HandsOver ticket (stepped number told) = ⊥
+HandsOver ticket (collected other before number after) = (other ≡ ticket) × (256 ≤ number)
 
 -- ---- a problem on the desk
 
@@ -56,19 +67,23 @@ AnsweredIn ticket (x ∷ seen) = (x ≡ stepped done-number ticket) ⊎ Answered
 pub record TakenWith (p : List ℕ) (ticket : ℕ) (earlier later : List Seen) : Type 0 where
   pub calls : SinceOpening (earlier ++ (took-in p 0 ticket ∷ later))
 
--- And after some calls another problem with that one.
+-- And after some calls a second problem, with the ticket `other`.
 pub record TakenBoth (p : List ℕ) (ticket : ℕ) (q : List ℕ) (other : ℕ) : Type 0 where
   pub earlier : List Seen
   pub between : List Seen
   pub later : List Seen
   pub taken : TakenWith p ticket earlier (between ++ (took-in q 0 other ∷ later))
 
--- Or after some calls its answer was collected: a number of 256 or more came back, others hand nothing over.
-pub record CollectedWith (p : List ℕ) (ticket : ℕ) (before : List ℕ) (number : ℕ) (after : List ℕ) : Type 0 where
+-- Or after some calls its ticket was collected: this number came back, and the buffer was and is this.
+pub record Collecting (p : List ℕ) (ticket : ℕ) (between : List Seen) (before : List ℕ) (number : ℕ) (after : List ℕ) : Type 0 where
   pub earlier : List Seen
-  pub between : List Seen
   pub later : List Seen
   pub taken : TakenWith p ticket earlier (between ++ (collected ticket before number after ∷ later))
+
+-- With its answer.
+pub record CollectedWith (p : List ℕ) (ticket : ℕ) (before : List ℕ) (number : ℕ) (after : List ℕ) : Type 0 where
+  pub between : List Seen
+  pub collecting : Collecting p ticket between before number after
   pub handed : 256 ≤ number
 
 -- What was handed over for the bytes p: class, least span and own trials of the problem, and the answer that the engine gives for it alone, as a record
@@ -95,16 +110,38 @@ pub record HandedOver (check : Checker) (p before : List ℕ) (number : ℕ) (af
 -- ---- the laws
 
 pub record DeskCalls (check : Checker) : Type 0 where
-  -- "a problem is answered within 24 trials of its own": the steps since it was taken in that tell its ticket,
+  -- "Each call gets memory and state as the call before left them": what a further call asks for holds;
+  pub next-call : {seen : List Seen} (s : SinceOpening seen) → AsLent (s .memory-now) (s .words-now)
+  -- "for every sequence of takings-in, steps and collections from an opening on": it is a run of the machine, with the same reports.
+  pub as-run : {seen : List Seen} (s : SinceOpening seen) → AsRun (length (s .memory)) opened seen (s .memory-now) (s .words-now)
+  -- "A problem is answered within 24 trials of its own": the steps since it was taken in that tell its ticket,
   pub own-trials : {p : List ℕ} {ticket : ℕ} {earlier later : List Seen} → TakenWith p ticket earlier later → sum (oneTrial ticket) later ≤ most-trials
   -- "and at most 384 steps after it was taken in": of so many one reported it;
   pub within-steps :
-      {p : List ℕ} {ticket : ℕ} {earlier later : List Seen} → TakenWith p ticket earlier later → desk-steps ≤ sum oneStep later → AnsweredIn ticket later
+      {p : List ℕ} {ticket : ℕ} {earlier later : List Seen} → TakenWith p ticket earlier later → desk-steps ≤ sum oneStep later
+      → Some (ReportsDone ticket) later
   -- "tickets count up from 1 at each opening": each is one more than the tickets given out before,
   pub next-ticket : {p : List ℕ} {ticket : ℕ} {earlier later : List Seen} → TakenWith p ticket earlier later → ticket ≡ suc (sum oneTicket earlier)
   -- "and never come twice before the next": a later one is greater;
   pub never-twice : {p q : List ℕ} {ticket other : ℕ} → TakenBoth p ticket q other → ticket < other
-  -- "and the checker accepts it": what is collected is what `HandedOver` says;
+  -- "collecting a ticket that still waits says so and changes nothing": 0, until a step reported it;
+  pub waits-so :
+      {p before after : List ℕ} {ticket number : ℕ} {between : List Seen} → Collecting p ticket between before number after
+      → (Some (ReportsDone ticket) between → ⊥) → (number ≡ 0) × (after ≡ before)
+  -- then 7 where the buffer is short, "after which the answer can still be collected", and with 208 bytes or more the answer, unless it was handed
+  -- over before;
+  pub short-so :
+      {p before after : List ℕ} {ticket number : ℕ} {between : List Seen} → Collecting p ticket between before number after
+      → Some (ReportsDone ticket) between → length before < answer-most
+      → Some (HandsOver ticket) between ⊎ ((number ≡ refused-room) × (after ≡ before))
+  pub handed-so :
+      {p before after : List ℕ} {ticket number : ℕ} {between : List Seen} → Collecting p ticket between before number after
+      → Some (ReportsDone ticket) between → answer-most ≤ length before → Some (HandsOver ticket) between ⊎ (256 ≤ number)
+  -- and 22 after that, "no such ticket is held";
+  pub gone-so :
+      {p before after : List ℕ} {ticket number : ℕ} {between : List Seen} → Collecting p ticket between before number after
+      → Some (HandsOver ticket) between → (number ≡ refused-ticket) × (after ≡ before)
+  -- "and the checker accepts it": what is handed over is as `HandedOver` says;
   pub handed-over :
       {p before after : List ℕ} {ticket number : ℕ} → CollectedWith p ticket before number after → HandedOver check p before number after
   -- "a problem's answer does not depend on the others": of the same bytes, in whatever two sequences, the same answer is collected.

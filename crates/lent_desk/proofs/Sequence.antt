@@ -1,5 +1,5 @@
 -- Calls one after another, from an opening that gave 0 on, are a run of the machine with the same reports.
-use Prim.Native.Nat.{ℕ, zero, suc, _+_, _≤_, _<_}
+use Prim.Native.Nat.{ℕ, suc, _≤_, _<_}
 use mathlib.Core.Path.{_≡_, refl, sym, ap, subst, _∙_}
 use mathlib.Core.List.{List, [], _∷_, _++_, append-assoc, append-nil}
 use native.Mathlib.Omega.{arith}
@@ -17,7 +17,7 @@ use Rattle.desk.specs.State.{Holds}
 use Rattle.desk.specs.Calls.{Left}
 use Rattle.desk.proofs.Taking.{memory-enough}
 use Rattle.desk_words.specs.Words.{desk-words, deskFrom, toldIn}
-use Rattle.lent_desk.specs.Entries.{AsLent, OverLent, Moves, OpenedAs, TakenFrom, TakenAs, Tells, SteppedFrom, SteppedAs, CollectedFrom, CollectedAs, handedNumber}
+use Rattle.lent_desk.specs.Entries.{AsLent, OverLent, Moves, OpenedAs, TakenFrom, TakenAs, Tells, SteppedFrom, SteppedAs, CollectedFrom, CollectedAs}
 use Rattle.lent_desk.specs.Sequence.{Seen, took-in, stepped, collected, Calls, SinceOpening, Report, taking-in, stepping, collecting, reports, SeenAs, AllSeen, AsRun}
 use Rattle.lent_desk.proofs.Lent.{opened-lent, taken-lent, stepped-lent, collected-lent}
 
@@ -67,15 +67,12 @@ pub record TookNext (n : ℕ) (d : Machine.Desk) (p : List ℕ) (told : ℕ) (me
   pub takes : TakesIn n d p (Machine.ticket told) next
   pub standing : Standing n next memory words
 
--- An answer was handed over.
-pub record HandedNext (n : ℕ) (d : Machine.Desk) (ticket : ℕ) (before : List ℕ) (number : ℕ) (after memory words : List ℕ) : Type 0 where
-  pub class : ℕ
-  pub span : Trop
-  pub own : ℕ
-  pub size : ℕ
+-- A ticket was asked for.
+pub record CollectingNext (n : ℕ) (d : Machine.Desk) (ticket : ℕ) (before : List ℕ) (number : ℕ) (after memory words : List ℕ) : Type 0 where
+  pub result : Machine.Collected
   pub next : Machine.Desk
-  pub number-is : number ≡ handedNumber class own
-  pub collects : Collects n d ticket before (Machine.collected class span own size) next after
+  pub collects : Collects n d ticket before result next after
+  pub seen : SeenAs (collected ticket before number after) (collecting ticket before result after)
   pub standing : Standing n next memory words
 
 -- A run goes on by one call, with its report.
@@ -190,19 +187,32 @@ module _ {n : ℕ} {d : Machine.Desk} {memory words : List ℕ} (s : Standing n 
   unfolding reports
   extends-collecting t run = record { steps = _; on = Machine.collect run t; reports-are = refl }
 
-  handed-next : {ticket number : ℕ} {before words₁ after : List ℕ} → 256 ≤ number → CollectedFrom memory words ticket before d number words₁ after → HandedNext n d ticket before number after memory words₁
-  handed-next h (CollectedFrom.refused t) = absurd (omega (arith, refused-byte (memory-enough (length memory) (omega (arith, s .same-length, s .enough))) t .1))
-  handed-next h (CollectedFrom.still-waits t) = absurd (omega arith)
-  handed-next {ticket} {before = before} {after = after} h (CollectedFrom.handed {class = class} {own = own} {size = size} {span = span} t p₁) =
+  collect-on : {ticket number : ℕ} {before words₁ after : List ℕ} → CollectedFrom memory words ticket before d number words₁ after → CollectingNext n d ticket before number after memory words₁
+  unfolding left
+  collect-on {ticket} {number} {before} (CollectedFrom.refused t) =
+      let few = refused-byte (memory-enough (length memory) (omega (arith, s .same-length, s .enough))) t in
+      record {
+        result = _;
+        next = d;
+        collects = subst (λ (l : ℕ). Collects l d ticket before (Machine.Collected.refused number) d before) (s .same-length) t;
+        seen = SeenAs.not-collected (few .0) (few .1);
+        standing = s;
+      }
+  collect-on {ticket} {before = before} (CollectedFrom.still-waits t) = record {
+    result = _;
+    next = d;
+    collects = subst (λ (l : ℕ). Collects l d ticket before Machine.still-waits d before) (s .same-length) t;
+    seen = SeenAs.still-waits;
+    standing = s;
+  }
+  collect-on {ticket} {before = before} {after = after} (CollectedFrom.handed {class = class} {own = own} {size = size} {span = span} t p₁) =
+      let some = collected-class (left .from-opening) (t .collects) in
       let collects = subst (λ (l : ℕ). Collects l d ticket before (Machine.collected class span own size) (t .next) after) (s .same-length) (t .collects) in
       record {
-        class = class;
-        span = span;
-        own = own;
-        size = size;
+        result = _;
         next = t .next;
-        number-is = refl;
         collects = collects;
+        seen = SeenAs.handed some;
         standing = record {
           from-opening = record { steps = _; run = Machine.collect (s .from-opening .run) collects };
           enough = s .enough;
@@ -212,25 +222,11 @@ module _ {n : ℕ} {d : Machine.Desk} {memory words : List ℕ} (s : Standing n 
         };
       }
 
-  pub collected-next : {ticket number : ℕ} {before words₁ after : List ℕ} → 256 ≤ number → CollectedAs memory words ticket before number words₁ after → HandedNext n d ticket before number after memory words₁
-  collected-next {ticket} {number} {before} {words₁} {after} h t = handed-next h (made (λ state. CollectedFrom memory words ticket before state number words₁ after) t)
-
-  collect-on : {ticket number : ℕ} {before words₁ after : List ℕ} → CollectedFrom memory words ticket before d number words₁ after → Next n d (collected ticket before number after) memory words₁
-  unfolding left handed-next
-  collect-on {ticket} {number} {before} (CollectedFrom.refused t) =
-      let few = refused-byte (memory-enough (length memory) (omega (arith, s .same-length, s .enough))) t in
-      let t = subst (λ (l : ℕ). Collects l d ticket before (Machine.Collected.refused number) d before) (s .same-length) t in
-      record { next = d; report = _; seen = SeenAs.not-collected (few .0) (few .1); extends = λ run. extends-collecting t run; standing = s }
-  collect-on {ticket} {before = before} (CollectedFrom.still-waits t) =
-      let t = subst (λ (l : ℕ). Collects l d ticket before Machine.still-waits d before) (s .same-length) t in
-      record { next = d; report = _; seen = SeenAs.still-waits; extends = λ run. extends-collecting t run; standing = s }
-  collect-on {ticket} {before = before} {after = after} (CollectedFrom.handed {class = class} {own = own} t p₁) =
-      let some = collected-class (left .from-opening) (t .collects) in
-      let w = handed-next (omega arith) (CollectedFrom.handed {class = class} {own = own} t p₁) in
-      record { next = w .next; report = _; seen = SeenAs.handed some; extends = λ run. extends-collecting (w .collects) run; standing = w .standing }
+  pub collecting-next : {ticket number : ℕ} {before words₁ after : List ℕ} → CollectedAs memory words ticket before number words₁ after → CollectingNext n d ticket before number after memory words₁
+  collecting-next {ticket} {number} {before} {words₁} {after} t = collect-on (made (λ state. CollectedFrom memory words ticket before state number words₁ after) t)
 
   a-collection : {ticket number : ℕ} {before words₁ after : List ℕ} → CollectedAs memory words ticket before number words₁ after → Next n d (collected ticket before number after) memory words₁
-  a-collection {ticket} {number} {before} {words₁} {after} t = collect-on (made (λ state. CollectedFrom memory words ticket before state number words₁ after) t)
+  a-collection t = let w = collecting-next t in record { next = w .next; report = _; seen = w .seen; extends = λ run. extends-collecting (w .collects) run; standing = w .standing }
 
 -- ---- all calls
 
