@@ -481,8 +481,8 @@ result-found (solved a one e ans) k h f = let same = found-one (ans .found) f in
 record-written : {q before after : List ℕ} {r : Results.Solved} {class own size : ℕ} {span : Trop} {a : Answer} → Writes q before r after → r ≡ answered class span own size → Gives q a
     → after ≡ written before (answerBytes (nField q) a)
 record-written Writes.refused e g = absurd (let z : _≡_ {A = ℕ} 0 1 = cc in omega arith)
-record-written {q} {before} {a = a} (Writes.one {a = b} h) e g = ap (λ (x : Answer). written before (answerBytes (nField q) x)) (gives-one q b a h g)
-record-written (Writes.several t) e g = absurd (let z : _≡_ {A = ℕ} 0 1 = cc in omega arith)
+record-written {q} {before} {a = a} (Writes.one {a = b} k ans h) e g = ap (λ (x : Answer). written before (answerBytes (nField q) x)) (gives-one q b a h g)
+record-written (Writes.several k t) e g = absurd (let z : _≡_ {A = ℕ} 0 1 = cc in omega arith)
 
 -- ---- what is collected
 
