@@ -21,8 +21,9 @@ use Rattle.definitions.proofs.IdleDay.{several-meant}
 use Rattle.definitions.proofs.Layouts.{within-asks, within-one}
 use Rattle.definitions.proofs.Solved.{record-stands, none-refused, one-refused, OneAsked, one-asked}
 use Rattle.duality.proofs.Classes.{found-one}
-use Rattle.engine.specs.Outcome.{Gives, GivesInTurn, Writes}
+use Rattle.engine.specs.Outcome.{solvedOf, Gives, GivesInTurn, Writes}
 use Rattle.engine.proofs.One.{gives-one, gives-in-turn-one}
+use Rattle.guarantees.specs.Entries.{SolveGiving}
 use Rattle.guarantees.proofs.Engine.{within-itself, alone-slice}
 
 -- What an engine does with a record: document 01's result and buffer, and the answers that are given.
@@ -109,3 +110,7 @@ module _ (engine : Engine) (does : SolvesGiving engine) where
         let itself = several-meant p k in
         several p other a c k (none-refused p (length before) .0 h .0) room (rw itself at (does .writes p before a b)) (λ _ e. not-refused (rw itself at (does .solves p before a b)) h e);
   }
+
+-- So does every function with the contract of `engine::solve::solve`.
+pub solve-one-answer : (solve : SolveGiving) → OneAnswer (record { result = λ p buffer. solvedOf (solve .result p buffer); buffer = solve .buffer })
+solve-one-answer solve = one-answer _ (record { solves = λ p buffer a b. solve .contract p buffer a b .solves; writes = λ p buffer a b. solve .contract p buffer a b .writes })

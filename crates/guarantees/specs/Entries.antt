@@ -23,13 +23,19 @@ use Rattle.answer_writer.specs.AnswerWriting.{AnswerWritten}
 use Rattle.checker.specs.declared.check.Verdict.{Verdict}
 use Rattle.checker.specs.Outcome.{verdictOf}
 use Rattle.engine.specs.declared.solve.Solved.{Solved}
-use Rattle.engine.specs.Outcome.{solvedOf}
+use Rattle.engine.specs.Outcome.{solvedOf, SolvedAs}
 
 -- `engine::solve::solve`: the result, and the buffer afterwards.
 pub record Solve : Type 0 where
   pub result : List ℕ → List ℕ → Solved
   pub buffer : List ℕ → List ℕ → List ℕ
   pub contract : (p before : List ℕ) → Slice p → Slice before → Solves (meant p) before (solvedOf (result p before)) (buffer p before)
+
+-- The same with all that the contract says: what is written is what the engine gives.
+pub record SolveGiving : Type 0 where
+  pub result : List ℕ → List ℕ → Solved
+  pub buffer : List ℕ → List ℕ → List ℕ
+  pub contract : (p before : List ℕ) → Slice p → Slice before → SolvedAs (meant p) before (result p before) (buffer p before)
 
 -- `checker::check::check`.
 pub record Check : Type 0 where
