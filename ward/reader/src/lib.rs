@@ -26,6 +26,7 @@ mod length;
 pub mod limits;
 mod lines;
 mod naming;
+mod nearby;
 mod offers;
 mod open;
 pub mod outcome;

@@ -25,12 +25,12 @@ use crate::cursor::Cursor;
 use crate::fault::{with, Fault};
 use crate::floor::{self, Floor};
 use crate::hash;
-use crate::hints;
 use crate::instant::Known;
 use crate::length;
 use crate::limits;
 use crate::lines::{headed, without_colon, Key};
 use crate::naming;
+use crate::nearby::{self, Meant};
 use crate::outcome::Expected;
 use crate::remark::{Place, Remark, Weight};
 use crate::repair::{self, FIXED};
@@ -419,8 +419,11 @@ impl<'c> Draft<'c> {
             let look = alike::look(&name);
             let alike = self.looks.get(&look).copied().or((look == "anchor").then_some(0));
             let alike = alike.map(|place| self.sheet.moments[place].name.clone());
-            let near = || hints::near(&name, sides::names(&self.sheet.moments)).map(String::from);
-            let near = alike.clone().or_else(|| (number < FIXED).then(near).flatten());
+            let meant = match &alike {
+                Some(known) => Meant { same: true, names: vec![known.clone()] },
+                None if number < FIXED => nearby::meant(&name, sides::names(&self.sheet.moments)),
+                None => Meant::default(),
+            };
             let message = match &alike {
                 Some(known) => {
                     format!(
@@ -431,12 +434,11 @@ impl<'c> Draft<'c> {
                 None => format!("no moment is called '{name}'{also}"),
             };
             let line = lines.get(places[0].line - 1).map_or("", String::as_str);
-            let hint = match &near {
-                Some(_) => None,
-                None => Some(naming::unknown_hint(&name, self.sheet.moments.len() == 1).into()),
+            let hint = match meant.names.is_empty() {
+                false => None,
+                true => Some(naming::unknown_hint(&name, self.sheet.moments.len() == 1).into()),
             };
-            let fixes =
-                if number < FIXED { self.names_for(&name, near.as_deref(), line, places[0]) } else { Vec::new() };
+            let fixes = if number < FIXED { self.names_for(&name, &meant, line, places[0]) } else { Vec::new() };
             self.remarks.push(Remark { weight: Weight::Mistake, place: places[0], message, hint, fixes });
         }
     }

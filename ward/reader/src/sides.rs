@@ -5,6 +5,7 @@ use crate::fault::{with, without, Fault};
 use crate::instant::{self, Known};
 use crate::length::{self, is_hours, is_number, Length};
 use crate::limits;
+use crate::nearby;
 use crate::sheet::{Lead, Moment};
 use crate::shown;
 use crate::tokens::{is_quote, Kind, Token, DASHES};
@@ -476,7 +477,7 @@ fn other_words(cursor: &Cursor) -> Result<(), Fault> {
 fn moment(cursor: &mut Cursor, known: &Known) -> Result<Option<usize>, Fault> {
     let Some(token) = cursor.peek(0) else { return Err(cursor.fault("a moment's name is expected")) };
     let moment = known.moment(token.text);
-    if let Some(fault) = without_quotes(cursor, token, known) {
+    if let Some(fault) = without_quotes(cursor, token, known).or_else(|| nearby::unquoted(cursor, token, known)) {
         return Err(fault);
     }
     if let Some(fault) = hyphen(cursor, token, known, moment) {
