@@ -210,7 +210,7 @@ fn same(expected: Expected, outcome: Outcome) -> bool {
 fn span_of(sheet: &Sheet, question: usize, answer: &[u8], wishes: Wishes) -> Result<Span, Error> {
     let problem = record::alone(sheet, question);
     let row = &sheet.questions[question].row;
-    let side = |leads: &[ward_reader::Lead]| shown::side(&sheet.moments, leads, &archive::clock());
+    let side = |leads: &[ward_reader::Lead]| shown::side(&sheet.moments, leads);
     let verdict = match span::check(&problem, answer) {
         Ok(certified) => Verdict::Accepted(certified.outcome),
         Err(refusal) => Verdict::NotAccepted(refusal),

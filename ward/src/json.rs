@@ -105,7 +105,7 @@ fn file(report: &Report) -> Value {
                 ("number", number),
                 ("line", Number(rule.place.line as i64)),
                 ("rule", text(&rule.text)),
-                ("says", text(shown::rule(&sheet.moments, rule, &crate::archive::clock()))),
+                ("says", text(shown::rule(&sheet.moments, rule))),
                 ("added", True(rule.origin == Origin::Floor)),
                 ("in_force", True(rule.in_force)),
             ])

@@ -286,7 +286,7 @@ pub fn words(sheet: &Sheet, place: usize) -> String {
     match rule.origin {
         Origin::Line => rule.text.clone(),
         Origin::Half => {
-            format!("{}, that is {}", rule.text, shown::rule(&sheet.moments, rule, &crate::archive::clock()))
+            format!("{}, that is {}", rule.text, shown::rule(&sheet.moments, rule))
         }
         Origin::Floor => format!("{}, by 'nothing before anchor'", rule.text),
     }

@@ -71,7 +71,7 @@ pub fn at_time(
 }
 
 /// A time of day with nothing that says on which side of it something is.
-fn at_which(fault: Fault, time: &str, whole: &dyn Fn(&str) -> String) -> Fault {
+pub fn at_which(fault: Fault, time: &str, whole: &dyn Fn(&str) -> String) -> Fault {
     let message = format!("is this the latest time, the earliest, or both? '{time}' alone does not say");
     let fault = Fault { message, ..fault };
     fault.fix("then", whole("=")).fix("then or earlier", whole("by")).fix("then or later", whole("not before"))

@@ -34,7 +34,7 @@ use crate::nearby::{self, Meant};
 use crate::outcome::Expected;
 use crate::remark::{Place, Remark, Weight};
 use crate::repair::{self, FIXED};
-use crate::sheet::{Form, Origin, Sheet};
+use crate::sheet::{Form, Origin, Sheet, EXACT};
 use crate::shown;
 use crate::sides;
 use crate::source;
@@ -60,9 +60,7 @@ pub fn read(bytes: &[u8], clock: &Clock) -> Read {
         draft.sheet = Sheet::idle();
     } else if source.readable {
         draft.sheet.title = source.lines.first().and_then(|line| title(line));
-        draft.all(&source.lines, |key| key == Key::Moments);
-        draft.all(&source.lines, |key| key == Key::Anchor);
-        draft.all(&source.lines, |key| key != Key::Moments && key != Key::Anchor);
+        draft.every(&source.lines);
         if !draft.mistaken() {
             draft.add_floor();
         }
@@ -110,6 +108,8 @@ pub(crate) struct Draft<'c> {
     pub(crate) beyond: usize,
     /// Whether the anchor's line is a mistake.
     pub(crate) doubtful: bool,
+    /// Whether a line of opening hours is a mistake.
+    pub(crate) unopened: bool,
     /// The line `nothing before anchor`.
     pub(crate) floor: Option<Floor>,
     /// Where the line `record:` stands.
@@ -139,6 +139,7 @@ impl<'c> Draft<'c> {
             looks: BTreeMap::new(),
             beyond: 0,
             doubtful: false,
+            unopened: false,
             floor: None,
             form: None,
             depth: 0,
@@ -160,6 +161,13 @@ impl<'c> Draft<'c> {
         let Fault { from, to, message, hint, fixes } = fault;
         let place = place(number, line, from, to);
         self.remarks.push(Remark { weight: Weight::Mistake, place, message, hint, fixes });
+    }
+
+    /// Reads all lines: those first that others are read with.
+    pub(crate) fn every(&mut self, lines: &[String]) {
+        self.all(lines, |key| key == Key::Moments);
+        self.all(lines, |key| [Key::Anchor, Key::Record].contains(&key));
+        self.all(lines, |key| ![Key::Moments, Key::Anchor, Key::Record].contains(&key));
     }
 
     /// Reads the lines of some kinds.
@@ -216,6 +224,7 @@ impl<'c> Draft<'c> {
             done
         });
         self.doubtful |= key == Key::Anchor && done.is_err();
+        self.unopened |= key == Key::Open && (done.is_err() || self.remarks.len() > before);
         if let Err(fault) = done {
             self.wrong(number, line, fault);
         }
@@ -249,6 +258,10 @@ impl<'c> Draft<'c> {
     fn record(&mut self, number: usize, cursor: &mut Cursor) -> Result<(), Fault> {
         let (from, text, line) = (cursor.place(), cursor.rest(), cursor.line);
         let said = text.split_whitespace().map(str::to_lowercase).collect::<Vec<_>>().join(" ");
+        if said == EXACT {
+            self.sheet.exact = true;
+            return Ok(());
+        }
         let form = [Form::Counted, Form::States].into_iter().find(|form| form.words() == Some(&said));
         let Some(form) = form else {
             let fault = Fault::new(from, from + text.len(), "this line says how the record is written, and not so");
@@ -378,7 +391,7 @@ impl<'c> Draft<'c> {
             let hint = "leave this line out: a rule of the text is suspended";
             self.missing(place, "no record has a count of its spans and suspended rules", hint);
         }
-        if let (Some(&moment), true) = (self.sheet.admits.first(), self.sheet.week.is_empty()) {
+        if let (Some(&moment), true) = (self.sheet.admits.first(), self.sheet.week.is_empty() && !self.unopened) {
             let place = self.sheet.moments[moment].place;
             self.missing(
                 place,

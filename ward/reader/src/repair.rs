@@ -95,9 +95,7 @@ impl<'c> Draft<'c> {
         let own = place..place + fix.lines.len();
         all.splice(place - 1..place.min(all.len()), fix.lines.iter().cloned());
         let mut draft = Draft { depth: DEPTH + 1, ..Draft::new(self.clock) };
-        draft.all(&all, |key| key == Key::Moments);
-        draft.all(&all, |key| key == Key::Anchor);
-        draft.all(&all, |key| key != Key::Moments && key != Key::Anchor);
+        draft.every(&all);
         if !draft.unread {
             draft.unknown_names(&all);
         }
@@ -150,7 +148,8 @@ impl<'c> Draft<'c> {
         let anchors = |line: &str| is(line, Key::Anchor);
         let own = |such: &dyn Fn(&str) -> bool| such(line) || lines.len() == 1 && such(&lines[0]);
         let (named, dated) = (own(&moments), own(&anchors));
-        let mut sheet = Sheet { anchor: self.sheet.anchor.filter(|_| !dated), ..Sheet::new() };
+        let anchor = self.sheet.anchor.filter(|_| !dated);
+        let mut sheet = Sheet { anchor, exact: self.sheet.exact, ..Sheet::new() };
         if !named {
             sheet.moments = self.sheet.moments.clone();
         }
@@ -159,9 +158,7 @@ impl<'c> Draft<'c> {
         let mut trial = Draft { sheet, looks, doubtful, ..Draft::new(self.clock) };
         trial.spans = 1;
         trial.depth = self.depth + 1;
-        trial.all(lines, |key| key == Key::Moments);
-        trial.all(lines, |key| key == Key::Anchor);
-        trial.all(lines, |key| key != Key::Moments && key != Key::Anchor);
+        trial.every(lines);
         if !trial.unread && !self.unread {
             trial.unknown_names(lines);
         }

@@ -3,8 +3,10 @@
 use crate::fault::{with, Fault};
 use crate::instant::Known;
 use crate::lines::{headed, Key};
+use crate::nearby;
 use crate::parse::part;
 use crate::sides;
+use crate::stamps;
 use crate::tokens::{Kind, Token};
 
 /// A line, its tokens, and what is known.
@@ -68,7 +70,7 @@ pub fn otherwise(known: &Known, line: &str, end: usize) -> Option<Fault> {
     }
     let start = end - line[..end].trim_start().len();
     let from = if head.key == Some(Key::Suspended) { head.from.min(end) } else { start };
-    if let Some(fault) = negative(line, from, end) {
+    if let Some(fault) = stamps::shown(known, line, from, end).or_else(|| negative(line, from, end)) {
         return Some(fault);
     }
     if let Some(place) = line[..end].find("+/-") {
@@ -183,6 +185,9 @@ fn colon(line: &Line) -> Option<Fault> {
 
 /// `free -35-> cleaned`: an arrow with the minutes in it.
 fn arrow(line: &Line) -> Option<Fault> {
+    if let Some(fault) = arrow_with_minutes(line) {
+        return Some(fault);
+    }
     let place = (1..line.tokens.len()).find(|&place| line.text(place, place + 1).contains("->"))?;
     let whole = &line.line[line.from..line.end];
     let (first, second) = whole.split_once("->")?;
@@ -191,6 +196,18 @@ fn arrow(line: &Line) -> Option<Fault> {
     crate::length::starts(minutes).then_some(())?;
     let text = format!("{} + {minutes} <= {}", group.trim(), second.trim());
     Some(Fault::new(line.tokens[place].from, line.end, "a rule has '<=' between its sides").fix("", line.say(&text)))
+}
+
+/// `free -> cleaned 35`: an arrow with the minutes behind it.
+fn arrow_with_minutes(line: &Line) -> Option<Fault> {
+    let [first, arrow, second, minutes @ ..] = &line.tokens[..] else { return None };
+    let arrows = ["->", "-->", "→", "⟶", "to", "bis"].contains(&arrow.text.to_lowercase().as_str());
+    let colon = minutes.first().is_some_and(|token| token.text == ":") as usize;
+    let length = minutes.get(colon).filter(|token| crate::length::starts(token.text))?;
+    let such = line.names(first) && line.names(second) && arrows && minutes.len() <= 3;
+    let text = format!("{} {} after {}", line.text(2, 3), &line.line[length.from..line.end], line.text(0, 1));
+    let fault = Fault::new(arrow.from, line.end, "what comes after what is said with 'after'");
+    such.then(|| fault.fix("", line.say(&text)))
 }
 
 /// A question mark behind a rule: it holds, or it is a note.
@@ -208,6 +225,7 @@ fn alone(line: &Line) -> Option<Fault> {
     let named = token.kind == Kind::Quoted || sides::is_bare(token.text);
     let plain = |c: char| c.is_alphanumeric() || " -'’_".contains(c);
     let such = named && token.text.chars().all(plain) && line.known.moment(token.text).is_none();
+    let such = such && nearby::everyday(token.text).is_none();
     let fault = line.fault("a name alone is no rule");
     (such && token.text.to_lowercase() != "anchor")
         .then(|| fault.fix("a moment", line.say(&format!("moments: {}", line.text(dash, dash + 1)))))

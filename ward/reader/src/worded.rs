@@ -2,6 +2,8 @@
 
 use crate::cursor::Cursor;
 use crate::fault::{with, Fault};
+use crate::clock::Clock;
+use crate::instant;
 use crate::length;
 use crate::offers;
 use crate::rows;
@@ -93,8 +95,8 @@ impl<'w> Worded<'w> {
 }
 
 /// What is looked for, in this order.
-const LOOKS: [fn(&Worded) -> Option<Fault>; 9] =
-    [order, between, dashed, within, more_than, point, amount, on_day, several];
+const LOOKS: [fn(&Worded) -> Option<Fault>; 10] =
+    [order, between, dashed, within, more_than, point, amount, on_day, dated, several];
 
 /// Words that are not read, with those that are.
 pub fn other(cursor: &Cursor, subject: &Side) -> Fault {
@@ -236,6 +238,17 @@ fn on_day(worded: &Worded) -> Option<Fault> {
     let day = worded.rest(1);
     let lines = two(worded, &format!("{day} 0:00"), &format!("{day} 24:00"));
     Some(worded.fault().fixes("at some time of that day", lines))
+}
+
+/// `ready Thu 14:00`: a day and a time with no word that says on which side of it something is.
+fn dated(worded: &Worded) -> Option<Fault> {
+    let (cursor, group) = (worded.cursor, worded.group);
+    let mut rest = Cursor::new(cursor.line, cursor.left().to_vec(), cursor.end());
+    let stamp = instant::starts(&rest).then(|| instant::stamp(&mut rest, &Clock::unjudged()).ok()).flatten()?;
+    rest.peek(0).is_none().then_some(())?;
+    let time = &cursor.line[stamp.from..stamp.to];
+    let fault = Fault::new(stamp.from, stamp.to, "");
+    Some(offers::at_which(fault, time, &|words| worded.whole(format!("{group} {words} {time}"))))
 }
 
 /// Several moments before the words of a rule.

@@ -108,7 +108,7 @@ pub struct Said {
 }
 
 pub fn said(sheet: &Sheet) -> Said {
-    let side = |leads: &[Option<i32>]| ward_reader::shown::side(&sheet.moments, leads, &clock());
+    let side = |leads: &[Option<i32>]| ward_reader::shown::side(&sheet.moments, leads);
     let when = |anchor: Anchor| (anchor.day, anchor.date, anchor.minute);
     Said {
         rules: rules(sheet),
