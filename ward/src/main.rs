@@ -212,8 +212,9 @@ fn text_of(words: &Words) -> Result<Ending, Error> {
 fn told(path: &OsStr) -> Result<Sheet, Error> {
     let bytes = bytes(path)?;
     let bytes = cut::from_hex(&bytes).unwrap_or(bytes);
-    match archive::refusal(&bytes) {
-        Some(refusal) => Err(Error::Refused(refusal)),
-        None => record::sheet(&bytes).ok_or(Error::NoText),
+    let parts = cut::all(&bytes);
+    if let Some(refusal) = parts.iter().find_map(|part| archive::refusal(part)) {
+        return Err(Error::Refused(refusal));
     }
+    record::joined(&parts).ok_or(if parts.len() == 1 { Error::NoText } else { Error::Several })
 }

@@ -58,7 +58,7 @@ fn string(text: &str) -> &str {
 #[test]
 fn json_is_json() {
     for text in
-        [E, STRANGE, "", "moments: a\n\"\u{1}\\ <= a\n", "moments: a\nanchor + 1 <= anchor\nspan: from a to a\n"]
+        [E, STRANGE, "", "moments: a\n\"\u{1}\\ <= a\n", "moments: a\nanchor <= nothing\nspan: from a to a\n"]
     {
         let told = ward(&["--json", "-"], text);
         assert_eq!(value(&told.out).trim(), "", "{told:?}");

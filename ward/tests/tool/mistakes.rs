@@ -79,7 +79,7 @@ const MISTAKES: &[(&str, usize, &str, &[&str])] = &[
     ("moments: nurse,, porter", 16, "a moment's name is expected, not ','", &["moments: nurse, porter"]),
     ("moments: Cleaned", 10, "'Cleaned' and 'cleaned' look alike: 'Cleaned' has the capital letter 'C'", &["line 1 has 'cleaned'; two names must differ in a letter that can be seen"]),
     ("ready + 30m <= cleaned", 9, "'30m' is written otherwise here", &["ready + 30 min <= cleaned"]),
-    ("ready 30 <= cleaned", 7, "'<=' is expected, not '30'", &["a sign is missing", "ready + 30 <= cleaned", "ready - 30 <= cleaned"]),
+    ("ready 30 <= cleaned", 1, "no moment is called 'ready 30'", &["a sign is missing, or it is another moment", "ready + 30 <= cleaned", "ready - 30 <= cleaned", "moments: \"ready 30\"", "\"ready 30\" <= cleaned"]),
     ("ready + 5 + 6 <= cleaned", 11, "minutes are given once, not '+'", &["ready + 11 <= cleaned"]),
     ("ready + 20161 <= cleaned", 9, "'20161' is beyond 20160 minutes, two weeks", &["is it a slip of the keyboard? Longer ways can go over a moment between"]),
     ("ready + 336:01 <= cleaned", 9, "'336:01' is beyond 20160 minutes, two weeks", &["is it a slip of the keyboard? Longer ways can go over a moment between"]),
