@@ -188,6 +188,7 @@ fn one(sheet: &Sheet, span: &Span, look: Look) -> String {
     match &span.body {
         Body::Least { plan, start, minutes, .. } => {
             let _ = write!(text, "\n{}\n{}", table(sheet, plan), timeline(sheet, plan, Some((*start, *minutes)), look));
+            text.extend(told::moving(plan).map(|words| format!("{words}\n")));
         }
         Body::Claim(_, plan) if !plan.is_empty() => {
             let _ = write!(text, "\n{}", table(sheet, plan));
@@ -334,9 +335,9 @@ fn axis(sheet: &Sheet, scale: &Scale, signs: &Signs, label: usize, width: usize)
         let column = (scale.place(mark.into()) * (width - 1) as f64).round() as usize;
         let time: Vec<char> = told::short(sheet, mark).chars().collect();
         marks[column] = signs.mark;
-        // The last time ends with the line, and a time that has no room is left out.
-        let start = column.min(width.saturating_sub(time.len()));
-        if start >= free && time.len() <= width {
+        // A time starts at its mark, or ends there at the end of the line; one that has no room is left out.
+        let start = if column + time.len() <= width { column } else { (column + 1).saturating_sub(time.len()) };
+        if start >= free && start + time.len() <= width {
             times[start..start + time.len()].copy_from_slice(&time);
             free = start + time.len() + 1;
         }

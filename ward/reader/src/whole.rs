@@ -7,7 +7,7 @@ use crate::nearby;
 use crate::parse::part;
 use crate::sides;
 use crate::stamps;
-use crate::tokens::{Kind, Token};
+use crate::tokens::{is_quote, Kind, Token};
 
 /// A line, its tokens, and what is known.
 struct Line<'l> {
@@ -78,10 +78,24 @@ pub fn otherwise(known: &Known, line: &str, end: usize) -> Option<Fault> {
         let fault = otherwise(known, &line, end)?;
         return Some(Fault { from: place, to: place + 3, ..fault });
     }
+    if let Some(fault) = parted(line, from, end) {
+        return Some(fault);
+    }
     let tokens = part(line, from, end)?;
     let (first, last) = (tokens.first()?, tokens.last()?);
     let line = Line { line, from: first.from, end: last.to, known, tokens: tokens.clone() };
     LOOKS.iter().find_map(|look| look(&line))
+}
+
+/// `home by Thu 14:00; ready by 9:00`: two rules in a line.
+fn parted(line: &str, from: usize, end: usize) -> Option<Fault> {
+    let body = &line[from..end];
+    let place = body.find(';').filter(|place| !body[..*place].contains(is_quote) && !body[*place..].contains(is_quote))?;
+    let parts: Vec<&str> = body.split(';').map(str::trim).filter(|part| !part.is_empty()).collect();
+    let head = if from > 0 && line[..from].ends_with(':') { format!("{} ", &line[..from]) } else { line[..from].into() };
+    let lines = parts.iter().map(|part| format!("{head}{part}")).collect();
+    let fault = Fault::new(from + place, from + place + 1, "a line has one rule");
+    (parts.len() > 1).then(|| fault.fixes("", lines))
 }
 
 /// `by 8:45 ready`: the moment stands first.
