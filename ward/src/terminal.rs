@@ -188,7 +188,6 @@ fn one(sheet: &Sheet, span: &Span, look: Look) -> String {
     match &span.body {
         Body::Least { plan, start, minutes, .. } => {
             let _ = write!(text, "\n{}\n{}", table(sheet, plan), timeline(sheet, plan, Some((*start, *minutes)), look));
-            text.extend(told::moving(plan).map(|words| format!("{words}\n")));
         }
         Body::Claim(_, plan) if !plan.is_empty() => {
             let _ = write!(text, "\n{}", table(sheet, plan));
@@ -200,6 +199,9 @@ fn one(sheet: &Sheet, span: &Span, look: Look) -> String {
         for rule in told::rules(sheet, &rules) {
             let _ = writeln!(text, "  {rule}");
         }
+    }
+    if let Body::Least { plan, .. } = &span.body {
+        text.extend(told::moving(plan).map(|words| format!("{words}\n")));
     }
     text
 }

@@ -135,7 +135,7 @@ fn csv_has_a_line_a_moment() {
     let out = ward(&["--csv", "-"], "moments: a\nanchor + 5 <= a\na <= anchor + 4\nspan: from anchor to a\n").out;
     let lines: Vec<Vec<String>> = out.lines().map(cells).collect();
     let count = "(its minutes count)";
-    let named = format!("others: rule 1 (line 2): anchor + 5 <= a {count}; rule 2 (line 3): a <= anchor + 4 {count}");
+    let named = format!("others of this list: rule 1 (line 2): anchor + 5 <= a {count}; rule 2 (line 3): a <= anchor + 4 {count}");
     assert!(lines[1].len() == 12 && lines[1][10].ends_with(&named), "{out}");
 }
 

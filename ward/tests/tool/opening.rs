@@ -14,7 +14,7 @@ fn a_shut_ward_is_told_with_when_it_opens() {
     let out = with("anchor + 50 <= admit\nadmit + 50 <= back\nback <= admit + 50\n");
     assert!(out.contains("Fri 17:50  admit   0:50          Fri 17:50  Fri 17:50  open at the planned time\n"), "{out}");
     assert!(out.contains("after anchor  earliest   latest     note\n"), "{out}");
-    let shut = "shut at the planned time, opens Sat 9:00";
+    let shut = "shut at the planned time; opens Sat 9:00, which does not fit the least span";
     assert!(out.contains(&format!("Fri 18:40  back    1:40          Fri 18:40  Fri 18:40  {shut}\n")), "{out}");
 }
 
