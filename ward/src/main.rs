@@ -70,7 +70,8 @@ fn put(words: &Words, bytes: &[u8]) -> Result<(), Error> {
 /// Writes what was made of the texts. A sheet or a table that is there stays as it was where one of them has a mistake or cannot be
 /// read.
 fn put_good(words: &Words, ending: Ending, made: &str) -> Result<(), Error> {
-    let there = words.output.as_ref().filter(|path| std::fs::metadata(path).is_ok_and(|file| file.is_file() && file.len() > 0));
+    let there =
+        words.output.as_ref().filter(|path| std::fs::metadata(path).is_ok_and(|file| file.is_file() && file.len() > 0));
     match there.filter(|_| ending == Ending::Fault && words.form != Form::Json) {
         Some(path) => {
             tell(&format!("ward: '{}' stays as it was: not all texts could be answered\n", name(path)));

@@ -122,7 +122,8 @@ fn bounds(sheet: &Sheet, placed: &Placed) -> Option<(usize, i32, i32)> {
             let anchor = sheet.anchor?;
             let monday = anchor.day? as i32 * DAY + anchor.minute;
             let minute = (stamp + monday).rem_euclid(WEEK);
-            let window = sheet.week.iter().find(|window| (window.opening as i32..window.closing as i32).contains(&minute))?;
+            let window =
+                sheet.week.iter().find(|window| (window.opening as i32..window.closing as i32).contains(&minute))?;
             let (before, behind) = (minute - window.opening as i32, window.closing as i32 - 1 - minute);
             Some((placed.moment, stamp - before, stamp + behind))
         }

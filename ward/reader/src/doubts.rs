@@ -32,7 +32,13 @@ fn of_day(known: &Known, length: Length) -> Option<(i32, usize, usize)> {
 }
 
 /// Minutes behind a group and a plus; the group stands from one place to another.
-pub fn behind(cursor: &Cursor, known: &Known, terms: &[Term], length: Length, group: (usize, usize)) -> Result<(), Fault> {
+pub fn behind(
+    cursor: &Cursor,
+    known: &Known,
+    terms: &[Term],
+    length: Length,
+    group: (usize, usize),
+) -> Result<(), Fault> {
     let Some((colon, from, to)) = of_day(known, length) else { return Ok(()) };
     let (line, pure) = (cursor.line, length.from == from);
     let (written, long) = (&line[from..to], with(line, from, to, &shown::hours(colon)));
@@ -45,22 +51,29 @@ pub fn behind(cursor: &Cursor, known: &Known, terms: &[Term], length: Length, gr
                 .fix(format!("so long after {time}"), long)
                 .fix("by the clock", with(line, group.0, to, written)))
         }
-        Base::Moments if pure => Err(doubt(from, to, written)
-            .fix("so long", long)
-            .fix("by the clock", with(line, group.0, to, written))),
+        Base::Moments if pure => {
+            Err(doubt(from, to, written).fix("so long", long).fix("by the clock", with(line, group.0, to, written)))
+        }
         _ => Ok(()),
     }
 }
 
 /// Minutes before a plus and a group.
-pub fn in_front(cursor: &Cursor, known: &Known, terms: &[Term], length: Length, group: (usize, usize)) -> Result<(), Fault> {
+pub fn in_front(
+    cursor: &Cursor,
+    known: &Known,
+    terms: &[Term],
+    length: Length,
+    group: (usize, usize),
+) -> Result<(), Fault> {
     let base = base(cursor, terms, group);
     let line = cursor.line;
     if let (Base::Time, Some((colon, from, to)), true) = (base, length.colon, known.clock.judges()) {
         let (time, written) = (&line[group.0..group.1], &line[from..to]);
         let message = format!("'{written} + {time}' can be so much later, or another time");
         let turned = format!("{time} + {}", shown::hours(colon));
-        let fault = Fault::new(from, group.1, message).fix(format!("so long after {time}"), with(line, from, group.1, &turned));
+        let fault =
+            Fault::new(from, group.1, message).fix(format!("so long after {time}"), with(line, from, group.1, &turned));
         let day = time.rsplit_once(' ').map(|(day, _)| format!("{day} {written}"));
         return Err(match day.filter(|_| colon <= DAY) {
             Some(day) => fault.fix(format!("{written} on that day"), with(line, from, group.1, &day)),

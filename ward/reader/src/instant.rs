@@ -11,6 +11,9 @@ use crate::sheet::Moment;
 use crate::shown;
 use crate::tokens::{Kind, Token};
 
+/// What is said of a time that no rule can name.
+pub const FAR: &str = "this is more than two weeks from the anchor";
+
 /// What a line is read with.
 #[derive(Clone, Copy)]
 pub struct Known<'k> {
@@ -161,7 +164,8 @@ fn no_time(cursor: &Cursor, from: usize, named: bool) -> Fault {
     if let Some(fault) = next.filter(|_| named).and_then(|next| hour_of_day(cursor, next, from)) {
         return fault;
     }
-    let ends = next.is_none_or(|next| next.kind != Kind::Word) || ["midnight", "to", "and", "or"].contains(&word.as_str());
+    let ends =
+        next.is_none_or(|next| next.kind != Kind::Word) || ["midnight", "to", "and", "or"].contains(&word.as_str());
     let to = if word == "midnight" { to } else { from + before.len() };
     match named {
         true if !ends => fault,
@@ -240,7 +244,7 @@ pub fn read(cursor: &mut Cursor, known: &Known, listed: bool) -> Result<i32, Fau
     };
     match found[..] {
         [only] if only.abs() > limits::LEAD => {
-            Err(fault("this is more than two weeks from the anchor").hint("is it a slip of the keyboard?"))
+            Err(fault(FAR).hint("is it a slip of the keyboard? Times lie within two weeks of the anchor"))
         }
         [only] => Ok(only),
         _ => {

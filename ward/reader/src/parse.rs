@@ -310,6 +310,8 @@ impl<'c> Draft<'c> {
             return Err(match words[..] {
                 [number] if self.number(number).is_some() => fault.fix("", say(format!("least {number}"))),
                 ["no", "plan"] => fault.fix("", say("none".into())),
+                ["exactly", ref rest @ ..] => fault.fix("", say(format!("least {}", rest.join(" ")))),
+                [number, ..] if length::starts(number) => fault.fix("", say(format!("least {text}"))),
                 ["at", limit, ..] => {
                     let least = say(format!("least {}", words[2..].join(" ")));
                     let fault = fault.hint("what is expected is one answer, and no limit of it");

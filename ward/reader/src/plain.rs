@@ -59,8 +59,11 @@ type Reading = (String, String);
 type Look = fn(&Seen) -> Option<Put>;
 
 /// What is looked for at each token, in this order; the last is for lines of names too.
-const LOOKS: [Look; 16] = [
+const LOOKS: [Look; 20] = [
     numbered,
+    stamps::window,
+    stamps::noon,
+    stamps::short,
     stamps::turned,
     stamps::between,
     stamps::on,
@@ -73,6 +76,7 @@ const LOOKS: [Look; 16] = [
     units::fraction,
     units::between,
     phrases::found,
+    phrases::slip,
     sign,
     remark,
     end,

@@ -4,6 +4,7 @@
 //! left. One that comes to no end is not shown.
 
 use crate::fault::{Fault, Fix};
+use crate::instant::FAR;
 use crate::limits;
 use crate::lines::{headed, Key};
 use crate::parse::Draft;
@@ -69,6 +70,9 @@ impl<'c> Draft<'c> {
             }
             remark.fixes = self.repairs(&offered, line);
             remark.fixes.retain(|fix| number >= limits::SHOWN || lines.len() > WHOLE || self.holds(lines, here, fix));
+            if let Some(far) = remark.fixes.is_empty().then(|| self.far(&offered, line)).flatten() {
+                (remark.message, remark.hint) = (far.message, far.hint);
+            }
             let rule = is(line, Key::Rule) || is(line, Key::Suspended);
             let alone = places.iter().filter(|place| **place == here).count() == 1;
             if remark.fixes.is_empty() && !alone && !offered.is_empty() {
@@ -100,6 +104,12 @@ impl<'c> Draft<'c> {
             draft.unknown_names(&all);
         }
         !draft.remarks.iter().any(|remark| own.contains(&remark.place.line))
+    }
+
+    /// The mistake of a reading that names a time which no rule can name.
+    fn far(&self, offered: &[Fix], line: &str) -> Option<Remark> {
+        let mistakes = offered.iter().take(MOST).flat_map(|fix| self.tried(&fix.lines, line).mistakes);
+        mistakes.into_iter().find(|mistake| mistake.message == FAR)
     }
 
     /// The readings among those offered that are read without a mistake, each followed as far as it needs.
@@ -211,6 +221,9 @@ impl<'c> Draft<'c> {
         let forms = [plain::otherwise(&self.known(), line, end), whole::otherwise(&self.known(), line, end)];
         forms.into_iter().flatten().find_map(|fault| {
             let fixes = self.repairs(&fault.fixes, line);
+            if let Some(far) = fixes.is_empty().then(|| self.far(&fault.fixes, line)).flatten() {
+                return Some(Fault { fixes, message: far.message, hint: far.hint, ..fault });
+            }
             (!fixes.is_empty()).then_some(Fault { fixes, ..fault })
         })
     }

@@ -114,9 +114,9 @@ impl Draft<'_> {
             return Err(Fault::new(
                 from,
                 from + text.len(),
-                "a rule with nothing on its left says nothing, and is refused (17)",
+                "a rule with nothing on its early side says nothing: every plan keeps it",
             )
-            .hint("was the line left half filled? Fill it in or delete it"));
+            .hint("was the line left half filled? Fill it in or delete it. That one is left out is said as in 'ready <= nothing'"));
         }
         if let Some(fault) = self.own_moment(from, text, &rule).filter(|_| !self.sheet.exact) {
             return Err(fault);

@@ -125,7 +125,10 @@ pub fn shown(known: &Known, line: &str, from: usize, end: usize) -> Option<Fault
         let rest = body[place + c.len_utf8()..].trim_start();
         let count = digits(rest);
         let whole = rest[count..].starts_with('d') && !rest[count + 1..].starts_with(char::is_alphanumeric);
-        "+-–−".contains(c) && (1..=2).contains(&count) && whole && body[..place].trim_end().ends_with(|c: char| c.is_ascii_digit())
+        "+-–−".contains(c)
+            && (1..=2).contains(&count)
+            && whole
+            && body[..place].trim_end().ends_with(|c: char| c.is_ascii_digit())
     })?;
     let behind = &body[place + sign.len_utf8()..];
     let rest = behind.trim_start();
@@ -141,4 +144,44 @@ pub fn shown(known: &Known, line: &str, from: usize, end: usize) -> Option<Fault
     let fault = Fault::new(start, to, format!("'{}' is how a plan shows a time", &line[start..to]));
     let point = instant::point(&anchor, offset, known.clock, false);
     Some(fault.fix(instant::told(&anchor, offset, known.clock), with(line, start, to, &point)))
+}
+
+/// Two times with a dash between them, and the day that both are of: `9:00-9:30`, `Thu 9:00-14:00`.
+pub fn window(seen: &Seen) -> Option<Put> {
+    let token = seen.token(0).filter(|token| token.kind == Kind::Word)?;
+    let (first, last) = token.text.split_once(['-', '–'])?;
+    (is_hours(first) && is_hours(last)).then_some(())?;
+    let day = seen.before().filter(|before| is_day_token(seen, *before));
+    let day = day.map_or(String::new(), |day| format!("{} ", day.text));
+    one(1, format!("{first} to {day}{last}"))
+}
+
+/// `Thu noon`.
+pub fn noon(seen: &Seen) -> Option<Put> {
+    let day = seen.before().is_some_and(|before| is_day_token(seen, before));
+    let word = ["noon", "mittag", "midday"].contains(&seen.word(0).as_str());
+    (day && word).then(|| one(1, "12:00"))?
+}
+
+/// A date without its year, before a time: `19.11. 14:00`, `11/19 14:00`. It is the one that is nearest to the anchor's date.
+pub fn short(seen: &Seen) -> Option<Put> {
+    let word = seen.word(0);
+    let dotted = word.strip_suffix('.').and_then(|word| word.split_once('.'));
+    let (first, second) = dotted.or_else(|| word.split_once('/'))?;
+    let two = |text: &str| is_number(text) && text.len() <= 2;
+    (two(first) && two(second)).then_some(())?;
+    time(seen, 1)?;
+    let (a, b): (i64, i64) = (first.parse().ok()?, second.parse().ok()?);
+    let anchor = seen.known.anchor?.date?;
+    let (this, ..) = calendar::date(anchor);
+    let nearest = |month: i64, date: i64| {
+        let days = (this - 1..=this + 1).filter_map(|year| calendar::day(year, month, date));
+        days.min_by_key(|day| (day - anchor).abs()).map(calendar::written)
+    };
+    let texts = match (nearest(b, a), nearest(a, b)) {
+        (Some(one), Some(other)) if one != other => vec![("the day first", one), ("the month first", other)],
+        (Some(only), _) | (None, Some(only)) => vec![("", only)],
+        _ => return None,
+    };
+    Some((1, texts))
 }

@@ -90,9 +90,11 @@ pub fn otherwise(known: &Known, line: &str, end: usize) -> Option<Fault> {
 /// `home by Thu 14:00; ready by 9:00`: two rules in a line.
 fn parted(line: &str, from: usize, end: usize) -> Option<Fault> {
     let body = &line[from..end];
-    let place = body.find(';').filter(|place| !body[..*place].contains(is_quote) && !body[*place..].contains(is_quote))?;
+    let place =
+        body.find(';').filter(|place| !body[..*place].contains(is_quote) && !body[*place..].contains(is_quote))?;
     let parts: Vec<&str> = body.split(';').map(str::trim).filter(|part| !part.is_empty()).collect();
-    let head = if from > 0 && line[..from].ends_with(':') { format!("{} ", &line[..from]) } else { line[..from].into() };
+    let head =
+        if from > 0 && line[..from].ends_with(':') { format!("{} ", &line[..from]) } else { line[..from].into() };
     let lines = parts.iter().map(|part| format!("{head}{part}")).collect();
     let fault = Fault::new(from + place, from + place + 1, "a line has one rule");
     (parts.len() > 1).then(|| fault.fixes("", lines))
@@ -255,15 +257,29 @@ fn unsigned(line: &Line) -> Option<Fault> {
     sum.then(|| fault.fix("", line.say(&text)))
 }
 
-/// `free + 35-40 <= cleaned`: both limits as a lead.
+/// `free + 35-40 <= cleaned`, `cleaned = free + 35-40 min`: both limits as a lead.
 fn range(line: &Line) -> Option<Fault> {
-    let sign = line.relation().filter(|&sign| line.text(sign, sign + 1) == "<=" && sign > 2)?;
-    let (low, high) = line.text(sign - 1, sign).split_once(['-', '–'])?;
-    let such = crate::length::starts(low) && crate::length::starts(high) && line.word(sign - 2) == "+";
-    let (base, late) = (line.text(0, sign - 2), line.text(sign + 1, line.tokens.len()));
-    let token = line.tokens[sign - 1];
+    let sign = line.relation()?;
+    let count = line.tokens.len();
+    let is_range = |place: &usize| {
+        let limits = line.text(*place, place + 1).split_once(['-', '–']);
+        let such = limits.is_some_and(|(low, high)| crate::length::starts(low) && crate::length::starts(high));
+        such && line.word(place - 1) == "+"
+    };
+    let place = (1..count).find(is_range)?;
+    let (low, high) = line.text(place, place + 1).split_once(['-', '–'])?;
+    // The side that has the minutes, and the other one.
+    let (from, to, other) = match place < sign {
+        true => (0, sign, line.text(sign + 1, count)),
+        false => (sign + 1, count, line.text(0, sign)),
+    };
+    let relation = line.text(sign, sign + 1);
+    (relation == "=" || relation == "<=" && place < sign).then_some(())?;
+    let (base, unit) = (line.text(from, place - 1), line.text(place + 1, to));
+    let high = format!("{high} {unit}");
+    let token = line.tokens[place];
     let fault = Fault::new(token.from, token.to, "both limits stand with 'to' between them, in words");
-    such.then(|| fault.fix("", line.say(&format!("{late} {low} to {high} after {base}"))))
+    Some(fault.fix("", line.say(&format!("{other} {low} to {} after {base}", high.trim_end()))))
 }
 
 /// `free - cleaned <= -30`, `cleaned -5 to 10 after free`: minutes below 0.

@@ -159,10 +159,7 @@ fn opening_hours_that_can_be_two() {
             "open: daily 9:00-12:00, 2:00-6:00",
             &["open: daily 9:00-12:00, 14:00-18:00", "open: daily 2:00-6:00, 9:00-12:00"],
         ),
-        (
-            "open: Mon-Fri 8-12, 1-5",
-            &["open: Mon-Fri 8:00-12:00, 13:00-17:00", "open: Mon-Fri 1:00-5:00, 8:00-12:00"],
-        ),
+        ("open: Mon-Fri 8-12, 1-5", &["open: Mon-Fri 8:00-12:00, 13:00-17:00", "open: Mon-Fri 1:00-5:00, 8:00-12:00"]),
         (
             "open: Mon-Fri 8:00-18:00, Sat",
             &["open: Mon-Fri 8:00-18:00, Sat 8:00-18:00", "open: Mon-Fri 8:00-18:00, Sat 0:00-24:00"],
@@ -182,7 +179,12 @@ fn opening_hours_that_can_be_two() {
         if line.contains("22:00-6:00, 7:00") {
             // Fifteen windows are too many, and no line is shown that the archive would refuse.
             shows(MOMENTS, ANCHOR, line, &[]);
-            shows(MOMENTS, ANCHOR, &line.replace("Mon-Fri", "Mon-Thu"), &[&lines[0].replace("Friday", "Thursday").replace("Saturday", "Friday")]);
+            shows(
+                MOMENTS,
+                ANCHOR,
+                &line.replace("Mon-Fri", "Mon-Thu"),
+                &[&lines[0].replace("Friday", "Thursday").replace("Saturday", "Friday")],
+            );
             continue;
         }
         shows(MOMENTS, ANCHOR, line, lines);
@@ -214,10 +216,63 @@ fn a_time_that_is_added_to_a_time_is_asked_about() {
         ("home by 14:00 + 2026-11-19 24:00", &["home by 2026-11-19 24:00 + 14 h", "home by 2026-11-19 14:00"]),
         ("home by Thu 2:30", &["home by Thu 02:30", "home by Thu 14:30"]),
         ("leaves >= ready + 9:15", &["leaves >= ready + 9 h 15", "leaves >= 9:15"]),
-        ("leaves at least 1.30 h after ready", &["leaves at least 1:30 after ready", "leaves at least 78 min after ready"]),
+        (
+            "leaves at least 1.30 h after ready",
+            &["leaves at least 1:30 after ready", "leaves at least 78 min after ready"],
+        ),
         ("free -> cleaned 35", &["cleaned at least 35 after free", "cleaned exactly 35 after free"]),
     ] {
         shows(MOMENTS, ANCHOR, line, lines);
     }
     shows(MOMENTS, ANCHOR, "note: porter is late", &["# note: porter is late"]);
+}
+
+#[test]
+fn words_that_nearly_say_it_show_what_does() {
+    for (line, lines) in [
+        ("cleaned = free + 30-45 min", &["cleaned 30 to 45 min after free"][..]),
+        ("leaves atleast 10 after ready", &["leaves at least 10 after ready"]),
+        ("leaves at leest 10 after ready", &["leaves at least 10 after ready"]),
+        ("leaves at-least 10 after ready", &["leaves at least 10 after ready"]),
+        ("leaves at least 10 afer ready", &["leaves at least 10 after ready"]),
+        ("home Thu 14:00", &["home = Thu 14:00", "home by Thu 14:00", "home not before Thu 14:00"]),
+        ("ready by 9:00 to 9:30", &["ready not before 9:00 ; ready by 9:30"]),
+        ("ready by 9:00-9:30", &["ready not before 9:00 ; ready by 9:30"]),
+        ("home by Thu 9:00-14:00", &["home not before Thu 9:00 ; home by Thu 14:00"]),
+        ("ready plus 10 <= leaves", &["ready + 10 <= leaves"]),
+        ("leaves same time as ready", &["leaves = ready"]),
+        (
+            "ready in 30 min",
+            &["ready = anchor + 30 min", "ready by anchor + 30 min", "ready not before anchor + 30 min"],
+        ),
+        ("leaves at least 1,5 h after ready", &["leaves at least 90 min after ready"]),
+        ("leaves at least 1h30m after ready", &["leaves at least 1 h 30 after ready"]),
+        ("home by 19.11. 14:00", &["home by 2026-11-19 14:00"]),
+        ("home by 11/19 14:00", &["home by 2026-11-19 14:00"]),
+        ("home by Thu noon", &["home by Thu 12:00"]),
+        ("home by Thu 14:00; ready by 9:00", &["home by Thu 14:00 ; ready by 9:00"]),
+        ("suspended: ready by 9:00; porter by 9:15", &["suspended: ready by 9:00 ; suspended: porter by 9:15"]),
+    ] {
+        shows(MOMENTS, ANCHOR, line, lines);
+    }
+    shows(
+        "\"Bed clean\", \"Bed free\"",
+        ANCHOR,
+        "Bed clean = Bed free + 30-45 min",
+        &["\"Bed clean\" 30 to 45 min after \"Bed free\""],
+    );
+    for line in ["home by 2026-12-24 14:00", "home by 24 Dec 14:00", "home by 24.12.2026 14:00"] {
+        says(line, "this is more than two weeks from the anchor");
+    }
+    for line in ["at least 10 after ready", "by 9:00", "not before 9:00"] {
+        says(line, "a rule starts with its moment");
+    }
+    says("nothing <= ready", "says nothing: every plan keeps it");
+    let text = |anchor: &str, expect: &str| format!("moments: a\n{anchor}\nspan: from anchor to a\n{expect}\n");
+    for (text, line) in [
+        (text("anchor: Tuesday at 8:00", ""), "anchor: Tuesday 8:00"),
+        (text("", "expect: 10 minutes"), "expect: least 10 minutes"),
+    ] {
+        assert_eq!(mistakes(&read(&text))[0].fixes[0].lines, [line], "{text}");
+    }
 }

@@ -90,7 +90,8 @@ fn answers(document: &str) -> Vec<String> {
 fn readme_shows_what_its_first_command_prints() {
     let readme = fs::read_to_string(repository().join("README.md")).expect("README");
     let told = ward(&["examples/problems/bed-transfer.txt"], "");
-    let first = |line: &&str| line.strip_prefix("    ").is_none_or(|line| line.is_empty() || !told.out.starts_with(line));
+    let first =
+        |line: &&str| line.strip_prefix("    ").is_none_or(|line| line.is_empty() || !told.out.starts_with(line));
     let block = readme.lines().skip_while(first).take_while(|line| line.is_empty() || line.starts_with("    "));
     let shown: Vec<&str> = block.map(|line| line.strip_prefix("    ").unwrap_or(line)).collect();
     assert!(shown.len() > 30, "the first line that it prints");

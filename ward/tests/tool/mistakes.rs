@@ -95,7 +95,7 @@ const MISTAKES: &[(&str, usize, &str, &[&str])] = &[
     ("ready + 1.5h <= cleaned", 9, "'1.5h' has a decimal point or comma, and minutes are whole", &["ready + 90 min <= cleaned"]),
     ("\"bed 4-B <= ready", 1, "the quote before 'bed 4-B <= ready' is not closed", &["a name in quotes ends with another quote of the same kind on the same line"]),
     ("'bed 4-B' <= ready", 1, "a moment's name is expected, not ''bed'", &["names with spaces stand in double quotes", "\"bed 4-B\" <= ready"]),
-    ("nothing <= ready", 1, "a rule with nothing on its left says nothing, and is refused (17)", &["was the line left half filled? Fill it in or delete it"]),
+    ("nothing <= ready", 1, "a rule with nothing on its early side says nothing: every plan keeps it", &["was the line left half filled? Fill it in or delete it. That one is left out is said as in 'ready <= nothing'"]),
     ("ready#1 <= cleaned", 6, "'#' stands within 'ready#1', or without a space behind it", &["a name with '#' stands in quotes, \"ready#1\"; a comment has a space on both sides of its '#'"]),
     ("ready <= cleaned #late", 18, "'#' stands within 'cleaned #late', or without a space behind it", &["a name with '#' stands in quotes, \"cleaned #late\"; a comment has a space on both sides of its '#'", "ready <= cleaned # late"]),
     ("anchor: 24:00", 9, "the anchor's day ends before 24:00", &["write 0:00, and the next day where the line has a day"]),

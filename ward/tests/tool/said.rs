@@ -161,7 +161,9 @@ fn what_moving_a_moment_may_break_is_told() {
 fn an_open_time_is_tried_with_all_that_are_looked_at() {
     let text = |rule: &str| {
         let open = "anchor: Mon 8:00\nopen: Mon-Fri 9:00-12:00, 13:00-17:00\n";
-        format!("moments: leaves, arrives\n{open}{rule}\nanchor <= leaves\nleaves by 17:00\nspan: from leaves to arrives\n")
+        format!(
+            "moments: leaves, arrives\n{open}{rule}\nanchor <= leaves\nleaves by 17:00\nspan: from leaves to arrives\n"
+        )
     };
     let note = |words: &[&str], rule: &str| {
         let out = ward(words, text(rule)).out;
