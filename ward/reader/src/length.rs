@@ -246,7 +246,7 @@ pub fn point(cursor: &Cursor, first: Token) -> Option<Fault> {
     if clock {
         fault = fault.fix("hours and minutes", say(format!("{whole}:{part}")));
     }
-    if let Some(minutes) = minutes(60).filter(|minutes| *minutes != 0) {
+    if let Some(minutes) = minutes(60).filter(|minutes| (1..=24 * 60).contains(minutes)) {
         fault = fault.fix(format!("{written} hours"), say(format!("{minutes} min")));
     }
     match minutes(1) {

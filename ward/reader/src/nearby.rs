@@ -276,7 +276,7 @@ fn words(cursor: &Cursor, known: &Known) -> Option<usize> {
     let near = !meant(&text(cursor, most), names()).names.is_empty();
     match number {
         _ if near => Some(most),
-        Some(number) if number == 1 => Some(2),
+        Some(1) => Some(2),
         _ => names().any(like).then_some(most),
     }
 }

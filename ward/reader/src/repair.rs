@@ -233,6 +233,10 @@ impl<'c> Draft<'c> {
 fn goes_on(fix: &Fix, next: &[Fix], reading: usize) -> bool {
     let says = next[reading].says.as_str();
     let same = next.iter().any(|next| !next.says.is_empty() && next.says == fix.says);
+    // Where a sign was put in, what stands behind it is minutes.
+    if says == "by the clock" && GUESSES.contains(&fix.says.as_str()) {
+        return false;
+    }
     match same {
         true => says == fix.says,
         false => !GUESSES.contains(&says) && !ENDS.contains(&fix.says.as_str()),

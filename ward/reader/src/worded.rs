@@ -137,7 +137,7 @@ fn list(cursor: &Cursor) -> bool {
 
 /// Two lines, from one time to another.
 fn two(worded: &Worded, first: &str, last: &str) -> Vec<String> {
-    let group = worded.group;
+    let (group, last) = (worded.group, offers::of_same_day(first, last));
     vec![worded.whole(format!("{group} not before {first}")), worded.whole(format!("{group} by {last}"))]
 }
 

@@ -239,6 +239,10 @@ fn words_that_nearly_say_it_show_what_does() {
         ("ready by 9:00 to 9:30", &["ready not before 9:00 ; ready by 9:30"]),
         ("ready by 9:00-9:30", &["ready not before 9:00 ; ready by 9:30"]),
         ("home by Thu 9:00-14:00", &["home not before Thu 9:00 ; home by Thu 14:00"]),
+        ("home Thu 9:00 to 14:00", &["home not before Thu 9:00 ; home by Thu 14:00"]),
+        ("home between Thu 9:00 and 14:00", &["home not before Thu 9:00 ; home by Thu 14:00"]),
+        ("home not before Thu 9:00 to 14:00", &["home not before Thu 9:00 ; home by Thu 14:00"]),
+        ("ready 9:00 <= leaves", &["ready + 9 h <= leaves", "ready - 9:00 <= leaves"]),
         ("ready plus 10 <= leaves", &["ready + 10 <= leaves"]),
         ("leaves same time as ready", &["leaves = ready"]),
         (

@@ -298,6 +298,10 @@ fn the_limits_are_the_archives() {
         assert_eq!(number(0, 0, 1, &[vec![lead, 0]]), Err(refusal));
     }
     assert_eq!(number(0, 1, 1, &[vec![BLANK, 0], zero(0)]), Err(17));
+    let window = |number: u32| span::Window { opening: 100 * number, closing: 100 * number + 50 };
+    let week = |count: usize| (0..count as u32).map(window).collect::<Vec<_>>();
+    assert!(span::first_open(&week(limits::WINDOWS), 0).is_ok());
+    assert!(span::first_open(&week(limits::WINDOWS + 1), 0).is_err());
 }
 
 /// The records of a text with a suspended rule and two spans, that of an empty text, and one with a rule that forbids its own moment.
