@@ -232,9 +232,10 @@ pub fn behind(cursor: &Cursor, subject: &Side, token: Token, from: usize) -> Opt
     let two = |second: String| vec![format!("{before}{first}"), second];
     match token.text.to_lowercase().as_str() {
         "to" | "until" | "till" | "-" if early => Some(fault.fixes("", two(said("by", &of_same_day(time, rest(1)))))),
-        "to" | "until" | "till" if length::is_hours(time.rsplit(' ').next().unwrap_or("")) => {
-            Some(fault.fixes("from the one to the other", vec![said("not before", time), said("by", &of_same_day(time, rest(1)))]))
-        }
+        "to" | "until" | "till" if length::is_hours(time.rsplit(' ').next().unwrap_or("")) => Some(fault.fixes(
+            "from the one to the other",
+            vec![said("not before", time), said("by", &of_same_day(time, rest(1)))],
+        )),
         "by" | "not" | "at" => Some(fault.fixes("", two(whole(&format!("{group} {}", rest(0)))))),
         "or" => {
             let fault = Fault::new(token.from, token.to, "which of both? A line has one limit");

@@ -1,15 +1,18 @@
 //! What is shown for a mistake means nothing else than its writer can have meant: each line here with all that is shown for it.
 
+use crate::paste::paste;
 use crate::{mistakes, read};
 
 const MOMENTS: &str = "ready, porter, leaves, cleaned, free, home, arrives";
 const ANCHOR: &str = "2026-11-17 8:00";
 
 /// All lines that are shown for a line, those of one reading with `;` between them; where a line has several mistakes, those of all.
+/// Each of them is taken.
 fn shown(moments: &str, anchor: &str, line: &str) -> Vec<String> {
     let text = format!("moments: {moments}\nanchor: {anchor}\n{line}\nspan: from anchor to anchor\n");
     let read = read(&text);
     assert!(read.sheet.is_none(), "{line} is read");
+    paste(&text);
     mistakes(&read).iter().flat_map(|mistake| &mistake.fixes).map(|fix| fix.lines.join(" ; ")).collect()
 }
 
