@@ -205,11 +205,11 @@ impl Draft<'_> {
         let known = meant.names.iter().map(String::as_str).chain(longer);
         let one = |known: &str| fix(format!("the moment '{known}'"), vec![renamed(line, at, known)]);
         let mut fixes: Vec<Fix> = known.map(one).collect();
-        // Deeper down, where the line has another mistake, a slip of the keyboard is taken as one.
-        let slip = self.depth > 0 && meant.names.iter().all(|known| nearby::slip(name, known));
-        if !meant.same && !slip && self.depth < 2 && self.names_one(name) {
+        // Where the line has another mistake, a slip of the keyboard is taken as one.
+        let slip = meant.names.iter().all(|known| nearby::slip(name, known));
+        if !meant.same && !(slip && self.depth > 0) && self.depth < 2 && self.names_one(name) {
             let lines = vec![format!("moments: {}", shown::name(name)), line.to_string()];
-            if self.reads(&lines, line) {
+            if self.reads(&lines, line) || !fixes.is_empty() && (!slip || meant.names.is_empty()) {
                 fixes.push(fix("a moment more".into(), lines));
             }
         }

@@ -215,6 +215,9 @@ pub fn unquoted(cursor: &Cursor, token: Token, known: &Known) -> Option<Fault> {
         fault = fault.hint("a sign is missing, or it is another moment");
         fault = fault.fix("later", sum("+")).fix("earlier", sum("-"));
     }
+    if known.moment(token.text).unwrap_or(0) == 0 && declared {
+        return Some(fault);
+    }
     Some(fault.fixes("a moment more", vec![format!("moments: {}", shown::name(&written)), say(&written)]))
 }
 

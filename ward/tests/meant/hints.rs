@@ -94,6 +94,13 @@ fn all_names_that_are_near_are_shown_and_a_moment_more() {
         assert_eq!(near, lines, "{line}");
         assert!(more.starts_with("moments: "), "{line}: {found:?}");
     }
+    // Where the line has another mistake too.
+    for line in ["\"Mr Amsel\" < ready", "Mr Amsel < ready", "Amsel < ready"] {
+        let found = shown("\"Mrs Amsel\", ready", ANCHOR, line);
+        let [one, other] = [&found[..2], &found[2..]].map(|lines| lines.join(" "));
+        assert!(one.contains("Mrs Amsel") && other.contains("moments: "), "{line}: {found:?}");
+    }
+    shows("anchored, ready", ANCHOR, "anchor 30 <= ready", &["anchor + 30 <= ready", "anchor - 30 <= ready"]);
     // Capital letters and spaces make no other name.
     shows("ready, leaves", ANCHOR, "Ready by 9:00", &["ready by 9:00"]);
     shows("\"bed 4\"", ANCHOR, "bed4 by 9:00", &["\"bed 4\" by 9:00"]);
