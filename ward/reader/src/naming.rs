@@ -207,7 +207,8 @@ impl Draft<'_> {
         let mut fixes: Vec<Fix> = known.map(one).collect();
         // Where the line has another mistake, a slip of the keyboard is taken as one.
         let slip = meant.names.iter().all(|known| nearby::slip(name, known));
-        if !meant.same && !(slip && self.depth > 0) && self.depth < 2 && self.names_one(name) {
+        let known = meant.same || slip && self.depth > 0;
+        if !known && self.depth < 2 && self.names_one(name) {
             let lines = vec![format!("moments: {}", shown::name(name)), line.to_string()];
             if self.reads(&lines, line) || !fixes.is_empty() && (!slip || meant.names.is_empty()) {
                 fixes.push(fix("a moment more".into(), lines));
