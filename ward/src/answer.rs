@@ -9,7 +9,7 @@ use crate::error::Error;
 use crate::opening::{self, Door};
 use crate::reasons::{self, Reasons};
 use crate::times::{self, Slack, Times};
-use crate::why::{self, Blocked, Loose};
+use crate::why::{self, Blocked, Loose, Never};
 
 /// A file's text, and all that is told about it.
 pub struct Report {
@@ -52,6 +52,8 @@ pub enum Body {
         plan: Vec<Placed>,
         slack: Slack,
         reasons: Option<Reasons>,
+        /// The moments that no plan has at all.
+        never: Vec<Never>,
     },
     Bottomless(Loose),
     None(Blocked),
@@ -210,7 +212,7 @@ fn same(expected: Expected, outcome: Outcome) -> bool {
 fn span_of(sheet: &Sheet, question: usize, answer: &[u8], wishes: Wishes) -> Result<Span, Error> {
     let problem = record::alone(sheet, question);
     let row = &sheet.questions[question].row;
-    let side = |leads: &[ward_reader::Lead]| shown::side(&sheet.moments, leads, &archive::clock());
+    let side = |leads: &[ward_reader::Lead]| shown::side(&sheet.moments, leads);
     let verdict = match span::check(&problem, answer) {
         Ok(certified) => Verdict::Accepted(certified.outcome),
         Err(refusal) => Verdict::NotAccepted(refusal),
@@ -259,11 +261,15 @@ fn least(
         placed.round = reasons.as_ref().is_some_and(|reasons| reasons.round.contains(&placed.moment));
         placed.door = placed.stamp.and_then(|stamp| opening::door(sheet, placed.moment, stamp, placed.times));
     }
+    opening::together(sheet, question, minutes, &mut plan)?;
+    let left_out = |placed: &&Placed| placed.stamp.is_none() && !placed.free;
+    let left_out: Vec<usize> = plan.iter().filter(left_out).map(|placed| placed.moment).collect();
+    let never = why::never(sheet, &left_out)?;
     let early = why::early(sheet, &stamps)?;
     plan.iter_mut().for_each(|placed| placed.early = early.contains(&placed.moment));
     let group = sheet.questions[question].row.right.iter().zip(&stamps);
     let start = group.filter_map(|(lead, stamp)| Some((*lead)? + (*stamp)?)).max().unwrap_or(0);
-    Ok(Body::Least { minutes, start, plan, slack, reasons })
+    Ok(Body::Least { minutes, start, plan, slack, reasons, never })
 }
 
 /// The moments in the order of time, those that are left out behind, and the free ones last.

@@ -14,10 +14,22 @@ pub fn records(mut records: &[u8], count: usize) -> Vec<&[u8]> {
     parts
 }
 
-/// Bytes that are written in hexadecimal.
+/// All records of a file, one after another, by their length fields. A file with no bytes has one, that of an idle day.
+pub fn all(mut records: &[u8]) -> Vec<&[u8]> {
+    let mut parts = Vec::new();
+    while !records.is_empty() || parts.is_empty() {
+        let field = records.first_chunk().map_or(usize::MAX, |field| u32::from_le_bytes(*field) as usize);
+        let (part, rest) = records.split_at(field.saturating_add(4).min(records.len()));
+        parts.push(part);
+        records = rest;
+    }
+    parts
+}
+
+/// Bytes that are written in hexadecimal; a line with none is the record of an idle day.
 pub fn from_hex(text: &[u8]) -> Option<Vec<u8>> {
     let digits: Vec<u8> = text.iter().copied().filter(|byte| !byte.is_ascii_whitespace()).collect();
-    if digits.is_empty() || digits.len() % 2 == 1 {
+    if text.is_empty() || digits.len() % 2 == 1 {
         return None;
     }
     let digit = |byte: u8| (byte as char).to_digit(16);
@@ -40,8 +52,17 @@ mod tests {
     }
 
     #[test]
+    fn all_records_of_a_file_are_cut() {
+        let all_of = |bytes: &[u8]| all(bytes).iter().map(|part| part.len()).collect::<Vec<_>>();
+        assert_eq!(all_of(&[1, 0, 0, 0, 7, 0, 0, 0, 0]), [5, 4]);
+        assert_eq!(all_of(&[]), [0]);
+        assert_eq!(all_of(&[255; 6]), [6]);
+    }
+
+    #[test]
     fn hexadecimal_is_read() {
         assert_eq!(from_hex(b"0E 00\nff\n"), Some(vec![14, 0, 255]));
+        assert_eq!(from_hex(b"\n"), Some(Vec::new()));
         for text in [&b""[..], b"0", b"0G", b"\x0E\0\0\0"] {
             assert_eq!(from_hex(text), None);
         }

@@ -27,6 +27,8 @@ pub enum Error {
     NoPlan,
     /// A record that the archive takes cannot be told as a text.
     NoText,
+    /// Several records that are not those of one text.
+    Several,
     /// What is wrong with the file of this name.
     In(String, Box<Error>),
 }
@@ -42,6 +44,7 @@ impl fmt::Display for Error {
             Error::NotAccepted(refusal) => write!(out, "the checker does not accept an answer: {refusal}"),
             Error::NoPlan => write!(out, "the checker accepted a least span, and the record has no plan"),
             Error::NoText => write!(out, "the record cannot be told as a text"),
+            Error::Several => write!(out, "these are several records, and no text gives all of them"),
             Error::In(file, error) => write!(out, "{file}: {error}"),
         }
     }
@@ -66,7 +69,7 @@ pub fn status(done: &Result<Ending, Error>) -> u8 {
         Ok(Ending::Good) => 0,
         Ok(Ending::Fault) => 1,
         Err(Error::Unread(_) | Error::Refused(_) | Error::NotAccepted(_)) => 1,
-        Err(Error::NoPlan | Error::NoText | Error::In(..)) => 1,
+        Err(Error::NoPlan | Error::NoText | Error::Several | Error::In(..)) => 1,
         Err(Error::Words(_) | Error::Over(_)) => 2,
         Ok(Ending::NotAccepted) => 3,
         Ok(Ending::Unexpected) => 4,

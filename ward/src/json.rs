@@ -7,10 +7,10 @@ use ward_reader::sheet::Origin;
 use ward_reader::{record, shown, Remark, Sheet, Weight};
 
 use crate::answer::{Body, Placed, Report, Span, Verdict};
-use crate::opening::Door;
+use crate::opening::{Door, Fits};
 use crate::times::{Bound, Slack};
 use crate::told;
-use crate::why::Blocked;
+use crate::why::{Blocked, Never};
 
 /// A value.
 enum Value {
@@ -105,7 +105,7 @@ fn file(report: &Report) -> Value {
                 ("number", number),
                 ("line", Number(rule.place.line as i64)),
                 ("rule", text(&rule.text)),
-                ("says", text(shown::rule(&sheet.moments, rule, &crate::archive::clock()))),
+                ("says", text(shown::rule(&sheet.moments, rule))),
                 ("added", True(rule.origin == Origin::Floor)),
                 ("in_force", True(rule.in_force)),
             ])
@@ -160,7 +160,7 @@ fn body(report: &Report, span: &Span) -> Vec<(&'static str, Value)> {
     let names = |moments: &[usize]| List(moments.iter().map(|&moment| text(&sheet.moments[moment].name)).collect());
     let plan = |plan: &[Placed]| List(plan.iter().map(|placed| moment(report, placed)).collect());
     match &span.body {
-        Body::Least { minutes, plan: placed, slack, reasons, .. } => {
+        Body::Least { minutes, plan: placed, slack, reasons, never, .. } => {
             let mut fields = vec![
                 ("class", text("least")),
                 ("span", Number((*minutes).into())),
@@ -170,6 +170,13 @@ fn body(report: &Report, span: &Span) -> Vec<(&'static str, Value)> {
             fields.push(("notes", List(told::notes(sheet, span).into_iter().map(text).collect())));
             if let Slack::Cannot(why) = slack {
                 fields.push(("no_times", text(*why)));
+            }
+            if !never.is_empty() {
+                let one = |never: &Never| {
+                    let rules: Vec<usize> = never.rules.iter().map(|part| part.rule).collect();
+                    Object(vec![("moment", text(&sheet.moments[never.moment].name)), ("rules", numbers(&rules))])
+                };
+                fields.push(("no_plan_has", List(never.iter().map(one).collect())));
             }
             if let Some(reasons) = reasons {
                 let step = |step: &Option<usize>| step.map_or(Null, |place| Number(place as i64 + 1));
@@ -229,7 +236,7 @@ fn moment(report: &Report, placed: &Placed) -> Value {
             fields.extend([
                 ("ward", text("shut")),
                 ("opens", Number(opens.into())),
-                ("open_and_fits", fits.map_or(Null, |fits| Number(fits.into()))),
+                ("open_and_fits", if let Fits::Together(open) = fits { Number(open.into()) } else { Null }),
             ]);
         }
         _ => {}

@@ -67,6 +67,20 @@ fn put(words: &Words, bytes: &[u8]) -> Result<(), Error> {
     output::put(words.output.as_deref(), bytes).map_err(Error::Unwritten)
 }
 
+/// Writes what was made of the texts. A sheet or a table that is there stays as it was where one of them has a mistake or cannot be
+/// read.
+fn put_good(words: &Words, ending: Ending, made: &str) -> Result<(), Error> {
+    let there =
+        words.output.as_ref().filter(|path| std::fs::metadata(path).is_ok_and(|file| file.is_file() && file.len() > 0));
+    match there.filter(|_| ending == Ending::Fault && words.form != Form::Json) {
+        Some(path) => {
+            tell(&format!("ward: '{}' stays as it was: not all texts could be answered\n", name(path)));
+            Ok(())
+        }
+        None => put(words, made.as_bytes()),
+    }
+}
+
 /// A file's bytes, or those of standard input; no more than a text may have, and one.
 fn bytes(path: &OsStr) -> Result<Vec<u8>, Error> {
     let mut bytes = Vec::new();
@@ -148,7 +162,7 @@ fn answer_all(words: &Words) -> Result<Ending, Error> {
         }
     }
     if !streamed {
-        put(words, shaped(words, &reports).as_bytes())?;
+        put_good(words, ending, &shaped(words, &reports))?;
     }
     Ok(ending)
 }
@@ -187,7 +201,7 @@ fn judge(words: &Words) -> Result<Ending, Error> {
     }
     tell_remarks(&mut report, words);
     let ending = report.ending();
-    put(words, shaped(words, &[report]).as_bytes())?;
+    put_good(words, ending, &shaped(words, &[report]))?;
     Ok(ending)
 }
 
@@ -212,8 +226,9 @@ fn text_of(words: &Words) -> Result<Ending, Error> {
 fn told(path: &OsStr) -> Result<Sheet, Error> {
     let bytes = bytes(path)?;
     let bytes = cut::from_hex(&bytes).unwrap_or(bytes);
-    match archive::refusal(&bytes) {
-        Some(refusal) => Err(Error::Refused(refusal)),
-        None => record::sheet(&bytes).ok_or(Error::NoText),
+    let parts = cut::all(&bytes);
+    if let Some(refusal) = parts.iter().find_map(|part| archive::refusal(part)) {
+        return Err(Error::Refused(refusal));
     }
+    record::joined(&parts).ok_or(if parts.len() == 1 { Error::NoText } else { Error::Several })
 }

@@ -1,10 +1,14 @@
 //! Whether the ward is open at the times of a plan (document 02, 2.8).
 
-use ward_reader::clock::{Window, DAY};
-use ward_reader::Sheet;
+use span::Outcome;
+use ward_reader::clock::{Window, DAY, WEEK};
+use ward_reader::sheet::Row;
+use ward_reader::{limits, Sheet};
 
+use crate::answer::Placed;
 use crate::archive;
-use crate::times::{Bound, Times};
+use crate::error::Error;
+use crate::times::{self, Bound, Times};
 
 /// The ward at a moment. Times are minutes from the anchor.
 #[derive(Clone, Copy, Debug, PartialEq, Eq)]
@@ -13,11 +17,23 @@ pub enum Door {
     Shut {
         /// When it opens next.
         opens: i32,
-        /// The first time at which it is open, among those that the moment can have at the least span.
-        fits: Option<i32>,
+        fits: Fits,
     },
     /// A time that is too far away to be looked up.
     Far,
+}
+
+/// Whether a moment that is planned while the ward is shut can be at a time at which it is open, with the same span.
+#[derive(Clone, Copy, Debug, PartialEq, Eq)]
+pub enum Fits {
+    /// Nobody tried.
+    NotTried,
+    /// Not at any time.
+    No,
+    /// At this time alone; not with the other moments that are looked at, each at such a time or within its open hours.
+    Alone(i32),
+    /// At this time, with all others that are looked at.
+    Together(i32),
 }
 
 /// Why the archive refuses a window, the first of a week that it does, and what to write.
@@ -53,21 +69,85 @@ pub fn door(sheet: &Sheet, moment: usize, stamp: i32, times: Option<Times>) -> O
     Some(match first_open(stamp) {
         None => Door::Far,
         Some(opens) if opens == stamp => Door::Open,
-        Some(opens) => Door::Shut { opens, fits: times.and_then(|times| fits(times, stamp, first_open)) },
+        Some(opens) => Door::Shut { opens, fits: times.map_or(Fits::NotTried, |times| fits(times, stamp, first_open)) },
     })
 }
 
 /// The first open minute between the earliest and the latest time. Where a moment has no earliest time, it is looked for from
 /// the planned time on.
-fn fits(times: Times, stamp: i32, first_open: impl Fn(i32) -> Option<i32>) -> Option<i32> {
+fn fits(times: Times, stamp: i32, first_open: impl Fn(i32) -> Option<i32>) -> Fits {
     let from = match times.earliest {
         Bound::At(minute) => minute,
         _ => stamp,
     };
-    let open = first_open(from)?;
-    match times.latest {
-        Bound::At(latest) if open > latest => None,
-        Bound::Never => None,
-        _ => Some(open),
+    match (first_open(from), times.latest) {
+        (None, _) => Fits::NotTried,
+        (Some(open), Bound::At(latest)) if open > latest => Fits::No,
+        (_, Bound::Never) => Fits::No,
+        (Some(open), _) => Fits::Alone(open),
     }
+}
+
+/// Tries the open times of all moments that are looked at in one plan with this span: those that are shut at the planned time at
+/// their first open time, the others within the hours in which they are planned.
+pub fn together(sheet: &Sheet, question: usize, span: i32, plan: &mut [Placed]) -> Result<(), Error> {
+    let alone = |placed: &Placed| matches!(placed.door, Some(Door::Shut { fits: Fits::Alone(_), .. }));
+    if !plan.iter().any(alone) {
+        return Ok(());
+    }
+    let bounds: Option<Vec<(usize, i32, i32)>> =
+        plan.iter().filter(|placed| placed.door.is_some()).map(|placed| bounds(sheet, placed)).collect();
+    let fit = match bounds {
+        Some(bounds) => tried(sheet, question, span, &bounds)?,
+        None => Some(false),
+    };
+    for placed in plan.iter_mut() {
+        if let Some(Door::Shut { fits, .. }) = &mut placed.door {
+            *fits = match (*fits, fit) {
+                (Fits::Alone(open), Some(true)) => Fits::Together(open),
+                (Fits::Alone(_), None) => Fits::NotTried,
+                (fits, _) => fits,
+            };
+        }
+    }
+    Ok(())
+}
+
+/// From when to when a moment is tried; nothing where it has no open time.
+fn bounds(sheet: &Sheet, placed: &Placed) -> Option<(usize, i32, i32)> {
+    let stamp = placed.stamp?;
+    match placed.door? {
+        Door::Shut { fits: Fits::Alone(open), .. } => Some((placed.moment, open, open)),
+        Door::Open => {
+            let anchor = sheet.anchor?;
+            let monday = anchor.day? as i32 * DAY + anchor.minute;
+            let minute = (stamp + monday).rem_euclid(WEEK);
+            let window =
+                sheet.week.iter().find(|window| (window.opening as i32..window.closing as i32).contains(&minute))?;
+            let (before, behind) = (minute - window.opening as i32, window.closing as i32 - 1 - minute);
+            Some((placed.moment, stamp - before, stamp + behind))
+        }
+        _ => None,
+    }
+}
+
+/// Whether a plan with this span keeps the rules with moments within these bounds; nothing where that cannot be asked.
+fn tried(sheet: &Sheet, question: usize, span: i32, bounds: &[(usize, i32, i32)]) -> Result<Option<bool>, Error> {
+    let count = sheet.moments.len();
+    let only = |moment: usize, lead: i32| (0..count).map(|place| (place == moment).then_some(lead)).collect::<Vec<_>>();
+    let Some(most) = times::at_most(&sheet.questions[question].row, span) else { return Ok(None) };
+    let mut more = vec![most];
+    for &(moment, from, to) in bounds {
+        if from.abs() > limits::LEAD || to.abs() > limits::LEAD {
+            return Ok(None);
+        }
+        more.push(times::row(only(0, from), only(moment, 0)));
+        more.push(times::row(only(moment, 0), only(0, to)));
+    }
+    let rules: Vec<&Row> = sheet.in_force().chain(&more).collect();
+    if rules.len() > limits::RULES {
+        return Ok(None);
+    }
+    let outcomes = archive::ask(&rules, &[times::earliest(0, count)])?;
+    Ok(Some(outcomes != [Outcome::None]))
 }

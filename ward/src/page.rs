@@ -16,9 +16,6 @@ const STYLE: &str = include_str!("sheet.css");
 const HEAD: usize = 24;
 const ROW: usize = 27;
 
-/// The most moments of a plan that one printed page holds with its timeline.
-const SHORT: usize = 11;
-
 /// Words that cannot be taken for marks of the page.
 fn safe(words: &str) -> String {
     let mut text = String::new();
@@ -116,11 +113,7 @@ fn text(report: &Report) -> String {
 
 fn article(sheet: &Sheet, number: usize, count: usize, span: &Span) -> String {
     let heading = if count == 1 { "Span".to_string() } else { format!("Span {} of {count}", number + 1) };
-    let short = match &span.body {
-        Body::Least { plan, .. } if plan.len() > SHORT => "",
-        _ => " class=\"short\"",
-    };
-    let mut page = format!("<article{short}>\n<h2>{heading}</h2>\n");
+    let mut page = format!("<article>\n<h2>{heading}</h2>\n");
     let _ = writeln!(
         page,
         "<dl class=\"groups\"><dt>from</dt><dd>{}</dd><dt>to</dt><dd>{}</dd></dl>",
@@ -191,14 +184,8 @@ fn table(sheet: &Sheet, plan: &[Placed]) -> String {
     heads.extend(clocked.then_some("After the anchor"));
     heads.extend(timed.then_some(["Earliest", "Latest"]).into_iter().flatten());
     heads.extend(noted.then_some("Note"));
-    let caption = if timed {
-        "Each moment alone can be anywhere from its earliest to its latest time; the span stays the least."
-    } else {
-        "In the order of time."
-    };
-    let times = plan.iter().filter_map(|placed| placed.stamp).map(|stamp| told::time(sheet, stamp).chars().count());
-    let width = times.max().unwrap_or(4);
-    let mut page = format!("<table style=\"--time: {width}ch\">\n<caption>{caption}</caption>\n<thead><tr>");
+    let caption = told::moving(plan).unwrap_or("In the order of time.");
+    let mut page = format!("<div class=\"wide\">\n<table>\n<caption>{caption}</caption>\n<thead><tr>");
     heads.iter().for_each(|head| {
         page += &format!("<th scope=\"col\"{}>{head}</th>", if *head == heads[0] { " class=\"time\"" } else { "" })
     });
@@ -206,7 +193,7 @@ fn table(sheet: &Sheet, plan: &[Placed]) -> String {
     for placed in plan {
         page += &line(sheet, placed, clocked, timed, noted);
     }
-    page + "</tbody>\n</table>\n"
+    page + "</tbody>\n</table>\n</div>\n"
 }
 
 fn line(sheet: &Sheet, placed: &Placed, clocked: bool, timed: bool, noted: bool) -> String {
@@ -278,16 +265,16 @@ fn upright(class: &str, place: f64, from: usize, to: usize) -> String {
     format!("<line class=\"{class}\" x1=\"{place:.2}%\" x2=\"{place:.2}%\" y1=\"{from}\" y2=\"{to}\"/>\n")
 }
 
-/// The times above, and a line down from each. A time at the right end stays inside.
+/// The times above, and a line down from each. A time at the right end stays inside: it ends at its line.
 fn grid(sheet: &Sheet, scale: &Scale, height: usize) -> String {
     let mut drawing = String::new();
     for (number, &mark) in scale.marks.iter().enumerate() {
         let place = percent(scale.place(mark.into()));
         let odd = if number % 2 == 1 { " class=\"odd\"" } else { "" };
-        let (x, anchor) = if place > 92.0 { (100.0, "end") } else { (place, "middle") };
+        let anchor = if place > 92.0 { "end" } else { "middle" };
         let time = safe(&told::short(sheet, mark));
         drawing += &upright("grid", place, HEAD - 6, height);
-        drawing += &format!("<text{odd} x=\"{x:.2}%\" y=\"14\" text-anchor=\"{anchor}\">{time}</text>\n");
+        drawing += &format!("<text{odd} x=\"{place:.2}%\" y=\"14\" text-anchor=\"{anchor}\">{time}</text>\n");
     }
     drawing
 }

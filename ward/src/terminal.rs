@@ -200,6 +200,9 @@ fn one(sheet: &Sheet, span: &Span, look: Look) -> String {
             let _ = writeln!(text, "  {rule}");
         }
     }
+    if let Body::Least { plan, .. } = &span.body {
+        text.extend(told::moving(plan).map(|words| format!("{words}\n")));
+    }
     text
 }
 
@@ -334,9 +337,9 @@ fn axis(sheet: &Sheet, scale: &Scale, signs: &Signs, label: usize, width: usize)
         let column = (scale.place(mark.into()) * (width - 1) as f64).round() as usize;
         let time: Vec<char> = told::short(sheet, mark).chars().collect();
         marks[column] = signs.mark;
-        // The last time ends with the line, and a time that has no room is left out.
-        let start = column.min(width.saturating_sub(time.len()));
-        if start >= free && time.len() <= width {
+        // A time starts at its mark, or ends there at the end of the line; one that has no room is left out.
+        let start = if column + time.len() <= width { column } else { (column + 1).saturating_sub(time.len()) };
+        if start >= free && start + time.len() <= width {
             times[start..start + time.len()].copy_from_slice(&time);
             free = start + time.len() + 1;
         }

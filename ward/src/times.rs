@@ -92,7 +92,7 @@ fn times(earliest: Outcome, latest: Outcome) -> Times {
 
 /// The rule that a span is at most so many minutes: its end is at most its start plus the minutes. Where that is too much for
 /// the leads of one side, a part is taken off the other.
-fn at_most(question: &Row, span: i32) -> Option<Row> {
+pub fn at_most(question: &Row, span: i32) -> Option<Row> {
     let limit = i64::from(limits::LEAD);
     let ends = |leads: &[Lead], more: i64| {
         let leads: Vec<i64> = leads.iter().flatten().map(|&lead| i64::from(lead) + more).collect();

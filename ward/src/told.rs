@@ -7,9 +7,9 @@ use ward_reader::{shown, Sheet};
 
 use crate::answer::{Body, Placed, Span};
 use crate::archive::hours;
-use crate::opening::Door;
+use crate::opening::{Door, Fits};
 use crate::times::{Bound, Slack};
-use crate::why::{Blocked, Loose, Part};
+use crate::why::{Blocked, Loose, Never, Part};
 
 /// Minutes, and hours and minutes where that helps.
 pub fn minutes(value: i32) -> String {
@@ -78,10 +78,19 @@ pub fn note(sheet: &Sheet, placed: &Placed) -> String {
         None => String::new(),
         Some(Door::Open) => "open at the planned time".into(),
         Some(Door::Far) => "opening hours cannot be looked up so far away".into(),
-        Some(Door::Shut { opens, fits: None }) => format!("shut at the planned time, opens {}", time(sheet, opens)),
-        Some(Door::Shut { fits: Some(fits), .. }) => {
-            format!("shut at the planned time; open {}, which fits the least span", time(sheet, fits))
+        Some(Door::Shut { opens, fits }) => format!("shut at the planned time; {}", shut(sheet, opens, fits)),
+    }
+}
+
+/// When a shut ward is open, and whether that fits the least span.
+fn shut(sheet: &Sheet, opens: i32, fits: Fits) -> String {
+    match fits {
+        Fits::NotTried => format!("opens {}; not tried whether that fits the least span", time(sheet, opens)),
+        Fits::No => format!("opens {}, which does not fit the least span", time(sheet, opens)),
+        Fits::Alone(open) => {
+            format!("open {}, which fits the least span for this moment alone, not with the others", time(sheet, open))
         }
+        Fits::Together(open) => format!("open {}, which fits the least span", time(sheet, open)),
     }
 }
 
@@ -140,6 +149,15 @@ pub fn some_smaller(span: &Span) -> String {
     format!("some plan {} has a smaller one.", counting(span))
 }
 
+/// What earliest and latest times say, and what they do not, where some moment can move.
+pub fn moving(plan: &[Placed]) -> Option<&'static str> {
+    let moves = |placed: &Placed| placed.times.is_some_and(|times| times.earliest != times.latest) && !placed.free;
+    plan.iter().any(moves).then_some(
+        "Earliest and latest times are for one moment alone, at the least span. Moving one may break a rule with another: write \
+         its new time as a rule, and ask again. Opening hours are not looked at.",
+    )
+}
+
 /// What the checker says, in a line.
 pub fn verdict(span: &Span) -> String {
     let words = span.verdict.words();
@@ -166,9 +184,10 @@ fn listed(rules: &[usize]) -> Vec<Listed> {
 /// What is said below the plan: why there is none, and what could not be found. Each with the rules that it names.
 pub fn explained(sheet: &Sheet, span: &Span) -> Vec<(String, Vec<Listed>)> {
     match &span.body {
-        Body::Least { slack, reasons, .. } => {
+        Body::Least { slack, reasons, never, .. } => {
             let mut told: Vec<(String, Vec<Listed>)> =
                 notes(sheet, span).into_iter().map(|note| (note, Vec::new())).collect();
+            told.extend(never.iter().map(|never| never_words(sheet, never)));
             if let Slack::Cannot(why) = slack {
                 told.push((format!("Earliest and latest times cannot be told: {why}."), Vec::new()));
             }
@@ -221,11 +240,19 @@ fn loose_words(sheet: &Sheet, loose: &Loose) -> Vec<String> {
     told
 }
 
+/// That no plan has a moment, with the rules that make it so.
+fn never_words(sheet: &Sheet, never: &Never) -> (String, Vec<Listed>) {
+    let name = &sheet.moments[never.moment].name;
+    (format!("No plan that keeps the rules has {name}, because of:"), with_roles(sheet, &never.rules))
+}
+
+/// The rules of a quarrel, each with what it does there.
+fn with_roles(sheet: &Sheet, parts: &[Part]) -> Vec<Listed> {
+    parts.iter().map(|part| Listed { rule: part.rule, role: role(sheet, *part) }).collect()
+}
+
 fn blocked_words(sheet: &Sheet, blocked: &Blocked) -> (String, Vec<Listed>) {
-    let roles = |parts: &[Part]| {
-        let listed = |part: &Part| Listed { rule: part.rule, role: role(sheet, *part) };
-        parts.iter().map(listed).collect::<Vec<_>>()
-    };
+    let roles = |parts: &[Part]| with_roles(sheet, parts);
     match blocked {
         Blocked::FromNothing => {
             ("The group that the span starts from is empty: no plan counts, whatever the rules.".into(), Vec::new())
@@ -234,7 +261,8 @@ fn blocked_words(sheet: &Sheet, blocked: &Blocked) -> (String, Vec<Listed>) {
             ("No plan can keep this rule:".into(), listed(&[rules[0].rule]))
         }
         Blocked::Contradiction(rules) => (
-            "These rules contradict each other; without any one of them there is a plan that keeps the others:".into(),
+            "These rules contradict each other; without any one of them there is a plan that keeps the others of this list:"
+                .into(),
             roles(rules),
         ),
         Blocked::StartLeftOut(rules) => (
@@ -286,7 +314,7 @@ pub fn words(sheet: &Sheet, place: usize) -> String {
     match rule.origin {
         Origin::Line => rule.text.clone(),
         Origin::Half => {
-            format!("{}, that is {}", rule.text, shown::rule(&sheet.moments, rule, &crate::archive::clock()))
+            format!("{}, that is {}", rule.text, shown::rule(&sheet.moments, rule))
         }
         Origin::Floor => format!("{}, by 'nothing before anchor'", rule.text),
     }

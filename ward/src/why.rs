@@ -92,6 +92,26 @@ pub fn blocked(sheet: &Sheet, question: usize) -> Result<Blocked, Error> {
     }
 }
 
+/// A moment that no plan has, and the rules that make it so.
+#[derive(Clone, Debug, PartialEq, Eq)]
+pub struct Never {
+    pub moment: usize,
+    pub rules: Vec<Part>,
+}
+
+/// The moments among those that a plan leaves out which no plan that keeps the rules has.
+pub fn never(sheet: &Sheet, left_out: &[usize]) -> Result<Vec<Never>, Error> {
+    let rules: Vec<(usize, &Row)> = sheet.rules.iter().enumerate().filter(|(_, rule)| rule.in_force).collect();
+    let mut found = Vec::new();
+    for &moment in left_out {
+        let question = latest(moment, sheet.moments.len());
+        if is_none(&rules, &question)? {
+            found.push(Never { moment, rules: narrowed(rules.clone(), &question)? });
+        }
+    }
+    Ok(found)
+}
+
 fn is_none(rules: &[(usize, &Row)], question: &Row) -> Result<bool, Error> {
     let rules: Vec<&Row> = rules.iter().map(|(_, rule)| *rule).collect();
     Ok(archive::ask(&rules, std::slice::from_ref(question))? == [Outcome::None])

@@ -20,7 +20,8 @@ ward: a scheduler's text in, a judged plan out
 FILE is a path, or - for standard input. docs/SCHEDULERS.md teaches the text.
 
   --json, --csv, --html       for programs, for tables, or a sheet to open or print
-  -o, --output FILE           writes there, and not to standard output, which is - here too
+  -o, --output FILE           writes there, and not to standard output, which is - here too; a sheet
+                              or table that is there stays where a text has a mistake
   --quick                     leaves out the earliest and latest times
   --plain                     no signs beyond ASCII in the timeline
   --binary                    with record: the bytes themselves

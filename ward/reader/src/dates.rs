@@ -50,8 +50,18 @@ pub fn day(seen: &Seen) -> Option<Put> {
         _ => {}
     }
     let known = clock::day(short).filter(|_| short.len() < word.len());
-    let other = OTHERS.iter().position(|names| names.contains(&short));
-    one(1, &DAYS[known.or(other)?][..3])
+    one(1, &DAYS[known.or(day_name(short))?][..3])
+}
+
+/// The day that another name is one of.
+pub fn day_name(word: &str) -> Option<usize> {
+    let short = word.strip_suffix('.').unwrap_or(word);
+    OTHERS.iter().position(|names| names.contains(&short))
+}
+
+/// Whether a word names a month.
+pub fn is_month(word: &str) -> bool {
+    month(word).is_some()
 }
 
 /// The month that a word names.

@@ -2,17 +2,24 @@
 
 /// The candidate that a word was probably meant to be, if one is near.
 pub fn near<'a>(word: &str, candidates: impl Iterator<Item = &'a str>) -> Option<&'a str> {
+    all_near(word, candidates).first().copied()
+}
+
+/// All candidates that a word may have been meant to be, the nearest first: where one is near, those that are nearly so too.
+pub fn all_near<'a>(word: &str, candidates: impl Iterator<Item = &'a str>) -> Vec<&'a str> {
     if word.len() > 4 * crate::limits::NAME {
-        return None;
+        return Vec::new();
     }
     let small = word.to_lowercase();
-    let far = small.chars().count() / 3 + 1;
+    let far = (small.chars().count() / 3 + 1).min(3);
     let mut found: Vec<(usize, &str)> = candidates
         .map(|candidate| (steps(&small, &candidate.to_lowercase()), candidate))
-        .filter(|(steps, _)| *steps < far.min(3))
+        .filter(|(steps, _)| *steps < 3)
         .collect();
     found.sort();
-    found.first().map(|(_, candidate)| *candidate)
+    let wide = if small.chars().count() > 4 && found.first().is_some_and(|(steps, _)| *steps < far) { 3 } else { far };
+    found.retain(|(steps, _)| *steps < wide);
+    found.into_iter().map(|(_, candidate)| candidate).collect()
 }
 
 /// How many letters must be put in, left out or changed, or neighbours swapped, to make one word of the other.

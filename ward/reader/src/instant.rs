@@ -11,6 +11,9 @@ use crate::sheet::Moment;
 use crate::shown;
 use crate::tokens::{Kind, Token};
 
+/// What is said of a time that no rule can name.
+pub const FAR: &str = "this is more than two weeks from the anchor";
+
 /// What a line is read with.
 #[derive(Clone, Copy)]
 pub struct Known<'k> {
@@ -110,7 +113,7 @@ fn time(cursor: &mut Cursor, clock: &Clock, from: usize, named: bool) -> Result<
 }
 
 /// What a time has behind it that it must not have: `pm`, `Uhr`, or its day.
-fn half(cursor: &Cursor, time: Token) -> Option<Fault> {
+pub fn half(cursor: &Cursor, time: Token) -> Option<Fault> {
     let token = cursor.peek(0).filter(|token| token.kind == Kind::Word)?;
     let say = |text: &str| with(cursor.line, time.from, token.to, text);
     let fault = |message: String| Some(Fault::new(time.from, token.to, message));
@@ -161,8 +164,11 @@ fn no_time(cursor: &Cursor, from: usize, named: bool) -> Fault {
     if let Some(fault) = next.filter(|_| named).and_then(|next| hour_of_day(cursor, next, from)) {
         return fault;
     }
+    let ends =
+        next.is_none_or(|next| next.kind != Kind::Word) || ["midnight", "to", "and", "or"].contains(&word.as_str());
     let to = if word == "midnight" { to } else { from + before.len() };
     match named {
+        true if !ends => fault,
         true => fault
             .fix("when the day starts", with(cursor.line, from, to, &format!("{before} 0:00")))
             .fix("when the day ends", with(cursor.line, from, to, &format!("{before} 24:00"))),
@@ -224,6 +230,9 @@ pub fn read(cursor: &mut Cursor, known: &Known, listed: bool) -> Result<i32, Fau
                 return Err(fault("nobody knows what day the anchor is")
                     .hint("write the anchor with its day, as in anchor: Monday 8:00"));
             };
+            if let Some(fault) = night(line, &stamp, anchor.minute) {
+                return Err(fault);
+            }
             of_day(first, day, offset)
         }
         (None, None) if offset < 0 => {
@@ -235,7 +244,7 @@ pub fn read(cursor: &mut Cursor, known: &Known, listed: bool) -> Result<i32, Fau
     };
     match found[..] {
         [only] if only.abs() > limits::LEAD => {
-            Err(fault("this is more than two weeks from the anchor").hint("is it a slip of the keyboard?"))
+            Err(fault(FAR).hint("is it a slip of the keyboard? Times lie within two weeks of the anchor"))
         }
         [only] => Ok(only),
         _ => {
@@ -245,6 +254,20 @@ pub fn read(cursor: &mut Cursor, known: &Known, listed: bool) -> Result<i32, Fau
             }))
         }
     }
+}
+
+/// A time of the night behind a day of the week, in a text that starts by day: it may be one of the afternoon. A zero before it says
+/// that it is none.
+fn night(line: &str, stamp: &Stamp, anchor: i32) -> Option<Fault> {
+    let (days, time) = line[stamp.from..stamp.to].rsplit_once(' ')?;
+    let such = (60..6 * 60).contains(&stamp.minute) && (6 * 60..20 * 60).contains(&anchor) && !time.starts_with('0');
+    let say = |time: String| with(line, stamp.from, stamp.to, &format!("{days} {time}"));
+    let (hours, minutes) = (stamp.minute / 60, stamp.minute % 60);
+    such.then(|| {
+        Fault::new(stamp.from, stamp.to, format!("'{days} {time}' can be read in two ways"))
+            .fix("at night", say(format!("0{time}")))
+            .fix("in the afternoon", say(format!("{}:{minutes:02}", hours + 12)))
+    })
 }
 
 /// The offsets that a day of the week and a time can have: the next one, and the last one too where that is as near at hand: on the
@@ -262,7 +285,7 @@ fn of_day(anchor: usize, day: usize, offset: i32) -> Vec<i32> {
 }
 
 /// A point of time in words.
-fn told(anchor: &Anchor, offset: i32, clock: &Clock) -> String {
+pub fn told(anchor: &Anchor, offset: i32, clock: &Clock) -> String {
     let minute = anchor.minute + offset;
     let (days, of_day) = (minute.div_euclid(DAY), minute.rem_euclid(DAY));
     let time = (clock.write)(of_day);
@@ -280,6 +303,8 @@ fn told(anchor: &Anchor, offset: i32, clock: &Clock) -> String {
         _ => match days {
             0 => format!("{time} on the anchor's day{side}"),
             1 => format!("{time} on the next day"),
+            -1 => format!("{time} on the day before"),
+            ..0 => format!("{time}, {} days before", -days),
             _ => format!("{time}, {days} days later"),
         },
     }

@@ -227,7 +227,13 @@ pub fn point(cursor: &Cursor, first: Token) -> Option<Fault> {
     let say = |text: String| with(cursor.line, first.from, to, &text);
     let fault = Fault::new(first.from, to, format!("'{written}' has a decimal point or comma, and minutes are whole"));
     let minutes = |unit: i32| decimal(whole, part, unit.into()).filter(|&minutes| minutes <= limits::LEAD.into());
+    let clock = part.len() == 2 && part.parse().is_ok_and(|minutes: i32| minutes < 60);
     if let Some(unit) = unit {
+        // `1.30 h` may be an hour and a half.
+        let fault = match unit == 60 && clock {
+            true => fault.fix("hours and minutes", say(format!("{whole}:{part}"))),
+            false => fault,
+        };
         return Some(match minutes(unit) {
             Some(minutes) => fault.fix("in minutes", say(format!("{minutes} min"))),
             None => fault,
@@ -236,12 +242,11 @@ pub fn point(cursor: &Cursor, first: Token) -> Option<Fault> {
     if part.len() == 3 {
         return Some(fault.fix("a point or comma between thousands", say(format!("{whole}{part}"))));
     }
-    let clock = part.len() == 2 && part.parse().is_ok_and(|minutes: i32| minutes < 60);
     let mut fault = fault;
     if clock {
         fault = fault.fix("hours and minutes", say(format!("{whole}:{part}")));
     }
-    if let Some(minutes) = minutes(60).filter(|minutes| *minutes != 0) {
+    if let Some(minutes) = minutes(60).filter(|minutes| (1..=24 * 60).contains(minutes)) {
         fault = fault.fix(format!("{written} hours"), say(format!("{minutes} min")));
     }
     match minutes(1) {

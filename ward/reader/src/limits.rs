@@ -21,3 +21,5 @@ pub const SHOWN: usize = 20;
 pub const KEPT: usize = 1_000;
 /// Brackets within brackets.
 pub const BRACKETS: usize = 16;
+/// Opening hours in a week.
+pub const WINDOWS: usize = 14;

@@ -5,6 +5,7 @@ use crate::cursor::Cursor;
 use crate::fault::{with, Fault, Fix};
 use crate::length;
 use crate::limits;
+use crate::nearby::{self, Meant};
 use crate::parse::{place, renamed, renamed_to, Draft};
 use crate::remark::Place;
 use crate::sheet::Moment;
@@ -180,6 +181,7 @@ pub fn unknown_hint(name: &str, first: bool) -> &'static str {
     match name.to_lowercase().as_str() {
         "if" | "when" | "unless" | "wenn" => "a rule has no 'if': it always holds, or is suspended",
         "about" | "around" | "circa" | "ca." => "times are exact here: say both limits, in two lines",
+        word if nearby::everyday(word).is_some() => nearby::everyday(word).unwrap_or_default(),
         _ if first => "name it first, on a line 'moments: ..'",
         _ => "name it on the line 'moments: ..'",
     }
@@ -192,32 +194,37 @@ const WORDS: [&str; 20] = [
 ];
 
 impl Draft<'_> {
-    /// What can be written for a name that no line declares: a name that is near, one that it is a part of, or a moment more.
-    pub(crate) fn names_for(&self, name: &str, near: Option<&str>, line: &str, at: Place) -> Vec<Fix> {
+    /// What can be written for a name that no line declares: names that are near, those that it is a part of, or a moment more.
+    pub(crate) fn names_for(&self, name: &str, meant: &Meant, line: &str, at: Place) -> Vec<Fix> {
         let fix = |says: String, lines: Vec<String>| Fix { says, lines };
-        let mut fixes = Vec::new();
         if let Some((known, minutes)) = self.slipped(name) {
             let text = format!("{} {minutes}", shown::name(known));
             return vec![fix("the moment and its minutes".into(), vec![renamed_to(line, at, &text)])];
         }
-        let longer = self.longer(name).filter(|_| near.is_none());
-        if let Some(known) = near.or(longer) {
-            fixes.push(fix(format!("the moment '{known}'"), vec![renamed(line, at, known)]));
-        }
-        let digits = |name: &str| name.chars().filter(char::is_ascii_digit).collect::<String>();
-        let own = near.is_none_or(|near| digits(near) != digits(name) && !digits(name).is_empty());
-        let plain = |c: char| c.is_alphanumeric() || " -'’#_".contains(c);
-        let word = WORDS.contains(&name.to_lowercase().as_str()) || sides::quoted_fault(name).is_some();
-        if own && self.depth == 0 && name.chars().all(plain) && !word {
+        let longer = if meant.names.is_empty() { self.longer(name) } else { Vec::new() };
+        let known = meant.names.iter().map(String::as_str).chain(longer);
+        let one = |known: &str| fix(format!("the moment '{known}'"), vec![renamed(line, at, known)]);
+        let mut fixes: Vec<Fix> = known.map(one).collect();
+        // Where the line has another mistake, a slip of the keyboard is taken as one.
+        let slip = meant.names.iter().all(|known| nearby::slip(name, known));
+        let known = meant.same || slip && self.depth > 0;
+        if !known && self.depth < 2 && self.names_one(name) {
             let lines = vec![format!("moments: {}", shown::name(name)), line.to_string()];
-            if self.reads(&lines, line) {
+            if self.reads(&lines, line) || !fixes.is_empty() && (!slip || meant.names.is_empty()) {
                 fixes.push(fix("a moment more".into(), lines));
             }
         }
-        if let [only] = &mut fixes[..] {
-            only.says = if near.is_some() { String::new() } else { std::mem::take(&mut only.says) };
+        if let ([only], true) = (&mut fixes[..], meant.same) {
+            only.says = String::new();
         }
         fixes
+    }
+
+    /// Whether a word can be meant as a moment's name: it is none of the words of rules or of every day.
+    fn names_one(&self, name: &str) -> bool {
+        let plain = |c: char| c.is_alphanumeric() || " -'’#_.".contains(c);
+        let word = WORDS.contains(&name.to_lowercase().as_str()) || nearby::everyday(name).is_some();
+        name.chars().all(plain) && !word && sides::quoted_fault(name).is_none()
     }
 
     /// A name in quotes that holds a declared name with a sign and minutes behind it.
@@ -229,13 +236,17 @@ impl Draft<'_> {
         length::starts(minutes.split(' ').next()?).then_some((known, rest))
     }
 
-    /// The one declared name that has a word as its first or its last.
-    fn longer(&self, word: &str) -> Option<&str> {
+    /// The declared names that have a word as their first or their last, where there are few.
+    fn longer(&self, word: &str) -> Vec<&str> {
         let has = |name: &&str| {
             name.strip_prefix(word).is_some_and(|rest| rest.starts_with(' '))
                 || name.strip_suffix(word).is_some_and(|rest| rest.ends_with(' '))
         };
-        let mut found = sides::names(&self.sheet.moments).filter(has);
-        found.next().filter(|_| found.next().is_none())
+        let found: Vec<&str> = sides::names(&self.sheet.moments).filter(has).collect();
+        if found.len() > 3 {
+            Vec::new()
+        } else {
+            found
+        }
     }
 }

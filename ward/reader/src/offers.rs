@@ -24,6 +24,14 @@ const SIDES: [(&str, &str); 12] = [
     ("onwards", "not before"),
 ];
 
+/// A time of day behind another that has its day: it is of the same one.
+pub fn of_same_day(first: &str, last: &str) -> String {
+    match first.rsplit_once(' ').filter(|(_, time)| length::is_hours(time) && length::is_hours(last)) {
+        Some((day, _)) => format!("{day} {last}"),
+        None => last.into(),
+    }
+}
+
 /// On which side of a time words say that something is, where they stand so many tokens ahead and end the line.
 pub fn side_behind(cursor: &Cursor, ahead: usize) -> Option<&'static str> {
     let plain = |place: usize| cursor.plain(ahead + place).to_lowercase();
@@ -71,7 +79,7 @@ pub fn at_time(
 }
 
 /// A time of day with nothing that says on which side of it something is.
-fn at_which(fault: Fault, time: &str, whole: &dyn Fn(&str) -> String) -> Fault {
+pub fn at_which(fault: Fault, time: &str, whole: &dyn Fn(&str) -> String) -> Fault {
     let message = format!("is this the latest time, the earliest, or both? '{time}' alone does not say");
     let fault = Fault { message, ..fault };
     fault.fix("then", whole("=")).fix("then or earlier", whole("by")).fix("then or later", whole("not before"))
@@ -223,7 +231,11 @@ pub fn behind(cursor: &Cursor, subject: &Side, token: Token, from: usize) -> Opt
     let fault = Fault::new(token.from, token.to, format!("'{}' is too much: a line has one limit", token.text));
     let two = |second: String| vec![format!("{before}{first}"), second];
     match token.text.to_lowercase().as_str() {
-        "to" | "until" | "till" | "-" if early => Some(fault.fixes("", two(said("by", rest(1))))),
+        "to" | "until" | "till" | "-" if early => Some(fault.fixes("", two(said("by", &of_same_day(time, rest(1)))))),
+        "to" | "until" | "till" if length::is_hours(time.rsplit(' ').next().unwrap_or("")) => Some(fault.fixes(
+            "from the one to the other",
+            vec![said("not before", time), said("by", &of_same_day(time, rest(1)))],
+        )),
         "by" | "not" | "at" => Some(fault.fixes("", two(whole(&format!("{group} {}", rest(0)))))),
         "or" => {
             let fault = Fault::new(token.from, token.to, "which of both? A line has one limit");

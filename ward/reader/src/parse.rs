@@ -25,16 +25,16 @@ use crate::cursor::Cursor;
 use crate::fault::{with, Fault};
 use crate::floor::{self, Floor};
 use crate::hash;
-use crate::hints;
 use crate::instant::Known;
 use crate::length;
 use crate::limits;
 use crate::lines::{headed, without_colon, Key};
 use crate::naming;
+use crate::nearby::{self, Meant};
 use crate::outcome::Expected;
 use crate::remark::{Place, Remark, Weight};
 use crate::repair::{self, FIXED};
-use crate::sheet::{Form, Origin, Sheet};
+use crate::sheet::{Form, Origin, Sheet, EXACT};
 use crate::shown;
 use crate::sides;
 use crate::source;
@@ -60,9 +60,7 @@ pub fn read(bytes: &[u8], clock: &Clock) -> Read {
         draft.sheet = Sheet::idle();
     } else if source.readable {
         draft.sheet.title = source.lines.first().and_then(|line| title(line));
-        draft.all(&source.lines, |key| key == Key::Moments);
-        draft.all(&source.lines, |key| key == Key::Anchor);
-        draft.all(&source.lines, |key| key != Key::Moments && key != Key::Anchor);
+        draft.every(&source.lines);
         if !draft.mistaken() {
             draft.add_floor();
         }
@@ -110,6 +108,8 @@ pub(crate) struct Draft<'c> {
     pub(crate) beyond: usize,
     /// Whether the anchor's line is a mistake.
     pub(crate) doubtful: bool,
+    /// Whether a line of opening hours is a mistake.
+    pub(crate) unopened: bool,
     /// The line `nothing before anchor`.
     pub(crate) floor: Option<Floor>,
     /// Where the line `record:` stands.
@@ -139,6 +139,7 @@ impl<'c> Draft<'c> {
             looks: BTreeMap::new(),
             beyond: 0,
             doubtful: false,
+            unopened: false,
             floor: None,
             form: None,
             depth: 0,
@@ -160,6 +161,13 @@ impl<'c> Draft<'c> {
         let Fault { from, to, message, hint, fixes } = fault;
         let place = place(number, line, from, to);
         self.remarks.push(Remark { weight: Weight::Mistake, place, message, hint, fixes });
+    }
+
+    /// Reads all lines: those first that others are read with.
+    pub(crate) fn every(&mut self, lines: &[String]) {
+        self.all(lines, |key| key == Key::Moments);
+        self.all(lines, |key| [Key::Anchor, Key::Record].contains(&key));
+        self.all(lines, |key| ![Key::Moments, Key::Anchor, Key::Record].contains(&key));
     }
 
     /// Reads the lines of some kinds.
@@ -216,6 +224,7 @@ impl<'c> Draft<'c> {
             done
         });
         self.doubtful |= key == Key::Anchor && done.is_err();
+        self.unopened |= key == Key::Open && (done.is_err() || self.remarks.len() > before);
         if let Err(fault) = done {
             self.wrong(number, line, fault);
         }
@@ -249,6 +258,10 @@ impl<'c> Draft<'c> {
     fn record(&mut self, number: usize, cursor: &mut Cursor) -> Result<(), Fault> {
         let (from, text, line) = (cursor.place(), cursor.rest(), cursor.line);
         let said = text.split_whitespace().map(str::to_lowercase).collect::<Vec<_>>().join(" ");
+        if said == EXACT {
+            self.sheet.exact = true;
+            return Ok(());
+        }
         let form = [Form::Counted, Form::States].into_iter().find(|form| form.words() == Some(&said));
         let Some(form) = form else {
             let fault = Fault::new(from, from + text.len(), "this line says how the record is written, and not so");
@@ -297,6 +310,8 @@ impl<'c> Draft<'c> {
             return Err(match words[..] {
                 [number] if self.number(number).is_some() => fault.fix("", say(format!("least {number}"))),
                 ["no", "plan"] => fault.fix("", say("none".into())),
+                ["exactly", ref rest @ ..] => fault.fix("", say(format!("least {}", rest.join(" ")))),
+                [number, ..] if length::starts(number) => fault.fix("", say(format!("least {text}"))),
                 ["at", limit, ..] => {
                     let least = say(format!("least {}", words[2..].join(" ")));
                     let fault = fault.hint("what is expected is one answer, and no limit of it");
@@ -378,7 +393,7 @@ impl<'c> Draft<'c> {
             let hint = "leave this line out: a rule of the text is suspended";
             self.missing(place, "no record has a count of its spans and suspended rules", hint);
         }
-        if let (Some(&moment), true) = (self.sheet.admits.first(), self.sheet.week.is_empty()) {
+        if let (Some(&moment), true) = (self.sheet.admits.first(), self.sheet.week.is_empty() && !self.unopened) {
             let place = self.sheet.moments[moment].place;
             self.missing(
                 place,
@@ -419,8 +434,11 @@ impl<'c> Draft<'c> {
             let look = alike::look(&name);
             let alike = self.looks.get(&look).copied().or((look == "anchor").then_some(0));
             let alike = alike.map(|place| self.sheet.moments[place].name.clone());
-            let near = || hints::near(&name, sides::names(&self.sheet.moments)).map(String::from);
-            let near = alike.clone().or_else(|| (number < FIXED).then(near).flatten());
+            let meant = match &alike {
+                Some(known) => Meant { same: true, names: vec![known.clone()] },
+                None if number < FIXED => nearby::meant(&name, sides::names(&self.sheet.moments)),
+                None => Meant::default(),
+            };
             let message = match &alike {
                 Some(known) => {
                     format!(
@@ -431,12 +449,11 @@ impl<'c> Draft<'c> {
                 None => format!("no moment is called '{name}'{also}"),
             };
             let line = lines.get(places[0].line - 1).map_or("", String::as_str);
-            let hint = match &near {
-                Some(_) => None,
-                None => Some(naming::unknown_hint(&name, self.sheet.moments.len() == 1).into()),
+            let hint = match meant.names.is_empty() {
+                false => None,
+                true => Some(naming::unknown_hint(&name, self.sheet.moments.len() == 1).into()),
             };
-            let fixes =
-                if number < FIXED { self.names_for(&name, near.as_deref(), line, places[0]) } else { Vec::new() };
+            let fixes = if number < FIXED { self.names_for(&name, &meant, line, places[0]) } else { Vec::new() };
             self.remarks.push(Remark { weight: Weight::Mistake, place: places[0], message, hint, fixes });
         }
     }

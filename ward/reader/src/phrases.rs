@@ -3,7 +3,19 @@
 use crate::plain::{one, Put, Seen};
 
 /// What is written, and what is read in its place; nothing where it is left out.
-const PHRASES: [(&str, &str); 88] = [
+const PHRASES: [(&str, &str); 100] = [
+    ("atleast", "at least"),
+    ("at-least", "at least"),
+    ("atmost", "at most"),
+    ("at-most", "at most"),
+    ("plus", "+"),
+    ("minus", "-"),
+    ("at the same time as", "="),
+    ("the same time as", "="),
+    ("same time as", "="),
+    ("at the same time with", "="),
+    ("simultaneously with", "="),
+    ("gleichzeitig mit", "="),
     ("must not be before", "not before"),
     ("must not be after", "not after"),
     ("may not be before", "not before"),
@@ -103,6 +115,22 @@ const BRACKETS: [(&str, &str); 6] = [
     ("spätestens", "at the latest"),
     ("frühestens", "at the earliest"),
 ];
+
+/// A slip of the keyboard in a word of a rule: `at leest`, `10 afer`.
+pub fn slip(seen: &Seen) -> Option<Put> {
+    let word = seen.word(0);
+    let before = seen.before()?;
+    let small = before.text.to_lowercase();
+    let amount = small.starts_with(|c: char| c.is_ascii_digit()) || crate::length::unit(&small).is_some();
+    let words: &[&str] = match () {
+        _ if small == "at" => &["least", "most"],
+        _ if amount => &["after", "before"],
+        _ => return None,
+    };
+    let known = words.contains(&word.as_str()) || word.chars().count() < 4 || !word.chars().all(char::is_alphabetic);
+    let near = crate::hints::near(&word, words.iter().copied()).filter(|_| !known)?;
+    one(1, near)
+}
 
 /// The longest phrase that stands here.
 pub fn found(seen: &Seen) -> Option<Put> {

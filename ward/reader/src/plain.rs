@@ -8,6 +8,7 @@ use crate::fault::Fault;
 use crate::instant::Known;
 use crate::lines::{headed, Key};
 use crate::phrases;
+use crate::stamps;
 use crate::tokens::{self, Dashes, Kind, Token};
 use crate::units;
 
@@ -58,8 +59,14 @@ type Reading = (String, String);
 type Look = fn(&Seen) -> Option<Put>;
 
 /// What is looked for at each token, in this order; the last is for lines of names too.
-const LOOKS: [Look; 13] = [
+const LOOKS: [Look; 20] = [
     numbered,
+    stamps::window,
+    stamps::noon,
+    stamps::short,
+    stamps::turned,
+    stamps::between,
+    stamps::on,
     dates::named,
     dates::day,
     dates::clock,
@@ -69,10 +76,27 @@ const LOOKS: [Look; 13] = [
     units::fraction,
     units::between,
     phrases::found,
+    phrases::slip,
     sign,
     remark,
     end,
 ];
+
+/// What is looked for in lines of opening hours.
+const OPEN: [Look; 4] = [hours, dates::day, dates::clock, end];
+
+/// Words between days or hours, and signs between windows.
+fn hours(seen: &Seen) -> Option<Put> {
+    let word = seen.word(0);
+    if ["bis", "through", "thru", "until", "till", "und", "u."].contains(&word.as_str()) {
+        return one(1, if word.starts_with('u') && word != "until" { "," } else { "to" });
+    }
+    if word == "24/7" {
+        return one(1, "daily 0:00-24:00");
+    }
+    let short = seen.plain(0).strip_suffix(';').filter(|_| !seen.ends(1))?;
+    one(1, format!("{short},"))
+}
 
 /// The line in the words that are read, where it has others.
 pub fn otherwise(known: &Known, line: &str, end: usize) -> Option<Fault> {
@@ -81,9 +105,17 @@ pub fn otherwise(known: &Known, line: &str, end: usize) -> Option<Fault> {
     let names = [Some(Key::Moments), Some(Key::Span), Some(Key::Admits)].contains(&kind);
     let seen = signs(&line[..end], names);
     let head = headed(&seen, seen.len());
+    // A word and a colon that start no line are somebody's note, whose words stay.
+    if head.key.is_none() && !line[..end].contains("later") {
+        return None;
+    }
     let dashes = if head.key == Some(Key::Open) { Dashes::Between } else { Dashes::Within };
     let from = head.from.min(seen.len());
-    let looks = if names { &LOOKS[LOOKS.len() - 1..] } else { &LOOKS[..] };
+    let looks = match head.key {
+        _ if names => &LOOKS[LOOKS.len() - 1..],
+        Some(Key::Open) => &OPEN,
+        _ => &LOOKS[..],
+    };
     let (lines, first) = match tokens::tokens(&seen, from, seen.len(), dashes) {
         Ok(found) => all(known, &seen, from, &found, looks),
         Err(_) => (vec![(String::new(), seen.clone())], None),

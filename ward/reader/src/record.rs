@@ -104,6 +104,16 @@ pub fn sheet(bytes: &[u8]) -> Option<Sheet> {
     Some(sheet)
 }
 
+/// The sheet of one record, or of several that are sent for one text: those of its spans, over the same rules. `None` where no text
+/// gives them.
+pub fn joined(records: &[&[u8]]) -> Option<Sheet> {
+    let mut sheets: Vec<Sheet> = records.iter().map(|bytes| sheet(bytes)).collect::<Option<_>>()?;
+    let questions: Vec<Question> = sheets.iter().flat_map(|sheet| sheet.questions.clone()).collect();
+    let sheet = Sheet { questions, ..sheets.swap_remove(0) };
+    let same = sheets.iter().all(|other| other.rules == sheet.rules && other.moments.len() == sheet.moments.len());
+    (same && (records.len() == 1 || sent(&sheet) == records)).then_some(sheet)
+}
+
 /// Bytes as document 01 shows them.
 pub fn hex(bytes: &[u8]) -> String {
     bytes.iter().map(|byte| format!("{byte:02X}")).collect()

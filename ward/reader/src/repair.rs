@@ -4,6 +4,7 @@
 //! left. One that comes to no end is not shown.
 
 use crate::fault::{Fault, Fix};
+use crate::instant::FAR;
 use crate::limits;
 use crate::lines::{headed, Key};
 use crate::parse::Draft;
@@ -69,6 +70,9 @@ impl<'c> Draft<'c> {
             }
             remark.fixes = self.repairs(&offered, line);
             remark.fixes.retain(|fix| number >= limits::SHOWN || lines.len() > WHOLE || self.holds(lines, here, fix));
+            if let Some(far) = remark.fixes.is_empty().then(|| self.far(&offered, line)).flatten() {
+                (remark.message, remark.hint) = (far.message, far.hint);
+            }
             let rule = is(line, Key::Rule) || is(line, Key::Suspended);
             let alone = places.iter().filter(|place| **place == here).count() == 1;
             if remark.fixes.is_empty() && !alone && !offered.is_empty() {
@@ -95,13 +99,17 @@ impl<'c> Draft<'c> {
         let own = place..place + fix.lines.len();
         all.splice(place - 1..place.min(all.len()), fix.lines.iter().cloned());
         let mut draft = Draft { depth: DEPTH + 1, ..Draft::new(self.clock) };
-        draft.all(&all, |key| key == Key::Moments);
-        draft.all(&all, |key| key == Key::Anchor);
-        draft.all(&all, |key| key != Key::Moments && key != Key::Anchor);
+        draft.every(&all);
         if !draft.unread {
             draft.unknown_names(&all);
         }
         !draft.remarks.iter().any(|remark| own.contains(&remark.place.line))
+    }
+
+    /// The mistake of a reading that names a time which no rule can name.
+    fn far(&self, offered: &[Fix], line: &str) -> Option<Remark> {
+        let mistakes = offered.iter().take(MOST).flat_map(|fix| self.tried(&fix.lines, line).mistakes);
+        mistakes.into_iter().find(|mistake| mistake.message == FAR)
     }
 
     /// The readings among those offered that are read without a mistake, each followed as far as it needs.
@@ -150,7 +158,8 @@ impl<'c> Draft<'c> {
         let anchors = |line: &str| is(line, Key::Anchor);
         let own = |such: &dyn Fn(&str) -> bool| such(line) || lines.len() == 1 && such(&lines[0]);
         let (named, dated) = (own(&moments), own(&anchors));
-        let mut sheet = Sheet { anchor: self.sheet.anchor.filter(|_| !dated), ..Sheet::new() };
+        let anchor = self.sheet.anchor.filter(|_| !dated);
+        let mut sheet = Sheet { anchor, exact: self.sheet.exact, ..Sheet::new() };
         if !named {
             sheet.moments = self.sheet.moments.clone();
         }
@@ -159,9 +168,7 @@ impl<'c> Draft<'c> {
         let mut trial = Draft { sheet, looks, doubtful, ..Draft::new(self.clock) };
         trial.spans = 1;
         trial.depth = self.depth + 1;
-        trial.all(lines, |key| key == Key::Moments);
-        trial.all(lines, |key| key == Key::Anchor);
-        trial.all(lines, |key| key != Key::Moments && key != Key::Anchor);
+        trial.every(lines);
         if !trial.unread && !self.unread {
             trial.unknown_names(lines);
         }
@@ -214,6 +221,9 @@ impl<'c> Draft<'c> {
         let forms = [plain::otherwise(&self.known(), line, end), whole::otherwise(&self.known(), line, end)];
         forms.into_iter().flatten().find_map(|fault| {
             let fixes = self.repairs(&fault.fixes, line);
+            if let Some(far) = fixes.is_empty().then(|| self.far(&fault.fixes, line)).flatten() {
+                return Some(Fault { fixes, message: far.message, hint: far.hint, ..fault });
+            }
             (!fixes.is_empty()).then_some(Fault { fixes, ..fault })
         })
     }
@@ -223,6 +233,10 @@ impl<'c> Draft<'c> {
 fn goes_on(fix: &Fix, next: &[Fix], reading: usize) -> bool {
     let says = next[reading].says.as_str();
     let same = next.iter().any(|next| !next.says.is_empty() && next.says == fix.says);
+    // Where a sign was put in, what stands behind it is minutes.
+    if says == "by the clock" && GUESSES.contains(&fix.says.as_str()) {
+        return false;
+    }
     match same {
         true => says == fix.says,
         false => !GUESSES.contains(&says) && !ENDS.contains(&fix.says.as_str()),

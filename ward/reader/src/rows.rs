@@ -7,6 +7,7 @@ use crate::sheet::{Lead, Origin, Question, Row};
 use crate::sides::{self, bracketed, Side};
 use crate::spoken;
 use crate::tokens::{Kind, Token};
+use crate::vain;
 
 /// A rule's sides: the left is not later than the right.
 pub type Sides = (Vec<Lead>, Vec<Lead>);
@@ -113,12 +114,28 @@ impl Draft<'_> {
             return Err(Fault::new(
                 from,
                 from + text.len(),
-                "a rule with nothing on its left says nothing, and is refused (17)",
+                "a rule with nothing on its early side says nothing: every plan keeps it",
             )
-            .hint("was the line left half filled? Fill it in or delete it"));
+            .hint("was the line left half filled? Fill it in or delete it. That one is left out is said as in 'ready <= nothing'"));
+        }
+        if let Some(fault) = self.own_moment(from, text, &rule).filter(|_| !self.sheet.exact) {
+            return Err(fault);
         }
         self.sheet.rules.push(rule);
         Ok(())
+    }
+
+    /// A rule that no plan keeps which has a moment of its late side: each of these stands on the other side with more minutes.
+    fn own_moment(&self, from: usize, text: &str, rule: &Row) -> Option<Fault> {
+        let first = rule.right.iter().position(Option::is_some).filter(|_| vain::forbids_own(rule))?;
+        let name = &self.sheet.moments[first].name;
+        let fault = |message: String| Fault::new(from, from + text.len(), message);
+        Some(match first {
+            0 => fault("no plan keeps this rule: the anchor is not later than itself".into())
+                .hint("was another moment meant?"),
+            _ => fault(format!("no plan that has {name} keeps this rule: nothing is later than itself"))
+                .hint("was another moment meant? That one is left out is said as in 'ready <= nothing'"),
+        })
     }
 
     /// A span's line. The span is its end less its start, so the end is the record's first list.

@@ -49,6 +49,9 @@ impl Form {
     }
 }
 
+/// The words behind `record:` that let rules stand which forbid their own moments.
+pub const EXACT: &str = "with rules that forbid their own moments";
+
 /// A rule, or a span that is asked for.
 #[derive(Clone, Debug, PartialEq, Eq)]
 pub struct Row {
@@ -90,6 +93,8 @@ pub struct Sheet {
     pub floor: Option<Place>,
     /// Which layout its record has.
     pub form: Form,
+    /// Whether rules may stand in it that forbid their own moments, as a record may have them.
+    pub exact: bool,
     /// An empty text is an idle day (document 02, 2.9), and its record has no bytes.
     pub idle: bool,
 }
@@ -108,6 +113,7 @@ impl Sheet {
             admits: Vec::new(),
             floor: None,
             form: Form::Short,
+            exact: false,
             idle: false,
         }
     }

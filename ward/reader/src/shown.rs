@@ -4,8 +4,9 @@ use std::fmt::Write;
 
 use crate::calendar;
 use crate::clock::{Clock, DAY, DAYS};
-use crate::sheet::{Lead, Moment, Row, Sheet};
+use crate::sheet::{Lead, Moment, Row, Sheet, EXACT};
 use crate::sides;
+use crate::vain;
 
 /// A name as a text writes it, in quotes where it needs them.
 pub fn name(name: &str) -> String {
@@ -36,17 +37,8 @@ pub fn hours(minutes: i32) -> String {
     }
 }
 
-/// Minutes of a lead: hours and minutes from an hour on. On the anchor nobody may take them for a time of day.
-fn minutes(moment: &Moment, minutes: i32, clock: &Clock) -> String {
-    match minutes {
-        0..60 => minutes.to_string(),
-        _ if moment.name == "anchor" => length(minutes),
-        _ => (clock.write)(minutes),
-    }
-}
-
 /// A side in words that read back as the same leads. Brackets show to which moment minutes belong.
-pub fn side(moments: &[Moment], leads: &[Lead], clock: &Clock) -> String {
+pub fn side(moments: &[Moment], leads: &[Lead]) -> String {
     // A name stands in quotes where what follows it here could be taken for a part of another name, as in "a + 15".
     let goes_on = |rest: &str| rest.trim_start().starts_with(['+', '-', ',', ')', '<']) || rest.starts_with(" to ");
     let longer = |name: &str| moments.iter().any(|other| other.name.strip_prefix(name).is_some_and(goes_on));
@@ -56,7 +48,7 @@ pub fn side(moments: &[Moment], leads: &[Lead], clock: &Clock) -> String {
     };
     let term = |moment: &Moment, lead: i32| match lead {
         0 => name(moment),
-        lead => format!("{} {} {}", name(moment), if lead < 0 { '-' } else { '+' }, minutes(moment, lead.abs(), clock)),
+        lead => format!("{} {} {}", name(moment), if lead < 0 { '-' } else { '+' }, length(lead.abs())),
     };
     let terms: Vec<(&Moment, i32)> =
         moments.iter().zip(leads).filter_map(|(moment, lead)| lead.map(|lead| (moment, lead))).collect();
@@ -74,13 +66,13 @@ pub fn side(moments: &[Moment], leads: &[Lead], clock: &Clock) -> String {
 }
 
 /// A rule in words that read back as the same leads.
-pub fn rule(moments: &[Moment], row: &Row, clock: &Clock) -> String {
-    format!("{} <= {}", side(moments, &row.left, clock), side(moments, &row.right, clock))
+pub fn rule(moments: &[Moment], row: &Row) -> String {
+    format!("{} <= {}", side(moments, &row.left), side(moments, &row.right))
 }
 
 /// The groups of a span, as it is written behind `span:`.
-pub fn groups(moments: &[Moment], row: &Row, clock: &Clock) -> String {
-    format!("from {} to {}", side(moments, &row.right, clock), side(moments, &row.left, clock))
+pub fn groups(moments: &[Moment], row: &Row) -> String {
+    format!("from {} to {}", side(moments, &row.right), side(moments, &row.left))
 }
 
 /// The whole text.
@@ -95,6 +87,9 @@ pub fn text(sheet: &Sheet, clock: &Clock) -> String {
     let names = |places: &[usize]| places.iter().map(|&j| name(&sheet.moments[j].name)).collect::<Vec<_>>().join(", ");
     if sheet.moments.len() > 1 {
         let _ = writeln!(text, "moments: {}", names(&(1..sheet.moments.len()).collect::<Vec<_>>()));
+    }
+    if sheet.rules.iter().any(vain::forbids_own) {
+        let _ = writeln!(text, "record: {EXACT}");
     }
     if let Some(words) = sheet.form.words() {
         let _ = writeln!(text, "record: {words}");
@@ -114,10 +109,10 @@ pub fn text(sheet: &Sheet, clock: &Clock) -> String {
     }
     for row in &sheet.rules {
         let state = if row.in_force { "" } else { "suspended: " };
-        let _ = writeln!(text, "{state}{}", rule(&sheet.moments, row, clock));
+        let _ = writeln!(text, "{state}{}", rule(&sheet.moments, row));
     }
     for question in &sheet.questions {
-        let _ = writeln!(text, "span: {}", groups(&sheet.moments, &question.row, clock));
+        let _ = writeln!(text, "span: {}", groups(&sheet.moments, &question.row));
         if let Some(expected) = question.expected {
             let _ = writeln!(text, "expect: {expected}");
         }

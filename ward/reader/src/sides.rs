@@ -1,10 +1,12 @@
 //! A side of a rule, or a group of a span: `nothing`, a moment or a time of day with minutes, or `later of` several.
 
 use crate::cursor::{Cursor, Unknown};
+use crate::doubts;
 use crate::fault::{with, without, Fault};
 use crate::instant::{self, Known};
 use crate::length::{self, is_hours, is_number, Length};
 use crate::limits;
+use crate::nearby;
 use crate::sheet::{Lead, Moment};
 use crate::shown;
 use crate::tokens::{is_quote, Kind, Token, DASHES};
@@ -39,7 +41,7 @@ pub fn quoted_fault(name: &str) -> Option<&'static str> {
 }
 
 /// A moment, if it is declared, and its minutes.
-type Term = (Option<usize>, i32);
+pub type Term = (Option<usize>, i32);
 
 /// A side that was read.
 #[derive(Clone, Debug)]
@@ -83,7 +85,7 @@ fn sum(cursor: &mut Cursor, known: &Known) -> Result<Vec<Term>, Fault> {
     let mut terms = group(cursor, known)?;
     let group_to = cursor.last().map_or(from, |token| token.to);
     if let Some(front) = front {
-        on_anchor(cursor, known, &terms, front, (from, group_to))?;
+        doubts::in_front(cursor, known, &terms, front, (group_from, group_to))?;
         terms.iter_mut().for_each(|(_, lead)| *lead += front.minutes);
     }
     if let Some((sign, length)) = tail(cursor, known, &terms, group_from)? {
@@ -266,7 +268,7 @@ fn item(cursor: &mut Cursor, known: &Known) -> Result<Item, Fault> {
         let alone_from = cursor.place();
         let terms = vec![single(cursor, known, true)?];
         let to = cursor.last().map_or(from, |token| token.to);
-        on_anchor(cursor, known, &terms, length, (from, to))?;
+        doubts::in_front(cursor, known, &terms, length, (alone_from, to))?;
         let loose = Some(Loose { alone: (alone_from, to), sign: 1, length, front: true });
         return Ok(Item { terms, from, to, loose });
     }
@@ -319,8 +321,8 @@ fn tail(cursor: &mut Cursor, known: &Known, terms: &[Term], from: usize) -> Resu
     let Some(token) = cursor.take() else { return Ok(None) };
     let length = minutes(cursor, known, token, from)?;
     match sign > 0 {
-        true => on_anchor(cursor, known, terms, length, (from, length.to))?,
-        false => window(cursor, known, terms, length, (from, token.from))?,
+        true => doubts::behind(cursor, known, terms, length, (from, token.from))?,
+        false => doubts::window(cursor, known, terms, length, (from, token.from))?,
     }
     if ["+", "-"].contains(&cursor.plain(0)) && cursor.peek(1).is_some_and(|next| length::starts(next.text)) {
         return Err(twice(cursor, known, sign, length, from));
@@ -391,63 +393,6 @@ fn twice(cursor: &mut Cursor, known: &Known, sign: i32, first: Length, from: usi
     fault.fix("the sum", with(cursor.line, from, second.to, &text))
 }
 
-/// A lead on the anchor that is written like a time of day, and can be one: at or after the anchor's, and before 24:00.
-fn on_anchor(
-    cursor: &Cursor,
-    known: &Known,
-    terms: &[Term],
-    length: Length,
-    (from, to): (usize, usize),
-) -> Result<(), Fault> {
-    let (Some(anchor), Some((colon, colon_from, colon_to))) = (known.anchor, length.colon) else { return Ok(()) };
-    let such = terms == [(Some(0), 0)] && (anchor.minute..crate::clock::DAY).contains(&colon);
-    // A time of day with minutes behind it is none of the anchor's leads.
-    let named = cursor.line[from..to].to_lowercase().contains("anchor");
-    if !such || !named || !known.clock.judges() {
-        return Ok(());
-    }
-    let written = &cursor.line[colon_from..colon_to];
-    let long = shown::hours(colon);
-    let time = match length.minutes - colon {
-        0 => written.to_string(),
-        days => instant::from_anchor(days + colon - anchor.minute, false),
-    };
-    Err(Fault::new(colon_from, colon_to, format!("'{written}' can be a time of day, or a length of time"))
-        .fix("so long after the anchor", with(cursor.line, colon_from, colon_to, &long))
-        .fix("the time of day", with(cursor.line, from, to, &time)))
-}
-
-/// A time of day with a dash and another behind it, `9:00 - 9:30`: from the one to the other, or so much earlier.
-fn window(
-    cursor: &Cursor,
-    known: &Known,
-    terms: &[Term],
-    length: Length,
-    (from, to): (usize, usize),
-) -> Result<(), Fault> {
-    let Some((colon, colon_from, colon_to)) = length.colon else { return Ok(()) };
-    let (line, time) = (cursor.line, cursor.line[from..to].trim_end());
-    let such = terms.len() == 1 && terms[0].0 == Some(0) && !time.to_lowercase().contains("anchor");
-    if !such || !known.clock.judges() {
-        return Ok(());
-    }
-    let message = format!("'{time} - {}' can be two times of day, or so much earlier", &line[colon_from..colon_to]);
-    let fault = Fault::new(from, length.to, message)
-        .fix(format!("so much before {time}"), with(line, colon_from, colon_to, &shown::hours(colon)));
-    let front = line[..from].trim_end();
-    let subject = ["not before", "not after", "by", "=", "<=", ">="].iter().find_map(|word| front.strip_suffix(word));
-    Err(match subject.map(str::trim_end).filter(|subject| !subject.is_empty()) {
-        None => fault,
-        Some(subject) => {
-            let last = &line[length.from..length.to];
-            fault.fixes(
-                "from the one to the other",
-                vec![format!("{subject} not before {time}"), format!("{subject} by {last}")],
-            )
-        }
-    })
-}
-
 /// Words for groups that this language does not have, or has otherwise.
 fn other_words(cursor: &Cursor) -> Result<(), Fault> {
     let Some(token) = cursor.peek(0).filter(|token| token.kind == Kind::Word) else { return Ok(()) };
@@ -476,7 +421,7 @@ fn other_words(cursor: &Cursor) -> Result<(), Fault> {
 fn moment(cursor: &mut Cursor, known: &Known) -> Result<Option<usize>, Fault> {
     let Some(token) = cursor.peek(0) else { return Err(cursor.fault("a moment's name is expected")) };
     let moment = known.moment(token.text);
-    if let Some(fault) = without_quotes(cursor, token, known) {
+    if let Some(fault) = without_quotes(cursor, token, known).or_else(|| nearby::unquoted(cursor, token, known)) {
         return Err(fault);
     }
     if let Some(fault) = hyphen(cursor, token, known, moment) {

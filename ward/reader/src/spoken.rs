@@ -23,6 +23,12 @@ struct Limits {
 /// Reads a rule in words: one rule, or two.
 pub fn read(cursor: &mut Cursor, known: &Known) -> Result<Vec<Sides>, Fault> {
     let from = cursor.place();
+    let words = ["by", "at", "not", "exactly", "after", "before", "between", "until", "till", "within", "no"];
+    let first = cursor.plain(0);
+    if known.moment(first).is_none() && words.contains(&first.to_lowercase().as_str()) {
+        let fault = Fault::new(from, from + first.len(), "a rule starts with its moment, and there is none here");
+        return Err(fault.hint("what is it about? As in 'leaves at least 10 after ready', or 'ready by 8:45'"));
+    }
     let subject = sides::read(cursor, known)?;
     let rules = behind(cursor, known, &subject)?;
     match cursor.peek(0) {
@@ -53,6 +59,9 @@ fn behind(cursor: &mut Cursor, known: &Known, subject: &Side) -> Result<Vec<Side
     let numbered = cursor.peek(0).is_some_and(|token| token.kind == Kind::Word && length::starts(token.text));
     if !said && !numbered {
         return Err(worded::other(cursor, subject));
+    }
+    if let Some(fault) = cursor.peek(0).and_then(|token| length::point(cursor, token)) {
+        return Err(fault);
     }
     let first = length::read(cursor, known.clock)?;
     if let Some(fault) = offers::both_limits(cursor, known, first, (least, most), amount) {

@@ -39,6 +39,12 @@ pub fn length(seen: &Seen) -> Option<Put> {
     if digits.is_empty() {
         return None;
     }
+    if let Some((hours, minutes)) = word.split_once('h').filter(|(hours, _)| is_number(hours)) {
+        let minutes = minutes.strip_suffix("min").or(minutes.strip_suffix('m')).filter(|minutes| is_number(minutes));
+        if let Some(minutes) = minutes {
+            return one(1, format!("{hours} h {minutes}"));
+        }
+    }
     let (count, named) = if digits == word { (2, next) } else { (1, word[digits.len()..].to_string()) };
     if let Some(minutes) = other(&named).filter(|_| unit(&named).is_none()) {
         return one(count, written(&digits, minutes));

@@ -9,6 +9,12 @@ pub fn says_nothing(rule: &Row) -> bool {
     rule.left.iter().zip(&rule.right).all(|(left, right)| left <= right)
 }
 
+/// Whether no plan keeps a rule that has a moment of its right side: each of these stands on its left with a larger lead.
+pub fn forbids_own(rule: &Row) -> bool {
+    let mut late = (0..rule.right.len()).filter(|&moment| rule.right[moment].is_some()).peekable();
+    late.peek().is_some() && late.all(|moment| rule.left[moment] > rule.right[moment])
+}
+
 /// Whether a moment can be at any minute of a plan, or be left out: neither this span nor a rule in force that says
 /// something has it.
 pub fn free(sheet: &Sheet, question: usize, moment: usize) -> bool {
@@ -50,9 +56,21 @@ mod tests {
         for rule in ["a <= a", "a <= later of (a + 1), b", "later of a, b <= later of a, b, c"] {
             assert!(says_nothing(&sheet(rule).rules[0]), "{rule}");
         }
-        for rule in ["a <= nothing", "a + 1 <= a", "a <= b", "later of a, b <= a", "anchor <= a"] {
+        for rule in ["a <= nothing", "a <= b", "later of a, b <= a", "anchor <= a"] {
             assert!(!says_nothing(&sheet(rule).rules[0]), "{rule}");
         }
+    }
+
+    #[test]
+    fn rules_that_forbid_their_own_moments() {
+        let rule = |left: [Lead; 2], right: [Lead; 2]| {
+            forbids_own(&Row { left: left.to_vec(), right: right.to_vec(), ..sheet("a <= b").rules[0].clone() })
+        };
+        assert!(rule([None, Some(1)], [None, Some(0)]));
+        assert!(rule([Some(3), Some(1)], [None, Some(0)]));
+        assert!(!rule([None, Some(1)], [Some(0), Some(0)]));
+        assert!(!rule([None, Some(0)], [None, Some(0)]));
+        assert!(!rule([None, Some(1)], [None, None]));
     }
 
     /// On every rule of the anchor and one moment with leads blank or -1 to 1, against plans that are far enough apart.

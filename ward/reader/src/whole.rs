@@ -3,9 +3,11 @@
 use crate::fault::{with, Fault};
 use crate::instant::Known;
 use crate::lines::{headed, Key};
+use crate::nearby;
 use crate::parse::part;
 use crate::sides;
-use crate::tokens::{Kind, Token};
+use crate::stamps;
+use crate::tokens::{is_quote, Kind, Token};
 
 /// A line, its tokens, and what is known.
 struct Line<'l> {
@@ -68,7 +70,7 @@ pub fn otherwise(known: &Known, line: &str, end: usize) -> Option<Fault> {
     }
     let start = end - line[..end].trim_start().len();
     let from = if head.key == Some(Key::Suspended) { head.from.min(end) } else { start };
-    if let Some(fault) = negative(line, from, end) {
+    if let Some(fault) = stamps::shown(known, line, from, end).or_else(|| negative(line, from, end)) {
         return Some(fault);
     }
     if let Some(place) = line[..end].find("+/-") {
@@ -76,10 +78,26 @@ pub fn otherwise(known: &Known, line: &str, end: usize) -> Option<Fault> {
         let fault = otherwise(known, &line, end)?;
         return Some(Fault { from: place, to: place + 3, ..fault });
     }
+    if let Some(fault) = parted(line, from, end) {
+        return Some(fault);
+    }
     let tokens = part(line, from, end)?;
     let (first, last) = (tokens.first()?, tokens.last()?);
     let line = Line { line, from: first.from, end: last.to, known, tokens: tokens.clone() };
     LOOKS.iter().find_map(|look| look(&line))
+}
+
+/// `home by Thu 14:00; ready by 9:00`: two rules in a line.
+fn parted(line: &str, from: usize, end: usize) -> Option<Fault> {
+    let body = &line[from..end];
+    let place =
+        body.find(';').filter(|place| !body[..*place].contains(is_quote) && !body[*place..].contains(is_quote))?;
+    let parts: Vec<&str> = body.split(';').map(str::trim).filter(|part| !part.is_empty()).collect();
+    let head =
+        if from > 0 && line[..from].ends_with(':') { format!("{} ", &line[..from]) } else { line[..from].into() };
+    let lines = parts.iter().map(|part| format!("{head}{part}")).collect();
+    let fault = Fault::new(from + place, from + place + 1, "a line has one rule");
+    (parts.len() > 1).then(|| fault.fixes("", lines))
 }
 
 /// `by 8:45 ready`: the moment stands first.
@@ -183,6 +201,9 @@ fn colon(line: &Line) -> Option<Fault> {
 
 /// `free -35-> cleaned`: an arrow with the minutes in it.
 fn arrow(line: &Line) -> Option<Fault> {
+    if let Some(fault) = arrow_with_minutes(line) {
+        return Some(fault);
+    }
     let place = (1..line.tokens.len()).find(|&place| line.text(place, place + 1).contains("->"))?;
     let whole = &line.line[line.from..line.end];
     let (first, second) = whole.split_once("->")?;
@@ -191,6 +212,18 @@ fn arrow(line: &Line) -> Option<Fault> {
     crate::length::starts(minutes).then_some(())?;
     let text = format!("{} + {minutes} <= {}", group.trim(), second.trim());
     Some(Fault::new(line.tokens[place].from, line.end, "a rule has '<=' between its sides").fix("", line.say(&text)))
+}
+
+/// `free -> cleaned 35`: an arrow with the minutes behind it.
+fn arrow_with_minutes(line: &Line) -> Option<Fault> {
+    let [first, arrow, second, minutes @ ..] = &line.tokens[..] else { return None };
+    let arrows = ["->", "-->", "→", "⟶", "to", "bis"].contains(&arrow.text.to_lowercase().as_str());
+    let colon = minutes.first().is_some_and(|token| token.text == ":") as usize;
+    let length = minutes.get(colon).filter(|token| crate::length::starts(token.text))?;
+    let such = line.names(first) && line.names(second) && arrows && minutes.len() <= 3;
+    let text = format!("{} {} after {}", line.text(2, 3), &line.line[length.from..line.end], line.text(0, 1));
+    let fault = Fault::new(arrow.from, line.end, "what comes after what is said with 'after'");
+    such.then(|| fault.fix("", line.say(&text)))
 }
 
 /// A question mark behind a rule: it holds, or it is a note.
@@ -208,6 +241,7 @@ fn alone(line: &Line) -> Option<Fault> {
     let named = token.kind == Kind::Quoted || sides::is_bare(token.text);
     let plain = |c: char| c.is_alphanumeric() || " -'’_".contains(c);
     let such = named && token.text.chars().all(plain) && line.known.moment(token.text).is_none();
+    let such = such && nearby::everyday(token.text).is_none();
     let fault = line.fault("a name alone is no rule");
     (such && token.text.to_lowercase() != "anchor")
         .then(|| fault.fix("a moment", line.say(&format!("moments: {}", line.text(dash, dash + 1)))))
@@ -223,15 +257,29 @@ fn unsigned(line: &Line) -> Option<Fault> {
     sum.then(|| fault.fix("", line.say(&text)))
 }
 
-/// `free + 35-40 <= cleaned`: both limits as a lead.
+/// `free + 35-40 <= cleaned`, `cleaned = free + 35-40 min`: both limits as a lead.
 fn range(line: &Line) -> Option<Fault> {
-    let sign = line.relation().filter(|&sign| line.text(sign, sign + 1) == "<=" && sign > 2)?;
-    let (low, high) = line.text(sign - 1, sign).split_once(['-', '–'])?;
-    let such = crate::length::starts(low) && crate::length::starts(high) && line.word(sign - 2) == "+";
-    let (base, late) = (line.text(0, sign - 2), line.text(sign + 1, line.tokens.len()));
-    let token = line.tokens[sign - 1];
+    let sign = line.relation()?;
+    let count = line.tokens.len();
+    let is_range = |place: &usize| {
+        let limits = line.text(*place, place + 1).split_once(['-', '–']);
+        let such = limits.is_some_and(|(low, high)| crate::length::starts(low) && crate::length::starts(high));
+        such && line.word(place - 1) == "+"
+    };
+    let place = (1..count).find(is_range)?;
+    let (low, high) = line.text(place, place + 1).split_once(['-', '–'])?;
+    // The side that has the minutes, and the other one.
+    let (from, to, other) = match place < sign {
+        true => (0, sign, line.text(sign + 1, count)),
+        false => (sign + 1, count, line.text(0, sign)),
+    };
+    let relation = line.text(sign, sign + 1);
+    (relation == "=" || relation == "<=" && place < sign).then_some(())?;
+    let (base, unit) = (line.text(from, place - 1), line.text(place + 1, to));
+    let high = format!("{high} {unit}");
+    let token = line.tokens[place];
     let fault = Fault::new(token.from, token.to, "both limits stand with 'to' between them, in words");
-    such.then(|| fault.fix("", line.say(&format!("{late} {low} to {high} after {base}"))))
+    Some(fault.fix("", line.say(&format!("{other} {low} to {} after {base}", high.trim_end()))))
 }
 
 /// `free - cleaned <= -30`, `cleaned -5 to 10 after free`: minutes below 0.

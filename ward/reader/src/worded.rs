@@ -1,7 +1,9 @@
 //! Words of a rule that are not read, with those that are.
 
+use crate::clock::Clock;
 use crate::cursor::Cursor;
 use crate::fault::{with, Fault};
+use crate::instant;
 use crate::length;
 use crate::offers;
 use crate::rows;
@@ -93,8 +95,8 @@ impl<'w> Worded<'w> {
 }
 
 /// What is looked for, in this order.
-const LOOKS: [fn(&Worded) -> Option<Fault>; 9] =
-    [order, between, dashed, within, more_than, point, amount, on_day, several];
+const LOOKS: [fn(&Worded) -> Option<Fault>; 11] =
+    [order, between, dashed, within, more_than, point, amount, on_day, dated, in_so_long, several];
 
 /// Words that are not read, with those that are.
 pub fn other(cursor: &Cursor, subject: &Side) -> Fault {
@@ -135,7 +137,7 @@ fn list(cursor: &Cursor) -> bool {
 
 /// Two lines, from one time to another.
 fn two(worded: &Worded, first: &str, last: &str) -> Vec<String> {
-    let group = worded.group;
+    let (group, last) = (worded.group, offers::of_same_day(first, last));
     vec![worded.whole(format!("{group} not before {first}")), worded.whole(format!("{group} by {last}"))]
 }
 
@@ -236,6 +238,34 @@ fn on_day(worded: &Worded) -> Option<Fault> {
     let day = worded.rest(1);
     let lines = two(worded, &format!("{day} 0:00"), &format!("{day} 24:00"));
     Some(worded.fault().fixes("at some time of that day", lines))
+}
+
+/// `ready Thu 14:00`: a day and a time with no word that says on which side of it something is.
+fn dated(worded: &Worded) -> Option<Fault> {
+    let (cursor, group) = (worded.cursor, worded.group);
+    let mut rest = Cursor::new(cursor.line, cursor.left().to_vec(), cursor.end());
+    let stamp = instant::starts(&rest).then(|| instant::stamp(&mut rest, &Clock::unjudged()).ok()).flatten()?;
+    let time = &cursor.line[stamp.from..stamp.to];
+    if let Some(last) = rest.peek(1).filter(|_| rest.sees("to")) {
+        let last = cursor.line[last.from..cursor.end()].trim();
+        let fault = Fault::new(stamp.from, cursor.end(), format!("'{time} to {last}' are two times, and no minutes"));
+        return Some(fault.fixes("from the one to the other", two(worded, time, last)));
+    }
+    rest.peek(0).is_none().then_some(())?;
+    let fault = Fault::new(stamp.from, stamp.to, "");
+    Some(offers::at_which(fault, time, &|words| worded.whole(format!("{group} {words} {time}"))))
+}
+
+/// `ready in 30 min`: so long after the anchor, or before or behind that.
+fn in_so_long(worded: &Worded) -> Option<Fault> {
+    (worded.small == "in").then_some(())?;
+    let cursor = worded.cursor;
+    let mut rest = Cursor::new(cursor.line, cursor.left()[1..].to_vec(), cursor.end());
+    let length = length::read(&mut rest, &Clock::unjudged()).ok().filter(|_| rest.peek(0).is_none())?;
+    let long = &cursor.line[length.from..length.to];
+    let fault = Fault::new(length.from, length.to, "");
+    let whole = |words: &str| worded.whole(format!("{} {words} anchor + {long}", worded.group));
+    Some(offers::at_which(fault, long, &whole).hint("so long after what? Here it is the anchor"))
 }
 
 /// Several moments before the words of a rule.

@@ -3,6 +3,7 @@
 //! differently, it is a mistake that shows both readings, and each can be copied into its place.
 
 mod guide;
+mod hints;
 mod list;
 mod paste;
 mod points;
@@ -15,7 +16,11 @@ use ward_reader::sheet::{Origin, Row};
 use ward_reader::{record, Clock, Read, Remark, Sheet, Weight};
 
 /// Cases of the list that are not followed, each with the reason.
-const OVERRULED: [(&str, &str); 2] = [
+const OVERRULED: [(&str, &str); 3] = [
+    (
+        "another moment + 8:40 is a length of time",
+        "`at least 8:40 after ready` is asked about, and so is `ready + 8:40`, which says the same: a scheduler took it for the clock",
+    ),
     (
         "anchor + 6:00 in the night",
         "point 6 of the issue asks where a lead is at or after the anchor's time and before 24:00; 6:00 is not, and is read as six hours",
@@ -108,7 +113,7 @@ pub struct Said {
 }
 
 pub fn said(sheet: &Sheet) -> Said {
-    let side = |leads: &[Option<i32>]| ward_reader::shown::side(&sheet.moments, leads, &clock());
+    let side = |leads: &[Option<i32>]| ward_reader::shown::side(&sheet.moments, leads);
     let when = |anchor: Anchor| (anchor.day, anchor.date, anchor.minute);
     Said {
         rules: rules(sheet),
@@ -196,6 +201,7 @@ fn judge(case: &Case) -> Result<&'static str, String> {
     let read = self::read(&case.text);
     match (&case.wanted, &read.sheet) {
         (Wanted::Means(meant) | Wanted::MistakeOrMeans(meant), Some(sheet)) => is_meant(sheet, meant).map(|()| "read"),
+        (Wanted::Means(_), None) if overruled(case) => Ok("overruled"),
         (Wanted::Means(_), None) => Err(format!("not read: {:?}", read.remarks)),
         (Wanted::Ambiguous(readings), None) => shows(case, &read, readings).map(|()| "asked"),
         (_, Some(_)) if overruled(case) => Ok("overruled"),

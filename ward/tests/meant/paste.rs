@@ -187,7 +187,7 @@ const ANCHORS: &[&str] = &[
 ];
 
 /// Pastes every hint of a text; how many there are.
-fn paste(text: &str) -> usize {
+pub fn paste(text: &str) -> usize {
     let first = read(text);
     let all = mistakes(&first);
     let mut count = 0;

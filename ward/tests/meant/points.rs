@@ -61,7 +61,7 @@ fn point_3_a_minus_has_spaces() {
     same("", "ready – 5 <= leaves", &["ready - 5 <= leaves"]);
     asks("", "ready-4 <= leaves", &["ready - 4 <= leaves"]);
     asks("", "ready -4 <= leaves", &["ready - 4 <= leaves"]);
-    asks("", "ward-5 <= leaves", &["\"ward-4\" <= leaves", "moments: \"ward-5\" ; ward-5 <= leaves"]);
+    asks("", "ward-5 <= leaves", &["moments: \"ward-5\" ; ward-5 <= leaves"]);
     let both = "moments: a, ward, ward-4\nward-4 <= a\nspan: from a to a\n";
     let read = read(both);
     let shown: Vec<_> = mistakes(&read)[0].fixes.iter().map(|fix| fix.lines.concat()).collect();
@@ -104,7 +104,11 @@ fn point_6_a_lead_that_can_be_a_time_of_day_is_asked_about() {
     same("8:00", "anchor + 7:59 <= ready", &["anchor + 479 <= ready"]);
     same("8:00", "anchor + 24:00 <= ready", &["anchor + 1440 <= ready"]);
     same("", "anchor + 8:40 <= ready", &["anchor + 520 <= ready"]);
-    same("8:00", "porter + 8:40 <= ready", &["porter + 520 <= ready"]);
+    asks("8:00", "porter + 8:40 <= ready", &["porter + 8 h 40 <= ready", "8:40 <= ready"]);
+    asks("8:00", "9:15 + porter <= ready", &["9 h 15 + porter <= ready", "9:15 <= ready"]);
+    asks("8:00", "leaves >= ready + 9:15", &["leaves >= ready + 9 h 15", "leaves >= 9:15"]);
+    same("8:00", "porter + 7:40 <= ready", &["porter + 460 <= ready"]);
+    same("", "porter + 8:40 <= ready", &["porter + 520 <= ready"]);
     asks("8:00", "leaves at least 9:00 after anchor", &["leaves at least 9 h after anchor", "leaves not before 9:00"]);
     asks("8:00", "leaves exactly 9:15 after ready", &["leaves exactly 9 h 15 after ready", "leaves = 9:15"]);
     asks(

@@ -84,20 +84,22 @@ fn answers(document: &str) -> Vec<String> {
     answers
 }
 
-/// What README shows of its first command is what that command prints, up to the times of the plan, which are the engine's to
-/// choose; and every moment has its row in the plan and in the timeline.
+/// What README shows of its first command is how the output of that command starts, up to the times of the plan, which are the engine's
+/// to choose; and every moment has its row in the plan and in the timeline.
 #[test]
 fn readme_shows_what_its_first_command_prints() {
     let readme = fs::read_to_string(repository().join("README.md")).expect("README");
     let told = ward(&["examples/problems/bed-transfer.txt"], "");
-    let shown: Vec<&str> = readme.lines().filter_map(|line| line.strip_prefix("    ")).collect();
-    let first = shown.iter().position(|line| told.out.starts_with(line)).expect("the first line that it prints");
-    for (line, printed) in
-        shown[first..].iter().filter(|line| !line.is_empty()).zip(told.out.lines().filter(|line| !line.is_empty()))
-    {
-        assert!(*line == printed || line.starts_with("  "), "{line}\n{printed}");
+    let first =
+        |line: &&str| line.strip_prefix("    ").is_none_or(|line| line.is_empty() || !told.out.starts_with(line));
+    let block = readme.lines().skip_while(first).take_while(|line| line.is_empty() || line.starts_with("    "));
+    let shown: Vec<&str> = block.map(|line| line.strip_prefix("    ").unwrap_or(line)).collect();
+    assert!(shown.len() > 30, "the first line that it prints");
+    let lines = |line: &&str| !line.is_empty();
+    for (line, printed) in shown.iter().copied().filter(lines).zip(told.out.lines().filter(lines)) {
+        assert!(line == printed || line.starts_with("  "), "{line}\n{printed}");
     }
-    let (readme, out) = (shown[first..].join("\n"), told.out);
+    let (readme, out) = (shown.join("\n"), told.out);
     for name in ["ready", "vacated", "cleaned", "ambulance", "departure", "arrival", "handover", "nurse", "escort"] {
         assert!(
             readme.matches(&format!(" {name} ")).count() >= 2 && out.matches(&format!(" {name} ")).count() >= 2,

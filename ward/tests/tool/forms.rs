@@ -57,9 +57,7 @@ fn string(text: &str) -> &str {
 
 #[test]
 fn json_is_json() {
-    for text in
-        [E, STRANGE, "", "moments: a\n\"\u{1}\\ <= a\n", "moments: a\nanchor + 1 <= anchor\nspan: from a to a\n"]
-    {
+    for text in [E, STRANGE, "", "moments: a\n\"\u{1}\\ <= a\n", "moments: a\nanchor <= nothing\nspan: from a to a\n"] {
         let told = ward(&["--json", "-"], text);
         assert_eq!(value(&told.out).trim(), "", "{told:?}");
         let told = ward(&["check", "--json", "-"], text);
@@ -135,7 +133,9 @@ fn csv_has_a_line_a_moment() {
     let out = ward(&["--csv", "-"], "moments: a\nanchor + 5 <= a\na <= anchor + 4\nspan: from anchor to a\n").out;
     let lines: Vec<Vec<String>> = out.lines().map(cells).collect();
     let count = "(its minutes count)";
-    let named = format!("others: rule 1 (line 2): anchor + 5 <= a {count}; rule 2 (line 3): a <= anchor + 4 {count}");
+    let named = format!(
+        "others of this list: rule 1 (line 2): anchor + 5 <= a {count}; rule 2 (line 3): a <= anchor + 4 {count}"
+    );
     assert!(lines[1].len() == 12 && lines[1][10].ends_with(&named), "{out}");
 }
 

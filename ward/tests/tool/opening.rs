@@ -14,7 +14,7 @@ fn a_shut_ward_is_told_with_when_it_opens() {
     let out = with("anchor + 50 <= admit\nadmit + 50 <= back\nback <= admit + 50\n");
     assert!(out.contains("Fri 17:50  admit   0:50          Fri 17:50  Fri 17:50  open at the planned time\n"), "{out}");
     assert!(out.contains("after anchor  earliest   latest     note\n"), "{out}");
-    let shut = "shut at the planned time, opens Sat 9:00";
+    let shut = "shut at the planned time; opens Sat 9:00, which does not fit the least span";
     assert!(out.contains(&format!("Fri 18:40  back    1:40          Fri 18:40  Fri 18:40  {shut}\n")), "{out}");
 }
 
@@ -35,7 +35,7 @@ fn hours_that_the_archive_refuses_are_a_mistake_with_its_place() {
     let base = "moments: a\nanchor: Monday 8:00\nanchor <= a\nspan: from anchor to a\n";
     for (hours, column, why) in [
         ("Monday 18:00-7:00", 7, "the ward closes at 7:00 before it opens at 18:00"),
-        ("Monday 7:00-7:00", 7, "the ward closes at 7:00 before it opens at 7:00"),
+        ("Monday 7:00-7:00", 7, "the ward opens and closes at 7:00"),
         ("Monday 7:00-12:00, Monday 11:00-18:00", 26, "two windows are open at the same time"),
         ("Mon-Sun 7:00-8:00, Mon-Sun 9:00-10:00, Sunday 11:00-12:00", 46, "there are more than 14 windows in a week"),
     ] {

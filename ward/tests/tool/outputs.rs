@@ -157,3 +157,26 @@ fn what_is_no_file_is_written_as_it_stands() {
     }
     assert_eq!(names(&scratch.path("")), ["e.txt", "out", "pipe"]);
 }
+
+/// A sheet or a table that is there stays where the text has a mistake, or is not there; what programs read is written.
+#[test]
+fn a_good_sheet_is_not_replaced_by_a_mistake() {
+    let scratch = Scratch::new("kept");
+    scratch.file("e.txt", E);
+    scratch.file("wrong.txt", E.replace("<=", "<"));
+    let run = |words: &[&str]| by_shell("exec \"$@\"", &scratch.path(""), words);
+    for form in ["--html", "--csv"] {
+        assert_eq!(run(&[form, "e.txt", "-o", "day"]).status, Some(0));
+        let good = fs::read_to_string(scratch.path("day")).expect("a file");
+        for text in ["wrong.txt", "gone.txt"] {
+            let told = run(&[form, text, "-o", "day"]);
+            assert_eq!(told.status, Some(1), "{told:?}");
+            assert!(told.err.contains("ward: 'day' stays as it was"), "{told:?}");
+            assert_eq!(fs::read_to_string(scratch.path("day")).expect("a file"), good);
+        }
+    }
+    assert_eq!(run(&["--html", "wrong.txt", "-o", "new"]).status, Some(1));
+    assert!(fs::read_to_string(scratch.path("new")).expect("a file").contains("mistake"));
+    assert_eq!(run(&["--json", "wrong.txt", "-o", "day"]).status, Some(1));
+    assert!(fs::read_to_string(scratch.path("day")).expect("a file").starts_with('{'));
+}

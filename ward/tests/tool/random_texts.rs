@@ -46,9 +46,10 @@ fn space(random: &mut Random) -> &'static str {
     ["", " ", "  ", "\t"][random.below(4)]
 }
 
-/// Minutes in one of the forms that there are; on the anchor none that can be a time of day.
+/// Minutes in one of the forms that there are; none that can be a time of day at or after an anchor of 7:30.
 fn minutes(random: &mut Random, minutes: i32, anchor: bool) -> String {
     let (hours, rest) = (minutes / 60, minutes % 60);
+    let anchor = anchor || (450..1_440).contains(&minutes);
     match random.below(if anchor { 6 } else { 8 }) {
         0 | 1 => minutes.to_string(),
         2 => format!("{minutes} min"),
@@ -135,7 +136,15 @@ pub fn text(random: &mut Random, most_moments: usize, most_rules: usize) -> Mean
     }
     let mut rows: Vec<Vec<i32>> = Vec::new();
     for _ in 0..m {
-        let ((left, left_leads), (right, right_leads)) = (side(random, &names, false), side(random, &names, true));
+        let (left, left_leads) = side(random, &names, false);
+        // A rule that forbids its own moments is a mistake of its text.
+        let (right, right_leads) = loop {
+            let (right, leads) = side(random, &names, true);
+            let mut late = leads.iter().zip(&left_leads).filter(|(lead, _)| **lead != BLANK).peekable();
+            if late.peek().is_none() || late.any(|(right, left)| left <= right) {
+                break (right, leads);
+            }
+        };
         let sign = ["<=", "≤"][random.below(2)];
         lines.push(format!(
             "{}{left}{}{sign}{}{right}{}",
@@ -289,4 +298,24 @@ fn the_limits_are_the_archives() {
         assert_eq!(number(0, 0, 1, &[vec![lead, 0]]), Err(refusal));
     }
     assert_eq!(number(0, 1, 1, &[vec![BLANK, 0], zero(0)]), Err(17));
+    let window = |number: u32| span::Window { opening: 100 * number, closing: 100 * number + 50 };
+    let week = |count: usize| (0..count as u32).map(window).collect::<Vec<_>>();
+    assert!(span::first_open(&week(limits::WINDOWS), 0).is_ok());
+    assert!(span::first_open(&week(limits::WINDOWS + 1), 0).is_err());
+}
+
+/// The records of a text with a suspended rule and two spans, that of an empty text, and one with a rule that forbids its own moment.
+#[test]
+fn all_records_of_a_text_go_there_and_back() {
+    let rules = "moments: a, b\nsuspended: a + 5 <= b\nanchor <= a\n";
+    let own = "record: with rules that forbid their own moments\nmoments: a\na + 5 <= a\nspan: from anchor to a\n";
+    for text in [&format!("{rules}span: from anchor to a\nspan: from a to b\n"), "", own] {
+        let hex = ward(&["record", "-"], text);
+        let back = ward(&["text", "-"], &hex.out);
+        assert_eq!((hex.status, back.status), (Some(0), Some(0)), "{text}{back:?}");
+        assert_eq!(ward(&["record", "-"], &back.out).out, hex.out, "{}", back.out);
+    }
+    let one = ward(&["record", "-"], "moments: a\nspan: from anchor to a\n").out;
+    let told = ward(&["text", "-"], format!("{one}{one}"));
+    assert!(told.status == Some(1) && told.err.contains("these are several records"), "{told:?}");
 }

@@ -125,3 +125,57 @@ fn colours_are_for_terminals() {
         assert!(!told.out.contains('\x1b') && !told.err.contains('\x1b'), "{told:?}");
     }
 }
+
+/// A moment that no plan has is told with the rules that make it so, also where the answer is least.
+#[test]
+fn what_no_plan_has_is_told() {
+    let text = "moments: a, b, c\na + 10 <= b\nb <= a\nanchor + 10 <= c\nspan: from anchor to c\n";
+    let out = ward(&["-"], text).out;
+    let rules = "  rule 1 (line 2): a + 10 <= b (its minutes count)\n  rule 2 (line 3): b <= a (its minutes count)\n";
+    for name in ["a", "b"] {
+        assert!(out.contains(&format!("No plan that keeps the rules has {name}, because of:\n{rules}")), "{out}");
+    }
+    assert!(!out.contains("has c, because"), "{out}");
+    assert!(ward(&["--html", "-"], text).out.contains("No plan that keeps the rules has a, because of:"));
+    let json = ward(&["--json", "-"], text).out;
+    assert_eq!(json.matches("\"no_plan_has\"").count(), 1, "{json}");
+    // One that a plan may have, and this one leaves out, is none.
+    let out = ward(&["-"], "moments: a, c\na <= anchor + 5\nanchor + 10 <= c\nspan: from anchor to c\n").out;
+    assert!(!out.contains("because of:"), "{out}");
+}
+
+/// Moving is told where something can move, with what it may break.
+#[test]
+fn what_moving_a_moment_may_break_is_told() {
+    let text = "moments: a, b\nanchor <= a\na + 10 <= b\nb <= anchor + 30\nspan: from a to b\n";
+    for words in [&["-"][..], &["--html", "-"]] {
+        let out = ward(words, text).out;
+        assert!(out.contains("Moving one may break a rule with another"), "{out}");
+        assert!(out.contains("Opening hours are not looked at."), "{out}");
+    }
+    assert!(!ward(&["-"], crate::E).out.contains("Moving one"), "nothing can move");
+}
+
+/// That an open time fits is said where all moments that are looked at were tried at once.
+#[test]
+fn an_open_time_is_tried_with_all_that_are_looked_at() {
+    let text = |rule: &str| {
+        let open = "anchor: Mon 8:00\nopen: Mon-Fri 9:00-12:00, 13:00-17:00\n";
+        format!(
+            "moments: leaves, arrives\n{open}{rule}\nanchor <= leaves\nleaves by 17:00\nspan: from leaves to arrives\n"
+        )
+    };
+    let note = |words: &[&str], rule: &str| {
+        let out = ward(words, text(rule)).out;
+        let line = out.lines().find(|line| line.contains("  leaves ")).expect("a line").to_string();
+        line.split("shut at the planned time; ").nth(1).unwrap_or("").to_string()
+    };
+    let short = "arrives exactly 100 after leaves";
+    assert_eq!(note(&["-"], short), "open Mon 9:00, which fits the least span");
+    assert_eq!(note(&["--quick", "-"], short), "opens Mon 9:00; not tried whether that fits the least span");
+    let long = "arrives exactly 200 after leaves";
+    let alone = "open Mon 9:00, which fits the least span for this moment alone, not with the others";
+    assert_eq!(note(&["-"], long), alone);
+    let late = "arrives exactly 100 after leaves\nleaves by 8:30";
+    assert_eq!(note(&["-"], late), "opens Mon 9:00, which does not fit the least span");
+}

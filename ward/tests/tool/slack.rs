@@ -117,7 +117,7 @@ fn small(random: &mut Random, held: &str) -> String {
             format!("later of ({})", terms.join("), ("))
         }
     };
-    let mut text = format!("moments: a, b\n{held}");
+    let mut text = format!("moments: a, b\nrecord: with rules that forbid their own moments\n{held}");
     for _ in 0..random.below(4) {
         text += &format!("{} <= {}\n", side(random), side(random));
     }

@@ -15,7 +15,8 @@ fn texts(random: &mut Random) -> (String, String, Vec<usize>) {
             lead => format!("{name} + {lead}"),
         }
     };
-    let (mut all, mut only, mut numbers) = ("moments: a, b\n".to_string(), "moments: a, b\n".to_string(), Vec::new());
+    let head = "moments: a, b\nrecord: with rules that forbid their own moments\n";
+    let (mut all, mut only, mut numbers) = (head.to_string(), head.to_string(), Vec::new());
     for number in 1..=random.below(6) {
         let rule = format!("{} <= {}\n", side(random), side(random));
         if random.chance(1, 2) {
