@@ -84,8 +84,8 @@ fn answers(document: &str) -> Vec<String> {
     answers
 }
 
-/// What README shows of its first command is how the output of that command starts, up to the times of the plan, which are the engine's
-/// to choose; and every moment has its row in the plan and in the timeline.
+/// What README shows of its first command is what that command prints, line by line to the last, up to the times of the plan, which
+/// are the engine's to choose; and every moment has its row in the plan and in the timeline.
 #[test]
 fn readme_shows_what_its_first_command_prints() {
     let readme = fs::read_to_string(repository().join("README.md")).expect("README");
@@ -96,6 +96,7 @@ fn readme_shows_what_its_first_command_prints() {
     let shown: Vec<&str> = block.map(|line| line.strip_prefix("    ").unwrap_or(line)).collect();
     assert!(shown.len() > 30, "the first line that it prints");
     let lines = |line: &&str| !line.is_empty();
+    assert_eq!(shown.iter().copied().filter(lines).count(), told.out.lines().filter(lines).count(), "as many lines");
     for (line, printed) in shown.iter().copied().filter(lines).zip(told.out.lines().filter(lines)) {
         assert!(line == printed || line.starts_with("  "), "{line}\n{printed}");
     }
