@@ -87,7 +87,7 @@ TookIn d memory p state at (Takings.Ticket k) d′ memory′ = TakenAt d memory 
 
 -- 23 where the memory is too short, else that transition of every state that the desk can hold.
 pub record TookAt (f : Front) (at : ℕ) (memory p : List ℕ) (r : Taking) (memory′ : List ℕ) : Type 0 where
-  pub short : length memory < desk-memory → (r .outcome ≡ Takings.Refused refused-memory) × (memory′ ≡ memory)
+  pub short : length memory < desk-memory → (r ≡ refusedIn f refused-memory) × (memory′ ≡ memory)
   pub moves : {places : List Place} → desk-memory ≤ length memory → (left : Left (deskOf f places) memory) → FirstFree (deskOf f places) at
       → TookIn (deskOf f places) memory p (left .state) at (r .outcome) (deskOf (r .front) (set places at (r .place))) memory′
 
@@ -119,7 +119,7 @@ DidStep d memory state (Steppings.GoesOn k) d′ = HeadTried d memory state (Mac
 DidStep d memory state (Steppings.Done k) d′ = HeadTried d memory state (Machine.done k) d′
 
 pub record StepAt (f : Front) (c : Place) (memory : List ℕ) (r : Stepping) : Type 0 where
-  pub short : length memory < desk-memory → r .outcome ≡ Steppings.Refused refused-memory
+  pub short : length memory < desk-memory → r ≡ record { outcome = Steppings.Refused refused-memory; front = f; place = c }
   pub moves : {places : List Place} → desk-memory ≤ length memory → (left : Left (deskOf f places) memory) → AtHead f places c
       → DidStep (deskOf f places) memory (left .state) (r .outcome) (deskOf (r .front) (set places (headOf f) (r .place)))
 
