@@ -247,6 +247,9 @@ fn read_days(cursor: &mut Cursor) -> Result<Option<Vec<Days>>, Fault> {
             cursor.take();
         }
         days.push((first, last));
+        if let Some((token, next)) = cursor.peek(0).zip(day(cursor, 0)) {
+            return Err(two_days(cursor.line, (from, token.to), (first, last), next));
+        }
         let more = [",", "and", "&"].contains(&cursor.plain(0).to_lowercase().as_str());
         if more && day(cursor, 1).is_some() {
             cursor.take();
@@ -262,6 +265,16 @@ fn read_days(cursor: &mut Cursor) -> Result<Option<Vec<Days>>, Fault> {
         true if hours => Ok(None),
         true => Err(no_day(cursor)),
     }
+}
+
+/// `Mon Fri`: from one to the other, or these two.
+fn two_days(line: &str, (from, to): (usize, usize), days: Days, next: usize) -> Fault {
+    let fault = Fault::new(from, to, format!("'{}' can be all days between, or these alone", &line[from..to]));
+    let fault = match days.0 == days.1 && days.0 != next {
+        true => fault.fix("all days between", with(line, from, to, &named((days.0, next)))),
+        false => fault,
+    };
+    fault.fix("these alone", with(line, from, to, &list(&[days, (next, next)])))
 }
 
 /// `Mon to Mon`: that day alone, or the whole week.
