@@ -47,6 +47,9 @@ impl Draft<'_> {
             if let Some(fault) = self.out_of_order(cursor.line, &group) {
                 return Err(fault);
             }
+            if let Some(fault) = self.small_hours(cursor.line, hours) {
+                return Err(fault);
+            }
             let place = place(number, cursor.line, from, hours.to);
             for day in each(&days).map(|day| day as i32 * DAY) {
                 let [opening, closing] = [hours.opening, hours.closing].map(|time| (day + time) as u32);
@@ -155,8 +158,32 @@ impl Draft<'_> {
         };
         let mut sorted = group.to_vec();
         sorted.sort_by_key(|hours| hours.opening);
-        let sorted: Vec<&str> = sorted.iter().map(text).collect();
+        let sorted: Vec<String> = sorted.iter().map(|&hours| self.by_night(line, hours)).collect();
         Some(fault.fix("earlier on these days", with(line, group[0].from, last.to, &sorted.join(", "))))
+    }
+
+    /// Hours from 1:00 to 7:00 at most, without a zero before them: they can be of the afternoon.
+    fn is_small(&self, line: &str, hours: Hours) -> bool {
+        let zero = line[hours.from..hours.to].starts_with('0');
+        self.clock.judges() && !zero && DAY / 24 <= hours.opening && hours.closing <= 7 * DAY / 24
+    }
+
+    /// Hours as they are written, with a zero before each time where they would be asked about.
+    fn by_night(&self, line: &str, hours: Hours) -> String {
+        let time = |minute: i32| (self.clock.write)(minute);
+        match self.is_small(line, hours) {
+            true => format!("0{}-0{}", time(hours.opening), time(hours.closing)),
+            false => line[hours.from..hours.to].into(),
+        }
+    }
+
+    /// `2:00-4:00`: at night, or in the afternoon.
+    fn small_hours(&self, line: &str, hours: Hours) -> Option<Fault> {
+        let Hours { opening, closing, from, to } = Some(hours).filter(|&hours| self.is_small(line, hours))?;
+        let [start, end] = [opening, closing].map(|minute| (self.clock.write)(minute + DAY / 2));
+        let fault = Fault::new(from, to, format!("'{}' can be at night, or in the afternoon", &line[from..to]));
+        let fault = fault.fix("in the afternoon", with(line, from, to, &format!("{start}-{end}")));
+        Some(fault.fix("at night", with(line, from, to, &self.by_night(line, hours))))
     }
 }
 

@@ -163,16 +163,25 @@ fn opening_hours_that_can_be_two() {
     for (line, lines) in [
         (
             "open: Mon-Fri 8:00-12:00, 1:00-5:00",
-            &["open: Mon-Fri 8:00-12:00, 13:00-17:00", "open: Mon-Fri 1:00-5:00, 8:00-12:00"][..],
+            &["open: Mon-Fri 8:00-12:00, 13:00-17:00", "open: Mon-Fri 01:00-05:00, 8:00-12:00"][..],
         ),
         (
             "open: daily 9:00-12:00, 2:00-6:00",
-            &["open: daily 9:00-12:00, 14:00-18:00", "open: daily 2:00-6:00, 9:00-12:00"],
+            &["open: daily 9:00-12:00, 14:00-18:00", "open: daily 02:00-06:00, 9:00-12:00"],
         ),
-        ("open: Mon-Fri 8-12, 1-5", &["open: Mon-Fri 8:00-12:00, 13:00-17:00", "open: Mon-Fri 1:00-5:00, 8:00-12:00"]),
+        (
+            "open: Mon-Fri 8-12, 1-5",
+            &["open: Mon-Fri 8:00-12:00, 13:00-17:00", "open: Mon-Fri 01:00-05:00, 8:00-12:00"],
+        ),
         (
             "open: Mon-Fri 8:00-18:00, Sat",
             &["open: Mon-Fri 8:00-18:00, Sat 8:00-18:00", "open: Mon-Fri 8:00-18:00, Sat 0:00-24:00"],
+        ),
+        ("open: Mon Fri 8:00-18:00", &["open: Monday to Friday 8:00-18:00", "open: Monday, Friday 8:00-18:00"]),
+        ("open: Tuesday 2:00-4:00", &["open: Tuesday 14:00-16:00", "open: Tuesday 02:00-04:00"]),
+        (
+            "open: Tuesday 9:00-12:00, Tuesday 1:00-5:00",
+            &["open: Tuesday 9:00-12:00, Tuesday 13:00-17:00", "open: Tuesday 9:00-12:00, Tuesday 01:00-05:00"],
         ),
         ("open: Mon to Mon 8:00-12:00", &["open: Monday 8:00-12:00", "open: daily 8:00-12:00"]),
         ("open: Mon-Fri 7:00-6:00 pm", &["open: Mon-Fri 7:00-18:00"]),

@@ -47,7 +47,7 @@ fn hours_that_the_archive_refuses_are_a_mistake_with_its_place() {
         "Mon-Sun 7:00-8:00, Mon-Sun 9:00-10:00",
         "Monday to Sunday 0:00-24:00",
         "Sat-Mon 7:00-9:00",
-        "Wednesday 9:00 to 10:00, mon 1:00-2:00",
+        "Wednesday 9:00 to 10:00, mon 01:00-02:00",
         "daily 7:00-18:00",
         "every day 7:00-12:00, 13:00-18:00",
         "Monday, Friday 7:00-18:00",
