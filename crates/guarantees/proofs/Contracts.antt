@@ -1,17 +1,16 @@
 -- From the contracts of the code to the words of the demands: each entry (specs/Entries.antt) as a function that the demands
 -- speak of, and the laws that it then keeps.
-use Prim.Native.Nat.{ℕ, zero, suc, _+_, _*_, _≤_}
+use Prim.Native.Nat.{ℕ, suc, _+_, _*_}
 use mathlib.Core.Path.{_≡_, refl, ap, sym, _∙_}
-use mathlib.Core.Bool.{true}
 use mathlib.Core.List.{List}
 use native.Mathlib.Omega.{arith}
-use lib.ListN.{length, getD, take}
+use lib.ListN.{getD, take}
 use Rattle.definitions.specs.Offset.{tropOf}
 use Rattle.definitions.specs.Problem.{Problem}
 use Rattle.definitions.specs.Bytes.{Outcome, refusal, gives, outcome, refusalOf}
 use Rattle.definitions.specs.ProblemRecord.{engine-kinds, problemOf, recordRefusal, problemOutcome, nField, mField, layoutOf, WithinLayouts, meant}
 use Rattle.definitions.specs.Questions.{asking}
-use Rattle.definitions.specs.AnswerRecord.{Answer, answerRefusal, answerOutcome, answerOf, stampCount, pickCount, classField, spanField, startField, writerRefusal, writerOutcome, answerBytes, written}
+use Rattle.definitions.specs.AnswerRecord.{Answer, answerRefusal, answerOutcome, answerOf, stampCount, pickCount, classField, spanField, startField, writerOutcome}
 use Rattle.definitions.specs.Programs.{VerdictOutput}
 use Rattle.definitions.specs.Demands.{Word, Slice, Handed, Engine, Checker, ProblemReader, Reader, Writer, Program, EngineSolves, CheckerJudges, ProblemReaderRefuses, ReadsProblems, ReaderRefuses, ReadsFields, WriterRefuses, WritesRecord, ProgramsAnswer}
 use Rattle.definitions.proofs.Outcomes.{refusal-outcome}

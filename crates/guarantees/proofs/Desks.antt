@@ -4,13 +4,12 @@ use mathlib.Core.Path.{_≡_, subst}
 use mathlib.Core.List.{List}
 use lib.ListN.{take}
 use Rattle.definitions.specs.Tropical.{Trop}
-use Rattle.definitions.specs.AnswerRecord.{Answer}
 use Rattle.definitions.specs.ProblemRecord.{WithinLayout, problemOf, meant}
 use Rattle.definitions.specs.Solved.{Answers, Giving}
 use Rattle.definitions.specs.Verdict.{accepted}
 use Rattle.definitions.specs.Demands.{Slice, Checker, CheckerJudges}
 use Rattle.definitions.specs.Desk as Desks
-use Rattle.definitions.specs.Desk.{Desk, answered, Stands, FromOpening, TakesIn, Run, take-in, Collects, handed-over}
+use Rattle.definitions.specs.Desk.{Desk, FromOpening, TakesIn, Run, Collects, handed-over}
 use Rattle.definitions.specs.DeskLaws.{CollectedRight, CollectedAccepted}
 use Rattle.definitions.proofs.Layouts.{desk-within}
 use Rattle.definitions.proofs.Solved.{record-stands}

@@ -1,7 +1,7 @@
 -- What follows for any engine whose result and buffer are those that document 01 gives (`EngineSolves`): first refusals
 -- with the buffer untouched; else class and least span of the theory, in few trials, in a record that reads back and
 -- that any true checker accepts.
-use Prim.Native.Nat.{ℕ, zero, suc, _+_, _*_, _≤_, _<_}
+use Prim.Native.Nat.{ℕ, suc, _≤_, _<_}
 use mathlib.Core.Path.{_≡_, refl, ap, ap₂, sym, subst, subst₃, _∙_}
 use mathlib.Core.Bool.{false≢true}
 use borrow.Author.Tests.{eq-eqb}
@@ -10,17 +10,17 @@ use native.Mathlib.Omega.{arith}
 use lib.ListN.{length, drop, length-append}
 use lib.Seq.{take-append-seam, drop-append-seam}
 use lib.IntN.{ℤ}
-use Rattle.definitions.specs.Limits.{answer-most, questions-kind, class-optimal, class-unbounded, class-infeasible}
+use Rattle.definitions.specs.Limits.{answer-most, questions-kind, class-optimal}
 use Rattle.definitions.specs.Tropical.{Trop, fin}
 use Rattle.definitions.specs.Problem.{Problem, Optimal}
-use Rattle.definitions.specs.Bytes.{or-else, Outcome, gives}
+use Rattle.definitions.specs.Bytes.{gives}
 use Rattle.definitions.specs.ProblemRecord.{checker-kinds, AsksOne, WithinLayout, WithinLayouts, problemRefusal, problemOf, kindField, nField, mField, countField, questionsAsked, meant}
 use Rattle.definitions.specs.Questions.{part, alone}
-use Rattle.definitions.specs.AnswerRecord.{Answer, answerRefusal, answerOf, answerSize, answerBytes, written}
+use Rattle.definitions.specs.AnswerRecord.{Answer, answerSize, answerBytes, written}
 use Rattle.definitions.specs.Verdict.{Verdict, accepted, checkRefusal, answerFor, Accepted, Judged, turned-away, certified, uncertified}
 use Rattle.definitions.specs.Solved as Results
 use Rattle.definitions.specs.Solved.{Solved, answered, Found, optimal, unbounded, infeasible, Answers, AnswersInTurn, Solves, solved, all-solved, engineRefusal}
-use Rattle.definitions.specs.Demands.{Slice, Engine, Reader, Checker, EngineSolves, EngineRefuses, LeastSpans, FoundBy, ReadsFields, EngineReadsBack, ReadBy, CheckerJudges, OwnAnswers, OwnAnswer, QuestionAnswered, QuestionsAnswered, AllAnswered, EachQuestion}
+use Rattle.definitions.specs.Demands.{Slice, Engine, Reader, Checker, EngineSolves, EngineRefuses, LeastSpans, FoundBy, ReadsFields, EngineReadsBack, CheckerJudges, OwnAnswers, QuestionAnswered, QuestionsAnswered, AllAnswered, EachQuestion}
 use Rattle.definitions.proofs.Tropical.{fin-injective}
 use Rattle.definitions.proofs.Put.{put-front, drop-put}
 use Rattle.definitions.proofs.IdleDay.{meant-some, several-meant}

@@ -1,24 +1,23 @@
 -- What can be handed to the writer: offset numbers of spans and stamps, and the answers that it takes.
-use Prim.Native.Nat.{ℕ, zero, suc, _+_, _-_, _≤_, _<_}
-use mathlib.Core.Path.{_≡_, refl, ap, ap₂, sym, subst, _∙_}
+use Prim.Native.Nat.{ℕ, suc, _+_, _-_, _<_}
+use mathlib.Core.Path.{_≡_, refl, ap, ap₂, sym, _∙_}
 use mathlib.Core.Bool.{true}
 use mathlib.Core.List.{List, [], _∷_, map}
 use mathlib.Core.Logic.{⊎-elim}
 use native.Mathlib.Omega.{arith}
 use native.Mathlib.Nat.{eq-zero-or-pos}
-use lib.ListN.{length, getD, length-map, List·getD-map, List·getD-eq-default}
-use lib.IntN.{ℤ, pos, negsuc}
-use Rattle.definitions.specs.Limits.{word-values, signed-half, span-limit, stamp-limit}
+use lib.ListN.{length, getD, length-map, List·getD-map}
+use lib.IntN.{pos, negsuc}
+use Rattle.definitions.specs.Limits.{signed-half, span-limit, stamp-limit}
 use Rattle.definitions.specs.Tropical.{Trop, bot, fin}
 use Rattle.definitions.specs.Bytes.{blank-or-within, fieldOf}
 use Rattle.definitions.specs.Offset.{tropOf, off}
 use Rattle.definitions.specs.AnswerRecord.{Answer}
 use Rattle.definitions.specs.Demands.{Word, Words, Numbered, Handed}
-use Rattle.definitions.proofs.Whole.{up, down}
 use Rattle.definitions.proofs.Tropical.{bot-not-fin}
 use Rattle.definitions.proofs.Offset.{trop-fin, trop-read, within-fits, trop-fieldOf, off-bound}
 use Rattle.definitions.proofs.AnswerFits.{WriterFits}
-use Rattle.definitions.proofs.RoundTrip.{class-most, start-most, span-within, stamps-within, size-most, highest-most}
+use Rattle.definitions.proofs.RoundTrip.{class-most, start-most, span-within, stamps-within, highest-most}
 use Rattle.answer_reader.specs.Fields.{fieldsOf}
 use Rattle.answer_reader.proofs.ByClass.{stamps-most, picks-most}
 use Rattle.checker.proofs.Answers.{within-at, picks-at}

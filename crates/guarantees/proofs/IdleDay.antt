@@ -9,7 +9,6 @@ use lib.IntN.{ℤ, pos}
 use Rattle.definitions.specs.Limits.{answer-most, class-optimal}
 use Rattle.definitions.specs.Tropical.{Trop, fin}
 use Rattle.definitions.specs.Problem.{Problem, Optimal}
-use Rattle.definitions.specs.ProblemRecord.{meant}
 use Rattle.definitions.specs.AnswerRecord.{answerSize}
 use Rattle.definitions.specs.Bisection.{trials-optimal}
 use Rattle.definitions.specs.Verdict.{refused, turned-away}

@@ -1,7 +1,6 @@
 -- The contracts of the code can be met: for each entry a function built from the definitions, and the demands of all of them.
 use Prim.Native.Nat.{ℕ, zero, suc, _+_, _-_, _≤_, _<_}
 use mathlib.Core.Path.{_≡_, refl, ap, sym, subst, _∙_}
-use mathlib.Core.Bool.{true, false}
 use mathlib.Core.List.{List, [], _++_}
 use mathlib.Core.Logic.{_⊎_, ⊎-elim}
 use native.Mathlib.Omega.{arith}
@@ -13,19 +12,18 @@ use Rattle.definitions.specs.Limits.{kept-bytes, length-bytes, span-limit, prob
 use Rattle.definitions.specs.Tropical.{Trop}
 use Rattle.definitions.specs.Problem.{Problem}
 use Rattle.definitions.specs.Bytes.{Bytes, outcome}
-use Rattle.definitions.specs.Offset.{tropOf}
 use Rattle.definitions.specs.ProblemRecord.{AsksOne, engine-kinds, checker-kinds, lengthField, kindField, nField, mField, countField, leadsPlace, questionsAsked, layoutOf, headerRefusal, headerOutcome, problemRefusal, recordRefusal, problemOutcome, WithinLayout, WithinLayouts, problemOf, refusalFor, meant}
 use Rattle.definitions.specs.AnswerRecord.{Answer, answerRefusal, answerOutcome, answerOf, answerHeaderRefusal, classField, spanField, startField, answerSize, answerBytes, writerRefusal, writerOutcome, written}
 use Rattle.definitions.specs.Verdict as Verdicts
-use Rattle.definitions.specs.Verdict.{Judged, turned-away, certified, uncertified, answerFor, checkRefusal}
+use Rattle.definitions.specs.Verdict.{Judged, turned-away, certified, uncertified, checkRefusal}
 use Rattle.definitions.specs.Solved as Results
 use Rattle.definitions.specs.Solved.{Answers, AnswersInTurn, Solves, engineRefusal}
 use Rattle.definitions.specs.Questions.{alone, asking}
 use Rattle.definitions.specs.Programs as Programs
-use Rattle.definitions.specs.Programs.{SpanOutput, VerdictOutput, KeptOf, ReadFrom, problemPart, answerPart, cutPlace, refusedLine, verdictLine}
+use Rattle.definitions.specs.Programs.{SpanOutput, VerdictOutput, KeptOf, problemPart, answerPart, cutPlace, refusedLine, verdictLine}
 use Rattle.definitions.specs.Demands.{Slice, Numbered, Demands}
 use Rattle.definitions.proofs.Bytes.{bytes-take, bytes-drop}
-use Rattle.definitions.proofs.Refusals.{or-else-none, or-else-suc, record-fits}
+use Rattle.definitions.proofs.Refusals.{or-else-none, or-else-suc}
 use Rattle.definitions.proofs.KnownKinds.{one-or-several}
 use Rattle.definitions.proofs.Layouts.{one-question, problem-fits}
 use Rattle.definitions.proofs.AnswerFits.{answer-fits, form-fits}
@@ -62,7 +60,7 @@ use Rattle.guarantees.specs.Entries as Entries
 use Rattle.guarantees.specs.Entries.{Solve, Check, ReadProblem, ReadAnswer, WriteAnswer, WriterFields}
 use Rattle.guarantees.proofs.Handing.{numberFor, number-back, within-numbered}
 use Rattle.duality.proofs.SmallLeads.{layout-within}
-use Rattle.guarantees.proofs.Solvable.{SomeAnswer, answer-exists}
+use Rattle.guarantees.proofs.Solvable.{answer-exists}
 use Rattle.guarantees.proofs.Contracts.{engineOf, checkerOf, problemReaderOf, readerOf, writerOf, programOf}
 use Rattle.guarantees.proofs.Demands.{demands}
 

@@ -14,6 +14,7 @@ pub mod WrongPrograms
 pub mod Reached
 pub mod Solvable
 pub mod DeskGoes
+pub mod Seen
 pub mod DeskCalls
 pub mod Inhabited
 pub mod OneAnswer

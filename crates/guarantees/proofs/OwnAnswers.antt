@@ -1,15 +1,13 @@
 -- The engine's own record, judged by the checker and read by the reader.
-use Prim.Native.Nat.{ℕ, zero, suc, _+_, _≤_, _<_}
+use Prim.Native.Nat.{ℕ, suc, _≤_, _<_}
 use mathlib.Core.Path.{_≡_, refl, ap, sym, subst, subst₂, _∙_}
-use mathlib.Core.Bool.{false}
 use mathlib.Core.List.{List}
 use native.Mathlib.Omega.{arith}
-use native.Mathlib.Nat.{zero-add}
 use lib.ListN.{length, getD, take}
 use Rattle.definitions.specs.Limits.{answer-most, refused-kind}
 use Rattle.definitions.specs.Tropical.{Trop, bot}
 use Rattle.definitions.specs.Offset.{tropOf}
-use Rattle.definitions.specs.Bytes.{Bytes, numAt, Outcome, gives, outcome}
+use Rattle.definitions.specs.Bytes.{Outcome, gives}
 use Rattle.definitions.specs.ProblemRecord.{checker-kinds, WithinLayout, headerOutcome, nField, mField, meant}
 use Rattle.definitions.specs.AnswerRecord.{Answer, answerRefusal, answerOutcome, answerOf, answerBytes, classField, spanField, startField}
 use Rattle.definitions.specs.Verdict as Verdicts

@@ -1,7 +1,7 @@
 -- What a strategy reaches from a start is decided, so the picks that play no part can be set to 0, and what was accepted still is.
 use Prim.Native.Nat.{ℕ, zero, suc, _+_, _*_, _/_, _%_, _≤_, _<_}
-use mathlib.Core.Path.{_≡_, refl, ap, sym, subst, fun-ext, _∙_}
-use mathlib.Core.List.{List, [], _∷_}
+use mathlib.Core.Path.{_≡_, refl, sym, subst, fun-ext, _∙_}
+use mathlib.Core.List.{List}
 use mathlib.Core.Logic.{_⊎_, inl, inr, ⊎-elim}
 use native.Mathlib.Omega.{arith}
 use native.Mathlib.Nat.{eq-zero-or-pos}
@@ -19,8 +19,8 @@ use Rattle.definitions.proofs.ProblemBack.{listed-length, listed-at}
 use Rattle.duality.specs.Starts.{StartBelow}
 use Rattle.duality.specs.Picks.{NoneAbove, AgreeReached, AgreeInUse}
 use Rattle.duality.proofs.Reach.{reach-keep, reach-map}
-use Rattle.duality.proofs.Strong.{Some, all-or-some}
-use Rattle.reach.specs.Marks.{Marked, Led, StartMarked}
+use Rattle.duality.proofs.Strong.{all-or-some}
+use Rattle.reach.specs.Marks.{Led, StartMarked}
 use Rattle.reach.proofs.Marks.{reached-from, from-reached}
 use Rattle.reach.proofs.Existence.{MarksOf, reach-exists}
 

@@ -1,13 +1,12 @@
 -- What follows for any reader and writer of answers whose results are those that document 01 gives: what is written reads
 -- back as itself, and what is read is written again to the same bytes.
-use Prim.Native.Nat.{ℕ, zero, suc, _+_, _≤_}
+use Prim.Native.Nat.{ℕ, zero, suc, _+_}
 use mathlib.Core.Path.{_≡_, refl, ap, sym, _∙_}
 use mathlib.Core.List.{List}
 use native.Mathlib.Omega.{arith}
 use native.Mathlib.Nat.{zero-add}
 use lib.ListN.{length, take}
-use Rattle.definitions.specs.Limits.{answer-most}
-use Rattle.definitions.specs.Bytes.{Outcome, refusal, gives}
+use Rattle.definitions.specs.Bytes.{refusal, gives}
 use Rattle.definitions.specs.AnswerRecord.{Answer, answerRefusal, answerOf, answerSize, answerBytes, written, writerRefusal}
 use Rattle.definitions.specs.Demands.{Word, Slice, Reader, Writer, ReaderRefuses, ReadsFields, WriterRefuses, WritesRecord, ReadsBack, WritesBack}
 use Rattle.definitions.proofs.AnswerFits.{writer-fits}

@@ -1,9 +1,9 @@
 -- For every problem with small leads there is an answer that the engine may give.
-use Prim.Native.Nat.{ℕ, zero, suc, _+_, _*_, _≤_, _<_}
-use mathlib.Core.Path.{_≡_, refl, ap, sym, subst, _∙_}
-use mathlib.Core.Bool.{Bool, true, _&&_, and-eq-true-iff}
+use Prim.Native.Nat.{ℕ, suc, _+_, _*_, _≤_, _<_}
+use mathlib.Core.Path.{_≡_, refl, sym, subst}
+use mathlib.Core.Bool.{Bool, true, and-eq-true-iff}
 use mathlib.Core.List.{List, [], _∷_}
-use mathlib.Core.Logic.{_⊎_, inl, inr, ⊎-elim}
+use mathlib.Core.Logic.{⊎-elim}
 use native.Mathlib.Omega.{arith}
 use lib.Dec.{eqb}
 use lib.ListN.{length, getD, List·getD-eq-default}
@@ -11,18 +11,18 @@ use lib.IntN.{ℤ, pos, negℤ, natAbs, _+ℤ_, _-ℤ_}
 use lib.Signed.{_≤ℤ_}
 use borrow.Author.Tests.{eq-eqb, le-leb, lt-ltb}
 use Rattle.base.proofs.Numbers.{nat-le-or-lt}
-use Rattle.definitions.specs.Limits.{highest-n, highest-m, lead-limit, span-limit, stamp-limit, class-optimal, class-unbounded, class-infeasible}
+use Rattle.definitions.specs.Limits.{highest-n, lead-limit, span-limit, stamp-limit, class-optimal, class-unbounded, class-infeasible}
 use Rattle.definitions.specs.Tropical.{Trop, bot, fin, plus, Finite}
 use Rattle.definitions.specs.Problem.{Problem, Point, Feasible, value, Attainable, Optimal, Unbounded, Infeasible}
 use Rattle.definitions.specs.Problem as Problems
-use Rattle.definitions.specs.Certificate.{Strategy, Anchor, Second, startOf, AnchorAnd, AcceptedOptimal}
+use Rattle.definitions.specs.Certificate.{Strategy, Anchor, Second, startOf, AnchorAnd}
 use Rattle.definitions.specs.Bytes.{all, blank-or-within, whole-within}
 use Rattle.definitions.specs.ProblemRecord.{listOf}
-use Rattle.definitions.specs.AnswerRecord.{Answer, stampCount, pickCount, highestPick, rightCounts, formRefusal, spanFits, stampsFit, picksFit, is-zero, is-blank}
+use Rattle.definitions.specs.AnswerRecord.{Answer, stampCount, pickCount, rightCounts, spanFits, stampsFit, is-zero, is-blank}
 use Rattle.definitions.specs.Verdict as Verdicts
 use Rattle.definitions.specs.Verdict.{strategyOf}
 use Rattle.definitions.specs.Solved as Results
-use Rattle.definitions.specs.Solved.{Found, Answers, IdleVariables, IdleRows}
+use Rattle.definitions.specs.Solved.{Answers, IdleVariables, IdleRows}
 use Rattle.definitions.proofs.Whole.{up, down, whole, plus-read, neg-read, abs-show}
 use Rattle.definitions.proofs.AnswerFits.{form-fits}
 use Rattle.definitions.proofs.ProblemBack.{listed-length, listed-at}
@@ -30,7 +30,6 @@ use Rattle.duality.specs.Starts.{StartBelow}
 use Rattle.duality.specs.System.{Solves, Solution, Meets, systemAt}
 use Rattle.duality.specs.Values.{values}
 use Rattle.duality.specs.Within.{Within}
-use Rattle.duality.specs.Picks.{SomePicks}
 use Rattle.duality.proofs.Weak.{not-solved-and-blocked}
 use Rattle.duality.proofs.Attain.{moved, moved-anchored, moved-solves, solves-feasible, moved-counts, solves-within}
 use Rattle.duality.proofs.Ends.{finished}

@@ -14,15 +14,15 @@ use lib.ListN.{length, getD, take, replicate, length-take, length-replicate}
 use lib.IntN.{ℤ, pos}
 use Rattle.definitions.specs.Limits.{class-optimal, class-unbounded, class-infeasible, answer-most, most-trials}
 use Rattle.definitions.specs.Tropical.{Trop, bot, fin, plus, larger, largest, Finite, _⊑_}
-use Rattle.definitions.specs.Problem.{Problem, Point, Feasible, Counts, Value, side, value, minus, minus-infinity, plus-infinity, Optimal, _≼_, lowest, between, highest}
+use Rattle.definitions.specs.Problem.{Point, Feasible, Counts, Value, side, value, minus, minus-infinity, plus-infinity, Optimal, _≼_, lowest, between, highest}
 use Rattle.definitions.specs.Problem as Problems
-use Rattle.definitions.specs.Bytes.{Outcome, gives, put, numAt, numsAt, signed, tropField, tropAt, all, some-below, blank-or-within, whole-within}
-use Rattle.definitions.specs.ProblemRecord.{WithinLayout, problemOf, nField, mField, problemRefusal, headerRefusal, headerJudged, leadsOf, refusalFor}
+use Rattle.definitions.specs.Bytes.{gives, put, numAt, numsAt, signed, tropField, tropAt, all, some-below, blank-or-within, whole-within}
+use Rattle.definitions.specs.ProblemRecord.{WithinLayout, problemOf, nField, mField, headerRefusal, headerJudged, leadsOf, refusalFor}
 use Rattle.definitions.specs.AnswerRecord.{Answer, known-class, startFits, answerBytes, answerSize, pickCount, highestPick, written, writerRefusal, writerJudged, answerRefusal, answerHeaderRefusal, answerHeaderJudged, answerOf, formRefusal, spanFits, stampsFit, picksFit, is-zero, is-blank}
 use Rattle.definitions.specs.Certificate.{Strategy, Reachable, start, onward, startOf, AnchorAnd, Leads, RowLeads}
-use Rattle.definitions.specs.Verdict.{accepts, accepted, Accepted, answerFor, pointOf, strategyOf}
-use Rattle.definitions.specs.Solved.{Solved, engineRefusal, answered, Found, optimal, unbounded, infeasible, Answers}
-use Rattle.definitions.specs.Demands.{Slice, Handed, Engine, Checker, Reader, Writer, Accepts, EngineRefuses, WriterRefuses, EngineSolves, LeastSpans, FoundBy, OwnAnswers, AcceptsExactly, NeverBroken, EngineReadsBack, ReaderRefuses, ReadsFields}
+use Rattle.definitions.specs.Verdict.{accepts, pointOf, strategyOf}
+use Rattle.definitions.specs.Solved.{engineRefusal, answered, Found, optimal, unbounded, infeasible}
+use Rattle.definitions.specs.Demands.{Slice, Handed, Engine, Checker, Reader, Writer, Accepts, EngineRefuses, WriterRefuses, EngineSolves, LeastSpans, OwnAnswers, AcceptsExactly, NeverBroken, EngineReadsBack, ReaderRefuses, ReadsFields}
 use Rattle.definitions.specs.Examples.{example-A, example-B, example-E, example-M}
 use Rattle.definitions.proofs.Bytes.{bytes-tested, bytes-take, bytes-put, zero-bytes}
 use Rattle.definitions.proofs.Put.{getD-put-after}

@@ -2,7 +2,6 @@
 -- proofs/Demands.antt ask for. That each can be met is shown in proofs/Inhabited.antt.
 use Prim.Native.Nat.{ℕ}
 use mathlib.Core.Path.{_≡_}
-use mathlib.Core.Bool.{true}
 use mathlib.Core.List.{List}
 use lib.ListN.{length, take}
 use Rattle.definitions.specs.Limits.{kept-bytes}
