@@ -14,7 +14,7 @@ use Rattle.definitions.specs.Desk.{Collected, Collects, Desk, FromOpening, NotHe
 -- ---- what is proved of every sequence
 
 -- Some step of the sequence reported that the ticket is answered now.
-unfoldable pub Reported : (number : ℕ) {memory k : ℕ} {d e : Desk} {Gives : Giving} → Run Gives memory d k e → Type 0
+unfoldable pub Reported : (number : ℕ) {Gives : Giving} {memory k : ℕ} {d e : Desk} → Run Gives memory d k e → Type 0
 Reported number nothing = ⊥
 Reported number (take_in run t) = Reported number run
 Reported number (one_step_is {r = r} run s) = Reported number run ⊎ (r ≡ done number)
@@ -27,7 +27,7 @@ HandsOver number n still_waits = ⊥
 HandsOver number n (collected class span own size) = n ≡ number
 
 -- Some collection of the sequence did.
-unfoldable pub HandedOver : (number : ℕ) {memory k : ℕ} {d e : Desk} {Gives : Giving} → Run Gives memory d k e → Type 0
+unfoldable pub HandedOver : (number : ℕ) {Gives : Giving} {memory k : ℕ} {d e : Desk} → Run Gives memory d k e → Type 0
 HandedOver number nothing = ⊥
 HandedOver number (take_in run t) = HandedOver number run
 HandedOver number (one_step_is run s) = HandedOver number run
@@ -40,7 +40,7 @@ turn number none_waits = 0
 turn number (goes_on n) = cond (eqb n number) 1 0
 turn number (done n) = cond (eqb n number) 1 0
 
-unfoldable pub turns : (number : ℕ) {memory k : ℕ} {d e : Desk} {Gives : Giving} → Run Gives memory d k e → ℕ
+unfoldable pub turns : (number : ℕ) {Gives : Giving} {memory k : ℕ} {d e : Desk} → Run Gives memory d k e → ℕ
 turns number nothing = 0
 turns number (take_in run t) = turns number run
 turns number (one_step_is {r = r} run s) = turns number run + turn number r
