@@ -20,7 +20,7 @@ use records::offset::{blank_or_within, offset, offset_32};
 
 // The class of an answer, its span's offset number and its start. Public for `answer_writer`, `checker`, `engine` and `grounds`, which hand
 // them on together.
-#[derive(Drop)]
+#[derive(Clone, Copy)]
 pub struct Head {
     pub class: u64,
     pub span: u64,
@@ -28,7 +28,7 @@ pub struct Head {
 }
 
 // What reading an answer answers: class, span and start, or the number of the refusal.
-#[derive(Drop)]
+#[derive(Clone, Copy)]
 pub enum AnswerHead {
     Fields(Head),
     Refused(usize),

@@ -20,7 +20,7 @@ use records::limits::{
 use records::offset::offset;
 
 // What writing an answer answers: the record's size, or the number of the refusal.
-#[derive(Drop)]
+#[derive(Clone, Copy)]
 pub enum Written {
     Record(usize),
     Refused(usize),

@@ -7,7 +7,7 @@ ghost use Rattle.census.specs.Words.{up_to, WordRead};
 use records::limits::CENSUS_MOST;
 
 // What a word is: a number, or something else. A number above 65,536 is told as 65,536, which is beyond every limit of a census too.
-#[derive(Drop)]
+#[derive(Clone, Copy)]
 pub enum Word {
     Number(u64),
     Other,

@@ -30,7 +30,7 @@ use strategy_tests::certify::{certify_rows, certify_variables};
 use strategy_tests::starts::{in_second, start_marks};
 
 // What the checker answers: accepted, with class and the span's offset number, or refused, with the number.
-#[derive(Drop)]
+#[derive(Clone, Copy)]
 pub enum Verdict {
     Accepted { class: u64, span: u64 },
     Refused(usize),

@@ -20,7 +20,7 @@ use search::trial::LOWEST;
 
 // Class (1 least, 2 bottomless, 3 none), span and stamps as offset numbers, the start, the trials made, and picks. Stamps and picks
 // count as far as the class has them.
-#[derive(Drop)]
+#[derive(Clone, Copy)]
 pub struct Answer {
     pub class: u64,
     pub span: u64,

@@ -42,7 +42,7 @@ fn push(arcs: &[u32; ARCS], base: usize, by: u32, values: &mut [u32; STRIDE])
 }
 
 // The marked variables in order, and how many they are.
-#[derive(Drop)]
+#[derive(Clone, Copy)]
 pub struct Order {
     pub places: [usize; STRIDE],
     pub count: usize,
@@ -72,7 +72,7 @@ pub fn order_of(marks: &[u8; STRIDE], width: usize) -> Order
 }
 
 // What a round comes to: whole, with whether a variable raised others, or stopped at a value above the limit.
-#[derive(Drop)]
+#[derive(Clone, Copy)]
 pub enum Round {
     Whole(bool),
     Beyond,

@@ -16,7 +16,7 @@ use records::limits::{
 use records::problem::{CONVERTER_KINDS, Header, Layout, lead_count, problem_refusal};
 
 // What converting answers: the size of the record written, or the number of the refusal.
-#[derive(Drop)]
+#[derive(Clone, Copy)]
 pub enum Conversion {
     Record(usize),
     Refused(usize),

@@ -10,7 +10,7 @@ use records::limits::{LEAD_BYTES, PROBLEM_HEADER};
 use records::problem::lead_count;
 
 // What a census answers: the number of the refusal, or how many problems are least, bottomless, none, and under refusal 17.
-#[derive(Drop)]
+#[derive(Clone, Copy)]
 pub enum Census {
     Refused(usize),
     Counted {

@@ -10,7 +10,7 @@ use records::limits::{INFEASIBLE, OPTIMAL, REFUSED_SILENT, UNBOUNDED};
 const SILENT: u64 = REFUSED_SILENT as u64;
 
 // How many problems are least, bottomless, none, and under refusal 17.
-#[derive(Drop)]
+#[derive(Clone, Copy)]
 pub struct Tally {
     pub least: u64,
     pub bottomless: u64,

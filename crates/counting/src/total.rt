@@ -32,7 +32,7 @@ fn total_of(n: usize, m: usize, w: u64) -> u64
 }
 
 // What n, m and w come to: the number of problems, or the number of the refusal.
-#[derive(Drop)]
+#[derive(Clone, Copy)]
 pub enum Total {
     Problems(u64),
     Refused(usize),

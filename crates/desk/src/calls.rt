@@ -17,14 +17,14 @@ use engine::one_trial::{Pending, begin, hand_over, not_tried, one_trial};
 use records::limits::{ANSWER_MOST, REFUSED_ROOM};
 
 // What taking in answers: refused with the number, or the ticket.
-#[derive(Drop)]
+#[derive(Clone, Copy)]
 pub enum TakenIn {
     Refused(usize),
     Ticket(u64),
 }
 
 // What a step answers: refused; none waits; or the ticket that had its trial, which goes on waiting or is answered now.
-#[derive(Drop)]
+#[derive(Clone, Copy)]
 pub enum Stepped {
     Refused(usize),
     NoneWaits,
@@ -33,7 +33,7 @@ pub enum Stepped {
 }
 
 // What collecting answers: refused; the ticket still waits; or class, the span's offset number, own trials and the record's size.
-#[derive(Drop)]
+#[derive(Clone, Copy)]
 pub enum Collected {
     Refused(usize),
     StillWaits,
@@ -41,21 +41,21 @@ pub enum Collected {
 }
 
 // What a call answers, the front after it, and the place that it changed: of an opening every place, else the one taken, tried or given.
-#[derive(Drop)]
+#[derive(Clone, Copy)]
 pub struct Opening {
     pub refused: usize,
     pub front: Front,
     pub place: Place,
 }
 
-#[derive(Drop)]
+#[derive(Clone, Copy)]
 pub struct Taking {
     pub outcome: TakenIn,
     pub front: Front,
     pub place: Place,
 }
 
-#[derive(Drop)]
+#[derive(Clone, Copy)]
 pub struct Stepping {
     pub outcome: Stepped,
     pub front: Front,

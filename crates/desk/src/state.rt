@@ -8,7 +8,7 @@ use engine::one_trial::Pending;
 
 // A place: its ticket, 0 where it is empty; the size of its problem in the lent memory; the problem under way, whose class is 0 until it
 // is answered.
-#[derive(Drop)]
+#[derive(Clone, Copy)]
 pub struct Place {
     pub ticket: u64,
     pub size: usize,
@@ -16,7 +16,7 @@ pub struct Place {
 }
 
 // The last ticket given out, and the line, which starts at `head` of a ring of places and has `waiting` of them.
-#[derive(Drop)]
+#[derive(Clone, Copy)]
 pub struct Front {
     pub given: u64,
     pub head: usize,

@@ -204,8 +204,8 @@ looped_at {A} N {j} {k} {n} {w} p zero two o b h e =
     looped_first o (omega arith) (subst (λ (m : ℕ). Cut A j m k two n w) d (cut p two h))
 looped_at N stop (suc one) two o b h e = absurd (omega arith)
 looped_at N (step a p) (suc one) zero o b h e = absurd (omega arith)
-looped_at N (step {w = w} a p) (suc one) (suc two) o b h e =
-    looped_on w a (looped_at N p one two (omega arith) (omega arith) (omega arith) e)
+looped_at {A = A} N {j = j} {k = k} (step {l = l} {n = n} {w = w} {v = v} a p) (suc one) (suc two) o b h e =
+    looped_on w a (looped_at N {j = l} p one two (omega arith) (omega arith) (omega arith) e)
 
 -- A walk of at least N arcs among N variables contains a closed walk of 1 to N arcs.
 pub looped : {A : ℕ → ℕ → ℤ → Type 0} {N j k n : ℕ} {w : ℤ} → Inside A N → j < N → N ≤ n → Walk A j k n w → Looped A N j k n w

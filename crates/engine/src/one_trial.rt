@@ -21,7 +21,7 @@ use search::trial::{LOWEST, TOP};
 
 // A problem under way: its n and m; the trials made, the class, 0 while it is open, and the bracket; what its look found, from the first trial
 // on. The cells are the look's picks, and once it is answered its stamps and picks, with the start of the answer.
-#[derive(Drop)]
+#[derive(Clone, Copy)]
 pub struct Pending {
     pub n: usize,
     pub m: usize,
@@ -52,7 +52,7 @@ pub fn not_tried(n: usize, m: usize) -> Pending
 }
 
 // A problem begun: refused with the number, or 0 and the problem under way.
-#[derive(Drop)]
+#[derive(Clone, Copy)]
 pub struct Begun {
     pub refused: usize,
     pub pending: Pending,
@@ -182,7 +182,7 @@ fn span_of(pending: Pending) -> u64
 }
 
 // What was handed over: class, the span's offset number, the trials made and the record's length.
-#[derive(Drop)]
+#[derive(Clone, Copy)]
 pub struct Handed {
     pub class: u64,
     pub span: u64,

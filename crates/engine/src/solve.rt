@@ -30,7 +30,7 @@ pub fn read_layout(
 
 // What the engine answers: refused with the number; to one question, answered with class, the span's offset number, trials and the
 // record's length; to several, all answered with their count, the sum of the trials and the length of all records.
-#[derive(Drop)]
+#[derive(Clone, Copy)]
 pub enum Solved {
     Refused(usize),
     Answered {
@@ -47,7 +47,7 @@ pub enum Solved {
 }
 
 // One question's answer, written: its class, the span's offset number, its trials and the record's length.
-#[derive(Drop)]
+#[derive(Clone, Copy)]
 struct One {
     class: u64,
     span: u64,

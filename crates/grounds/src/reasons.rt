@@ -17,7 +17,7 @@ use records::limits::{INFEASIBLE, REFUSED_BOTTOMLESS, ROWS, STRIDE, TABLE, UNBOU
 use records::problem::{CHECKER_KINDS, Header, problem_refusal};
 
 // What is told: refused, with the number; rules behind none, so many; rules and a round behind least, so many of each.
-#[derive(Drop)]
+#[derive(Clone, Copy)]
 pub enum Told {
     Refused(usize),
     None(usize),
@@ -25,7 +25,7 @@ pub enum Told {
 }
 
 // What is told, the numbers of the rules, and the moments of the round in turn; the counts say how many of each are told.
-#[derive(Drop)]
+#[derive(Clone, Copy)]
 pub struct Grounds {
     pub told: Told,
     pub rules: [usize; ROWS],

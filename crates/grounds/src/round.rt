@@ -13,7 +13,7 @@ use crate::turns::{Turns, moment_turn};
 use records::limits::{ROWS, STRIDE, TABLE};
 
 // Moments by their numbers, in turn, and how many.
-#[derive(Drop)]
+#[derive(Clone, Copy)]
 pub struct Round {
     pub moments: [usize; STRIDE],
     pub count: usize,

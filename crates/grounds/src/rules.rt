@@ -7,7 +7,7 @@ ghost use Rattle.grounds.specs.Rules.{PickedBy, PickedListed};
 use records::limits::{ROWS, STRIDE};
 
 // Rules by their numbers, and how many.
-#[derive(Drop)]
+#[derive(Clone, Copy)]
 pub struct Rules {
     pub numbers: [usize; ROWS],
     pub count: usize,

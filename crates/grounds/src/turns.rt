@@ -7,7 +7,7 @@ use crate::latest::{first_latest, row_at};
 use records::limits::{ROWS, STRIDE, TABLE};
 
 // The moments that came, in turn, how many, and the place of the one that comes again.
-#[derive(Drop)]
+#[derive(Clone, Copy)]
 pub struct Turns {
     pub moments: [usize; STRIDE],
     pub count: usize,

@@ -11,14 +11,14 @@ use records::limits::{HOUR, NO_TEXT, OFFSET, TEXT_LIMIT, TEXT_MOST};
 const MINUTES_PART: usize = 3;
 
 // What reading a text answers: the value, or the number of the refusal.
-#[derive(Drop)]
+#[derive(Clone, Copy)]
 pub enum Read {
     Value(u64),
     Refused(usize),
 }
 
 // What reading a part of a text finds: its number, or that it is none.
-#[derive(Drop)]
+#[derive(Clone, Copy)]
 pub enum Found {
     Number(u64),
     Nothing,

@@ -14,7 +14,7 @@ use records::offset::blank_or_within;
 const LINE: usize = 24;
 
 // What writing answers: the size of the text, or the number of the refusal.
-#[derive(Drop)]
+#[derive(Clone, Copy)]
 pub enum Written {
     Text(usize),
     Refused(usize),

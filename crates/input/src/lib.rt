@@ -29,7 +29,7 @@ fn keep(kept: &mut [u8], size: u64, buf: &[u8], n: usize)
 }
 
 // What reading ended with: the size of what came, or a read that failed.
-#[derive(Drop)]
+#[derive(Clone, Copy)]
 pub enum Input {
     Ended(u64),
     Failed,

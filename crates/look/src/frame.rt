@@ -11,7 +11,7 @@ use policy_iteration::ends::ends_of;
 use records::limits::{OFFSET, ROWS, STRIDE, TABLE};
 
 // n and m of a problem, and the ends of the rows of both tables, the objective's among them.
-#[derive(Drop)]
+#[derive(Clone, Copy)]
 pub struct Frame {
     pub n: usize,
     pub m: usize,

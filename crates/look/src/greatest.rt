@@ -15,7 +15,7 @@ use records::limits::{STRIDE, TABLE};
 // What a look finds: the second side of the greatest point under caps as an offset number, 0 where it is blank or variable 0 has no
 // value; the strategy that the point ends with, which blocks from the start every trial that is not possible, row m being the objective's;
 // and that start: 0 the anchor, 1 the second list.
-#[derive(Drop)]
+#[derive(Clone, Copy)]
 pub struct Look {
     pub start: u64,
     pub second: u64,

@@ -18,7 +18,7 @@ use records::limits::{
 use records::problem::{CHECKER_KINDS, Header, problem_refusal};
 
 // What merging answers: how many bytes are written, or the number of the refusal.
-#[derive(Drop)]
+#[derive(Clone, Copy)]
 pub enum Merged {
     Stamps(usize),
     Refused(usize),

@@ -9,7 +9,7 @@ use records::limits::{MINUTE_LIMIT, OFFSET, WEEK, WEEK_REFUSAL};
 use records::offset::whole_within;
 
 // What looking up answers: the first open minute, never, or the number of the refusal.
-#[derive(Drop)]
+#[derive(Clone, Copy)]
 pub enum Admission {
     At(u64),
     Never,

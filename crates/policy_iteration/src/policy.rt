@@ -237,7 +237,7 @@ pub fn highs_of(x: &[u32; STRIDE]) -> [u64; STRIDE]
 }
 
 // What the iteration ends with: a strategy and its values; they solve the system, where that of variable 0 is not blank.
-#[derive(Drop)]
+#[derive(Clone, Copy)]
 pub struct Outcome {
     pub values: [u32; STRIDE],
     pub picks: [usize; STRIDE],

@@ -156,7 +156,7 @@ fn picked_left(left: &[u32; TABLE], pick: u32, j: usize, rows: usize) -> u32
 }
 
 // What a round is made of, for every variable: a sum, not folded yet, and a left coefficient.
-#[derive(Drop)]
+#[derive(Clone, Copy)]
 pub struct Picked {
     pub sums: [u32; STRIDE],
     pub lefts: [u32; STRIDE],

@@ -64,7 +64,7 @@ fn mark_row(arcs: &[u32; ARCS], base: usize, marks: [u8; STRIDE]) -> [u8; STRIDE
 }
 
 // Marks, and which variables are done: they have marked all to which they lead.
-#[derive(Drop)]
+#[derive(Clone, Copy)]
 pub struct Spread {
     pub marks: [u8; STRIDE],
     pub done: [u8; STRIDE],

@@ -14,7 +14,7 @@ use crate::limits::{
 };
 
 // The kinds that an entry knows beside kind 1: whether kind 3, several questions, and whether kind 5, states of rules.
-#[derive(Drop)]
+#[derive(Clone, Copy)]
 pub struct Kinds {
     pub several: bool,
     pub states: bool,
@@ -45,7 +45,7 @@ pub const DESK_KINDS: Kinds = Kinds {
 };
 
 // Where things stand in a problem record: its kind, n and m, where its leads start, and how many questions follow its rules.
-#[derive(Drop)]
+#[derive(Clone, Copy)]
 pub struct Layout {
     pub kind: u16,
     pub n: usize,
@@ -55,14 +55,14 @@ pub struct Layout {
 }
 
 // What a header answers: the layout, or the number of the refusal.
-#[derive(Drop)]
+#[derive(Clone, Copy)]
 pub enum Header {
     Told(Layout),
     Refused(usize),
 }
 
 // The numbers of a header. The count is that of a record of several questions; in others it plays no part.
-#[derive(Drop)]
+#[derive(Clone, Copy)]
 struct Fields {
     length: usize,
     kind: u16,

@@ -4,7 +4,7 @@ ghost use Rattle.definitions.specs.Bisection.{middle, next};
 ghost use Rattle.search.specs.Trials.{whole_of, Trialled, bracket_of, Between};
 
 // Between a `low` that is not possible and a `high` that is.
-#[derive(Drop)]
+#[derive(Clone, Copy)]
 pub struct Bracket {
     pub low: u64,
     pub high: u64,

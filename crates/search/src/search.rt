@@ -9,7 +9,7 @@ use records::limits::{INFEASIBLE, OPTIMAL, TRIALS_INFEASIBLE, TRIALS_UNBOUNDED, 
 
 // What the trials find: the class (1 least, 2 bottomless, 3 none), the least span as an offset number, 0 in the other classes, and
 // the trials made.
-#[derive(Drop)]
+#[derive(Clone, Copy)]
 pub struct Found {
     pub class: u64,
     pub span: u64,

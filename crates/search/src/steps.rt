@@ -9,7 +9,7 @@ use crate::trial::{LOWEST, TOP, trial};
 use records::limits::{INFEASIBLE, OPTIMAL, UNBOUNDED};
 
 // A search under way: the trials made, the bracket, and the class, 0 while the search is open.
-#[derive(Drop)]
+#[derive(Clone, Copy)]
 pub struct Search {
     pub made: u64,
     pub low: u64,

@@ -12,7 +12,7 @@ const LEADS_MOST: usize = 2 * TABLE;
 const BLANK: u64 = OFFSET;
 
 // Bytes, how many of them the record has, where the next field goes, and what is handed over beside the record.
-#[derive(Drop)]
+#[derive(Clone, Copy)]
 pub struct Record {
     pub bytes: [u8; ROOM],
     pub size: usize,

@@ -12,7 +12,7 @@ use records::limits::{ANSWER_MOST, OFFSET};
 pub const LONGEST: usize = 70;
 
 // What is handed to the writer: the lists are the first so many of both arrays, the buffer is the first `room` bytes.
-#[derive(Drop)]
+#[derive(Clone, Copy)]
 pub struct Fields {
     pub class: u64,
     pub span: u64,
