@@ -1,9 +1,8 @@
-use Rattle.std.proofs.Common.{◌≡◌, ℕ, ◌+◌, ◌-◌, ◌%◌, ◌<◌, ◌≤◌, ⊎_elim, arith, rules}
+use Rattle.std.proofs.Common.{◌≡◌, ℕ, ◌+◌, ◌-◌, ◌%◌, ◌<◌, ◌≤◌, ⊎_elim, arith}
 use Rattle.base.proofs.Numbers.{nat_le_or_lt}
 use Rattle.definitions.specs.Limits.{signed_half, signed_full}
 use Rattle.definitions.specs.Offset.{off}
-use Rattle.records.proofs.offset.offset_added.Statement.{statement}
-use Rattle.records.proofs.offset.offset_added.Tie as tie
+use Rattle.records.proofs.offset.offset_added.Goals as goal
 
 -- The offset number of a field without a sign, and of one with it.
 off_low : (w : ℕ) → w < signed_half → off w ≡ w + signed_half
@@ -29,7 +28,5 @@ off_plus w d r h k e = ⊎_elim
     omega (arith, off_low r (omega arith)))
     (nat_le_or_lt signed_half w)
 
-pub offset_added_spec : {M : Type 1} → statement M
-offset_added_spec = tie.close (tie.spec
-    (λ c κs. search rules)
-    (λ c. (off_plus _ _ _ c.before.requires.0 c.before.requires.1 c.wrapping-add-u32.ensures, omega arith)))
+pub returns : goal.returns
+returns c = (off_plus _ _ _ c.requires.0 c.requires.1 c.wrapping_add_u32.ensures.value, omega arith)

@@ -1,0 +1,7 @@
+use Rattle.definitions.specs.Bytes.{num_at}
+use Rattle.std.proofs.Common.{rules}
+use Rattle.records.proofs.bytes.word_in.Goals as goal
+
+pub returns : goal.returns
+unfolding num_at
+returns c = search rules
