@@ -31,29 +31,29 @@ record Dropped (s : System) (x x' : Point) : Type 0 where
 module _ (s : System) where
   -- ---- rows in turn
 
-  rows_falling : {τ τ' : Strategy} {x x' : Point} {n failed : ℕ} → RowsFall s τ x n failed τ' x' → n ≤ s.rows → Falling s τ x → Falling s τ' x'
+  rows_falling : {τ : Strategy} {x : Point} {τ' : Strategy} {x' : Point} {n failed : ℕ} → RowsFall s τ x n failed τ' x' → n ≤ s.rows → Falling s τ x → Falling s τ' x'
   rows_falling RowsFall.none h f = f
   rows_falling (RowsFall.stands p r) h f = rows_falling p (omega arith) f
   rows_falling (RowsFall.falls {n = n} p d row) h f = row_falling s _ _ (rows_falling p (omega arith) f) n (omega arith) _ _ row
 
-  rows_lower : {τ τ' : Strategy} {x x' : Point} {n failed : ℕ} → RowsFall s τ x n failed τ' x' → n ≤ s.rows → Falling s τ x → (j : ℕ) → j < s.variables → x' j ⊑ x j
+  rows_lower : {τ : Strategy} {x : Point} {τ' : Strategy} {x' : Point} {n failed : ℕ} → RowsFall s τ x n failed τ' x' → n ≤ s.rows → Falling s τ x → (j : ℕ) → j < s.variables → x' j ⊑ x j
   rows_lower {x = x} RowsFall.none h f j b = ⊑_refl (x j)
   rows_lower (RowsFall.stands p r) h f j b = rows_lower p (omega arith) f j b
   rows_lower (RowsFall.falls {n = n} p d row) h f j b =
       ⊑_trans (row_lower s _ _ (rows_falling p (omega arith) f) n (omega arith) _ _ row j b) (rows_lower p (omega arith) f j b)
 
   -- Where none has failed nothing has changed, and all stand.
-  rows_stand : {τ τ' : Strategy} {x x' : Point} {n failed : ℕ} → RowsFall s τ x n failed τ' x' → failed ≡ 0 → (i : ℕ) → i < n → RowStands s i x'
+  rows_stand : {τ : Strategy} {x : Point} {τ' : Strategy} {x' : Point} {n failed : ℕ} → RowsFall s τ x n failed τ' x' → failed ≡ 0 → (i : ℕ) → i < n → RowStands s i x'
   rows_stand RowsFall.none e i h = absurd (omega arith)
   rows_stand {x' = x'} (RowsFall.stands {n = n} p r) e i h =
       ⊎_elim (λ (b : i < n). rows_stand p e i b) (λ (z : i ≡ n). subst (λ (k : ℕ). RowStands s k x') (sym z) r) (below_or_last i n (omega arith))
   rows_stand (RowsFall.falls p d row) e i h = absurd (omega arith)
 
   -- Where one has failed a variable is lower.
-  rows_dropped : {τ τ' : Strategy} {x x' : Point} {n failed : ℕ} → RowsFall s τ x n failed τ' x' → n ≤ s.rows → Falling s τ x → (failed ≡ 0 → ⊥) → Dropped s x x'
+  rows_dropped : {τ : Strategy} {x : Point} {τ' : Strategy} {x' : Point} {n failed : ℕ} → RowsFall s τ x n failed τ' x' → n ≤ s.rows → Falling s τ x → (failed ≡ 0 → ⊥) → Dropped s x x'
   rows_dropped RowsFall.none h f d = absurd (d refl)
   rows_dropped (RowsFall.stands p r) h f d = rows_dropped p (omega arith) f d
-  rows_dropped {τ' = σ} {x = x} {x' = y} (RowsFall.falls {n = n} {x' = x'} p d row) h f e =
+  rows_dropped {x = x} {τ' = σ} {x' = y} (RowsFall.falls {n = n} {x' = x'} p d row) h f e =
       ⊎_elim (λ (a : (j : ℕ) → j < s.variables → j < s.variables → plus (s.left n j) (x' j) ⊑ side_of s (s.right n) x'). absurd (d (λ j b. a j b b))) at_place
       (all_or_some (λ j. j < s.variables → plus (s.left n j) (x' j) ⊑ side_of s (s.right n) x') (λ j. Dropped s x y) each s.variables)
     where
@@ -72,30 +72,30 @@ module _ (s : System) where
 
   -- ---- passes
 
-  passes_falling : {τ τ' : Strategy} {x x' : Point} {failed : ℕ} → Passes s τ x failed τ' x' → Falling s τ x → Falling s τ' x'
+  passes_falling : {τ : Strategy} {x : Point} {τ' : Strategy} {x' : Point} {failed : ℕ} → Passes s τ x failed τ' x' → Falling s τ x → Falling s τ' x'
   passes_falling (Passes.none b) f = f
   passes_falling (Passes.once b p e) f = rows_falling p (omega arith) f
   passes_falling (Passes.twice b p d e n q) f = rows_falling q (omega arith) (rows_falling p (omega arith) f)
 
-  passes_lower : {τ τ' : Strategy} {x x' : Point} {failed : ℕ} → Passes s τ x failed τ' x' → Falling s τ x → (j : ℕ) → j < s.variables → x' j ⊑ x j
+  passes_lower : {τ : Strategy} {x : Point} {τ' : Strategy} {x' : Point} {failed : ℕ} → Passes s τ x failed τ' x' → Falling s τ x → (j : ℕ) → j < s.variables → x' j ⊑ x j
   passes_lower {x = x} (Passes.none b) f j h = ⊑_refl (x j)
   passes_lower (Passes.once b p e) f j h = rows_lower p (omega arith) f j h
   passes_lower (Passes.twice b p d e n q) f j h = ⊑_trans (rows_lower q (omega arith) (rows_falling p (omega arith) f) j h) (rows_lower p (omega arith) f j h)
 
-  passes_dropped : {τ τ' : Strategy} {x x' : Point} {failed : ℕ} → Passes s τ x failed τ' x' → Falling s τ x → (failed ≡ 0 → ⊥) → Dropped s x x'
+  passes_dropped : {τ : Strategy} {x : Point} {τ' : Strategy} {x' : Point} {failed : ℕ} → Passes s τ x failed τ' x' → Falling s τ x → (failed ≡ 0 → ⊥) → Dropped s x x'
   passes_dropped (Passes.none b) f d = absurd (d refl)
   passes_dropped (Passes.once b p e) f d = rows_dropped p (omega arith) f d
   passes_dropped (Passes.twice b p d e n q) f _ =
       let m = rows_dropped p (omega arith) f d in
       record { place = m.place; inside = m.inside; drops = λ b. m.drops (⊑_trans b (rows_lower q (omega arith) (rows_falling p (omega arith) f) m.place m.inside)) }
 
-  passes_stand : {τ τ' : Strategy} {x x' : Point} {failed : ℕ} → Passes s τ x failed τ' x' → failed ≡ 0 → (x' 0 ≡ bot → ⊥)
+  passes_stand : {τ : Strategy} {x : Point} {τ' : Strategy} {x' : Point} {failed : ℕ} → Passes s τ x failed τ' x' → failed ≡ 0 → (x' 0 ≡ bot → ⊥)
       → (i : ℕ) → i < s.rows → RowStands s i x'
   passes_stand (Passes.none b) z d = absurd (d b)
   passes_stand (Passes.once b p e) z d = rows_stand p z
   passes_stand (Passes.twice b p c e n q) z d = rows_stand q z
 
-  passes_values : {τ τ' : Strategy} {x x' : Point} {failed : ℕ} → Passes s τ x failed τ' x' → failed ≡ 0 → Falling s τ x → SamePoint s x (values s τ)
+  passes_values : {τ : Strategy} {x : Point} {τ' : Strategy} {x' : Point} {failed : ℕ} → Passes s τ x failed τ' x' → failed ≡ 0 → Falling s τ x → SamePoint s x (values s τ)
       → SamePoint s x' (values s τ')
   passes_values (Passes.none b) e f v = v
   passes_values (Passes.once b p d) e f v = falling_values s _ _ (rows_falling p (omega arith) f) (λ i j h k. rows_stand p e i h j k)
@@ -157,7 +157,7 @@ module _ (s : System) where
       (p j h)
 
   -- of rows in turn,
-  rows_one : {τ τ' σ σ' : Strategy} {x x' y y' : Point} {n k failed lost : ℕ} → RowsFall s τ x n failed τ' x' → RowsFall s σ y k lost σ' y' → n ≡ k
+  rows_one : {τ : Strategy} {x : Point} {σ : Strategy} {y : Point} {τ' σ' : Strategy} {x' y' : Point} {n k failed lost : ℕ} → RowsFall s τ x n failed τ' x' → RowsFall s σ y k lost σ' y' → n ≡ k
       → SamePicks s τ σ → SamePoint s x y → One τ' σ' x' y' failed lost
   rows_one RowsFall.none RowsFall.none h t e = record { picks = t; point = e; count = refl }
   rows_one RowsFall.none (RowsFall.stands q r) h t e = absurd (omega arith)

@@ -85,7 +85,7 @@ module _ (p : Problem) (L : ℕ) (within : Within p L) {C : ℕ → ℕ → ℕ 
       let s = spread (choice.row a.row j l h a.chosen) h (choice.to a.row j l a.chosen) a.by in
       rw (sign.sum x r) (omega (arith, s, raise_up a.row, plus_read (f x) (f r)))
 
-  walk_heavy : {j k n : ℕ} {u w : ℤ} → Walk (By p C u) j k n w → j ≤ p.n → Heavy p C f t j k n (2 * L)
+  walk_heavy : {u : ℤ} {j k n : ℕ} {w : ℤ} → Walk (By p C u) j k n w → j ≤ p.n → Heavy p C f t j k n (2 * L)
   walk_heavy stop h = record { weight = pos 0; walk = stop; heavy = omega (arith, sign.size (pos 0)) }
   walk_heavy (step {j = j} {l = l} {n = n} a q) h = on (walk_heavy q (choice.to a.row j l a.chosen))
     where
