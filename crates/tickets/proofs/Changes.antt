@@ -36,11 +36,11 @@ waiting_there : {d : Desk} {i number own : ℕ} {problem : List ℕ} → Sound d
 waiting_there s st = waiting_inside s.sixteen (record { number = _; problem = _; own = _; there = st })
 
 module _ {memory : ℕ} {d : Desk} (s : Sound d) where
-  pub taken_changes : {e : Desk} {p : List ℕ} {r : TakenIn} → TakesIn memory d p r e → Change d e
+  pub taken_changes : {p : List ℕ} {e : Desk} {r : TakenIn} → TakesIn memory d p r e → Change d e
   taken_changes (Desks.TakesIn.turned_away h) = none
   taken_changes (taken {i = i} h f) = one (suc d.given) (d.line ++ (i ∷ [])) f.inside (record { is = f.is_empty }) enters
 
-  pub stepped_changes : {e : Desk} {r : Stepped} {Gives : Giving} → Steps Gives memory d r e → Change d e
+  pub stepped_changes : {Gives : Giving} {e : Desk} {r : Stepped} → Steps Gives memory d r e → Change d e
   stepped_changes (Desks.Steps.turned_away h) = none
   stepped_changes (Desks.Steps.idle h empty-line) = none
   stepped_changes (one_more {i = i} {rest = rest} h head st found more) = one d.given (rest ++ (i ∷ [])) (waiting_there s st) st (goes_on found more)
@@ -56,7 +56,7 @@ module _ {memory : ℕ} {d : Desk} (s : Sound d) where
 -- ---- sequences
 
 -- Neither a step nor collecting gives a ticket out.
-pub stepped_given : {memory : ℕ} {d e : Desk} {r : Stepped} {Gives : Giving} → Steps Gives memory d r e → e.given ≡ d.given
+pub stepped_given : {Gives : Giving} {memory : ℕ} {d e : Desk} {r : Stepped} → Steps Gives memory d r e → e.given ≡ d.given
 stepped_given (Desks.Steps.turned_away h) = refl
 stepped_given (Desks.Steps.idle h empty-line) = refl
 stepped_given (one_more h head st found more) = refl
@@ -70,7 +70,7 @@ collected_given (Desks.Collects.short_buffer h st b) = refl
 collected_given (handed_over h st b) = refl
 
 -- So over a sequence their count never falls.
-pub run_given : {memory k : ℕ} {d e : Desk} {Gives : Giving} → Run Gives memory d k e → d.given ≤ e.given
+pub run_given : {Gives : Giving} {memory k : ℕ} {d e : Desk} → Run Gives memory d k e → d.given ≤ e.given
 run_given nothing = omega arith
 run_given (take_in run (Desks.TakesIn.turned_away h)) = run_given run
 run_given (take_in run (taken h f)) = omega (arith, run_given run)
@@ -93,7 +93,7 @@ each_changed s keeps h none = h
 each_changed {P} {d} s keeps h (one given line {i = i} {was = was} {p = p} inside st b) = each_moved given line i p s inside (keeps was p b (subst P st.is (h.at i))) h
 
 -- Over a sequence, where changes keep it once so many tickets are given out.
-pub each_run : {P : Place → Type 0} {memory k : ℕ} {d e : Desk} {Gives : Giving} (low : ℕ) → low ≤ d.given
+pub each_run : {Gives : Giving} {P : Place → Type 0} {memory k : ℕ} {d e : Desk} (low : ℕ) → low ≤ d.given
     → ((given : ℕ) (was p : Place) → low ≤ given → Becomes given was p → P was → P p) → Sound d → Each P d → Run Gives memory d k e → Each P e
 each_run low l keeps s h nothing = h
 each_run low l keeps s h (take_in run t) =
@@ -110,7 +110,7 @@ data Given (Gives : Giving) : Place → Type 0 where
   given_waits : {number own : ℕ} {problem : List ℕ} → Given Gives (waits number problem own)
   given_answered : {number class own : ℕ} {span : Trop} {problem : List ℕ} {a : Answer} → Gives problem a → Given Gives (answered number problem class span own a)
 
-given_run : {memory k : ℕ} {d e : Desk} {Gives : Giving} → Sound d → Each (Given Gives) d → Run Gives memory d k e → Each (Given Gives) e
+given_run : {Gives : Giving} {memory k : ℕ} {d e : Desk} → Sound d → Each (Given Gives) d → Run Gives memory d k e → Each (Given Gives) e
 given_run s h nothing = h
 given_run s h (take_in run (Desks.TakesIn.turned_away g)) = given_run s h run
 given_run s h (take_in run (taken {i = i} g f)) = each_moved _ _ i _ (sound_run run s) f.inside given_waits (given_run s h run)
@@ -125,10 +125,10 @@ given_run s h (collect run (Desks.Collects.short_buffer g st b)) = given_run s h
 given_run s h (collect {e = e} run (handed_over {i = i} g st b)) =
     let z = sound_run run s in each_moved _ _ i _ z (beyond_empty e i z.sixteen (λ n. empty_not_answered (sym n ∙ st.is))) given_empty (given_run s h run)
 
-of_answered : {number class own : ℕ} {span : Trop} {problem : List ℕ} {a : Answer} {Gives : Giving} → Given Gives (answered number problem class span own a) → Gives problem a
+of_answered : {Gives : Giving} {number class own : ℕ} {span : Trop} {problem : List ℕ} {a : Answer} → Given Gives (answered number problem class span own a) → Gives problem a
 of_answered (given_answered g) = g
 
-pub answered_given : {memory i number class own : ℕ} {d : Desk} {span : Trop} {problem : List ℕ} {a : Answer} {Gives : Giving} → FromOpening Gives memory d
+pub answered_given : {Gives : Giving} {memory i number class own : ℕ} {d : Desk} {span : Trop} {problem : List ℕ} {a : Answer} → FromOpening Gives memory d
     → Stands d i (answered number problem class span own a) → Gives problem a
-answered_given {i = i} {Gives = Gives} o st =
+answered_given {Gives = Gives} {i = i} o st =
     of_answered (subst (Given Gives) st.is ((given_run sound_opened (record { at = λ k. rw (sixteen_empty k) given_empty }) o.run).at i))

@@ -30,7 +30,7 @@ record Asks (d : Desk) (number trials : ℕ) : Type 0 where
   asked : {i own class made : ℕ} {span : Trop} {problem : List ℕ} → Stands d i (waits number problem own) → Found (problem_of problem) class span made → made ≡ trials
 
 module _ {memory : ℕ} {d : Desk} {number trials passed most : ℕ} (s : Sound d) (owed : Due d number trials passed most) where
-  due_taken : {e : Desk} {p : List ℕ} {r : TakenIn} → TakesIn memory d p r e → Due e number trials passed most
+  due_taken : {p : List ℕ} {e : Desk} {r : TakenIn} → TakesIn memory d p r e → Due e number trials passed most
   due_taken (Desks.TakesIn.turned_away h) = owed
   due_taken {p = p} (taken {i = i} h f) = record { due = λ {i = j} {own = own} {problem = problem} st. at j st (ℕ_discrete j i); given = let g = owed.given in omega arith }
     where
@@ -44,7 +44,7 @@ module _ {memory : ℕ} {d : Desk} {number trials passed most : ℕ} (s : Sound 
           let o = owed.due (record { is = sym (elsewhere d (suc d.given) (d.line ++ (i ∷ [])) i (waits (suc d.given) (meant p) 0) j n) ∙ st.is }) in
           (o.0, at_kept i o.1, o.2)
 
-  due_stepped : {e : Desk} {r : Stepped} {Gives : Giving} → Asks d number trials → first (memory_refused memory ∷ []) ≡ 0 → Steps Gives memory d r e → Due e number trials (suc passed) most
+  due_stepped : {Gives : Giving} {e : Desk} {r : Stepped} → Asks d number trials → first (memory_refused memory ∷ []) ≡ 0 → Steps Gives memory d r e → Due e number trials (suc passed) most
   due_stepped asks enough (Desks.Steps.turned_away h) = absurd (omega arith)
   due_stepped asks enough (Desks.Steps.idle h none) = record {
     due = λ {i = j} st. let o = owed.due st in let inside : o.0 < length d.line = o.1.inside in absurd (omega (arith, ap (λ (l : List ℕ). length l) none));
@@ -120,7 +120,7 @@ unfolding take_refusal
 taken_enough {memory} {d = d} {p = p} (taken h f) = ((or_else_none (first (memory_refused memory ∷ [])) (or_else (desk_refusal (meant p)) (first (full_refused d)))).0 h).0
 
 -- Over a run: as long as the ticket waits, its due with the steps passed stays within what it was.
-due_run : {memory : ℕ} {d e f : Desk} {p : List ℕ} {number k class trials : ℕ} {span : Trop} {Gives : Giving} → FromOpening Gives memory d → TakesIn memory d p (Desks.ticket number) e
+due_run : {Gives : Giving} {memory : ℕ} {d e f : Desk} {p : List ℕ} {number k class trials : ℕ} {span : Trop} → FromOpening Gives memory d → TakesIn memory d p (Desks.ticket number) e
     → Found (problem_of (meant p)) class span trials → Run Gives memory e k f → Due f number trials k (desk_places * trials)
 due_run o t found nothing = due_at_first (from_opening_sound o) (found_some found) t
 due_run o t found (take_in run c) = due_taken (sound_still o t run) (due_run o t found run) c
@@ -130,6 +130,6 @@ due_run {p = p} o t found (one_step_is run c) =
 due_run o t found (collect run c) = due_collected (sound_still o t run) (due_run o t found run) c
 
 -- So after 16 steps for each trial that it takes it waits no longer.
-pub waits_no_longer : {memory : ℕ} {d e f : Desk} {p : List ℕ} {number k class trials : ℕ} {span : Trop} {Gives : Giving} → FromOpening Gives memory d → TakesIn memory d p (Desks.ticket number) e
+pub waits_no_longer : {Gives : Giving} {memory : ℕ} {d e f : Desk} {p : List ℕ} {number k class trials : ℕ} {span : Trop} → FromOpening Gives memory d → TakesIn memory d p (Desks.ticket number) e
     → Found (problem_of (meant p)) class span trials → Run Gives memory e k f → desk_places * trials ≤ k → {i own : ℕ} {problem : List ℕ} → Stands f i (waits number problem own) → ⊥
 waits_no_longer o t found run long st = let owed = (due_run o t found run).due st in omega (arith, owed.2)

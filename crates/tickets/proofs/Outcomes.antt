@@ -80,7 +80,7 @@ not_last {c = c} {t = t} {s = s} found more other last asked made =
     let same = subst (λ (q : List ℕ). Found (problem_of q) c s t) (sym asked) other in
     omega (arith, (found_one found same).2)
 
-stepping_one : {memory : ℕ} {d e f : Desk} {r q : Stepped} {Gives : Giving} → OneValued Gives → Steps Gives memory d r e → Steps Gives memory d q f
+stepping_one : {Gives : Giving} {memory : ℕ} {d e f : Desk} {r q : Stepped} → OneValued Gives → Steps Gives memory d r e → Steps Gives memory d q f
     → (r ≡ q) × (e ≡ f)
 stepping_one v (Desks.Steps.turned_away h) (Desks.Steps.turned_away g) = (ap (λ (z : ℕ). Desks.Stepped.refused z) (sym h ∙ g), refl)
 stepping_one v (Desks.Steps.turned_away h) (Desks.Steps.idle g l) = absurd (omega arith)
@@ -104,7 +104,7 @@ stepping_one v (one_more h head st found more) (last_one g l there last ans gave
 stepping_one v (last_one h head st last ans gave) (Desks.Steps.turned_away g) = absurd (omega arith)
 stepping_one v (last_one h head st last ans gave) (Desks.Steps.idle g none) = absurd (no_head none head)
 stepping_one v (last_one h head st last ans gave) (one_more g l there found more) = let s = same_head l head there st in absurd (not_last found more ans.found last s.asked s.made)
-stepping_one {d = d} {Gives = Gives} v (last_one {i = i} {number = number} {own = own} {class = class} {trials = trials} {span = span} {problem = problem} {rest = rest} {a = a} h head st last ans gave) (last_one {i = k} {number = n} {own = o} {class = c} {trials = t} {span = z} {problem = p} {rest = tail} {a = b} g l there end other told) =
+stepping_one {Gives = Gives} {d = d} v (last_one {i = i} {number = number} {own = own} {class = class} {trials = trials} {span = span} {problem = problem} {rest = rest} {a = a} h head st last ans gave) (last_one {i = k} {number = n} {own = o} {class = c} {trials = t} {span = z} {problem = p} {rest = tail} {a = b} g l there end other told) =
     let s = same_head head l st there in
     let f = found_one ans.found (subst (λ (q : List ℕ). Found (problem_of q) c z t) (sym s.asked) other.found) in
     (ap (λ (z : ℕ). Desks.done z) s.ticket, same s.place s.others s.ticket s.asked f.0 f.1 f.2 (v.one problem a b gave (subst (λ (q : List ℕ). Gives q b) (sym s.asked) told)))
@@ -128,7 +128,7 @@ record_held (waits number problem own) = []
 record_held (answered number problem class span own a) = answer_bytes (n_field problem) a
 
 -- A ticket stands at one place, and what stands there is one.
-one_place : {memory number i k : ℕ} {d : Desk} {p q : Place} {Gives : Giving} → FromOpening Gives memory d → Stands d i p → Stands d k q → (p ≡ empty → ⊥) → (q ≡ empty → ⊥) → ticket_of p ≡ number → ticket_of q ≡ number
+one_place : {Gives : Giving} {memory number i k : ℕ} {d : Desk} {p q : Place} → FromOpening Gives memory d → Stands d i p → Stands d k q → (p ≡ empty → ⊥) → (q ≡ empty → ⊥) → ticket_of p ≡ number → ticket_of q ≡ number
     → (i ≡ k) × (p ≡ q)
 one_place {i = i} {k = k} {d = d} o st there a b e f =
     let z = (from_opening_apart o).apart i k (λ z. a (sym st.is ∙ z)) (λ z. b (sym there.is ∙ z)) (ap ticket_of st.is ∙ e ∙ sym f ∙ sym (ap ticket_of there.is)) in
@@ -194,12 +194,12 @@ one_outcome = record {
 
 -- ---- a ticket that still waits, and a step with none waiting
 
-pub waiting_still : {memory number i own : ℕ} {problem : List ℕ} {d e : Desk} {before after : List ℕ} {r : Collected} {Gives : Giving} → FromOpening Gives memory d
+pub waiting_still : {Gives : Giving} {memory number i own : ℕ} {problem : List ℕ} {d e : Desk} {before after : List ℕ} {r : Collected} → FromOpening Gives memory d
     → first (memory_refused memory ∷ []) ≡ 0 → Stands d i (waits number problem own) → Collects memory d number before r e after
     → (r ≡ Desks.still_waits) × (e ≡ d) × (after ≡ before)
 waiting_still o h st c = collecting_one o c (Desks.Collects.waits_yet h st)
 
-pub idle_still : {memory : ℕ} {d e : Desk} {r : Stepped} {Gives : Giving} → first (memory_refused memory ∷ []) ≡ 0 → NoneWaiting d → Steps Gives memory d r e
+pub idle_still : {Gives : Giving} {memory : ℕ} {d e : Desk} {r : Stepped} → first (memory_refused memory ∷ []) ≡ 0 → NoneWaiting d → Steps Gives memory d r e
     → (r ≡ Desks.none_waits) × (e ≡ d)
 idle_still h none (Desks.Steps.turned_away g) = absurd (omega arith)
 idle_still h none (Desks.Steps.idle g l) = (refl, refl)
@@ -208,7 +208,7 @@ idle_still h none (last_one {i = i} {number = number} {own = own} {problem = pro
 
 -- ---- a ticket that is not held, and one that is answered
 
-pub unheld_still : {memory number : ℕ} {d e : Desk} {before after : List ℕ} {r : Collected} {Gives : Giving} → FromOpening Gives memory d → first (memory_refused memory ∷ []) ≡ 0 → NotHeld d number
+pub unheld_still : {Gives : Giving} {memory number : ℕ} {d e : Desk} {before after : List ℕ} {r : Collected} → FromOpening Gives memory d → first (memory_refused memory ∷ []) ≡ 0 → NotHeld d number
     → Collects memory d number before r e after → (r ≡ Desks.Collected.refused refused_ticket) × (e ≡ d) × (after ≡ before)
 unheld_still o h n c = collecting_one o c (Desks.Collects.no_such_ticket h n)
 
@@ -231,7 +231,7 @@ refused_collects (Desks.Collects.turned_away h) = (refl, refl)
 refused_collects (Desks.Collects.no_such_ticket h n) = (refl, refl)
 refused_collects (Desks.Collects.short_buffer h st b) = (refl, refl)
 
-pub refused_steps : {memory k : ℕ} {d e : Desk} {Gives : Giving} → Steps Gives memory d (Desks.Stepped.refused k) e → e ≡ d
+pub refused_steps : {Gives : Giving} {memory k : ℕ} {d e : Desk} → Steps Gives memory d (Desks.Stepped.refused k) e → e ≡ d
 refused_steps (Desks.Steps.turned_away h) = refl
 
 -- ---- 23 comes first
@@ -246,7 +246,7 @@ taking_short {memory} h (Desks.TakesIn.turned_away g) =
     (ap (λ (k : ℕ). Desks.TakenIn.refused k) (sym g ∙ or_else_suc (first (memory_refused memory ∷ [])) _ (omega (arith, z)) ∙ z), refl)
 taking_short {memory} h (taken g f) = let z = memory_short memory h in absurd (omega (arith, ((or_else_none (first (memory_refused memory ∷ [])) _).0 g).0, z))
 
-pub step_short : {memory : ℕ} {d e : Desk} {r : Stepped} {Gives : Giving} → memory < desk_memory → Steps Gives memory d r e → (r ≡ Desks.Stepped.refused refused_memory) × (e ≡ d)
+pub step_short : {Gives : Giving} {memory : ℕ} {d e : Desk} {r : Stepped} → memory < desk_memory → Steps Gives memory d r e → (r ≡ Desks.Stepped.refused refused_memory) × (e ≡ d)
 step_short {memory} h (Desks.Steps.turned_away g) = (ap (λ (k : ℕ). Desks.Stepped.refused k) (sym g ∙ memory_short memory h), refl)
 step_short {memory} h (Desks.Steps.idle g l) = absurd (omega (arith, memory_short memory h))
 step_short {memory} h (one_more g l st f m) = absurd (omega (arith, memory_short memory h))
@@ -262,7 +262,7 @@ collecting_short {memory} h (handed_over g st b) = absurd (omega (arith, memory_
 
 -- ---- where somebody waits
 
-pub busy : {memory i number own : ℕ} {d e : Desk} {problem : List ℕ} {r : Stepped} {Gives : Giving} → FromOpening Gives memory d → first (memory_refused memory ∷ []) ≡ 0 → Stands d i (waits number problem own)
+pub busy : {Gives : Giving} {memory i number own : ℕ} {d e : Desk} {problem : List ℕ} {r : Stepped} → FromOpening Gives memory d → first (memory_refused memory ∷ []) ≡ 0 → Stands d i (waits number problem own)
     → Steps Gives memory d r e → TellsWaiting d r
 unfolding TellsWaiting
 busy o h st (Desks.Steps.turned_away g) = absurd (omega arith)

@@ -54,7 +54,7 @@ not_full : (d : Desk) → held d.places < desk_places → d.given < last_ticket 
 not_full d h t = rw (lt-leb desk_places (held d.places) h, lt-leb last_ticket d.given t) refl
 
 -- A place that was collected is usable again.
-pub freed_usable : {memory number class own size : ℕ} {span : Trop} {d e : Desk} {before after : List ℕ} {Gives : Giving} → FromOpening Gives memory d
+pub freed_usable : {Gives : Giving} {memory number class own size : ℕ} {span : Trop} {d e : Desk} {before after : List ℕ} → FromOpening Gives memory d
     → Collects memory d number before (Desks.collected class span own size) e after → e.given < last_ticket → first (full_refused e) ≡ 0
 unfolding ticket_of
 freed_usable {d = d} o (handed_over {i = i} h st b) t =
@@ -66,7 +66,7 @@ freed_usable {d = d} o (handed_over {i = i} h st b) t =
     not_full n (omega arith) t
 
 -- Where a place is empty and a ticket is left, a problem that the desk takes gets one.
-pub room_ticket : {memory i : ℕ} {d e : Desk} {p : List ℕ} {r : TakenIn} {Gives : Giving} → FromOpening Gives memory d → first (memory_refused memory ∷ []) ≡ 0 → WithinDesk (meant p) → i < desk_places
+pub room_ticket : {Gives : Giving} {memory i : ℕ} {d e : Desk} {p : List ℕ} {r : TakenIn} → FromOpening Gives memory d → first (memory_refused memory ∷ []) ≡ 0 → WithinDesk (meant p) → i < desk_places
     → place_at d i ≡ empty → d.given < last_ticket → TakesIn memory d p r e → r ≡ Desks.ticket (suc d.given)
 unfolding take_refusal ticket_of
 room_ticket {memory} {i} {d} {p = p} o enough within inside free left (Desks.TakesIn.turned_away h) =
@@ -86,11 +86,11 @@ module _ {d : Desk} {i number class own : ℕ} {span : Trop} {problem : List ℕ
   at_place : {k : ℕ} → i ≡ k → place_at d k ≡ answered number problem class span own a
   at_place e = ap (λ (z : ℕ). place_at d z) (sym e) ∙ st.is
 
-  stays_taken : {memory : ℕ} {e : Desk} {p : List ℕ} {r : TakenIn} → TakesIn memory d p r e → Stands e i (answered number problem class span own a)
+  stays_taken : {memory : ℕ} {p : List ℕ} {e : Desk} {r : TakenIn} → TakesIn memory d p r e → Stands e i (answered number problem class span own a)
   stays_taken (Desks.TakesIn.turned_away h) = st
   stays_taken (taken {i = k} h f) = stays_there _ _ k _ (λ e. empty_not_answered (sym f.is_empty ∙ at_place e))
 
-  stays_stepped : {memory : ℕ} {e : Desk} {r : Stepped} {Gives : Giving} → Steps Gives memory d r e → Stands e i (answered number problem class span own a)
+  stays_stepped : {Gives : Giving} {memory : ℕ} {e : Desk} {r : Stepped} → Steps Gives memory d r e → Stands e i (answered number problem class span own a)
   stays_stepped (Desks.Steps.turned_away h) = st
   stays_stepped (Desks.Steps.idle h empty-line) = st
   stays_stepped (one_more {i = k} h head w found more) = stays_there _ _ k _ (λ e. answered_not_waits (sym (at_place e) ∙ w.is))
@@ -109,7 +109,7 @@ module _ {d : Desk} {i number class own : ℕ} {span : Trop} {problem : List ℕ
       at (yes e) = inl (ap ticket_of (sym w.is ∙ at_place e))
       at (no m) = inr (stays_there d.given d.line k empty m)
 
-pub kept_or_handed : {memory : ℕ} {d e : Desk} {i number class own k : ℕ} {span : Trop} {problem : List ℕ} {a : Answer} {Gives : Giving}
+pub kept_or_handed : {Gives : Giving} {memory : ℕ} {d e : Desk} {i number class own k : ℕ} {span : Trop} {problem : List ℕ} {a : Answer}
     → Stands d i (answered number problem class span own a) → (run : Run Gives memory d k e) → HandedOver number run ⊎ Stands e i (answered number problem class span own a)
 unfolding HandedOver
 kept_or_handed st nothing = inr st
@@ -128,7 +128,7 @@ record AnsweredSo (d : Desk) (number : ℕ) : Type 0 where
   held_so : HeldAnswered d number problem
 
 -- The step that reported it left it so,
-reports : {memory number : ℕ} {d e : Desk} {r : Stepped} {Gives : Giving} → Sound d → Steps Gives memory d r e → r ≡ Desks.done number → AnsweredSo e number
+reports : {Gives : Giving} {memory number : ℕ} {d e : Desk} {r : Stepped} → Sound d → Steps Gives memory d r e → r ≡ Desks.done number → AnsweredSo e number
 reports s (Desks.Steps.turned_away h) e = absurd (let z : ◌≡◌ {A = ℕ} 0 1 = cc in omega arith)
 reports s (Desks.Steps.idle h empty-line) e = absurd (let z : ◌≡◌ {A = ℕ} 0 1 = cc in omega arith)
 reports s (one_more h head st found more) e = absurd (let z : ◌≡◌ {A = ℕ} 0 1 = cc in omega arith)
@@ -152,7 +152,7 @@ still_so : {number : ℕ} {d e : Desk} (w : AnsweredSo d number)
     → Stands e w.held_so.place (answered number w.problem w.held_so.class w.held_so.span w.held_so.own w.held_so.answer) → AnsweredSo e number
 still_so w st = record { problem = w.problem; held_so = record { place = w.held_so.place; class = w.held_so.class; span = w.held_so.span; own = w.held_so.own; answer = w.held_so.answer; there = st } }
 
-reported_so : {memory number k : ℕ} {d e : Desk} {Gives : Giving} → Sound d → (run : Run Gives memory d k e) → Reported number run → HandedOver number run ⊎ AnsweredSo e number
+reported_so : {Gives : Giving} {memory number k : ℕ} {d e : Desk} → Sound d → (run : Run Gives memory d k e) → Reported number run → HandedOver number run ⊎ AnsweredSo e number
 unfolding Reported HandedOver
 reported_so s nothing r = absurd r
 reported_so s (take_in run t) r = ⊎_elim (λ h. inl h) (λ w. inr (still_so w (stays_taken w.held_so.there t))) (reported_so s run r)
@@ -162,7 +162,7 @@ reported_so s (collect run c) r =
     ⊎_elim (λ h. inl (inl h)) (λ w. ⊎_elim (λ h. inl (inr h)) (λ z. inr (still_so w z)) (stays_collected w.held_so.there c)) (reported_so s run r)
 
 -- Of the problem that was taken in.
-pub reported_answered : {memory : ℕ} {d e f : Desk} {p : List ℕ} {number k : ℕ} {Gives : Giving} → FromOpening Gives memory d → TakesIn memory d p (Desks.ticket number) e
+pub reported_answered : {Gives : Giving} {memory : ℕ} {d e f : Desk} {p : List ℕ} {number k : ℕ} → FromOpening Gives memory d → TakesIn memory d p (Desks.ticket number) e
     → (run : Run Gives memory e k f) → Reported number run → HandedOver number run ⊎ HeldAnswered f number (meant p)
 reported_answered {f = f} {p = p} {number = number} o t run r =
     ⊎_elim (λ h. inl h) (λ w. inr (subst (λ (q : List ℕ). HeldAnswered f number q) (answered_mine o t run w.held_so.there) w.held_so)) (reported_so (sound_taken (from_opening_sound o) t) run r)

@@ -18,13 +18,13 @@ use Rattle.tickets.proofs.Due.{waits_no_longer}
 
 -- ---- one sequence after another
 
-pub from_run : {memory k : ℕ} {d e : Desk} {Gives : Giving} → FromOpening Gives memory d → Run Gives memory d k e → FromOpening Gives memory e
+pub from_run : {Gives : Giving} {memory k : ℕ} {d e : Desk} → FromOpening Gives memory d → Run Gives memory d k e → FromOpening Gives memory e
 from_run o nothing = o
 from_run o (take_in run t) = let g = from_run o run in record { steps = g.steps; run = take_in g.run t }
 from_run o (one_step_is run t) = let g = from_run o run in record { steps = suc g.steps; run = one_step_is g.run t }
 from_run o (collect run t) = let g = from_run o run in record { steps = g.steps; run = collect g.run t }
 
-pub run_on : {memory k number : ℕ} {d e f : Desk} {p : List ℕ} {Gives : Giving} → FromOpening Gives memory d → TakesIn memory d p (Desks.ticket number) e → Run Gives memory e k f → FromOpening Gives memory f
+pub run_on : {Gives : Giving} {memory k number : ℕ} {d e f : Desk} {p : List ℕ} → FromOpening Gives memory d → TakesIn memory d p (Desks.ticket number) e → Run Gives memory e k f → FromOpening Gives memory f
 run_on o t run = from_run (record { steps = o.steps; run = take_in o.run t }) run
 
 -- ---- a ticket waits until a step reports it
@@ -44,11 +44,11 @@ module _ {number : ℕ} {d : Desk} (w : StillWaits d number) where
   at_place : {i : ℕ} → w.place ≡ i → place_at d i ≡ waits number w.problem w.own
   at_place e = ap (λ (z : ℕ). place_at d z) (sym e) ∙ w.there.is
 
-  waits_taken : {memory : ℕ} {e : Desk} {p : List ℕ} {r : TakenIn} → TakesIn memory d p r e → StillWaits e number
+  waits_taken : {memory : ℕ} {p : List ℕ} {e : Desk} {r : TakenIn} → TakesIn memory d p r e → StillWaits e number
   waits_taken (Desks.TakesIn.turned_away h) = w
   waits_taken {p = p} (taken {i = i} h f) = waits_there (suc d.given) (d.line ++ (i ∷ [])) i (waits (suc d.given) (meant p) 0) (λ e. empty_not_waits (sym f.is_empty ∙ at_place e))
 
-  waits_stepped : {memory : ℕ} {e : Desk} {r : Stepped} {Gives : Giving} → Sound d → Steps Gives memory d r e → StillWaits e number ⊎ (r ≡ Desks.done number)
+  waits_stepped : {Gives : Giving} {memory : ℕ} {e : Desk} {r : Stepped} → Sound d → Steps Gives memory d r e → StillWaits e number ⊎ (r ≡ Desks.done number)
   waits_stepped s (Desks.Steps.turned_away h) = inl w
   waits_stepped s (Desks.Steps.idle h none) = inl w
   waits_stepped s (one_more {i = i} {number = n} {own = own} {problem = problem} {rest = rest} h head st found more) = inl (at (ℕ_discrete w.place i))
@@ -78,7 +78,7 @@ module _ {number : ℕ} {d : Desk} (w : StillWaits d number) where
   waits_collected (handed_over {i = i} h st b) = waits_there d.given d.line i empty (λ e. answered_not_waits (sym st.is ∙ at_place e))
 
 -- Over a run: reported, or it waits.
-pub reported_or_waits : {memory number k : ℕ} {d e : Desk} {Gives : Giving} → Sound d → StillWaits d number → (run : Run Gives memory d k e) → Reported number run ⊎ StillWaits e number
+pub reported_or_waits : {Gives : Giving} {memory number k : ℕ} {d e : Desk} → Sound d → StillWaits d number → (run : Run Gives memory d k e) → Reported number run ⊎ StillWaits e number
 unfolding Reported
 reported_or_waits s w nothing = inr w
 reported_or_waits s w (take_in run t) = ⊎_elim (λ h. inl h) (λ v. inr (waits_taken v t)) (reported_or_waits s w run)
@@ -96,14 +96,14 @@ waits_at_first {d = d} {p = p} s (taken {i = i} h f) = record {
 }
 
 -- So of 16 steps for each trial that it takes one reports it,
-pub reported_by_trials : {memory : ℕ} {d e f : Desk} {p : List ℕ} {number k class trials : ℕ} {span : Trop} {Gives : Giving} → FromOpening Gives memory d → TakesIn memory d p (Desks.ticket number) e
+pub reported_by_trials : {Gives : Giving} {memory : ℕ} {d e f : Desk} {p : List ℕ} {number k class trials : ℕ} {span : Trop} → FromOpening Gives memory d → TakesIn memory d p (Desks.ticket number) e
     → Found (problem_of (meant p)) class span trials → (run : Run Gives memory e k f) → desk_places * trials ≤ k → Reported number run
 reported_by_trials o t found run long =
     let s = from_opening_sound o in
     ⊎_elim (λ h. h) (λ w. absurd (waits_no_longer o t found run long w.there)) (reported_or_waits (sound_taken s t) (waits_at_first s t) run)
 
 -- and none takes more than 24.
-pub reported_within : {memory : ℕ} {d e f : Desk} {p : List ℕ} {number k : ℕ} {Gives : Giving} → FromOpening Gives memory d → TakesIn memory d p (Desks.ticket number) e → (run : Run Gives memory e k f) → desk_steps ≤ k
+pub reported_within : {Gives : Giving} {memory : ℕ} {d e f : Desk} {p : List ℕ} {number k : ℕ} → FromOpening Gives memory d → TakesIn memory d p (Desks.ticket number) e → (run : Run Gives memory e k f) → desk_steps ≤ k
     → Reported number run
 reported_within {p = p} o t run long =
     let c = classed (problem_of (meant p)) in
@@ -111,7 +111,7 @@ reported_within {p = p} o t run long =
     reported_by_trials o t c.found run (omega arith)
 
 -- Before that it is held, waiting.
-pub waiting_or_reported : {memory : ℕ} {d e f : Desk} {p : List ℕ} {number k : ℕ} {Gives : Giving} → FromOpening Gives memory d → TakesIn memory d p (Desks.ticket number) e → (run : Run Gives memory e k f)
+pub waiting_or_reported : {Gives : Giving} {memory : ℕ} {d e f : Desk} {p : List ℕ} {number k : ℕ} → FromOpening Gives memory d → TakesIn memory d p (Desks.ticket number) e → (run : Run Gives memory e k f)
     → Reported number run ⊎ HeldWaiting f number (meant p)
 waiting_or_reported {f = f} {number = number} o t run =
     let s = from_opening_sound o in

@@ -184,7 +184,7 @@ sound_opened = record {
 }
 
 module _ {memory : ℕ} {d : Desk} (s : Sound d) where
-  pub sound_taken : {e : Desk} {p : List ℕ} {r : TakenIn} → TakesIn memory d p r e → Sound e
+  pub sound_taken : {p : List ℕ} {e : Desk} {r : TakenIn} → TakesIn memory d p r e → Sound e
   unfolding take_refusal ticket_of
   sound_taken (Desks.TakesIn.turned_away h) = s
   sound_taken {p = p} (taken {i = i} h f) =
@@ -200,7 +200,7 @@ module _ {memory : ℕ} {d : Desk} (s : Sound d) where
       old k w (yes e) = inr e
       old k w (no n) = inl (waited_elsewhere d _ _ i _ k n w)
 
-  pub sound_stepped : {e : Desk} {r : Stepped} {Gives : Giving} → Steps Gives memory d r e → Sound e
+  pub sound_stepped : {Gives : Giving} {e : Desk} {r : Stepped} → Steps Gives memory d r e → Sound e
   unfolding ticket_of
   sound_stepped (Desks.Steps.turned_away h) = s
   sound_stepped (Desks.Steps.idle h none) = s
@@ -249,13 +249,13 @@ module _ {memory : ℕ} {d : Desk} (s : Sound d) where
       old inside k w (no n) = waited_elsewhere d _ _ i _ k n w
 
 -- So it holds of every state from an opening on.
-pub sound_run : {memory k : ℕ} {d e : Desk} {Gives : Giving} → Run Gives memory d k e → Sound d → Sound e
+pub sound_run : {Gives : Giving} {memory k : ℕ} {d e : Desk} → Run Gives memory d k e → Sound d → Sound e
 sound_run nothing s = s
 sound_run (take_in run t) s = sound_taken (sound_run run s) t
 sound_run (one_step_is run t) s = sound_stepped (sound_run run s) t
 sound_run (collect run t) s = sound_collected (sound_run run s) t
 
-pub from_opening_sound : {memory : ℕ} {d : Desk} {Gives : Giving} → FromOpening Gives memory d → Sound d
+pub from_opening_sound : {Gives : Giving} {memory : ℕ} {d : Desk} → FromOpening Gives memory d → Sound d
 from_opening_sound f = sound_run f.run sound_opened
 
 -- At most sixteen wait.

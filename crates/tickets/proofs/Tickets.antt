@@ -113,13 +113,13 @@ module _ {d : Desk} (s : Sound d) (t : Apart d) where
   apart_changed none = t
   apart_changed (one given line {i = i} {p = p} inside st b) = apart_moved given line i p inside (others st b)
 
-apart_run : {memory k : ℕ} {d e : Desk} {Gives : Giving} → Sound d → Apart d → Run Gives memory d k e → Apart e
+apart_run : {Gives : Giving} {memory k : ℕ} {d e : Desk} → Sound d → Apart d → Run Gives memory d k e → Apart e
 apart_run s t nothing = t
 apart_run s t (take_in run c) = let z = sound_run run s in apart_changed z (apart_run s t run) (taken_changes z c)
 apart_run s t (one_step_is run c) = let z = sound_run run s in apart_changed z (apart_run s t run) (stepped_changes z c)
 apart_run s t (collect run c) = let z = sound_run run s in apart_changed z (apart_run s t run) (collected_changes z c)
 
-pub from_opening_apart : {memory : ℕ} {d : Desk} {Gives : Giving} → FromOpening Gives memory d → Apart d
+pub from_opening_apart : {Gives : Giving} {memory : ℕ} {d : Desk} → FromOpening Gives memory d → Apart d
 from_opening_apart o = apart_run sound_opened (record { apart = λ i k a b e. absurd (a (sixteen_empty i)) }) o.run
 
 -- ---- a ticket that was collected
@@ -136,7 +136,7 @@ without_becomes number given was p l closes w = record { other = λ some e. w.ot
 without_becomes number given was p l frees w = record { other = λ some e. some refl }
 
 -- It is held no more,
-without_collected : {memory number class own size : ℕ} {span : Trop} {d e : Desk} {before after : List ℕ} {Gives : Giving} → FromOpening Gives memory d
+without_collected : {Gives : Giving} {memory number class own size : ℕ} {span : Trop} {d e : Desk} {before after : List ℕ} → FromOpening Gives memory d
     → Collects memory d number before (Desks.collected class span own size) e after → Each (Without number) e × (number ≤ e.given)
 unfolding ticket_of
 without_collected {number = number} {d = d} o (handed_over {i = i} h st b) =
@@ -152,7 +152,7 @@ without_collected {number = number} {d = d} o (handed_over {i = i} h st b) =
         n ((from_opening_apart o).apart k i (λ z. some (same ∙ z)) (λ z. empty_not_answered (sym z ∙ st.is)) (ap ticket_of (sym same) ∙ is ∙ sym (ap ticket_of st.is)))
 
 -- and never again.
-pub collected_gone : {memory number class own size k : ℕ} {span : Trop} {d e f : Desk} {before after : List ℕ} {Gives : Giving} → FromOpening Gives memory d
+pub collected_gone : {Gives : Giving} {memory number class own size k : ℕ} {span : Trop} {d e f : Desk} {before after : List ℕ} → FromOpening Gives memory d
     → Collects memory d number before (Desks.collected class span own size) e after → Run Gives memory e k f → NotHeld f number
 collected_gone {number = number} o c run i some is =
     let w = without_collected o c in ((each_run number w.1 (without_becomes number) (sound_collected (from_opening_sound o) c) w.0 run).at i).other some is
@@ -169,7 +169,7 @@ some_becomes given was p l (goes_on f m) s = record { some = λ _. s.some (λ z.
 some_becomes given was p l closes s = record { some = λ _. s.some (λ z. empty_not_waits (sym z)) }
 some_becomes given was p l frees s = record { some = λ n. absurd (n refl) }
 
-pub held_some : {memory : ℕ} {d : Desk} {Gives : Giving} → FromOpening Gives memory d → (i : ℕ) → (place_at d i ≡ empty → ⊥) → (0 < ticket_of (place_at d i)) × (ticket_of (place_at d i) ≤ d.given)
+pub held_some : {Gives : Giving} {memory : ℕ} {d : Desk} → FromOpening Gives memory d → (i : ℕ) → (place_at d i ≡ empty → ⊥) → (0 < ticket_of (place_at d i)) × (ticket_of (place_at d i) ≤ d.given)
 held_some o i n = (
   ((each_run 0 (omega arith) some_becomes sound_opened (record { at = λ k. record { some = λ m. absurd (m (sixteen_empty k)) } }) o.run).at i).some n,
   (from_opening_sound o).tickets i,
@@ -177,7 +177,7 @@ held_some o i n = (
 
 -- ---- tickets count up
 
-pub tickets_later : {memory : ℕ} {d e f g : Desk} {p q : List ℕ} {number later k : ℕ} {Gives : Giving} → TakesIn memory d p (Desks.ticket number) e → Run Gives memory e k f
+pub tickets_later : {Gives : Giving} {memory : ℕ} {d e f g : Desk} {p q : List ℕ} {number later k : ℕ} → TakesIn memory d p (Desks.ticket number) e → Run Gives memory e k f
     → TakesIn memory f q (Desks.ticket later) g → number < later
 tickets_later (taken h f) run (taken i g) = omega (arith, run_given run)
 

@@ -25,7 +25,7 @@ record Tells (number count : ℕ) (p : Place) : Type 0 where
   tells : ticket_of p ≡ number → count ≡ own_held p
 
 module _ {d : Desk} {number count : ℕ} (some : 0 < number) (s : Sound d) (t : Each (Tells number count) d) where
-  tells_taken : {memory : ℕ} {e : Desk} {p : List ℕ} {r : TakenIn} → number ≤ d.given → TakesIn memory d p r e → Each (Tells number count) e
+  tells_taken : {memory : ℕ} {p : List ℕ} {e : Desk} {r : TakenIn} → number ≤ d.given → TakesIn memory d p r e → Each (Tells number count) e
   unfolding ticket_of
   tells_taken given (Desks.TakesIn.turned_away h) = t
   tells_taken {p = p} given (taken {i = i} h f) =
@@ -61,7 +61,7 @@ module _ {d : Desk} {number count : ℕ} (some : 0 < number) (s : Sound d) (t : 
       now k (no d') (yes f) = rw (elsewhere d given line i p k d') (record { tells = λ z. absurd (other k d' f z) })
       now k (no d') (no m) = rw (elsewhere d given line i p k d', ne_eqb n number m) (record { tells = λ z. omega (arith, (t.at k).tells z) })
 
-  tells_stepped : {memory : ℕ} {e : Desk} {r : Stepped} {Gives : Giving} → Apart d → Steps Gives memory d r e → Each (Tells number (count + turn number r)) e
+  tells_stepped : {Gives : Giving} {memory : ℕ} {e : Desk} {r : Stepped} → Apart d → Steps Gives memory d r e → Each (Tells number (count + turn number r)) e
   unfolding turn ticket_of own_held
   tells_stepped a (Desks.Steps.turned_away h) = subst (λ (c : ℕ). Each (Tells number c) d) (omega arith) t
   tells_stepped a (Desks.Steps.idle h empty-line) = subst (λ (c : ℕ). Each (Tells number c) d) (omega arith) t
