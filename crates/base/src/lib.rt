@@ -1,4 +1,6 @@
 // What is not about spans: numbers, lists that loops fill, and tests. All other crates rest on it.
+#![tactic(auto)]
+
 ghost use Rattle.std.specs.Prelude.{◌≡◌};
 ghost use Rattle.base.specs.Numbers.{most};
 

@@ -10,11 +10,11 @@ use native.Mathlib.Nat.{pow-suc}
 use lib.Dec.{T, eqb}
 use lib.IntN.{ℤ, pos, negsuc, neg_ℤ, nat_abs, ◌+ℤ◌, ◌-ℤ◌}
 use lib.Signed.{◌≤ℤ◌, ◌<ℤ◌, le_z}
-use borrow.Author.Tests.{eqb-true, eqb-false, eq-eqb, ne_eqb}
+use borrow.Author.Tests.{eq-eqb, ne_eqb}
 use Rattle.base.proofs.Numbers.{nat_le_or_lt}
 use Rattle.definitions.specs.Limits.{span_limit, top_trial, lowest_trial, most_trials}
 use Rattle.definitions.specs.Bisection.{Brackets, Bracket, opening, half_up, middle, next, width, Halved, counted, halve, halved, trials_optimal}
-use Rattle.definitions.proofs.Whole.{up, down, whole, le_read, le_show, lt_read, lt_show, plus_read, minus_read, neg_read, abs_read, parts, le_or_lt}
+use Rattle.definitions.proofs.Whole.{up, down, whole, lt_read, plus_read, minus_read, neg_read, abs_read, parts, le_or_lt}
 
 -- ---- the middle
 

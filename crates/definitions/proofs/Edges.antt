@@ -4,9 +4,9 @@ use Prim.Native.Nat.{ℕ}
 use mathlib.Core.Path.{◌≡◌, refl}
 use mathlib.Core.Bool.{false}
 use mathlib.Core.List.{List, [], ◌∷◌, map}
-use lib.IntN.{ℤ, pos, negsuc}
+use lib.IntN.{pos, negsuc}
 use Rattle.definitions.specs.Limits.{kept_bytes, top_trial, lowest_trial, problem_most, states_most, answer_most}
-use Rattle.definitions.specs.Tropical.{Trop, bot, fin}
+use Rattle.definitions.specs.Tropical.{bot, fin}
 use Rattle.definitions.specs.Bytes.{num_at, nums_at, le, signed, trop_field, trop_at, all, some_below, blank_or_within, whole_within}
 use Rattle.definitions.specs.ProblemRecord.{checker_kinds, header_refusal, header_judged, problem_refusal, leads_of, refusal_for, header_bytes}
 use Rattle.definitions.specs.Questions.{alone}

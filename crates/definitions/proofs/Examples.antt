@@ -8,18 +8,18 @@ use mathlib.Core.Logic.{inl, inr, ⊎_elim}
 use native.Mathlib.Omega.{arith}
 use lib.Dec.{eqb}
 use lib.IntN.{ℤ, pos, negsuc, ◌+ℤ◌, ◌-ℤ◌}
-use lib.Signed.{◌<ℤ◌, <ℤ_irrefl}
-use Rattle.definitions.specs.Tropical.{Trop, bot, fin, blank_least, whole_least, plus, larger, largest, Finite}
+use lib.Signed.{<ℤ_irrefl}
+use Rattle.definitions.specs.Tropical.{bot, fin, blank_least, whole_least, plus, larger, largest}
 use Rattle.definitions.specs.Problem.{Problem, Point, Keeps, Feasible, Counts, value, side, minus, minus_infinity, plus_infinity}
 use Rattle.definitions.specs.Problem as Problems
 use Rattle.definitions.specs.Certificate.{Strategy, Arc, ArcBy, Walk, step, stop, Uses, Distinct, Cycle, Reachable, start, onward, Anchor, start_of, Leads, HasPick, BelowZero, AcceptedInfeasible, raise}
 use Rattle.definitions.specs.Bytes.{num_at, nums_at, le, fields, signed, trop_field, field_of, trop_at, all, some_below, blank_or_within, whole_within}
-use Rattle.definitions.specs.ProblemRecord.{header_refusal, header_judged, problem_refusal, leads_of, problem_of, problem_bytes, header_bytes, row_bytes, rows_bytes, list_of, refusal_for}
+use Rattle.definitions.specs.ProblemRecord.{header_refusal, header_judged, leads_of, problem_of, problem_bytes, header_bytes, row_bytes, rows_bytes, list_of, refusal_for}
 use Rattle.definitions.specs.AnswerRecord.{Answer, answer_header_refusal, answer_header_judged, answer_refusal, answer_of, form_refusal, span_fits, stamps_fit, picks_fit, is_zero, is_blank}
 use Rattle.definitions.specs.Verdict.{check_refusal, Accepted, optimal, unbounded, infeasible, point_of, strategy_of}
 use Rattle.definitions.specs.Examples.{Row, Example, examples, example_a, example_b, example_c, example_d, example_e, example_f, example_g, example_h, example_i, example_j, example_k, example_m}
 use Rattle.definitions.specs.Demands.{Fits}
-use Rattle.definitions.proofs.Whole.{up, down, whole, lt_show, eq_read, plus_read}
+use Rattle.definitions.proofs.Whole.{up, down, whole, eq_read, plus_read}
 use Rattle.definitions.proofs.Tropical.{fin_injective, not_finite_bot}
 
 -- The rows of a problem in the table's form.

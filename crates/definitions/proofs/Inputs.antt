@@ -1,6 +1,6 @@
 -- Inputs of which the first bytes were kept: what is decided from them and the size holds of every such input. From 2³³
 -- bytes on the size counts no more.
-use Prim.Native.Nat.{ℕ, zero, suc, ◌+◌, ◌*◌, ◌-◌, ◌≤◌, ◌<◌}
+use Prim.Native.Nat.{ℕ, zero, suc, ◌+◌, ◌*◌, ◌≤◌, ◌<◌}
 use mathlib.Core.Path.{◌≡◌, refl, ap, sym, subst, ◌∙◌}
 use mathlib.Core.List.{List}
 use mathlib.Core.Logic.{⊎_elim}
@@ -9,12 +9,12 @@ use native.Mathlib.Nat.{eq-zero-or-pos, mul-le-mul_left, mul-le-mul_right}
 use mathlib.Core.Bool.{Bool, true, false}
 use lib.Dec.{eqb}
 use lib.ListN.{length, get_or, take, drop, replicate, length-take, length-drop, length-replicate}
-use lib.Seq.{get_or-take, get_or-drop, length-take-le, ext_get_or, take_all, take-take}
+use lib.Seq.{get_or-take, length-take-le, ext_get_or, take_all, take-take}
 use borrow.Author.Tests.{lt-ltb, le-ltb, eqb-true, ne_eqb}
 use Rattle.base.proofs.Numbers.{nat_le_or_lt}
 use Rattle.definitions.specs.Limits.{kept_bytes, word_values, length_bytes, problem_header, answer_header, signed_full, highest_n, highest_m, questions_header, questions_kind}
 use Rattle.definitions.specs.Bytes.{Bytes, num_at, put}
-use Rattle.definitions.specs.ProblemRecord.{Kinds, engine_kinds, checker_kinds, questions_asked, length_field, kind_field, n_field, m_field, header_refusal, header_judged, problem_refusal, WithinLayout, meant, problem_size, refusal_for, count_field}
+use Rattle.definitions.specs.ProblemRecord.{Kinds, engine_kinds, checker_kinds, questions_asked, length_field, kind_field, n_field, m_field, header_refusal, header_judged, problem_refusal, meant, refusal_for, count_field}
 use Rattle.definitions.specs.AnswerRecord.{answer_header_refusal, answer_header_judged, answer_refusal}
 use Rattle.definitions.specs.Verdict.{Verdict, refused, check_refusal, Judged, turned_away, certified, uncertified}
 use Rattle.definitions.specs.Programs.{cut_place, problem_part, answer_part, KeptOf, SpanOutput, VerdictOutput, read_most, ReadFrom}
@@ -22,7 +22,7 @@ use Rattle.definitions.specs.Programs as Programs
 use Rattle.definitions.proofs.Bytes.{num_at_same, num_at_bound, bytes_take, bytes_drop, bytes_put, zero_bytes}
 use Rattle.definitions.proofs.Put.{take_put, length_put}
 use Rattle.definitions.proofs.IdleDay.{meant_some}
-use Rattle.definitions.proofs.Refusals.{or_else_suc, or_else_none, limits_clause, enough_clause, equal_clause, HeaderPasses, header_passes}
+use Rattle.definitions.proofs.Refusals.{or_else_suc, or_else_none, HeaderPasses, header_passes}
 use Rattle.definitions.proofs.KnownKinds.{kind_known, one_or_several, leads_place_most, few_questions}
 use Rattle.definitions.proofs.Layouts.{problem_fits}
 

@@ -1,7 +1,7 @@
 -- A problem of one question within the layout: what its header says, and its leads.
 use Prim.Native.Nat.{ℕ, suc, ◌+◌, ◌*◌, ◌≤◌, ◌<◌}
 use mathlib.Core.Path.{◌≡◌, refl, sym, ◌∙◌}
-use mathlib.Core.Bool.{Bool, true, false, not, cond, false≢true}
+use mathlib.Core.Bool.{Bool, true, false, cond, false≢true}
 use mathlib.Core.List.{List, map}
 use native.Mathlib.Omega.{arith}
 use native.Mathlib.Nat.{mul-le-mul_right}
@@ -13,7 +13,7 @@ use Rattle.definitions.specs.Bytes.{nums_at, trop_field, trop_at, all, blank_or_
 use Rattle.definitions.specs.ProblemRecord.{Kinds, checker_kinds, desk_kinds, AsksOne, state_refused, suspended, left_from, right_from, problem_size, record_size, length_field, kind_field, n_field, m_field, count_field, leads_place, questions_asked, leads_of, known_kind, header_refusal, header_judged, refusal_for, silent_refused, WithinLayout, problem_of, problem_refusal, record_refusal}
 use Rattle.definitions.proofs.Bytes.{all-numsAt}
 use Rattle.definitions.proofs.Refusals.{record_fits}
-use Rattle.definitions.proofs.KnownKinds.{KnownKind, OneKind, kind_known, kind_one, kind_plain, one_asks, several, size_one}
+use Rattle.definitions.proofs.KnownKinds.{KnownKind, OneKind, kind_known, kind_one, kind_plain, one_asks, size_one}
 
 -- ---- problems of one question
 

@@ -1,7 +1,7 @@
 -- A problem written by `problem_bytes` is within the layout and reads back as itself.
-use Prim.Native.Nat.{ℕ, zero, suc, ◌+◌, ◌*◌, ◌-◌, ◌^◌, ◌≤◌, ◌<◌}
-use mathlib.Core.Path.{◌≡◌, refl, ap, ap₂, sym, subst, ◌∙◌}
-use mathlib.Core.Bool.{Bool, true, false, and-eq-true_iff, ◌&&◌}
+use Prim.Native.Nat.{ℕ, zero, suc, ◌+◌, ◌*◌, ◌-◌, ◌≤◌, ◌<◌}
+use mathlib.Core.Path.{◌≡◌, refl, ap, sym, ◌∙◌}
+use mathlib.Core.Bool.{Bool, true, false, and-eq-true_iff}
 use mathlib.Core.List.{List, [], ◌∷◌, ◌++◌, map, append_assoc, append-nil, map-append}
 use mathlib.Core.Logic.{⊎_elim}
 use native.Mathlib.Omega.{arith}
@@ -9,10 +9,10 @@ use native.Mathlib.Nat.{mul-le-mul_left, mul-le-mul_right}
 use lib.ListN.{length, get_or, length-append, length-map, get_or-append, get_or-map}
 use lib.Seq.{get_or_at, get_or-append-add}
 use Rattle.base.proofs.Numbers.{nat_le_or_lt}
-use Rattle.definitions.specs.Limits.{highest_n, highest_m, lead_limit, length_bytes, short_bytes, signed_bytes, signed_half, signed_full, problem_kind, problem_header, problem_most}
+use Rattle.definitions.specs.Limits.{highest_n, highest_m, lead_limit, length_bytes, short_bytes, signed_bytes, signed_full, problem_kind, problem_header, problem_most}
 use Rattle.definitions.specs.Tropical.{Trop, bot}
 use Rattle.definitions.specs.Problem.{Problem}
-use Rattle.definitions.specs.Bytes.{num_at, nums_at, le, fields, trop_field, field_of, trop_at, all, blank_or_within}
+use Rattle.definitions.specs.Bytes.{num_at, nums_at, fields, trop_field, field_of, trop_at, all, blank_or_within}
 use Rattle.definitions.specs.ProblemRecord.{WithinLayout, problem_of, problem_size, header_bytes, problem_bytes, row_bytes, rows_bytes, leads_of, list_of, n_field, m_field, length_field, kind_field, leads_place, row_place, blank_left, left_place, right_place, silent_refused}
 use Rattle.definitions.proofs.Bytes.{length_le, length_fields, fields_append, nums_fields, Below, get_d_nums_at, all_true}
 use Rattle.definitions.proofs.Layouts.{plain_within, leads_one}

@@ -1,6 +1,6 @@
 -- Scaled problems: a record whose leads are d times those of another means the scaled problem, as far as a problem is read; E in
 -- half minutes; with d = 1 nothing changes. (That parts of a minute gain nothing is proved in `scaling`.)
-use Prim.Native.Nat.{ℕ, zero, suc, ◌+◌, ◌*◌, ◌≤◌, ◌<◌}
+use Prim.Native.Nat.{ℕ, zero, suc, ◌+◌, ◌*◌, ◌<◌}
 use mathlib.Core.Path.{◌≡◌, refl, sym}
 use mathlib.Core.List.{List, [], ◌∷◌, map}
 use native.Mathlib.Omega.{arith}

@@ -1,9 +1,9 @@
 -- An answer that the engine may give is one that the writer takes; and what an answered result means.
-use Prim.Native.Nat.{ℕ, zero, suc, ◌+◌, ◌*◌, ◌≤◌, ◌<◌}
+use Prim.Native.Nat.{ℕ, ◌+◌, ◌*◌, ◌≤◌, ◌<◌}
 use mathlib.Core.Path.{◌≡◌, refl, ap, sym, subst, subst₂, subst₃, ◌∙◌}
 use mathlib.Core.Bool.{true, and-eq-true_iff}
 use mathlib.Core.Logic.{◌↔◌, ⊎_elim}
-use mathlib.Core.List.{List, [], ◌++◌}
+use mathlib.Core.List.{List}
 use native.Mathlib.Omega.{arith}
 use native.Mathlib.Nat.{zero-add}
 use lib.ListN.{length, take, length-append}
@@ -14,7 +14,7 @@ use Rattle.definitions.specs.Bytes.{Bytes}
 use Rattle.definitions.specs.Problem.{Problem}
 use Rattle.definitions.specs.ProblemRecord.{engine_kinds, AsksOne, WithinLayout, WithinLayouts, record_refusal, problem_of, kind_field, n_field, m_field, count_field, questions_asked}
 use Rattle.definitions.specs.Questions.{alone, asking}
-use Rattle.definitions.specs.AnswerRecord.{Answer, known_class, right_counts, stamp_count, pick_count, answer_size, answer_bytes, written}
+use Rattle.definitions.specs.AnswerRecord.{Answer, known_class, right_counts, answer_size, answer_bytes, written}
 use Rattle.definitions.specs.Solved as Results
 use Rattle.definitions.specs.Solved.{Solved, answered, all_answered, Found, optimal, unbounded, infeasible, Answers, AnswersInTurn, no_question, one_more, Solves, solved, all_solved, engine_refusal}
 use Rattle.definitions.proofs.Refusals.{or_else_none, enough_clause, header_passes, record_fits}

@@ -1,14 +1,14 @@
 -- Facts that pin the numbers and words of request 2.8: where a week starts, the closing minute, touching windows, the limits.
 use Prim.Native.Nat.{ℕ, zero, suc, ◌*◌, ◌≤◌, ◌<◌}
 use mathlib.Core.Path.{◌≡◌, refl, subst}
-use mathlib.Core.Logic.{◌⊎◌, ⊎_elim}
+use mathlib.Core.Logic.{⊎_elim}
 use mathlib.Core.List.{List, [], ◌∷◌}
 use native.Mathlib.Omega.{arith}
-use lib.ListN.{length, get_or, replicate}
+use lib.ListN.{length, replicate}
 use lib.IntN.{ℤ, pos, negsuc}
 use lib.Signed.{◌≤ℤ◌, ◌<ℤ◌}
 use Rattle.definitions.specs.Limits.{most_windows}
-use Rattle.definitions.specs.Week.{windows, opening, closing, InWindow, minute_of_week, Open, FirstOpen, week_refusal, BadWeek, odd, too_many_windows, closing_not_after_opening, opening_outside, closing_outside, starts_before_last_closes, TurnedAway, bad_week, minute_beyond, Admits, opens}
+use Rattle.definitions.specs.Week.{windows, opening, closing, InWindow, minute_of_week, Open, FirstOpen, week_refusal, BadWeek, odd, too_many_windows, closing_not_after_opening, opening_outside, closing_outside, starts_before_last_closes, TurnedAway, bad_week, minute_beyond}
 use Rattle.definitions.proofs.Whole.{whole}
 
 -- A week starts on Monday 0:00, and the minute before that is the last of the week before.

@@ -2,12 +2,11 @@
 -- A whole number z is `up z` − `down z`. The laws `…-read` turn an order, an equation or a sum of ℤ into one of ℕ,
 -- the laws `…-show` turn it back: `omega (whole, plus_read a c, plus_read b d)` proves a + c < b + d from a ≤ b and c < d.
 use Prim.Native.Nat.{ℕ, zero, suc, ◌+◌, ◌-◌, ◌≤◌, ◌<◌}
-use mathlib.Core.Path.{◌≡◌, refl, ap, sym, subst}
+use mathlib.Core.Path.{◌≡◌, refl, ap, subst}
 use mathlib.Core.Bool.{Bool, true, false, cond}
 use mathlib.Core.Logic.{◌⊎◌, inl, inr, ⊎_elim}
 use native.Mathlib.Omega.{arith}
-use native.Mathlib.Nat as NatL
-use lib.Dec.{T, ltb, leb, ltb→lt, leb→le, lt→ltb, le→leb}
+use lib.Dec.{T, ltb, ltb→lt, leb→le, lt→ltb, le→leb}
 use lib.IntN.{ℤ, pos, negsuc, sub_ℕ, neg_ℤ, nat_abs, ◌+ℤ◌, ◌-ℤ◌}
 use lib.Signed.{◌≤ℤ◌, ◌<ℤ◌, le_z, lt_z}
 use borrow.Author.Tests.{ltb-true, ltb-false}

@@ -1,6 +1,6 @@
 -- The answer record: its fields, sizes by class, refusals, and its bytes. Document 01, "Records" and "What is turned
 -- away", 4 and 7 to 13; document 02, 2.4.
-use Rattle.std.specs.Prelude.{ℕ, zero, suc, ◌+◌, ◌*◌, ◌-◌, ◌≡◌, Bool, true, false, not, cond, ◌&&◌, ◌||◌, List, [], ◌∷◌, ◌++◌, map, eqb, ltb, leb, length, ℤ, pos, nat_abs}
+use Rattle.std.specs.Prelude.{ℕ, suc, ◌+◌, ◌*◌, ◌-◌, Bool, true, false, not, cond, ◌&&◌, ◌||◌, List, [], ◌∷◌, ◌++◌, map, eqb, ltb, leb, length, nat_abs}
 use Rattle.definitions.specs.Limits.{span_limit, stamp_limit, length_bytes, short_bytes, signed_bytes, class_place, span_place, start_place, answer_kind, class_optimal, class_unbounded, class_infeasible, answer_header, answer_most, refused_room, refused_answer_short, refused_answer_length, refused_answer_class, refused_answer_size, refused_form, refused_pick}
 use Rattle.definitions.specs.Tropical.{Trop, bot, fin}
 use Rattle.definitions.specs.Bytes.{num_at, nums_at, le, fields, trop_field, field_of, trop_at, put, all, whole_within, blank_or_within, Clause, first, or_else, Outcome, outcome}

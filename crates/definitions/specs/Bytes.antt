@@ -1,5 +1,5 @@
 -- Lists of bytes, and fields in them. All fields are little-endian. Document 01, "Records".
-use Rattle.std.specs.Prelude.{ℕ, zero, suc, ◌+◌, ◌*◌, ◌-◌, ◌/◌, ◌%◌, ◌<◌, ◌≡◌, Bool, true, false, cond, ◌&&◌, ◌||◌, List, [], ◌∷◌, ◌++◌, eqb, ltb, leb, length, get_or, take, drop, ℤ, pos, negsuc, nat_abs}
+use Rattle.std.specs.Prelude.{ℕ, zero, suc, ◌+◌, ◌*◌, ◌-◌, ◌/◌, ◌%◌, ◌<◌, Bool, true, false, cond, ◌&&◌, ◌||◌, List, [], ◌∷◌, ◌++◌, eqb, ltb, leb, length, get_or, take, drop, ℤ, pos, negsuc, nat_abs}
 use Rattle.std.proofs.Math.IntN.{sub_ℕ}
 use Rattle.definitions.specs.Limits.{byte_values, signed_bytes, signed_half, signed_full}
 use Rattle.definitions.specs.Tropical.{Trop, bot, fin}

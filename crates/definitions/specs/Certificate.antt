@@ -2,8 +2,8 @@
 -- Each class's conditions are stated from any start, a set of variables; document 02, 2.4, says which set an answer's start means.
 -- A pick is 0 for none; else it is 1 + the number of a row (classes 1 and 3) or of a variable (class 2). Variables are document
 -- 01's moments, coefficients its leads, inequalities its rules; the objective, row m, is its question.
-use Rattle.std.specs.Prelude.{ℕ, zero, suc, ◌+◌, ◌≤◌, ◌≡◌, cond, ◌⊎◌, eqb, ℤ, pos, ◌+ℤ◌, ◌-ℤ◌, ◌≤ℤ◌, ◌<ℤ◌}
-use Rattle.definitions.specs.Tropical.{Trop, fin, Finite}
+use Rattle.std.specs.Prelude.{ℕ, zero, suc, ◌≤◌, ◌≡◌, cond, ◌⊎◌, eqb, ℤ, pos, ◌+ℤ◌, ◌-ℤ◌, ◌≤ℤ◌, ◌<ℤ◌}
+use Rattle.definitions.specs.Tropical.{fin, Finite}
 use Rattle.definitions.specs.Problem.{Problem, Point, Feasible, value, whole}
 
 -- A strategy: the pick of each variable (classes 1 and 3) or of each row (class 2).

@@ -1,5 +1,5 @@
 -- The converter: a stored problem without its rules that say nothing. Document 02, 2.6. "It takes kinds 1 and 3 alone, also later."
-use Rattle.std.specs.Prelude.{ℕ, zero, suc, ◌+◌, ◌-◌, ◌<◌, ◌≡◌, true, cond, List, [], ◌∷◌, ◌++◌, ltb, length}
+use Rattle.std.specs.Prelude.{ℕ, zero, suc, ◌-◌, ◌<◌, ◌≡◌, cond, List, [], ◌∷◌, ◌++◌, ltb, length}
 use Rattle.definitions.specs.Limits.{length_bytes, short_bytes, kind_place, m_place, problem_header, refused_lead, refused_room}
 use Rattle.definitions.specs.Bytes.{Bytes, le, first, or_else, Outcome, outcome}
 use Rattle.definitions.specs.ProblemRecord.{kind_field, n_field, m_field, count_field, leads_place, questions_asked, record_size, row_place, converter_kinds, header_refusal, lead_refused, refusal_for, blank_left, problem_of, WithinLayouts}

@@ -2,7 +2,7 @@
 -- an engine, a checker, readers, a writer and the two programs. That a function ends on every string of bytes is part
 -- of its being a function. Document 01 says under "The checker" what the words of demand 3 mean, and document 02, 2.4, with which plans it compares. No bytes mean the idle day (document 02,
 -- 2.9): of a string of bytes p the demands hold with the record that it means, `meant p`.
-use Rattle.std.specs.Prelude.{ℕ, zero, suc, ◌+◌, ◌*◌, ◌≤◌, ◌<◌, ◌≡◌, Bool, true, ◌↔◌, List, [], length, get_or, take, drop, ℤ}
+use Rattle.std.specs.Prelude.{ℕ, suc, ◌+◌, ◌*◌, ◌≤◌, ◌<◌, ◌≡◌, true, ◌↔◌, List, [], length, get_or, take, drop, ℤ}
 use Rattle.definitions.specs.Limits.{questions_kind, most_trials, class_optimal, class_unbounded, class_infeasible, answer_most, kept_bytes, word_values}
 use Rattle.definitions.specs.Tropical.{Trop, bot, fin}
 use Rattle.definitions.specs.Problem.{Problem, Point, Feasible, Counts, value, whole, plus_infinity, ◌≼◌, Attainable}

@@ -1,7 +1,7 @@
 -- The starred examples of document 01, as one table: the problem in words and in bytes, an answer in bytes with a start and a pick
 -- table, its class and span, where document 02, 2.4, gives J least −10 and D none, and what the checker says of it. The words are rows of
 -- leads, anchor first: left, then right.
-use Rattle.std.specs.Prelude.{ℕ, List, [], ◌∷◌, ℤ, pos, neg_ℤ}
+use Rattle.std.specs.Prelude.{ℕ, List, [], ◌∷◌, pos, neg_ℤ}
 use Rattle.definitions.specs.Limits.{class_optimal, class_unbounded, class_infeasible}
 use Rattle.definitions.specs.Tropical.{Trop, bot, fin}
 use Rattle.definitions.specs.Verdict.{Verdict, accepted, refused}

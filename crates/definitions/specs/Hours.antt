@@ -1,5 +1,5 @@
 -- Hours and minutes on the sheet: the text of a span or stamp, its reader and its writer. Document 02, 2.7. Text is in ASCII.
-use Rattle.std.specs.Prelude.{ℕ, zero, suc, ◌+◌, ◌*◌, ◌/◌, ◌%◌, ◌≤◌, ◌<◌, ◌≡◌, Bool, true, not, ◌||◌, ◌↔◌, List, [], ◌∷◌, ◌++◌, ltb, length, take, pos, negsuc}
+use Rattle.std.specs.Prelude.{ℕ, suc, ◌+◌, ◌*◌, ◌/◌, ◌%◌, ◌≤◌, ◌<◌, ◌≡◌, Bool, true, not, ◌||◌, ◌↔◌, List, [], ◌∷◌, ◌++◌, ltb, length, take, pos, negsuc}
 use Rattle.definitions.specs.Limits.{text_limit, text_most, hour_minutes}
 use Rattle.definitions.specs.Tropical.{Trop, bot, fin}
 use Rattle.definitions.specs.Bytes.{Bytes, put, blank_or_within, first}

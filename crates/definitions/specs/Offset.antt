@@ -1,7 +1,7 @@
 -- Offset numbers: the form in which the programs keep leads, stamps and spans. 0 stands for blank, any other number k
 -- for k − 2³¹. They are natural numbers in the order of what they stand for; two that are
 -- not blank add up to 2³¹ more than the offset number of their sum.
-use Rattle.std.specs.Prelude.{ℕ, ◌+◌, ◌%◌, cond, eqb, ℤ}
+use Rattle.std.specs.Prelude.{ℕ, ◌+◌, ◌%◌, cond, eqb}
 use Rattle.std.proofs.Math.IntN.{sub_ℕ}
 use Rattle.definitions.specs.Limits.{signed_half, signed_full}
 use Rattle.definitions.specs.Tropical.{Trop, bot, fin}

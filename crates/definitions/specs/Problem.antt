@@ -1,6 +1,6 @@
 -- A problem, its points, and what the least span is: tropical linear-fractional programming (arXiv 1101.3431)
 -- over whole numbers, of the plans that count (document 02, 2.4). Document 01, "Moments, rules and spans".
-use Rattle.std.specs.Prelude.{ℕ, zero, suc, ◌+◌, ◌<◌, ◌≡◌, ℤ, pos, ◌-ℤ◌, ◌≤ℤ◌}
+use Rattle.std.specs.Prelude.{ℕ, suc, ◌<◌, ◌≡◌, ℤ, pos, ◌-ℤ◌, ◌≤ℤ◌}
 use Rattle.definitions.specs.Tropical.{Trop, bot, fin, plus, largest, ◌⊑◌, Finite}
 
 -- A problem: variables (moments) 0 to n, inequalities (rules) in rows 0 to m − 1, the objective (question) in row m.

@@ -1,6 +1,6 @@
 -- The two programs of document 01: how the verdict program cuts its input, and what each program puts out for every input.
 -- Document 01, "Two programs". Text is in ASCII; every line ends with one newline, 0A.
-use Rattle.std.specs.Prelude.{ℕ, zero, suc, ◌+◌, ◌*◌, ◌/◌, ◌%◌, ◌≤◌, ◌≡◌, Bool, true, false, cond, List, [], ◌∷◌, ◌++◌, eqb, ltb, length, take, drop, ℤ, pos, negsuc}
+use Rattle.std.specs.Prelude.{ℕ, zero, suc, ◌+◌, ◌*◌, ◌/◌, ◌%◌, ◌≤◌, ◌≡◌, true, false, cond, List, [], ◌∷◌, ◌++◌, eqb, ltb, length, take, drop, ℤ, pos, negsuc}
 use Rattle.definitions.specs.Limits.{kept_bytes, length_bytes, signed_full, questions_kind}
 use Rattle.definitions.specs.Tropical.{Trop, bot, fin}
 use Rattle.definitions.specs.Bytes.{Bytes}

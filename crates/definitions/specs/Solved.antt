@@ -1,5 +1,5 @@
 -- What the engine says of a problem's bytes, and what it writes. Document 01, "The engine"; document 02, 2.1 and 2.4.
-use Rattle.std.specs.Prelude.{ℕ, zero, suc, ◌+◌, ◌*◌, ◌≡◌, true, List, [], ◌∷◌, ◌++◌, ltb, length, get_or, ℤ}
+use Rattle.std.specs.Prelude.{ℕ, suc, ◌+◌, ◌*◌, ◌≡◌, true, List, [], ◌∷◌, ◌++◌, ltb, length, ℤ}
 use Rattle.definitions.specs.Limits.{questions_kind, answer_most, refused_room, class_optimal, class_unbounded, class_infeasible}
 use Rattle.definitions.specs.Tropical.{Trop, bot, fin, Finite}
 use Rattle.definitions.specs.Problem.{Problem, Optimal, Unbounded, Infeasible}

@@ -1,5 +1,5 @@
 -- What the checker says of a problem's bytes and an answer's bytes. Document 01, "The checker"; document 02, 2.4.
-use Rattle.std.specs.Prelude.{ℕ, zero, suc, ◌≡◌, Bool, true, false, List, get_or, ℤ}
+use Rattle.std.specs.Prelude.{ℕ, suc, ◌≡◌, Bool, true, false, List, get_or, ℤ}
 use Rattle.definitions.specs.Limits.{class_optimal, class_unbounded, class_infeasible}
 use Rattle.definitions.specs.Tropical.{Trop, bot, fin}
 use Rattle.definitions.specs.Problem.{Problem, Point}

@@ -1,1 +1,3 @@
+#![tactic(auto)]
+
 // Definitions only: what a reader must believe stands in specs/.

@@ -1,14 +1,12 @@
 -- Problems that agree in their rows and variables accept the same certificates, of tables whose picks are none above the highest. From
 -- any two starts, where what begins in the second problem begins in the first and is one of its variables.
-use Prim.Native.Nat.{ℕ, suc, ◌≤◌, ◌<◌}
-use mathlib.Core.Path.{◌≡◌, ap, sym, subst, ◌∙◌}
-use mathlib.Core.Bool.{cond}
+use Prim.Native.Nat.{ℕ, suc, ◌≤◌}
+use mathlib.Core.Path.{◌≡◌, sym, subst, ◌∙◌}
 use native.Mathlib.Omega.{arith}
-use lib.Dec.{eqb}
 use lib.IntN.{ℤ, pos, ◌-ℤ◌}
 use Rattle.definitions.specs.Tropical.{Finite}
 use Rattle.definitions.specs.Problem.{Problem, Point}
-use Rattle.definitions.specs.Certificate.{Strategy, Reachable, raise, ArcBy, Leads, Arc, HasPick, PicksCount, RowLeads, RowArc, RowHasPick, RowPicksCount, AcceptedOptimal, AcceptedInfeasible, AcceptedUnbounded}
+use Rattle.definitions.specs.Certificate.{Strategy, raise, ArcBy, Leads, Arc, PicksCount, RowLeads, RowArc, AcceptedOptimal, AcceptedInfeasible, AcceptedUnbounded}
 use Rattle.definitions.proofs.Agree.{Agree, agree_feasible, agree_value}
 use Rattle.duality.specs.Picks.{NoneAbove}
 use Rattle.duality.proofs.Reach.{reach_keep}

@@ -2,20 +2,20 @@
 -- at t has a solution that is finite at variable 0 and at a variable of the second list. Such a solution is moved so that variable 0
 -- stands at 0.
 use Prim.Native.Nat.{ℕ, suc, ◌<◌}
-use mathlib.Core.Path.{◌≡◌, refl, sym, ap, ◌∙◌}
+use mathlib.Core.Path.{◌≡◌, refl, ap, ◌∙◌}
 use native.Mathlib.Omega.{arith}
 use native.Mathlib.Decide.{ℕ_discrete}
 use lib.IntN.{ℤ, pos, neg_ℤ, ◌+ℤ◌, +ℤ_invr}
 use lib.Signed.{◌≤ℤ◌}
-use Rattle.definitions.specs.Tropical.{Trop, fin, plus, largest, ◌⊑◌, Finite}
+use Rattle.definitions.specs.Tropical.{fin, plus, ◌⊑◌, Finite}
 use Rattle.definitions.specs.Problem as Problems
 use Rattle.definitions.specs.Problem.{Problem, Point, side, Keeps, Feasible, Counts, value, Attainable, ◌≼◌, between}
 use Rattle.definitions.specs.Certificate.{Anchor, Second, raise}
-use Rattle.definitions.proofs.Tropical.{plus_comm, plus_assoc, plus_zero, plus_is, largest_ext, largest_plus}
+use Rattle.definitions.proofs.Tropical.{plus_zero, plus_is}
 use Rattle.definitions.proofs.Values.{≼_trans, minus_raised, raised_minus}
 use Rattle.definitions.proofs.Counts.{counts_met, met_counts}
 use Rattle.definitions.proofs.Raise.{raised, unraised}
-use Rattle.duality.specs.System.{System, Solves, Meets, Joint, system_at}
+use Rattle.duality.specs.System.{System, Solves, Joint, system_at}
 use Rattle.duality.proofs.Solutions.{side_raised, solves_moved}
 
 -- ---- rows of the system and of the problem

@@ -1,7 +1,7 @@
 -- Laws of values that fall in place. A row keeps what `Falling` says and lowers the point. The point is at least the values, and
 -- where every row stands it is the values: from each variable arcs that attain its value lead to an exit, or they close a walk
 -- that does not weigh below zero.
-use Prim.Native.Nat.{ℕ, zero, suc, ◌≤◌, ◌<◌}
+use Prim.Native.Nat.{ℕ, zero, suc, ◌<◌}
 use mathlib.Core.Path.{◌≡◌, ap, sym, subst, ◌∙◌}
 use mathlib.Core.Logic.{◌⊎◌, inl, inr, ⊎_elim}
 use native.Mathlib.Omega.{arith}
@@ -14,12 +14,12 @@ use Rattle.definitions.specs.Certificate.{Strategy, Walk, stop, step}
 use Rattle.definitions.proofs.Whole.{whole}
 use Rattle.definitions.proofs.Tropical.{blank_or_finite, ⊑_refl, ⊑_trans, ⊑_of_eq, ⊑_of_not, ⊑_antisym, fin_below, finite_above, zero_plus, plus_twice, plus_mono, plus_cancel, plus_cancel_left, Parts, plus_above, larger_left, larger_right, larger_one, largest_above, largest_ext, Attains, largest_at}
 use Rattle.duality.specs.System.{System, side_of}
-use Rattle.duality.specs.Values.{value_at, difference, weight_by, exit_by, weights, exits, values, Policy, Fails}
+use Rattle.duality.specs.Values.{value_at, difference, weight_by, weights, exits, values, Policy, Fails}
 use Rattle.duality.specs.Gains.{Entry}
 use Rattle.duality.specs.Falling.{Falling, Stays, Falls, RowFalls}
-use Rattle.duality.proofs.Walks.{looped, walk_fold, walk_keep, walk_change}
-use Rattle.duality.proofs.Longest.{entries_end, exit_value, arc_value, value_under, value_mono, Stable, stable_potential, stable_exit}
-use Rattle.duality.proofs.Weights.{difference_whole, difference_largest, weight_picked, weight_terminal, exit_picked, exit_terminal, entries_arcs, arcs_entries, values_stable}
+use Rattle.duality.proofs.Walks.{looped, walk_fold, walk_change}
+use Rattle.duality.proofs.Longest.{exit_value, arc_value, value_under, Stable, stable_potential, stable_exit}
+use Rattle.duality.proofs.Weights.{difference_whole, difference_largest, weight_picked, exit_picked, exit_terminal, entries_arcs, arcs_entries, values_stable}
 use Rattle.duality.proofs.Policy.{Same, Lowered, still_negative, fails_finite, fails_falls, kept_same}
 
 -- ---- a point that a round does not lower

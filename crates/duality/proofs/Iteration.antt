@@ -5,7 +5,7 @@ use mathlib.Core.Path.{◌≡◌, refl, sym, ap, subst, ◌∙◌}
 use mathlib.Core.Logic.{◌⊎◌, inl, inr, ⊎_elim}
 use native.Mathlib.Omega.{arith}
 use Rattle.base.proofs.Numbers.{nat_le_or_lt, below_or_last}
-use Rattle.definitions.specs.Tropical.{Trop, bot, plus, largest, ◌⊑◌}
+use Rattle.definitions.specs.Tropical.{Trop, bot, plus, ◌⊑◌}
 use Rattle.definitions.specs.Problem.{Point}
 use Rattle.definitions.specs.Certificate.{Strategy}
 use Rattle.definitions.proofs.Tropical.{⊑_refl, ⊑_trans, ⊑_of_eq, plus_mono, largest_ext}

@@ -2,21 +2,21 @@
 -- the second side at x. Where −t is at most S and x solves the inequalities, x solves the system at t: its first side is at most 0.
 -- Else τ blocks at t from the second list, once a variable without a pick picks the objective: along an arc of the
 -- objective values fall by at least 1, so this is one more step of the policy iteration.
-use Prim.Native.Nat.{ℕ, zero, suc, ◌+◌, ◌*◌, ◌≤◌, ◌<◌}
+use Prim.Native.Nat.{ℕ, suc, ◌+◌, ◌*◌, ◌≤◌, ◌<◌}
 use mathlib.Core.Path.{◌≡◌, refl, ap, sym, subst, ◌∙◌}
 use mathlib.Core.Logic.{◌⊎◌, inl, inr, ⊎_elim}
 use native.Mathlib.Omega.{arith}
 use native.Mathlib.Nat.{mul-le-mul_right}
-use lib.IntN.{ℤ, pos, negsuc, nat_abs, neg_ℤ, ◌+ℤ◌, ◌-ℤ◌}
+use lib.IntN.{ℤ, pos, neg_ℤ, ◌+ℤ◌, ◌-ℤ◌}
 use lib.Signed.{◌≤ℤ◌, ◌<ℤ◌}
 use Rattle.base.proofs.Numbers.{nat_le_or_lt}
-use Rattle.definitions.specs.Tropical.{Trop, bot, fin, plus, largest, ◌⊑◌, blank_least, whole_least, Finite}
+use Rattle.definitions.specs.Tropical.{Trop, bot, fin, plus, ◌⊑◌, blank_least, whole_least, Finite}
 use Rattle.definitions.specs.Problem.{Problem, Point, side}
-use Rattle.definitions.specs.Certificate.{Strategy, Second, Walk, stop, step, Reachable, start, onward, raise}
+use Rattle.definitions.specs.Certificate.{Strategy, Second, Walk, stop, step, Reachable, start, onward}
 use Rattle.definitions.proofs.Whole.{up, down, whole, plus_read, minus_read, neg_read, abs_read}
-use Rattle.definitions.proofs.Tropical.{bot_not_fin, not_finite_bot, blank_or_finite, finite_above, fin_below, ⊑_refl, ⊑_trans, ⊑_of_eq, below_bot, plus_comm, plus_assoc, plus_zero, bot_plus, plus_fin, plus_parts, plus_mono, largest_above, largest_least, largest_ext, largest_plus}
+use Rattle.definitions.proofs.Tropical.{not_finite_bot, blank_or_finite, finite_above, fin_below, ⊑_refl, ⊑_trans, ⊑_of_eq, plus_zero, bot_plus, plus_fin, plus_parts, plus_mono, largest_above, largest_least, largest_ext}
 use Rattle.definitions.proofs.Raise.{raised, unraised}
-use Rattle.duality.specs.System.{System, side_of, Solves, Leads, Arc, HasPick, Blocks, system_at, rules_of}
+use Rattle.duality.specs.System.{side_of, Solves, Leads, Arc, HasPick, Blocks, system_at, rules_of}
 use Rattle.duality.specs.Values.{difference, weights, exits, values, Policy}
 use Rattle.duality.specs.Gains.{Entry}
 use Rattle.duality.specs.Within.{Within, lower}

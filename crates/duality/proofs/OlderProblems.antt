@@ -1,8 +1,8 @@
 -- Problems of an older layout stay (document 02, 2.2), for every older limit of leads: what is within it is within the limit of
 -- today, so the refusals are the same; and both pairs of outer trials are enough for such leads, so they decide alike.
 use Prim.Native.Nat.{ℕ, ◌≤◌}
-use mathlib.Core.Path.{◌≡◌, refl, sym, ◌∙◌}
-use mathlib.Core.Bool.{true, not}
+use mathlib.Core.Path.{◌≡◌, refl, ◌∙◌}
+use mathlib.Core.Bool.{true}
 use mathlib.Core.List.{List, [], ◌∷◌}
 use mathlib.Core.Logic.{◌↔◌, ⊎_elim}
 use native.Mathlib.Omega.{arith}
@@ -21,7 +21,6 @@ use Rattle.definitions.proofs.Refusals.{fails_clause, or_else_none, passes_claus
 use Rattle.definitions.proofs.Inputs.{header_none}
 use Rattle.definitions.proofs.Questions.{several_passes, leads_alone}
 use Rattle.definitions.proofs.Solved.{one_asked}
-use Rattle.duality.specs.Within.{Within, Enough}
 use Rattle.duality.specs.OlderProblems.{older_lead_limit, LeadsWithin, refusal_before, spans_by, top_by, lowest_by, Stays, OlderStay}
 use Rattle.duality.proofs.Classes.{attainable_decided, infeasible_exactly, unbounded_exactly, optimal_range}
 use Rattle.duality.proofs.SmallLeads.{leads_within, leads_enough, layout_within, layout_enough}

@@ -10,7 +10,7 @@ use lib.Signed.{◌≤ℤ◌, ◌<ℤ◌}
 use Rattle.definitions.specs.Tropical.{Trop, bot, fin, plus, ◌⊑◌, blank_least, whole_least, larger, largest, Finite}
 use Rattle.definitions.specs.Problem.{Point}
 use Rattle.definitions.specs.Certificate.{Strategy, Walk, stop, step}
-use Rattle.definitions.proofs.Whole.{whole, le_or_lt}
+use Rattle.definitions.proofs.Whole.{le_or_lt}
 use Rattle.definitions.proofs.Tropical.{blank_or_finite, ⊑_refl, ⊑_trans, ⊑_of_not, zero_plus, plus_twice, plus_mono, plus_cancel_left, largest_above, Attains, largest_attained}
 use Rattle.duality.specs.System.{System, Arc}
 use Rattle.duality.specs.Values.{value_at, weight_by, exit_by, weights, exits, values, Policy, Fails, Switched, Switch}

@@ -1,6 +1,6 @@
 -- Starts: the anchor, one variable, two starts as one, the variables of the second list, and what an answer's start means. What holds from a start holds from each part of it, from which no more is
 -- reached.
-use Prim.Native.Nat.{ℕ, zero, suc, ◌≤◌, ◌<◌}
+use Prim.Native.Nat.{ℕ, zero, suc, ◌<◌}
 use mathlib.Core.Path.{◌≡◌}
 use mathlib.Core.Logic.{◌⊎◌, inl, inr, ⊎_elim}
 use native.Mathlib.Omega.{arith}

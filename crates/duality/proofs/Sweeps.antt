@@ -12,7 +12,7 @@ use Rattle.definitions.specs.Certificate.{Walk, stop}
 use Rattle.definitions.proofs.Tropical.{⊑_refl, ⊑_trans, plus_mono, larger_left, larger_right, larger_least}
 use Rattle.duality.specs.Values.{value_at}
 use Rattle.duality.specs.Gains.{Entry, Gain}
-use Rattle.duality.specs.Sweeps.{turned, Potential, Swept, Fixed, Climbed}
+use Rattle.duality.specs.Sweeps.{turned, Swept, Fixed, Climbed}
 use Rattle.duality.proofs.Walks.{walk_back}
 use Rattle.duality.proofs.Longest.{entries_end, exit_value, round_least, still_stable, stable_potential, fixed_or_gains}
 

@@ -1,5 +1,5 @@
 -- Values that fall in place: a strategy with a point above its values, and what one row makes of both.
-use Rattle.std.specs.Prelude.{ℕ, suc, ◌≤◌, ◌<◌, ◌≡◌, ◌⊎◌, ℤ, pos, ◌<ℤ◌}
+use Rattle.std.specs.Prelude.{ℕ, suc, ◌<◌, ◌≡◌, ◌⊎◌, ℤ, pos, ◌<ℤ◌}
 use Rattle.definitions.specs.Tropical.{fin, plus, ◌⊑◌, Finite}
 use Rattle.definitions.specs.Problem.{Point}
 use Rattle.definitions.specs.Certificate.{Strategy, Walk}

@@ -1,6 +1,6 @@
 -- A system of two-sided tropical inequalities A x ≤ B x, its solutions, and the strategies of the two players:
 -- a strategy of variables (the paper's τ, player Min), which blocks, and one of rows (σ, player Max), which saves.
-use Rattle.std.specs.Prelude.{ℕ, suc, ◌≤◌, ◌<◌, ◌≡◌, Bool, true, ℤ, pos, ◌-ℤ◌, ◌≤ℤ◌, ◌<ℤ◌}
+use Rattle.std.specs.Prelude.{ℕ, suc, ◌<◌, ◌≡◌, ℤ, pos, ◌-ℤ◌, ◌≤ℤ◌, ◌<ℤ◌}
 use Rattle.definitions.specs.Tropical.{Trop, fin, plus, largest, ◌⊑◌, Finite}
 use Rattle.definitions.specs.Problem.{Problem, Point}
 use Rattle.definitions.specs.Certificate.{Strategy, Reachable, raise}

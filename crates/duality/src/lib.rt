@@ -1,1 +1,3 @@
+#![tactic(auto)]
+
 // The theory: antt only, in specs/ and proofs/.

@@ -1,5 +1,5 @@
 -- Plans in whole minutes and plans in d-th parts of a minute, each made from the other.
-use Rattle.std.specs.Prelude.{ℕ, ℤ, pos, ◌*ℤ◌}
+use Rattle.std.specs.Prelude.{ℕ, pos, ◌*ℤ◌}
 use Rattle.definitions.specs.Problem.{Problem, Point, Feasible, Counts, Value, minus_infinity, whole, plus_infinity, ◌≼◌, value}
 use Rattle.definitions.specs.Scaling.{times, scaled}
 use Rattle.scaling.specs.Floor.{rounded}

@@ -1,1 +1,3 @@
+#![tactic(auto)]
+
 // Parts of a minute gain nothing: antt only, in specs/ and proofs/.
