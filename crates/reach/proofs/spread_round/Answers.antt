@@ -16,13 +16,13 @@ loop-j-smaller c = omega arith
 
 pub loop-j-preserved : goal.loop-j-preserved
 loop-j-preserved c = (
-      omega arith,
-      omega arith,
-      elim c.if-spread-j.branch [
-        then-spread-j w ↦ rw (w.new-is, w.spread-is) (spreading_row c.loop-j.invariant.2 (omega arith) (omega arith) w.if-spread-j.true w.mark_row-more.ensures)
-        | else-spread-j w ↦ rw (w.new-is, w.spread-is) (spreading_skip c.loop-j.invariant.2 w.if-spread-j.false)
-      ],
-    )
+  omega arith,
+  omega arith,
+  elim c.if-spread-j.branch [
+    | then-spread-j w ↦ rw (w.new-is, w.spread-is) (spreading_row c.loop-j.invariant.2 (omega arith) (omega arith) w.if-spread-j.true w.mark_row-more.ensures)
+    | else-spread-j w ↦ rw (w.new-is, w.spread-is) (spreading_skip c.loop-j.invariant.2 w.if-spread-j.false)
+  ],
+)
 
 pub returns : goal.returns
 returns c = let e : c.loop-j.j ≡ c.args.width = omega arith in rw e at c.loop-j.invariant.2
