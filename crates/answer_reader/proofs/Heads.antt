@@ -4,7 +4,7 @@ use mathlib.Core.Path.{◌≡◌, ap, sym, ◌∙◌}
 use mathlib.Core.List.{List}
 use native.Mathlib.Omega.{arith}
 use Rattle.definitions.specs.Tropical.{Trop}
-use Rattle.definitions.specs.Bytes.{Outcome, gives, outcome}
+use Rattle.definitions.specs.Bytes.{gives, outcome}
 use Rattle.definitions.specs.AnswerRecord.{class_field, span_field, start_field}
 use Rattle.definitions.proofs.Outcomes.{outcome-none, outcome-some, outcome-gives, outcome_refusal}
 use Rattle.answer_reader.specs.AnswerReading.{told_by, head_of, HeadAt}

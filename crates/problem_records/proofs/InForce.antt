@@ -1,9 +1,9 @@
 -- The record in force: states judged one by one, its bytes filled row by row, and what it means: the problem of the record of kind 5,
 -- as a record of kind 1. Document 02, 2.10.
 use Prim.Native.Nat.{ℕ, zero, suc, ◌+◌, ◌*◌, ◌-◌, ◌/◌, ◌%◌, ◌≤◌, ◌<◌}
-use mathlib.Core.Path.{◌≡◌, refl, ap, sym, subst, ◌∙◌}
+use mathlib.Core.Path.{◌≡◌, refl, ap, sym, ◌∙◌}
 use mathlib.Core.Bool.{Bool, true, false, not, cond, ◌&&◌, ◌||◌}
-use mathlib.Core.Logic.{◌⊎◌, inl, inr, ⊎_elim}
+use mathlib.Core.Logic.{⊎_elim}
 use mathlib.Core.List.{List, [], ◌∷◌, append-nil}
 use native.Mathlib.Omega.{arith}
 use native.Mathlib.Nat.{mul-le-mul_left, mul-le-mul_right}
@@ -12,11 +12,11 @@ use lib.ListN.{length, get_or}
 use borrow.Author.Tests.{eq-eqb, ne_eqb, lt-ltb, le-ltb, leb-true}
 use Rattle.base.specs.Filled.{FilledFrom}
 use Rattle.base.proofs.Numbers.{nat_le_or_lt}
-use Rattle.definitions.specs.Limits.{highest_n, highest_m, lead_limit, length_bytes, short_bytes, signed_bytes, signed_half, problem_kind, states_kind, states_place, problem_header, problem_most, table_size}
-use Rattle.definitions.specs.Tropical.{Trop, bot}
-use Rattle.definitions.specs.Bytes.{Bytes, num_at, le, trop_field, trop_at, some_below, blank_or_within}
+use Rattle.definitions.specs.Limits.{highest_n, highest_m, length_bytes, short_bytes, signed_half, problem_kind, states_kind, states_place, problem_header, problem_most, table_size}
+use Rattle.definitions.specs.Tropical.{bot}
+use Rattle.definitions.specs.Bytes.{Bytes, num_at, le, trop_field, trop_at, some_below}
 use Rattle.definitions.specs.Offset.{off}
-use Rattle.definitions.specs.ProblemRecord.{kind_field, n_field, m_field, state_field, wrong_state, leads_place, row_place, left_from, right_from, left_place, right_place, suspended, header_bytes, list_of, problem_of, problem_size}
+use Rattle.definitions.specs.ProblemRecord.{kind_field, n_field, m_field, state_field, wrong_state, leads_place, row_place, left_from, right_from, left_place, right_place, suspended, header_bytes, problem_of, problem_size}
 use Rattle.definitions.specs.Questions.{rows_size}
 use Rattle.definitions.proofs.Bytes.{num_at_same}
 use Rattle.definitions.proofs.Agree.{Agree}

@@ -10,7 +10,7 @@ use lib.Dec.{leb}
 use lib.ListN.{length, get_or, get_or-eq_default}
 use borrow.Author.Tests.{le-leb, lt-leb, leb-true}
 use Rattle.base.proofs.Numbers.{nat_le_or_lt}
-use Rattle.definitions.specs.Limits.{highest_n, highest_m, problem_kind, lead_limit, signed_half, signed_full, table_size}
+use Rattle.definitions.specs.Limits.{highest_n, highest_m, lead_limit, signed_full, table_size}
 use Rattle.definitions.specs.Tropical.{bot}
 use Rattle.definitions.specs.Bytes.{Bytes, num_at, trop_at, blank_or_within}
 use Rattle.definitions.specs.Offset.{trop_of}

@@ -9,7 +9,7 @@ use native.Mathlib.Nat.{mul-le-mul_left, mul-le-mul_right}
 use lib.Dec.{eqb}
 use lib.ListN.{length, get_or, drop, length-drop, get_or-eq_default}
 use Rattle.base.proofs.Numbers.{nat_le_or_lt}
-use Rattle.definitions.specs.Limits.{highest_n, short_bytes, problem_kind, questions_kind, states_kind, states_place, problem_header, questions_header, leads_latest, questions_leads, signed_bytes}
+use Rattle.definitions.specs.Limits.{highest_n, short_bytes, problem_kind, questions_kind, states_kind, states_place, problem_header, questions_header, leads_latest, questions_leads}
 use Rattle.definitions.specs.Bytes.{Bytes, some_below, or_else, outcome}
 use Rattle.definitions.specs.ProblemRecord as Problems
 use Rattle.definitions.specs.ProblemRecord.{Kinds, checker_kinds, kind_field, n_field, m_field, count_field, leads_place, questions_asked, layout_of, row_place, left_place, right_place, leads_of, header_refusal, header_outcome, wrong_state, state_refused, lead_refused, blank_left, silent_refused, refusal_for, problem_refusal, problem_outcome}
@@ -24,8 +24,8 @@ use Rattle.definitions.proofs.Questions.{several_passes}
 use Rattle.records.specs.declared.problem.Header.{Header}
 use Rattle.records.specs.declared.problem.Header.TheVariants.{Told, Refused}
 use Rattle.records.specs.declared.problem.Layout.{Layout}
-use Rattle.records.specs.ProblemHeader.{layout_in, header_of}
-use Rattle.records.proofs.ProblemHeader.{HeaderFits, fits_of, header_refuses, header_told, answer_told_lem, answer_refused_lem}
+use Rattle.records.specs.ProblemHeader.{header_of}
+use Rattle.records.proofs.ProblemHeader.{HeaderFits, fits_of, header_told, answer_told_lem, answer_refused_lem}
 use Rattle.problem_records.specs.Tables.{run_fits, row_blank, states_refusal, states_outcome, leads_refusal, leads_outcome, cell, left_table, right_table, Laid, ProblemRead}
 use Rattle.problem_records.specs.Filling.{Framed, Tabled}
 use Rattle.problem_records.specs.InForce.{StatesHeld}

@@ -1,0 +1,10 @@
+use Rattle.answer_reader.proofs.Padding.{Filling}
+use Rattle.answer_reader.specs.Fields.{stamps_at}
+use Prim.Native.Nat.{◌≤◌, ◌-◌}
+use Rattle.answer_reader.proofs.answer.stamps_from.Given as goal
+
+abbrev pub invariant-loop-i : goal.invariant-loop-i
+invariant-loop-i l = (l.i ≤ l.count) × Filling 32 (stamps_at l.bytes l.count) l.i l.out
+
+abbrev pub decreases-loop-i : goal.decreases-loop-i
+decreases-loop-i l = l.count - l.i
