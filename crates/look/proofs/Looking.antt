@@ -2,40 +2,39 @@
 -- the tables.
 use Prim.Native.Nat.{ℕ, suc, ◌+◌, ◌*◌, ◌≤◌, ◌<◌}
 use mathlib.Core.Path.{◌≡◌, refl, sym, ap, ap₂, subst, ◌∙◌}
-use mathlib.Core.Logic.{◌⊎◌, inl, inr, ⊎_elim}
+use mathlib.Core.Logic.{inl, inr, ⊎_elim}
 use mathlib.Core.List.{List}
 use native.Mathlib.Omega.{arith}
 use native.Mathlib.Nat.{eq-zero-or-pos}
 use native.Mathlib.Numerals.{add-one}
 use lib.ListN.{get_or}
-use lib.IntN.{ℤ, pos, neg_ℤ, sub_ℕ}
+use lib.IntN.{ℤ, neg_ℤ}
 use lib.Signed.{◌≤ℤ◌}
 use borrow.Author.Tests.{eq-eqb, ne_eqb}
-use Rattle.base.proofs.Numbers.{nat_le_or_lt}
 use Rattle.definitions.specs.Limits.{signed_half, signed_full, lead_limit, span_limit}
 use Rattle.definitions.specs.Tropical.{Trop, bot, fin, plus, largest, ◌⊑◌, whole_least, Finite}
 use Rattle.definitions.specs.Problem.{Problem, Point, side, Attainable}
 use Rattle.definitions.specs.Certificate.{Strategy, Anchor, Second, start_of}
 use Rattle.definitions.specs.Offset.{trop_of}
 use Rattle.definitions.proofs.Whole.{whole, neg_read, subℕ_read}
-use Rattle.definitions.proofs.Tropical.{bot_not_fin, not_finite_bot, blank_or_finite, finite_above, fin_below, ⊑_trans, ⊑_of_eq, below_bot, plus_fin, plus_parts, largest_above, largest_ext, largest_at}
+use Rattle.definitions.proofs.Tropical.{bot_not_fin, not_finite_bot, blank_or_finite, finite_above, fin_below, ⊑_trans, ⊑_of_eq, plus_fin, plus_parts, largest_above, largest_ext, largest_at}
 use Rattle.definitions.proofs.Offset.{trop_zero, trop_fin}
-use Rattle.duality.specs.System.{System, side_of, Solves, Meets, Blocks, system_at, rules_of}
+use Rattle.duality.specs.System.{side_of, Solves, Blocks, system_at, rules_of}
 use Rattle.duality.specs.Values.{values, Policy}
-use Rattle.duality.specs.Within.{Within, lower}
-use Rattle.duality.specs.Look.{Capped, Far, second_at}
+use Rattle.duality.specs.Within.{lower}
+use Rattle.duality.specs.Look.{Far, second_at}
 use Rattle.duality.proofs.Starts.{blocks_from}
 use Rattle.duality.proofs.Attain.{joint_attainable}
 use Rattle.duality.proofs.Look.{look_solves, look_blocks, look_blank}
-use Rattle.policy_iteration.specs.Tables.{entry_of, system_of, point_of, pick_of, cap_of, cap_limit, side_most, high, highs, Tables}
+use Rattle.policy_iteration.specs.Tables.{entry_of, point_of, pick_of, cap_of, cap_limit, high, highs}
 use Rattle.policy_iteration.specs.Rounds.{SideIs}
 use Rattle.policy_iteration.specs.Steps.{Ended}
 use Rattle.policy_iteration.proofs.Low.{high_zero, high_whole, highs_at}
 use Rattle.search.specs.Trials.{whole_of, Trialled, PossibleBy}
 use Rattle.look.specs.declared.greatest.Look.{Look}
 use Rattle.look.specs.Frames.{Coefficients, Held}
-use Rattle.look.specs.Look.{level, CapsFor, start_for, rules_in, second_in, Under, Looks, Decided, Looked}
-use Rattle.duality.proofs.Agree.{Agree, agree_sym, agree_solves, agree_values, agree_policy}
+use Rattle.look.specs.Look.{level, CapsFor, start_for, rules_in, second_in, Under, Looks, Looked}
+use Rattle.duality.proofs.Agree.{agree_solves, agree_values, agree_policy}
 use Rattle.look.proofs.Tables.{held_within, caps_capped, agree_rules}
 use Rattle.look.proofs.SecondList.{number_finite, second_coefficient}
 

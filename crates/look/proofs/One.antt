@@ -7,16 +7,13 @@ use native.Mathlib.Omega.{arith}
 use native.Mathlib.Nat.{eq-zero-or-pos}
 use Rattle.base.proofs.Lists.{lists_same, filled_one}
 use Rattle.base.proofs.Numbers.{nat_le_or_lt}
-use Rattle.definitions.specs.Tropical.{bot}
-use Rattle.definitions.specs.Offset.{trop_of}
 use Rattle.definitions.proofs.Tropical.{bot_not_fin}
 use Rattle.definitions.proofs.Offset.{trop_fin, trop_of_injective}
 use Rattle.duality.proofs.Iteration.{side_same, values_same, iterated_one}
 use Rattle.policy_iteration.specs.Tables.{entry_of, pick_of}
-use Rattle.policy_iteration.specs.Steps.{Ended}
 use Rattle.look.specs.declared.greatest.Look.{Look}
-use Rattle.look.specs.Frames.{shifted, Raised}
-use Rattle.look.specs.Look.{level, cap_for, CapsFor, start_for, rules_in, second_in, found_values, Under, Looks}
+use Rattle.look.specs.Frames.{Raised}
+use Rattle.look.specs.Look.{start_for, rules_in, second_in, found_values, Under, Looks}
 use Rattle.look.specs.Point.{rows_in, PointFor}
 use Rattle.look.specs.SecondList.{SecondIs}
 

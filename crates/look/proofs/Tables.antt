@@ -1,20 +1,20 @@
 -- Laws of problems in tables: their frames, the objective's row raised, caps, and the systems that the tables hold.
-use Prim.Native.Nat.{ℕ, suc, ◌+◌, ◌*◌, ◌-◌, ◌≤◌, ◌<◌}
+use Prim.Native.Nat.{ℕ, ◌+◌, ◌*◌, ◌-◌, ◌≤◌, ◌<◌}
 use mathlib.Core.Path.{◌≡◌, refl, sym, ap, subst, ◌∙◌}
-use mathlib.Core.Logic.{◌⊎◌, ⊎_elim}
+use mathlib.Core.Logic.{⊎_elim}
 use mathlib.Core.List.{List}
 use native.Mathlib.Omega.{arith}
 use native.Mathlib.Nat.{eq-zero-or-pos}
 use native.Mathlib.Numerals.{add-one}
-use lib.ListN.{length, get_or, set, replicate, length-set, length-replicate, get_or-replicate}
+use lib.ListN.{length, get_or, set, length-set, length-replicate, get_or-replicate}
 use lib.Seq.{get_or-set_same, get_or-set_other}
-use lib.IntN.{ℤ, pos, nat_abs, neg_ℤ, sub_ℕ}
+use lib.IntN.{ℤ, pos, neg_ℤ}
 use borrow.Author.Tests.{ne_eqb}
 use Rattle.base.proofs.Numbers.{nat_le_or_lt}
-use Rattle.definitions.specs.Limits.{signed_half, lead_limit, span_limit}
-use Rattle.definitions.specs.Tropical.{Trop, bot, fin, plus, Finite}
+use Rattle.definitions.specs.Limits.{signed_half, lead_limit}
+use Rattle.definitions.specs.Tropical.{Trop, bot, fin, plus}
 use Rattle.definitions.specs.Problem.{Problem}
-use Rattle.definitions.specs.Certificate.{Second, raise}
+use Rattle.definitions.specs.Certificate.{raise}
 use Rattle.definitions.specs.Offset.{trop_of}
 use Rattle.definitions.proofs.Whole.{whole, neg_read, subℕ_read}
 use Rattle.definitions.proofs.Tropical.{bot_not_fin, plus_zero}
@@ -25,7 +25,7 @@ use Rattle.duality.specs.Within.{Within}
 use Rattle.duality.specs.Look.{Capped}
 use Rattle.records.specs.Decoded.{Near, Decoded}
 use Rattle.policy_iteration.specs.Tables.{entry_of, system_of, cap_of, raised_limit, cap_limit, low_half, high, Table, Caps, Tables}
-use Rattle.policy_iteration.specs.Ends.{RowEnds, EndsOf}
+use Rattle.policy_iteration.specs.Ends.{EndsOf}
 use Rattle.policy_iteration.proofs.Low.{high_whole}
 use Rattle.policy_iteration.proofs.Small.{near_small}
 use Rattle.policy_iteration.proofs.Steps.{table_raised}

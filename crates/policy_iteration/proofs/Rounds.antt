@@ -2,13 +2,13 @@
 use Prim.Native.Nat.{ℕ, suc, ◌+◌, ◌*◌, ◌-◌, ◌≤◌, ◌<◌}
 use mathlib.Core.Path.{◌≡◌, sym, ap, subst, ◌∙◌}
 use mathlib.Core.Bool.{true, false}
-use mathlib.Core.Logic.{◌⊎◌, ⊎_elim}
+use mathlib.Core.Logic.{⊎_elim}
 use mathlib.Core.List.{List, []}
 use native.Mathlib.Omega.{arith}
 use native.Mathlib.Nat.{mul-le-mul_right}
 use native.Mathlib.Numerals.{add-one}
 use lib.ListN.{get_or, length-map}
-use lib.IntN.{ℤ, pos, sub_ℕ, ◌-ℤ◌}
+use lib.IntN.{pos, sub_ℕ, ◌-ℤ◌}
 use Rattle.definitions.proofs.Whole.{whole, minus_read}
 use borrow.Author.Tests.{lt-ltb, le-ltb}
 use Rattle.base.specs.Filled.{Filled}

@@ -26,7 +26,7 @@ use Rattle.policy_iteration.specs.Rounds.{SideIs, ValuesIs}
 use Rattle.policy_iteration.specs.Steps.{Gives, given_by, LoweredPlace, LoweredBy, Passing, Passed, AllPicked, Turned, Ended}
 use Rattle.policy_iteration.proofs.Low.{high_zero, high_whole, high_blank, high_mono, high_strict, highs_at}
 use Rattle.policy_iteration.proofs.Small.{Small, near_small, near_abs, small_near, small_more, small_plus, small_difference, small_largest}
-use Rattle.policy_iteration.proofs.Rounds.{within_more, within_lows, level_ranged, level_lows, level_within}
+use Rattle.policy_iteration.proofs.Rounds.{within_more, level_ranged, level_lows, level_within}
 use Rattle.policy_iteration.proofs.Given.{gives_held, gives_fails, gives_stands}
 use Rattle.policy_iteration.proofs.Lowering.{lesser_first, lesser_second, chosen_first, chosen_second}
 

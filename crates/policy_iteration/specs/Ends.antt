@@ -1,5 +1,5 @@
 -- The ends of a row: two places such that the others are blank.
-use Rattle.std.specs.Prelude.{ℕ, ◌+◌, ◌*◌, ◌/◌, ◌%◌, ◌^◌, ◌≤◌, ◌<◌, ◌≡◌, cond, List, eqb, length, get_or}
+use Rattle.std.specs.Prelude.{ℕ, ◌+◌, ◌*◌, ◌/◌, ◌%◌, ◌^◌, ◌<◌, ◌≡◌, cond, List, eqb, length, get_or}
 use Rattle.definitions.specs.Limits.{stride, arcs_size, table_rows}
 use Rattle.duality.specs.Height.{total}
 

@@ -1,5 +1,5 @@
 -- What the rounds that find the values of a strategy make.
-use Rattle.std.specs.Prelude.{ℕ, ◌+◌, ◌*◌, ◌-◌, ◌≤◌, ◌<◌, ◌≡◌, cond, List, ltb, get_or, pos}
+use Rattle.std.specs.Prelude.{ℕ, ◌+◌, ◌*◌, ◌-◌, ◌≤◌, ◌<◌, ◌≡◌, cond, List, ltb, get_or}
 use Rattle.base.specs.Filled.{Filled}
 use Rattle.definitions.specs.Limits.{signed_half, stride}
 use Rattle.definitions.specs.Tropical.{Trop, fin, plus, largest}
@@ -8,7 +8,7 @@ use Rattle.definitions.specs.Certificate.{Strategy}
 use Rattle.definitions.specs.Offset.{trop_of}
 use Rattle.duality.specs.System.{System, side_of}
 use Rattle.duality.specs.Values.{difference, exits, values_after, values}
-use Rattle.policy_iteration.specs.Tables.{entry_of, point_of, low_half, high, highs, low_fold, side_most, side_least}
+use Rattle.policy_iteration.specs.Tables.{entry_of, point_of, high, highs, low_fold, side_most, side_least}
 
 -- A sum of a coefficient and a value as a value: blank where one of them was, which is where the sum is below the limit.
 unfoldable pub folded_at : ℕ → ℕ → ℕ

@@ -1,6 +1,5 @@
 -- What rows that lower values in place make of a point and a strategy, and what the iteration ends with.
 use Rattle.std.specs.Prelude.{ℕ, ◌+◌, ◌*◌, ◌-◌, ◌≤◌, ◌<◌, ◌≡◌, cond, ltb, ◌⊎◌, List, length, get_or}
-use Rattle.base.specs.Filled.{Filled}
 use Rattle.definitions.specs.Limits.{lead_limit, signed_half, stride, table_size, table_rows}
 use Rattle.definitions.specs.Offset.{trop_of}
 use Rattle.duality.specs.System.{System, Solves}

@@ -4,7 +4,7 @@ use mathlib.Core.Path.{◌≡◌, refl, ap}
 use mathlib.Core.Logic.{⊎_elim, ◌↔◌}
 use native.Mathlib.Omega.{arith}
 use lib.Dec.{leb}
-use lib.IntN.{ℤ, nat_abs, neg_ℤ}
+use lib.IntN.{nat_abs, neg_ℤ}
 use lib.Signed.{◌≤ℤ◌}
 use borrow.Author.Tests.{leb-true, leb-false}
 use Rattle.base.specs.Decides.{Decides}

@@ -1,0 +1,13 @@
+use native.Mathlib.Omega.{arith}
+use Rattle.base.proofs.Filled.{filled_none, filled_more, filled_end}
+use mathlib.Core.Path.{refl}
+use Rattle.look.proofs.frame.row_of.Goals as goal
+
+pub loop-l-init : goal.loop-l-init
+loop-l-init c = (omega arith, filled_none 32)
+
+pub loop-l-preserved : goal.loop-l-preserved
+loop-l-preserved c = (omega arith, filled_more c.loop-l.invariant.1 (omega arith) refl)
+
+pub returns : goal.returns
+returns c = filled_end c.loop-l.invariant.1 c.loop-l.invariant.0 c.loop-l-test.false
