@@ -1,5 +1,5 @@
 -- Laws of the marked variables in order: none yet, one more variable looked at.
-use Rattle.std.proofs.Common.{◌≡◌, ℕ, zero, suc, ◌+◌, ◌<◌, ◌≤◌, cond, eqb, List, length, get_or, set, replicate, sym, refl, ◌∙◌, subst, ⊎_elim, eq-zero-or-pos, add-one, arith, length-set, eq-eqb, ne_eqb}
+use Rattle.std.proofs.Common.{◌≡◌, ℕ, zero, suc, ◌+◌, ◌<◌, ◌≤◌, cond, eqb, List, length, get_or, set, replicate, sym, refl, ◌∙◌, subst, ⊎_elim, eq-zero-or-pos, arith, length-set, eq-eqb, ne_eqb}
 use Rattle.base.proofs.Numbers.{nat_le_or_lt, below_or_last}
 use Rattle.base.proofs.Filled.{set_here, set_there}
 use Rattle.reach.specs.Marks.{Marked}

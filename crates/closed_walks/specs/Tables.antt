@@ -1,6 +1,6 @@
 -- What the tests ask of the two tables of a problem and of picks: lengths and ranges.
 use Rattle.std.specs.Prelude.{◌≡◌, ℕ, suc, ◌<◌, ◌≤◌, List, length, slice_index}
-use Rattle.definitions.specs.Limits.{highest_n, highest_m, lead_limit, span_limit, table_size, stride, table_rows}
+use Rattle.definitions.specs.Limits.{highest_n, highest_m, lead_limit, span_limit, table_size, table_rows}
 use Rattle.records.specs.Decoded.{Near}
 
 -- Two tables of coefficients for n + 1 variables and m + 1 rows, whatever problem they hold.

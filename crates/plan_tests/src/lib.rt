@@ -1,4 +1,6 @@
 // A point at the rows of a problem, which are read where they stand: the sides of a row, the rules, the value.
+#![tactic(auto)]
+
 ghost use Rattle.std.specs.Prelude.{◌≡◌, cond, false, List, ℕ, suc, ◌+◌, ◌*◌, ◌≤◌, ◌<◌, ltb, length, ℤ};
 ghost use Rattle.base.specs.Decides.{Decides};
 ghost use Rattle.definitions.specs.Limits.{stamp_limit, signed_full, stride, signed_bytes};

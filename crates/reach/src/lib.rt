@@ -1,4 +1,6 @@
 // Which variables a start reaches, along a table of arcs: 32 rows of 32, row j for the arcs from variable j; 0 is no arc.
+#![tactic(auto)]
+
 ghost use Rattle.std.specs.Prelude.{◌≡◌, ◌+◌, ◌*◌, ◌≤◌, ◌<◌, length};
 ghost use Rattle.definitions.specs.Limits.{stride, arcs_size};
 ghost use Rattle.reach.specs.Marks.{Flags, Anchored, AnchoredAnd, Reached};

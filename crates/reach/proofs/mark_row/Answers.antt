@@ -1,7 +1,6 @@
 use Rattle.reach.proofs.Marks.{row_none, row_more}
 use mathlib.Core.Path.{◌≡◌}
 use native.Mathlib.Omega.{arith}
-use Prim.Native.Nat.{◌-◌}
 use Rattle.reach.proofs.mark_row.Goals as goal
 
 pub loop-l-init : goal.loop-l-init

@@ -1,6 +1,5 @@
 use Rattle.base.proofs.Filled.{filled_none, filled_more, filled_end}
 use native.Mathlib.Omega.{arith}
-use Prim.Native.Nat.{◌-◌}
 use Rattle.reach.proofs.marks_of.Goals as goal
 
 pub loop-l-init : goal.loop-l-init

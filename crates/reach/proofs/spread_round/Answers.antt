@@ -1,7 +1,6 @@
 use Rattle.reach.proofs.Marks.{spreading_none, spreading_skip, spreading_row}
 use Rattle.std.proofs.Common.{◌≡◌}
 use native.Mathlib.Omega.{arith}
-use Prim.Native.Nat.{◌-◌}
 use Rattle.reach.proofs.spread_round.Goals as goal
 use Rattle.reach.proofs.spread_round.Goals.{then-spread-j, else-spread-j}
 

@@ -1,4 +1,3 @@
-use Prim.Native.Nat.{◌-◌}
 use native.Mathlib.Omega.{arith}
 use Rattle.definitions.proofs.Marks.{differ_more, differ_here, same_byte, says_yes, says_no}
 use Rattle.reach.proofs.compare.rest_differs.Goals as goal

@@ -1,0 +1,12 @@
+use Rattle.std.proofs.Common.{◌≡◌, refl, arith, length-set}
+use Rattle.base.proofs.Filled.{run_none, run_more}
+use Rattle.closed_walks.proofs.arcs.fill_none.Goals as goal
+
+pub loop-l-init : goal.loop-l-init
+loop-l-init c = (omega arith, refl, run_none _ _ _)
+
+pub loop-l-preserved : goal.loop-l-preserved
+loop-l-preserved c = (omega arith, simp length-set (omega arith), run_more c.loop-l.invariant.2 (omega arith) refl)
+
+pub returns : goal.returns
+returns c = let e : c.loop-l.l ≡ c.args.width = omega arith in rw e at c.loop-l.invariant.2
