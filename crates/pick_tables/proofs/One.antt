@@ -6,13 +6,12 @@ use mathlib.Core.List.{List}
 use native.Mathlib.Omega.{arith}
 use native.Mathlib.Nat.{eq-zero-or-pos}
 use lib.ListN.{get_or}
-use borrow.Author.Tests.{eq-eqb, ne_eqb}
+use borrow.Author.Tests.{ne_eqb}
 use Rattle.base.proofs.Numbers.{nat_le_or_lt, positive}
 use Rattle.base.proofs.Lists.{filled_one}
-use Rattle.reach.specs.Marks.{Led, Begins}
+use Rattle.reach.specs.Marks.{Led}
 use Rattle.reach.proofs.One.{SameBegin, reached_one}
-use Rattle.policy_iteration.specs.Rounds.{sums}
-use Rattle.pick_tables.specs.Shown.{shown_pick, arc_by, VariablePicks, RowTo, RowArcIs, RowArcs, UsedBy, UsedIs, RowPicks, FirstHighest, InducedRows}
+use Rattle.pick_tables.specs.Shown.{shown_pick, arc_by, VariablePicks, RowArcs, UsedBy, UsedIs, RowPicks, FirstHighest, InducedRows}
 
 -- ---- classes 1 and 3
 
