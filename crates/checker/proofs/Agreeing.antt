@@ -1,16 +1,13 @@
 -- Lists that hold a point or picks: what is accepted is read within the counts alone.
-use Prim.Native.Nat.{ℕ, zero, suc, ◌≤◌, ◌<◌}
-use mathlib.Core.Path.{◌≡◌, refl, ap, sym, ◌∙◌}
+use Prim.Native.Nat.{ℕ, suc, ◌≤◌, ◌<◌}
+use mathlib.Core.Path.{◌≡◌, ap, sym, ◌∙◌}
 use mathlib.Core.Bool.{true}
-use mathlib.Core.List.{List, [], ◌∷◌}
-use mathlib.Core.Logic.{⊎_elim}
+use mathlib.Core.List.{List}
 use native.Mathlib.Omega.{arith}
 use lib.Dec.{leb}
-use lib.ListN.{length, get_or, length-append, get_or-append}
-use lib.Seq.{get_or_at}
+use lib.ListN.{length, get_or}
 use lib.IntN.{ℤ, pos}
 use borrow.Author.Tests.{leb-true, le-leb}
-use Rattle.base.proofs.Numbers.{nat_le_or_lt}
 use Rattle.definitions.specs.Tropical.{Trop, bot, plus}
 use Rattle.definitions.specs.Problem.{Problem, Point, Feasible, side, value}
 use Rattle.definitions.specs.Certificate.{Strategy, Leads, Arc, PicksCount, BelowZero, RowLeads, RowArc, AcceptedOptimal, AcceptedInfeasible, AcceptedUnbounded}

@@ -6,9 +6,8 @@ use mathlib.Core.Logic.{⊎_elim}
 use native.Mathlib.Omega.{arith}
 use Rattle.definitions.specs.Tropical.{Finite}
 use Rattle.definitions.specs.Problem.{Problem}
-use Rattle.definitions.specs.Bytes.{Bytes}
 use Rattle.definitions.specs.Certificate.{Anchor, Second, start_of, AnchorAnd}
-use Rattle.definitions.specs.AnswerRecord.{Answer, highest_pick, pick_count, answer_refusal, answer_of}
+use Rattle.definitions.specs.AnswerRecord.{highest_pick, pick_count, answer_refusal, answer_of}
 use Rattle.definitions.specs.ProblemRecord.{problem_of}
 use Rattle.definitions.specs.Verdict.{Verdict, Accepted, optimal, unbounded, infeasible, strategy_of}
 use Rattle.definitions.proofs.Agree.{Agree, agree_sym}

@@ -1,19 +1,19 @@
 -- Long inputs: what is decided from the first bytes and the size holds of every input that begins so.
-use Prim.Native.Nat.{ℕ, zero, suc, ◌+◌, ◌-◌, ◌≤◌, ◌<◌}
+use Prim.Native.Nat.{ℕ, suc, ◌+◌, ◌-◌, ◌≤◌, ◌<◌}
 use mathlib.Core.Path.{◌≡◌, refl, ap, sym, ◌∙◌}
-use mathlib.Core.Bool.{false, ◌&&◌}
+use mathlib.Core.Bool.{◌&&◌}
 use mathlib.Core.List.{List}
 use mathlib.Core.Logic.{⊎_elim}
 use native.Mathlib.Omega.{arith}
 use native.Mathlib.Nat.{eq-zero-or-pos}
 use lib.Dec.{eqb}
-use lib.ListN.{length, get_or, take, drop, length-take, length-drop}
-use lib.Seq.{get_or-take, get_or-drop, length-take-le, ext_get_or, take_all}
-use borrow.Author.Tests.{lt-ltb, le-ltb, eqb-true, ne_eqb}
+use lib.ListN.{length, get_or, take, drop, length-drop}
+use lib.Seq.{get_or-take, get_or-drop, length-take-le, ext_get_or}
+use borrow.Author.Tests.{eqb-true}
 use Rattle.base.proofs.Numbers.{nat_le_or_lt}
 use Rattle.definitions.specs.Limits.{kept_bytes, length_bytes, problem_header, answer_header, answer_most, highest_n, highest_m, answer_kind, states_most}
 use Rattle.definitions.specs.Tropical.{Trop}
-use Rattle.definitions.specs.Bytes.{num_at, Outcome, outcome}
+use Rattle.definitions.specs.Bytes.{outcome}
 use Rattle.definitions.specs.ProblemRecord.{checker_kinds, length_field, kind_field, n_field, m_field, count_field, questions_asked, header_refusal, header_outcome, problem_refusal, refusal_for, meant}
 use Rattle.definitions.specs.AnswerRecord.{known_class, start_fits, class_field, span_field, start_field, answer_size, answer_header_refusal, answer_header_judged, answer_header_outcome, answer_refusal}
 use Rattle.definitions.specs.Verdict.{Verdict, refused, check_refusal, Judged}

@@ -5,7 +5,6 @@ use mathlib.Core.Bool.{not}
 use mathlib.Core.List.{List}
 use native.Mathlib.Omega.{arith}
 use lib.Dec.{eqb}
-use lib.ListN.{get_or}
 use Rattle.base.specs.Decides.{Decides}
 use Rattle.base.proofs.Decides.{decides_as}
 use Rattle.definitions.specs.Certificate.{Second, start_of}

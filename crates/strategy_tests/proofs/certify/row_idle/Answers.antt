@@ -2,7 +2,6 @@ use Rattle.base.proofs.Numbers.{positive}
 use Rattle.base.proofs.Decides.{said_yes, said_no}
 use borrow.Author.Count.{below_more}
 use native.Mathlib.Omega.{arith}
-use Prim.Native.Nat.{◌-◌}
 use Rattle.strategy_tests.proofs.certify.row_idle.Goals as goal
 use Rattle.strategy_tests.proofs.certify.row_idle.Goals.{then-marks-j-ne0+else-left-base-ne0, else-marks-j-ne0}
 

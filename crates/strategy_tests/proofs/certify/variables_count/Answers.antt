@@ -1,7 +1,6 @@
 use Rattle.base.proofs.Decides.{said_yes, said_no}
 use borrow.Author.Count.{below_more}
 use native.Mathlib.Omega.{arith}
-use Prim.Native.Nat.{◌-◌}
 use Rattle.strategy_tests.proofs.certify.variables_count.Goals as goal
 
 pub loop-i-init : goal.loop-i-init
