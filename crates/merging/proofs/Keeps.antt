@@ -1,27 +1,25 @@
 -- What is proved of merging: the plan that stands in the buffer is the merged one, its stamps have the form of class 1, it keeps the rules, and
 -- where both count, it counts and its span is at most the greater of the two; and there is one result alone.
-use Prim.Native.Nat.{ℕ, zero, suc, ◌+◌, ◌*◌, ◌≤◌, ◌<◌}
+use Prim.Native.Nat.{ℕ, suc, ◌+◌, ◌*◌, ◌≤◌, ◌<◌}
 use mathlib.Core.Path.{◌≡◌, refl, ap, sym, ◌∙◌, fun_ext}
-use mathlib.Core.Bool.{Bool, true, false, cond, and-eq-true_iff}
+use mathlib.Core.Bool.{true, false, and-eq-true_iff}
 use mathlib.Core.List.{List, [], ◌∷◌, map, append-nil}
 use mathlib.Core.Logic.{⊎_elim}
 use native.Mathlib.Omega.{arith}
-use lib.Dec.{eqb}
 use lib.ListN.{length, get_or, take, drop, length-map, get_or-eq_default}
-use lib.IntN.{ℤ, pos, neg_ℤ, negsuc, nat_abs, ◌+ℤ◌}
+use lib.IntN.{ℤ, pos, neg_ℤ, nat_abs, ◌+ℤ◌}
 use lib.Signed.{◌≤ℤ◌}
 use borrow.Author.Tests.{eq-eqb, eqb-true, le-leb}
 use Rattle.base.proofs.Numbers.{nat_le_or_lt}
-use Rattle.definitions.specs.Limits.{stamp_limit, signed_bytes, signed_half, merged_most}
+use Rattle.definitions.specs.Limits.{stamp_limit, signed_bytes}
 use Rattle.definitions.specs.Tropical.{Trop, bot, fin, plus, larger}
-use Rattle.definitions.specs.Problem.{Problem, Point, Feasible}
-use Rattle.definitions.specs.Bytes.{fields, field_of, trop_field, nums_at, put, all, blank_or_within, Outcome, refusal, gives}
+use Rattle.definitions.specs.Bytes.{fields, field_of, trop_field, nums_at, all, blank_or_within, Outcome, refusal, gives}
 use Rattle.definitions.specs.ProblemRecord.{n_field, problem_refusal, problem_of, list_of}
 use Rattle.definitions.specs.AnswerRecord.{is_zero, stamps_fit, written}
 use Rattle.definitions.specs.Verdict.{point_of}
-use Rattle.definitions.specs.Merging.{plan_stamps, plan_of, plan_fits, above_zero, merged, merged_plan, merged_bytes, merge_refusal, KeepsRules, BothKeep, early, some_early, Merges, turned_away, rule_broken, too_early, stamps, MergedWell, InBuffer, MergingKeeps}
+use Rattle.definitions.specs.Merging.{plan_stamps, plan_of, plan_fits, above_zero, merged_plan, merged_bytes, merge_refusal, BothKeep, early, some_early, Merges, turned_away, rule_broken, too_early, stamps, MergedWell, InBuffer, MergingKeeps}
 use Rattle.definitions.proofs.Whole.{whole, plus_read, neg_read, abs_read, abs_show}
-use Rattle.definitions.proofs.Tropical.{bot_plus, larger_one, plus_fin, plus_bot, bot_not_fin, blank_or_finite, fin_injective}
+use Rattle.definitions.proofs.Tropical.{bot_plus, larger_one, plus_fin, bot_not_fin, fin_injective}
 use Rattle.definitions.proofs.Bytes.{all_true, length_fields, length_nums_at, nums_fields}
 use Rattle.definitions.proofs.Put.{take_put, drop_put}
 use Rattle.definitions.proofs.Offset.{within_size}

@@ -1,19 +1,19 @@
 -- The later of two stamps, the second moved back: when it is below the least stamp, and its offset number.
-use Prim.Native.Nat.{ℕ, zero, suc, ◌+◌, ◌-◌, ◌≤◌, ◌<◌}
+use Prim.Native.Nat.{ℕ, ◌+◌, ◌-◌, ◌≤◌, ◌<◌}
 use mathlib.Core.Path.{◌≡◌, refl, ap, sym, subst, ◌∙◌}
 use mathlib.Core.Bool.{Bool, true, false, not, cond}
 use mathlib.Core.Logic.{⊎_elim}
 use native.Mathlib.Omega.{arith}
-use lib.Dec.{ltb, leb, T}
+use lib.Dec.{ltb, T}
 use lib.IntN.{ℤ, pos, neg_ℤ, sub_ℕ, ◌+ℤ◌}
 use lib.Signed.{◌≤ℤ◌, ◌<ℤ◌, le_z}
 use borrow.Author.Tests.{lt-ltb, le-ltb, le-leb, lt-leb}
 use Rattle.base.proofs.Numbers.{nat_le_or_lt, same_or_not}
-use Rattle.definitions.specs.Limits.{stamp_limit, signed_half, signed_full, word_half, word_values}
+use Rattle.definitions.specs.Limits.{stamp_limit, signed_half, word_half, word_values}
 use Rattle.definitions.specs.Tropical.{Trop, bot, fin, plus, larger, ◌⊑◌, whole_least}
 use Rattle.definitions.specs.Offset.{trop_of}
 use Rattle.definitions.specs.Merging.{shift_of, above_zero, early}
-use Rattle.definitions.proofs.Whole.{up, down, whole, le_or_lt, plus_read, neg_read, subℕ_read}
+use Rattle.definitions.proofs.Whole.{whole, le_or_lt, plus_read, neg_read, subℕ_read}
 use Rattle.definitions.proofs.Tropical.{⊑_refl, ⊑_trans, ⊑_of_eq, ⊑_antisym, finite_above, fin_below, plus_fin, bot_plus, larger_left, larger_least}
 use Rattle.definitions.proofs.Offset.{trop_zero, trop_fin, trop_read, trop_show, trop_larger}
 use Rattle.records.specs.Decoded.{Near}

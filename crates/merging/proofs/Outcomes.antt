@@ -1,9 +1,8 @@
 -- From what the steps leave to what merging answers on bytes.
 use Prim.Native.Nat.{ℕ, zero, suc, ◌+◌, ◌*◌, ◌≤◌, ◌<◌}
-use mathlib.Core.Path.{◌≡◌, refl, ap, sym, subst, ◌∙◌}
+use mathlib.Core.Path.{◌≡◌, refl, ap, sym, ◌∙◌}
 use mathlib.Core.Bool.{Bool, true, false, not, cond}
 use mathlib.Core.List.{List, [], ◌∷◌, map}
-use mathlib.Core.Logic.{⊎_elim}
 use native.Mathlib.Omega.{arith}
 use lib.ListN.{length, get_or, take, length-map}
 use lib.Dec.{ltb}
@@ -12,12 +11,12 @@ use lib.Seq.{get_or-take, length-take-le, ext_get_or}
 use borrow.Author.Tests.{lt-ltb, le-ltb}
 use Rattle.base.specs.Decides.{Decides}
 use Rattle.base.specs.Filled.{Filled}
-use Rattle.definitions.specs.Limits.{highest_n, signed_bytes, signed_full, stride, merged_most, refused_shift, refused_rule, refused_early}
+use Rattle.definitions.specs.Limits.{highest_n, signed_bytes, signed_full, stride, merged_most}
 use Rattle.definitions.specs.Tropical.{Trop, bot}
-use Rattle.definitions.specs.Problem.{Problem, Point, side, Keeps}
-use Rattle.definitions.specs.Bytes.{Bytes, fields, trop_field, field_of, put, some_below, or_else, Outcome, refusal, gives}
+use Rattle.definitions.specs.Problem.{Problem, Point, side}
+use Rattle.definitions.specs.Bytes.{Bytes, fields, trop_field, field_of, put, or_else, Outcome}
 use Rattle.definitions.specs.Offset.{trop_of, off}
-use Rattle.definitions.specs.ProblemRecord.{checker_kinds, n_field, m_field, layout_of, problem_refusal, problem_outcome, WithinLayout, problem_of, list_of}
+use Rattle.definitions.specs.ProblemRecord.{checker_kinds, n_field, layout_of, problem_refusal, problem_outcome, WithinLayout, problem_of, list_of}
 use Rattle.definitions.specs.AnswerRecord.{written}
 use Rattle.definitions.specs.Merging as Merging
 use Rattle.definitions.specs.Merging.{plan_of, plan_fits, shift_of, above_zero, merged_plan, merged_bytes, merge_refusal, KeepsRules, BothKeep, early, some_early, Merges}
@@ -31,7 +30,6 @@ use Rattle.records.specs.declared.problem.Header.{Header}
 use Rattle.records.specs.declared.problem.Layout.{Layout}
 use Rattle.records.specs.declared.problem.Header.TheVariants as Headers
 use Rattle.records.specs.ProblemHeader.{header_of, problem_refused}
-use Rattle.records.specs.Decoded.{Near, InTables}
 use Rattle.records.specs.Stamps.{Stamped, stamps_point}
 use Rattle.records.proofs.ProblemHeader.{answer_refused_lem}
 use Rattle.problem_records.specs.Tables.{ProblemRead}
@@ -39,11 +37,11 @@ use Rattle.problem_records.proofs.LeadTables.{problem_decoded}
 use Rattle.problem_records.proofs.ReadProblem.{told_of}
 use Rattle.answer_reader.specs.Fields.{Padded}
 use Rattle.answer_reader.proofs.Passing.{map_at}
-use Rattle.policy_iteration.specs.Tables.{raised_limit, Table, Tables}
+use Rattle.policy_iteration.specs.Tables.{Tables}
 use Rattle.merging.specs.Plans.{numbers_in, plans_judged, pair_judged, back_by}
-use Rattle.merging.specs.Outcome.{merged_of, Read, Posed, Kept, Wrote, below, above, joined, joined_early}
+use Rattle.merging.specs.Outcome.{merged_of, Read, Wrote, below, above, joined, joined_early}
 use Rattle.merging.specs.declared.merge.Merged.TheVariants as Results
-use Rattle.merging.proofs.Plans.{PlanFits, plan_of_form, plan_point, plan_stamped}
+use Rattle.merging.proofs.Plans.{plan_point, plan_stamped}
 
 -- ---- refusals 7 and 12
 

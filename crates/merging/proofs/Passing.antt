@@ -1,6 +1,6 @@
 -- Laws of the pass over the rows.
 use Prim.Native.Nat.{ℕ, ◌+◌, ◌≤◌, ◌<◌}
-use mathlib.Core.Path.{◌≡◌, refl, sym, subst}
+use mathlib.Core.Path.{◌≡◌, sym, subst}
 use mathlib.Core.Bool.{true, false}
 use mathlib.Core.Logic.{⊎_elim}
 use mathlib.Core.List.{List, []}
@@ -11,7 +11,7 @@ use Rattle.definitions.specs.Tropical.{◌⊑◌}
 use Rattle.definitions.specs.Problem.{Point}
 use Rattle.definitions.proofs.Tropical.{⊑_trans, ⊑_of_eq}
 use Rattle.definitions.proofs.Offset.{trop_order}
-use Rattle.duality.specs.System.{System, Solves, side_of}
+use Rattle.duality.specs.System.{System, side_of}
 use Rattle.policy_iteration.specs.Tables.{system_of, point_of, high, highs}
 use Rattle.policy_iteration.specs.Rounds.{SideIs}
 use Rattle.policy_iteration.proofs.Low.{high_zero, high_mono, high_whole}

@@ -1,5 +1,5 @@
 -- A plan in bytes and its stamps in an array; the plan merged from two arrays, stamp by stamp.
-use Prim.Native.Nat.{ℕ, zero, suc, ◌+◌, ◌*◌, ◌≤◌, ◌<◌}
+use Prim.Native.Nat.{ℕ, suc, ◌+◌, ◌*◌, ◌≤◌, ◌<◌}
 use mathlib.Core.Path.{◌≡◌, refl, ap, sym, ◌∙◌}
 use mathlib.Core.Bool.{Bool, true, false, and-eq-true_iff}
 use mathlib.Core.List.{List, map}
@@ -9,7 +9,7 @@ use lib.Dec.{eqb}
 use lib.ListN.{length, get_or, take, length-map, get_or-eq_default}
 use borrow.Author.Tests.{eq-eqb, ne_eqb, eqb-true}
 use Rattle.base.proofs.Numbers.{nat_le_or_lt, below_or_last}
-use Rattle.definitions.specs.Limits.{stamp_limit, signed_bytes, signed_full, stride}
+use Rattle.definitions.specs.Limits.{stamp_limit, signed_bytes, stride}
 use Rattle.definitions.specs.Tropical.{bot}
 use Rattle.definitions.specs.Bytes.{Bytes, num_at, nums_at, all, blank_or_within}
 use Rattle.definitions.specs.Offset.{trop_of, off}

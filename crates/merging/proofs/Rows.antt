@@ -1,26 +1,23 @@
 -- A plan at the rows of two tables: its stamps as low numbers, and what a pass over the rows tells of the problem that stands in the tables.
-use Prim.Native.Nat.{ℕ, suc, ◌+◌, ◌-◌, ◌*◌, ◌≤◌, ◌<◌}
-use mathlib.Core.Path.{◌≡◌, refl, ap, sym, ◌∙◌}
+use Prim.Native.Nat.{ℕ, suc, ◌+◌, ◌-◌, ◌≤◌, ◌<◌}
+use mathlib.Core.Path.{◌≡◌, refl, ap, ◌∙◌}
 use mathlib.Core.Bool.{Bool, true, false}
-use mathlib.Core.List.{List, [], map}
+use mathlib.Core.List.{List, []}
 use mathlib.Core.Logic.{⊎_elim}
 use native.Mathlib.Omega.{arith}
-use lib.ListN.{length, get_or, length-map, get_or-map}
+use lib.ListN.{get_or, length-map, get_or-map}
 use Rattle.base.proofs.Numbers.{nat_le_or_lt}
-use borrow.Author.Tests.{eq-eqb, ne_eqb}
+use borrow.Author.Tests.{ne_eqb}
 use Rattle.base.specs.Decides.{Decides}
-use Rattle.base.specs.Filled.{Filled}
 use Rattle.base.proofs.Decides.{said_no}
-use Rattle.definitions.specs.Limits.{stamp_limit, stride}
-use Rattle.definitions.specs.Tropical.{Trop, plus, ◌⊑◌}
-use Rattle.definitions.specs.Problem.{Problem, Point, side, Keeps}
+use Rattle.definitions.specs.Problem.{Problem, side}
 use Rattle.definitions.specs.Offset.{trop_of}
 use Rattle.definitions.specs.Merging.{KeepsRules}
 use Rattle.definitions.proofs.Tropical.{largest_ext}
 use Rattle.duality.specs.System.{side_of, Solves}
-use Rattle.records.specs.Decoded.{Near, Decoded, InTables}
+use Rattle.records.specs.Decoded.{Near, InTables}
 use Rattle.records.specs.Stamps.{Stamped, stamps_point}
-use Rattle.policy_iteration.specs.Tables.{entry_of, system_of, point_of, value_limit, low_half, high, highs, Table, Lows, Tables}
+use Rattle.policy_iteration.specs.Tables.{entry_of, system_of, point_of, value_limit, low_half, high, highs, Lows}
 use Rattle.policy_iteration.proofs.Low.{highs_at}
 use Rattle.merging.specs.Plans.{LowPlan, Stand}
 

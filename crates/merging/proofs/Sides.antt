@@ -5,11 +5,11 @@ use mathlib.Core.Path.{◌≡◌, refl, ap, sym, ◌∙◌}
 use mathlib.Core.Logic.{◌⊎◌, inl, inr, ⊎_elim}
 use lib.IntN.{ℤ, pos, ◌+ℤ◌, ◌-ℤ◌}
 use lib.Signed.{◌≤ℤ◌}
-use Rattle.definitions.specs.Tropical.{Trop, bot, fin, plus, larger, largest, ◌⊑◌, blank_least, whole_least, Finite}
+use Rattle.definitions.specs.Tropical.{Trop, bot, fin, plus, larger, ◌⊑◌, blank_least, whole_least}
 use Rattle.definitions.specs.Problem as Problems
 use Rattle.definitions.specs.Problem.{Problem, Point, Value, side, Keeps, Feasible, value, ◌≼◌, lowest, between, highest, minus, Counts}
 use Rattle.definitions.specs.Merging.{merged, MergedWell}
-use Rattle.definitions.proofs.Whole.{whole, plus_read, minus_read, eq_show}
+use Rattle.definitions.proofs.Whole.{whole, plus_read, minus_read}
 use Rattle.definitions.proofs.Values.{≼_refl, ≼_trans}
 use Rattle.definitions.proofs.Tropical.{⊑_refl, ⊑_trans, ⊑_antisym, ⊑_of_eq, finite_above, plus_fin, plus_assoc, plus_mono, larger_left, larger_right, larger_one, larger_least, larger_mono, largest_above, largest_least, largest_mono, largest_plus}
 

@@ -1,0 +1,54 @@
+use mathlib.Core.Path.{sym, ◌∙◌}
+use native.Mathlib.Omega.{arith}
+use Rattle.definitions.specs.Bytes.{Bytes}
+use Rattle.definitions.specs.ProblemRecord.{problem_of}
+use Rattle.merging.proofs.Plans.{plan_of_form}
+use Rattle.merging.proofs.Outcomes.{Held, read_n_most, read_tables, none_pair, refused_pair, wrote_merges, held_first, held_second}
+use Rattle.merging.proofs.merge.merge_plans.Goals as goal
+
+pub stamps_in-x-requires : goal.stamps_in-x-requires
+stamps_in-x-requires c = let p = c.requires in (omega (arith, read_n_most p.read), omega (arith, (plan_of_form _ _ p.first_fits).size_is))
+
+pub stamps_in-y-requires : goal.stamps_in-y-requires
+stamps_in-y-requires c = let p = c.requires in (omega (arith, read_n_most p.read), omega (arith, (plan_of_form _ _ p.second_fits).size_is))
+
+pub both_keep-requires : goal.both_keep-requires
+both_keep-requires c =
+    let pre = c.requires in
+    let a_bytes : Bytes c.args.first.now = record { byte = λ i. (c.shared_slice_known-1.given i).fits } in
+    let b_bytes : Bytes c.args.second.now = record { byte = λ i. (c.shared_slice_known-2-1.given i).fits } in
+    let held : Held c.args.n c.args.first.now c.args.second.now c.stamps_in-x.result c.stamps_in-y.result =
+    record { a_bytes = a_bytes; b_bytes = b_bytes; x_is = c.stamps_in-x.ensures; y_is = c.stamps_in-y.ensures; a_fits = pre.first_fits; b_fits = pre.second_fits } in
+    (read_tables pre.read, held_first held, held_second held)
+
+pub minutes_back-requires : goal.minutes_back-requires
+minutes_back-requires c = sym c.is_forward.ensures ∙ (none_pair c.is_forward.result c.both_keep.result (sym c.judge_pair-refusal.ensures ∙ c.if-refusal-ne0.false)).0
+
+pub merge_back-requires : goal.merge_back-requires
+merge_back-requires c =
+    let pre = c.requires in
+    let a_bytes : Bytes c.args.first.now = record { byte = λ i. (c.shared_slice_known-1.given i).fits } in
+    let b_bytes : Bytes c.args.second.now = record { byte = λ i. (c.shared_slice_known-2-1.given i).fits } in
+    let held : Held c.args.n c.args.first.now c.args.second.now c.stamps_in-x.result c.stamps_in-y.result =
+    record { a_bytes = a_bytes; b_bytes = b_bytes; x_is = c.stamps_in-x.ensures; y_is = c.stamps_in-y.ensures; a_fits = pre.first_fits; b_fits = pre.second_fits } in
+    record { n_most = read_n_most pre.read; back_most = c.minutes_back.ensures.1; first_stamps = held_first held; second_stamps = held_second held; room_enough = pre.room_enough }
+
+pub returns-then-refusal-ne0 : goal.returns-then-refusal-ne0
+returns-then-refusal-ne0 c p read =
+    let pre = c.requires in
+    let a_bytes : Bytes c.args.first.now = record { byte = λ i. (c.shared_slice_known-1.given i).fits } in
+    let b_bytes : Bytes c.args.second.now = record { byte = λ i. (c.shared_slice_known-2-1.given i).fits } in
+    let held : Held c.args.n c.args.first.now c.args.second.now c.stamps_in-x.result c.stamps_in-y.result =
+    record { a_bytes = a_bytes; b_bytes = b_bytes; x_is = c.stamps_in-x.ensures; y_is = c.stamps_in-y.ensures; a_fits = pre.first_fits; b_fits = pre.second_fits } in
+    refused_pair held read c.args.out.now pre.room_enough c.args.shift c.is_forward.ensures (c.both_keep.ensures (problem_of p) read.stands) c.judge_pair-refusal.ensures c.if-refusal-ne0.true
+
+pub returns : goal.returns
+returns c p read =
+    let pre = c.requires in
+    let a_bytes : Bytes c.args.first.now = record { byte = λ i. (c.shared_slice_known-1.given i).fits } in
+    let b_bytes : Bytes c.args.second.now = record { byte = λ i. (c.shared_slice_known-2-1.given i).fits } in
+    let held : Held c.args.n c.args.first.now c.args.second.now c.stamps_in-x.result c.stamps_in-y.result =
+    record { a_bytes = a_bytes; b_bytes = b_bytes; x_is = c.stamps_in-x.ensures; y_is = c.stamps_in-y.ensures; a_fits = pre.first_fits; b_fits = pre.second_fits } in
+    let fine = none_pair c.is_forward.result c.both_keep.result (sym c.judge_pair-refusal.ensures ∙ c.if-refusal-ne0.false) in
+    wrote_merges held read c.args.out.now pre.room_enough c.args.shift c.is_forward.ensures fine.0 (c.both_keep.ensures (problem_of p) read.stands) c.minutes_back.result
+    c.minutes_back.ensures.0 fine.1 c.merge_back.ensures

@@ -1,0 +1,13 @@
+use Prim.Native.Nat.{◌≤◌, ◌<◌, ◌-◌}
+use mathlib.Core.Path.{◌≡◌}
+use Rattle.base.specs.Filled.{Filled}
+use Rattle.definitions.specs.Limits.{signed_full, stride}
+use Rattle.definitions.specs.Offset.{trop_of}
+use Rattle.merging.specs.Outcome.{joined}
+use Rattle.merging.proofs.stamps.merged_stamps.Given as goal
+
+abbrev pub invariant-loop-j : goal.invariant-loop-j
+invariant-loop-j l = (l.j ≤ l.count) × Filled (λ k v. (trop_of v ≡ joined l.back l.first l.second k) × (v < signed_full)) stride l.j l.out
+
+abbrev pub decreases-loop-j : goal.decreases-loop-j
+decreases-loop-j l = l.count - l.j
