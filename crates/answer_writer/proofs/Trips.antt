@@ -18,7 +18,7 @@ use Rattle.definitions.proofs.Offset.{trop_of_injective}
 use Rattle.definitions.proofs.AnswerFits.{answer_fits}
 use Rattle.definitions.proofs.RoundTrip.{answer_bytes_lem, write_read, read_write}
 use Rattle.answer_reader.specs.Fields.{fields_of, body_of, stamps_at, picks_at, stamps_of, picks_of}
-use Rattle.answer_reader.specs.AnswerReading.{told_by, head_of, HeadAt, AnswerRead}
+use Rattle.answer_reader.specs.AnswerReading.{told_by, HeadAt, AnswerRead}
 use Rattle.answer_writer.specs.AnswerWriting.{written_of, unless_refused, AnswerWritten}
 use Rattle.answer_writer.specs.RoundTrips.{fields_refusal, WrittenThenRead, back_refusal, ReadThenWritten}
 use Rattle.answer_reader.specs.declared.answer.Head.{Head}
