@@ -1,14 +1,14 @@
 -- Minutes as offset numbers, their minutes of the week, and how the first open minute of a week is that of all weeks.
 use Prim.Native.Nat.{ℕ, suc, ◌+◌, ◌-◌, ◌%◌, ◌≤◌, ◌<◌}
 use mathlib.Core.Path.{◌≡◌, refl, ap, sym, subst, ◌∙◌}
-use mathlib.Core.Bool.{Bool, true, false, not, and-eq-true_iff}
+use mathlib.Core.Bool.{Bool, true, false, and-eq-true_iff}
 use mathlib.Core.Logic.{⊎_elim}
 use mathlib.Core.List.{List, [], ◌∷◌}
 use native.Mathlib.Omega.{arith}
 use lib.Dec.{leb}
 use lib.ListN.{length}
 use lib.IntN.{ℤ, pos, negsuc, nat_abs, ◌+ℤ◌}
-use borrow.Author.Tests.{leb-true, le-leb, not-true, not-false}
+use borrow.Author.Tests.{leb-true, le-leb}
 use Rattle.base.proofs.Numbers.{nat_le_or_lt}
 use Rattle.definitions.specs.Limits.{signed_half, week_minutes, minute_limit}
 use Rattle.definitions.specs.Bytes.{whole_within}
@@ -78,24 +78,24 @@ beyond_limit k f = ⊎_elim
     (nat_le_or_lt (nat_abs (minute_of k)) minute_limit)
 
 -- The list is bad.
-pub admits_bad_week : {week : List ℕ} (z : ℕ) {r : Bool} → ListJudged week r → not r ≡ true → Admits week (minute_of z) (admission_of (Refused week_refusal))
+pub admits_bad_week : {week : List ℕ} (z : ℕ) {r : Bool} → ListJudged week r → r ≡ false → Admits week (minute_of z) (admission_of (Refused week_refusal))
 unfolding admission_of
-admits_bad_week z (fits g) e = absurd (true_not_false e refl)
+admits_bad_week z (fits g) e = absurd (true_not_false refl e)
 admits_bad_week z (bad b) e = turned_away (bad_week b)
 
 -- The minute is beyond.
-pub admits_beyond : {week : List ℕ} (z : ℕ) {r : Bool} → r ≡ whole_within minute_limit (trop_of z) → not r ≡ true → Admits week (minute_of z) (admission_of (Refused week_refusal))
+pub admits_beyond : {week : List ℕ} (z : ℕ) {r : Bool} → r ≡ whole_within minute_limit (trop_of z) → r ≡ false → Admits week (minute_of z) (admission_of (Refused week_refusal))
 unfolding admission_of
-admits_beyond z {r} e t = turned_away (minute_beyond (beyond_limit z (sym e ∙ not-true r t)))
+admits_beyond z {r} e t = turned_away (minute_beyond (beyond_limit z (sym e ∙ t)))
 
 -- Neither is turned away.
 pub record Taken (week : List ℕ) (z : ℕ) : Type 0 where
   pub good : BadWeek week → ⊥
   pub within : WithinLimit z
 
-pub taken : {week : List ℕ} (z : ℕ) {r s : Bool} → ListJudged week r → not r ≡ false → s ≡ whole_within minute_limit (trop_of z) → not s ≡ false → Taken week z
-taken z (fits g) e q f = record { good = g; within = both_tests z (sym q ∙ not-false _ f) }
-taken z (bad b) e q f = absurd (true_not_false refl e)
+pub taken : {week : List ℕ} (z : ℕ) {r s : Bool} → ListJudged week r → r ≡ true → s ≡ whole_within minute_limit (trop_of z) → s ≡ true → Taken week z
+taken z (fits g) e q f = record { good = g; within = both_tests z (sym q ∙ f) }
+taken z (bad b) e q f = absurd (true_not_false e refl)
 
 -- Refusal 19 does not apply.
 none_applies : {week : List ℕ} {z : ℕ} → Taken week z → TurnedAway week (minute_of z) → ⊥
