@@ -1,19 +1,19 @@
 -- The converted record: its size, its fields, and each of its rows, which is a row of the record. So nothing refuses it.
 use Prim.Native.Nat.{ℕ, zero, suc, ◌+◌, ◌*◌, ◌-◌, ◌≤◌, ◌<◌}
-use mathlib.Core.Path.{◌≡◌, refl, ap, sym, subst, ◌∙◌}
+use mathlib.Core.Path.{◌≡◌, refl, ap, ◌∙◌}
 use mathlib.Core.Bool.{Bool, true, false, cond, ◌&&◌, ◌||◌}
-use mathlib.Core.List.{List, [], ◌∷◌, ◌++◌, append_assoc}
+use mathlib.Core.List.{List, [], ◌++◌, append_assoc}
 use mathlib.Core.Logic.{◌⊎◌, ⊎_elim}
 use native.Mathlib.Omega.{arith}
-use native.Mathlib.Nat.{mul-le-mul_left, mul-le-mul_right}
+use native.Mathlib.Nat.{mul-le-mul_right}
 use lib.Dec.{eqb, ltb, leb}
 use lib.ListN.{length, get_or, length-append, get_or-append}
 use lib.Seq.{get_or-append-add}
 use borrow.Author.Tests.{lt-ltb, le-ltb, ne_eqb}
 use Rattle.base.proofs.Numbers.{nat_le_or_lt, divided}
-use Rattle.definitions.specs.Limits.{highest_n, highest_m, lead_limit, length_bytes, short_bytes, signed_bytes, kind_place, m_place, problem_header, questions_header, problem_kind, questions_kind, most_questions}
+use Rattle.definitions.specs.Limits.{lead_limit, length_bytes, short_bytes, signed_bytes, kind_place, m_place, problem_header, questions_header, problem_kind, questions_kind, most_questions}
 use Rattle.definitions.specs.Bytes.{Bytes, num_at, le, trop_field, trop_at, all, blank_or_within}
-use Rattle.definitions.specs.ProblemRecord.{Kinds, converter_kinds, engine_kinds, refusal_for, length_field, kind_field, n_field, m_field, count_field, leads_place, questions_asked, record_size, wrong_count, row_place, blank_left, leads_of, silent_refused, WithinLayouts}
+use Rattle.definitions.specs.ProblemRecord.{Kinds, converter_kinds, engine_kinds, refusal_for, length_field, kind_field, n_field, m_field, count_field, leads_place, questions_asked, wrong_count, row_place, blank_left, leads_of, silent_refused, WithinLayouts}
 use Rattle.definitions.specs.Questions.{part, rows_size}
 use Rattle.definitions.specs.Selection.{left_at}
 use Rattle.definitions.specs.Conversion.{stored_refusal, rules_left, rows_left, converted_size, question_rows, converted}
@@ -25,7 +25,7 @@ use Rattle.definitions.proofs.Silent.{none_below, run_same}
 use Rattle.definitions.proofs.Questions.{part_length, part_at}
 use Rattle.converter.specs.Steps.{head_left}
 use Rattle.definitions.proofs.Chosen.{left_most, left_inside, left_stays}
-use Rattle.converter.proofs.Rows.{row_inside, rows_length, rows_at}
+use Rattle.converter.proofs.Rows.{rows_length, rows_at}
 
 -- A count of 1 to 8 is not wrong.
 few_right : (size count : ℕ) → 0 < count → count ≤ most_questions → (leb questions_header size && (eqb count 0 || ltb most_questions count)) ≡ false

@@ -1,19 +1,19 @@
 -- A record whose rules all say something is converted to itself; so converting again changes nothing.
-use Prim.Native.Nat.{ℕ, zero, suc, ◌+◌, ◌*◌, ◌-◌, ◌≤◌, ◌<◌}
-use mathlib.Core.Path.{◌≡◌, refl, ap, ap₂, sym, ◌∙◌}
-use mathlib.Core.Bool.{Bool, true, false, cond}
-use mathlib.Core.List.{List, [], ◌∷◌, ◌++◌, append_assoc, append-nil}
+use Prim.Native.Nat.{ℕ, zero, suc, ◌+◌, ◌-◌, ◌≤◌, ◌<◌}
+use mathlib.Core.Path.{◌≡◌, refl, sym}
+use mathlib.Core.Bool.{false}
+use mathlib.Core.List.{List, ◌++◌}
 use native.Mathlib.Omega.{arith}
-use lib.ListN.{length, take, drop}
+use lib.ListN.{length, drop}
 use lib.Seq.{take-add, drop-drop, take_all}
-use Rattle.definitions.specs.Limits.{length_bytes, short_bytes, signed_bytes, kind_place, m_place, problem_header}
+use Rattle.definitions.specs.Limits.{length_bytes, short_bytes}
 use Rattle.definitions.specs.Bytes.{Bytes, le}
-use Rattle.definitions.specs.ProblemRecord.{converter_kinds, length_field, kind_field, n_field, m_field, count_field, leads_place, questions_asked, record_size, row_place, blank_left, silent_refused, refusal_for}
+use Rattle.definitions.specs.ProblemRecord.{converter_kinds, length_field, kind_field, n_field, m_field, count_field, leads_place, questions_asked, blank_left, refusal_for}
 use Rattle.definitions.specs.Questions.{part, rows_size}
 use Rattle.definitions.specs.Selection.{left_below}
-use Rattle.definitions.specs.Conversion.{rules_left, rows_left, converted_size, question_rows, converted}
+use Rattle.definitions.specs.Conversion.{rules_left, rows_left, converted_size, converted}
 use Rattle.definitions.proofs.Bytes.{le_num}
-use Rattle.definitions.proofs.Refusals.{HeaderPasses, RecordFits, record_fits}
+use Rattle.definitions.proofs.Refusals.{HeaderPasses, record_fits}
 use Rattle.definitions.proofs.Silent.{none_below}
 use Rattle.converter.proofs.Converted.{from_least}
 

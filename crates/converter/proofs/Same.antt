@@ -1,20 +1,18 @@
 -- Class and least span of each question are the same before and after: the rules dropped are kept by every plan.
-use Prim.Native.Nat.{ℕ, zero, suc, ◌+◌, ◌*◌, ◌-◌, ◌≤◌, ◌<◌}
-use mathlib.Core.Path.{◌≡◌, refl, ap, sym, subst, ◌∙◌}
-use mathlib.Core.Bool.{Bool, true, false, cond}
+use Prim.Native.Nat.{ℕ, suc, ◌+◌, ◌*◌, ◌≤◌, ◌<◌}
+use mathlib.Core.Path.{◌≡◌, refl, ap, sym, ◌∙◌}
+use mathlib.Core.Bool.{Bool, true, false}
 use mathlib.Core.List.{List}
-use mathlib.Core.Logic.{◌⊎◌, ⊎_elim}
+use mathlib.Core.Logic.{⊎_elim}
 use native.Mathlib.Omega.{arith}
-use lib.Dec.{eqb}
 use lib.ListN.{length}
 use borrow.Author.Tests.{eq-eqb, ne_eqb}
 use Rattle.base.proofs.Numbers.{nat_le_or_lt}
 use Rattle.definitions.specs.Limits.{signed_bytes, problem_header, questions_header, problem_kind, questions_kind}
-use Rattle.definitions.specs.Tropical.{Trop, bot}
 use Rattle.definitions.specs.Problem.{Problem}
-use Rattle.definitions.specs.Bytes.{num_at, trop_field, trop_at}
-use Rattle.definitions.specs.ProblemRecord.{converter_kinds, kind_field, n_field, m_field, count_field, leads_place, questions_asked, row_place, left_place, right_place, blank_left, problem_of}
-use Rattle.definitions.specs.Questions.{rows_size, alone, asking, asked_row}
+use Rattle.definitions.specs.Bytes.{trop_field, trop_at}
+use Rattle.definitions.specs.ProblemRecord.{converter_kinds, kind_field, n_field, m_field, count_field, leads_place, questions_asked, row_place, right_place, blank_left, problem_of}
+use Rattle.definitions.specs.Questions.{alone, asking, asked_row}
 use Rattle.definitions.specs.Selection.{left_at, row_of, selected, Choice, LeftOut, BlankLeft, SameClass}
 use Rattle.definitions.specs.Conversion.{rules_left, converted}
 use Rattle.definitions.proofs.Refusals.{HeaderPasses, header_passes}

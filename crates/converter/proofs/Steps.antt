@@ -1,22 +1,20 @@
 -- Laws of the code's steps: rules counted and copied one after the other, and the record put together.
-use Prim.Native.Nat.{ℕ, zero, suc, ◌+◌, ◌*◌, ◌-◌, ◌≤◌, ◌<◌}
+use Prim.Native.Nat.{ℕ, suc, ◌+◌, ◌*◌, ◌-◌, ◌≤◌, ◌<◌}
 use mathlib.Core.Path.{◌≡◌, refl, ap, sym, ◌∙◌}
 use mathlib.Core.Bool.{Bool, true, false, cond}
-use mathlib.Core.List.{List, [], ◌∷◌, ◌++◌, append-nil, append_assoc}
-use mathlib.Core.Logic.{⊎_elim}
+use mathlib.Core.List.{List, [], ◌++◌, append_assoc}
 use native.Mathlib.Omega.{arith}
-use native.Mathlib.Nat.{mul-le-mul_left, mul-le-mul_right}
-use lib.ListN.{length, take, drop, length-append}
-use Rattle.definitions.specs.Limits.{length_bytes, short_bytes, signed_bytes, kind_place, m_place, problem_header}
-use Rattle.definitions.specs.Bytes.{le, put, or_else, outcome}
-use Rattle.definitions.specs.ProblemRecord.{converter_kinds, kind_field, n_field, m_field, count_field, leads_place, questions_asked, row_place, run_blank, blank_left, layout_of}
+use native.Mathlib.Nat.{mul-le-mul_right}
+use lib.ListN.{length, length-append}
+use Rattle.definitions.specs.Limits.{length_bytes}
+use Rattle.definitions.specs.Bytes.{le, put}
+use Rattle.definitions.specs.ProblemRecord.{converter_kinds, kind_field, n_field, m_field, count_field, leads_place, questions_asked, row_place, run_blank, blank_left}
 use Rattle.definitions.specs.Questions.{part, rows_size}
-use Rattle.definitions.specs.AnswerRecord.{written}
 use Rattle.definitions.specs.Selection.{left_below}
-use Rattle.definitions.specs.Conversion.{stored_refusal, rules_left, rows_left, converted_size, question_rows, converted, convert_refusal, Converts}
+use Rattle.definitions.specs.Conversion.{rules_left, rows_left, converted_size, question_rows, converted}
 use Rattle.definitions.proofs.Bytes.{length_le}
-use Rattle.definitions.proofs.Put.{put_nil, put_put, length_put}
-use Rattle.definitions.proofs.Refusals.{HeaderPasses, header_passes, or_else_suc}
+use Rattle.definitions.proofs.Put.{put_nil, put_put}
+use Rattle.definitions.proofs.Refusals.{HeaderPasses, header_passes}
 use Rattle.definitions.proofs.Questions.{part_length}
 use Rattle.printing.specs.Text.{Putting}
 use Rattle.records.specs.declared.problem.Layout.{Layout}

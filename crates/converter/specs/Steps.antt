@@ -1,5 +1,5 @@
 -- What the steps of converting ask and leave, and the converter's answer in the words of the definitions.
-use Rattle.std.specs.Prelude.{ℕ, suc, ◌+◌, ◌*◌, ◌-◌, ◌≤◌, ◌≡◌, true, List, ◌++◌, length}
+use Rattle.std.specs.Prelude.{ℕ, suc, ◌+◌, ◌*◌, ◌-◌, ◌≤◌, ◌≡◌, List, ◌++◌, length}
 use Rattle.definitions.specs.Limits.{highest_n, highest_m, most_questions, length_bytes, short_bytes, signed_bytes, kind_place, m_place, problem_header, questions_header, questions_leads}
 use Rattle.definitions.specs.Bytes.{le, put, Outcome, refusal, gives}
 use Rattle.definitions.specs.ProblemRecord.{converter_kinds, kind_field, n_field, m_field, count_field, leads_place, questions_asked, header_refusal}
