@@ -15,7 +15,7 @@ use Rattle.engine.specs.Outcome.{Gives}
 use Rattle.desk.specs.declared.state.Front.{Front}
 use Rattle.desk.specs.declared.state.Place.{Place}
 use Rattle.desk.specs.declared.calls.Stepped.TheVariants as Steppings
-use Rattle.desk.specs.State.{Desk, desk_of, Fits, front_joined, front_gone, no_place, head_of, ring, bytes_at, Seated, PlaceIs, is_waiting, is_answered, Tryable, Tried}
+use Rattle.desk.specs.State.{desk_of, Fits, front_joined, front_gone, no_place, head_of, ring, bytes_at, Seated, PlaceIs, is_waiting, is_answered, Tryable, Tried}
 use Rattle.desk.specs.Calls.{Left, HeadTried, DidStep, AtHead, CanStep, StepAt}
 use Rattle.tickets.proofs.Sound.{classed, from_opening_sound}
 use Rattle.desk.proofs.Ring.{ring_join}

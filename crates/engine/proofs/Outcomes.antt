@@ -13,7 +13,6 @@ use Rattle.definitions.specs.Problem.{Problem}
 use Rattle.definitions.specs.ProblemRecord.{Kinds, engine_kinds, AsksOne, kind_field, n_field, m_field, count_field, questions_asked, layout_of, refusal_for, record_refusal, problem_outcome, WithinLayout, problem_of, meant}
 use Rattle.definitions.specs.AnswerRecord.{stamp_count, pick_count, answer_size, answer_bytes, writer_outcome, written}
 use Rattle.definitions.specs.Questions.{asking}
-use Rattle.definitions.specs.Solved as Definitions
 use Rattle.definitions.specs.Solved.{Answers, Solves, turned_away, solved, engine_refusal}
 use Rattle.definitions.proofs.Questions.{asking_itself}
 use Rattle.definitions.proofs.IdleDay.{several_itself, meant_bytes}

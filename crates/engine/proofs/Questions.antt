@@ -12,7 +12,7 @@ use Rattle.definitions.specs.Offset.{trop_of}
 use Rattle.definitions.specs.ProblemRecord.{engine_kinds, kind_field, n_field, m_field, count_field, problem_of}
 use Rattle.definitions.specs.Questions.{alone}
 use Rattle.definitions.specs.AnswerRecord.{answer_bytes, written}
-use Rattle.definitions.specs.Solved.{Answers, no_question, one_more, Solves, all_solved}
+use Rattle.definitions.specs.Solved.{Answers, no_question, one_more, all_solved}
 use Rattle.definitions.proofs.Put.{put_nil, put_put, put_part, length_put}
 use Rattle.definitions.proofs.Questions.{Several, several_passes, alone_bytes}
 use Rattle.definitions.proofs.Inputs.{header_none}

@@ -1,0 +1,8 @@
+use Rattle.engine.proofs.Packing.{near_pick, far_pick}
+use Rattle.engine.proofs.cells.pick_at.Goals as goal
+
+pub returns-then-k-lt-STRIDE : goal.returns-then-k-lt-STRIDE
+returns-then-k-lt-STRIDE c = search near_pick
+
+pub returns : goal.returns
+returns c = search far_pick

@@ -1,0 +1,12 @@
+use native.Mathlib.Omega.{arith}
+use Rattle.base.proofs.Filled.{filled_none, filled_more, filled_end}
+use Rattle.engine.proofs.cells.stamps_in.Goals as goal
+
+pub loop-j-init : goal.loop-j-init
+loop-j-init c = (omega arith, filled_none 32)
+
+pub loop-j-preserved : goal.loop-j-preserved
+loop-j-preserved c = (omega arith, search (filled_more, arith))
+
+pub returns : goal.returns
+returns c = search filled_end

@@ -1,0 +1,8 @@
+use Rattle.engine.proofs.Trials.{cells_found, handed_over}
+use Rattle.engine.proofs.one_trial.hand_over.Goals as goal
+
+pub write_found-size-requires : goal.write_found-size-requires
+write_found-size-requires c = search cells_found
+
+pub returns : goal.returns
+returns c = search handed_over
