@@ -1,8 +1,8 @@
 -- One turn of the yielding of document 02's request 2.5, for an accepted answer of class 1. A variable that is reached and has a number
 -- yields to one that is and has; the arc between them weighs at least the first number less the second, at the least span.
-use Prim.Native.Nat.{ℕ, suc, ◌+◌, ◌≤◌, ◌<◌}
+use Prim.Native.Nat.{ℕ, suc, ◌≤◌, ◌<◌}
 use mathlib.Core.Path.{◌≡◌, refl, sym, subst}
-use mathlib.Core.Logic.{◌⊎◌, ⊎_elim}
+use mathlib.Core.Logic.{⊎_elim}
 use native.Mathlib.Omega.{arith}
 use lib.IntN.{ℤ, pos, ◌+ℤ◌}
 use Rattle.base.proofs.Numbers.{nat_le_or_lt, same_or_not}
@@ -14,7 +14,6 @@ use Rattle.definitions.specs.Reasons.{RowYields, Yields, Begins, at_anchor, at_s
 use Rattle.definitions.proofs.Tropical.{fin_below, finite_above, ⊑_trans, ⊑_of_eq, plus_is, plus_parts, plus_zero, largest_above}
 use Rattle.definitions.proofs.Raise.{raised, unraised}
 use Rattle.definitions.proofs.Values.{≼_refl, minus_raised}
-use Rattle.definitions.proofs.Whole.{whole}
 use Rattle.duality.specs.Picks.{NoneAbove}
 use Rattle.selection.proofs.Certificates.{reached_inside}
 use Rattle.binding.specs.Turns.{Live, Turn, turn_weight}

@@ -3,7 +3,7 @@ use Prim.Native.Nat.{ℕ, zero, suc, ◌+◌, ◌-◌, ◌≤◌, ◌<◌}
 use mathlib.Core.Path.{◌≡◌, refl, sym, ap, ◌∙◌}
 use mathlib.Core.Bool.{Bool, true, false, cond}
 use mathlib.Core.List.{List}
-use mathlib.Core.Logic.{◌⊎◌, ⊎_elim}
+use mathlib.Core.Logic.{⊎_elim}
 use native.Mathlib.Omega.{arith}
 use lib.Dec.{ltb}
 use lib.ListN.{length, get_or, take, replicate, length-take, length-replicate}
@@ -11,7 +11,7 @@ use lib.Seq.{ext_get_or, get_or-take}
 use borrow.Author.Tests.{ltb-true, ltb-false}
 use Rattle.base.proofs.Numbers.{below_or_last}
 use Rattle.definitions.specs.Limits.{stride}
-use Rattle.definitions.specs.Tropical.{Trop, plus, largest, ◌⊑◌, Finite}
+use Rattle.definitions.specs.Tropical.{Trop, plus, largest, Finite}
 use Rattle.definitions.specs.Problem.{Problem, side}
 use Rattle.definitions.specs.Certificate.{Second}
 use Rattle.definitions.specs.Offset.{trop_of}

@@ -1,9 +1,9 @@
 -- From what the readers give to the definition: the rules behind the answer, what its round rests on, and what is told.
-use Prim.Native.Nat.{ℕ, suc, ◌+◌, ◌-◌, ◌≤◌, ◌<◌}
+use Prim.Native.Nat.{ℕ, suc, ◌+◌, ◌≤◌, ◌<◌}
 use mathlib.Core.Path.{◌≡◌, refl, sym, subst, fun_ext, ◌∙◌}
 use mathlib.Core.Bool.{Bool, true, false, cond}
 use mathlib.Core.List.{List}
-use mathlib.Core.Logic.{◌⊎◌, ⊎_elim}
+use mathlib.Core.Logic.{⊎_elim}
 use native.Mathlib.Omega.{arith}
 use lib.Dec.{eqb, ltb}
 use lib.IntN.{ℤ}
@@ -30,7 +30,6 @@ use Rattle.grounds.specs.Tables.{RightHeld}
 use Rattle.grounds.specs.Rules.{PickedBy, PickedListed}
 use Rattle.grounds.specs.Turns.{Going}
 use Rattle.grounds.specs.Rounds.{Beginning, Binding}
-use Rattle.grounds.specs.Outcome as Tells
 use Rattle.grounds.specs.Outcome.{Certifies, Tells}
 use Rattle.grounds.proofs.Reaching.{offset_finite, finite_offset}
 use Rattle.grounds.proofs.Binding.{next_yields, second_met, begins_at}

@@ -1,4 +1,6 @@
 // The rules behind an accepted answer, and the binding round of a least span. Document 02, 2.5.
+#![tactic(auto)]
+
 pub mod input;
 pub mod latest;
 pub mod reached;

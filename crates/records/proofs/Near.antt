@@ -1,5 +1,5 @@
 -- Offset numbers near 0.
-use Rattle.std.proofs.Common.{◌≡◌, ℕ, ◌+◌, ◌<◌, ◌≤◌, true, ◌⊎◌, List, ⊎_elim, arith}
+use Rattle.std.proofs.Common.{◌≡◌, ℕ, ◌+◌, ◌<◌, ◌≤◌, true, ⊎_elim, arith}
 use Rattle.definitions.specs.Limits.{signed_half}
 use Rattle.definitions.specs.Bytes.{blank_or_within}
 use Rattle.definitions.specs.Offset.{trop_of}

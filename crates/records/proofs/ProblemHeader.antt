@@ -1,7 +1,7 @@
 -- Laws of a problem's header: its answer by the refusal's number, its refusals on plain numbers, its size.
-use Rattle.std.proofs.Common.{◌≡◌, ℕ, zero, suc, ◌+◌, ◌*◌, ◌<◌, ◌≤◌, Bool, true, false, ◌&&◌, ◌||◌, ◌⊎◌, List, length, sym, refl, ap, ◌∙◌, inl, inr, ⊎_elim, mul-le-mul_right, mul-le-mul_left, arith, eq-eqb, ne_eqb}
+use Rattle.std.proofs.Common.{◌≡◌, ℕ, suc, ◌+◌, ◌*◌, ◌<◌, ◌≤◌, Bool, true, false, ◌&&◌, ◌||◌, ◌⊎◌, List, length, sym, refl, ap, ◌∙◌, inl, inr, ⊎_elim, mul-le-mul_right, mul-le-mul_left, arith, eq-eqb, ne_eqb}
 use Rattle.definitions.specs.Limits.{highest_n, highest_m, kept_bytes, stride, table_rows, table_size, signed_bytes, short_bytes, problem_kind, questions_kind, states_kind, states_place, most_questions, problem_header, questions_header, leads_latest}
-use Rattle.definitions.specs.Bytes.{Outcome, outcome}
+use Rattle.definitions.specs.Bytes.{outcome}
 use Rattle.definitions.specs.ProblemRecord.{Kinds, checker_kinds, AsksOne, length_field, kind_field, n_field, m_field, count_field, leads_place, questions_asked, known_kind, wrong_count, layout_of, header_refusal, header_judged, header_outcome}
 use Rattle.definitions.specs.ProblemRecord as Problems
 use Rattle.definitions.specs.Programs.{KeptOf}

@@ -1,24 +1,21 @@
 -- Document 02, 2.10: what is said of a suspended rule, and of the problem that holds only the rules in force. All of it follows from one
 -- fact: the row of a suspended rule is blank on both sides (`definitions: ProblemRecord.problem_of`).
-use Prim.Native.Nat.{ℕ, suc, ◌≤◌, ◌<◌}
-use mathlib.Core.Path.{◌≡◌, refl, sym, subst, ◌∙◌}
+use Prim.Native.Nat.{ℕ, suc}
+use mathlib.Core.Path.{◌≡◌, refl, subst}
 use mathlib.Core.Bool.{Bool, true, false}
-use mathlib.Core.Logic.{⊎_elim}
 use mathlib.Core.List.{List}
 use native.Mathlib.Omega.{arith}
-use lib.IntN.{ℤ}
-use Rattle.definitions.specs.Tropical.{bot, Finite}
-use Rattle.definitions.specs.Problem.{Problem, Point}
-use Rattle.definitions.specs.Certificate.{Strategy, Reachable, Leads, RowLeads, PicksCount}
+use Rattle.definitions.specs.Tropical.{Finite}
+use Rattle.definitions.specs.Problem.{Problem}
+use Rattle.definitions.specs.Certificate.{Strategy, Reachable, Leads, PicksCount}
 use Rattle.definitions.specs.ProblemRecord.{m_field, suspended, problem_of}
-use Rattle.definitions.specs.Selection.{Choice, Ascending, LeftOut, BlankRow, SameClass}
-use Rattle.definitions.specs.Suspended.{rules_in_force, rule_in_force, only_in_force, Lifted}
+use Rattle.definitions.specs.Selection.{Choice, LeftOut}
+use Rattle.definitions.specs.Suspended.{rules_in_force, rule_in_force, Lifted}
 use Rattle.definitions.proofs.Tropical.{not_finite_bot}
 use Rattle.definitions.proofs.Selection.{blank_left_kept}
 use Rattle.definitions.proofs.Chosen.{left_inside, left_rises, left_found}
 use Rattle.definitions.proofs.Suspended.{suspended_left, suspended_right, suspended_blank}
 use Rattle.duality.proofs.Unused.{unbounded_unused}
-use Rattle.selection.specs.Certificates.{SameCertificates}
 use Rattle.selection.specs.Suspended.{RulesInForce}
 use Rattle.selection.proofs.Plans.{second_selected, start_selected}
 use Rattle.selection.proofs.Requests.{suspended_out}

@@ -1,6 +1,6 @@
 -- What holds of every state of a desk from an opening on, and that each call keeps it: the line holds exactly the places that wait, tickets are
 -- given out, and what stands at a place fits.
-use Prim.Native.Nat.{ℕ, suc, ◌+◌, ◌≤◌, ◌<◌}
+use Prim.Native.Nat.{ℕ, suc, ◌≤◌, ◌<◌}
 use mathlib.Core.Path.{◌≡◌, refl, sym, ap, subst, ◌∙◌}
 use mathlib.Core.Logic.{◌⊎◌, inl, inr, ⊎_elim}
 use mathlib.Core.List.{List, [], ◌∷◌, ◌++◌}
@@ -23,7 +23,7 @@ use Rattle.definitions.proofs.Refusals.{or_else_none}
 use Rattle.definitions.proofs.Layouts.{desk_within}
 use Rattle.duality.proofs.SmallLeads.{trials_few}
 use Rattle.duality.proofs.Classes.{classified}
-use Rattle.tickets.proofs.Line.{At, Line, joins, leaves, line_as, line_most}
+use Rattle.tickets.proofs.Line.{Line, joins, leaves, line_as, line_most}
 
 -- Something waits at this place.
 pub record Waiting (d : Desk) (i : ℕ) : Type 0 where

@@ -1,6 +1,5 @@
 use mathlib.Core.Logic.{inl, inr}
 use native.Mathlib.Omega.{arith}
-use Prim.Native.Nat.{◌-◌}
 use mathlib.Core.Path.{◌≡◌}
 use Rattle.grounds.proofs.Sums.{latest_one, latest_next}
 use borrow.Author.Rules.{rules}

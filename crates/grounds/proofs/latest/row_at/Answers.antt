@@ -1,5 +1,4 @@
 use native.Mathlib.Omega.{arith}
-use Prim.Native.Nat.{◌-◌}
 use Rattle.base.proofs.Filled.{filled_none, filled_more, filled_end}
 use Rattle.grounds.proofs.latest.row_at.Goals as goal
 

@@ -1,7 +1,6 @@
 use native.Mathlib.Omega.{arith}
 use Rattle.grounds.specs.Outcome.{told_of, counts_fit}
 use Rattle.grounds.proofs.Telling.{certified_picked, certified_binds, tells_none, tells_least}
-use borrow.Author.Rules.{rules}
 use Rattle.grounds.proofs.reasons.tell.Goals as goal
 
 pub reached_moments-marks-requires : goal.reached_moments-marks-requires

@@ -8,6 +8,6 @@ returns-then-start-eq0 c = record { anchor = λ e. refl; second = λ h. absurd (
 
 pub returns : goal.returns
 returns c = record {
-      anchor = λ e. absurd (c.if-start-eq0.false e);
-      second = λ h. met_as (λ l b. c.row_at-second.ensures.each l (omega (arith, c.requires.0))) c.first_planned.ensures;
-    }
+  anchor = λ e. absurd (c.if-start-eq0.false e);
+  second = λ h. met_as (λ l b. c.row_at-second.ensures.each l (omega (arith, c.requires.0))) c.first_planned.ensures;
+}

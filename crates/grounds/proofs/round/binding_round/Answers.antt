@@ -16,6 +16,6 @@ round_of-requires c = let m = c.moment_turn.ensures in (omega (arith, m.most, c.
 
 pub returns : goal.returns
 returns c = (
-      binding_is c.requires c.beginning-j.ensures c.moment_turn.ensures c.round_of.ensures,
-      omega (arith, c.round_of.ensures.count_is, c.moment_turn.ensures.most, c.requires.going.n_most),
-    )
+  binding_is c.requires c.beginning-j.ensures c.moment_turn.ensures c.round_of.ensures,
+  omega (arith, c.round_of.ensures.count_is, c.moment_turn.ensures.most, c.requires.going.n_most),
+)

@@ -1,5 +1,4 @@
 use native.Mathlib.Omega.{arith}
-use Prim.Native.Nat.{◌-◌}
 use mathlib.Core.Path.{refl}
 use Rattle.base.proofs.Filled.{filled_none, filled_more, filled_end}
 use Rattle.grounds.proofs.round.round_of.Goals as goal

@@ -1,5 +1,5 @@
 use Rattle.std.proofs.Common.{arith}
-use Rattle.grounds.proofs.Turning.{turn_back, turn_left, turn_row, turn_inside, turn_near, turn_moment, turn_first, turn_kept}
+use Rattle.grounds.proofs.Turning.{turn_back, turn_left, turn_row, turn_moment, turn_first, turn_kept}
 use Rattle.grounds.proofs.turns.+moment_turn_row_turn.Goals as goal
 
 pub moment_turn-returns-then-at-count : goal.moment_turn-returns-then-at-count

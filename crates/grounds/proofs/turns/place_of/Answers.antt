@@ -1,5 +1,4 @@
 use native.Mathlib.Omega.{arith}
-use Prim.Native.Nat.{◌-◌}
 use Rattle.base.proofs.Numbers.{one_more}
 use Rattle.grounds.proofs.turns.place_of.Goals as goal
 
