@@ -8,53 +8,54 @@ use mathlib.Core.List.{[], ◌∷◌, List}
 use lib.Dec.{T as Holds}
 use lib.ListN.{length}
 use seplogic.Ra.Ura.{Ura}
-use mir.Syntax.{named, erased, w64}
+use mir.Syntax.{named, erased, w8, w64}
 use mir.Val.{Val, WT, has_ty, vint}
 use base.Logic.{SProp, ent, sep, emp, via, fst∗, id⊢, ex_e, snd∗}
-use base.Fml.{Lft, Share, GName, Fml, ftrue, flft}
+use base.Fml.{Lft, Share, GName, Fml, ftrue, fsep, flft, fbor}
+use types.SemTy.{Body, Arr}
+use types.Hole.{Holey}
+use denote.Memory.{mem as memory_of}
 use prog.Memory.{Memory}
 use prog.Routine.{Routine}
-use prog.Wp.{Calls, Loops, WpFn, Tables}
+use prog.Wp.{Calls, Loops, WpFn}
 use types.Logic.{Logic, sem}
 use contract.Monad.{Fun, fact}
-use contract.Running.{tables, tables_of}
+use contract.Running.{tables}
 use types.Kit.{‵, raw, some, later, ◌⊛◌, ◌$◌, ◌∵◌, !, qed, by, move, keep, use1, use2, use3, split, join, pick, rewrite, fsplit, fjoin, feq_l, suffices, frame, await, done}
 use types.Run.{look, init, forget, stop, hop, fld, from, load, addr, of_opd, and_then, no_more, assigns, land, returns, enter, alloc1, alloc0, params1, pass1, pass0, free1, free0}
 use types.Part.{agg, whole, sub, look_in}
-use sound.WpLaws.{FmC, fm_of, WpFn-mono}
+use sound.WpLaws.{FmC}
 use denote.RattleType.{owns}
 use denote.Laws.{Is, shows}
-use denote.Plain.{uint_Makes, uint_vals, uint_Tells, uint_Lawful}
+use denote.Plain.{uint_row_laws, uint_Makes, uint_vals, uint_Tells, uint_Lawful}
 use denote.Builtin.{u8, usize}
 use denote.Ref.{Bor, MutBor, NamedLft}
 use denote.Slice.{slice_val, MutSlice, ShrSlice, Room, finally, shr_slice_vals, mut_slice_vals, mut_slice_Tells, shr_slice_Tells, shr_slice_Lawful, shr_slice_copy}
 use denote.Steps.{only, owned, peeks, heard, nothing}
 use denote.Struct.Laws as LL
 use denote.Triple.Entry.{on_entry}
-use denote.Triple.Spec.{Meets, triple_of}
+use denote.Triple.Spec.{triple_of}
 use denote.Triple.Statement.{Contract, Triple}
 use denote.Triple.Call.{calls_at}
 use denote.Triple.Clauses.{ensured, lasts}
-use denote.Triple.Table.{entered, cited}
-use denote.Triple.Walked.{says, Stays, stay_none, stay_none_slice, gave_slice, walk_of, Goes-none, Goes-none_slice, Goes-gave_slice, Walks, ends_at, walked, walk_Meets}
+use denote.Triple.Table.{framed}
+use Rattle.std.proofs.raw_atomic.Walks.{proved}
+use denote.Triple.Walked.{says, Stays, stay_none, stay_none_slice, gave_slice, walk_of, Goes-none, Goes-none_slice, Goes-gave_slice, ends_at}
 use denote.Exit.{yes}
 use denote.Signature.{plain}
 use Rattle.output.specs.declared.writer.Writer.{Writer}
-use Rattle.printing.specs.Text.{Appended, appended, place_after}
+use Rattle.printing.specs.Text.{appended, place_after}
 use Rattle.output.specs.Written.{writer_after}
 use Rattle.printing.proofs.Appending.{length_appended}
 use Rattle.output.specs.contracts.writer.Writer as T
 use Rattle.output.proofs.writer.Writer.TheLaws as T'
 use Rattle.output.specs.contracts.writer.made as fresh
-use Rattle.output.proofs.writer.made.Symbol as made-def
 use Rattle.output.proofs.writer.made.Symbol.{name as #records·output·made}
 use Rattle.output.proofs.writer.made.Met as made-thm
 use Rattle.output.specs.contracts.writer.added as added
-use Rattle.output.proofs.writer.added.Symbol as added-def
 use Rattle.output.proofs.writer.added.Symbol.{name as #records·output·added}
 use Rattle.output.proofs.writer.added.Met as added-thm
 use Rattle.output.specs.contracts.writer.place as place
-use Rattle.output.proofs.writer.place.Symbol as place-def
 use Rattle.output.proofs.writer.place.Symbol.{name as #records·output·place}
 use Rattle.output.proofs.writer.place.Met as place-thm
 use Rattle.output.specs.contracts.writer.write.Key.{name as #records·output·write}
@@ -77,19 +78,19 @@ module _ {M : Type 1} {𝓤 : Ura M} (𝓛 : Logic 𝓤) (mem : Memory → SProp
   Place = triple_of 𝓛 place.signature (place.spec 𝓛 mem run)
 
   -- of the first two callees' `ensured`, the clause alone: neither has a last value
-  made_of : (κ : Lft) (x : Bor (List ℕ)) (n : ℕ) (r : Writer) → ent 𝓤 (ensured 𝓛 fresh.ended (fresh.clauses 𝓛 mem run) (κ, tt) (x, (n, tt)) tt r) (fact 𝓤 ((r.buf ≡ x) × (r.at ≡ n)))
+  made_of : (κ : Lft) (x : MutBor (List ℕ)) (n : ℕ) (r : Writer) → ent 𝓤 (ensured 𝓛 fresh.ended (fresh.clauses 𝓛 mem run) (κ, tt) (x, (n, tt)) tt r) (fact 𝓤 ((r.buf ≡ x) × (r.at ≡ n)))
   made_of κ x n r = ex_e 𝓤 _ (λ ws. snd∗ 𝓤 (sem 𝓛 (lasts fresh.ended (κ, tt) (x, (n, tt)) ws)) (fact 𝓤 ((r.buf ≡ x) × (r.at ≡ n))))
 
   added_of : (κ κ' : Lft) (h : Writer) (t : Bor (List ℕ)) (r : Writer) → ent 𝓤 (ensured 𝓛 added.ended (added.clauses 𝓛 mem run) (κ, (κ', tt)) (h, (t, tt)) tt r) (fact 𝓤 (r ≡ writer_after h t.now))
   added_of κ κ' h t r = ex_e 𝓤 _ (λ ws. snd∗ 𝓤 (sem 𝓛 (lasts added.ended (κ, (κ', tt)) (h, (t, tt)) ws)) (fact 𝓤 (r ≡ writer_after h t.now)))
 
-module _ {M : Type 1} {𝓤 : Ura M} (𝓛 : Logic 𝓤) (mem : Memory → SProp 𝓤) (run : Routine → Fun 𝓤) (κ κ' : Lft) (q q' : Share) (b o : ℕ) (γ : GName) (ys : List ℕ) (n : ℕ) (t : MutBor (List ℕ)) (n-fits : n < 2 ^ 64) where
+module _ {M : Type 1} {𝓤 : Ura M} (𝓛 : Logic 𝓤) (mem : Memory → SProp 𝓤) (run : Routine → Fun 𝓤) (κ κ' : Lft) (q q' : Share) (b o : ℕ) (γ : GName) (ys : List ℕ) (n : ℕ) (t : Bor (List ℕ)) (n-fits : n < 2 ^ 64) where
   open 𝓛 use {H, A}
 
   abbrev α : NamedLft
   α = record { mir = named 0; lft = κ }
 
-  abbrev x : Bor (List ℕ)
+  abbrev x : MutBor (List ℕ)
   x = record { ref_ptr = (b, o); ghost_name = γ; now = ys }
 
   abbrev s : Val
@@ -116,7 +117,7 @@ module _ {M : Type 1} {𝓤 : Ura M} (𝓛 : Logic 𝓤) (mem : Memory → SProp
       subst (λ (z : Val). Holds (has_ty (T'.mir erased) z) × WT z) (sym (ap only (LL.tells (T.the_type α) (T'.the_laws α) h _ is))) (tt, ((tt, (record { fits = fields.0.0.1.0 }, tt)), (record { fits = fields.1.0.1 }, tt)))
 
   abbrev Arg : Type 0
-  Arg = Bor (List ℕ) × (ℕ × (Bor (List ℕ) × Unit {0}))
+  Arg = MutBor (List ℕ) × (ℕ × (Bor (List ℕ) × Unit {0}))
 
   abbrev a : Arg
   a = (x, (n, (t, tt)))
@@ -152,10 +153,14 @@ module _ {M : Type 1} {𝓤 : Ura M} (𝓛 : Logic 𝓤) (mem : Memory → SProp
       qed 𝓛 (‵ (flft κ q) ∷ ‵ ((T.the_row α).own_val h₁ (w ∷ [])) ∷ []) ∵ nothing ! $ move ! (1 ∷ 0 ∷ []) $ join ! $
       nothing ! $ move ! (2 ∷ 0 ∷ []) $ fjoin ! $ move ! (1 ∷ 0 ∷ []) $ join ! $ frame ! $ done !
 
+  -- `buf` given up for good at this last list, with the borrow
+  abbrev Given : List ℕ → Fml
+  Given zs = fsep (finally u8 γ zs) (fbor κ (Body (Arr (Holey (memory_of u8)) (length ys)) b o γ))
+
   exits : (r : ℕ) (w : Val) (zs : List ℕ) → (r ≡ place_after ys n t.now) × (zs ≡ appended ys n t.now) → length zs ≡ length (appended ys n t.now)
-      → ent 𝓤 (sep 𝓤 (sep 𝓤 (A.lft κ q) (sem 𝓛 ftrue)) (sep 𝓤 (sep 𝓤 (A.lft κ' q') (sem 𝓛 ftrue)) (sep 𝓤 (sem 𝓛 (finally u8 γ zs)) (sep 𝓤 (sem 𝓛 Text) (sem 𝓛 (usize.own_val r (w ∷ []))))))) (Post w)
+      → ent 𝓤 (sep 𝓤 (sep 𝓤 (A.lft κ q) (sem 𝓛 ftrue)) (sep 𝓤 (sep 𝓤 (A.lft κ' q') (sem 𝓛 ftrue)) (sep 𝓤 (sem 𝓛 (Given zs)) (sep 𝓤 (sem 𝓛 Text) (sem 𝓛 (usize.own_val r (w ∷ []))))))) (Post w)
   exits r w zs e l =
-      qed 𝓛 ((‵ (flft κ q) ⊛ ‵ ftrue) ∷ (‵ (flft κ' q') ⊛ ‵ ftrue) ∷ ‵ (finally u8 γ zs) ∷ ‵ Text ∷ ‵ (usize.own_val r (w ∷ [])) ∷ []) ∵
+      qed 𝓛 ((‵ (flft κ q) ⊛ ‵ ftrue) ∷ (‵ (flft κ' q') ⊛ ‵ ftrue) ∷ ‵ (Given zs) ∷ ‵ Text ∷ ‵ (usize.own_val r (w ∷ [])) ∷ []) ∵
       suffices ! _ (ends_at 𝓛 write.ended stayed (write.clauses 𝓛 mem run) (((κ, (κ', tt)), (q, (q', tt)), tt, a, vals), tt) w r (zs, (tt, (tt, tt))) (l ∙ length_appended ys n t.now, (tt, (tt, tt)))) $
       says ! (record { next_is = e.0; after_is = e.1 }) $ split ! $ move ! (0 ∷ 2 ∷ []) $ join ! $ frame ! $
       move ! (2 ∷ 0 ∷ []) $ fjoin ! $ owned ! usize (Is usize) (uint_Makes 𝓛 w64) n _ (refl, n-fits) $ fjoin ! $ move ! (1 ∷ 0 ∷ []) $ fjoin ! $ done !
@@ -170,7 +175,7 @@ module _ {M : Type 1} {𝓤 : Ura M} (𝓛 : Logic 𝓤) (mem : Memory → SProp
         assigns ! (addr ! (from ! (fld ! refl (hop ! (look_in ! 14 (sub ! 0 refl (whole !))) (stop !))))) (from ! (stop !)) (init ! 4 refl (tt, tt)) $
         assigns ! (agg ! (and_then ! (load ! (from ! (stop !)) (look ! 4 refl)) (and_then ! (load ! (from ! (fld ! refl (stop !))) (look_in ! 14 (sub ! 1 refl (whole !)))) (no_more !)))) (from ! (stop !)) (init ! 2 refl (tt, (tt, (record { fits = room.0 }, tt)))) $
         -- what text owns is had twice
-        move ! (19 ∷ []) $ fsplit ! $ move ! (1 ∷ []) $ fsplit ! $ move ! (1 ∷ []) $ fsplit ! $ use1 𝓛 (‵ Text ⊛ ‵ Text) ((shr_slice_copy 𝓛 (named 1) κ' u8).twice t (tv ∷ [])) $ split ! $
+        move ! (19 ∷ []) $ fsplit ! $ move ! (1 ∷ []) $ fsplit ! $ move ! (1 ∷ []) $ fsplit ! $ use1 𝓛 (‵ Text ⊛ ‵ Text) ((shr_slice_copy 𝓛 (named 1) κ' u8 (uint_row_laws w8)).twice t (tv ∷ [])) $ split ! $
         -- [what text owns, twice; …; what buf owns; _8; …; the tokens]: `made`
         move ! (23 ∷ []) $ split ! $ move ! (0 ∷ 6 ∷ []) $ use2 𝓛 (raw ((Made 𝓛 mem run).pre to_made)) goes_made $
         calls_at ! fm (Made 𝓛 mem run) known-made to_made (and_then ! (load ! (from ! (stop !)) (look ! 8 refl)) (and_then ! (load ! (from ! (stop !)) (look ! 18 refl)) (no_more !))) (λ w₀.
@@ -191,7 +196,8 @@ module _ {M : Type 1} {𝓤 : Ura M} (𝓛 : Logic 𝓤) (mem : Memory → SProp
         calls_at ! fm (Place 𝓛 mem run) known-place (to_place w₁) (and_then ! (load ! (from ! (stop !)) (look ! 6 refl)) (no_more !)) (λ w.
         use1 𝓛 (later (some (λ (r : ℕ). ((‵ (flft κ q) ⊛ ‵ ftrue) ⊛ ‵ (usize.own_val r (w ∷ []))) ⊛ raw (ensured 𝓛 place.ended (place.clauses 𝓛 mem run) (κ, tt) (h₁, tt) tt r)))) (id⊢ 𝓤 _) $ await ! tt $ pick ! (λ r.
         split ! $ move ! (1 ∷ []) $ use1 𝓛 (some (λ (zs : (List ℕ × Unit {0}) × Unit {0}). ‵ (lasts place.ended (κ, tt) (h₁, tt) zs) ⊛ raw (fact 𝓤 ((r ≡ place_after ys n t.now) × (zs.0.0 ≡ appended ys n t.now))))) (id⊢ 𝓤 _) $ pick ! (λ zs.
-        split ! $ move ! (1 ∷ []) $ heard ! ((r ≡ place_after ys n t.now) × (zs.0.0 ≡ appended ys n t.now)) (λ e. fsplit ! $ fsplit ! $ fsplit ! $ move ! (1 ∷ []) $ feq_l ! (λ l.
+        split ! $ move ! (1 ∷ []) $ heard ! ((r ≡ place_after ys n t.now) × (zs.0.0 ≡ appended ys n t.now)) (λ e. fsplit ! $ fsplit ! $ fsplit ! $ fsplit ! $ move ! (1 ∷ []) $ feq_l ! (λ l.
+        rewrite ! 1 (λ (m : ℕ). ‵ (fbor κ (Body (Arr (Holey (memory_of u8)) m) b o γ))) (length_appended ys n t.now) refl $ fjoin ! $
         -- [the last list; …; the token and the result; the other token; …; what text owns; …]
         move ! (3 ∷ []) $ split ! $ move ! (1 ∷ []) $ peeks ! usize (Is usize) (shows 𝓛 usize) r (w ∷ []) (λ is.
         land ! (from ! (stop !)) (init ! 26 refl ((uint_Lawful 𝓛 w64).typed r _ is).0) $
@@ -199,29 +205,13 @@ module _ {M : Type 1} {𝓤 : Ura M} (𝓛 : Logic 𝓤) (mem : Memory → SProp
         move ! (26 ∷ 27 ∷ []) $ free1 ! $ move ! (24 ∷ 25 ∷ []) $ free1 ! $ move ! (22 ∷ 23 ∷ []) $ free1 ! $ move ! (20 ∷ 21 ∷ []) $ free1 ! $ move ! (18 ∷ 19 ∷ []) $ free1 ! $ move ! (16 ∷ 17 ∷ []) $ free1 ! $ move ! (14 ∷ 15 ∷ []) $ free1 ! $ move ! (12 ∷ 13 ∷ []) $ free1 ! $ move ! (10 ∷ 11 ∷ []) $ free1 ! $ free0 ! $
         keep ! (1 ∷ 5 ∷ 2 ∷ 7 ∷ 0 ∷ []) $ by ! (exits r w zs.0.0 e l))))))))))))))))))))))))
 
-module _ {M : Type 1} {𝓤 : Ura M} (𝓛 : Logic 𝓤) (mem : Memory → SProp 𝓤) (run : Routine → Fun 𝓤) where
-  open 𝓛 use {H}
-
-  write_walks : (C : Calls 𝓤 H) (Λ : Loops 𝓤 H) → FmC 𝓤 H 𝓛.laws C → Triple 𝓤 (C #records·output·made) (Made 𝓛 mem run) → Triple 𝓤 (C #records·output·added) (Added 𝓛 mem run) → Triple 𝓤 (C #records·output·place) (Place 𝓛 mem run)
-      → Walks 𝓛 write.ended stayed (WpFn 𝓤 H C Λ code.function) (write.clauses 𝓛 mem run)
-  write_walks C Λ fm known-made known-added known-place = walked 𝓛 write.ended stayed (write.clauses 𝓛 mem run) (WpFn 𝓤 H C Λ code.function)
-      (λ κs. (mut_slice_vals, (uint_vals w64, (shr_slice_vals, tt)))) (λ κs. (mut_slice_Tells (named 0) κs.0 u8, (uint_Tells w64, (shr_slice_Tells (named 1) κs.1.0 u8, tt))))
-      (λ κs qs bounds a g are. via 𝓤 _ (fst∗ 𝓤 _ (emp 𝓤)) (
-      walk 𝓛 mem run κs.0 κs.1.0 qs.0 qs.1.0 a.0.ref_ptr.0 a.0.ref_ptr.1 a.0.ghost_name a.0.now a.1.0 a.1.1.0 are.1.0.1 C Λ fm known-made known-added known-place are.0.0.1 are.1.1.0))
-
-write_meets : {M : Type 1} {𝓤 : Ura M} (𝓛 : Logic 𝓤) → (mem : Memory → SProp 𝓤) (run : Routine → Fun 𝓤) (𝓣 : Tables 𝓤 𝓛.H)
-    → Triple 𝓤 (𝓣.C #records·output·made) (Made 𝓛 mem run) → Triple 𝓤 (𝓣.C #records·output·added) (Added 𝓛 mem run) → Triple 𝓤 (𝓣.C #records·output·place) (Place 𝓛 mem run)
-    → Meets 𝓛 write.signature (WpFn 𝓤 𝓛.H 𝓣.C 𝓣.Λ code.function) (write.spec 𝓛 mem run)
-write_meets {𝓤 = 𝓤} 𝓛 mem run 𝓣 known-made known-added known-place =
-    walk_Meets 𝓛 write.ended stayed (Goes-gave_slice 𝓛 2 0 tt (plain (λ _. u8)), (Goes-none 𝓛 2 (λ _. usize) yes (λ κs x f. refl), (Goes-none_slice 𝓛 2 (1 ∷ []) tt (plain (λ _. u8)) yes, tt))) (write.clauses 𝓛 mem run)
-    (WpFn 𝓤 𝓛.H 𝓣.C 𝓣.Λ code.function) (WpFn-mono 𝓤 𝓛.H 𝓛.laws 𝓣 code.function) (write_walks 𝓛 mem run 𝓣.C 𝓣.Λ (fm_of 𝓤 𝓛.H 𝓛.laws 𝓣) known-made known-added known-place)
-
 pub write_spec : {M : Type 1} → stated.statement M
-unfolding code.routine tables_of
-write_spec 𝓤 𝓛 𝓜 𝓡 =
-    entered 𝓤 𝓛.H (triple_of 𝓛 write.signature (write.spec 𝓛 𝓜.mem 𝓡.run))
-    (tables 𝓤 𝓛.H 𝓜 𝓡 code.env).C (tables 𝓤 𝓛.H 𝓜 𝓡 code.env).Λ #records·output·write code.function (code.unfolded 𝓤 𝓛.H 𝓜 𝓡)
-    (write_meets 𝓛 𝓜.mem 𝓡.run (tables_of 𝓤 𝓛.H 𝓜 (tables 𝓤 𝓛.H 𝓜 𝓡 code.env))
-    (cited 𝓤 𝓛.H (Made 𝓛 𝓜.mem 𝓡.run) 𝓜 𝓡 code.env #records·output·made made-def.routine code.calls-output::writer::made (made-thm.met 𝓤 𝓛 𝓜 𝓡))
-    (cited 𝓤 𝓛.H (Added 𝓛 𝓜.mem 𝓡.run) 𝓜 𝓡 code.env #records·output·added added-def.routine code.calls-output::writer::added (added-thm.met 𝓤 𝓛 𝓜 𝓡))
-    (cited 𝓤 𝓛.H (Place 𝓛 𝓜.mem 𝓡.run) 𝓜 𝓡 code.env #records·output·place place-def.routine code.calls-output::writer::place (place-thm.met 𝓤 𝓛 𝓜 𝓡)))
+write_spec 𝓤 𝓛 𝓜 𝓡 wired =
+    let 𝓣 = tables 𝓤 𝓛.H 𝓜 𝓡 𝓡.env in
+    proved 𝓛 write.ended stayed (write.clauses 𝓛 𝓜.mem 𝓡.returns) 𝓜 𝓡
+    (Goes-gave_slice 𝓛 2 0 tt (plain (λ _. u8)), (Goes-none 𝓛 2 (λ _. usize) yes (λ κs x f. refl), (Goes-none_slice 𝓛 2 (1 ∷ []) tt (plain (λ _. u8)) yes, tt)))
+    write.Key.name code.function (code.unfolded 𝓤 𝓛.H 𝓜 𝓡 wired)
+    (λ κs. (mut_slice_vals, (uint_vals w64, (shr_slice_vals, tt)))) (λ κs. (mut_slice_Tells (named 0) κs.0 u8, (uint_Tells w64, (shr_slice_Tells (named 1) κs.1.0 u8, tt))))
+    (λ κs qs bounds a g are. via 𝓤 _ (fst∗ 𝓤 _ (emp 𝓤)) (
+    walk 𝓛 𝓜.mem 𝓡.returns κs.0 κs.1.0 qs.0 qs.1.0 a.0.ref_ptr.0 a.0.ref_ptr.1 a.0.ghost_name a.0.now a.1.0 a.1.1.0 are.1.0.1 𝓣.C 𝓣.Λ (framed 𝓤 𝓛.H 𝓜 𝓣)
+    (made-thm.met 𝓤 𝓛 𝓜 𝓡 (code.calls-output::writer::made 𝓡.env wired)) (added-thm.met 𝓤 𝓛 𝓜 𝓡 (code.calls-output::writer::added 𝓡.env wired)) (place-thm.met 𝓤 𝓛 𝓜 𝓡 (code.calls-output::writer::place 𝓡.env wired)) are.0.0.1 are.1.1.0))
