@@ -1,8 +1,8 @@
 -- What the census answers, from what its steps said.
 use Prim.Native.Nat.{ℕ, zero, suc, ◌<◌}
-use mathlib.Core.Path.{◌≡◌, refl, ap, sym, subst, ◌∙◌}
+use mathlib.Core.Path.{◌≡◌, refl, sym, ◌∙◌}
 use native.Mathlib.Omega.{arith}
-use Rattle.definitions.specs.Bytes.{Outcome, outcome}
+use Rattle.definitions.specs.Bytes.{outcome}
 use Rattle.definitions.specs.Census.{census_total, census_refusal, FourCounts, Censuses, turned_away, counts}
 use Rattle.definitions.proofs.Outcomes.{outcome-gives, outcome_refusal}
 use Rattle.counting.specs.Steps.{CensusFits, census_of, total_of}

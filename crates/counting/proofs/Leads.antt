@@ -1,20 +1,20 @@
 -- The leads of a census as fields, and those of a problem by its number.
 use Prim.Native.Nat.{ℕ, zero, suc, ◌+◌, ◌*◌, ◌-◌, ◌/◌, ◌%◌, ◌≤◌, ◌<◌}
-use mathlib.Core.Path.{◌≡◌, refl, ap, sym, ◌∙◌}
+use mathlib.Core.Path.{◌≡◌, refl, sym, ◌∙◌}
 use mathlib.Core.Bool.{true}
-use mathlib.Core.List.{List, [], ◌∷◌, ◌++◌, map}
+use mathlib.Core.List.{List, map}
 use native.Mathlib.Omega.{arith}
 use lib.ListN.{length}
-use lib.IntN.{ℤ, sub_ℕ, nat_abs}
+use lib.IntN.{sub_ℕ, nat_abs}
 use borrow.Author.Tests.{le-leb}
-use Rattle.definitions.specs.Limits.{lead_limit, signed_half, signed_full, signed_bytes, problem_header}
-use Rattle.definitions.specs.Tropical.{Trop, bot, fin}
+use Rattle.definitions.specs.Limits.{lead_limit, signed_half, signed_bytes, problem_header}
+use Rattle.definitions.specs.Tropical.{fin}
 use Rattle.definitions.specs.Bytes.{le, put, fields, field_of, blank_or_within}
 use Rattle.definitions.specs.Offset.{off}
 use Rattle.definitions.proofs.Bytes.{length_le}
 use Rattle.definitions.proofs.Put.{put_nil, put_put, length_put}
 use Rattle.definitions.proofs.Offset.{off_off, off_field_of, field_of_bound, within_fits}
-use Rattle.definitions.proofs.Whole.{up, down, whole, subℕ_read, abs_read, abs_show}
+use Rattle.definitions.proofs.Whole.{subℕ_read, abs_show}
 use Rattle.definitions.specs.Census.{census_lead, leads_up_to}
 use Rattle.counting.specs.Steps.{leads_at}
 

@@ -1,21 +1,21 @@
 -- Each problem of a census stands exactly once among all, and nothing else does.
-use Prim.Native.Nat.{ℕ, zero, suc, ◌+◌, ◌-◌, ◌*◌, ◌^◌, ◌≤◌, ◌<◌}
+use Prim.Native.Nat.{ℕ, zero, suc, ◌+◌, ◌-◌, ◌*◌, ◌≤◌, ◌<◌}
 use mathlib.Core.Path.{◌≡◌, refl, ap, ap₂, sym, subst, ◌∙◌}
-use mathlib.Core.Bool.{Bool, true, and-eq-true_iff}
+use mathlib.Core.Bool.{true, and-eq-true_iff}
 use mathlib.Core.Logic.{◌↔◌, ⊎_elim}
 use mathlib.Core.List.{List, [], ◌∷◌, ◌++◌, map, append-nil, append_assoc}
 use native.Mathlib.Omega.{arith}
-use native.Mathlib.Nat.{add-zero, zero-add}
+use native.Mathlib.Nat.{zero-add}
 use lib.ListN.{length, drop, length-map, drop_of_length-le}
-use lib.IntN.{ℤ, sub_ℕ, nat_abs}
+use lib.IntN.{ℤ, nat_abs}
 use Rattle.base.proofs.Numbers.{below_or_last}
 use Rattle.definitions.specs.Limits.{highest_n, highest_m, lead_limit, length_bytes, short_bytes, signed_bytes, problem_header, problem_kind}
 use Rattle.definitions.specs.Tropical.{Trop, bot, fin}
-use Rattle.definitions.specs.Bytes.{Bytes, num_at, nums_at, le, fields, field_of, trop_field, all, blank_or_within}
+use Rattle.definitions.specs.Bytes.{nums_at, le, fields, field_of, all, blank_or_within}
 use Rattle.definitions.specs.ProblemRecord.{problem_size, header_bytes, length_field, kind_field, n_field, m_field, leads_of, list_of}
-use Rattle.definitions.specs.Census.{Counted, nothing, holds, holds_not, census_lead, census_leads, leads_up_to, fronted, lists, lead_count, leads_record, problems, Small, EachOnce, Census, Censuses, CensusHolds, refused, counted, turned_away, counts}
+use Rattle.definitions.specs.Census.{Counted, nothing, holds, holds_not, census_lead, census_leads, leads_up_to, fronted, lists, lead_count, leads_record, problems, Small, EachOnce, Census, Censuses, CensusHolds, refused, turned_away, counts}
 use Rattle.definitions.proofs.Bytes.{length_nums_at, nums_at_below}
-use Rattle.definitions.proofs.Whole.{up, down, whole, subℕ_read, abs_read, eq_read, eq_show}
+use Rattle.definitions.proofs.Whole.{up, down, whole, subℕ_read, abs_read, eq_read}
 use Rattle.definitions.proofs.Tropical.{fin_injective, bot_not_fin}
 use Rattle.definitions.proofs.Offset.{within_size}
 use Rattle.definitions.proofs.Layouts.{leads_one}

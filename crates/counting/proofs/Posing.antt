@@ -1,10 +1,9 @@
 -- The record of a problem of a census: it has its n, m and leads; nothing refuses it but, perhaps, 17; and what the engine says of it is
 -- what it counts as.
-use Prim.Native.Nat.{ℕ, zero, suc, ◌+◌, ◌*◌, ◌-◌, ◌%◌, ◌/◌, ◌≤◌, ◌<◌}
+use Prim.Native.Nat.{ℕ, zero, suc, ◌+◌, ◌*◌, ◌-◌, ◌%◌, ◌/◌, ◌≤◌}
 use mathlib.Core.Path.{◌≡◌, refl, ap, sym, subst, ◌∙◌}
 use mathlib.Core.Bool.{Bool, true, false, cond, and-eq-true_iff}
 use mathlib.Core.List.{List, [], ◌∷◌, ◌++◌, map, append-nil, append_assoc}
-use mathlib.Core.Logic.{⊎_elim}
 use native.Mathlib.Omega.{arith}
 use native.Mathlib.Nat.{mod-lt, mul-le-mul_left, mul-le-mul_right, zero-add}
 use lib.Dec.{ltb}
@@ -12,9 +11,9 @@ use lib.IntN.{nat_abs}
 use lib.ListN.{length, length-append, length-map, take, drop}
 use lib.Seq.{take_at, length-take-le}
 use borrow.Author.Tests.{le-ltb, le-leb, leb-true}
-use Rattle.definitions.specs.Limits.{highest_n, highest_m, lead_limit, length_bytes, short_bytes, signed_bytes, signed_full, kind_place, n_place, m_place, problem_header, problem_kind, questions_kind, answer_most, refused_silent}
+use Rattle.definitions.specs.Limits.{highest_n, highest_m, lead_limit, length_bytes, short_bytes, signed_bytes, kind_place, n_place, m_place, problem_header, problem_kind, answer_most, refused_silent}
 use Rattle.definitions.specs.Tropical.{Trop, bot, fin}
-use Rattle.definitions.specs.Bytes.{Bytes, le, nums_at, fields, field_of, trop_field, put, all, blank_or_within, or_else}
+use Rattle.definitions.specs.Bytes.{le, nums_at, fields, field_of, trop_field, put, all, blank_or_within, or_else}
 use Rattle.definitions.specs.Offset.{trop_of}
 use Rattle.definitions.specs.ProblemRecord.{checker_kinds, problem_size, problem_refusal, record_refusal, refusal_for, silent_refused, length_field, kind_field, n_field, m_field, leads_of, header_bytes, problem_of, meant, WithinLayout, questions_asked, count_field}
 use Rattle.definitions.specs.Solved as Results

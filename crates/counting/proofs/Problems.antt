@@ -1,12 +1,10 @@
 -- All problems of a census stand in the order of their numbers.
-use Prim.Native.Nat.{ℕ, zero, suc, ◌+◌, ◌*◌, ◌^◌, ◌/◌, ◌%◌, ◌≤◌, ◌<◌}
+use Prim.Native.Nat.{ℕ, zero, suc, ◌+◌, ◌*◌, ◌^◌, ◌/◌, ◌%◌, ◌<◌}
 use mathlib.Core.Path.{◌≡◌, refl, ap, ap₂, sym, ◌∙◌}
 use mathlib.Core.List.{List, [], ◌∷◌, ◌++◌, map, append_assoc, append-nil, map-append}
 use native.Mathlib.Omega.{arith}
-use native.Mathlib.Numerals.{add-one}
-use native.Mathlib.Nat.{pow-zero, pow-suc, add-zero, zero-add, mul-add-mod_self_right, mul-add-div_right, mod-eq_of_lt, div-eq_of_lt}
+use native.Mathlib.Nat.{pow-zero, pow-suc, add-zero, mul-add-mod_self_right, mul-add-div_right, mod-eq_of_lt, div-eq_of_lt}
 use lib.ListN.{length}
-use Rattle.definitions.specs.Tropical.{Trop}
 use Rattle.definitions.specs.ProblemRecord.{list_of}
 use Rattle.definitions.proofs.ProblemBack.{listed-length}
 use Rattle.definitions.specs.Census.{fronted, lists, census_lead, census_leads, leads_up_to, leads_record, lead_count, problems, census_total}

@@ -1,12 +1,11 @@
 -- Problems counted one after another: a tally with one problem more, and with all.
-use Prim.Native.Nat.{ℕ, zero, suc, ◌+◌, ◌<◌}
+use Prim.Native.Nat.{ℕ, ◌+◌}
 use mathlib.Core.Path.{◌≡◌, refl, sym, subst, ◌∙◌}
 use mathlib.Core.Logic.{⊎_elim}
 use native.Mathlib.Omega.{arith}
 use native.Mathlib.Numerals.{add-one}
 use borrow.Author.Tests.{eq-eqb, ne_eqb}
 use mathlib.Core.List.{List, [], ◌∷◌, ◌++◌}
-use lib.IntN.{ℤ}
 use Rattle.definitions.specs.Limits.{class_optimal, class_unbounded, class_infeasible, refused_silent}
 use Rattle.definitions.specs.ProblemRecord.{problem_of, list_of}
 use Rattle.base.proofs.Numbers.{same_or_not}

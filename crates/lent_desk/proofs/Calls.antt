@@ -15,7 +15,6 @@ use Rattle.desk.specs.declared.state.Front.{Front}
 use Rattle.desk.specs.declared.state.Place.{Place}
 use Rattle.desk.specs.declared.calls.Taking.{Taking}
 use Rattle.desk.specs.declared.calls.Stepping.{Stepping}
-use Rattle.desk.specs.declared.calls.Stepped.{Stepped}
 use Rattle.desk.specs.declared.calls.Collected.{Collected}
 use Rattle.desk.specs.declared.calls.TakenIn.TheVariants as Takings
 use Rattle.desk.specs.declared.calls.Stepped.TheVariants as Steppings

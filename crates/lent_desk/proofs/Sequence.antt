@@ -252,7 +252,7 @@ module _ {n k : ℕ} {d₀ d : Machine.Desk} (run : Run Gives n d₀ k d) where
     standing = w.standing;
   }
 
-calls_on : {n k : ℕ} {d₀ d : Machine.Desk} {memory words memory₂ words₂ : List ℕ} {seen : List Seen} → Standing n d memory words → (run : Run Gives n d₀ k d) → Calls memory words seen memory₂ words₂
+calls_on : {n : ℕ} {d₀ : Machine.Desk} {memory words memory₂ words₂ : List ℕ} {seen : List Seen} {d : Machine.Desk} {k : ℕ} → Standing n d memory words → (run : Run Gives n d₀ k d) → Calls memory words seen memory₂ words₂
     → Onward run seen memory₂ words₂
 calls_on {d = d} s run Calls.no_more = record { steps = _; state = d; run = run; told = []; same = AllSeen.none; reports_are = sym (append-nil (reports run)); standing = s }
 calls_on s run (Calls.take_in t calls) = let m = taking s t in onward run m (calls_on m.standing (m.extends run).on calls)

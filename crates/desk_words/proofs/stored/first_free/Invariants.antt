@@ -1,0 +1,10 @@
+use Prim.Native.Nat.{◌-◌}
+use Rattle.desk_words.specs.Words.{desk_from}
+use Rattle.desk.proofs.Looking.{Looked}
+use Rattle.desk_words.proofs.stored.first_free.Given as goal
+
+abbrev pub invariant-loop-i : goal.invariant-loop-i
+invariant-loop-i l = Looked (desk_from l.words) 0 l.i
+
+abbrev pub decreases-loop-i : goal.decreases-loop-i
+decreases-loop-i l = 16 - l.i
