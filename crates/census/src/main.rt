@@ -6,9 +6,9 @@ mod words;
 ghost use Rattle.std.specs.Prelude.{◌≡◌, ◌≤◌, length, take};
 ghost use Rattle.census.specs.Words.{line_room, Answered};
 
-use libc::{STDERR_FILENO, STDOUT_FILENO};
 use lines::{LINE_ROOM, census_line, table_line};
 use records::limits::{HIGHEST_M, HIGHEST_N, LEAD_LIMIT};
+use std::env::{Env, FillError};
 use words::{Word, read_number};
 
 // Room for a word; a longer one is no number.
@@ -35,22 +35,19 @@ fn answer(first: &[u8], second: &[u8], third: &[u8], line: &mut [u8]) -> usize
 }
 
 // Says on standard error that a write failed.
-fn not_written() {
-    io::write_all(
-        STDERR_FILENO,
-        b"census: standard output cannot be written\n",
-    );
+fn not_written(rt: &impl Eprint) {
+    let _ = rt.eprintln("census: standard output cannot be written");
 }
 
 // The lines of n and m, w by w up to the first that is refused; false where one cannot be written.
-fn print_widths(n: u64, m: u64) -> bool {
+fn print_widths(rt: &impl Print, n: u64, m: u64) -> bool {
     let mut line = [0u8; LINE_ROOM];
     for w in 1..LEAD_LIMIT + 1 {
         let size = table_line(n, m, w, &mut line);
         if size == 0 {
             return true;
         }
-        if !io::write_all(STDOUT_FILENO, &line[..size]) {
+        if rt.write_all(&line[..size]).is_err() {
             return false;
         }
     }
@@ -58,9 +55,9 @@ fn print_widths(n: u64, m: u64) -> bool {
 }
 
 // The lines of n.
-fn print_rules(n: u64) -> bool {
+fn print_rules(rt: &impl Print, n: u64) -> bool {
     for m in 0..HIGHEST_M + 1 {
-        if !print_widths(n, m as u64) {
+        if !print_widths(rt, n, m as u64) {
             return false;
         }
     }
@@ -68,12 +65,12 @@ fn print_rules(n: u64) -> bool {
 }
 
 // The table: a line of words, then a line for each n, m and w that is not refused.
-fn print_table() -> bool {
-    if !io::write_all(STDOUT_FILENO, b"n m w least bottomless none refused\n") {
+fn print_table(rt: &impl Print) -> bool {
+    if rt.println("n m w least bottomless none refused").is_err() {
         return false;
     }
     for n in 0..HIGHEST_N + 1 {
-        if !print_rules(n as u64) {
+        if !print_rules(rt, n as u64) {
             return false;
         }
     }
@@ -81,38 +78,44 @@ fn print_table() -> bool {
 }
 
 // The line for the three words behind the program's name.
-fn print_census() {
+fn print_census(rt: &(impl Env + Print + Eprint)) {
     let mut first = [0u8; WORD_MOST];
     let mut second = [0u8; WORD_MOST];
     let mut third = [0u8; WORD_MOST];
-    let a = os::arg(1, &mut first);
-    let b = os::arg(2, &mut second);
-    let c = os::arg(3, &mut third);
+    let a = rt.arg(1, &mut first).unwrap_or(0);
+    let b = rt.arg(2, &mut second).unwrap_or(0);
+    let c = rt.arg(3, &mut third).unwrap_or(0);
     let mut line = [0u8; LINE_ROOM];
     let size = answer(&first[..a], &second[..b], &third[..c], &mut line);
     if size == 0 {
-        io::write_all(STDERR_FILENO, b"census: n, m and w are numbers\n");
+        let _ = rt.eprintln("census: n, m and w are numbers");
         return;
     }
-    if !io::write_all(STDOUT_FILENO, &line[..size]) {
-        not_written();
+    if rt.write_all(&line[..size]).is_err() {
+        not_written(rt);
     }
 }
 
-fn main() {
-    let count = os::arg_count();
-    match count {
-        0 | 1 => {
-            if !print_table() {
-                not_written();
+// How many words stand behind the program's name, told as 4 where there are more.
+fn word_count(rt: &impl Env) -> usize {
+    for count in 0..4 {
+        if matches!(rt.arg(count + 1, &mut []), Err(FillError::NotPresent)) {
+            return count;
+        }
+    }
+    4
+}
+
+fn main(rt: HostRuntime) {
+    match word_count(&rt) {
+        0 => {
+            if !print_table(&rt) {
+                not_written(&rt);
             }
         }
-        4 => print_census(),
-        2 | 3 | 5.. => {
-            io::write_all(
-                STDERR_FILENO,
-                b"census: give n, m and w, or no words for the table\n",
-            );
+        3 => print_census(&rt),
+        _ => {
+            let _ = rt.eprintln("census: give n, m and w, or no words for the table");
         }
     }
 }

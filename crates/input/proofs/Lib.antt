@@ -1,3 +1,4 @@
 pub mod Keeping
 pub mod Coming
 pub mod Reading
+pub mod Taking

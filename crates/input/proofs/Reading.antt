@@ -1,17 +1,16 @@
 -- From what reading says to what the programs ask: these bytes and this size were read of the input.
-use Prim.Native.Nat.{ℕ, ◌-◌, ◌≤◌}
-use mathlib.Core.Path.{◌≡◌, sym, subst}
+use Prim.Native.Nat.{ℕ}
+use mathlib.Core.Path.{◌≡◌, subst}
 use mathlib.Core.List.{List}
-use lib.ListN.{length, take}
+use lib.ListN.{length}
 use Rattle.definitions.specs.Limits.{kept_bytes}
-use Rattle.definitions.specs.Bytes.{put}
 use Rattle.definitions.specs.Programs as Programs
 use Rattle.definitions.specs.Programs.{KeptOf, ReadFrom}
 use Rattle.definitions.proofs.Inputs.{kept_of}
 use Rattle.input.specs.Came.{Came, Ends, AllCame, InputOf, all, more}
 
 -- What is kept is the first bytes that came.
-came_kept : {before : List ℕ} {size : ℕ} {after : List ℕ} → length before ≡ kept_bytes → (c : Came before 0 size after) → KeptOf after size c.bytes
+pub came_kept : {before : List ℕ} {size : ℕ} {after : List ℕ} → length before ≡ kept_bytes → (c : Came before 0 size after) → KeptOf after size c.bytes
 came_kept {before} {size} {after} l c =
     let k = kept_of before c.bytes l in
     let kept : KeptOf after (length c.bytes) c.bytes = rw c.kept k in

@@ -1,10 +1,15 @@
 -- What reading adds to what is kept, and how it ends.
-use Rattle.std.specs.Prelude.{ℕ, ◌+◌, ◌-◌, ◌≤◌, ◌≡◌, List, length, take, ℤ, pos, ◌<ℤ◌}
+use Rattle.std.specs.Prelude.{ℕ, ◌+◌, ◌-◌, ◌≤◌, ◌≡◌, List, length, take, Result, Ok, IsErr}
+use Rattle.std.specs.declared.io.Error.{Error}
 use Rattle.definitions.specs.Limits.{kept_bytes}
 use Rattle.definitions.specs.Bytes.{Bytes, put}
 use Rattle.definitions.specs.Programs.{read_most}
 use Rattle.input.specs.declared.Input.{Input}
 use Rattle.input.specs.declared.Input.TheVariants.{Ended, Failed}
+
+-- What a read of std's answers: so many bytes, or an error.
+abbrev pub Answer : Type 0
+Answer = Result ℕ Error
 
 -- So many bytes came behind the first `size`, and are kept in their places as far as they fit.
 pub record Came (before : List ℕ) (size r : ℕ) (after : List ℕ) : Type 0 where
@@ -14,7 +19,7 @@ pub record Came (before : List ℕ) (size r : ℕ) (after : List ℕ) : Type 0 w
 
 -- Reading ends where a read answers 0, or where so many bytes were counted that no outcome changes from there on.
 pub data Ends (size : ℕ) : Type 0 where
-  at_end : (last : ℤ) → last ≡ pos 0 → Ends size
+  at_end : (last : Answer) → last ≡ Ok 0 → Ends size
   enough : read_most ≤ size → Ends size
 
 -- The most bytes that one read gives.
@@ -27,17 +32,17 @@ pub record AllCame (before : List ℕ) (size : ℕ) (after : List ℕ) : Type 0 
   pub ends : Ends size
   pub most : size ≤ read_most + read_size
 
--- What one read left: the bytes that came, as many as it answered; or, where it answered less than 0, nothing.
+-- What one read left: the bytes that came, as many as it answered; or, where it answered an error, nothing.
 pub data OnceRead (before : List ℕ) (size : ℕ) : Input → List ℕ → Type 0 where
-  once : {r : ℕ} {after : List ℕ} (answer : ℤ) → answer ≡ pos r → r ≤ read_size → Came before size r after → OnceRead before size (Ended r) after
-  broken : (answer : ℤ) → answer <ℤ pos 0 → OnceRead before size Failed before
+  once : {r : ℕ} {after : List ℕ} (answer : Answer) → answer ≡ Ok r → r ≤ read_size → Came before size r after → OnceRead before size (Ended r) after
+  broken : (answer : Answer) → IsErr answer → OnceRead before size Failed before
 
--- What reading to the end left: all that was read; or some read answered less than 0, and reading failed.
+-- What reading to the end left: all that was read; or some read answered an error, and reading failed.
 pub data AllRead (before : List ℕ) : Input → List ℕ → Type 0 where
   whole : {size : ℕ} {after : List ℕ} → AllCame before size after → AllRead before (Ended size) after
-  broken : {after : List ℕ} (answer : ℤ) → answer <ℤ pos 0 → AllRead before Failed after
+  broken : {after : List ℕ} (answer : Answer) → IsErr answer → AllRead before Failed after
 
 -- The input of which these bytes came: all of it where a read answered 0, else one that begins with them.
 pub data InputOf (bytes : List ℕ) (size : ℕ) : Ends size → List ℕ → Type 0 where
-  all : (last : ℤ) (e : last ≡ pos 0) → InputOf bytes size (at_end last e) bytes
+  all : (last : Answer) (e : last ≡ Ok 0) → InputOf bytes size (at_end last e) bytes
   more : (h : read_most ≤ size) {input : List ℕ} → Bytes input → size ≤ length input → take size input ≡ bytes → InputOf bytes size (enough h) input

@@ -1,11 +1,14 @@
 // Standard input for the programs: the first 20,000 bytes are kept, all of them are counted.
+#![tactic(auto)]
+
 ghost use Rattle.std.specs.Prelude.{◌≡◌, ◌≤◌, ◌-◌, length, take};
 ghost use Rattle.definitions.specs.Limits.{kept_bytes};
 ghost use Rattle.definitions.specs.Bytes.{put};
 ghost use Rattle.input.specs.Came.{OnceRead, AllRead};
+ghost use Rattle.input.specs.Taken.{OnceTaken, AllTaken};
 
-use libc::STDIN_FILENO;
 use records::limits::{KEPT, READ_MOST};
+use std::io::Read;
 
 // The most bytes that one read gives.
 const READ_SIZE: usize = 4096;
@@ -36,28 +39,30 @@ pub enum Input {
 }
 
 // Reads once and keeps what fits: how many bytes came, 0 at the end of the input; or reading failed.
-fn read_some(kept: &mut [u8], size: u64) -> Input
+fn read_some<R: Read>(input: &mut R, kept: &mut [u8], size: u64) -> Input
     requires { length kept.old ≡ kept_bytes }
-    ensures { OnceRead kept.old size result kept.new }
+    ensures answered { OnceRead kept.old size result kept.new }
+    ensures taken { OnceTaken (R.remaining input.old) (R.remaining input.new) kept.old size result kept.new }
 {
     let mut buf = [0u8; READ_SIZE];
-    let got = libc::read(STDIN_FILENO, &mut buf);
-    if got < 0 {
-        return Input::Failed;
+    match input.read(&mut buf) {
+        Err(_) => Input::Failed,
+        Ok(n) => {
+            keep(kept, size, &buf, n);
+            Input::Ended(n as u64)
+        }
     }
-    let n = io::count(got, &buf);
-    keep(kept, size, &buf, n);
-    Input::Ended(n as u64)
 }
 
-// Reads standard input to its end, or until so much was counted that no outcome changes; keeps its first 20,000 bytes, and
+// Reads an input to its end, or until so much was counted that no outcome changes; keeps its first 20,000 bytes, and
 // gives its size. A failed read is no end: what came before it is not answered. Public for the programs that read records.
-pub fn read_all(kept: &mut [u8; KEPT]) -> Input
-    ensures { AllRead kept.old result kept.new }
+pub fn read_all<R: Read>(input: &mut R, kept: &mut [u8; KEPT]) -> Input
+    ensures answered { AllRead kept.old result kept.new }
+    ensures taken { AllTaken (R.remaining input.old) result kept.new }
 {
     let mut size = 0;
     while size < READ_MOST {
-        let some = read_some(kept, size);
+        let some = read_some(input, kept, size);
         let Input::Ended(n) = some else {
             return Input::Failed;
         };

@@ -10,7 +10,6 @@ mod lines;
 use crate::lines::{LINES_MOST, put_lines};
 use grounds::input::input_reasons;
 use input::{Input, read_all};
-use libc::{STDERR_FILENO, STDOUT_FILENO};
 use records::limits::KEPT;
 
 // What the program puts out for every input of which this was read: so many bytes of the buffer.
@@ -22,22 +21,16 @@ fn answer(kept: &[u8; KEPT], size: u64, lines: &mut [u8]) -> usize
     put_lines(lines, input_reasons(kept, size))
 }
 
-fn main() {
+fn main(rt: HostRuntime) {
     let mut kept = [0u8; KEPT];
-    let input = read_all(&mut kept);
+    let input = read_all(&mut rt.stdin(), &mut kept);
     let Input::Ended(size) = input else {
-        io::write_all(
-            STDERR_FILENO,
-            b"reasons: standard input cannot be read to its end\n",
-        );
+        let _ = eprintln!(rt; "reasons: standard input cannot be read to its end");
         return;
     };
     let mut lines = [0u8; LINES_MOST];
     let n = answer(&kept, size, &mut lines);
-    if !io::write_all(STDOUT_FILENO, &lines[..n]) {
-        io::write_all(
-            STDERR_FILENO,
-            b"reasons: standard output cannot be written\n",
-        );
+    if rt.stdout().write_all(&lines[..n]).is_err() {
+        let _ = eprintln!(rt; "reasons: standard output cannot be written");
     }
 }

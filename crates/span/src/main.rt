@@ -8,7 +8,6 @@ ghost use Rattle.span.specs.Shown.{out_most, Shown, shown_records};
 use engine::input::solve_input;
 use engine::solve::Solved;
 use input::{Input, read_all};
-use libc::{STDERR_FILENO, STDOUT_FILENO};
 use output::writer::{write_record, write_refused};
 use records::limits::{ANSWER_MOST, KEPT, MOST_QUESTIONS};
 
@@ -62,19 +61,16 @@ fn answer(kept: &[u8; KEPT], size: u64, out: &mut [u8]) -> usize
     put_out(out, &buffer, solved)
 }
 
-fn main() {
+fn main(rt: HostRuntime) {
     let mut kept = [0u8; KEPT];
-    let input = read_all(&mut kept);
+    let input = read_all(&mut rt.stdin(), &mut kept);
     let Input::Ended(size) = input else {
-        io::write_all(
-            STDERR_FILENO,
-            b"span: standard input cannot be read to its end\n",
-        );
+        let _ = eprintln!(rt; "span: standard input cannot be read to its end");
         return;
     };
     let mut out = [0u8; OUT_MOST];
     let n = answer(&kept, size, &mut out);
-    if !io::write_all(STDOUT_FILENO, &out[..n]) {
-        io::write_all(STDERR_FILENO, b"span: standard output cannot be written\n");
+    if rt.stdout().write_all(&out[..n]).is_err() {
+        let _ = eprintln!(rt; "span: standard output cannot be written");
     }
 }

@@ -15,29 +15,29 @@ fn solve_whole(problem: &[u8], buffer: &mut [u8; BUFFER], room: usize) -> Solved
 }
 
 // The verdict on what was written.
-fn judged(problem: &[u8], buffer: &[u8; BUFFER], written: usize) {
-    print::text(b", ");
-    verdicts::judged(problem, problem.len(), buffer, written);
+fn judged(rt: &impl Print, problem: &[u8], buffer: &[u8; BUFFER], written: usize) {
+    print::text(rt, b", ");
+    verdicts::judged(rt, problem, problem.len(), buffer, written);
 }
 
 // Class, span and trials.
-fn found(class: u64, span: u64, trials: u64) {
-    verdicts::found(class, span);
-    print::counted(b", trials ", trials);
-    print::text(b", ");
+fn found(rt: &impl Print, class: u64, span: u64, trials: u64) {
+    verdicts::found(rt, class, span);
+    print::counted(rt, b", trials ", trials);
+    print::text(rt, b", ");
 }
 
 // How many questions were answered, and the trials of all.
-fn several(count: usize, trials: u64) {
-    print::counted(b"questions ", count as u64);
-    print::counted(b", trials ", trials);
-    print::text(b", ");
+fn several(rt: &impl Print, count: usize, trials: u64) {
+    print::counted(rt, b"questions ", count as u64);
+    print::counted(rt, b", trials ", trials);
+    print::text(rt, b", ");
 }
 
 // Runs the engine with so many bytes of room and prints what came of it.
-pub fn run(line: &[u8], problem: &[u8], room: usize) {
+pub fn run(rt: &impl Print, line: &[u8], problem: &[u8], room: usize) {
     let mut buffer = noise::buffer();
-    print::edge(b"engine", line);
+    print::edge(rt, b"engine", line);
     let solved = solve_whole(problem, &mut buffer, room);
     match solved {
         Solved::Answered {
@@ -46,19 +46,19 @@ pub fn run(line: &[u8], problem: &[u8], room: usize) {
             trials,
             size,
         } => {
-            found(class, span, trials);
-            noise::show_written(size, &buffer);
-            judged(problem, &buffer, size);
+            found(rt, class, span, trials);
+            noise::show_written(rt, size, &buffer);
+            judged(rt, problem, &buffer, size);
         }
         Solved::AllAnswered {
             count,
             trials,
             size,
         } => {
-            several(count, trials);
-            noise::show_written(size, &buffer);
+            several(rt, count, trials);
+            noise::show_written(rt, size, &buffer);
         }
-        Solved::Refused(k) => noise::show_refused(k, &buffer),
+        Solved::Refused(k) => noise::show_refused(rt, k, &buffer),
     }
-    print::end();
+    print::end(rt);
 }

@@ -1,5 +1,7 @@
 // The edges and examples of documents 01 and 02, run through the libraries. The cases are the lines of standard input, and what came of
 // each is a line, held to the stored output.
+#![tactic(auto)]
+
 mod answer_runs;
 mod build;
 mod cases;
@@ -15,6 +17,6 @@ mod sheet_runs;
 mod verdicts;
 mod writer_runs;
 
-fn main() {
-    cases::run();
+fn main(rt: HostRuntime) {
+    cases::run(&rt);
 }

@@ -62,15 +62,15 @@ fn untouched_leads(leads: &[u32]) -> bool {
 }
 
 // Words where not every number, or not every lead, is noise still.
-pub fn show_numbers(numbers: &[u64], words: &[u8]) {
+pub fn show_numbers(rt: &impl Print, numbers: &[u64], words: &[u8]) {
     if !untouched(numbers) {
-        print::text(words);
+        print::text(rt, words);
     }
 }
 
-pub fn show_leads(leads: &[u32], words: &[u8]) {
+pub fn show_leads(rt: &impl Print, leads: &[u32], words: &[u8]) {
     if !untouched_leads(leads) {
-        print::text(words);
+        print::text(rt, words);
     }
 }
 
@@ -87,21 +87,21 @@ pub fn untouched_from(bytes: &[u8], at: usize) -> bool {
 }
 
 // How many bytes of a lent buffer were written.
-pub fn show_written(size: usize, buffer: &[u8; BUFFER]) {
-    print::number(size as u64);
+pub fn show_written(rt: &impl Print, size: usize, buffer: &[u8; BUFFER]) {
+    print::number(rt, size as u64);
     if untouched_from(buffer, size) {
-        print::text(b" bytes, the rest untouched");
+        print::text(rt, b" bytes, the rest untouched");
     } else {
-        print::text(b" bytes, the rest touched");
+        print::text(rt, b" bytes, the rest touched");
     }
 }
 
 // A refusal, which writes nothing.
-pub fn show_refused(number: usize, buffer: &[u8; BUFFER]) {
-    print::counted(b"refused ", number as u64);
+pub fn show_refused(rt: &impl Print, number: usize, buffer: &[u8; BUFFER]) {
+    print::counted(rt, b"refused ", number as u64);
     if untouched_from(buffer, 0) {
-        print::text(b", buffer untouched");
+        print::text(rt, b", buffer untouched");
     } else {
-        print::text(b", buffer touched");
+        print::text(rt, b", buffer touched");
     }
 }

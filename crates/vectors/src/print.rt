@@ -1,62 +1,55 @@
-// What the lines are made of.
+// What the lines are made of. A write that fails leaves the output short, which is then not the stored one.
 use crate::script::words_of;
-use libc::STDOUT_FILENO;
 use records::limits::OFFSET;
 
-pub fn text(words: &[u8]) {
-    io::write_all(STDOUT_FILENO, words);
+pub fn text(rt: &impl Print, words: &[u8]) {
+    let _ = rt.write_all(words);
 }
 
-pub fn number(x: u64) {
-    io::print_decimal(STDOUT_FILENO, x);
+pub fn number(rt: &impl Print, x: u64) {
+    let _ = rt.print(x);
 }
 
-pub fn end() {
-    text(b"\n");
+pub fn end(rt: &impl Print) {
+    text(rt, b"\n");
 }
 
 // The words of a case.
-fn words(line: &[u8]) {
+fn words(rt: &impl Print, line: &[u8]) {
     let at = words_of(line);
-    text(&line[at..]);
+    text(rt, &line[at..]);
 }
 
 // The start of a line: what is run, and the words of its case.
-pub fn edge(entry: &[u8], line: &[u8]) {
-    text(entry);
-    text(b", ");
-    words(line);
-    text(b": ");
+pub fn edge(rt: &impl Print, entry: &[u8], line: &[u8]) {
+    text(rt, entry);
+    text(rt, b", ");
+    words(rt, line);
+    text(rt, b": ");
 }
 
 // Words, then a number.
-pub fn counted(words: &[u8], x: u64) {
-    text(words);
-    number(x);
+pub fn counted(rt: &impl Print, words: &[u8], x: u64) {
+    text(rt, words);
+    number(rt, x);
 }
 
 // A lead, stamp or span from its offset number.
-pub fn minutes(k: u64) {
+pub fn minutes(rt: &impl Print, k: u64) {
     if k == 0 {
-        text(b"blank");
+        text(rt, b"blank");
         return;
     }
     if k < OFFSET {
-        counted(b"-", OFFSET - k);
+        counted(rt, b"-", OFFSET - k);
         return;
     }
-    number(k - OFFSET);
-}
-
-fn wide(x: u8) -> u64 {
-    x as u64
+    number(rt, k - OFFSET);
 }
 
 // Bytes in hexadecimal.
-pub fn hexadecimal(bytes: &[u8]) {
-    let mut i = 0;
-    while i < bytes.len() {
-        io::print_hex(STDOUT_FILENO, wide(bytes[i]), 2);
-        i += 1;
+pub fn hexadecimal(rt: &impl Print, bytes: &[u8]) {
+    for byte in bytes {
+        let _ = print!(rt; "{byte:02x}");
     }
 }

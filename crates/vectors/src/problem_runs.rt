@@ -27,62 +27,62 @@ fn last_lead(right: &[u32; TABLE], n: usize, m: usize) -> u64 {
 }
 
 // The first left lead and the last right one of a problem that was read.
-fn show_read(n: usize, m: usize, left: &[u32; TABLE], right: &[u32; TABLE]) {
-    print::counted(b"read, n ", n as u64);
-    print::counted(b" m ", m as u64);
-    print::text(b", leads ");
-    print::minutes(lead_at(left, 0));
-    print::text(b" to ");
-    print::minutes(last_lead(right, n, m));
+fn show_read(rt: &impl Print, n: usize, m: usize, left: &[u32; TABLE], right: &[u32; TABLE]) {
+    print::counted(rt, b"read, n ", n as u64);
+    print::counted(rt, b" m ", m as u64);
+    print::text(rt, b", leads ");
+    print::minutes(rt, lead_at(left, 0));
+    print::text(rt, b" to ");
+    print::minutes(rt, last_lead(right, n, m));
 }
 
-fn show_refused(number: usize, left: &[u32; TABLE], right: &[u32; TABLE]) {
-    print::counted(b"refused ", number as u64);
-    noise::show_leads(left, b", left table touched");
-    noise::show_leads(right, b", right table touched");
+fn show_refused(rt: &impl Print, number: usize, left: &[u32; TABLE], right: &[u32; TABLE]) {
+    print::counted(rt, b"refused ", number as u64);
+    noise::show_leads(rt, left, b", left table touched");
+    noise::show_leads(rt, right, b", right table touched");
 }
 
 // Reads the bytes and prints what came of it.
-pub fn run(line: &[u8], bytes: &[u8]) {
+pub fn run(rt: &impl Print, line: &[u8], bytes: &[u8]) {
     let mut left = noise::table();
     let mut right = noise::table();
-    print::edge(b"problem", line);
+    print::edge(rt, b"problem", line);
     let header = read_problem(bytes, CHECKER_KINDS, &mut left, &mut right);
     match header {
-        Header::Told(layout) => show_read(layout.n, layout.m, &left, &right),
-        Header::Refused(k) => show_refused(k, &left, &right),
+        Header::Told(layout) => show_read(rt, layout.n, layout.m, &left, &right),
+        Header::Refused(k) => show_refused(rt, k, &left, &right),
     }
-    print::end();
+    print::end(rt);
 }
 
 // Which lead stands where: leads 1 to 8 in the order of the record.
-fn show_places(left: &[u32; TABLE], right: &[u32; TABLE]) {
-    print::text(b"left");
-    show_row(left, 0);
-    show_row(left, 32);
-    print::text(b", right");
-    show_row(right, 0);
-    show_row(right, 32);
+fn show_places(rt: &impl Print, left: &[u32; TABLE], right: &[u32; TABLE]) {
+    print::text(rt, b"left");
+    show_row(rt, left, 0);
+    show_row(rt, left, 32);
+    print::text(rt, b", right");
+    show_row(rt, right, 0);
+    show_row(rt, right, 32);
 }
 
 // Three places of a row: two leads, and what follows them.
-fn show_row(table: &[u32; TABLE], at: usize)
+fn show_row(rt: &impl Print, table: &[u32; TABLE], at: usize)
     requires { at ≤ 2000 }
 {
-    print::text(b" ");
-    print::minutes(lead_at(table, at));
-    print::text(b" ");
-    print::minutes(lead_at(table, at + 1));
-    print::text(b" ");
-    print::minutes(lead_at(table, at + 2));
+    print::text(rt, b" ");
+    print::minutes(rt, lead_at(table, at));
+    print::text(rt, b" ");
+    print::minutes(rt, lead_at(table, at + 1));
+    print::text(rt, b" ");
+    print::minutes(rt, lead_at(table, at + 2));
 }
 
 // Reads the bytes and prints places of both tables.
-pub fn run_places(line: &[u8], bytes: &[u8]) {
+pub fn run_places(rt: &impl Print, line: &[u8], bytes: &[u8]) {
     let mut left = noise::table();
     let mut right = noise::table();
-    print::edge(b"problem", line);
+    print::edge(rt, b"problem", line);
     read_problem(bytes, CHECKER_KINDS, &mut left, &mut right);
-    show_places(&left, &right);
-    print::end();
+    show_places(rt, &left, &right);
+    print::end(rt);
 }

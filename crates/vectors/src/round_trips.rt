@@ -8,13 +8,13 @@ use answer_writer::roundtrip::{read_then_write, write_then_read};
 use answer_writer::writer::Written;
 use records::limits::{ROWS, STRIDE};
 
-fn verdict(same: bool) {
+fn verdict(rt: &impl Print, same: bool) {
     if same {
-        print::text(b"same");
+        print::text(rt, b"same");
     } else {
-        print::text(b"differ");
+        print::text(rt, b"differ");
     }
-    print::end();
+    print::end(rt);
 }
 
 // A number of a list, 0 past its end.
@@ -86,10 +86,10 @@ fn back_whole(f: Fields, stamps: &[u64], picks: &[u64], buffer: &mut [u8; BUFFER
 }
 
 // Writes the fields, reads the record, and compares.
-pub fn run_written(line: &[u8], f: Fields, stamps: &[u64], picks: &[u64]) {
+pub fn run_written(rt: &impl Print, line: &[u8], f: Fields, stamps: &[u64], picks: &[u64]) {
     let mut buffer = noise::buffer();
-    print::edge(b"written and read", line);
-    verdict(back_whole(f, stamps, picks, &mut buffer));
+    print::edge(rt, b"written and read", line);
+    verdict(rt, back_whole(f, stamps, picks, &mut buffer));
 }
 
 // The first `size` bytes of the buffer are the bytes, and the rest is noise.
@@ -98,7 +98,7 @@ fn same_start(bytes: &[u8], buffer: &[u8], size: usize) -> bool {
         return false;
     }
     let n = bytes_within(size, buffer);
-    check::same(bytes, &buffer[..n])
+    bytes == &buffer[..n]
 }
 
 fn same_record(bytes: &[u8], buffer: &[u8; BUFFER], size: usize) -> bool {
@@ -120,28 +120,28 @@ fn again(bytes: &[u8], n: usize, m: usize) -> bool {
 }
 
 // Reads the bytes, writes the answer, and compares.
-pub fn run_read(line: &[u8], bytes: &[u8], n: usize, m: usize) {
-    print::edge(b"read and written", line);
-    verdict(again(bytes, n, m));
+pub fn run_read(rt: &impl Print, line: &[u8], bytes: &[u8], n: usize, m: usize) {
+    print::edge(rt, b"read and written", line);
+    verdict(rt, again(bytes, n, m));
 }
 
-fn show_cut(buffer: &[u8], size: usize) {
+fn show_cut(rt: &impl Print, buffer: &[u8], size: usize) {
     let n = bytes_within(size, buffer);
-    print::hexadecimal(&buffer[..n]);
+    print::hexadecimal(rt, &buffer[..n]);
 }
 
-fn show_bytes(buffer: &[u8; BUFFER], size: usize) {
-    show_cut(buffer, size);
+fn show_bytes(rt: &impl Print, buffer: &[u8; BUFFER], size: usize) {
+    show_cut(rt, buffer, size);
 }
 
 // Writes the fields and prints the record.
-pub fn run_bytes(line: &[u8], f: Fields, stamps: &[u64], picks: &[u64]) {
+pub fn run_bytes(rt: &impl Print, line: &[u8], f: Fields, stamps: &[u64], picks: &[u64]) {
     let mut buffer = noise::buffer();
-    print::edge(b"bytes", line);
+    print::edge(rt, b"bytes", line);
     let result = write(f, stamps, picks, &mut buffer);
     match result {
-        Written::Record(size) => show_bytes(&buffer, size),
-        Written::Refused(k) => print::counted(b"refused ", k as u64),
+        Written::Record(size) => show_bytes(rt, &buffer, size),
+        Written::Refused(k) => print::counted(rt, b"refused ", k as u64),
     }
-    print::end();
+    print::end(rt);
 }

@@ -6,22 +6,22 @@ use hour_texts::reader::{Read, read_hours};
 use hour_texts::writer::{Written, write_hours};
 
 // Reads a text and prints what came of it.
-fn read_text(text: &[u8]) {
-    print::text(b"hours read, ");
-    print::text(text);
-    print::text(b": ");
+fn read_text(rt: &impl Print, text: &[u8]) {
+    print::text(rt, b"hours read, ");
+    print::text(rt, text);
+    print::text(rt, b": ");
     let read = read_hours(text);
     match read {
-        Read::Value(k) => print::minutes(k),
-        Read::Refused(k) => print::counted(b"refused ", k as u64),
+        Read::Value(k) => print::minutes(rt, k),
+        Read::Refused(k) => print::counted(rt, b"refused ", k as u64),
     }
-    print::end();
+    print::end(rt);
 }
 
 // The text is what follows the letter and a space.
-pub fn run_read(line: &[u8]) {
+pub fn run_read(rt: &impl Print, line: &[u8]) {
     let at = bytes_within(2, line);
-    read_text(&line[at..]);
+    read_text(rt, &line[at..]);
 }
 
 // The buffer cut to its size, and the value written.
@@ -35,27 +35,27 @@ fn write_whole(value: u64, buffer: &mut [u8; BUFFER], room: usize) -> Written {
 }
 
 // The text that was written.
-fn show_bytes(buffer: &[u8], size: usize) {
+fn show_bytes(rt: &impl Print, buffer: &[u8], size: usize) {
     let n = bytes_within(size, buffer);
-    print::text(&buffer[..n]);
-    print::text(b", ");
+    print::text(rt, &buffer[..n]);
+    print::text(rt, b", ");
 }
 
-fn show_text(buffer: &[u8; BUFFER], size: usize) {
-    show_bytes(buffer, size);
+fn show_text(rt: &impl Print, buffer: &[u8; BUFFER], size: usize) {
+    show_bytes(rt, buffer, size);
 }
 
 // Writes a value with so many bytes of room and prints what came of it.
-pub fn run_write(line: &[u8], value: u64, room: usize) {
+pub fn run_write(rt: &impl Print, line: &[u8], value: u64, room: usize) {
     let mut buffer = noise::buffer();
-    print::edge(b"hours written", line);
+    print::edge(rt, b"hours written", line);
     let written = write_whole(value, &mut buffer, room);
     match written {
         Written::Text(size) => {
-            show_text(&buffer, size);
-            noise::show_written(size, &buffer);
+            show_text(rt, &buffer, size);
+            noise::show_written(rt, size, &buffer);
         }
-        Written::Refused(k) => noise::show_refused(k, &buffer),
+        Written::Refused(k) => noise::show_refused(rt, k, &buffer),
     }
-    print::end();
+    print::end(rt);
 }

@@ -142,13 +142,13 @@ pub fn write(f: Fields, stamps: &[u64], picks: &[u64], buffer: &mut [u8; BUFFER]
 }
 
 // Writes an answer of the fields and prints what came of it.
-pub fn run(line: &[u8], f: Fields, stamps: &[u64], picks: &[u64]) {
+pub fn run(rt: &impl Print, line: &[u8], f: Fields, stamps: &[u64], picks: &[u64]) {
     let mut buffer = noise::buffer();
-    print::edge(b"writer", line);
+    print::edge(rt, b"writer", line);
     let written = write(f, stamps, picks, &mut buffer);
     match written {
-        Written::Record(size) => noise::show_written(size, &buffer),
-        Written::Refused(k) => noise::show_refused(k, &buffer),
+        Written::Record(size) => noise::show_written(rt, size, &buffer),
+        Written::Refused(k) => noise::show_refused(rt, k, &buffer),
     }
-    print::end();
+    print::end(rt);
 }

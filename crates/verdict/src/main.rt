@@ -9,7 +9,6 @@ ghost use Rattle.printing.specs.Text.{line_most};
 use checker::check::Verdict;
 use checker::input::judge_input;
 use input::{Input, read_all};
-use libc::{STDERR_FILENO, STDOUT_FILENO};
 use output::writer::write_verdict;
 use printing::lines::LINE_MOST;
 use records::limits::KEPT;
@@ -33,22 +32,16 @@ fn answer(kept: &[u8; KEPT], size: u64, line: &mut [u8]) -> usize
     put_line(line, judge_input(kept, size))
 }
 
-fn main() {
+fn main(rt: HostRuntime) {
     let mut kept = [0u8; KEPT];
-    let input = read_all(&mut kept);
+    let input = read_all(&mut rt.stdin(), &mut kept);
     let Input::Ended(size) = input else {
-        io::write_all(
-            STDERR_FILENO,
-            b"verdict: standard input cannot be read to its end\n",
-        );
+        let _ = eprintln!(rt; "verdict: standard input cannot be read to its end");
         return;
     };
     let mut line = [0u8; LINE_MOST];
     let n = answer(&kept, size, &mut line);
-    if !io::write_all(STDOUT_FILENO, &line[..n]) {
-        io::write_all(
-            STDERR_FILENO,
-            b"verdict: standard output cannot be written\n",
-        );
+    if rt.stdout().write_all(&line[..n]).is_err() {
+        let _ = eprintln!(rt; "verdict: standard output cannot be written");
     }
 }
