@@ -39,7 +39,7 @@ use Rattle.lent_desk.proofs.Sequence.{since_lent, cut, opened_standing, TookNext
 use Rattle.guarantees.specs.DeskCalls.{sum, one_step, one_trial, one_ticket, Some, ReportsDone, HandsOver, TakenWith, TakenBoth, Collecting, CollectedWith, HandedOver, DeskCalls, TrialCalls, LeadTo, TrialsMeet}
 use Rattle.guarantees.proofs.Engine.{accepts_it, within_itself}
 use Rattle.guarantees.proofs.Solvable.{answer_exists}
-use Rattle.guarantees.proofs.Seen.{sum_total, sum_append, step_by, step_same, run_steps, trial_by, trial_same, run_trials, ticket_by, ticket_same, run_tickets, seen_some, told_some, DoneBy, run_done, done_run, done_seen, seen_told, HandsBy, run_hands, hands_run, hands_told, hands_seen, waits_number, refused_number, handed_number_lem}
+use Rattle.guarantees.proofs.Seen.{sum_total, sum_append, step_by, step_same, run_steps, trial_by, trial_same, run_trials, ticket_by, ticket_same, run_tickets, seen_some, told_some, DoneBy, run_done, done_run, done_seen, seen_told, HandsBy, run_hands, hands_run, hands_told, hands_seen, waits_number, refused_number, handed_number_lem, handed_as}
 
 -- ---- own trials
 
@@ -304,9 +304,9 @@ module _ (check : Checker) (judges : CheckerJudges check) where
 
   asked_over : {p before after : List ℕ} {ticket number n k : ℕ} {d e f g : Desk} {r : Machine.Collected} → FromOpening Gives n d → TakesIn n d p (Machine.ticket ticket) e → Run Gives n e k f
       → Collects n f ticket before r g after → SeenAs (collected ticket before number after) (collecting ticket before r after) → 256 ≤ number → HandedOver check p before number after
-  asked_over o t run c (SeenAs.not_collected l m) h = absurd (omega arith)
-  asked_over o t run c SeenAs.still_waits h = absurd (omega arith)
-  asked_over o t run c (SeenAs.handed l) h = handed_right refl (collects_handed o t run c)
+  asked_over {before = before} {after = after} {ticket = ticket} {n = n} {f = f} {g = g} o t run c seen h =
+      let w = handed_as seen h in
+      handed_right w.number_is (collects_handed o t run (subst (λ (z : Machine.Collected). Collects n f ticket before z g after) w.report c))
 
   calls_handed : {p before after : List ℕ} {ticket number : ℕ} → CollectedWith p ticket before number after → HandedOver check p before number after
   calls_handed c = let a = asked c.collecting in asked_over a.from a.takes a.runs.as_run.run a.asks.collects a.asks.seen c.handed

@@ -61,9 +61,9 @@ at_most_is (fin a) (fin b) e = whole_least (le_tested e)
 unfoldable pub same_whole : ℤ → ℤ → Bool
 same_whole a b = le_z a b && le_z b a
 
-same_whole : (a b : ℤ) → same_whole a b ≡ true → a ≡ b
+same_whole_lem : (a b : ℤ) → same_whole a b ≡ true → a ≡ b
 unfolding same_whole
-same_whole a b e =
+same_whole_lem a b e =
     let q = (and-eq-true_iff (le_z a b) (le_z b a)).0 e in
     let h : a ≤ℤ b = le_tested q.0 in
     let k : b ≤ℤ a = le_tested q.1 in
@@ -76,7 +76,7 @@ is_whole z (fin y) = same_whole y z
 is_whole_lem : (z : ℤ) (x : Trop) → is_whole z x ≡ true → x ≡ fin z
 unfolding is_whole
 is_whole_lem z bot e = absurd (false≢true e)
-is_whole_lem z (fin y) e = ap fin (same_whole y z e)
+is_whole_lem z (fin y) e = ap fin (same_whole_lem y z e)
 
 unfoldable pub is_value : ℤ → Value → Bool
 is_value z minus_infinity = false
@@ -86,7 +86,7 @@ is_value z plus_infinity = false
 is_value_lem : (z : ℤ) (v : Value) → is_value z v ≡ true → v ≡ Problems.whole z
 unfolding is_value
 is_value_lem z minus_infinity e = absurd (false≢true e)
-is_value_lem z (Problems.whole y) e = ap Problems.whole (same_whole y z e)
+is_value_lem z (Problems.whole y) e = ap Problems.whole (same_whole_lem y z e)
 is_value_lem z plus_infinity e = absurd (false≢true e)
 
 unfoldable pub finite? : Trop → Bool

@@ -6,7 +6,6 @@ use mathlib.Core.List.{List, [], ◌∷◌, ◌++◌}
 use native.Mathlib.Omega.{arith}
 use borrow.Author.Tests.{ne_eqb}
 use Rattle.definitions.specs.Tropical.{Trop}
-use Rattle.definitions.specs.Solved as Results
 use Rattle.definitions.specs.Desk as Machine
 use Rattle.definitions.specs.Desk.{Desk, TakesIn, Run, nothing, take_in, one_step_is, collect}
 use Rattle.definitions.specs.DeskLaws as Laws
@@ -15,7 +14,7 @@ use Rattle.tickets.proofs.Holds.{desk_holds}
 use Rattle.engine.specs.Outcome.{Gives}
 use Rattle.lent_desk.specs.Entries.{Tells, goes_on_number, done_number, handed_number}
 use Rattle.lent_desk.specs.Sequence.{Seen, took_in, stepped, collected, Report, taking_in, stepping, collecting, reports, SeenAs, AllSeen}
-use Rattle.guarantees.specs.DeskCalls.{sum, one_step, one_trial, one_ticket, Some, ReportsDone, HandsOver, HandedOver}
+use Rattle.guarantees.specs.DeskCalls.{sum, one_step, one_trial, one_ticket, Some, ReportsDone, HandsOver}
 
 -- ---- what a caller counts is what the machine reports
 
@@ -240,12 +239,30 @@ hands_seen number x r SeenAs.still_waits h = absurd h
 hands_seen number x r (SeenAs.handed l) h = (h, omega arith)
 
 -- The number of a collection's answer.
-pub waits_number : {ticket number : ℕ} {before after : List ℕ} → SeenAs (collected ticket before number after) (collecting ticket before Machine.still_waits after) → number ≡ 0
+pub waits_number : {ticket asked number : ℕ} {before had after left : List ℕ} → SeenAs (collected ticket before number after) (collecting asked had Machine.still_waits left) → number ≡ 0
 waits_number SeenAs.still_waits = refl
 
-pub refused_number : {ticket number k : ℕ} {before after : List ℕ} → SeenAs (collected ticket before number after) (collecting ticket before (Machine.Collected.refused k) after) → number ≡ k
+pub refused_number : {ticket asked number k : ℕ} {before had after left : List ℕ} → SeenAs (collected ticket before number after) (collecting asked had (Machine.Collected.refused k) left)
+    → number ≡ k
 refused_number (SeenAs.not_collected l m) = refl
 
-pub handed_number_lem : {ticket number class own size : ℕ} {span : Trop} {before after : List ℕ} → SeenAs (collected ticket before number after) (collecting ticket before (Machine.collected class span own size) after)
+pub handed_number_lem : {ticket asked number class own size : ℕ} {span : Trop} {before had after left : List ℕ}
+    → SeenAs (collected ticket before number after) (collecting asked had (Machine.collected class span own size) left)
     → (number ≡ handed_number class own) × (256 ≤ number)
 handed_number_lem (SeenAs.handed l) = (refl, omega arith)
+
+-- A collection whose number is 256 or more handed an answer over.
+pub record HandedAs (number : ℕ) (r : Machine.Collected) : Type 0 where
+  pub class : ℕ
+  pub own : ℕ
+  pub size : ℕ
+  pub span : Trop
+  pub report : r ≡ Machine.collected class span own size
+  pub number_is : number ≡ handed_number class own
+
+pub handed_as : {ticket asked number : ℕ} {before had after left : List ℕ} {r : Machine.Collected}
+    → SeenAs (collected ticket before number after) (collecting asked had r left) → 256 ≤ number → HandedAs number r
+handed_as (SeenAs.not_collected l m) h = absurd (omega arith)
+handed_as SeenAs.still_waits h = absurd (omega arith)
+handed_as (SeenAs.handed {class = class} {own = own} {size = size} {span = span} l) h =
+    record { class = class; own = own; size = size; span = span; report = refl; number_is = refl }
