@@ -1,14 +1,13 @@
 -- The converter's result as a number.
-use Prim.Native.Nat.{ℕ, ◌*◌, ◌≤◌}
-use mathlib.Core.Path.{◌≡◌, refl, ap, sym, ◌∙◌}
+use Prim.Native.Nat.{ℕ, ◌*◌}
+use mathlib.Core.Path.{◌≡◌, ap, sym, ◌∙◌}
 use mathlib.Core.List.{List}
 use native.Mathlib.Omega.{arith}
 use lib.ListN.{length}
-use Rattle.definitions.specs.Bytes.{or_else}
 use Rattle.definitions.specs.Conversion.{convert_refusal, converted_size, Converts}
 use Rattle.definitions.proofs.Outcomes.{outcome-gives}
 use Rattle.definitions.proofs.Refusals.{or_else_none}
-use Rattle.converter.specs.Steps.{record_most, conversion_of}
+use Rattle.converter.specs.Steps.{conversion_of}
 use Rattle.converter.specs.declared.convert.Conversion.{Conversion}
 use Rattle.converter.specs.declared.convert.Conversion.TheVariants.{Record, Refused}
 use Rattle.converter.proofs.Converted.{stored_fits, converted_most}

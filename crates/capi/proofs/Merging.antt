@@ -1,12 +1,11 @@
 -- What merging answers as a number.
 use Prim.Native.Nat.{ℕ, suc, ◌*◌, ◌≤◌}
-use mathlib.Core.Path.{◌≡◌, refl, ap, sym, ◌∙◌}
+use mathlib.Core.Path.{◌≡◌, ap, sym}
 use mathlib.Core.List.{List}
 use native.Mathlib.Omega.{arith}
-use lib.ListN.{length}
 use lib.IntN.{ℤ}
 use Rattle.definitions.specs.Limits.{signed_bytes, merged_most}
-use Rattle.definitions.specs.Bytes.{Outcome, refusal, gives, or_else}
+use Rattle.definitions.specs.Bytes.{Outcome, refusal, gives}
 use Rattle.definitions.specs.ProblemRecord.{n_field, problem_refusal}
 use Rattle.definitions.specs.Merging.{merge_refusal, Merges, turned_away, rule_broken, too_early, stamps}
 use Rattle.definitions.proofs.Refusals.{or_else_none, record_fits}

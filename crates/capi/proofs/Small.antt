@@ -1,18 +1,17 @@
 -- The numbers fit 64 bits: few trials, a small class and span, a short record.
-use Prim.Native.Nat.{ℕ, zero, suc, ◌+◌, ◌*◌, ◌≤◌, ◌<◌}
-use mathlib.Core.Path.{◌≡◌, refl, ap, sym, subst, ◌∙◌}
+use Prim.Native.Nat.{ℕ, ◌+◌, ◌*◌, ◌≤◌, ◌<◌}
+use mathlib.Core.Path.{◌≡◌, refl, ap, sym, ◌∙◌}
 use mathlib.Core.Bool.{true}
 use mathlib.Core.List.{List}
 use mathlib.Core.Logic.{⊎_elim}
 use native.Mathlib.Omega.{arith}
 use native.Mathlib.Nat.{mul-le-mul_right}
 use lib.ListN.{length}
-use Rattle.definitions.specs.Limits.{span_limit, signed_half, answer_most, most_trials, most_questions}
-use Rattle.definitions.specs.Tropical.{Trop}
+use Rattle.definitions.specs.Limits.{span_limit, signed_half, most_trials, most_questions}
 use Rattle.definitions.specs.Offset.{trop_of}
 use Rattle.definitions.specs.Bytes.{blank_or_within}
 use Rattle.definitions.specs.ProblemRecord.{problem_refusal, kind_field, n_field, m_field, count_field, questions_asked}
-use Rattle.definitions.specs.AnswerRecord.{Answer, answer_refusal, answer_of, answer_size, writer_refusal, writer_outcome, class_field}
+use Rattle.definitions.specs.AnswerRecord.{Answer, answer_of, answer_size, writer_refusal, writer_outcome, class_field}
 use Rattle.definitions.specs.Verdict as Verdicts
 use Rattle.definitions.specs.Verdict.{check_refusal, answer_for, Judged}
 use Rattle.definitions.specs.Solved.{Solves}

@@ -1,5 +1,5 @@
 -- Results as one number: the low byte is the refusal, 0 where there is none, 255 where the reader is lent too few places.
-use Rattle.std.specs.Prelude.{ℕ, zero, suc, ◌+◌, ◌*◌, ◌<◌, ◌≤◌, ◌≡◌, List, ◌⊎◌, length}
+use Rattle.std.specs.Prelude.{ℕ, suc, ◌+◌, ◌*◌, ◌<◌, ◌≤◌, ◌≡◌, List, ◌⊎◌, length}
 use Rattle.definitions.specs.Limits.{highest_n, highest_m, byte_values, short_full, signed_full, most_trials, most_questions, answer_most}
 use Rattle.definitions.specs.Bytes.{put, Outcome, refusal, gives}
 use Rattle.definitions.specs.Offset.{trop_of}

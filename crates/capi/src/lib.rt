@@ -1,4 +1,6 @@
 // The boundary to C and Rust: functions on bytes and numbers. capi/span.h says the same in C's words.
+#![tactic(auto)]
+
 pub mod behind;
 pub mod calls;
 pub mod census;
