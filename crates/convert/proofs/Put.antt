@@ -1,15 +1,14 @@
 -- What the convert program puts out is what document 02 says of its input.
-use Prim.Native.Nat.{ℕ, zero, suc, ◌+◌, ◌*◌, ◌≤◌, ◌<◌}
+use Prim.Native.Nat.{ℕ, zero, suc, ◌+◌, ◌≤◌, ◌<◌}
 use mathlib.Core.Path.{◌≡◌, refl, ap, sym, subst, ◌∙◌}
-use mathlib.Core.Bool.{true}
 use mathlib.Core.List.{List}
 use native.Mathlib.Omega.{arith}
 use lib.ListN.{length, take, length-take}
 use lib.Seq.{length-take-le}
 use borrow.Author.Tests.{le-ltb}
 use Rattle.definitions.specs.Limits.{length_bytes}
-use Rattle.definitions.specs.Bytes.{Bytes, or_else}
-use Rattle.definitions.specs.ProblemRecord.{converter_kinds, length_field, header_refusal}
+use Rattle.definitions.specs.Bytes.{Bytes}
+use Rattle.definitions.specs.ProblemRecord.{converter_kinds, header_refusal}
 use Rattle.definitions.specs.AnswerRecord.{written}
 use Rattle.definitions.specs.Programs as Programs
 use Rattle.definitions.specs.Programs.{refused_line, KeptOf, ReadFrom, read_most}

@@ -1,5 +1,7 @@
 // The convert program: a stored problem on standard input, the record without its rules that say nothing, or the line of the refusal, on
 // standard output. Document 02, 2.6.
+#![tactic(auto)]
+
 ghost use Rattle.std.specs.Prelude.{◌≡◌, ℕ, ◌≤◌, List, length, take};
 ghost use Rattle.definitions.specs.Programs.{ReadFrom};
 ghost use Rattle.definitions.specs.Conversion.{ConvertOutput};

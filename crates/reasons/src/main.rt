@@ -1,5 +1,7 @@
 // The reasons program: a problem followed by an accepted answer on standard input, the rules behind it and the binding round on standard
 // output. Document 02, 2.5.
+#![tactic(auto)]
+
 ghost use Rattle.std.specs.Prelude.{◌≡◌, ℕ, ◌≤◌, List, length, take};
 ghost use Rattle.definitions.specs.Programs.{ReadFrom};
 ghost use Rattle.definitions.specs.Reasons.{ReasonsOutput};

@@ -1,21 +1,18 @@
 -- What the span program puts out is what document 01 says of its input.
-use Prim.Native.Nat.{ℕ, zero, suc, ◌+◌, ◌*◌, ◌≤◌, ◌<◌}
+use Prim.Native.Nat.{ℕ, zero, suc, ◌≤◌}
 use mathlib.Core.Path.{◌≡◌, refl, ap, sym, subst, ◌∙◌}
 use mathlib.Core.List.{List}
 use native.Mathlib.Omega.{arith}
 use native.Mathlib.Nat.{mul-le-mul_right}
 use lib.ListN.{length, take, length-take}
 use Rattle.definitions.specs.Limits.{answer_most, most_questions}
-use Rattle.definitions.specs.Bytes.{or_else}
 use Rattle.definitions.specs.ProblemRecord.{record_refusal, kind_field, count_field, questions_asked}
-use Rattle.definitions.specs.AnswerRecord.{written}
 use Rattle.definitions.specs.Programs.{SpanOutput, refusal, answer, answers, refused_line}
 use Rattle.definitions.specs.Solved as Results
 use Rattle.definitions.specs.Solved.{Solves, turned_away, solved, all_solved, engine_refusal}
 use Rattle.definitions.proofs.Refusals.{or_else_suc}
 use Rattle.definitions.proofs.Layouts.{one_question}
 use Rattle.definitions.proofs.Solved.{none_refused, asked_few}
-use Rattle.definitions.proofs.Put.{length_put}
 use Rattle.engine.specs.Outcome.{solved_of}
 use Rattle.engine.proofs.Outcomes.{own_wrote, own_wrote_all}
 use Rattle.engine.specs.declared.solve.Solved.{Solved}

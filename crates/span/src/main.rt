@@ -1,5 +1,7 @@
 // The span program: a problem on standard input, the answer record, or those of several questions one after another, or the line of the
 // refusal on standard output. Document 01, "Two programs"; document 02, 2.1.
+#![tactic(auto)]
+
 ghost use Rattle.std.specs.Prelude.{◌≡◌, ℕ, ◌≤◌, List, length, take};
 ghost use Rattle.definitions.specs.ProblemRecord.{meant};
 ghost use Rattle.definitions.specs.Programs.{ReadFrom, SpanOutput};

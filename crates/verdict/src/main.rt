@@ -1,5 +1,7 @@
 // The verdict program: a problem followed by an answer on standard input, one line on standard output. Document 01, "Two
 // programs".
+#![tactic(auto)]
+
 ghost use Rattle.std.specs.Prelude.{◌≡◌, ℕ, ◌≤◌, List, length, take};
 ghost use Rattle.definitions.specs.Programs.{ReadFrom, VerdictOutput, verdict_line};
 ghost use Rattle.definitions.specs.Verdict.{refused};
