@@ -2,8 +2,8 @@
  * paint was used. Problems are the largest ones (n = 31, m = 63), of every kind that the entry takes, with rules from each moment to the
  * next and the span from the last to the anchor. Then each is called again on a thread whose whole stack has SPAN_STACK bytes.
  *
- *     rt staticlib capi
- *     cc -O1 -I capi benches/stack.c target/staticlib/libcapi.a -pthread -o target/stack && target/stack
+ *     tools/build archive
+ *     cc -O1 -I capi benches/stack.c crates/capi/out/libcapi.a -pthread -o target/stack && target/stack
  */
 #define _GNU_SOURCE
 #include <inttypes.h>

@@ -1,6 +1,6 @@
 /* How often does each class occur among small problems?
  *
- *     cc -I capi capi/census.c target/staticlib/libcapi.a -o target/census_example && target/census_example
+ *     cc -I capi capi/census.c crates/capi/out/libcapi.a -o target/census_example && target/census_example
  *
  * prints
  *

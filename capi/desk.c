@@ -1,6 +1,6 @@
 /* A desk with two problems: which is answered first?
  *
- *     cc -I capi capi/desk.c target/staticlib/libcapi.a -o target/desk && target/desk
+ *     cc -I capi capi/desk.c crates/capi/out/libcapi.a -o target/desk && target/desk
  *
  * prints
  *

@@ -1,6 +1,6 @@
 /* Answers document 01's example A from C, has the checker judge the answer, and reads it; then shows hours and minutes.
  *
- *     cc -I capi capi/example.c target/staticlib/libcapi.a -o target/example && target/example
+ *     cc -I capi capi/example.c crates/capi/out/libcapi.a -o target/example && target/example
  *
  * prints
  *

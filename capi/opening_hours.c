@@ -1,6 +1,6 @@
 /* When does a day ward, open Monday to Friday from 7:00 to 18:00, admit next?
  *
- *     cc -I capi capi/opening_hours.c target/staticlib/libcapi.a -o target/opening_hours && target/opening_hours
+ *     cc -I capi capi/opening_hours.c crates/capi/out/libcapi.a -o target/opening_hours && target/opening_hours
  *
  * prints
  *

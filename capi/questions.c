@@ -1,6 +1,6 @@
 /* Puts three questions to one day's rules: a problem of kind 3, whose answers stand one after another in one buffer.
  *
- *     cc -I capi capi/questions.c target/staticlib/libcapi.a -o target/questions && target/questions
+ *     cc -I capi capi/questions.c crates/capi/out/libcapi.a -o target/questions && target/questions
  *
  * prints
  *

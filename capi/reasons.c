@@ -1,6 +1,6 @@
 /* What holds a span up: the rules behind an answer, and its binding round.
  *
- *     cc -I capi capi/reasons.c target/staticlib/libcapi.a -o target/reasons_example && target/reasons_example
+ *     cc -I capi capi/reasons.c crates/capi/out/libcapi.a -o target/reasons_example && target/reasons_example
  *
  * prints
  *

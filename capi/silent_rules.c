@@ -1,6 +1,6 @@
 /* A stored problem with a rule that says nothing: turned away, converted, answered.
  *
- *     cc -I capi capi/silent_rules.c target/staticlib/libcapi.a -o target/silent_rules && target/silent_rules
+ *     cc -I capi capi/silent_rules.c crates/capi/out/libcapi.a -o target/silent_rules && target/silent_rules
  *
  * prints
  *

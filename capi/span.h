@@ -1,7 +1,7 @@
 /* The span engine, release 4.2: its boundary to C.
  *
- * Link with libspan (`pkg-config --cflags --libs span`, where it was installed), or with target/staticlib/libcapi.a, which
- * `rt staticlib capi` writes. Machines: x86-64, Linux. docs/RECORDS.md tells every record byte by byte, with the refusals and their order;
+ * Link with libspan (`pkg-config --cflags --libs span`, where it was installed), or with crates/capi/out/libcapi.a, which
+ * `tools/build archive` writes. Machines: x86-64, Linux. docs/RECORDS.md tells every record byte by byte, with the refusals and their order;
  * span_records.h builds problems and takes answers apart.
  *
  * The words are those of documents 01 and 02. Records are bytes, little-endian. A function is handed a pointer and then a

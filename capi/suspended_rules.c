@@ -1,6 +1,6 @@
 /* A rule that is lifted at the weekend: the same rules with other states, as problems of kind 5.
  *
- *     cc -I capi capi/suspended_rules.c target/staticlib/libcapi.a -o target/suspended_rules && target/suspended_rules
+ *     cc -I capi capi/suspended_rules.c crates/capi/out/libcapi.a -o target/suspended_rules && target/suspended_rules
  *
  * prints
  *

@@ -1,6 +1,6 @@
 /* Two planners' plans merged into one.
  *
- *     cc -I capi capi/two_plans.c target/staticlib/libcapi.a -o target/two_plans && target/two_plans
+ *     cc -I capi capi/two_plans.c crates/capi/out/libcapi.a -o target/two_plans && target/two_plans
  *
  * prints
  *

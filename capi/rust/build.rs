@@ -1,4 +1,4 @@
-//! Links the archive that `rt staticlib capi` writes, or that was installed, and nothing in its place. SPAN_ARCHIVE_FOLDER names its folder; else it is
+//! Links the archive that `tools/build archive` writes, or that was installed, and nothing in its place. SPAN_ARCHIVE_FOLDER names its folder; else it is
 //! looked for in the repository, then in the prefix below which this package was installed, then by pkg-config. Without it only the documentation can be made.
 
 use std::env;
@@ -36,7 +36,7 @@ fn folders() -> Vec<PathBuf> {
     }
     let here = PathBuf::from(env::var_os("CARGO_MANIFEST_DIR").expect("cargo names the package's folder"));
     let beside =
-        ["../../target/staticlib", "../../../lib", "../../../lib/x86_64-linux-gnu"].map(|place| here.join(place));
+        ["../../crates/capi/out", "../../../lib", "../../../lib/x86_64-linux-gnu"].map(|place| here.join(place));
     let mut asked = Command::new("pkg-config");
     let told = asked.args(["--variable=libdir", "span"]).output().ok().filter(|output| output.status.success());
     let folder = told.map(|output| PathBuf::from(String::from_utf8_lossy(&output.stdout).trim()));

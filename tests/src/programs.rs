@@ -1,5 +1,5 @@
 //! The programs, run on standard input, the census program with words. SPAN_PROGRAM, VERDICT_PROGRAM, CONVERT_PROGRAM, REASONS_PROGRAM and
-//! CENSUS_PROGRAM name them; else they are span, verdict, convert, reasons and census in target/bin of the repository. On the stand-in the program of this
+//! CENSUS_PROGRAM name them; else they are span, verdict, convert, reasons and census below crates/ of the repository, as `tools/build` leaves them. On the stand-in the program of this
 //! package acts as each. Places are looked up when it runs: a copied tree is tried with its own programs.
 
 use std::io::{Read, Write};
@@ -31,7 +31,7 @@ fn command(name: &str, variable: &str) -> Command {
         command.arg(format!("act-as-{name}"));
         return command;
     }
-    Command::new(repository().join("target/bin").join(name))
+    Command::new(repository().join("crates").join(name).join("out").join(name))
 }
 
 /// What a program writes on an input; a message where it cannot be run or ends badly.

@@ -86,7 +86,7 @@ pub use builder::{Fault, Problem, Row, Side, What, BLANK, MOST_LEAD, MOST_M, MOS
 compile_error!(concat!(
     "there is no ",
     env!("SPAN_ARCHIVE"),
-    ": run `rt staticlib capi` first, which proves and writes it, or install the library and name its folder in SPAN_ARCHIVE_FOLDER"
+    ": run `tools/build archive` first, which proves and writes it, or install the library and name its folder in SPAN_ARCHIVE_FOLDER"
 ));
 
 #[cfg(all(other_archive, not(doc)))]

@@ -132,7 +132,7 @@ fn the_build_error_knows_the_archive_alone() {
     let (good, _, errors) = ran(without_archive("build", &scratch).arg("--quiet"));
     assert!(!good, "{errors}");
     let message = errors.split("error: there is no").nth(1).expect("the package's own message");
-    assert!(message.contains("libcapi.a") && message.contains("`rt staticlib capi`"), "{message}");
+    assert!(message.contains("libcapi.a") && message.contains("`tools/build archive`"), "{message}");
     for word in ["stand-in", "unproved", "feature"] {
         assert!(!message.contains(word), "{message}");
     }
@@ -161,7 +161,7 @@ fn copied(scratch: &Scratch) -> PathBuf {
 }
 
 fn archive() -> PathBuf {
-    let folder = std::env::var_os("SPAN_ARCHIVE_FOLDER").unwrap_or("../../target/staticlib".into());
+    let folder = std::env::var_os("SPAN_ARCHIVE_FOLDER").unwrap_or("../../crates/capi/out".into());
     package().join(folder).join("libcapi.a")
 }
 

@@ -1,5 +1,5 @@
 //! The tool from outside, as a ward scheduler and a system administrator call it. Some tests run the programs of the
-//! repository beside it: `rt check span verdict` builds them.
+//! repository beside it: `tools/build span verdict` builds them.
 
 mod answers;
 mod chosen;

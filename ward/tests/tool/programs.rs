@@ -11,12 +11,12 @@ use crate::{repository, ward};
 
 /// What a program of the repository puts out.
 fn program(name: &str, input: &[u8]) -> Vec<u8> {
-    let path = repository().join("target/bin").join(name);
+    let path = repository().join("crates").join(name).join("out").join(name);
     let mut child = Command::new(&path)
         .stdin(Stdio::piped())
         .stdout(Stdio::piped())
         .spawn()
-        .unwrap_or_else(|error| panic!("{}: {error}; `rt check span verdict` builds it", path.display()));
+        .unwrap_or_else(|error| panic!("{}: {error}; `tools/build span verdict` builds it", path.display()));
     child.stdin.take().expect("a pipe").write_all(input).expect("input");
     child.wait_with_output().expect("output").stdout
 }

@@ -13,8 +13,8 @@ fn tree(name: &str) -> Scratch {
     scratch.program("tree/examples/run", run.split_once('\n').expect("lines").1);
     let script = repository().join("examples/run");
     std::fs::copy(script, scratch.path("tree/examples/run")).expect("a copy");
-    scratch
-        .program("bin/rt", "echo \"rt $*\" >> \"$CALLS\"; mkdir -p target/staticlib; : > target/staticlib/libcapi.a");
+    std::fs::create_dir_all(scratch.path("tree/crates/capi")).expect("the archive's crate");
+    scratch.program("bin/rt", "echo \"rt $* in ${PWD##*/}\" >> \"$CALLS\"; mkdir -p out; : > out/libcapi.a");
     // The reader is the real one; the tool only says that it was called.
     let reader = reader();
     let lines = format!(
@@ -62,7 +62,7 @@ fn the_text_is_read_before_anything_is_built() {
     assert_eq!(told.status, Some(0), "{told:?}");
     let tree = scratch.path("tree").canonicalize().expect("the tree");
     assert!(calls[0].contains("-p ward-reader -- good.txt"), "{calls:?}");
-    assert_eq!(calls[1], "rt staticlib capi");
+    assert_eq!(calls[1], "rt lib in capi");
     assert!(
         calls[2].contains(&format!("{}/Cargo.toml", tree.display()))
             && calls[2].ends_with("-p ward -- --json good.txt"),
@@ -74,7 +74,7 @@ fn the_text_is_read_before_anything_is_built() {
 fn what_is_built_is_not_proved_again() {
     let scratch = tree("built");
     scratch.file("good.txt", E);
-    scratch.file("tree/target/staticlib/libcapi.a", "");
+    scratch.file("tree/crates/capi/out/libcapi.a", "");
     let (told, calls) = run(&scratch, &["good.txt"]);
     assert_eq!((told.status, told.err.as_str()), (Some(0), ""), "{told:?}");
     assert!(calls.len() == 1 && calls[0].ends_with("-p ward -- good.txt"), "{calls:?}");

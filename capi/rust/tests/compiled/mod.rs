@@ -25,7 +25,7 @@ pub fn languages() -> Vec<Language> {
 /// The archive that the package links.
 #[allow(dead_code)]
 pub fn archive() -> PathBuf {
-    std::env::var_os("SPAN_ARCHIVE_FOLDER").map_or("../../target/staticlib".into(), PathBuf::from).join("libcapi.a")
+    std::env::var_os("SPAN_ARCHIVE_FOLDER").map_or("../../crates/capi/out".into(), PathBuf::from).join("libcapi.a")
 }
 
 /// What a command prints; it must end well.
