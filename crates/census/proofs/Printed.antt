@@ -1,13 +1,10 @@
 -- The lines of a census.
-use Prim.Native.Nat.{ℕ, zero, suc, ◌+◌, ◌≤◌, ◌<◌}
-use mathlib.Core.Path.{◌≡◌, refl, ap, sym, subst, ◌∙◌}
+use Prim.Native.Nat.{ℕ, ◌≤◌}
+use mathlib.Core.Path.{◌≡◌, refl, subst, ◌∙◌}
 use mathlib.Core.List.{List, [], ◌∷◌, ◌++◌, append_assoc}
 use native.Mathlib.Omega.{arith}
-use native.Mathlib.Nat.{zero-add}
 use lib.ListN.{length, take}
-use Rattle.definitions.specs.Bytes.{put}
-use Rattle.definitions.specs.Programs.{decimal, newline, refused_line}
-use Rattle.definitions.specs.Census as Papers
+use Rattle.definitions.specs.Programs.{decimal, refused_line}
 use Rattle.definitions.specs.Census.{numbers_line, census_line, table_line, Censuses, CensusOutput, TableOutput}
 use Rattle.definitions.proofs.Put.{take_put}
 use Rattle.printing.specs.Text.{Putting}

@@ -1,5 +1,7 @@
 // The census program: with n, m and w behind its name one line, the counts of least, bottomless, none and refused, or the line of the
 // refusal; without words the handbook's table. Document 02, 2.14.
+#![tactic(auto)]
+
 mod lines;
 mod words;
 
