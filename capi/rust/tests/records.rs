@@ -116,6 +116,12 @@ fn their_reasons_are_told() -> Result<(), Box<dyn std::error::Error>> {
     ] {
         assert_eq!(span::reasons(&problems[problem].record()?, &examples[answer])?.to_string(), lines, "{answer}");
     }
+    // The same plan with its reach from the anchor, as another engine may answer: the round starts there.
+    let mut from_anchor = examples["The day's answer"].clone();
+    from_anchor[14..16].copy_from_slice(&[0, 0]);
+    let day = problems["The day"].record()?;
+    assert_eq!(span::check(&day, &from_anchor)?.outcome, Outcome::Least(20));
+    assert_eq!(span::reasons(&day, &from_anchor)?.to_string(), "rules 1 2 3\nround 0 1 3 2\n");
     let back = problems["From arrival to ready"].record()?;
     assert_eq!(span::reasons(&back, &examples["A bottomless answer"]).unwrap_err().cause(), span::Cause::NoReasons);
     Ok(())
