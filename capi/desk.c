@@ -11,7 +11,7 @@
  *     step 25: ticket 1 is answered
  *     ticket 1: least 3 after 23 trials of its own
  *     ticket 2: bottomless after 2 trials of its own
- *     ticket 2: the desk holds no such ticket
+ *     ticket 2: refused 22: the desk holds no such ticket
  */
 #include <inttypes.h>
 #include <stdio.h>
@@ -37,7 +37,7 @@ static uint64_t collected(uint64_t ticket) {
 static void show(uint64_t ticket) {
     uint64_t result = collected(ticket);
     if (span_refusal(result) != 0) {
-        printf("ticket %" PRIu64 ": %s\n", ticket, span_refusal_reason(span_refusal(result)));
+        printf("ticket %" PRIu64 ": refused %u: %s\n", ticket, span_refusal(result), span_refusal_reason(span_refusal(result)));
         return;
     }
     if (result == SPAN_STILL_WAITS) {

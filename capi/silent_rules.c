@@ -4,7 +4,7 @@
  *
  * prints
  *
- *     as stored: a rule has an all-blank left list
+ *     as stored: refused 17: a rule has an all-blank left list
  *     converted: 18 of 26 bytes
  *     answered: least 3
  */
@@ -20,7 +20,7 @@ int main(void) {
     span_pair(&problem, 0, SPAN_BLANK, 0, 7);
     span_pair(&problem, 0, 5, 0, 2);
     uint64_t solved = span_solve(stored, sizeof stored, answer, sizeof answer);
-    printf("as stored: %s\n", span_refusal_reason(span_refusal(solved)));
+    printf("as stored: refused %u: %s\n", span_refusal(solved), span_refusal_reason(span_refusal(solved)));
     uint64_t converted = span_convert(stored, sizeof stored, record, sizeof record);
     if (span_refusal(converted) != 0) {
         printf("refused: %s\n", span_refusal_reason(span_refusal(converted)));

@@ -6,8 +6,8 @@
  *
  *     moment 1 at 35
  *     moment 2 at 20
- *     shift 1: the shift is above 0
- *     a plan that breaks the rule: a plan breaks a rule
+ *     shift 1: refused 24: the shift is above 0
+ *     a plan that breaks the rule: refused 25: a plan breaks a rule
  */
 #include <inttypes.h>
 #include <stdio.h>
@@ -49,8 +49,8 @@ int main(void) {
     }
     show(merged);
     result = span_merge(record, size, short_plan, PLAN, long_plan, PLAN, 1, merged, sizeof merged);
-    printf("shift 1: %s\n", span_refusal_reason(span_refusal(result)));
+    printf("shift 1: refused %u: %s\n", span_refusal(result), span_refusal_reason(span_refusal(result)));
     result = span_merge(record, size, short_plan, PLAN, broken, PLAN, -15, merged, sizeof merged);
-    printf("a plan that breaks the rule: %s\n", span_refusal_reason(span_refusal(result)));
+    printf("a plan that breaks the rule: refused %u: %s\n", span_refusal(result), span_refusal_reason(span_refusal(result)));
     return 0;
 }
