@@ -6,3 +6,4 @@ pub mod Posing
 pub mod Tallies
 pub mod Answers
 pub mod Once
+pub mod Handbook

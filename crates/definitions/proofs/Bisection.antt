@@ -175,6 +175,36 @@ halved_ends (suc k) b s h w = ⊎_elim
     ends_on k b s (halved_on b s h n) (halved_ends k (following b s) s (next_brackets b s h) (omega (arith, narrowed b s h n, pow-suc 2 k))))
     (one_or_wider b s h)
 
+-- The bracket after so many halvings.
+unfoldable pub after : ℕ → ℤ → Bracket → Bracket
+after zero s b = b
+after (suc count) s b = after count s (following b s)
+
+-- "It stops when high − low is 1, and high is the least span": so it is after the halvings that are counted.
+pub record Stops (b : Bracket) (s : ℤ) : Type 0 where
+  pub narrow : width (after (halved b s).halvings s b) ≡ 1
+  pub least : (after (halved b s).halvings s b).high ≡ s
+
+stops_narrow : (b : Bracket) (s : ℤ) → Brackets b s → width b ≡ 1 → Stops b s
+unfolding after
+stops_narrow b s h e =
+    let z : (halved b s).halvings ≡ 0 = ap (λ (r : Halved). r.halvings) (halved_stop b s e) in
+    record { narrow = rw z e; least = rw z (narrow_high b s h e) }
+
+stops_on : (b : Bracket) (s : ℤ) → halved b s ≡ counted (halved (following b s) s) → Stops (following b s) s → Stops b s
+unfolding after counted
+stops_on b s e r =
+    let z : (halved b s).halvings ≡ suc (halved (following b s) s).halvings = ap (λ (x : Halved). x.halvings) e in
+    record { narrow = rw z r.narrow; least = rw z r.least }
+
+pub halved_stops : (k : ℕ) (b : Bracket) (s : ℤ) → Brackets b s → width b ≤ 2 ^ k → Stops b s
+halved_stops zero b s h w = stops_narrow b s h (omega (arith, width_positive b s h))
+halved_stops (suc k) b s h w = ⊎_elim
+    (λ e. stops_narrow b s h e)
+    (λ (n : 1 < width b).
+    stops_on b s (halved_on b s h n) (halved_stops k (following b s) s (next_brackets b s h) (omega (arith, narrowed b s h n, pow-suc 2 k))))
+    (one_or_wider b s h)
+
 -- ---- document 01's bracket
 
 -- A least span within the span field's limits lies in the opening bracket.
@@ -186,6 +216,11 @@ opening_brackets s h = omega (whole, abs_read s)
 pub bisection_ends : (s : ℤ) → nat_abs s ≤ span_limit → Ends opening s (most_trials - 2)
 unfolding opening width
 bisection_ends s h = halved_ends (most_trials - 2) opening s (opening_brackets s h) (omega arith)
+
+-- There the bracket is one wide, with the least span as its high.
+pub bisection_stops : (s : ℤ) → nat_abs s ≤ span_limit → Stops opening s
+unfolding opening width
+bisection_stops s h = halved_stops (most_trials - 2) opening s (opening_brackets s h) (omega arith)
 
 -- Never above 24 trials.
 pub few_trials : (s : ℤ) → nat_abs s ≤ span_limit → trials_optimal s ≤ most_trials

@@ -3,9 +3,9 @@
 use Prim.Native.Nat.{ℕ}
 use mathlib.Core.Path.{◌≡◌, refl}
 use mathlib.Core.Bool.{false}
-use mathlib.Core.List.{List, [], ◌∷◌, map}
+use mathlib.Core.List.{List, [], ◌∷◌, ◌++◌, map}
 use lib.IntN.{pos, negsuc}
-use Rattle.definitions.specs.Limits.{kept_bytes, top_trial, lowest_trial, problem_most, states_most, answer_most}
+use Rattle.definitions.specs.Limits.{kept_bytes, top_trial, lowest_trial, problem_most, states_most, answer_most, census_most}
 use Rattle.definitions.specs.Tropical.{bot, fin}
 use Rattle.definitions.specs.Bytes.{num_at, nums_at, le, signed, trop_field, trop_at, all, some_below, blank_or_within, whole_within}
 use Rattle.definitions.specs.ProblemRecord.{checker_kinds, header_refusal, header_judged, problem_refusal, leads_of, refusal_for, header_bytes}
@@ -15,6 +15,7 @@ use Rattle.definitions.specs.Verdict.{Verdict, accepted, refused, check_refusal}
 use Rattle.definitions.specs.Solved.{engine_refusal}
 use Rattle.definitions.specs.Programs.{verdict_line, class_words, refused_line, decimal, digits, whole_decimal, span_decimal, text_refused, text_not_certified, text_accepted, text_least, text_bottomless, text_none}
 use Rattle.definitions.specs.Conversion.{convert_refusal, stored_refusal}
+use Rattle.definitions.specs.Census.{census_refusal, census_total}
 use Rattle.definitions.specs.Examples.{example_a}
 use Rattle.definitions.specs.AnswerRecord.{Answer, stamp_count, pick_count, highest_pick, answer_header_refusal, answer_header_judged, answer_refusal, answer_of, writer_refusal, writer_judged, right_counts, form_refusal, span_fits, stamps_fit, picks_fit, is_zero, is_blank}
 
@@ -312,6 +313,16 @@ outer_counts = (refl, refl)
 -- The largest problem, of kind 1 and of kind 5, and the largest answer.
 largest_records : (problem_most ≡ 16394) × (states_most ≡ 16520) × (answer_most ≡ 208)
 largest_records = (refl, refl, refl)
+
+-- A census (document 02, 2.14): w is 0, or above 20,160; n is 32, or m 64; the total is 65,536, and the next one above it.
+census_edges :
+    map (λ w. census_refusal 0 0 w) (0 ∷ 20161 ∷ 1 ∷ 127 ∷ 128 ∷ []) ++ (census_refusal 32 0 1 ∷ census_refusal 0 64 1 ∷ [])
+    ≡ 27 ∷ 27 ∷ 0 ∷ 0 ∷ 27 ∷ 27 ∷ 27 ∷ []
+unfolding census_refusal
+census_edges = refl
+
+census_65536 : (census_most ≡ 65536) × (census_total 0 0 127 ≡ 65536)
+census_65536 = (refl, refl)
 
 -- A number that is no class has no stamps and no picks, fits no span, and has no words.
 no_class : (stamp_count 4 31 ≡ 0) × (pick_count 4 31 63 ≡ 0) × (highest_pick 4 31 63 ≡ 0) × (span_fits 4 bot ≡ false) × (class_words 4 bot ≡ [])

@@ -13,12 +13,14 @@ pub mod Layouts
 pub mod AnswerFits
 pub mod IdleDay
 pub mod Silent
+pub mod Stored
 pub mod RoundTrip
 pub mod Solved
 pub mod Bisection
 pub mod Examples
 pub mod Cycles
 pub mod Edges
+pub mod Lendable
 pub mod Programs
 pub mod Decimals
 pub mod Hours

@@ -1,6 +1,6 @@
 -- Linear facts of whole numbers by one call of `omega`, which reads natural numbers only.
--- A whole number z is `up z` − `down z`. The laws `…-read` turn an order, an equation or a sum of ℤ into one of ℕ,
--- the laws `…-show` turn it back: `omega (whole, plus_read a c, plus_read b d)` proves a + c < b + d from a ≤ b and c < d.
+-- A whole number z is `up z` − `down z`. The laws `…_read` turn an order, an equation or a sum of ℤ into one of ℕ,
+-- the laws `…_show` turn it back: `omega (whole, plus_read a c, plus_read b d)` proves a + c < b + d from a ≤ b and c < d.
 use Prim.Native.Nat.{ℕ, zero, suc, ◌+◌, ◌-◌, ◌≤◌, ◌<◌}
 use mathlib.Core.Path.{◌≡◌, refl, ap, subst}
 use mathlib.Core.Bool.{Bool, true, false, cond}

@@ -1,8 +1,8 @@
 -- The converter: a stored problem without its rules that say nothing. Document 02, 2.6. "It takes kinds 1 and 3 alone, also later."
-use Rattle.std.specs.Prelude.{ℕ, zero, suc, ◌-◌, ◌<◌, ◌≡◌, cond, List, [], ◌∷◌, ◌++◌, ltb, length}
-use Rattle.definitions.specs.Limits.{length_bytes, short_bytes, kind_place, m_place, problem_header, refused_lead, refused_room}
+use Rattle.std.specs.Prelude.{ℕ, zero, suc, ◌-◌, ◌≤◌, ◌<◌, ◌≡◌, cond, ◌⊎◌, List, [], ◌∷◌, ◌++◌, ltb, length}
+use Rattle.definitions.specs.Limits.{length_bytes, short_bytes, kind_place, m_place, states_kind, problem_header, refused_short, refused_length, refused_kind, refused_lead, refused_silent, refused_room}
 use Rattle.definitions.specs.Bytes.{Bytes, le, first, or_else, Outcome, outcome}
-use Rattle.definitions.specs.ProblemRecord.{kind_field, n_field, m_field, count_field, leads_place, questions_asked, record_size, row_place, converter_kinds, header_refusal, lead_refused, refusal_for, blank_left, problem_of, WithinLayouts}
+use Rattle.definitions.specs.ProblemRecord.{kind_field, n_field, m_field, count_field, leads_place, questions_asked, record_size, row_place, converter_kinds, header_refusal, lead_refused, refusal_for, record_refusal, blank_left, problem_of, WithinLayouts}
 use Rattle.definitions.specs.Questions.{part, rows_size, asking}
 use Rattle.definitions.specs.AnswerRecord.{written}
 use Rattle.definitions.specs.Programs.{refused_line}
@@ -52,6 +52,18 @@ pub record Converts (s before : List ℕ) (r : Outcome ℕ) (after : List ℕ) :
   pub result : r ≡ outcome (convert_refusal s (length before)) (converted_size s)
   pub untouched : 0 < convert_refusal s (length before) → after ≡ before
   pub record_is : convert_refusal s (length before) ≡ 0 → after ≡ written before (converted s)
+
+-- "Gives 1 to 6 and 15 as the engine does", of every string of bytes read as a record: to the kinds that it takes it gives the engine's refusal
+-- (which is never 20, of kind 5 alone), but for 17, where it gives none. Kind 5 gets 3 behind 1 and 2; and no bytes get 1, also where they
+-- mean the idle day for the engine (2.9).
+pub record RefusesAlike : Type 0 where
+  pub as_the_engine : (s : List ℕ) → (kind_field s ≡ states_kind → ⊥) → (record_refusal s ≡ refused_silent → ⊥) → stored_refusal s ≡ record_refusal s
+  pub silent_taken : (s : List ℕ) → (kind_field s ≡ states_kind → ⊥) → record_refusal s ≡ refused_silent → stored_refusal s ≡ 0
+  pub states_not_taken :
+      (s : List ℕ) → kind_field s ≡ states_kind
+      → ((record_refusal s ≤ refused_length → 0 < record_refusal s → stored_refusal s ≡ record_refusal s)
+      × ((record_refusal s ≡ 0) ⊎ (refused_length < record_refusal s) → stored_refusal s ≡ refused_kind))
+  pub no_bytes : stored_refusal [] ≡ refused_short
 
 -- What the convert program puts out: the converted record, or the line of the refusal.
 pub data ConvertOutput (input : List ℕ) : List ℕ → Type 0 where

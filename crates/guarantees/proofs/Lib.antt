@@ -18,3 +18,6 @@ pub mod Seen
 pub mod DeskCalls
 pub mod Inhabited
 pub mod OneAnswer
+pub mod OwnCalls
+pub mod ReasonsExamples
+pub mod Requests

@@ -3,3 +3,4 @@ pub mod OwnAnswers
 pub mod Pipe
 pub mod ClassHolds
 pub mod DeskCalls
+pub mod Called

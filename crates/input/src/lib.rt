@@ -73,3 +73,73 @@ pub fn read_all<R: Read>(input: &mut R, kept: &mut [u8; KEPT]) -> Input
     }
     Input::Ended(size)
 }
+
+#[cfg(test)]
+mod tests {
+    use super::*;
+    use std::io;
+
+    // Gives this byte three times at each read, so many reads long; then it ends or fails.
+    #[derive(Drop)]
+    struct Pieces {
+        byte: u8,
+        reads: usize,
+        fails: bool,
+    }
+
+    impl Read for Pieces {
+        fn read(&mut self, buf: &mut [u8]) -> io::Result<usize> {
+            if self.reads == 0 && self.fails {
+                return Err(io::Error::from(io::ErrorKind::Other));
+            }
+            if self.reads == 0 || buf.len() < 3 {
+                return Ok(0);
+            }
+            self.reads -= 1;
+            buf[..3].fill(self.byte);
+            Ok(3)
+        }
+    }
+
+    #[test]
+    fn a_failed_read_is_no_end(rt: HostRuntime) {
+        for reads in [0, 1, 5000, 10000] {
+            let mut kept = [0u8; KEPT];
+            let mut input = Pieces {
+                byte: 7,
+                reads,
+                fails: true,
+            };
+            let read = read_all(&mut input, &mut kept);
+            assert!(rt; matches!(read, Input::Failed), "after {reads} reads");
+        }
+    }
+
+    #[test]
+    fn a_short_read_is_no_end(rt: HostRuntime) {
+        for (reads, size, last) in [(0, 0, 0), (5000, 15000, 0), (10000, 30000, 7)] {
+            let mut kept = [0u8; KEPT];
+            let mut input = Pieces {
+                byte: 7,
+                reads,
+                fails: false,
+            };
+            let read = read_all(&mut input, &mut kept);
+            assert!(rt;
+                matches!(read, Input::Ended(n) if n == size),
+                "{size} bytes"
+            );
+            assert_eq!(rt; kept[KEPT - 1], last, "the last of {size} bytes");
+        }
+    }
+
+    #[test]
+    fn known_bytes_are_kept(rt: HostRuntime) {
+        let mut kept = [0u8; KEPT];
+        let mut text: &[u8] = b"in their places";
+        let read = read_all(&mut text, &mut kept);
+        assert!(rt; matches!(read, Input::Ended(15)));
+        assert!(rt; kept.starts_with(b"in their places"));
+        assert_eq!(rt; kept[15], 0);
+    }
+}
