@@ -1,4 +1,5 @@
 pub mod Tests
+pub mod Refusing
 pub mod ProblemHeader
 pub mod Within
 pub mod Near

@@ -1,22 +1,35 @@
--- What reading a problem's header answers: the layout, or the number of the refusal. Document 01, "What is turned away", 1 to 5, document 02, 2.1, 2.10.
-use Rattle.std.specs.Prelude.{◌≡◌, ℕ, ◌<◌, List}
-use Rattle.definitions.specs.Limits.{signed_full, short_full}
-use Rattle.definitions.specs.Bytes.{Outcome, refusal, gives}
+-- What reading a problem's header answers: the layout, or the refusal. Document 01, "What is turned away", 1 to 5, document 02, 2.1, 2.10.
+use Rattle.std.specs.Prelude.{◌≡◌, ℕ, ◌<◌, List, Bool, true, false, Option, Some, None, Result}
+use Rattle.definitions.specs.Limits.{signed_full, short_full, problem_kind, questions_kind, states_kind}
+use Rattle.definitions.specs.Bytes.{Outcome}
 use Rattle.definitions.specs.ProblemRecord as Problems
-use Rattle.definitions.specs.ProblemRecord.{length_field, kind_field, n_field, m_field, count_field, leads_place, questions_asked}
+use Rattle.definitions.specs.ProblemRecord.{length_field, kind_field, n_field, m_field, count_field, leads_place, questions_asked, known_kind}
+use Rattle.records.specs.declared.problem.Kind.{Kind}
+use Rattle.records.specs.declared.problem.Kind.TheVariants.{Problem, Questions, States}
 use Rattle.records.specs.declared.problem.Kinds.{Kinds}
 use Rattle.records.specs.declared.problem.Fields.{Fields}
 use Rattle.records.specs.declared.problem.Layout.{Layout}
-use Rattle.records.specs.declared.problem.Header.{Header}
-use Rattle.records.specs.declared.problem.Header.TheVariants.{Told, Refused}
+use Rattle.records.specs.declared.refusal.Refusal.{Refusal}
+use Rattle.records.specs.Refusals.{outcome_by}
 
 -- The kinds in the code's struct.
 abbrev pub kinds_in : Kinds → Problems.Kinds
 kinds_in k = record { several = k.several; states = k.states }
 
+-- The number of a kind in a record.
+abbrev pub kind_number : Kind → ℕ
+kind_number Problem = problem_kind
+kind_number Questions = questions_kind
+kind_number States = states_kind
+
+-- The kind with a number, where it is known.
+abbrev pub Knows : Problems.Kinds → ℕ → Option Kind → Type 0
+Knows kinds number (Some kind) = (number ≡ kind_number kind) × (known_kind kinds number ≡ true)
+Knows kinds number None = known_kind kinds number ≡ false
+
 -- The definitions' layout in the code's struct.
 abbrev pub layout_in : Layout → Problems.Layout
-layout_in l = record { kind = l.kind; n = l.n; m = l.m; leads = l.leads; questions = l.questions }
+layout_in l = record { kind = kind_number l.kind; n = l.n; m = l.m; leads = l.leads; questions = l.questions }
 
 -- The layout of a header with these numbers.
 abbrev pub layout_by : ℕ → ℕ → ℕ → ℕ → Problems.Layout
@@ -34,11 +47,5 @@ pub record FieldsAt (s : List ℕ) (f : Fields) : Type 0 where
   pub m_small : f.m < short_full
 
 -- Document 01's result for each case: the layout, or the number of the refusal.
-unfoldable pub header_of : Header → Outcome Problems.Layout
-header_of (Told l) = gives (layout_in l)
-header_of (Refused k) = refusal k
-
--- The number with which a problem was refused, 0 where it was not.
-unfoldable pub problem_refused : Header → ℕ
-problem_refused (Told l) = 0
-problem_refused (Refused k) = k
+abbrev pub header_of : Result Layout Refusal → Outcome Problems.Layout
+header_of r = outcome_by layout_in r

@@ -2,7 +2,9 @@
 #![tactic(auto)]
 
 pub mod bytes;
+pub mod class;
 pub mod idle;
 pub mod limits;
 pub mod offset;
 pub mod problem;
+pub mod refusal;

@@ -11,7 +11,7 @@ use crate::limits::{FULL, OFFSET, OFFSET_32};
 pub fn offset(w: u64) -> u64
     ensures { (result ≡ off w) × (result < signed_full) }
 {
-    (w % FULL + OFFSET) % FULL
+    u64::from(offset_32((w % FULL) as u32))
 }
 
 // The same in 32 bits. Public for `problem_records::reader`, `answer_reader::answer`, `policy_iteration::values`, `closed_walks::gains`,
@@ -28,7 +28,7 @@ pub fn offset_32(w: u32) -> u32
 }
 
 // The later of two 4-byte fields, the one with the larger offset number. As fields they are compared with their signs, for
-// which the processor has vectors; offset numbers it has first to turn into fields. Public for `trials`, `closed_walks`,
+// which the processor has vectors; offset numbers it has first to turn into fields. Public for `policy_iteration`, `closed_walks`,
 // `plan_tests`.
 pub fn later(a: u32, b: u32) -> u32
     requires { (a < signed_full) × (b < signed_full) }
@@ -37,7 +37,7 @@ pub fn later(a: u32, b: u32) -> u32
     if offset_32(a) <= offset_32(b) { b } else { a }
 }
 
-// A 4-byte field with a number added to its offset number. Public for `trials`, `plan_tests`.
+// A 4-byte field with a number added to its offset number. Public for `policy_iteration`, `plan_tests`.
 pub fn offset_added(w: u32, d: u32) -> u32
     requires { (w < signed_full) × (off w + d < signed_full) }
     ensures { (off result ≡ off w + d) × (result < signed_full) }
@@ -50,10 +50,7 @@ pub fn whole_within(limit: u64, k: u64) -> bool
     requires { limit < signed_half }
     ensures { result ≡ whole_within limit (trop_of k) }
 {
-    if k < OFFSET - limit {
-        return false;
-    }
-    k <= OFFSET + limit
+    OFFSET - limit <= k && k <= OFFSET + limit
 }
 
 // The number is blank, or within ±limit. Public for `answer_reader::answer`.
@@ -61,8 +58,5 @@ pub fn blank_or_within(limit: u64, k: u64) -> bool
     requires { limit < signed_half }
     ensures { result ≡ blank_or_within limit (trop_of k) }
 {
-    match k {
-        0 => true,
-        _ => whole_within(limit, k),
-    }
+    k == 0 || whole_within(limit, k)
 }

@@ -1,5 +1,5 @@
-use Rattle.definitions.specs.Bytes.{num_at}
 use Rattle.std.proofs.Common.{rules}
+use Rattle.definitions.specs.Bytes.{num_at}
 use Rattle.records.proofs.bytes.word_in.Goals as goal
 
 pub returns : goal.returns

@@ -1,9 +1,9 @@
-use Rattle.std.proofs.Common.{◌∙◌}
+use Rattle.std.proofs.Common.{◌≡◌, arith, sym, eq-eqb, ◌∙◌}
 use Rattle.records.proofs.Within.{within_blank, within_other}
 use Rattle.records.proofs.offset.blank_or_within.Goals as goal
 
-pub returns-in-0 : goal.returns-in-0
-returns-in-0 c = search within_blank
+pub returns-then-k-eq0 : goal.returns-then-k-eq0
+returns-then-k-eq0 c = let a = c.args in rw (eq-eqb a.k 0 c.if-k-eq0.true) (within_blank a.limit a.k c.requires c.if-k-eq0.true)
 
-pub returns-in_default : goal.returns-in_default
-returns-in_default c = c.whole_within.ensures ∙ search (within_other, c.in_default.in_default-own.rest.1)
+pub returns-else-k-eq0 : goal.returns-else-k-eq0
+returns-else-k-eq0 c = c.whole_within.ensures ∙ within_other c.args.limit c.args.k c.requires (λ e. c.if-k-eq0.false e)

@@ -1,6 +1,0 @@
-use Rattle.std.proofs.Common.{sym, arith}
-use lib.ListN.{get_or-eq_default}
-use Rattle.records.proofs.bytes.byte_at.Goals as goal
-
-pub returns-else-at-s : goal.returns-else-at-s
-returns-else-at-s c = (sym (get_or-eq_default c.args.s.now 0 c.if-at-s.false), omega arith)
