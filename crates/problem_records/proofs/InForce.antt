@@ -147,17 +147,16 @@ module _ (n m long : ℕ) (n_most : n ≤ highest_n) (m_most : m ≤ highest_m) 
       omega (arith, wide, high)
 
   -- Byte by byte.
-  pub head_is : (long % 256) ∷ (long / 256) ∷ 0 ∷ 0 ∷ 1 ∷ 0 ∷ n ∷ 0 ∷ m ∷ 0 ∷ [] ≡ header_bytes n m
+  pub head_is : (long % 256) ∷ (long / 256 % 256) ∷ 0 ∷ 0 ∷ 1 ∷ 0 ∷ n ∷ 0 ∷ m ∷ 0 ∷ [] ≡ header_bytes n m
   unfolding header_bytes le
   head_is =
-      let second : (long / 256) % 256 ≡ long / 256 = omega (arith, long_small) in
       let third : (long / 256 / 256) % 256 ≡ 0 = omega (arith, long_small) in
       let fourth : (long / 256 / 256 / 256) % 256 ≡ 0 = omega (arith, long_small) in
       let n-low : n % 256 ≡ n = omega arith in
       let n-high : (n / 256) % 256 ≡ 0 = omega arith in
       let m-low : m % 256 ≡ m = omega arith in
       let m-high : (m / 256) % 256 ≡ 0 = omega arith in
-      rw (long_is, second, third, fourth, n-low, n-high, m-low, m-high) refl
+      rw (long_is, third, fourth, n-low, n-high, m-low, m-high) refl
 
 -- ---- what the record in force means
 

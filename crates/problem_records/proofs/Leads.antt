@@ -1,11 +1,11 @@
 -- Laws of judging leads: the test of one field on its offset number, a run of fields judged one after the other, and blank lists.
-use Prim.Native.Nat.{ℕ, zero, suc, ◌+◌, ◌*◌, ◌-◌, ◌≤◌, ◌<◌}
+use Prim.Native.Nat.{ℕ, zero, suc, ◌+◌, ◌*◌, ◌≤◌, ◌<◌}
 use mathlib.Core.Path.{◌≡◌, refl, ap, sym, ◌∙◌}
-use mathlib.Core.Bool.{Bool, true, false, cond, ◌&&◌, ◌||◌}
-use mathlib.Core.Logic.{⊎_elim}
-use mathlib.Core.List.{List}
+use mathlib.Core.Bool.{Bool, true, false, ◌&&◌, ◌||◌}
+use mathlib.Core.Logic.{◌⊎◌, inl, inr, ⊎_elim}
+use mathlib.Core.List.{List, [], ◌∷◌, ◌++◌, map}
 use native.Mathlib.Omega.{arith}
-use native.Mathlib.Nat.{eq-zero-or-pos, mul-le-mul_right}
+use native.Mathlib.Nat.{mul-le-mul_right}
 use borrow.Author.Tests.{eq-eqb, ne_eqb, le-leb, lt-leb}
 use lib.Dec.{eqb, leb}
 use lib.ListN.{length}
@@ -29,134 +29,72 @@ lead_early {w} {k} h e s l = sym (lead_offset w k h e ∙ rw (ne_eqb k 0 (omega 
 pub lead_late : {w k : ℕ} → w < signed_full → k ≡ off w → 0 < k → signed_half ≤ k + lead_limit → leb k (signed_half + lead_limit) ≡ blank_or_within lead_limit (trop_field w)
 lead_late {w} {k} h e s l = sym (lead_offset w k h e ∙ rw (ne_eqb k 0 (omega arith), le-leb signed_half (k + lead_limit) l) refl)
 
--- The count of misfits of one field.
-pub misfit_none : {b r : Bool} → r ≡ b → r ≡ true → (◌≡◌ {A = ℕ} 0 (cond b 0 1)) × (0 ≤ 1)
-misfit_none e t = (rw (← e, t), omega arith)
+-- A run of fields with one more behind it.
+run_more : (k count : ℕ) (s : List ℕ) (at : ℕ) → nums_at k (suc count) s at ≡ nums_at k count s at ++ (num_at k s (at + k * count) ∷ [])
+unfolding nums_at
+run_more k zero s at = let e : at + k * 0 ≡ at = omega arith in rw e refl
+run_more k (suc count) s at =
+    let e : at + k + k * count ≡ at + k * suc count = omega arith in
+    ap (◌∷◌ (num_at k s at)) (run_more k count s (at + k) ∙ rw e refl)
 
-pub misfit_one : {b r : Bool} → r ≡ b → r ≡ false → (◌≡◌ {A = ℕ} 1 (cond b 0 1)) × (1 ≤ 1)
-misfit_one e t = (rw (← e, t), omega arith)
+all_more : {A : Type 0} (test : A → Bool) (xs : List A) (x : A) → all test (xs ++ (x ∷ [])) ≡ (all test xs && test x)
+unfolding all
+all_more test [] x = and_true (test x)
+  where
+    and_true : (b : Bool) → (b && true) ≡ b
+    and_true true = refl
+    and_true false = refl
+all_more test (y ∷ xs) x = ap (λ (b : Bool). test y && b) (all_more test xs x) ∙ and_assoc (test y) (all test xs) (test x)
+  where
+    and_assoc : (a b c : Bool) → (a && (b && c)) ≡ ((a && b) && c)
+    and_assoc true b c = refl
+    and_assoc false b c = refl
 
--- i of `count` leads are judged, and so many do not fit: with none the run fits exactly if the rest does, else it does not.
-pub record Judged (s : List ℕ) (start count i at misfits : ℕ) : Type 0 where
-  pub inside : i ≤ count
-  pub place : at ≡ start + 4 * i
-  pub few : misfits ≤ i
-  pub rest : misfits ≡ 0 → run_fits s (count - i) at ≡ run_fits s count start
-  pub some : 0 < misfits → false ≡ run_fits s count start
+map_more : {A B : Type 0} (f : A → B) (xs : List A) (x : A) → map f (xs ++ (x ∷ [])) ≡ map f xs ++ (f x ∷ [])
+map_more f [] x = refl
+map_more f (y ∷ xs) x = ap (◌∷◌ (f y)) (map_more f xs x)
 
--- No lead is judged yet.
-pub judged_none : (s : List ℕ) (start count : ℕ) → Judged s start count 0 start 0
-judged_none s start count =
-    let e : count - 0 ≡ count = omega arith in
-    record { inside = omega arith; place = omega arith; few = omega arith; rest = λ _. rw e; some = λ h. absurd (omega arith) }
+-- No lead is judged yet; one lead more is.
+pub fit_none : (s : List ℕ) (start : ℕ) → true ≡ run_fits s 0 start
+unfolding nums_at all
+fit_none s start = refl
 
-module _ {s : List ℕ} {start count i at misfits : ℕ} (j : Judged s start count i at misfits) where
-  -- Where a lead is left, the rest is that lead and what comes after it.
-  rest_more : i < count → misfits ≡ 0
-      → (blank_or_within lead_limit (trop_field (num_at 4 s at)) && run_fits s (count - (i + 1)) (at + 4)) ≡ run_fits s count start
-  unfolding nums_at all
-  rest_more h z =
-      let next : count - i ≡ suc (count - (i + 1)) = omega arith in
-      rw next at (j.rest z)
+pub fit_more : (s : List ℕ) (start i : ℕ) {w : ℕ} {fit r : Bool} → fit ≡ run_fits s i start → w ≡ num_at 4 s (start + 4 * i) → r ≡ blank_or_within lead_limit (trop_field w)
+    → (fit && r) ≡ run_fits s (i + 1) start
+fit_more s start i {w} {fit} {r} e f g =
+    let next : i + 1 ≡ suc i = omega arith in
+    rw (
+      next,
+      run_more 4 i s start,
+      map_more trop_field (nums_at 4 i s start) (num_at 4 s (start + 4 * i)),
+      all_more (blank_or_within lead_limit) (map trop_field (nums_at 4 i s start)) (trop_field (num_at 4 s (start + 4 * i))),
+      e,
+      g,
+      f,
+    ) refl
 
-  -- One lead more is judged.
-  pub judged_more : {w r : ℕ} → i < count → w ≡ num_at 4 s at → r ≡ cond (blank_or_within lead_limit (trop_field w)) 0 1
-      → Judged s start count (i + 1) (at + 4) (misfits + r)
-  judged_more {w} {r} h e f = go (blank_or_within lead_limit (trop_field w)) refl
-    where
-      go : (b : Bool) → blank_or_within lead_limit (trop_field w) ≡ b → Judged s start count (i + 1) (at + 4) (misfits + r)
-      go true t =
-          let none : r ≡ 0 = f ∙ rw t in
-          record {
-            inside = omega arith;
-            place = omega (arith, j.place);
-            few = omega (arith, j.few);
-            rest = λ z. rw (← e, t) at (rest_more h (omega arith));
-            some = λ p. j.some (omega arith);
-          }
-      go false t =
-          let one : r ≡ 1 = f ∙ rw t in
-          record {
-            inside = omega arith;
-            place = omega (arith, j.place);
-            few = omega (arith, j.few);
-            rest = λ z. absurd (omega arith);
-            some = λ p. ⊎_elim (λ z. rw (← e, t) at (rest_more h z)) (λ q. j.some q) (eq-zero-or-pos misfits);
-          }
+-- No lead is looked at yet; one lead more is.
+pub blank_none : (s : List ℕ) (start : ℕ) → true ≡ run_blank s 0 start
+unfolding nums_at all
+blank_none s start = refl
 
-  -- No lead is left: the run fits exactly if none did not.
-  pub judged_end : count ≤ i → eqb misfits 0 ≡ run_fits s count start
-  unfolding nums_at all
-  judged_end h = ⊎_elim
-      (λ (z : misfits ≡ 0). let none : count - i ≡ 0 = omega arith in eq-eqb misfits 0 z ∙ rw none at (j.rest z))
-      (λ (q : 0 < misfits). ne_eqb misfits 0 (λ z. omega arith) ∙ j.some q)
-      (eq-zero-or-pos misfits)
+eqb_sym : (a b : ℕ) → eqb a b ≡ eqb b a
+eqb_sym a b = ⊎_elim
+    (λ (h : a ≡ b). eq-eqb a b h ∙ sym (eq-eqb b a (sym h)))
+    (λ (h : a ≡ b → ⊥). ne_eqb a b h ∙ sym (ne_eqb b a (λ e. h (sym e))))
+    (nat_same a b)
+  where
+    nat_same : (a b : ℕ) → (a ≡ b) ⊎ (a ≡ b → ⊥)
+    nat_same zero zero = inl refl
+    nat_same zero (suc b) = inr (λ e. omega arith)
+    nat_same (suc a) zero = inr (λ e. omega arith)
+    nat_same (suc a) (suc b) = ⊎_elim (λ (e : a ≡ b). inl (ap suc e)) (λ (h : a ≡ b → ⊥). inr (λ e. h (omega arith))) (nat_same a b)
 
--- ---- blank lists
-
--- 1 once a lead is not blank.
-pub seen_blank : (before : ℕ) {w : ℕ} → w ≡ signed_half → before ≡ cond (eqb signed_half w) before 1
-seen_blank before {w} e = rw (eq-eqb signed_half w (sym e))
-
-pub seen_given : (before : ℕ) {w : ℕ} → (w ≡ signed_half → ⊥) → 1 ≡ cond (eqb signed_half w) before 1
-seen_given before {w} e = rw (ne_eqb signed_half w (λ d. e (sym d)))
-
--- i of `count` leads are looked at: where all are blank the run is blank exactly if the rest is, else it is not.
-pub record Blank (s : List ℕ) (start count i at given : ℕ) : Type 0 where
-  pub inside : i ≤ count
-  pub place : at ≡ start + 4 * i
-  pub rest : given ≡ 0 → run_blank s (count - i) at ≡ run_blank s count start
-  pub some : 0 < given → false ≡ run_blank s count start
-
-pub blank_none : (s : List ℕ) (start count : ℕ) → Blank s start count 0 start 0
-blank_none s start count =
-    let e : count - 0 ≡ count = omega arith in
-    record { inside = omega arith; place = omega arith; rest = λ _. rw e; some = λ h. absurd (omega arith) }
-
-module _ {s : List ℕ} {start count i at given : ℕ} (b : Blank s start count i at given) where
-  blank_next : i < count → given ≡ 0 → (eqb signed_half (num_at 4 s at) && run_blank s (count - (i + 1)) (at + 4)) ≡ run_blank s count start
-  unfolding nums_at all
-  blank_next h z = let next : count - i ≡ suc (count - (i + 1)) = omega arith in rw next at (b.rest z)
-
-  -- One lead more is looked at.
-  pub blank_more : {w r : ℕ} → i < count → w ≡ num_at 4 s at → r ≡ cond (eqb signed_half w) given 1 → Blank s start count (i + 1) (at + 4) r
-  blank_more {w} {r} h e f = go (eqb signed_half w) refl
-    where
-      go : (t : Bool) → eqb signed_half w ≡ t → Blank s start count (i + 1) (at + 4) r
-      go true t =
-          let same : r ≡ given = f ∙ rw t in
-          record {
-            inside = omega arith;
-            place = omega (arith, b.place);
-            rest = λ z. rw (← e, t) at (blank_next h (omega arith));
-            some = λ p. b.some (omega arith);
-          }
-      go false t =
-          let one : r ≡ 1 = f ∙ rw t in
-          record {
-            inside = omega arith;
-            place = omega (arith, b.place);
-            rest = λ z. absurd (omega arith);
-            some = λ p. ⊎_elim (λ z. rw (← e, t) at (blank_next h z)) (λ q. b.some q) (eq-zero-or-pos given);
-          }
-
-  -- All are.
-  pub blank_end : count ≤ i → eqb given 0 ≡ run_blank s count start
-  unfolding nums_at all
-  blank_end h = ⊎_elim
-      (λ (z : given ≡ 0). let none : count - i ≡ 0 = omega arith in eq-eqb given 0 z ∙ rw none at (b.rest z))
-      (λ (q : 0 < given). ne_eqb given 0 (λ z. omega arith) ∙ b.some q)
-      (eq-zero-or-pos given)
-
--- The first i rules have a left lead that is not blank.
-pub record Speaking (s : List ℕ) (start n m i at : ℕ) : Type 0 where
-  pub inside : i ≤ m
-  pub place : at ≡ row_place start n i
-  pub none : some_below (row_blank s start n) i ≡ false
-
-pub speaking_none : (s : List ℕ) (start n m : ℕ) → Speaking s start n m 0 start
-unfolding some_below
-speaking_none s start n m = record { inside = omega arith; place = omega arith; none = refl }
+pub blank_more : (s : List ℕ) (start i : ℕ) {w : ℕ} {blank : Bool} → blank ≡ run_blank s i start → w ≡ num_at 4 s (start + 4 * i)
+    → (blank && eqb w signed_half) ≡ run_blank s (i + 1) start
+blank_more s start i {w} {blank} e f =
+    let next : i + 1 ≡ suc i = omega arith in
+    rw (next, eqb_sym w signed_half, run_more 4 i s start, all_more (eqb signed_half) (nums_at 4 i s start) (num_at 4 s (start + 4 * i)), e, f) refl
 
 -- A test that passes for a number passes for some.
 pub some_last : (test : ℕ → Bool) (i m : ℕ) → i < m → test i ≡ true → true ≡ some_below test m
@@ -174,20 +112,22 @@ some_last test i (suc m) h e = ⊎_elim
     or_first : (b : Bool) {a : Bool} → true ≡ a → true ≡ (a || b)
     or_first b e = rw (← e) refl
 
-module _ {s : List ℕ} {start n m i at : ℕ} (b : Speaking s start n m i at) where
-  pub speaking_more : {r : Bool} {step : ℕ} → i < m → step ≡ 2 * 4 * (n + 1) → r ≡ run_blank s (n + 1) at → r ≡ false → Speaking s start n m (i + 1) (at + step)
-  unfolding some_below
-  speaking_more {r} {step} h d e f =
-      let next : i + 1 ≡ suc i = omega arith in
-      let row : row_blank s start n i ≡ false = rw b.place at (sym e ∙ f) in
-      record { inside = omega arith; place = omega (arith, b.place); none = rw (next, b.none, row) refl }
+-- The first i rules have a left lead that is not blank; one more has, or has none.
+pub speaking_none : (s : List ℕ) (start n : ℕ) → some_below (row_blank s start n) 0 ≡ false
+unfolding some_below
+speaking_none s start n = refl
 
-  pub speaking_not : {r : Bool} → i < m → r ≡ run_blank s (n + 1) at → r ≡ true → true ≡ some_below (row_blank s start n) m
-  speaking_not h e f = some_last (row_blank s start n) i m h (rw b.place at (sym e ∙ f))
+pub speaking_more : (s : List ℕ) (start n i : ℕ) {at : ℕ} {r : Bool} → some_below (row_blank s start n) i ≡ false → at ≡ row_place start n i → r ≡ run_blank s (n + 1) at → r ≡ false
+    → some_below (row_blank s start n) (i + 1) ≡ false
+unfolding some_below
+speaking_more s start n i {at} {r} b p e f =
+    let next : i + 1 ≡ suc i = omega arith in
+    let row : row_blank s start n i ≡ false = rw p at (sym e ∙ f) in
+    rw (next, b, row) refl
 
-  pub speaking_end : m ≤ i → false ≡ some_below (row_blank s start n) m
-  speaking_end h = let e : i ≡ m = omega (arith, b.inside) in rw e at (sym b.none)
+pub speaking_not : (s : List ℕ) (start n m i : ℕ) {at : ℕ} {r : Bool} → i < m → at ≡ row_place start n i → r ≡ run_blank s (n + 1) at → r ≡ true → true ≡ some_below (row_blank s start n) m
+speaking_not s start n m i h p e f = some_last (row_blank s start n) i m h (rw p at (sym e ∙ f))
 
-  -- The row lies inside.
-  pub speaking_inside : i < m → row_place start n m ≤ length s → at + 2 * 4 * (n + 1) ≤ length s
-  speaking_inside h l = omega (arith, b.place, mul-le-mul_right {m = suc i} {n = m} (suc n) h)
+-- The row lies inside.
+pub speaking_inside : (s : List ℕ) (start n m i : ℕ) → i < m → row_place start n m ≤ length s → start + 2 * 4 * (n + 1) * i + 2 * 4 * (n + 1) ≤ length s
+speaking_inside s start n m i h l = omega (arith, mul-le-mul_right {m = suc i} {n = m} (suc n) h)

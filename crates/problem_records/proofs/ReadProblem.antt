@@ -21,11 +21,13 @@ use Rattle.definitions.proofs.Layouts.{problem_fits, within_one, left_within, ri
 use Rattle.definitions.proofs.Suspended.{plain_left, plain_right}
 use Rattle.definitions.proofs.Silent.{some_same}
 use Rattle.definitions.proofs.Questions.{several_passes}
-use Rattle.records.specs.declared.problem.Header.{Header}
-use Rattle.records.specs.declared.problem.Header.TheVariants.{Told, Refused}
+use Rattle.records.specs.declared.refusal.Refusal.{Refusal}
+use Rattle.records.specs.declared.refusal.Refusal.TheVariants.{State, Lead, Silent}
+use Rattle.std.specs.Prelude.{Result, Ok, Err}
 use Rattle.records.specs.declared.problem.Layout.{Layout}
-use Rattle.records.specs.ProblemHeader.{header_of}
-use Rattle.records.proofs.ProblemHeader.{HeaderFits, fits_of, header_told, answer_told_lem, answer_refused_lem}
+use Rattle.records.specs.ProblemHeader.{kind_number, layout_in, header_of}
+use Rattle.records.proofs.Refusing.{outcome_ok, was_ok, was_err}
+use Rattle.records.proofs.ProblemHeader.{HeaderFits, fits_of}
 use Rattle.problem_records.specs.Tables.{run_fits, row_blank, states_refusal, states_outcome, leads_refusal, leads_outcome, cell, left_table, right_table, Laid, ProblemRead}
 use Rattle.problem_records.specs.Filling.{Framed, Tabled}
 use Rattle.problem_records.specs.InForce.{StatesHeld}
@@ -35,31 +37,31 @@ use Rattle.problem_records.proofs.QuestionTables.{AskedTable, asked_left, asked_
 -- ---- judging
 
 -- A refusal is the first one wherever it applies, and the others are looked at afterwards.
-first_counts : (h next : ℕ) (a : Problems.Layout) {r : Header} {k : ℕ} → header_of r ≡ outcome h a → r ≡ Refused k → header_of r ≡ outcome (or_else h next) a
+first_counts : (h next : ℕ) (a : Problems.Layout) {r : Result Layout Refusal} {k : Refusal} → header_of r ≡ outcome h a → r ≡ Err k → header_of r ≡ outcome (or_else h next) a
 first_counts h next a e f =
-    let g = answer_refused_lem h a e f in
+    let g = was_err layout_in h a e f in
     let same : or_else h next ≡ h = or_else_suc h next (omega arith) in
     rw same e
 
 -- The header is refused.
-pub refused_header : (kinds : Kinds) (s : List ℕ) {r : Header} {k : ℕ} → header_of r ≡ header_outcome kinds s (length s) → r ≡ Refused k → header_of r ≡ states_outcome kinds s
+pub refused_header : (kinds : Kinds) (s : List ℕ) {r : Result Layout Refusal} {k : Refusal} → header_of r ≡ header_outcome kinds s (length s) → r ≡ Err k → header_of r ≡ states_outcome kinds s
 unfolding states_refusal header_outcome states_outcome
 refused_header kinds s e f = first_counts (header_refusal kinds s (length s)) _ (layout_of s) e f
 
 -- A state is wrong: 20; or none is.
 module _ {kinds : Kinds} {s : List ℕ} {l : Layout} (h : HeaderFits kinds s (length s) l) where
-  states_is : (eqb l.kind states_kind && some_below (wrong_state s) l.m) ≡ state_refused s
+  states_is : (eqb (kind_number l.kind) states_kind && some_below (wrong_state s) l.m) ≡ state_refused s
   states_is = rw (h.kind_is, h.m_is) refl
 
-  pub refused_state : true ≡ (eqb l.kind states_kind && some_below (wrong_state s) l.m) → header_of (Refused 20) ≡ states_outcome kinds s
-  unfolding states_outcome states_refusal outcome header_of
+  pub refused_state : true ≡ (eqb (kind_number l.kind) states_kind && some_below (wrong_state s) l.m) → header_of (Err State) ≡ states_outcome kinds s
+  unfolding states_outcome states_refusal outcome
   refused_state e = rw (h.none, ← states_is, ← e)
 
-  pub states_told : false ≡ (eqb l.kind states_kind && some_below (wrong_state s) l.m) → header_of (Told l) ≡ states_outcome kinds s
+  pub states_told : false ≡ (eqb (kind_number l.kind) states_kind && some_below (wrong_state s) l.m) → header_of (Ok l) ≡ states_outcome kinds s
   unfolding states_outcome states_refusal
   states_told e =
       let none : states_refusal kinds s ≡ 0 = rw (h.none, ← states_is, ← e) in
-      rw (← h.layout_is) (header_told (states_refusal kinds s) l none)
+      rw (← h.layout_is) (outcome_ok layout_in l _ none refl)
 
 -- What a record tells whose states fit.
 pub record States-told (kinds : Kinds) (s : List ℕ) (l : Layout) : Type 0 where
@@ -70,14 +72,14 @@ states_header : (kinds : Kinds) (s : List ℕ) → states_refusal kinds s ≡ 0 
 unfolding states_refusal
 states_header kinds s e = ((or_else_none (header_refusal kinds s (length s)) _).0 e).0
 
-pub told_states : (kinds : Kinds) {s : List ℕ} {r : Header} {l : Layout} → header_of r ≡ states_outcome kinds s → r ≡ Told l → States-told kinds s l
+pub told_states : (kinds : Kinds) {s : List ℕ} {r : Result Layout Refusal} {l : Layout} → header_of r ≡ states_outcome kinds s → r ≡ Ok l → States-told kinds s l
 unfolding states_outcome
 told_states kinds {s} e f =
-    let g = answer_told_lem (states_refusal kinds s) (layout_of s) e f in
+    let g = was_ok layout_in (states_refusal kinds s) (layout_of s) e f in
     record { none = g.0; fits = fits_of kinds s (length s) (states_header kinds s g.0) g.1 }
 
 -- Another refusal than 6.
-pub refused_states : (kinds : Kinds) (s : List ℕ) {r : Header} {k : ℕ} → header_of r ≡ states_outcome kinds s → r ≡ Refused k → header_of r ≡ leads_outcome kinds s
+pub refused_states : (kinds : Kinds) (s : List ℕ) {r : Result Layout Refusal} {k : Refusal} → header_of r ≡ states_outcome kinds s → r ≡ Err k → header_of r ≡ leads_outcome kinds s
 unfolding leads_refusal states_outcome leads_outcome
 refused_states kinds s e f = first_counts (states_refusal kinds s) _ (layout_of s) e f
 
@@ -89,16 +91,16 @@ module _ (kinds : Kinds) (s : List ℕ) {l : Layout} {count : ℕ} (t : States-t
       rw (all_leads, t.fits.n_is, t.fits.m_is, t.fits.leads_is, t.fits.questions_is)
 
   -- A lead does not fit: refusal 6.
-  pub refused_lead : false ≡ run_fits s count l.leads → header_of (Refused 6) ≡ leads_outcome kinds s
-  unfolding leads_outcome leads_refusal leads_of outcome header_of
+  pub refused_lead : false ≡ run_fits s count l.leads → header_of (Err Lead) ≡ leads_outcome kinds s
+  unfolding leads_outcome leads_refusal leads_of outcome
   refused_lead e = rw (t.none, ← run_leads, ← e)
 
   -- Every lead fits: no refusal.
-  pub judged_told : true ≡ run_fits s count l.leads → header_of (Told l) ≡ leads_outcome kinds s
+  pub judged_told : true ≡ run_fits s count l.leads → header_of (Ok l) ≡ leads_outcome kinds s
   unfolding leads_outcome leads_refusal leads_of
   judged_told e =
       let none : leads_refusal kinds s ≡ 0 = rw (t.none, ← run_leads, ← e) in
-      rw (← t.fits.layout_is) (header_told (leads_refusal kinds s) l none)
+      rw (← t.fits.layout_is) (outcome_ok layout_in l _ none refl)
 
   -- They are few, and lie inside.
   pub leads_inside : (l.leads ≤ leads_latest) × (count ≤ questions_leads) × (l.leads + 4 * count ≤ length s)
@@ -122,7 +124,7 @@ unfolding refusal_for leads_refusal states_refusal
 refusal_is kinds s = silent_last (header_refusal kinds s (length s)) (state_refused s) (lead_refused s) (silent_refused s)
 
 -- A record is refused by another refusal.
-pub refused_leads : (kinds : Kinds) (s : List ℕ) {r : Header} {k : ℕ} → header_of r ≡ leads_outcome kinds s → r ≡ Refused k → header_of r ≡ problem_outcome kinds s
+pub refused_leads : (kinds : Kinds) (s : List ℕ) {r : Result Layout Refusal} {k : Refusal} → header_of r ≡ leads_outcome kinds s → r ≡ Err k → header_of r ≡ problem_outcome kinds s
 unfolding leads_outcome problem_outcome
 refused_leads kinds s e f = rw (refusal_is kinds s) (first_counts (leads_refusal kinds s) _ (layout_of s) e f)
 
@@ -135,10 +137,10 @@ leads_header : (kinds : Kinds) (s : List ℕ) → leads_refusal kinds s ≡ 0 �
 unfolding leads_refusal
 leads_header kinds s e = states_header kinds s ((or_else_none (states_refusal kinds s) _).0 e).0
 
-pub leads_told : (kinds : Kinds) {s : List ℕ} {r : Header} {l : Layout} → header_of r ≡ leads_outcome kinds s → r ≡ Told l → Leads-told kinds s l
+pub leads_told : (kinds : Kinds) {s : List ℕ} {r : Result Layout Refusal} {l : Layout} → header_of r ≡ leads_outcome kinds s → r ≡ Ok l → Leads-told kinds s l
 unfolding leads_outcome
 leads_told kinds {s} e f =
-    let g = answer_told_lem (leads_refusal kinds s) (layout_of s) e f in
+    let g = was_ok layout_in (leads_refusal kinds s) (layout_of s) e f in
     record { none = g.0; fits = fits_of kinds s (length s) (leads_header kinds s g.0) g.1 }
 
 module _ {kinds : Kinds} {s : List ℕ} {l : Layout} (t : Leads-told kinds s l) where
@@ -149,16 +151,16 @@ module _ {kinds : Kinds} {s : List ℕ} {l : Layout} (t : Leads-told kinds s l) 
       rw t.fits.m_is (some_same (row_blank s l.leads l.n) (blank_left s) (m_field s) (λ i h. rw (wide, t.fits.n_is, t.fits.leads_is)))
 
   -- A rule says nothing: 17.
-  pub refused_silent : true ≡ some_below (row_blank s l.leads l.n) l.m → header_of (Refused 17) ≡ problem_outcome kinds s
-  unfolding problem_outcome outcome header_of
+  pub refused_silent : true ≡ some_below (row_blank s l.leads l.n) l.m → header_of (Err Silent) ≡ problem_outcome kinds s
+  unfolding problem_outcome outcome
   refused_silent e = let seventeen : refusal_for kinds s ≡ 17 = refusal_is kinds s ∙ rw (t.none, ← silent_is, ← e) in rw seventeen refl
 
   -- None does: no refusal.
-  pub speaking_told : false ≡ some_below (row_blank s l.leads l.n) l.m → header_of (Told l) ≡ problem_outcome kinds s
+  pub speaking_told : false ≡ some_below (row_blank s l.leads l.n) l.m → header_of (Ok l) ≡ problem_outcome kinds s
   unfolding problem_outcome
   speaking_told e =
       let none : refusal_for kinds s ≡ 0 = refusal_is kinds s ∙ rw (t.none, ← silent_is, ← e) in
-      rw (← t.fits.layout_is) (header_told (refusal_for kinds s) l none)
+      rw (← t.fits.layout_is) (outcome_ok layout_in l _ none refl)
 
   -- Their rows lie inside.
   pub rules_inside : (l.n ≤ highest_n) × (row_place l.leads l.n l.m ≤ length s)
@@ -169,20 +171,20 @@ pub record Told-of (kinds : Kinds) (s : List ℕ) (l : Layout) : Type 0 where
   pub within : refusal_for kinds s ≡ 0
   pub fits : HeaderFits kinds s (length s) l
 
-pub told_of : (kinds : Kinds) {s : List ℕ} {r : Header} {l : Layout} → header_of r ≡ problem_outcome kinds s → r ≡ Told l → Told-of kinds s l
+pub told_of : (kinds : Kinds) {s : List ℕ} {r : Result Layout Refusal} {l : Layout} → header_of r ≡ problem_outcome kinds s → r ≡ Ok l → Told-of kinds s l
 unfolding problem_outcome
 told_of kinds {s} e f =
-    let g = answer_told_lem (refusal_for kinds s) (layout_of s) e f in
+    let g = was_ok layout_in (refusal_for kinds s) (layout_of s) e f in
     record { within = g.0; fits = fits_of kinds s (length s) (header_none kinds s g.0) g.1 }
 
 -- A layout is the answer for a problem within the layout; one of kind 1 is laid out so,
-pub laid : {s : List ℕ} {r : Header} {l : Layout} → Bytes s → header_of r ≡ problem_outcome checker_kinds s → r ≡ Told l → (l.kind ≡ states_kind → ⊥) → Laid s l.n l.m
+pub laid : {s : List ℕ} {r : Result Layout Refusal} {l : Layout} → Bytes s → header_of r ≡ problem_outcome checker_kinds s → r ≡ Ok l → (kind_number l.kind ≡ states_kind → ⊥) → Laid s l.n l.m
 unfolding problem_outcome
 laid {s} {l = l} b e f other =
-    let g = answer_told_lem (problem_refusal s) (layout_of s) e f in
+    let g = was_ok layout_in (problem_refusal s) (layout_of s) e f in
     let n_is : n_field s ≡ l.n = ap (λ (x : Problems.Layout). x.n) (sym g.1) in
     let m_is : m_field s ≡ l.m = ap (λ (x : Problems.Layout). x.m) (sym g.1) in
-    let k-is : l.kind ≡ kind_field s = ap (λ (x : Problems.Layout). x.kind) g.1 in
+    let k-is : kind_number l.kind ≡ kind_field s = ap (λ (x : Problems.Layout). x.kind) g.1 in
     let p = problem_fits s g.0 in
     let kind = plain_kind p.one_kind (λ k. other (k-is ∙ k)) in
     record {
@@ -202,7 +204,7 @@ laid {s} {l = l} b e f other =
     plain_kind (OneKind.stated e) d = absurd (d e)
 
 -- and one of kind 5 has its states.
-pub states_held : {kinds : Kinds} {s : List ℕ} {l : Layout} → Told-of kinds s l → l.kind ≡ states_kind → StatesHeld s l.n l.m
+pub states_held : {kinds : Kinds} {s : List ℕ} {l : Layout} → Told-of kinds s l → kind_number l.kind ≡ states_kind → StatesHeld s l.n l.m
 states_held {kinds} {s} {l} t k =
     let kind : kind_field s ≡ states_kind = sym t.fits.kind_is ∙ k in
     let place : l.leads ≡ states_place + short_bytes * l.m = rw (t.fits.leads_is, kind, t.fits.m_is) refl in
@@ -232,10 +234,10 @@ right_tabled {s} {n} {m} {right = right} l t = rw (plain_right_table s l.kind_is
 -- ---- reading
 
 -- The problem is refused.
-pub refused_read : (kinds : Kinds) (s : List ℕ) {r : Header} {k : ℕ} {left right : List ℕ} → header_of r ≡ problem_outcome kinds s → r ≡ Refused k → ProblemRead kinds s left right r left right
+pub refused_read : (kinds : Kinds) (s : List ℕ) {r : Result Layout Refusal} {k : Refusal} {left right : List ℕ} → header_of r ≡ problem_outcome kinds s → r ≡ Err k → ProblemRead kinds s left right r left right
 unfolding problem_outcome
 refused_read kinds s e f =
-    let g = answer_refused_lem (refusal_for kinds s) (layout_of s) e f in
+    let g = was_err layout_in (refusal_for kinds s) (layout_of s) e f in
     record { result = e; left_kept = λ h. refl; right_kept = λ h. refl; left_read = λ w. absurd (omega arith); right_read = λ w. absurd (omega arith) }
 
 -- What reading the tables asks, of the bytes from where ten bytes stand before the leads.
@@ -306,7 +308,7 @@ module _ {kinds : Kinds} {s : List ℕ} {l : Layout} {left right : List ℕ} (t 
       rw own (asked_right s v.asks 0 v.some (rw (← t.fits.n_is, ← t.fits.m_is) (first_row (4 * (l.n + 1)) (right_place l.n) (λ i j. omega arith) right b.right_size c)))
 
   -- The problem is read.
-  pub problem_read : {r : Header} {left₀ right₀ : List ℕ} → (l.kind ≡ states_kind → ⊥) → header_of r ≡ problem_outcome kinds s → ProblemRead kinds s left₀ right₀ r left right
+  pub problem_read : {r : Result Layout Refusal} {left₀ right₀ : List ℕ} → (kind_number l.kind ≡ states_kind → ⊥) → header_of r ≡ problem_outcome kinds s → ProblemRead kinds s left₀ right₀ r left right
   problem_read other e = record {
     result = e;
     left_kept = λ q. absurd (omega (arith, t.within));
@@ -326,7 +328,7 @@ module _ {kinds : Kinds} {s : List ℕ} {l : Layout} {left right : List ℕ} (t 
       rights (KnownKind.stated k) = absurd (other (t.fits.kind_is ∙ k))
 
 -- A record of kind 5 is read by its rules in force.
-pub states_read : {kinds : Kinds} {s : List ℕ} {l : Layout} {r : Header} {left₀ right₀ left right : List ℕ} → Told-of kinds s l → l.kind ≡ states_kind
+pub states_read : {kinds : Kinds} {s : List ℕ} {l : Layout} {r : Result Layout Refusal} {left₀ right₀ left right : List ℕ} → Told-of kinds s l → kind_number l.kind ≡ states_kind
     → (left ≡ left_table s) × (right ≡ right_table s) → header_of r ≡ problem_outcome kinds s → ProblemRead kinds s left₀ right₀ r left right
 states_read {s = s} t k b e =
     let kind : kind_field s ≡ states_kind = sym t.fits.kind_is ∙ k in

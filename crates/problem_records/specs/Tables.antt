@@ -1,12 +1,13 @@
 -- The lent tables of leads, as offset numbers: 64 rows of 32 columns, row after row. Every place is determined: past n, past
 -- m there is 0, which is blank.
-use Rattle.std.specs.Prelude.{ℕ, ◌+◌, ◌/◌, ◌%◌, ◌≤◌, ◌<◌, ◌≡◌, Bool, true, cond, ◌&&◌, List, [], ◌∷◌, map, leb, length}
+use Rattle.std.specs.Prelude.{Result, ℕ, ◌+◌, ◌/◌, ◌%◌, ◌≤◌, ◌<◌, ◌≡◌, Bool, true, cond, ◌&&◌, List, [], ◌∷◌, map, leb, length}
 use Rattle.definitions.specs.Limits.{highest_n, highest_m, problem_kind, lead_limit, signed_bytes, stride, table_size, refused_state, refused_lead}
 use Rattle.definitions.specs.Bytes.{Bytes, num_at, nums_at, trop_field, trop_at, all, blank_or_within, first, or_else, Outcome, outcome}
 use Rattle.definitions.specs.Offset.{off}
 use Rattle.definitions.specs.ProblemRecord.{Kinds, problem_size, kind_field, n_field, m_field, leads_place, left_from, right_from, left_place, right_place, suspended, list_of, row_place, run_blank, header_refusal, state_refused, lead_refused, refusal_for, Layout, layout_of, problem_outcome}
 use Rattle.definitions.specs.Questions.{asking}
-use Rattle.records.specs.declared.problem.Header.{Header}
+use Rattle.records.specs.declared.problem.Layout as Layouts
+use Rattle.records.specs.declared.refusal.Refusal.{Refusal}
 use Rattle.records.specs.ProblemHeader.{header_of}
 
 -- Each of `count` leads from a place on is blank or within the limit.
@@ -65,7 +66,7 @@ pub record Laid (s : List ℕ) (n m : ℕ) : Type 0 where
 
 -- What reading a problem into two tables leaves: the answer; both tables as they were where the problem is refused, else the left and
 -- the right leads of its rules and its first question.
-pub record ProblemRead (kinds : Kinds) (s left right : List ℕ) (r : Header) (left' right' : List ℕ) : Type 0 where
+pub record ProblemRead (kinds : Kinds) (s left right : List ℕ) (r : Result Layouts.Layout Refusal) (left' right' : List ℕ) : Type 0 where
   pub result : header_of r ≡ problem_outcome kinds s
   pub left_kept : 0 < refusal_for kinds s → left' ≡ left
   pub right_kept : 0 < refusal_for kinds s → right' ≡ right

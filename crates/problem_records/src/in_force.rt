@@ -19,10 +19,7 @@ fn suspended(bytes: &[u8], m: usize, i: usize) -> bool
     requires { (m ≤ highest_m) × (i ≤ m) }
     ensures { result ≡ lifted bytes.now m i }
 {
-    if m <= i {
-        return false;
-    }
-    short_at(bytes, STATES_PLACE + SHORT_BYTES * i) == 0
+    i < m && short_at(bytes, STATES_PLACE + SHORT_BYTES * i) == 0
 }
 
 // Byte k of a row of blanks.
@@ -47,9 +44,7 @@ fn copy_part(bytes: &[u8], from: usize, count: usize, room: &mut [u8], at: usize
     requires { (from + count ≤ length bytes.now) × (at + count ≤ length room.old) }
     ensures { FilledFrom (λ k. get_or bytes.now (from + k) 0) at count room.old room.new }
 {
-    for k in 0..count {
-        room[at + k] = bytes[from + k];
-    }
+    room[at..at + count].copy_from_slice(&bytes[from..from + count]);
 }
 
 // Row i of a record behind m states, to its place in the room: blank where it is a suspended rule.
@@ -81,18 +76,8 @@ fn head_in_force(n: usize, m: usize, long: usize) -> [u8; PROBLEM_HEADER]
     requires { (n ≤ highest_n) × (m ≤ highest_m) × (long + 4 ≡ problem_header + rows_size n (m + 1)) }
     ensures { result ≡ header_bytes n m }
 {
-    [
-        (long % 256) as u8,
-        (long / 256) as u8,
-        0,
-        0,
-        1,
-        0,
-        n as u8,
-        0,
-        m as u8,
-        0,
-    ]
+    let [low, high] = (long as u16).to_le_bytes();
+    [low, high, 0, 0, 1, 0, n as u8, 0, m as u8, 0]
 }
 
 // It is put at the front of the room; what stands behind it stays.

@@ -1,9 +1,6 @@
-use Prim.Native.Nat.{◌-◌}
-use Rattle.problem_records.proofs.Leads.{Blank}
+use Rattle.std.proofs.Common.{◌≡◌}
+use Rattle.definitions.specs.ProblemRecord.{run_blank}
 use Rattle.problem_records.proofs.reader.all_blank.Given as goal
 
-abbrev pub invariant-loop : goal.invariant-loop
-invariant-loop l = Blank l.bytes l.start l.count l.counter l.at l.given
-
-abbrev pub decreases-loop : goal.decreases-loop
-decreases-loop l = l.count - l.counter
+abbrev pub invariant-loop-i : goal.invariant-loop-i
+invariant-loop-i l = l.blank ≡ run_blank l.bytes l.i l.start

@@ -1,9 +1,6 @@
-use Prim.Native.Nat.{◌-◌}
-use Rattle.problem_records.proofs.Leads.{Judged}
+use Rattle.std.proofs.Common.{◌≡◌}
+use Rattle.problem_records.specs.Tables.{run_fits}
 use Rattle.problem_records.proofs.reader.leads_fit.Given as goal
 
-abbrev pub invariant-loop : goal.invariant-loop
-invariant-loop l = Judged l.bytes l.start l.count l.counter l.at l.misfits
-
-abbrev pub decreases-loop : goal.decreases-loop
-decreases-loop l = l.count - l.counter
+abbrev pub invariant-loop-i : goal.invariant-loop-i
+invariant-loop-i l = l.fit ≡ run_fits l.bytes l.i l.start

@@ -1,38 +1,43 @@
-use Rattle.problem_records.proofs.ReadProblem.{told_of, told_framed, refused_read, problem_read, states_held, states_read}
-use mathlib.Core.Path.{ap, sym, ◌∙◌}
-use native.Mathlib.Omega.{arith}
-use Prim.Native.Nat.{◌-◌}
+use Rattle.std.proofs.Common.{◌≡◌, ◌-◌, ◌⊎◌, inl, inr, ap, refl, arith, rules}
+use Rattle.std.proofs.lemmas.Result.{err_from_is_err_and}
 use Rattle.base.proofs.Lists.{rest_whole}
-use Rattle.records.specs.ProblemHeader.{header_of}
-use borrow.Author.Rules.{rules}
+use Rattle.definitions.specs.Limits.{problem_kind, questions_kind, states_kind}
+use Rattle.records.specs.declared.problem.Kind.{Kind}
+use Rattle.records.specs.declared.problem.Kind.TheVariants.{Problem, Questions}
+use Rattle.records.specs.ProblemHeader.{kind_number}
+use Rattle.problem_records.proofs.ReadProblem.{told_of, told_framed, refused_read, problem_read, states_held, states_read}
 use Rattle.problem_records.proofs.reader.read_record.Goals as goal
 
-pub returns-in_default : goal.returns-in_default
-returns-in_default c = refused_read _ _ c.judge_problem-header.ensures c.in_default.is
+-- A record of kind 1 or 3 is not of kind 5.
+other : {k : Kind} → (k ≡ Problem) ⊎ (k ≡ Questions) → kind_number k ≡ states_kind → ⊥
+other (inl e) f = let z : problem_kind ≡ states_kind = rw e at f in omega arith
+other (inr e) f = let z : questions_kind ≡ states_kind = rw e at f in omega arith
+
+pub returns-in_err-layout : goal.returns-in_err-layout
+returns-in_err-layout c = let p = err_from_is_err_and c.from_residual.result c.from_residual.ensures.1 in
+    rw (p.1, p.2) (refused_read _ _ c.in_err-layout.ensures refl)
 
 pub read_in_force-requires : goal.read_in_force-requires
-read_in_force-requires c = let t = told_of _ c.judge_problem-header.ensures c.in-Told.is in
-    (states_held t c.if-layout-eq-STATES_KIND.true, search rules, search rules)
+read_in_force-requires c = let t = told_of _ c.judge_problem.ensures c.in_ok-layout.was in
+    (states_held t (ap kind_number c.in-States.is), search rules, search rules)
 
-pub returns-then-layout-eq-STATES_KIND : goal.returns-then-layout-eq-STATES_KIND
-returns-then-layout-eq-STATES_KIND c = let read = c.judge_problem-header.ensures in
-    let told = c.in-Told.is in
-    states_read (told_of _ read told) c.if-layout-eq-STATES_KIND.true c.read_in_force.ensures (sym (ap header_of told) ∙ read)
+pub overflow_sub-behind : goal.overflow_sub-behind
+overflow_sub-behind c = let t = told_of _ c.judge_problem.ensures c.in_ok-layout.was in omega (arith, t.fits.leads_least)
 
-pub overflow_sub-layout : goal.overflow_sub-layout
-overflow_sub-layout c = let t = told_of _ c.judge_problem-header.ensures c.in-Told.is in omega (arith, t.fits.leads_least)
+pub slice_bounds-behind-count : goal.slice_bounds-behind-count
+slice_bounds-behind-count c = let t = told_of _ c.judge_problem.ensures c.in_ok-layout.was in omega (arith, t.fits.leads_least, t.fits.size_is)
 
-pub slice_bounds-read_tables-count : goal.slice_bounds-read_tables-count
-slice_bounds-read_tables-count c = let t = told_of _ c.judge_problem-header.ensures c.in-Told.is in omega (arith, t.fits.leads_least, t.fits.size_is)
-
-pub slice_bounds-read_tables-start : goal.slice_bounds-read_tables-start
-slice_bounds-read_tables-start c = let t = told_of _ c.judge_problem-header.ensures c.in-Told.is in omega (arith, t.fits.leads_least, t.fits.size_is)
+pub slice_bounds-behind-start : goal.slice_bounds-behind-start
+slice_bounds-behind-start c = let t = told_of _ c.judge_problem.ensures c.in_ok-layout.was in omega (arith, t.fits.leads_least, t.fits.size_is)
 
 pub read_tables-requires : goal.read_tables-requires
-read_tables-requires c = let t = told_of _ c.judge_problem-header.ensures c.in-Told.is in
-    rw (rest_whole c.args.bytes.now (c.in-Told.layout.leads - 10)) (told_framed t (search rules) (search rules))
+read_tables-requires c = let t = told_of _ c.judge_problem.ensures c.in_ok-layout.was in
+    rw (rest_whole c.args.bytes.now (c.in_ok-layout.layout.leads - 10)) (told_framed t (search rules) (search rules))
 
-pub returns : goal.returns
-returns c = let read = c.judge_problem-header.ensures in
-    let told = c.in-Told.is in
-    problem_read (told_of _ read told) (rw (rest_whole c.args.bytes.now (c.in-Told.layout.leads - 10)) at c.read_tables.ensures) c.if-layout-eq-STATES_KIND.false (sym (ap header_of told) ∙ read)
+pub returns-in-States : goal.returns-in-States
+returns-in-States c = let t = told_of _ c.judge_problem.ensures c.in_ok-layout.was in
+    states_read t (ap kind_number c.in-States.is) c.read_in_force.ensures c.in_ok-layout.ensures
+
+pub returns-in-Problem : goal.returns-in-Problem
+returns-in-Problem c = let t = told_of _ c.judge_problem.ensures c.in_ok-layout.was in
+    problem_read t (rw (rest_whole c.args.bytes.now (c.in_ok-layout.layout.leads - 10)) at c.read_tables.ensures) (other c.in-Problem.is) c.in_ok-layout.ensures
