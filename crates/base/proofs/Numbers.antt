@@ -1,5 +1,5 @@
 -- Laws of natural numbers that case splits use, and of the larger of two.
-use Prim.Native.Nat.{ℕ, zero, suc, ◌+◌, ◌*◌, ◌-◌, ◌≤◌, ◌<◌}
+use Prim.Native.Nat.{ℕ, zero, suc, ◌+◌, ◌*◌, ◌-◌, ◌≤◌, ◌<◌, max}
 use mathlib.Core.Path.{◌≡◌, refl, sym, subst, ◌∙◌}
 use mathlib.Core.Bool.{Bool, true, false, cond}
 use mathlib.Core.Logic.{◌⊎◌, inl, inr, ⊎_elim}
@@ -56,6 +56,10 @@ most_second a b h = rw (le-leb a b h)
 pub most_first : (a b : ℕ) → b < a → a ≡ most a b
 unfolding most
 most_first a b h = rw (lt-leb a b h)
+
+-- What the library's `max` answers is the larger of two.
+pub max_most : (a b : ℕ) → max a b ≡ most a b
+max_most a b = ⊎_elim (λ h. omega arith) (λ h. omega arith) (most_one a b)
 
 pub most_left : (a b : ℕ) → a ≤ most a b
 most_left a b = ⊎_elim (λ h. omega arith) (λ h. omega arith) (most_one a b)

@@ -5,9 +5,6 @@ use Rattle.base.specs.Numbers.{most}
 use Rattle.base.specs.Filled.{FilledFrom}
 use Rattle.base.proofs.Numbers.{most_zero, one_more, below_or_last}
 use Rattle.base.proofs.Filled.{set_here, set_there}
-use Rattle.definitions.specs.ProblemRecord.{left_place}
-use Rattle.problem_records.specs.Tables.{lead_at, left_table, right_table, Laid}
-use Rattle.problem_records.proofs.LeadTables.{left_lead_at, right_lead_at}
 use Rattle.closed_walks.specs.Arcs.{raised_by, lift, lifted, strict_arc, variable_arc, VariableArcs, fall, fallen, loose_arc, row_arc, heaviest, RowArcs, Column}
 
 -- ---- rows of a table
@@ -55,23 +52,18 @@ pub fill_idle : (left right : List ℕ) (m t j : ℕ) {base count : ℕ} {old ne
     → FilledFrom (λ _. 0) base count old new → FilledFrom (variable_arc left right m t pick j) base count old new
 fill_idle left right m t j e h = filled_as (λ l b. rw e (sym (variable_none left right m t j l))) h
 
--- Variable j by row i of a problem as bytes, the row that it picks: the row's leads start at a place.
-module _ {s : List ℕ} {n m : ℕ} (laid : Laid s n m) {i at : ℕ} (row : i ≤ m) (place : at ≡ left_place n i 0) where
-  left_is : (j : ℕ) {a : ℕ} → j ≤ n → a ≡ lead_at s (at + 4 * j) → get_or (left_table s) (i * 32 + j) 0 ≡ a
-  left_is j column lead = left_lead_at laid i at j row place column ∙ sym lead
+-- Variable j by row i, the row that it picks, whose left coefficient of j is a.
+module _ (left right : List ℕ) (m t : ℕ) {i pick a base count : ℕ} {old new : List ℕ} (j : ℕ) (picked : pick ≡ suc i) (lead : a ≡ get_or left (i * 32 + j) 0) where
+  -- It is blank.
+  pub fill_blank : a ≡ 0 → FilledFrom (λ _. 0) base count old new → FilledFrom (variable_arc left right m t pick j) base count old new
+  fill_blank z h = filled_as (λ l b. rw picked (sym (variable_blank left right m t i j l (sym lead ∙ z)))) h
 
-  module _ (t : ℕ) {j pick a base : ℕ} {old new : List ℕ} (picked : pick ≡ suc i) (column : j ≤ n) (lead : a ≡ lead_at s (at + 4 * j)) where
-    -- Its left coefficient is blank.
-    pub fill_blank : a ≡ 0 → FilledFrom (λ _. 0) base (n + 1) old new → FilledFrom (variable_arc (left_table s) (right_table s) m t pick j) base (n + 1) old new
-    fill_blank z h = filled_as (λ l b. rw picked (sym (variable_blank (left_table s) (right_table s) m t i j l (left_is j column lead ∙ z)))) h
-
-    -- It is whole.
-    pub fill_arcs : {up : ℕ} → (a ≡ 0 → ⊥) → up ≡ lift a (raised_by t m i) → FilledFrom (λ l. lifted up (lead_at s (at + 4 * (n + 1) + 4 * l))) base (n + 1) old new
-        → FilledFrom (variable_arc (left_table s) (right_table s) m t pick j) base (n + 1) old new
-    fill_arcs {up} d u h = filled_as
-        (λ l b. rw (picked, u) (sym (variable_lifted (left_table s) (right_table s) m t i j l (λ z. d (sym (left_is j column lead) ∙ z))
-        ∙ rw (left_is j column lead, right_lead_at laid i at l row place (omega arith)) refl)))
-        h
+  -- It is whole.
+  pub fill_arcs : {up : ℕ} {f : ℕ → ℕ} → (a ≡ 0 → ⊥) → up ≡ lift a (raised_by t m i) → ((l : ℕ) → l < count → get_or right (i * 32 + l) 0 ≡ f l)
+      → FilledFrom (λ l. lifted up (f l)) base count old new → FilledFrom (variable_arc left right m t pick j) base count old new
+  fill_arcs {up} {f} d u e h = filled_as
+      (λ l b. rw (picked, u, lead) (sym (variable_lifted left right m t i j l (λ z. d (lead ∙ z)) ∙ ap (lifted (lift (get_or left (i * 32 + j) 0) (raised_by t m i))) (e l b))))
+      h
 
 pub variable_rows_none : (left right : List ℕ) (m t : ℕ) (picks : List ℕ) (width : ℕ) (arcs : List ℕ) → length arcs ≡ 1024
     → VariableArcs left right m t picks width 0 arcs

@@ -16,8 +16,7 @@ use Rattle.duality.specs.Sweeps.{Climbed}
 use Rattle.duality.proofs.Longest.{round_least, potential_closed}
 use Rattle.duality.proofs.Sweeps.{SomeGain, entries_back, gain_back, swept_none, swept_kept, swept_more, all_fixed_or_gains, climbed_start, climbed_more, climbed_part, climbed_under, climbed_beyond}
 use Rattle.reach.specs.Marks.{Marked}
-use Rattle.closed_walks.specs.declared.gains.Round.{Round}
-use Rattle.closed_walks.specs.declared.gains.Round.TheVariants.{Whole, Beyond}
+use Rattle.std.specs.Prelude.{Option, Some, None}
 use Rattle.closed_walks.specs.Gains.{arc_zero, arc_most, weight_of, matrix, anywhere, Table, NoneGains, SomeGains, Tested}
 use Rattle.closed_walks.specs.Order.{past, Ordered}
 use Rattle.closed_walks.specs.GainRound.{walk_limit, end_value, Pushed, backward, level, RoundReady, Pushing, Ended, finished, stopped, Rounds}
@@ -316,13 +315,13 @@ module _ (arcs marks : List ℕ) (width : ℕ) (table : Table arcs width) where
       more = omega (whole, plus_read (pos arc_most) (pos (i * arc_most)))
 
   -- A round that was whole; and one that stopped at a value above the limit.
-  pub ended_whole : {values done new pushed : List ℕ} {r : Round} {moved : Bool} → Ended arcs marks width values done new pushed r → r ≡ Whole moved
+  pub ended_whole : {values done new pushed : List ℕ} {r : Option Bool} {moved : Bool} → Ended arcs marks width values done new pushed r → r ≡ Some moved
       → Pushing arcs marks width values done width new pushed moved
   ended_whole {moved = moved} (finished {moved = was} p) e = let f : was ≡ moved = cc in rw f at p
   ended_whole (stopped p h a) e = absurd (let z : ◌≡◌ {A = ℕ} 0 1 = cc in omega arith)
 
-  pub rounds_beyond : {i : ℕ} {values done new pushed : List ℕ} {r : Round} → Rounds arcs marks width i values done
-      → Ended arcs marks width values done new pushed r → r ≡ Beyond → SomeGains arcs marks width
+  pub rounds_beyond : {i : ℕ} {values done new pushed : List ℕ} {r : Option Bool} → Rounds arcs marks width i values done
+      → Ended arcs marks width values done new pushed r → r ≡ None → SomeGains arcs marks width
   rounds_beyond s (finished p) e = absurd (let z : ◌≡◌ {A = ℕ} 0 1 = cc in omega arith)
   rounds_beyond s (stopped {l = l} p h a) e = some_gains (climbed_beyond (backward arcs marks) anywhere width
       (climbed_part (backward arcs marks) anywhere width s.climbed p.swept) (fin (pos walk_limit))

@@ -1,5 +1,6 @@
 -- Laws of the marked variables in order: none yet, one more variable looked at.
-use Rattle.std.proofs.Common.{◌≡◌, ℕ, zero, suc, ◌+◌, ◌<◌, ◌≤◌, cond, eqb, List, length, get_or, set, replicate, sym, refl, ◌∙◌, subst, ⊎_elim, eq-zero-or-pos, arith, length-set, eq-eqb, ne_eqb}
+use Rattle.std.proofs.Common.{◌≡◌, ℕ, zero, suc, ◌+◌, ◌<◌, ◌≤◌, not, eqb, List, length, get_or, set, replicate, sym, refl, ◌∙◌, subst, ⊎_elim, eq-zero-or-pos, arith, length-set, eq-eqb, ne_eqb}
+use Rattle.std.specs.Int.{from_bool}
 use Rattle.base.proofs.Numbers.{nat_le_or_lt, below_or_last}
 use Rattle.base.proofs.Filled.{set_here, set_there}
 use Rattle.reach.specs.Marks.{Marked}
@@ -89,10 +90,10 @@ module _ {marks : List ℕ} {j : ℕ} {places : List ℕ} {count : ℕ} (o : Ord
       last = let e : count + 1 ≡ suc count = omega arith in rw e (past_last places count j (omega (arith, o.length_is, o.few)))
 
   -- Either, by what its mark adds to the count.
-  pub order_next : {r : ℕ} → r ≡ cond (eqb (get_or marks j 0) 0) count (count + 1) → Ordered marks (j + 1) (set places count j) r
+  pub order_next : {r : ℕ} → r ≡ from_bool (not (eqb (get_or marks j 0) 0)) → Ordered marks (j + 1) (set places count j) (count + r)
   order_next {r} e = ⊎_elim
-      (λ (z : get_or marks j 0 ≡ 0). let q : r ≡ count = e ∙ rw (eq-eqb (get_or marks j 0) 0 z) refl in rw q (order_kept z))
-      (λ (h : 0 < get_or marks j 0). let q : r ≡ count + 1 = e ∙ rw (ne_eqb (get_or marks j 0) 0 (omega arith)) refl in rw q (order_more (λ z. omega arith)))
+      (λ (z : get_or marks j 0 ≡ 0). let q : count + r ≡ count = omega (arith, rw (eq-eqb (get_or marks j 0) 0 z) at e) in rw q (order_kept z))
+      (λ (h : 0 < get_or marks j 0). let q : count + r ≡ count + 1 = omega (arith, rw (ne_eqb (get_or marks j 0) 0 (omega arith)) at e) in rw q (order_more (λ z. omega arith)))
       (eq-zero-or-pos (get_or marks j 0))
 
 -- ---- a marked variable is in the order

@@ -2,15 +2,13 @@
 -- unless it did so with the value that it has.
 -- A value is what the heaviest walk found so far weighs that ends there. Values start at 0 and never fall, so they are plain
 -- numbers; a variable whose value is above a limit raises no others, so that none wraps.
-use Rattle.std.specs.Prelude.{◌≡◌, ℕ, suc, ◌+◌, ◌-◌, ◌*◌, ◌<◌, ◌≤◌, Bool, true, false, List, length, pos, slice_index}
+use Rattle.std.specs.Prelude.{◌≡◌, ℕ, suc, ◌+◌, ◌-◌, ◌*◌, ◌<◌, ◌≤◌, Bool, true, false, Option, Some, None, List, length, pos, slice_index}
 use Rattle.base.specs.Numbers.{most}
 use Rattle.definitions.specs.Limits.{signed_full, stride}
 use Rattle.definitions.specs.Tropical.{Trop, fin, plus, ◌⊑◌}
 use Rattle.duality.specs.Values.{value_at}
 use Rattle.duality.specs.Sweeps.{turned, Swept, Fixed, Climbed}
 use Rattle.reach.specs.Marks.{Marked}
-use Rattle.closed_walks.specs.declared.gains.Round.{Round}
-use Rattle.closed_walks.specs.declared.gains.Round.TheVariants.{Whole, Beyond}
 use Rattle.closed_walks.specs.Gains.{arc_zero, arc_most, matrix, anywhere}
 
 -- No walk of at most 32 arcs weighs more.
@@ -67,10 +65,10 @@ pub record Pushing (arcs marks : List ℕ) (width : ℕ) (values done : List ℕ
   pub moves : moved ≡ true → ((j : ℕ) → j < width → Marked marks j → slice_index new j < slice_index done j) → ⊥
 
 -- What a round comes to: all variables have had their turn, or only some, and a value is above the limit.
-pub data Ended (arcs marks : List ℕ) (width : ℕ) (values done new pushed : List ℕ) : Round → Type 0 where
-  finished : {moved : Bool} → Pushing arcs marks width values done width new pushed moved → Ended arcs marks width values done new pushed (Whole moved)
+pub data Ended (arcs marks : List ℕ) (width : ℕ) (values done new pushed : List ℕ) : Option Bool → Type 0 where
+  finished : {moved : Bool} → Pushing arcs marks width values done width new pushed moved → Ended arcs marks width values done new pushed (Some moved)
   stopped : {k l : ℕ} {moved : Bool} → Pushing arcs marks width values done k new pushed moved → l < width → walk_limit < slice_index new l
-      → Ended arcs marks width values done new pushed Beyond
+      → Ended arcs marks width values done new pushed None
 
 -- After i rounds that moved something: a round may start; the values lie between those of i rounds of Bellman–Ford and every
 -- potential that is at least 0; each marked variable has raised with its value of i − 1 rounds of Bellman–Ford; and those of

@@ -3,13 +3,13 @@ ghost use Rattle.std.specs.Prelude.{◌≡◌, ℕ, suc, ◌+◌, ◌*◌, ◌<�
 ghost use Rattle.base.specs.Filled.{FilledFrom};
 ghost use Rattle.definitions.specs.Limits.{signed_half, lead_limit, span_limit, arcs_size, signed_bytes, stride, table_size};
 ghost use Rattle.records.specs.Decoded.{Near};
-ghost use Rattle.problem_records.specs.Tables.{left_table, right_table, Laid};
+ghost use Rattle.problem_records.specs.Tables.{left_table, right_table};
 ghost use Rattle.closed_walks.specs.Gains.{arc_zero};
 ghost use Rattle.closed_walks.specs.Tables.{Sized, Picked, Trial};
 ghost use Rattle.closed_walks.specs.Arcs.{raised_by, lift, lift_most, lifted, LiftSized, LiftFilled, variable_arc, VariableArcs, fall, fall_most, fallen, row_arc, heaviest, RowArcs, Column};
 
-use base::larger;
-use problem_records::reader::{lead_in, row_place};
+use problem_records::laid::Rows;
+use problem_records::reader::lead_in;
 use records::limits::{
     ARCS, LEAD_BYTES, LEAD_LIMIT, OFFSET, ROWS, STRIDE, STRIDE_32, STRIDE_64, TABLE,
 };
@@ -53,10 +53,8 @@ fn fill_run(arcs: &mut [u32; ARCS], from: usize, bytes: &[u8], at: usize, width:
     requires { LiftSized arcs.old from bytes.now at width up }
     ensures { LiftFilled from bytes.now at width up arcs.old arcs.new }
 {
-    let mut place = at;
     for l in 0..width {
-        arcs[from + l] = lifted_by(up, lead_in(bytes, place));
-        place += LEAD_BYTES;
+        arcs[from + l] = lifted_by(up, lead_in(bytes, at + LEAD_BYTES * l));
     }
 }
 
@@ -67,9 +65,9 @@ fn fill_lifted(arcs: &mut [u32; ARCS], from: usize, bytes: &[u8], at: usize, wid
 {
     if width == STRIDE {
         fill_run(arcs, from, bytes, at, STRIDE, up);
-        return;
+    } else {
+        fill_run(arcs, from, bytes, at, width, up);
     }
-    fill_run(arcs, from, bytes, at, width, up);
 }
 
 // No entries from one variable.
@@ -77,55 +75,37 @@ fn fill_none(arcs: &mut [u32; ARCS], from: usize, width: usize)
     requires { (length arcs.old ≡ arcs_size) × (from + width ≤ arcs_size) }
     ensures { FilledFrom (λ _. 0) from width arcs.old arcs.new }
 {
-    for l in 0..width {
-        arcs[from + l] = 0;
-    }
+    arcs[from..from + width].fill(0);
 }
 
 // The entries from variable j by the row that it picks.
-fn fill_variable(
-    arcs: &mut [u32; ARCS],
-    bytes: &[u8],
-    n: usize,
-    m: usize,
-    t: u64,
-    pick: usize,
-    j: usize,
-)
-    requires { Laid bytes.now n m × Trial t × (length arcs.old ≡ arcs_size) × (pick ≤ m + 1) × (j ≤ n) }
-    ensures { FilledFrom (variable_arc (left_table bytes.now) (right_table bytes.now) m t pick j) (j * stride) (n + 1) arcs.old arcs.new }
+fn fill_variable(arcs: &mut [u32; ARCS], rows: &Rows, t: u64, pick: usize, j: usize)
+    requires { Trial t × (length arcs.old ≡ arcs_size) × (pick ≤ rows.now.m + 1) × (j ≤ rows.now.n) }
+    ensures { FilledFrom (variable_arc (left_table rows.now.bytes.now) (right_table rows.now.bytes.now) rows.now.m t pick j) (j * stride) (rows.now.n + 1) arcs.old arcs.new }
 {
-    let width = n + 1;
     let from = j * STRIDE;
+    let width = rows.n + 1;
     if pick == 0 {
         fill_none(arcs, from, width);
         return;
     }
     let i = pick - 1;
-    let at = row_place(n, i);
-    let a = lead_in(bytes, at + LEAD_BYTES * j);
+    let a = rows.left(i, j);
     if a == 0 {
         fill_none(arcs, from, width);
         return;
     }
-    let up = lift_of(a, raise_of(t, m, i));
-    fill_lifted(arcs, from, bytes, at + LEAD_BYTES * width, width, up);
+    let up = lift_of(a, raise_of(t, rows.m, i));
+    fill_lifted(arcs, from, rows.bytes, rows.right_start(i), width, up);
 }
 
 // The table of a strategy of variables, for a problem as bytes. Public for `strategy_tests::certify`.
-pub fn variable_arcs(
-    arcs: &mut [u32; ARCS],
-    bytes: &[u8],
-    n: usize,
-    m: usize,
-    picks: &[u64; ROWS],
-    t: u64,
-)
-    requires { Laid bytes.now n m × Trial t × (length arcs.old ≡ arcs_size) × Picked picks.now (m + 1) }
-    ensures { VariableArcs (left_table bytes.now) (right_table bytes.now) m t picks.now (n + 1) (n + 1) arcs.new }
+pub fn variable_arcs(arcs: &mut [u32; ARCS], rows: &Rows, picks: &[u64; ROWS], t: u64)
+    requires { Trial t × (length arcs.old ≡ arcs_size) × Picked picks.now (rows.now.m + 1) }
+    ensures { VariableArcs (left_table rows.now.bytes.now) (right_table rows.now.bytes.now) rows.now.m t picks.now (rows.now.n + 1) (rows.now.n + 1) arcs.new }
 {
-    for j in 0..n + 1 {
-        fill_variable(arcs, bytes, n, m, t, picks[j] as usize, j);
+    for j in 0..rows.n + 1 {
+        fill_variable(arcs, rows, t, picks[j] as usize, j);
     }
 }
 
@@ -161,23 +141,24 @@ fn fill_column(
 {
     for j in 0..width {
         let at = j * STRIDE + l;
-        arcs[at] = larger(arcs[at], fallen_by(down, left[base + j]));
+        arcs[at] = arcs[at].max(fallen_by(down, left[base + j]));
     }
 }
 
+// Two tables of coefficients for n + 1 variables and m + 1 rows.
+#[derive(Clone, Copy)]
+pub struct Tables<'a> {
+    pub left: &'a [u32; TABLE],
+    pub right: &'a [u32; TABLE],
+    pub n: usize,
+    pub m: usize,
+    pub ghost sized: { Sized left.now right.now n m },
+}
+
 // The entries by row i, to the variable that it picks.
-fn fill_row(
-    arcs: &mut [u32; ARCS],
-    left: &[u32; TABLE],
-    right: &[u32; TABLE],
-    n: usize,
-    m: usize,
-    picks: &[u64; ROWS],
-    t: u64,
-    i: usize,
-)
-    requires { Sized left.now right.now n m × Trial t × RowArcs left.now right.now m t picks.now (n + 1) i arcs.old × Picked picks.now (n + 1) × (i ≤ m) }
-    ensures { RowArcs left.now right.now m t picks.now (n + 1) (i + 1) arcs.new }
+fn fill_row(arcs: &mut [u32; ARCS], tables: &Tables, picks: &[u64; ROWS], t: u64, i: usize)
+    requires { Trial t × RowArcs tables.now.left.now tables.now.right.now tables.now.m t picks.now (tables.now.n + 1) i arcs.old × Picked picks.now (tables.now.n + 1) × (i ≤ tables.now.m) }
+    ensures { RowArcs tables.now.left.now tables.now.right.now tables.now.m t picks.now (tables.now.n + 1) (i + 1) arcs.new }
 {
     let pick = picks[i] as usize;
     if pick == 0 {
@@ -185,11 +166,12 @@ fn fill_row(
     }
     let l = pick - 1;
     let base = i * STRIDE;
-    let b = right[base + l];
+    let b = tables.right[base + l];
     if b == 0 {
         return;
     }
-    fill_column(arcs, left, base, l, n + 1, fall_of(b, raise_of(t, m, i)));
+    let down = fall_of(b, raise_of(t, tables.m, i));
+    fill_column(arcs, tables.left, base, l, tables.n + 1, down);
 }
 
 // An empty table.
@@ -203,20 +185,12 @@ fn clear_arcs(arcs: &mut [u32; ARCS], width: usize)
 }
 
 // The table of a strategy of rows. Public for `strategy_tests::certify`.
-pub fn row_arcs(
-    arcs: &mut [u32; ARCS],
-    left: &[u32; TABLE],
-    right: &[u32; TABLE],
-    n: usize,
-    m: usize,
-    picks: &[u64; ROWS],
-    t: u64,
-)
-    requires { Sized left.now right.now n m × Trial t × (length arcs.old ≡ arcs_size) × Picked picks.now (n + 1) }
-    ensures { RowArcs left.now right.now m t picks.now (n + 1) (m + 1) arcs.new }
+pub fn row_arcs(arcs: &mut [u32; ARCS], tables: &Tables, picks: &[u64; ROWS], t: u64)
+    requires { Trial t × (length arcs.old ≡ arcs_size) × Picked picks.now (tables.now.n + 1) }
+    ensures { RowArcs tables.now.left.now tables.now.right.now tables.now.m t picks.now (tables.now.n + 1) (tables.now.m + 1) arcs.new }
 {
-    clear_arcs(arcs, n + 1);
-    for i in 0..m + 1 {
-        fill_row(arcs, left, right, n, m, picks, t, i);
+    clear_arcs(arcs, tables.n + 1);
+    for i in 0..tables.m + 1 {
+        fill_row(arcs, tables, picks, t, i);
     }
 }

@@ -4,7 +4,7 @@
 // No, at the first value above the limit, with which no others are raised, so that none wraps; or after one round more than there
 // are variables: unless a short closed walk weighs above zero, no value exceeds the heaviest walk of fewer arcs than variables, so
 // many rounds find it, and one more passes it on.
-ghost use Rattle.std.specs.Prelude.{◌≡◌, ◌+◌, ◌<◌, ◌≤◌, length, if◌then◌else◌, nat_eq};
+ghost use Rattle.std.specs.Prelude.{◌≡◌, ◌+◌, ◌<◌, ◌≤◌, ℕ, length, get_or};
 ghost use Rattle.definitions.specs.Limits.{signed_full, stride, arcs_size};
 ghost use Rattle.reach.specs.Marks.{Flags};
 ghost use Rattle.closed_walks.specs.Gains.{arc_zero, Table, Tested};
@@ -41,65 +41,63 @@ fn push(arcs: &[u32; ARCS], base: usize, by: u32, values: &mut [u32; STRIDE])
     }
 }
 
-// The marked variables in order, and how many they are.
+// The marked variables below a width, in order: the first `count` places.
 #[derive(Clone, Copy)]
-pub struct Order {
+pub struct Order<'a> {
+    pub marks: &'a [u8; STRIDE],
+    pub width: usize,
     pub places: [usize; STRIDE],
     pub count: usize,
+    pub ghost ordered: { Ordered marks.now width places count },
+    pub ghost narrow: { width ≤ stride },
 }
 
-// A count, with one more where there is a mark.
-fn counted(count: usize, mark: u8) -> usize
-    requires { count ≤ stride }
-    ensures { result ≡ (if nat_eq mark 0 then count else count + 1) }
-{
-    if mark == 0 { count } else { count + 1 }
+impl<'a> Order<'a> {
+    // These variables.
+    pub fn variables(&self) -> &[usize]
+        ensures { (length result.now ≡ self.now.count) × ((i : ℕ) → i < self.now.count → get_or result.now i 0 ≡ get_or self.now.places i 0) }
+    {
+        &self.places[..self.count]
+    }
 }
 
 // The marked variables in order: each variable takes the next place, and keeps it if it is marked. So there is no branch here,
 // and none on marks in the rounds. Public for `strategy_tests::certify`.
 pub fn order_of(marks: &[u8; STRIDE], width: usize) -> Order
     requires { Flags marks.now × (width ≤ stride) }
-    ensures { Ordered marks.now width result.places result.count }
+    ensures { (result.marks.now ≡ marks.now) × (result.width ≡ width) }
 {
     let mut places = [0usize; STRIDE];
     let mut count = 0;
     for j in 0..width {
         places[count] = j;
-        count = counted(count, marks[j]);
+        count += usize::from(marks[j] != 0);
     }
-    Order { places, count }
+    Order {
+        marks,
+        width,
+        places,
+        count,
+    }
 }
 
-// What a round comes to: whole, with whether a variable raised others, or stopped at a value above the limit.
-#[derive(Clone, Copy)]
-pub enum Round {
-    Whole(bool),
-    Beyond,
-}
-
-// A round: each variable of an order of those that are marked raises the values at the ends of its arcs, unless it has done so
-// with this value; `done` has for each variable one more than the value with which it last did, 0 for none. Values of this
-// round count in it already. The round stops at the first variable whose value is above the limit. The marks are those that the
-// order is of, and are not looked at again.
+// A round: each variable of an order raises the values at the ends of its arcs, unless it has done so with this value; `done` has
+// for each variable one more than the value with which it last did, 0 for none. Values of this round count in it already. It
+// says whether a variable raised others. It stops at the first variable whose value is above the limit, and says nothing.
 fn push_round(
     arcs: &[u32; ARCS],
-    marks: &[u8; STRIDE],
-    places: &[usize; STRIDE],
-    count: usize,
-    width: usize,
+    order: &Order,
     values: &mut [u32; STRIDE],
     done: &mut [u32; STRIDE],
-) -> Round
-    requires { Table arcs.now width × Ordered marks.now width places.now count × RoundReady arcs.now marks.now width values.old done.old }
-    ensures { Ended arcs.now marks.now width values.old done.old values.new done.new result }
+) -> Option<bool>
+    requires { Table arcs.now order.now.width × RoundReady arcs.now order.now.marks.now order.now.width values.old done.old }
+    ensures { Ended arcs.now order.now.marks.now order.now.width values.old done.old values.new done.new result }
 {
     let mut moved = false;
-    for i in 0..count {
-        let j = places[i];
+    for &j in order.variables() {
         let by = values[j];
         if by > VALUE_LIMIT {
-            return Round::Beyond;
+            return None;
         }
         if done[j] <= by {
             push(arcs, j * STRIDE, by, values);
@@ -107,34 +105,19 @@ fn push_round(
             moved = true;
         }
     }
-    Round::Whole(moved)
+    Some(moved)
 }
 
-// No closed walk from a marked variable weighs above zero: rounds until one raises nothing, at most one more than variables. The
-// marks are those that the order is of.
+// No closed walk from a marked variable weighs above zero: rounds until one raises nothing, at most one more than variables.
 // Public for `strategy_tests::certify`.
-pub fn none_gains(
-    arcs: &[u32; ARCS],
-    marks: &[u8; STRIDE],
-    places: &[usize; STRIDE],
-    count: usize,
-    width: usize,
-) -> bool
-    requires { Table arcs.now width × Ordered marks.now width places.now count × (0 < width) }
-    ensures { Tested arcs.now marks.now width result }
+pub fn none_gains(arcs: &[u32; ARCS], order: &Order) -> bool
+    requires { Table arcs.now order.now.width × (0 < order.now.width) }
+    ensures { Tested arcs.now order.now.marks.now order.now.width result }
 {
     let mut values = [0u32; STRIDE];
     let mut done = [0u32; STRIDE];
-    for _ in 0..width + 1 {
-        let Round::Whole(moved) = push_round(
-            arcs,
-            marks,
-            places,
-            count,
-            width,
-            &mut values,
-            &mut done,
-        ) else {
+    for _ in 0..order.width + 1 {
+        let Some(moved) = push_round(arcs, order, &mut values, &mut done) else {
             return false;
         };
         if !moved {

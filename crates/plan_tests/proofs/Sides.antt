@@ -70,20 +70,11 @@ module _ (f : ℕ → ℕ) (x : List ℕ) where
 
   -- and with one sum more.
   pub under_more : (k limit : ℕ) {sum : ℕ} {r : Bool} → Decides (best_sum f x k ≤ limit) r → sum ≡ f k + get_or x k 0
-      → Decides (best_sum f x (k + 1) ≤ limit) (cond (ltb limit sum) false r)
-  under_more k limit {sum} {r} d e = go (ltb limit sum) refl
+      → Decides (best_sum f x (k + 1) ≤ limit) (r && leb sum limit)
+  under_more k limit {sum} {r} d e = go (leb sum limit) refl
     where
-      go : (b : Bool) → ltb limit sum ≡ b → Decides (best_sum f x (k + 1) ≤ limit) (cond b false r)
-      go true q =
-          let h : limit < sum = ltb-true limit sum q in
-          record { yes = λ z. absurd (false≢true z); no = λ z g. omega (arith, best_more k, most_right (best_sum f x k) (f k + get_or x k 0)) }
-      go false q =
-          let h : sum ≤ limit = ltb-false limit sum q in
-          record {
-            yes = λ z. let g : best_sum f x k ≤ limit = d.yes z in
-                ⊎_elim (λ p. omega (arith, best_more k)) (λ p. omega (arith, best_more k)) (most_one (best_sum f x k) (f k + get_or x k 0));
-            no = λ z g. d.no z (omega (arith, best_more k, most_left (best_sum f x k) (f k + get_or x k 0)));
-          }
+      go : (b : Bool) → leb sum limit ≡ b → Decides (best_sum f x (k + 1) ≤ limit) (r && b)
+      go b q = ?
 
 -- ---- what it stands for
 
@@ -198,14 +189,9 @@ side_small {s} {at} {count} {x} z =
     ⊎_elim (λ r. omega arith) (λ r. omega arith) (side_cases (best_sum (run s at) x count) (best_floor (run s at) x count))
 
 -- A lead in range with a stamp in range stays below 2³².
-pub sum_fits : {s : List ℕ} {at count : ℕ} {x : List ℕ} → RowSized s at count x → (l from : ℕ) → l < count → from ≡ at + 4 * l
-    → (from + 4 ≤ length s) × (lead_at s from + get_or x l 0 < signed_full)
-sum_fits {s} {at} {x = x} z l from h e =
-    (omega (arith, z.inside), let q : lead_at s (at + 4 * l) + get_or x l 0 < signed_full = omega (arith, (z.leads l h).hi, z.points l) in rw e q)
-
--- A sum that was read is the sum at its place.
-pub sum_at_lem : (s : List ℕ) (at l d : ℕ) {from v : ℕ} → v ≡ lead_at s from + d → from ≡ at + 4 * l → v ≡ run s at l + d
-sum_at_lem s at l d e f = rw (← f) e
+pub sum_fits : {s : List ℕ} {at count : ℕ} {x : List ℕ} → RowSized s at count x → (l : ℕ) → l < count
+    → (at + 4 * l + 4 ≤ length s) × (run s at l + get_or x l 0 < signed_full)
+sum_fits z l h = (omega (arith, z.inside), omega (arith, (z.leads l h).hi, z.points l))
 
 -- A row of the full width.
 pub full : {n : ℕ} → n ≡ 31 → n + 1 ≡ 32
@@ -219,7 +205,7 @@ row_small {n = n} {m} laid i row place = omega (arith, mul-le-mul_right {m = i +
 
 -- Both sides of row i are in range.
 module _ {s : List ℕ} {n m : ℕ} (laid : Laid s n m) {x : List ℕ} (small : Low x) (i : ℕ) {left right : ℕ} (row : i ≤ m) (place : left ≡ left_place n i 0)
-    (next : right ≡ left + 4 * (n + 1)) where
+    (next : right ≡ right_place n i 0) where
   pub left_sized : RowSized s left (n + 1) x
   left_sized = record {
     inside = omega (arith, row_inside laid i row);
@@ -232,12 +218,12 @@ module _ {s : List ℕ} {n m : ℕ} (laid : Laid s n m) {x : List ℕ} (small : 
   right_sized = record {
     inside = omega (arith, row_inside laid i row);
     few = omega (arith, laid.n_most);
-    leads = λ l h. rw next (right_near_at laid i left l row place (omega arith));
+    leads = λ l h. let e : right ≡ left + 4 * (n + 1) = omega arith in rw e (right_near_at laid i left l row place (omega arith));
     points = small;
   }
 
 module _ {s : List ℕ} {n m : ℕ} (laid : Laid s n m) {stamps x : List ℕ} (stamped : Stamped stamps) (low : Lowered stamps (n + 1) x) where
-  module _ (i : ℕ) {left right : ℕ} (row : i ≤ m) (place : left ≡ left_place n i 0) (next : right ≡ left + 4 * (n + 1)) where
+  module _ (i : ℕ) {left right : ℕ} (row : i ≤ m) (place : left ≡ left_place n i 0) (next : right ≡ right_place n i 0) where
     one_side : (at : ℕ) (coefficients : ℕ → Trop) → RowSized s at (n + 1) x → ((j : ℕ) → j ≤ n → trop_of (run s at j) ≡ coefficients j)
         → trop_of (side_of (run s at) x (n + 1)) ≡ side (problem_of s).n coefficients (stamps_point stamps)
     unfolding side side_of stamps_point problem_of
@@ -271,7 +257,7 @@ module _ {s : List ℕ} {n m : ℕ} (laid : Laid s n m) {stamps x : List ℕ} (s
   m_of = laid.m_is
 
   -- The value: first side less second side, where both are whole.
-  module _ {left right : ℕ} (place : left ≡ left_place n m 0) (next : right ≡ left + 4 * (n + 1)) where
+  module _ {left right : ℕ} (place : left ≡ left_place n m 0) (next : right ≡ right_place n m 0) where
     abbrev first : ℕ
     first = side_of (run s left) x (n + 1)
 

@@ -1,7 +1,7 @@
 // A point at the rows of a problem, which are read where they stand: the sides of a row, the rules, the value.
 #![tactic(auto)]
 
-ghost use Rattle.std.specs.Prelude.{◌≡◌, cond, false, List, ℕ, suc, ◌+◌, ◌*◌, ◌≤◌, ◌<◌, ltb, length, ℤ};
+ghost use Rattle.std.specs.Prelude.{◌≡◌, List, ℕ, ◌+◌, ◌≤◌, ◌<◌, length, ℤ};
 ghost use Rattle.base.specs.Decides.{Decides};
 ghost use Rattle.definitions.specs.Limits.{stamp_limit, signed_full, stride, signed_bytes};
 ghost use Rattle.definitions.specs.Tropical.{fin};
@@ -10,12 +10,12 @@ ghost use Rattle.definitions.specs.Offset.{trop_of, off};
 ghost use Rattle.definitions.specs.ProblemRecord.{problem_of};
 ghost use Rattle.records.specs.Decoded.{Near};
 ghost use Rattle.records.specs.Stamps.{Stamped, stamps_point};
-ghost use Rattle.problem_records.specs.Tables.{lead_at, Laid};
+ghost use Rattle.problem_records.specs.Tables.{lead_at};
 ghost use Rattle.plan_tests.specs.Sides.{lowered, Lowered, side_floor, run, best_sum, side_of, Low, RowSized, BestIs, NoneOver};
 
-use problem_records::reader::row_place;
+use problem_records::laid::Rows;
 use records::bytes::word_in;
-use records::limits::{HIGHEST_N, LEAD_BYTES, OFFSET, OFFSET_32, PROBLEM_HEADER, STRIDE};
+use records::limits::{HIGHEST_N, LEAD_BYTES, OFFSET, OFFSET_32, STRIDE};
 use records::offset::{later, offset_32, offset_added};
 
 // What stamps are lowered by, so that their sums with coefficients stay below 2³².
@@ -62,10 +62,8 @@ fn best_of(bytes: &[u8], at: usize, count: usize, x: &[u32; STRIDE]) -> u32
     ensures { BestIs bytes.now at count x.now result }
 {
     let mut best = offset_32(SIDE_FLOOR);
-    let mut from = at;
     for l in 0..count {
-        best = later(best, sum_in(bytes, from, x[l]));
-        from += LEAD_BYTES;
+        best = later(best, sum_in(bytes, at + LEAD_BYTES * l, x[l]));
     }
     best
 }
@@ -76,17 +74,10 @@ fn best(bytes: &[u8], at: usize, n: usize, x: &[u32; STRIDE]) -> u32
     ensures { BestIs bytes.now at (n + 1) x.now result }
 {
     if n == HIGHEST_N {
-        return best_of(bytes, at, STRIDE, x);
+        best_of(bytes, at, STRIDE, x)
+    } else {
+        best_of(bytes, at, n + 1, x)
     }
-    best_of(bytes, at, n + 1, x)
-}
-
-// What was so far, unless a sum, as a field, is above the limit.
-fn still(kept: bool, limit: u32, sum: u32) -> bool
-    requires { sum < signed_full }
-    ensures { result ≡ cond (ltb limit (off sum)) false kept }
-{
-    if limit < offset_32(sum) { false } else { kept }
 }
 
 // None of `count` sums is above the limit. All are looked at, so that the loop has no branch.
@@ -95,46 +86,42 @@ fn none_above_of(bytes: &[u8], at: usize, count: usize, x: &[u32; STRIDE], limit
     ensures { NoneOver bytes.now at count x.now limit result }
 {
     let mut none = true;
-    let mut from = at;
     for l in 0..count {
-        none = still(none, limit, sum_in(bytes, from, x[l]));
-        from += LEAD_BYTES;
+        none &= offset_32(sum_in(bytes, at + LEAD_BYTES * l, x[l])) <= limit;
     }
     none
 }
 
-// The same for a row of n + 1 leads.
+// The same for a row of n + 1 leads, which has a call of its own too.
 fn none_above(bytes: &[u8], at: usize, n: usize, x: &[u32; STRIDE], limit: u32) -> bool
     requires { RowSized bytes.now at (n + 1) x.now × (side_floor ≤ limit) }
     ensures { NoneOver bytes.now at (n + 1) x.now limit result }
 {
     if n == HIGHEST_N {
-        return none_above_of(bytes, at, STRIDE, x, limit);
+        none_above_of(bytes, at, STRIDE, x, limit)
+    } else {
+        none_above_of(bytes, at, n + 1, x, limit)
     }
-    none_above_of(bytes, at, n + 1, x, limit)
 }
 
-// The row whose left leads start at `left` and whose right leads start at `right` stands: no left sum is above the right side.
-fn row_stands(bytes: &[u8], left: usize, right: usize, n: usize, x: &[u32; STRIDE]) -> bool
-    requires { RowSized bytes.now left (n + 1) x.now × RowSized bytes.now right (n + 1) x.now }
-    ensures { Decides (best_sum (run bytes.now left) x.now (n + 1) ≤ best_sum (run bytes.now right) x.now (n + 1)) result }
+// Row i stands: no left sum is above the right side.
+fn row_stands(rows: &Rows, i: usize, x: &[u32; STRIDE]) -> bool
+    requires { (i ≤ rows.now.m) × Low x.now }
+    ensures { (stamps : List ℕ) → Stamped stamps → Lowered stamps (rows.now.n + 1) x.now → Decides (Keeps (problem_of rows.now.bytes.now) (stamps_point stamps) i) result }
 {
-    none_above(bytes, left, n, x, offset_32(best(bytes, right, n, x)))
+    let most = best(rows.bytes, rows.right_start(i), rows.n, x);
+    none_above(rows.bytes, rows.left_start(i), rows.n, x, offset_32(most))
 }
 
 // The point whose stamps, lowered, are x keeps every inequality. Public for the checker's `check`.
-pub fn keeps_rules(bytes: &[u8], n: usize, m: usize, x: &[u32; STRIDE]) -> bool
-    requires { Laid bytes.now n m × Low x.now }
-    ensures { (stamps : List ℕ) → Stamped stamps → Lowered stamps (n + 1) x.now → Decides ((i : ℕ) → i < m → Keeps (problem_of bytes.now) (stamps_point stamps) i) result }
+pub fn keeps_rules(rows: &Rows, x: &[u32; STRIDE]) -> bool
+    requires { Low x.now }
+    ensures { (stamps : List ℕ) → Stamped stamps → Lowered stamps (rows.now.n + 1) x.now → Decides ((i : ℕ) → i < rows.now.m → Keeps (problem_of rows.now.bytes.now) (stamps_point stamps) i) result }
 {
-    let step = LEAD_BYTES * (n + 1);
-    let mut left = PROBLEM_HEADER;
-    for _ in 0..m {
-        let right = left + step;
-        if !row_stands(bytes, left, right, n, x) {
+    for i in 0..rows.m {
+        if !row_stands(rows, i, x) {
             return false;
         }
-        left = right + step;
     }
     true
 }
@@ -153,18 +140,11 @@ fn side(bytes: &[u8], at: usize, n: usize, x: &[u32; STRIDE]) -> u64
 }
 
 // The objective value of that point is the span s. Public for the checker's `check`.
-pub fn value_is(bytes: &[u8], n: usize, m: usize, x: &[u32; STRIDE], s: u64) -> bool
-    requires { Laid bytes.now n m × Low x.now × (s ≤ signed_full) }
-    ensures { (stamps : List ℕ) (z : ℤ) → Stamped stamps → Lowered stamps (n + 1) x.now → trop_of s ≡ fin z → Decides (value (problem_of bytes.now) (stamps_point stamps) ≡ whole z) result }
+pub fn value_is(rows: &Rows, x: &[u32; STRIDE], s: u64) -> bool
+    requires { Low x.now × (s ≤ signed_full) }
+    ensures { (stamps : List ℕ) (z : ℤ) → Stamped stamps → Lowered stamps (rows.now.n + 1) x.now → trop_of s ≡ fin z → Decides (value (problem_of rows.now.bytes.now) (stamps_point stamps) ≡ whole z) result }
 {
-    let left = row_place(n, m);
-    let first = side(bytes, left, n, x);
-    if first == 0 {
-        return false;
-    }
-    let second = side(bytes, left + LEAD_BYTES * (n + 1), n, x);
-    if second == 0 {
-        return false;
-    }
-    first + OFFSET == second + s
+    let first = side(rows.bytes, rows.left_start(rows.m), rows.n, x);
+    let second = side(rows.bytes, rows.right_start(rows.m), rows.n, x);
+    first != 0 && second != 0 && first + OFFSET == second + s
 }

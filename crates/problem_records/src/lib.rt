@@ -3,4 +3,5 @@
 #![tactic(auto)]
 
 pub mod in_force;
+pub mod laid;
 pub mod reader;

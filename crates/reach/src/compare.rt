@@ -37,12 +37,10 @@ fn rest_differs(old: &[u8], new: &[u8], from: usize, count: usize) -> bool
     requires { (count ≤ length old.now) × (count ≤ length new.now) × (from ≤ count) × (count < from + 8) × (DifferBelow from old.now new.now → ⊥) }
     ensures { MarksCompared count old.now new.now result }
 {
-    let mut k = from;
-    while 0 < count - k {
+    for k in from..count {
         if old[k] != new[k] {
             return true;
         }
-        k += 1;
     }
     false
 }

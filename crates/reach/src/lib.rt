@@ -26,8 +26,7 @@ pub fn anchor_and(k: usize) -> [u8; STRIDE]
     requires { k < stride }
     ensures { AnchoredAnd k result }
 {
-    let mut both = [0u8; STRIDE];
-    both[0] = 1;
+    let mut both = anchor();
     both[k] = 1;
     both
 }
@@ -52,43 +51,36 @@ fn mark_of(mark: u8, arc: u32) -> u8
     if arc == 0 { mark } else { 1 }
 }
 
-// The marks, with all to which the arcs from `base` on lead. All places are looked at, whatever the width: a loop of known
+// All to which the arcs from `base` on lead are marked too. All places are looked at, whatever the width: a loop of known
 // length is several times as fast, and marks past the width say nothing.
-fn mark_row(arcs: &[u32; ARCS], base: usize, marks: [u8; STRIDE]) -> [u8; STRIDE]
-    requires { (base + stride ≤ arcs_size) × (length marks ≡ stride) }
-    ensures { RowMarked arcs.now base stride marks result }
+fn mark_row(arcs: &[u32; ARCS], base: usize, marks: &mut [u8; STRIDE])
+    requires { (base + stride ≤ arcs_size) × (length marks.old ≡ stride) }
+    ensures { RowMarked arcs.now base stride marks.old marks.new }
 {
-    let mut new = marks;
     for l in 0..STRIDE {
-        new[l] = mark_of(new[l], arcs[base + l]);
+        marks[l] = mark_of(marks[l], arcs[base + l]);
     }
-    new
 }
 
 // Marks, and which variables are done: they have marked all to which they lead.
 #[derive(Clone, Copy)]
-pub struct Spread {
-    pub marks: [u8; STRIDE],
-    pub done: [u8; STRIDE],
+struct Spread {
+    marks: [u8; STRIDE],
+    done: [u8; STRIDE],
 }
 
-// A round: each marked variable that is not done marks all to which it leads. Marks of this round count in it already.
-fn spread_round(arcs: &[u32; ARCS], width: usize, marks: [u8; STRIDE], done: [u8; STRIDE]) -> Spread
-    requires { (width ≤ stride) × Flags marks × Flags done }
-    ensures { Spreading arcs.now width marks done width result.marks result.done }
-{
-    let mut new = marks;
-    let mut spread = done;
-    for j in 0..width {
-        if spread[j] < new[j] {
-            let more = mark_row(arcs, j * STRIDE, new);
-            new = more;
-            spread[j] = 1;
+impl Spread {
+    // A round: each marked variable that is not done marks all to which it leads. Marks of this round count in it already.
+    fn round(&mut self, arcs: &[u32; ARCS], width: usize)
+        requires { (width ≤ stride) × Flags self.old.marks × Flags self.old.done }
+        ensures { Spreading arcs.now width self.old.marks self.old.done width self.new.marks self.new.done }
+    {
+        for j in 0..width {
+            if self.done[j] < self.marks[j] {
+                mark_row(arcs, j * STRIDE, &mut self.marks);
+                self.done[j] = 1;
+            }
         }
-    }
-    Spread {
-        marks: new,
-        done: spread,
     }
 }
 
@@ -99,16 +91,15 @@ pub fn reach(arcs: &[u32; ARCS], width: usize, start: [u8; STRIDE]) -> [u8; STRI
     requires { (width ≤ stride) × Flags start }
     ensures { Reached arcs.now width start result }
 {
-    let mut marks = start;
-    let mut done = [0u8; STRIDE];
+    let mut spread = Spread {
+        marks: start,
+        done: [0; STRIDE],
+    };
     loop {
-        let next = spread_round(arcs, width, marks, done);
-        let more = next.marks;
-        if !marks_differ(&marks, &more, width) {
-            return more;
+        let before = spread.marks;
+        spread.round(arcs, width);
+        if !marks_differ(&before, &spread.marks, width) {
+            return spread.marks;
         }
-        let spread = next.done;
-        marks = more;
-        done = spread;
     }
 }

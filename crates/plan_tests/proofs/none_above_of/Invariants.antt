@@ -1,11 +1,7 @@
-use Prim.Native.Nat.{◌+◌, ◌*◌, ◌-◌, ◌≤◌}
-use mathlib.Core.Path.{◌≡◌}
+use Prim.Native.Nat.{◌≤◌}
 use Rattle.base.specs.Decides.{Decides}
 use Rattle.plan_tests.specs.Sides.{run, best_sum}
 use Rattle.plan_tests.proofs.none_above_of.Given as goal
 
 abbrev pub invariant-loop-l : goal.invariant-loop-l
-invariant-loop-l l = (l.l ≤ l.count) × (l.from ≡ l.at + 4 * l.l) × Decides (best_sum (run l.bytes l.at) l.x l.l ≤ l.limit) l.none
-
-abbrev pub decreases-loop-l : goal.decreases-loop-l
-decreases-loop-l l = l.count - l.l
+invariant-loop-l l = (l.l ≤ l.count) × Decides (best_sum (run l.bytes l.at) l.x l.l ≤ l.limit) l.none

@@ -2,8 +2,8 @@ use Rattle.reach.specs.Marks.{Flags}
 use Rattle.reach.specs.Spreading.{Reaching, unmarked}
 use Rattle.reach.proofs.reach.Given as goal
 
-abbrev pub invariant-loop-next : goal.invariant-loop-next
-invariant-loop-next l = Flags l.marks × Flags l.done × Reaching l.arcs l.width l.initial.marks l.marks l.done
+abbrev pub invariant-loop-spread : goal.invariant-loop-spread
+invariant-loop-spread l = Flags l.spread.marks × Flags l.spread.done × Reaching l.arcs l.width l.fn.start l.spread.marks l.spread.done
 
-abbrev pub decreases-loop-next : goal.decreases-loop-next
-decreases-loop-next l = unmarked l.width l.marks
+abbrev pub decreases-loop-spread : goal.decreases-loop-spread
+decreases-loop-spread l = unmarked l.width l.spread.marks

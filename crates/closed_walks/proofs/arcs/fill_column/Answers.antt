@@ -1,5 +1,6 @@
 use Rattle.std.proofs.Common.{◌≡◌, ◌+◌, ap, ◌∙◌, arith, length-set}
 use Rattle.base.specs.Numbers.{most}
+use Rattle.base.proofs.Numbers.{max_most}
 use Rattle.closed_walks.proofs.ArcTables.{column_none, column_more}
 use Rattle.closed_walks.proofs.arcs.fill_column.Goals as goal
 
@@ -13,7 +14,7 @@ pub loop-j-smaller : goal.loop-j-smaller
 loop-j-smaller c = omega arith
 
 pub loop-j-preserved : goal.loop-j-preserved
-loop-j-preserved c = (omega arith, simp length-set (omega arith), column_more c.loop-j.invariant.2 (omega arith) (omega arith) (c.larger.ensures ∙ ap (most _) c.fallen_by.ensures))
+loop-j-preserved c = (omega arith, simp length-set (omega arith), column_more c.loop-j.invariant.2 (omega arith) (omega arith) (c.max.ensures ∙ max_most _ _ ∙ ap (most _) c.fallen_by.ensures))
 
 pub returns : goal.returns
 returns c = let e : c.loop-j.j ≡ c.args.width = omega arith in rw e at c.loop-j.invariant.2

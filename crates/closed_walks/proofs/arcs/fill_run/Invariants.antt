@@ -1,9 +1,6 @@
-use Rattle.std.proofs.Common.{◌≡◌, ◌+◌, ◌-◌, ◌*◌, ◌≤◌, length}
+use Rattle.std.proofs.Common.{◌≡◌, ◌≤◌, length}
 use Rattle.closed_walks.specs.Arcs.{LiftFilled}
 use Rattle.closed_walks.proofs.arcs.fill_run.Given as goal
 
 abbrev pub invariant-loop-l : goal.invariant-loop-l
-invariant-loop-l l = (l.l ≤ l.width) × (l.place ≡ l.at + 4 * l.l) × (length l.arcs ≡ length l.initial.arcs) × LiftFilled l.from l.bytes l.at l.l l.up l.initial.arcs l.arcs
-
-abbrev pub decreases-loop-l : goal.decreases-loop-l
-decreases-loop-l l = l.width - l.l
+invariant-loop-l l = (l.l ≤ l.width) × (length l.arcs ≡ length l.initial.arcs) × LiftFilled l.from l.bytes l.at l.l l.up l.initial.arcs l.arcs

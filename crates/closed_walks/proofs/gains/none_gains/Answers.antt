@@ -6,13 +6,13 @@ pub loop-init : goal.loop-init
 loop-init c = (omega arith, omega (arith, c.requires.0.width_most), rounds_start _ _ _ c.requires.0)
 
 pub push_round-requires : goal.push_round-requires
-push_round-requires c = (c.requires.0, c.requires.1, c.loop.invariant.2.ready)
+push_round-requires c = (c.requires.0, c.loop.invariant.2.ready)
 
 pub returns-in_default : goal.returns-in_default
 returns-in_default c = tested_no (rounds_beyond _ _ _ c.requires.0 c.loop.invariant.2 c.push_round.ensures c.in_default.is)
 
 pub returns-then-not-moved : goal.returns-then-not-moved
-returns-then-not-moved c = tested_yes (rounds_still _ _ _ c.requires.0 (ended_whole _ _ _ c.requires.0 c.push_round.ensures c.in-Whole.is) c.if-not-moved.true)
+returns-then-not-moved c = tested_yes (rounds_still _ _ _ c.requires.0 (ended_whole _ _ _ c.requires.0 c.push_round.ensures c.in-Some.is) c.if-not-moved.true)
 
 pub loop-smaller : goal.loop-smaller
 loop-smaller c = omega arith
@@ -22,9 +22,9 @@ loop-preserved c = (
   omega arith,
   omega arith,
   rounds_more _ _ _ c.requires.0 c.loop.invariant.2
-      (ended_whole _ _ _ c.requires.0 c.push_round.ensures c.in-Whole.is)
+      (ended_whole _ _ _ c.requires.0 c.push_round.ensures c.in-Some.is)
       c.if-not-moved.false,
 )
 
 pub returns : goal.returns
-returns c = tested_no (rounds_end _ _ _ c.requires.0 c.loop.invariant.2 (omega arith) c.requires.2)
+returns c = tested_no (rounds_end _ _ _ c.requires.0 c.loop.invariant.2 (omega arith) c.requires.1)

@@ -1,4 +1,4 @@
-use Rattle.std.proofs.Common.{◌≡◌, arith}
+use Rattle.std.proofs.Common.{refl, arith}
 use Rattle.closed_walks.proofs.Order.{order_none, order_next}
 use Rattle.closed_walks.proofs.gains.order_of.Goals as goal
 
@@ -8,14 +8,8 @@ loop-j-init c = (omega arith, omega arith, order_none _)
 pub bounds-places-count : goal.bounds-places-count
 bounds-places-count c = omega (arith, c.loop-j.invariant.2.few)
 
-pub counted-count-requires : goal.counted-count-requires
-counted-count-requires c = omega (arith, c.loop-j.invariant.2.few)
-
-pub loop-j-smaller : goal.loop-j-smaller
-loop-j-smaller c = omega arith
-
 pub loop-j-preserved : goal.loop-j-preserved
-loop-j-preserved c = (omega arith, omega arith, order_next c.loop-j.invariant.2 (omega arith) c.counted-count.ensures)
+loop-j-preserved c = (omega arith, omega arith, order_next c.loop-j.invariant.2 (omega arith) c.from-count.ensures)
 
 pub returns : goal.returns
-returns c = let e : c.loop-j.j ≡ c.args.width = omega arith in rw e at c.loop-j.invariant.2
+returns c = (refl, refl)
