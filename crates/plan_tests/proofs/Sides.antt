@@ -1,20 +1,20 @@
 -- The sides of a row on offset numbers are the sides of the definitions.
 use Prim.Native.Nat.{ℕ, zero, suc, ◌+◌, ◌*◌, ◌-◌, ◌≤◌, ◌<◌}
 use mathlib.Core.Path.{◌≡◌, refl, ap, sym, ◌∙◌}
-use mathlib.Core.Bool.{Bool, true, false, cond, false≢true}
+use mathlib.Core.Bool.{Bool, true, false, ◌&&◌}
 use mathlib.Core.List.{List}
 use mathlib.Core.Logic.{◌⊎◌, inl, inr, ⊎_elim, ◌↔◌}
 use native.Mathlib.Omega.{arith}
 use native.Mathlib.Nat.{eq-zero-or-pos, mul-le-mul_right}
 use native.Mathlib.Numerals.{add-one}
-use lib.Dec.{ltb}
+use lib.Dec.{leb}
 use lib.ListN.{length, get_or}
 use lib.IntN.{ℤ, ◌-ℤ◌}
-use borrow.Author.Tests.{eq-eqb, ne_eqb, ltb-true, ltb-false}
+use borrow.Author.Tests.{eq-eqb, ne_eqb, leb-true, leb-false}
 use Rattle.base.specs.Numbers.{most}
 use Rattle.base.specs.Decides.{Decides}
-use Rattle.base.proofs.Numbers.{nat_le_or_lt, positive, most_one, most_left, most_right}
-use Rattle.base.proofs.Decides.{decides_as, said_yes}
+use Rattle.base.proofs.Numbers.{nat_le_or_lt, positive, most_one, most_left, most_right, most_under}
+use Rattle.base.proofs.Decides.{decides_as, said_yes, said_no}
 use Rattle.definitions.specs.Limits.{signed_half, signed_full, lead_limit, stamp_limit, signed_bytes, problem_most}
 use Rattle.definitions.specs.Tropical.{Trop, bot, fin, plus, blank_least, larger, largest}
 use Rattle.definitions.specs.Problem.{Keeps, side, value, minus, minus_infinity, plus_infinity, whole}
@@ -26,7 +26,7 @@ use Rattle.definitions.proofs.Tropical.{⊑_refl, ⊑_antisym, larger_left, larg
 use Rattle.definitions.proofs.Offset.{off_off, trop_zero, trop_fin, trop_read, trop_order, trop_larger, plus_trop}
 use Rattle.records.specs.Decoded.{Near}
 use Rattle.records.proofs.ProblemHeader.{product_most}
-use Rattle.problem_records.specs.Tables.{lead_at, Laid}
+use Rattle.problem_records.specs.Tables.{Laid}
 use Rattle.problem_records.proofs.LeadTables.{row_inside, left_near_at, right_near_at, left_lead_means, right_lead_means}
 use Rattle.records.specs.Stamps.{Stamped, stamps_point}
 use Rattle.plan_tests.specs.Sides.{stamp_drop, lowered, Lowered, side_floor, run, best_sum, side_by, side_of, Low, RowSized}
@@ -71,10 +71,11 @@ module _ (f : ℕ → ℕ) (x : List ℕ) where
   -- and with one sum more.
   pub under_more : (k limit : ℕ) {sum : ℕ} {r : Bool} → Decides (best_sum f x k ≤ limit) r → sum ≡ f k + get_or x k 0
       → Decides (best_sum f x (k + 1) ≤ limit) (r && leb sum limit)
-  under_more k limit {sum} {r} d e = go (leb sum limit) refl
-    where
-      go : (b : Bool) → leb sum limit ≡ b → Decides (best_sum f x (k + 1) ≤ limit) (r && b)
-      go b q = ?
+  under_more k limit {sum} {r = true} d e = decides_as
+      (λ h. omega (arith, best_more k, most_under (best_sum f x k) (f k + get_or x k 0) limit (d.yes refl) (omega arith)))
+      (λ h. omega (arith, best_more k, most_right (best_sum f x k) (f k + get_or x k 0)))
+      (record { yes = leb-true sum limit; no = λ q h. omega (arith, leb-false sum limit q) })
+  under_more k limit {sum} {r = false} d e = said_no (λ h. d.no refl (omega (arith, best_more k, most_left (best_sum f x k) (f k + get_or x k 0))))
 
 -- ---- what it stands for
 
