@@ -20,12 +20,13 @@ use Rattle.definitions.proofs.Offset.{zero_offset, whole_offset}
 use Rattle.definitions.proofs.AnswerFits.{AnswerFits, answer_fits}
 use Rattle.definitions.proofs.RoundTrip.{stamps_within}
 use Rattle.answer_reader.specs.declared.answer.Head.{Head}
-use Rattle.answer_reader.specs.declared.answer.AnswerHead.{AnswerHead}
-use Rattle.answer_reader.specs.declared.answer.AnswerHead.TheVariants as Heads
+use Rattle.std.specs.Prelude.{Result, Ok}
+use Rattle.records.specs.declared.refusal.Refusal.{Refusal}
+use Rattle.records.proofs.Refusing.{was_ok}
 use Rattle.records.specs.Decoded.{Near}
-use Rattle.answer_reader.specs.AnswerReading.{head_of, HeadAt, AnswerRead}
+use Rattle.answer_reader.specs.AnswerReading.{told_by, head_of, HeadAt, AnswerRead}
 use Rattle.records.proofs.Near.{near_within}
-use Rattle.answer_reader.proofs.Heads.{told_head, fields_by}
+use Rattle.answer_reader.proofs.Heads.{told_head}
 use Rattle.answer_reader.proofs.Meaning.{stamps_point_lem, picks_strategy}
 use Rattle.checker.specs.Outcome.{Span, Meant, Formed}
 
@@ -35,10 +36,10 @@ pub record HeadRead (s : List ℕ) (n m : ℕ) (head : Head) : Type 0 where
   pub none : answer_refusal s n m ≡ 0
   pub is : HeadAt s head
 
-pub head_read : (s : List ℕ) (n m : ℕ) {read : AnswerHead} {head : Head} → head_of read ≡ answer_outcome s n m → read ≡ Heads.Fields head → HeadRead s n m head
+pub head_read : (s : List ℕ) (n m : ℕ) {read : Result Head Refusal} {head : Head} → head_of read ≡ answer_outcome s n m → read ≡ Ok head → HeadRead s n m head
 unfolding answer_outcome
 head_read s n m e f =
-    let r = fields_by (answer_refusal s n m) (class_field s, span_field s, start_field s) e f in
+    let r = was_ok told_by (answer_refusal s n m) (class_field s, span_field s, start_field s) e f in
     record { none = r.0; is = told_head r.1 }
 
 -- ---- stamps and picks
@@ -70,7 +71,7 @@ span_near k e =
     let hi : k ≤ signed_half + span_limit = leb-true _ _ both.1 in
     record { some = omega arith; near = record { hi = hi; lo = λ _. lo } }
 
-module _ {s : List ℕ} {n m : ℕ} {read_as : AnswerHead} {stamps-before stamps picks-before picks : List ℕ} (bytes : Bytes s)
+module _ {s : List ℕ} {n m : ℕ} {read_as : Result Head Refusal} {stamps-before stamps picks-before picks : List ℕ} (bytes : Bytes s)
     (read : AnswerRead s n m read_as stamps-before stamps picks-before picks) {head : Head} (right : HeadRead s n m head) where
   fits : AnswerFits s n m
   fits = (answer_fits s n m).0 right.none

@@ -37,7 +37,7 @@ use Rattle.duality.proofs.Longest.{exit_value, stable_potential, still_stable, p
 use Rattle.problem_records.specs.Tables.{left_table, right_table}
 use Rattle.answer_reader.specs.Fields.{Padded, stamps_of, picks_of}
 use Rattle.answer_reader.specs.declared.answer.Head.{Head}
-use Rattle.answer_reader.specs.declared.answer.AnswerHead.TheVariants as Heads
+use Rattle.std.specs.Prelude.{Ok}
 use Rattle.answer_reader.specs.AnswerReading.{head_in, HeadAt, AnswerRead}
 use Rattle.answer_reader.proofs.Heads.{head_told, head_fields}
 use Rattle.answer_reader.proofs.Judging.{span_meant}
@@ -387,7 +387,7 @@ unfolding answer_of
 head_at a n m b = record { class_is = refl; span_is = span_meant b n m; start_is = refl }
 
 read_by : (a : List ℕ) (n m : ℕ) → Bytes a → answer_refusal a n m ≡ 0
-    → AnswerRead a n m (Heads.Fields (head_in a)) [] (pad 32 (stamps_of a n)) [] (pad 64 (picks_of a n m))
+    → AnswerRead a n m (Ok (head_in a)) [] (pad 32 (stamps_of a n)) [] (pad 64 (picks_of a n m))
 unfolding stamps_of picks_of answer_outcome
 read_by a n m b none =
     let f = (answer_fits a n m).0 none in
@@ -409,5 +409,5 @@ bytes_decided p a b c w none = accepted_decided (head_in a) held (read_formed c 
     right : HeadRead a (n_field p) (m_field p) (head_in a)
     right = record { none = none; is = head_at a (n_field p) (m_field p) c }
 
-    read : AnswerRead a (n_field p) (m_field p) (Heads.Fields (head_in a)) [] (pad 32 (stamps_of a (n_field p))) [] (pad 64 (picks_of a (n_field p) (m_field p)))
+    read : AnswerRead a (n_field p) (m_field p) (Ok (head_in a)) [] (pad 32 (stamps_of a (n_field p))) [] (pad 64 (picks_of a (n_field p) (m_field p)))
     read = read_by a (n_field p) (m_field p) c none

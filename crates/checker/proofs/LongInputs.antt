@@ -12,8 +12,6 @@ use lib.Seq.{get_or-take, get_or-drop, length-take-le, ext_get_or}
 use borrow.Author.Tests.{eqb-true}
 use Rattle.base.proofs.Numbers.{nat_le_or_lt}
 use Rattle.definitions.specs.Limits.{kept_bytes, length_bytes, problem_header, answer_header, answer_most, highest_n, highest_m, answer_kind, states_most}
-use Rattle.definitions.specs.Tropical.{Trop}
-use Rattle.definitions.specs.Bytes.{outcome}
 use Rattle.definitions.specs.ProblemRecord.{checker_kinds, length_field, kind_field, n_field, m_field, count_field, questions_asked, header_refusal, header_outcome, problem_refusal, refusal_for, meant}
 use Rattle.definitions.specs.AnswerRecord.{known_class, start_fits, class_field, span_field, start_field, answer_size, answer_header_refusal, answer_header_judged, answer_header_outcome, answer_refusal}
 use Rattle.definitions.specs.Verdict.{Verdict, refused, check_refusal, Judged}
@@ -23,23 +21,22 @@ use Rattle.definitions.proofs.KnownKinds.{leads_place_most, KnownKind, OneKind}
 use Rattle.definitions.proofs.Layouts.{problem_fits, within_asks}
 use Rattle.definitions.proofs.Inputs.{kept_at, length_agrees, one_agrees, answer_agrees, header_short, header_length, cut_past, cut_inside, part_meant}
 use Rattle.definitions.proofs.RoundTrip.{size_most}
-use Rattle.definitions.proofs.Outcomes.{outcome-gives, outcome_refusal}
-use Rattle.records.specs.declared.problem.Header.{Header}
+use Rattle.std.specs.Prelude.{Result, Ok, Err, IsErr}
+use Rattle.records.specs.declared.refusal.Refusal.{Refusal}
+use Rattle.records.specs.Refusals.{number_of}
 use Rattle.records.specs.declared.problem.Layout.{Layout}
-use Rattle.records.specs.declared.problem.Header.TheVariants as Headers
-use Rattle.answer_reader.specs.declared.answer.AnswerHead.{AnswerHead}
-use Rattle.answer_reader.specs.declared.answer.AnswerHead.TheVariants as Heads
-use Rattle.records.specs.ProblemHeader.{problem_refused, header_of}
-use Rattle.answer_reader.specs.AnswerReading.{head_of}
+use Rattle.answer_reader.specs.declared.answer.Head.{Head}
+use Rattle.records.specs.ProblemHeader.{header_of}
+use Rattle.records.proofs.Refusing.{was_ok, was_err}
+use Rattle.answer_reader.specs.AnswerReading.{told_by, head_of}
 use Rattle.records.proofs.ProblemHeader.{fits_one, header_fits, header_refuses, product_most}
-use Rattle.checker.specs.Outcome.{answer_refused}
 use Rattle.checker.specs.LongInput.{Longer}
 use Rattle.checker.proofs.Verdicts.{HeaderRead, turned}
 
 -- ---- long problems
 
 -- A header that is right says a size that is kept whole.
-pub header_small : (kept : List ℕ) (end : ℕ) {header : Header} {l : Layout} → header_of header ≡ header_outcome checker_kinds kept end → header ≡ Headers.Told l
+pub header_small : (kept : List ℕ) (end : ℕ) {header : Result Layout Refusal} {l : Layout} → header_of header ≡ header_outcome checker_kinds kept end → header ≡ Ok l
     → (problem_header ≤ end) × (end ≤ states_most) × (l.n ≤ highest_n) × (l.m ≤ highest_m)
 header_small kept end {l = l} e f =
     let h = header_fits checker_kinds kept end e f in
@@ -79,19 +76,24 @@ long_refused s size n m h k l = ⊎_elim
     (λ q. q)
     (eq-zero-or-pos (answer_header_refusal s size n m))
 
--- A head's number is that of its refusal, 0 for none.
-refused_is : (head : AnswerHead) (k : ℕ) (x : ℕ × Trop × ℕ) → head_of head ≡ outcome k x → answer_refused head ≡ k
-unfolding head_of answer_refused
-refused_is (Heads.Fields head) k x e = sym (outcome-gives k x _ (sym e)).0
-refused_is (Heads.Refused j) k x e = sym (outcome_refusal k x j (sym e)).0
-
-pub long_answer : (s : List ℕ) (size n m : ℕ) (head : AnswerHead) {r : ℕ} → n ≤ highest_n → m ≤ highest_m → answer_most < size
-    → head_of head ≡ answer_header_outcome s size n m → r ≡ answer_refused head → (r ≡ answer_header_refusal s size n m) × (0 < r)
+-- So reading its header answers a refusal,
+pub long_answer_refused : (s : List ℕ) (size n m : ℕ) (head : Result Head Refusal) → n ≤ highest_n → m ≤ highest_m → answer_most < size → head_of head ≡ answer_header_outcome s size n m → IsErr head
 unfolding answer_header_outcome
-long_answer s size n m head {r} h k l e f =
+long_answer_refused s size n m (Ok head) h k l e =
     let some = long_refused s size n m h k l in
-    let q : r ≡ answer_header_refusal s size n m = f ∙ refused_is head (answer_header_refusal s size n m) (class_field s, span_field s, start_field s) e in
-    (q, omega arith)
+    let none = (was_ok told_by (answer_header_refusal s size n m) (class_field s, span_field s, start_field s) e refl).0 in
+    absurd (omega arith)
+long_answer_refused s size n m (Err r) h k l e = search
+
+-- with the header's number.
+pub long_answer : (s : List ℕ) (size n m : ℕ) {head : Result Head Refusal} {r : Refusal} → head_of head ≡ answer_header_outcome s size n m → head ≡ Err r → number_of r ≡ answer_header_refusal s size n m
+unfolding answer_header_outcome
+long_answer s size n m e f = sym (was_err told_by (answer_header_refusal s size n m) (class_field s, span_field s, start_field s) e f).0
+
+-- A problem that was not kept whole is refused by its header.
+pub long_problem_refused : (kept : List ℕ) (end : ℕ) (header : Result Layout Refusal) → kept_bytes < end → header_of header ≡ header_outcome checker_kinds kept end → IsErr header
+long_problem_refused kept end (Ok l) far e = absurd (omega (arith, (header_small kept end e refl).1))
+long_problem_refused kept end (Err r) far e = search
 
 -- ---- inputs that are kept whole
 
@@ -127,23 +129,15 @@ module _ {kept input : List ℕ} {size end : ℕ} (longer : Longer kept size inp
       (λ (h : end < problem_header). header_short checker_kinds (take end input) end h ∙ sym (header_short checker_kinds kept end h))
       (nat_le_or_lt problem_header end))
 
-  -- The header is refused,
-  pub header_turned : {header : Header} {j r : ℕ} → header_of header ≡ header_outcome checker_kinds kept end → header ≡ Headers.Refused j → r ≡ problem_refused header
-      → Judged (take end input) (drop end input) (refused r)
-  unfolding refusal_for check_refusal problem_refused
-  header_turned {header} {j} {r} e f g =
-      let q = header_refuses checker_kinds kept end e f in
-      let is : r ≡ j = g ∙ ap problem_refused f in
-      let first : header_refusal checker_kinds (take end input) (length (take end input)) ≡ j = header_same ∙ q.0 in
+  -- The header is refused, as it is where the problem was not kept whole.
+  pub header_turned : (r : Refusal) → header_of (Err r) ≡ header_outcome checker_kinds kept end → Judged (take end input) (drop end input) (refused (number_of r))
+  unfolding refusal_for check_refusal
+  header_turned r e =
+      let q = header_refuses checker_kinds kept end e refl in
+      let first : header_refusal checker_kinds (take end input) (length (take end input)) ≡ number_of r = header_same ∙ q.0 in
       let some : 0 < header_refusal checker_kinds (take end input) (length (take end input)) = omega (arith, q.1) in
       let whole : problem_refusal (take end input) ≡ header_refusal checker_kinds (take end input) (length (take end input)) = or_else_suc _ _ some in
-      turned (take end input) (drop end input) r (or_else_suc _ _ (omega arith) ∙ whole ∙ first ∙ sym is) (omega (arith, q.1))
-
-  -- as it is where the problem was not kept whole.
-  pub long_header : (header : Header) {r : ℕ} → kept_bytes < end → header_of header ≡ header_outcome checker_kinds kept end → r ≡ problem_refused header
-      → Judged (take end input) (drop end input) (refused r)
-  long_header (Headers.Told l) far e g = absurd (omega (arith, (header_small kept end e refl).1))
-  long_header (Headers.Refused j) far e g = header_turned e refl g
+      turned (take end input) (drop end input) (number_of r) (or_else_suc _ _ (omega arith) ∙ whole ∙ first) (omega (arith, q.1))
 
   -- The problem is kept whole.
   pub problem_kept : length kept ≡ kept_bytes → end ≤ kept_bytes → take end kept ≡ take end input

@@ -1,5 +1,5 @@
 -- What the checker's functions answer, in the words of the definitions.
-use Rattle.std.specs.Prelude.{ℕ, suc, ◌<◌, ◌≡◌, true, List, get_or}
+use Rattle.std.specs.Prelude.{Result, Ok, Err, ℕ, suc, ◌<◌, ◌≡◌, true, List, get_or}
 use Rattle.definitions.specs.Limits.{signed_half, span_limit}
 use Rattle.definitions.specs.Offset.{trop_of}
 use Rattle.definitions.specs.Problem.{Problem}
@@ -7,23 +7,17 @@ use Rattle.definitions.specs.AnswerRecord.{Answer, known_class, start_fits, high
 use Rattle.definitions.specs.Verdict as Verdicts
 use Rattle.definitions.specs.Verdict.{Accepted, not_certified, point_of, strategy_of}
 use Rattle.answer_reader.specs.declared.answer.Head.{Head}
-use Rattle.answer_reader.specs.declared.answer.AnswerHead.{AnswerHead}
-use Rattle.answer_reader.specs.declared.answer.AnswerHead.TheVariants as Heads
+use Rattle.records.specs.declared.refusal.Refusal.{Refusal}
+use Rattle.records.specs.Refusals.{number_of}
 use Rattle.records.specs.Decoded.{Near}
 use Rattle.records.specs.Stamps.{Stamped}
-use Rattle.checker.specs.declared.check.Verdict.{Verdict}
-use Rattle.checker.specs.declared.check.Verdict.TheVariants.{Accepted as Certified, Refused}
+use Rattle.checker.specs.declared.check.Certified.{Certified}
 use Rattle.closed_walks.specs.Tables.{Picked}
 
 -- Document 01's verdict for each case: accepted with class and span, or refused with the number.
-unfoldable pub verdict_of : Verdict → Verdicts.Verdict
-verdict_of (Certified class span) = Verdicts.accepted class (trop_of span)
-verdict_of (Refused k) = Verdicts.refused k
-
--- The number with which reading an answer refused, 0 where it did not.
-unfoldable pub answer_refused : AnswerHead → ℕ
-answer_refused (Heads.Fields head) = 0
-answer_refused (Heads.Refused k) = k
+abbrev pub verdict_of : Result Certified Refusal → Verdicts.Verdict
+verdict_of (Ok c) = Verdicts.accepted c.class (trop_of c.span)
+verdict_of (Err r) = Verdicts.refused (number_of r)
 
 -- The offset number of a whole span within its limit.
 pub record Span (span : ℕ) : Type 0 where

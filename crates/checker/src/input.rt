@@ -6,15 +6,17 @@ ghost use Rattle.definitions.specs.ProblemRecord.{meant};
 ghost use Rattle.definitions.specs.AnswerRecord.{answer_header_refusal};
 ghost use Rattle.definitions.specs.Verdict.{Judged};
 ghost use Rattle.definitions.specs.Programs.{cut_place, problem_part, answer_part, KeptOf};
+ghost use Rattle.records.specs.Refusals.{number_of};
 ghost use Rattle.checker.specs.Outcome.{verdict_of};
 ghost use Rattle.checker.specs.LongInput.{Longer};
 
-use crate::check::{Verdict, answer_refusal, check};
-use answer_reader::answer::{AnswerHead, read_answer_header};
+use crate::check::{Certified, check};
+use answer_reader::answer::read_answer_header;
 use problem_records::reader::judge_problem;
 use records::bytes::word_at;
-use records::limits::{KEPT, LENGTH_BYTES, LENGTH_PLACE, REFUSED_LENGTH};
-use records::problem::{CHECKER_KINDS, Header, problem_refusal, read_header};
+use records::limits::{KEPT, LENGTH_BYTES, LENGTH_PLACE};
+use records::problem::{CHECKER_KINDS, read_header};
+use records::refusal::Refusal;
 
 // Where an input is cut: by its first length field where that is whole and reaches no further than the input. Public for
 // `grounds::input`.
@@ -34,40 +36,37 @@ pub fn cut_place(input: &[u8]) -> usize
 }
 
 // The verdict on an input that was kept whole.
-fn judge_whole(input: &[u8]) -> Verdict
+fn judge_whole(input: &[u8]) -> Result<Certified, Refusal>
     ensures { Judged (meant (problem_part input.now)) (answer_part input.now) (verdict_of result) }
 {
     let cut = cut_place(input);
     check(&input[..cut], &input[cut..])
 }
 
-// The verdict on the answer part of an input that is longer than what was kept, from the part's first bytes and its size:
+// The refusal of the answer part of an input that is longer than what was kept, from the part's first bytes and its size:
 // it is longer than every answer record, so that 9, 10 or 11 applies.
-fn judge_long_answer(answer: &[u8], size: usize, n: usize, m: usize) -> usize
+fn judge_long_answer(answer: &[u8], size: usize, n: usize, m: usize) -> Refusal
     requires { (n ≤ highest_n) × (m ≤ highest_m) × (answer_most < size) }
-    ensures { (result ≡ answer_header_refusal answer.now size n m) × (0 < result) }
+    ensures { number_of result ≡ answer_header_refusal answer.now size n m }
 {
-    answer_refusal(read_answer_header(answer, size, n, m))
+    read_answer_header(answer, size, n, m).unwrap_err()
 }
 
-// The verdict on an input that is longer than what was kept, and whose problem part is its first `end` bytes. A part that was
+// The refusal of an input that is longer than what was kept, and whose problem part is its first `end` bytes. A part that was
 // not kept whole is longer than every problem: its header is refused.
-fn judge_long(kept: &[u8], size: usize, end: usize) -> Verdict
+fn judge_long(kept: &[u8], size: usize, end: usize) -> Result<Certified, Refusal>
     requires { (length kept.now ≡ kept_bytes) × (kept_bytes < size) × (end ≤ size) }
     ensures { (input : List ℕ) → Longer kept.now size input → Judged (take end input) (drop end input) (verdict_of result) }
 {
     if KEPT < end {
-        return Verdict::Refused(problem_refusal(read_header(kept, end, CHECKER_KINDS)));
+        return Err(read_header(kept, end, CHECKER_KINDS).unwrap_err());
     }
-    let header = judge_problem(&kept[..end], CHECKER_KINDS);
-    let Header::Told(layout) = header else {
-        return Verdict::Refused(problem_refusal(header));
-    };
-    Verdict::Refused(judge_long_answer(&kept[end..], size - end, layout.n, layout.m))
+    let layout = judge_problem(&kept[..end], CHECKER_KINDS)?;
+    Err(judge_long_answer(&kept[end..], size - end, layout.n, layout.m))
 }
 
 // The same on a slice.
-fn judge_kept(kept: &[u8], size: usize) -> Verdict
+fn judge_kept(kept: &[u8], size: usize) -> Result<Certified, Refusal>
     requires { length kept.now ≡ kept_bytes }
     ensures { (input : List ℕ) → KeptOf kept.now size input → Judged (meant (problem_part input)) (answer_part input) (verdict_of result) }
 {
@@ -76,13 +75,13 @@ fn judge_kept(kept: &[u8], size: usize) -> Verdict
     }
     let end = word_at(kept, LENGTH_PLACE) as usize + LENGTH_BYTES;
     if size < end {
-        return Verdict::Refused(REFUSED_LENGTH);
+        return Err(Refusal::Length);
     }
     judge_long(kept, size, end)
 }
 
 // The verdict on every input of this size that begins with the kept bytes.
-pub fn judge_input(kept: &[u8; KEPT], size: u64) -> Verdict
+pub fn judge_input(kept: &[u8; KEPT], size: u64) -> Result<Certified, Refusal>
     ensures { (input : List ℕ) → KeptOf kept.now size input → Judged (meant (problem_part input)) (answer_part input) (verdict_of result) }
 {
     judge_kept(kept, size as usize)

@@ -1,4 +1,3 @@
-use Rattle.checker.specs.Outcome.{verdict_of}
 use Rattle.definitions.proofs.Inputs.{kept_whole}
 use Rattle.checker.proofs.LongInputs.{kept_longer, long_past, long_cut, judged_long}
 use lib.Seq.{length-take-le}
@@ -14,7 +13,6 @@ pub returns-then-size-le-KEPT : goal.returns-then-size-le-KEPT
 returns-then-size-le-KEPT c = λ input k. rw (kept_whole k c.if-size-le-KEPT.true) c.judge_whole.ensures
 
 pub returns-then-size-end : goal.returns-then-size-end
-unfolding verdict_of
 returns-then-size-end c = λ input k. long_past (kept_longer k c.if-size-le-KEPT.false) c.if-size-le-KEPT.false (rw c.word_at.ensures.0 at c.if-size-end.true)
 
 pub returns : goal.returns
