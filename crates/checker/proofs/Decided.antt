@@ -39,7 +39,9 @@ use Rattle.answer_reader.specs.Fields.{Padded, stamps_of, picks_of}
 use Rattle.answer_reader.specs.declared.answer.Head.{Head}
 use Rattle.std.specs.Prelude.{Ok}
 use Rattle.answer_reader.specs.AnswerReading.{head_in, HeadAt, AnswerRead}
-use Rattle.answer_reader.proofs.Heads.{head_told, head_fields}
+use Rattle.records.proofs.Refusing.{outcome_ok}
+use Rattle.answer_reader.specs.AnswerReading.{told_by}
+use Rattle.answer_reader.proofs.Heads.{head_told}
 use Rattle.answer_reader.proofs.Judging.{span_meant}
 use Rattle.problem_records.proofs.Tables.{length_list_of, get_d_list_of}
 use Rattle.answer_reader.proofs.Passing.{stamps_at_length, picks_at_length}
@@ -392,7 +394,7 @@ unfolding stamps_of picks_of answer_outcome
 read_by a n m b none =
     let f = (answer_fits a n m).0 none in
     record {
-      answered = head_fields (answer_refusal a n m) (class_field a, span_field a, start_field a) (head_in a) none (head_told (head_at a n m b));
+      answered = outcome_ok told_by (head_in a) (class_field a, span_field a, start_field a) none (head_told (head_at a n m b));
       kept = λ d. absurd (d none);
       stamps_read = λ _. padded 32 _ (rw stamps_at_length (stamps_most (class_field a) n f.n_most));
       picks_read = λ _. padded 64 _ (rw picks_at_length (picks_most (class_field a) n m f.n_most f.m_most));

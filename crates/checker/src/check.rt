@@ -47,7 +47,7 @@ fn certify_optimal(
     requires { Stamped stamps.now × (get_or stamps.now 0 0 ≡ signed_half) × Picked picks.now (rows.now.m + 1) × Span span }
     ensures { (z : ℤ) → trop_of span ≡ fin z → Decides (AcceptedOptimal (start_of (problem_of rows.now.bytes.now) start) (problem_of rows.now.bytes.now) z (stamps_point stamps.now) (strategy_of picks.now)) result }
 {
-    let x = lower_point(stamps, rows.width());
+    let x = lower_point(stamps, rows.n + 1);
     keeps_rules(rows, &x)
         && value_is(rows, &x, span)
         && certify_variables(rows, picks, span - 1, start_marks(rows, start))

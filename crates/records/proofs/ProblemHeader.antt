@@ -10,6 +10,8 @@ use Rattle.definitions.proofs.Outcomes.{outcome-none, outcome-some, outcome-give
 use Rattle.definitions.proofs.Refusals.{header_passes}
 use Rattle.definitions.proofs.KnownKinds.{kind_known, few_questions, kind_one, one_asks, one_or_several, leads_place_least, leads_place_most}
 use Rattle.records.specs.declared.problem.Layout.{Layout}
+use Rattle.records.specs.declared.problem.Kind.{Kind}
+use Rattle.records.specs.declared.problem.Kind.TheVariants.{Problem, Questions}
 use Rattle.records.specs.declared.refusal.Refusal.{Refusal}
 use Rattle.records.specs.Refusals.{number_of, refused_by}
 use Rattle.records.specs.ProblemHeader.{kind_number, layout_in, header_of}
@@ -94,3 +96,8 @@ long_header kinds {kept} {input} {size} (Ok l) k h e g = absurd (omega (arith, h
 long_header kinds {kept} {input} {size} (Err j) k h e g =
     let q = header_refuses kinds kept size e refl in
     (ap (header_refusal kinds input) k.size_is ∙ header_agrees kinds input kept (λ i b. kept_at k h i (omega arith)) size ∙ q.0 ∙ sym g, omega (arith, q.1))
+
+-- A record of kind 1 or 3 is not of kind 5.
+pub not_states : {k : Kind} → (k ≡ Problem) ⊎ (k ≡ Questions) → kind_number k ≡ states_kind → ⊥
+not_states (inl e) f = let z : problem_kind ≡ states_kind = rw e at f in omega arith
+not_states (inr e) f = let z : questions_kind ≡ states_kind = rw e at f in omega arith

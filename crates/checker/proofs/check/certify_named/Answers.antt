@@ -14,4 +14,4 @@ returns-then-in_second c = named_so c.in_second.ensures c.if-in_second.true
     (unbounded_started (anchored_and_marked c.anchor_and.ensures (omega (arith, c.requires.1))) c.certify_unbounded.ensures)
 
 pub returns-else-in_second : goal.returns-else-in_second
-returns-else-in_second c = named_not c.in_second.ensures c.if-in_second.false
+returns-else-in_second c = rw c.if-in_second.false (named_not c.in_second.ensures c.if-in_second.false)

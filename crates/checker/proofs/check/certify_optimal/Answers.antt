@@ -20,12 +20,17 @@ certify_variables-requires c = let s = c.requires.3 in
 
 pub returns-then-value_is : goal.returns-then-value_is
 returns-then-value_is c = λ z e. elim c.if-keeps_rules.branch [
-  | then-keeps_rules w ↦ ?
-  | else-keeps_rules w ↦ ?
+  | then-keeps_rules w ↦
+      let low = c.lower_point-x.ensures in
+      optimal_started c.start_marks.ensures (optimal_picks (laid_holds c.args.rows.now.laid) _ c.requires.1 (c.keeps_rules.ensures _ c.requires.0 low) w.if-keeps_rules.true
+      (w.value_is.ensures _ z c.requires.0 low e) (sym w.value-is ∙ c.if-value_is.true) (optimal_at c.requires.3 e (λ y f. c.certify_variables.ensures y f)))
+  | else-keeps_rules w ↦ let no : false ≡ true = sym w.if-keeps_rules.false ∙ sym w.value-is ∙ c.if-value_is.true in cc
 ]
 
 pub returns-else-value_is : goal.returns-else-value_is
 returns-else-value_is c = λ z e. elim c.if-keeps_rules.branch [
-  | then-keeps_rules w ↦ ?
-  | else-keeps_rules w ↦ ?
+  | then-keeps_rules w ↦
+      rw c.if-value_is.false (optimal_other (laid_holds c.args.rows.now.laid) _ (w.value_is.ensures _ z c.requires.0 c.lower_point-x.ensures e) (sym w.value-is ∙ c.if-value_is.false))
+  | else-keeps_rules w ↦
+      rw c.if-value_is.false (optimal_broken (laid_holds c.args.rows.now.laid) _ (c.keeps_rules.ensures _ c.requires.0 c.lower_point-x.ensures) w.if-keeps_rules.false)
 ]

@@ -21,7 +21,7 @@ pub returns-in_err-layout : goal.returns-in_err-layout
 returns-in_err-layout c = λ input l.
     let p = err_from_is_err_and c.from_residual.result c.from_residual.ensures.1 in
     rw (p.1, p.2, ← problem_kept l c.requires.2 c.requires.0 (omega (arith, c.if-end-gt-KEPT.false)))
-      (judged_problem _ (drop c.args.end input) c.in_err-layout.field-0.0 c.in_err-layout.ensures)
+    (judged_problem _ (drop c.args.end input) c.in_err-layout.field-0.0 c.in_err-layout.ensures)
 
 pub slice_bounds-judge_long_answer-count : goal.slice_bounds-judge_long_answer-count
 slice_bounds-judge_long_answer-count c = omega (arith, c.if-end-gt-KEPT.false)
@@ -36,4 +36,4 @@ pub returns : goal.returns
 returns c = λ input l.
     let read = header_read _ c.judge_problem.ensures c.in_ok-layout.was in
     long_answered l c.requires.2 (rw (problem_kept l c.requires.2 c.requires.0 (omega (arith, c.if-end-gt-KEPT.false))) at read)
-      (rw (rest_whole c.args.kept.now c.args.end) at c.judge_long_answer.ensures) (number_range c.judge_long_answer.result).0
+    (rw (rest_whole c.args.kept.now c.args.end) at c.judge_long_answer.ensures) (number_range c.judge_long_answer.result).0

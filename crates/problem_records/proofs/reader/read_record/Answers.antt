@@ -1,17 +1,10 @@
 use Rattle.std.proofs.Common.{◌≡◌, ◌-◌, ◌⊎◌, inl, inr, ap, refl, arith, rules}
 use Rattle.std.proofs.lemmas.Result.{err_from_is_err_and}
 use Rattle.base.proofs.Lists.{rest_whole}
-use Rattle.definitions.specs.Limits.{problem_kind, questions_kind, states_kind}
-use Rattle.records.specs.declared.problem.Kind.{Kind}
-use Rattle.records.specs.declared.problem.Kind.TheVariants.{Problem, Questions}
 use Rattle.records.specs.ProblemHeader.{kind_number}
+use Rattle.records.proofs.ProblemHeader.{not_states}
 use Rattle.problem_records.proofs.ReadProblem.{told_of, told_framed, refused_read, problem_read, states_held, states_read}
 use Rattle.problem_records.proofs.reader.read_record.Goals as goal
-
--- A record of kind 1 or 3 is not of kind 5.
-other : {k : Kind} → (k ≡ Problem) ⊎ (k ≡ Questions) → kind_number k ≡ states_kind → ⊥
-other (inl e) f = let z : problem_kind ≡ states_kind = rw e at f in omega arith
-other (inr e) f = let z : questions_kind ≡ states_kind = rw e at f in omega arith
 
 pub returns-in_err-layout : goal.returns-in_err-layout
 returns-in_err-layout c = let p = err_from_is_err_and c.from_residual.result c.from_residual.ensures.1 in
@@ -40,4 +33,4 @@ returns-in-States c = let t = told_of _ c.judge_problem.ensures c.in_ok-layout.w
 
 pub returns-in-Problem : goal.returns-in-Problem
 returns-in-Problem c = let t = told_of _ c.judge_problem.ensures c.in_ok-layout.was in
-    problem_read t (rw (rest_whole c.args.bytes.now (c.in_ok-layout.layout.leads - 10)) at c.read_tables.ensures) (other c.in-Problem.is) c.in_ok-layout.ensures
+    problem_read t (rw (rest_whole c.args.bytes.now (c.in_ok-layout.layout.leads - 10)) at c.read_tables.ensures) (not_states c.in-Problem.is) c.in_ok-layout.ensures
