@@ -152,7 +152,7 @@ fn known(kinds: Kinds, number: u16) -> Option<Kind>
         PROBLEM_KIND => Some(Kind::Problem),
         QUESTIONS_KIND if kinds.several => Some(Kind::Questions),
         STATES_KIND if kinds.states => Some(Kind::States),
-        _ => None,
+        0.. => None,
     }
 }
 
