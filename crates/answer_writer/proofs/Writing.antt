@@ -1,5 +1,5 @@
 -- Laws of writing: the low bytes of a number, runs of fields put one after the other, the refusals in the code's order.
-use Rattle.std.proofs.Common.{◌≡◌, ℕ, zero, suc, ◌+◌, ◌*◌, ◌-◌, ◌/◌, ◌%◌, ◌^◌, ◌≤◌, ◌<◌, Bool, true, false, ◌&&◌, List, [], ◌∷◌, ◌++◌, map, length, get_or, take, Ok, Err, refl, sym, ap, ap₂, ◌∙◌, ⊎_elim, append_assoc, add-one, length-append, length-take-le, mul-le-mul_left, arith}
+use Rattle.std.proofs.Common.{◌≡◌, ℕ, zero, suc, ◌+◌, ◌*◌, ◌-◌, ◌/◌, ◌%◌, ◌^◌, ◌≤◌, ◌<◌, true, List, [], ◌∷◌, ◌++◌, map, length, get_or, take, Ok, Err, refl, sym, ap, ap₂, ◌∙◌, ⊎_elim, append_assoc, add-one, length-append, length-take-le, mul-le-mul_left, arith}
 use Rattle.std.proofs.lemmas.List.{length-map}
 use Rattle.std.specs.Int.{w64, to_le_bytes, bytes_low_first, byte_at}
 use native.Mathlib.Nat.{div-one, div-div-eq-div-mul, suc-add, pow-suc}
