@@ -1,9 +1,10 @@
 // The rows of a system in two tables, and the ends of the rows of each.
-ghost use Rattle.std.specs.Prelude.{◌≡◌, ◌<◌};
+ghost use Rattle.std.specs.Prelude.{◌<◌};
 ghost use Rattle.policy_iteration.specs.Tables.{highs, Lows};
 ghost use Rattle.policy_iteration.specs.Rounds.{SideIs};
 ghost use Rattle.policy_iteration.specs.Rows.{RightSide, BothSides};
 
+use crate::ends::Ends;
 use crate::values::side;
 use records::limits::{ROWS, STRIDE, TABLE};
 
@@ -12,25 +13,25 @@ use records::limits::{ROWS, STRIDE, TABLE};
 pub struct Rows<'a> {
     pub left: &'a [u32; TABLE],
     pub right: &'a [u32; TABLE],
-    pub left_ends: &'a [u32; ROWS],
-    pub right_ends: &'a [u32; ROWS],
+    pub left_ends: &'a [Option<Ends>; ROWS],
+    pub right_ends: &'a [Option<Ends>; ROWS],
     pub width: usize,
     pub count: usize,
 }
 
 impl Rows<'_> {
     // The right side of row i at low values.
-    pub fn right_side(self, i: usize, x: &[u32; STRIDE]) -> u32
-        requires { RightSide self × (i < self.count) × Lows self.width x.now }
-        ensures { SideIs self.entry.right.now i (highs x.now) self.entry.width result }
+    pub fn right_side(&self, i: usize, x: &[u32; STRIDE]) -> u32
+        requires { RightSide self.now × (i < self.now.count) × Lows self.now.width x.now }
+        ensures { SideIs self.now.right.now i (highs x.now) self.now.width result }
     {
         side(self.right, self.right_ends[i], i, x, self.width)
     }
 
-    // The left side.
-    pub fn left_side(self, i: usize, x: &[u32; STRIDE]) -> u32
-        requires { BothSides self × (i < self.count) × Lows self.width x.now }
-        ensures { SideIs self.entry.left.now i (highs x.now) self.entry.width result }
+    // Its left side.
+    pub fn left_side(&self, i: usize, x: &[u32; STRIDE]) -> u32
+        requires { BothSides self.now × (i < self.now.count) × Lows self.now.width x.now }
+        ensures { SideIs self.now.left.now i (highs x.now) self.now.width result }
     {
         side(self.left, self.left_ends[i], i, x, self.width)
     }
