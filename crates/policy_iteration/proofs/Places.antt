@@ -1,5 +1,5 @@
 -- Laws of the ends of a row: bits that are those of two places leave no other place.
-use Prim.Native.Nat.{ℕ, zero, suc, ◌+◌, ◌*◌, ◌/◌, ◌%◌, ◌^◌, ◌≤◌, ◌<◌}
+use Prim.Native.Nat.{ℕ, zero, suc, ◌+◌, ◌*◌, ◌%◌, ◌^◌, ◌≤◌, ◌<◌}
 use mathlib.Core.Path.{◌≡◌, refl, sym, subst, ◌∙◌}
 use mathlib.Core.Bool.{Bool, true, false, cond}
 use mathlib.Core.Logic.{⊎_elim}
@@ -11,10 +11,9 @@ use lib.Dec.{eqb}
 use lib.ListN.{get_or, replicate}
 use lib.Pow.{pow_pos, pow_mono, shl_exact}
 use borrow.Author.Tests.{eq-eqb, ne_eqb}
-use Rattle.base.specs.Filled.{Filled}
 use Rattle.base.proofs.Numbers.{nat_le_or_lt, same_or_not}
 use Rattle.duality.specs.Height.{total}
-use Rattle.policy_iteration.specs.Ends.{entry, bits_in, Holds, RowEnds, BitsEnds, EndsOf}
+use Rattle.policy_iteration.specs.Ends.{entry, bits_in, Holds, RowEnds, BitsEnds}
 use Rattle.policy_iteration.specs.declared.ends.Ends.{Ends}
 use Rattle.std.specs.Prelude.{Option, Some, None}
 
@@ -193,14 +192,3 @@ module _ (bits : ℕ) (two : Ends) (h : two.first < 32) (k : two.last < 32) wher
           (λ (z : l ≡ two.first). omega (arith, only_most two.first l, only_other two.last l (λ q. n (sym z ∙ q))))
           (λ z. omega (arith, only_most two.last l, only_other two.first l z))
           (same_or_not l two.first)
-
--- Both have room.
-pub powers_fit : (a b : ℕ) → a < 32 → b < 32 → (a ≡ b → ⊥) → 2 ^ a + 2 ^ b ≤ 4294967295
-powers_fit a b h k n = let f = binary_below (λ l. only a l + only b l) most 32 in
-    omega (arith, binary_plus (only a) (only b) 32, only_binary a 32 h, only_binary b 32 k)
-  where
-    most : (l : ℕ) → only a l + only b l ≤ 1
-    most l = ⊎_elim
-        (λ (z : l ≡ a). omega (arith, only_most a l, only_other b l (λ q. n (sym z ∙ q))))
-        (λ z. omega (arith, only_most b l, only_other a l z))
-        (same_or_not l a)

@@ -24,7 +24,7 @@ use Rattle.duality.specs.Values.{difference, value_at, exit_by, values_after, va
 use Rattle.duality.proofs.Weights.{difference_bot, exit_picked, exit_terminal, round_picked, round_terminal, values_still}
 use Rattle.records.specs.Decoded.{Near}
 use Rattle.policy_iteration.specs.Tables.{entry_of, system_of, point_of, pick_of, raised_limit, cap_limit, first_limit, value_limit, low_half, low_fold, side_most, side_least, high, highs, Ranged, Lows, Within, Caps, Tables}
-use Rattle.policy_iteration.specs.Rounds.{folded, exit_number, PickedSum, PickedLeft, PickedSums, PickedLefts, stepped_by, Stepped, Exits, Level, ValuesIs, SameUpTo}
+use Rattle.policy_iteration.specs.Rounds.{folded, PickedSum, PickedLeft, PickedSums, PickedLefts, stepped_by, Stepped, Exits, Level, ValuesIs, SameUpTo}
 use Rattle.policy_iteration.proofs.Low.{high_zero, high_whole, high_blank, highs_at, highs_size, filled_highs}
 use Rattle.policy_iteration.proofs.Fold.{folded_low, folded_high}
 use Rattle.policy_iteration.proofs.Small.{near_small, near_abs, small_near, small_more, rounds_small}

@@ -6,7 +6,7 @@ use Rattle.duality.specs.System.{System, Solves}
 use Rattle.duality.specs.Values.{difference, Policy}
 use Rattle.duality.specs.Iteration.{RowsFall, Passes, Iterated}
 use Rattle.records.specs.Decoded.{Near}
-use Rattle.policy_iteration.specs.Tables.{system_of, point_of, pick_of, turn_limit, value_limit, low_half, high, highs, Within, Tables}
+use Rattle.policy_iteration.specs.Tables.{system_of, point_of, pick_of, turn_limit, value_limit, low_half, high, highs, Within}
 use Rattle.policy_iteration.specs.Rows.{BothSides}
 use Rattle.policy_iteration.specs.declared.rows.Rows.{Rows}
 use Rattle.policy_iteration.specs.Rounds.{ValuesIs}

@@ -50,11 +50,18 @@ fn tested(bits: u32, ends: Ends) -> Option<Ends>
     requires { (ends.first < stride) × (ends.last < stride) }
     ensures { BitsEnds bits result }
 {
-    let mut both = power(usize::from(ends.first));
-    if ends.first != ends.last {
-        both += power(usize::from(ends.last));
+    let low = power(usize::from(ends.first));
+    if bits == low {
+        return Some(ends);
     }
-    if bits == both { Some(ends) } else { None }
+    if ends.first == ends.last || bits < low {
+        return None;
+    }
+    if bits - low == power(usize::from(ends.last)) {
+        Some(ends)
+    } else {
+        None
+    }
 }
 
 // The ends of a row. Nothing is promised of counts of zeros: they guess the ends, which are then tested.

@@ -168,14 +168,13 @@ impl Rows<'_> {
         ensures { Ended (system_in self.now caps.now) (highs result.values) result.picks }
     {
         let mut kept = [self.count as u32; STRIDE];
-        loop {
-            let mut x = self.evaluate(caps, &kept);
-            if self.passes(&mut x, &mut kept) == 0 {
-                return Outcome {
-                    values: x,
-                    picks: kept.map(|pick| pick as usize),
-                };
-            }
+        let mut x = self.evaluate(caps, &kept);
+        while self.passes(&mut x, &mut kept) != 0 {
+            x = self.evaluate(caps, &kept);
+        }
+        Outcome {
+            values: x,
+            picks: kept.map(|pick| pick as usize),
         }
     }
 }

@@ -1,4 +1,3 @@
-use Prim.Native.Nat.{◌≤◌, ◌-◌}
 use mathlib.Core.Path.{◌≡◌}
 use Rattle.policy_iteration.specs.Ends.{bits_in}
 use Rattle.policy_iteration.proofs.ends.bits_of.Given as goal

@@ -1,4 +1,3 @@
-use Prim.Native.Nat.{◌≤◌, ◌-◌}
 use Rattle.policy_iteration.specs.Steps.{Lowered}
 use Rattle.policy_iteration.proofs.policy.lower_row.Given as goal
 

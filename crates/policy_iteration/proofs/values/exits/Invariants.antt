@@ -1,5 +1,4 @@
 use Rattle.base.specs.Filled.{Filled}
-use Prim.Native.Nat.{◌≤◌, ◌-◌}
 use mathlib.Core.List.{[]}
 use Rattle.policy_iteration.specs.Tables.{system_of, pick_of, high}
 use mathlib.Core.Path.{◌≡◌}

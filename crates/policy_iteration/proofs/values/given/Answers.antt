@@ -1,4 +1,3 @@
-use native.Mathlib.Omega.{arith}
 use mathlib.Core.Logic.{⊎_elim}
 use Rattle.base.proofs.Numbers.{positive}
 use Rattle.policy_iteration.proofs.Rounds.{given_blank_side, given_blank_left, given_whole}

@@ -1,4 +1,4 @@
-use Prim.Native.Nat.{◌≤◌, ◌-◌}
+use Prim.Native.Nat.{◌≤◌}
 use mathlib.Core.Path.{◌≡◌}
 use Rattle.policy_iteration.specs.Rounds.{SameUpTo}
 use Rattle.policy_iteration.proofs.values.same.Given as goal

@@ -1,4 +1,4 @@
-use Prim.Native.Nat.{◌≤◌, ◌-◌}
+use Prim.Native.Nat.{◌≤◌}
 use Rattle.policy_iteration.specs.Steps.{Passed}
 use Rattle.policy_iteration.proofs.rows.Rows.pass.Given as goal
 

@@ -1,5 +1,5 @@
 use mathlib.Core.Logic.{inl, inr}
-use Rattle.policy_iteration.proofs.Steps.{passing_first, passing_second, turned_none, turned_once, turned_twice}
+use Rattle.policy_iteration.proofs.Steps.{passing_second, turned_none, turned_once, turned_twice}
 use Rattle.policy_iteration.proofs.rows.Rows.passes.Goals.{then-failed-eq0-via-then-failed-eq0, then-failed-eq0-via-else-failed-eq0+then-x-eq0-2, then-failed-eq0-via-else-failed-eq0+else-x-eq0-2+then-no_exit}
 use Rattle.policy_iteration.proofs.rows.Rows.passes.Goals as goal
 

@@ -1,5 +1,5 @@
 use native.Mathlib.Omega.{arith}
-use Rattle.base.proofs.Filled.{filled_none, filled_more}
+use Rattle.base.proofs.Filled.{filled_none}
 use Rattle.policy_iteration.proofs.Rounds.{cap_most}
 use Rattle.policy_iteration.proofs.rows.Rows.picked_rows.Goals as goal
 

@@ -1,4 +1,3 @@
-use Prim.Native.Nat.{◌≤◌, ◌-◌}
 use Rattle.policy_iteration.specs.Rounds.{PickedSums, PickedLefts}
 use Rattle.policy_iteration.proofs.rows.Rows.picked_rows.Given as goal
 
