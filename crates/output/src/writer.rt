@@ -16,30 +16,27 @@ pub struct Writer<'a> {
     at: usize,
 }
 
-// The writer on a slice, at a place of it. Public with the form, as the next three.
-pub fn made<'a>(buf: &'a mut [u8], at: usize) -> Writer<'a>
-    ensures { (result.buf ≡ buf.entry) × (result.at ≡ at) }
-{
-    Writer { buf: buf, at: at }
-}
-
-// The writer after a record or a line was appended: the same slice, and the next place.
-pub fn added<'a, 'b>(w: Writer<'a>, text: &'b [u8]) -> Writer<'a>
-    ensures { result ≡ writer_after w.entry text.now }
-{
-    let at = w.at;
-    let next = append(&mut *w.buf, at, text);
-    Writer {
-        buf: w.buf,
-        at: next,
+impl<'a> Writer<'a> {
+    // The writer on a slice, at a place of it.
+    pub fn new(buf: &'a mut [u8], at: usize) -> Writer<'a>
+        ensures { (result.buf ≡ buf.entry) × (result.at ≡ at) }
+    {
+        Writer { buf, at }
     }
-}
 
-// The next place. The slice goes back, as it is, to whom it was lent by.
-pub fn place<'a>(w: Writer<'a>) -> usize
-    ensures { (result ≡ w.entry.at) × (w.exit.0.now ≡ w.entry.buf.now) }
-{
-    w.at
+    // Appends a record or a line: the same slice, and the next place.
+    pub fn append(&mut self, text: &[u8])
+        ensures { self.new ≡ writer_after self.old text.now }
+    {
+        self.at = append(self.buf, self.at, text);
+    }
+
+    // The next place. The slice goes back, as it is, to whom it was lent by.
+    pub fn place(self) -> usize
+        ensures { (result ≡ self.entry.at) × (self.exit.0.now ≡ self.entry.buf.now) }
+    {
+        self.at
+    }
 }
 
 // Writes a record or a line at place `at`, through a writer, and gives the next place. Where there is no room nothing is
@@ -47,8 +44,9 @@ pub fn place<'a>(w: Writer<'a>) -> usize
 pub fn write(buf: &mut [u8], at: usize, text: &[u8]) -> usize
     ensures { Appended buf.old at text.now buf.new result }
 {
-    let w = added(made(buf, at), text);
-    place(w)
+    let mut w = Writer::new(buf, at);
+    w.append(text);
+    w.place()
 }
 
 // What the span program puts out for a problem that is answered: the record. Public for `span`.
