@@ -10,8 +10,8 @@ ghost use Rattle.convert.specs.Shown.{Shown, shown_record};
 
 use converter::convert::Conversion;
 use converter::input::convert_input;
-use input::{Input, read_all};
 use output::writer::{write_record, write_refused};
+use programs::run;
 use records::limits::{HIGHEST_M, KEPT, LEAD_BYTES, MOST_QUESTIONS, QUESTIONS_HEADER, STRIDE};
 
 // Room for what is put out: the largest record, or a line.
@@ -54,15 +54,6 @@ fn answer(kept: &[u8; KEPT], size: u64, out: &mut [u8]) -> usize
 }
 
 fn main(rt: HostRuntime) {
-    let mut kept = [0u8; KEPT];
-    let input = read_all(&mut rt.stdin(), &mut kept);
-    let Input::Ended(size) = input else {
-        let _ = eprintln!(rt; "convert: standard input cannot be read to its end");
-        return;
-    };
     let mut out = [0u8; OUT_MOST];
-    let n = answer(&kept, size, &mut out);
-    if rt.stdout().write_all(&out[..n]).is_err() {
-        let _ = eprintln!(rt; "convert: standard output cannot be written");
-    }
+    run(&rt, "convert", &mut rt.stdin(), &mut out, answer);
 }

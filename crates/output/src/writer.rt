@@ -1,7 +1,7 @@
 // What the programs put out: a record or a line, appended through a writer. The writer borrows a lent slice and holds the
-// next place in it. Each function over it takes it apart and leaves the work to `append`; `write`, with plain parameters,
-// stands above them.
-ghost use Rattle.std.specs.Prelude.{◌≡◌, ◌≤◌, length};
+// next place in it. Its methods leave the work to `printing::text::append`; `write`, with plain parameters, stands above
+// them.
+ghost use Rattle.std.specs.Prelude.{◌≡◌, ◌≤◌, length, take};
 ghost use Rattle.definitions.specs.Programs.{refused_line, verdict_line};
 ghost use Rattle.printing.specs.Text.{Appended, Output, line_most, verdict_by};
 ghost use Rattle.output.specs.Written.{writer_after};
@@ -56,12 +56,24 @@ pub fn write_record(buf: &mut [u8], answer: &[u8]) -> usize
     write(buf, 0, answer)
 }
 
+// What a program puts out of a buffer: the record of this size at its front. Where the buffer is shorter, nothing. Public
+// for `span` and `convert`.
+pub fn write_front(buf: &mut [u8], from: &[u8], size: usize) -> usize
+    ensures inside { result ≤ length buf.old }
+    ensures shown { size ≤ length from.now → size ≤ length buf.old → take result buf.new ≡ take size from.now }
+{
+    match from.get(..size) {
+        Some(record) => write_record(buf, record),
+        None => 0,
+    }
+}
+
 // What the span program puts out for a refusal: its line. Public for `span`.
 pub fn write_refused(buf: &mut [u8], number: usize) -> usize
     ensures shown { Output buf.old (refused_line number) buf.new result }
     ensures short { length (refused_line number) ≤ line_most }
 {
-    let mut line: [u8; LINE_MOST] = [0; LINE_MOST];
+    let mut line = [0u8; LINE_MOST];
     let size = refused_line(&mut line, number);
     write(buf, 0, &line[..size])
 }
@@ -72,7 +84,7 @@ pub fn write_verdict(buf: &mut [u8], refusal: usize, class: u64, span: u64) -> u
     ensures shown { Output buf.old (verdict_line (verdict_by refusal class span)) buf.new result }
     ensures short { length (verdict_line (verdict_by refusal class span)) ≤ line_most }
 {
-    let mut line: [u8; LINE_MOST] = [0; LINE_MOST];
+    let mut line = [0u8; LINE_MOST];
     let size = verdict_line(&mut line, refusal, class, span);
     write(buf, 0, &line[..size])
 }

@@ -9,8 +9,8 @@ ghost use Rattle.span.specs.Shown.{out_most, Shown, shown_records};
 
 use engine::input::solve_input;
 use engine::solve::Solved;
-use input::{Input, read_all};
 use output::writer::{write_record, write_refused};
+use programs::run;
 use records::limits::{ANSWER_MOST, KEPT, MOST_QUESTIONS};
 
 // Room for what is put out: the records of the answers to all questions, or a line.
@@ -64,15 +64,6 @@ fn answer(kept: &[u8; KEPT], size: u64, out: &mut [u8]) -> usize
 }
 
 fn main(rt: HostRuntime) {
-    let mut kept = [0u8; KEPT];
-    let input = read_all(&mut rt.stdin(), &mut kept);
-    let Input::Ended(size) = input else {
-        let _ = eprintln!(rt; "span: standard input cannot be read to its end");
-        return;
-    };
     let mut out = [0u8; OUT_MOST];
-    let n = answer(&kept, size, &mut out);
-    if rt.stdout().write_all(&out[..n]).is_err() {
-        let _ = eprintln!(rt; "span: standard output cannot be written");
-    }
+    run(&rt, "span", &mut rt.stdin(), &mut out, answer);
 }
