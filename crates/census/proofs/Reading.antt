@@ -8,7 +8,7 @@ use native.Mathlib.Numerals.{add-one}
 use lib.Dec.{leb}
 use lib.ListN.{length, get_or, take}
 use lib.Seq.{take-suc, take_all}
-use borrow.Author.Tests.{le-leb, lt-leb, leb-true}
+use borrow.Author.Tests.{leb-true}
 use Rattle.base.proofs.Numbers.{one_more}
 use Rattle.definitions.specs.Bytes.{all}
 use Rattle.definitions.specs.Census.{is_digit, is_number, number_from, number_of, CensusOutput, Censuses}

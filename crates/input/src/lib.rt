@@ -100,10 +100,7 @@ mod tests {
                 fails: false,
             };
             let read = read_all(&mut input, &mut kept);
-            assert!(rt;
-                matches!(read, Ok(n) if n == size),
-                "{size} bytes"
-            );
+            assert!(rt; matches!(read, Ok(n) if n == size), "{size} bytes");
             assert_eq!(rt; kept[KEPT - 1], last, "the last of {size} bytes");
         }
     }

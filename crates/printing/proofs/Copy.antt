@@ -3,9 +3,7 @@ use Prim.Native.Nat.{ℕ, ◌+◌, ◌-◌, ◌≤◌, ◌<◌}
 use mathlib.Core.Path.{◌≡◌, refl, ap, sym, ◌∙◌}
 use mathlib.Core.List.{List, [], ◌∷◌, ◌++◌}
 use native.Mathlib.Omega.{arith}
-use native.Mathlib.Numerals.{add-one}
-use lib.ListN.{length, get_or, drop, set, length-set, length-append}
-use lib.Seq.{drop-cons, drop-length}
+use lib.ListN.{length, set, length-set, length-append}
 use Rattle.definitions.specs.Bytes.{put}
 use borrow.Rule.Slice.PartMut.{put_mid, Post-is}
 use Rattle.definitions.proofs.Put.{put_put, put_one, put_nil, length_put}

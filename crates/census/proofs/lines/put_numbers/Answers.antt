@@ -1,4 +1,4 @@
-use Rattle.std.proofs.Common.{◌-◌, ◌≡◌, length, take, arith}
+use Rattle.std.proofs.Common.{◌-◌, ◌≡◌, length, arith}
 use lib.Seq.{length-take-le, get_or-take}
 use Rattle.census.proofs.Printed.{put_none, put_more, put_all}
 use Rattle.census.proofs.lines.put_numbers.Goals as goal
