@@ -27,8 +27,8 @@ fn read_digits(digits: &[u8]) -> Option<u64>
     ensures { FoundBy (λ k. digits.now ≡ decimal k) result }
 {
     let mut number = 0;
-    for byte in digits {
-        number = 10 * number + read_digit(*byte)?;
+    for &byte in digits {
+        number = 10 * number + read_digit(byte)?;
     }
     Some(number)
 }
@@ -48,11 +48,11 @@ fn read_number(digits: &[u8]) -> Option<u64>
 fn read_minutes(part: &[u8]) -> Option<u64>
     ensures { FoundBy (IsMinutes part.now) result }
 {
-    let [b':', tens, ones] = part else {
+    let &[b':', tens, ones] = part else {
         return None;
     };
-    let minutes = 10 * read_digit(*tens)? + read_digit(*ones)?;
-    (minutes < HOUR).then_some(minutes)
+    let minutes = 10 * read_digit(tens)? + read_digit(ones)?;
+    if minutes < HOUR { Some(minutes) } else { None }
 }
 
 // The minutes that a text without a sign says.
