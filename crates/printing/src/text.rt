@@ -25,7 +25,7 @@ pub fn append(buf: &mut [u8], at: usize, text: &[u8]) -> usize
 }
 
 // Puts a number in decimal, without leading zeros, from place `at` on, and gives the place after it.
-// Public for `lines` and `hour_texts::writer`.
+// Public for `lines` and `hour_texts::writer`. By hand, as std says of `write!` to a lent slice no bytes, and CONTRIBUTING names std alone.
 pub fn put_decimal(buf: &mut [u8], at: usize, number: u64) -> usize
     requires { at + 20 ≤ length buf.old }
     ensures { Putting buf.old at (decimal number) buf.new result × (result ≤ at + 20) }
