@@ -63,7 +63,8 @@ fn end_sum(table: &[u32; TABLE], ends: Ends, row: usize, x: &[u32; STRIDE], widt
     (table[base + first] + x[first]).max(table[base + last] + x[last])
 }
 
-// The same by its ends or whole. Inlined, as `side`: known ends are else stored to be passed, which costs a tenth.
+// The same by its ends or whole. Inlined, as `full_sum` and the sides below: known ends are else stored to be passed, and the two sides of
+// a row share the vectors of x.
 #[inline(always)]
 fn row_sum(
     table: &[u32; TABLE],
@@ -81,8 +82,8 @@ fn row_sum(
     }
 }
 
-// One side of a row at low values. Not inlined: a pass over rows with known ends stays short.
-#[inline(never)]
+// One side of a row at low values.
+#[inline(always)]
 pub fn full_side(table: &[u32; TABLE], row: usize, x: &[u32; STRIDE], width: usize) -> u32
     requires { (row < table_rows) × (width ≤ stride) × Table raised_limit table.now × Lows width x.now }
     ensures { SideIs table.now row (highs x.now) width result }
@@ -90,7 +91,8 @@ pub fn full_side(table: &[u32; TABLE], row: usize, x: &[u32; STRIDE], width: usi
     fold(full_sum(table, row, x, width))
 }
 
-// One side of a row at low values, by its ends or whole. Public for `rows` and `look::greatest`.
+// One side of a row at low values, by its ends or whole. Each is folded by itself: folded after `row_sum`, a pass would be slower by a
+// tenth. Public for `rows` and `look::greatest`.
 #[inline(always)]
 pub fn side(
     table: &[u32; TABLE],
