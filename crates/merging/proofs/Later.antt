@@ -210,10 +210,13 @@ later_kept back k l h lt = rw (moved_number back l h, trop_larger k (l - back), 
 
 -- So the later of the first and what is left of the second is the later of the two.
 pub later_is : (back k l : ℕ) → Near stamp_limit k → Near stamp_limit l → early (later_of back k l) ≡ false → (trop_of (max k (l - back)) ≡ later_of back k l) × (max k (l - back) < signed_full)
-later_is back k l near near₂ e = (⊎_elim
-    (λ (h : l ≤ back). let q : max k (l - back) ≡ k = omega arith in rw q (later_first back k l near e h))
-    (λ (h : back < l). ⊎_elim
-    (λ (g : k ≤ l - back). let q : max k (l - back) ≡ l - back = omega arith in rw q (later_moved back k l h g))
-    (λ (g : l - back < k). let q : max k (l - back) ≡ k = omega arith in rw q (later_kept back k l h g))
-    (nat_le_or_lt k (l - back)))
-    (nat_le_or_lt l back), omega (arith, near.hi, near₂.hi))
+later_is back k l near near₂ e = (
+  ⊎_elim
+      (λ (h : l ≤ back). let q : max k (l - back) ≡ k = omega arith in rw q (later_first back k l near e h))
+      (λ (h : back < l). ⊎_elim
+      (λ (g : k ≤ l - back). let q : max k (l - back) ≡ l - back = omega arith in rw q (later_moved back k l h g))
+      (λ (g : l - back < k). let q : max k (l - back) ≡ k = omega arith in rw q (later_kept back k l h g))
+      (nat_le_or_lt k (l - back)))
+      (nat_le_or_lt l back),
+  omega (arith, near.hi, near₂.hi),
+)

@@ -1,12 +1,14 @@
 -- From what the steps leave to what merging answers on bytes.
 use Prim.Native.Nat.{ℕ, zero, suc, ◌+◌, ◌*◌, ◌≤◌, ◌<◌}
 use mathlib.Core.Path.{◌≡◌, refl, ap, sym, ◌∙◌}
-use mathlib.Core.Bool.{Bool, true, false, not, cond, ◌&&◌, and-eq-true_iff}
+use mathlib.Core.Bool.{Bool, true, false, not, cond}
 use mathlib.Core.Logic.{◌⊎◌, inl, inr, ⊎_elim}
 use mathlib.Core.List.{List, [], ◌∷◌, map}
 use native.Mathlib.Omega.{arith}
 use lib.ListN.{length, get_or, take, length-map}
 use lib.Dec.{ltb}
+use mir.Syntax.{w8}
+use mir.Val.{Fits}
 use lib.IntN.{ℤ}
 use lib.Seq.{get_or-take, length-take-le, ext_get_or}
 use borrow.Author.Tests.{lt-ltb, le-ltb}
@@ -30,7 +32,7 @@ use Rattle.definitions.proofs.Silent.{some_same}
 use Rattle.std.specs.Prelude.{Result, Ok, Err}
 use Rattle.records.specs.declared.problem.Layout.{Layout}
 use Rattle.records.specs.declared.refusal.Refusal.{Refusal}
-use Rattle.records.specs.declared.refusal.Refusal.TheVariants.{Shift, Rule, Early}
+use Rattle.records.specs.declared.refusal.Refusal.TheVariants.{Early}
 use Rattle.records.specs.Refusals.{number_of, refused_by}
 use Rattle.records.specs.ProblemHeader.{layout_in, header_of}
 use Rattle.records.specs.Stamps.{Stamped, stamps_point}
@@ -43,7 +45,6 @@ use Rattle.answer_reader.proofs.Passing.{map_at}
 use Rattle.policy_iteration.specs.Tables.{Tables}
 use Rattle.merging.specs.Plans.{numbers_in, plans_judged, pair_judged, back_by}
 use Rattle.merging.specs.Outcome.{merged_of, Read, Wrote, below, above, joined, joined_early}
-use Rattle.merging.proofs.Later.{true_false}
 use Rattle.merging.proofs.Plans.{plan_point, plan_stamped}
 
 -- ---- refusals 7 and 12
@@ -130,6 +131,10 @@ refused_plans {p} {n} a b t before {k = k} w e f g =
     turned k (merge_refusal_lem p a b t (length before) ∙ rw (w, same) (or_else_suc (number_of k) _ (number_range k).0))
 
 -- ---- a problem in tables
+
+-- A list whose elements fit in 8 bits is one of bytes.
+pub bytes_of : {s : List ℕ} → ((i : ℕ) → Fits w8 (get_or s i 0)) → Bytes s
+bytes_of f = record { byte = λ i. (f i).fits }
 
 -- A problem of one question that was read.
 pub read_told : {p left₀ right₀ left right : List ℕ} {header : Result Layout Refusal} {l : Layout} → Bytes p → ProblemRead checker_kinds p left₀ right₀ header left right → header ≡ Ok l
@@ -226,6 +231,10 @@ pub record Held (n : ℕ) (a b x y : List ℕ) : Type 0 where
   pub y_is : Padded stride (numbers_in b (n + 1)) y
   pub a_fits : plan_fits n a ≡ true
   pub b_fits : plan_fits n b ≡ true
+
+pub held_of : {n : ℕ} {a b x y : List ℕ} → ((i : ℕ) → Fits w8 (get_or a i 0)) → ((i : ℕ) → Fits w8 (get_or b i 0))
+    → Padded stride (numbers_in a (n + 1)) x → Padded stride (numbers_in b (n + 1)) y → plan_fits n a ≡ true → plan_fits n b ≡ true → Held n a b x y
+held_of f g p q h k = record { a_bytes = bytes_of f; b_bytes = bytes_of g; x_is = p; y_is = q; a_fits = h; b_fits = k }
 
 module _ {n : ℕ} {a b x y : List ℕ} (held : Held n a b x y) where
   pub held_first : Stamped x

@@ -59,12 +59,7 @@ impl Pair<'_> {
         requires { count ≤ stride }
         ensures { result ≡ joined_early self.now.back self.now.first.now self.now.second.now count }
     {
-        for j in 0..count {
-            if is_early(self.first[j], self.second[j], self.back) {
-                return true;
-            }
-        }
-        false
+        (0..count).any(|j| is_early(self.first[j], self.second[j], self.back))
     }
 
     // The first `count` stamps of the merged plan, then blanks, where none is below the least stamp.

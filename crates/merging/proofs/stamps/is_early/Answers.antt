@@ -14,6 +14,6 @@ returns-else-second-ne0 c =
     let a = c.args in
     let none = early_not a.back a.first a.second c.requires.0 c.if-second-ne0.either in
     elim c.if-first-eq0.branch [
-      then-first-eq0 w ↦ w.t-5-is ∙ ap not (eq-eqb _ _ (⊎_elim (λ z. z.1) (λ z. absurd (z w.if-first-eq0.true)) c.if-second-ne0.either)) ∙ none
+      | then-first-eq0 w ↦ w.t-5-is ∙ ap not (eq-eqb _ _ (⊎_elim (λ z. z.1) (λ z. absurd (z w.if-first-eq0.true)) c.if-second-ne0.either)) ∙ none
       | else-first-eq0 w ↦ w.t-5-is ∙ ne_eqb _ _ w.if-first-eq0.false ∙ none
     ]

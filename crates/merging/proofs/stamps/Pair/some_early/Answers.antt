@@ -1,18 +1,12 @@
-use native.Mathlib.Omega.{arith}
-use Rattle.merging.proofs.Plans.{joined_none, joined_more, joined_found, joined_end}
+use Rattle.std.proofs.Common.{◌∙◌, get_or, arith, rules, tests}
+use Rattle.std.proofs.lemmas.Iterator.{YieldsList-from_range}
+use Rattle.std.proofs.lemmas.Iterator.Search.{any_from_yields_List}
+use Rattle.definitions.specs.Merging.{early}
+use Rattle.merging.specs.Plans.{later_of}
+use Rattle.merging.proofs.Plans.{joined_any}
 use Rattle.merging.proofs.stamps.Pair.some_early.Goals as goal
 
-pub loop-j-init : goal.loop-j-init
-loop-j-init c = let p = c.args.self.now in joined_none p.back p.first.now p.second.now
-
-pub is_early-requires : goal.is_early-requires
-is_early-requires c = let p = c.args.self.now in (p.first_stamps.near _, p.second_stamps.near _, p.back_most)
-
-pub returns-then-is_early : goal.returns-then-is_early
-returns-then-is_early c = let p = c.args.self.now in joined_found p.back p.first.now p.second.now c.loop-j.j c.args.count (omega arith) c.is_early.ensures c.if-is_early.true
-
-pub loop-j-preserved : goal.loop-j-preserved
-loop-j-preserved c = let p = c.args.self.now in joined_more p.back p.first.now p.second.now c.loop-j.j c.loop-j.invariant c.is_early.ensures c.if-is_early.false
-
 pub returns : goal.returns
-returns c = let p = c.args.self.now in joined_end p.back p.first.now p.second.now c.loop-j.j c.args.count c.loop-j.invariant (omega arith) c.loop-j-test.false
+returns c = let p = c.args.self.now in
+    any_from_yields_List (λ j. early (later_of p.back (get_or p.first.now j 0) (get_or p.second.now j 0))) _ _ _ c.any.ensures.ran (YieldsList-from_range 0 c.args.count c.args.count (cc) (omega arith)) (λ x b q k. search (rules, tests))
+    ∙ joined_any p.back p.first.now p.second.now c.args.count
