@@ -1,10 +1,11 @@
 -- Laws of the code's steps: rules counted and copied one after the other, and the record put together.
-use Prim.Native.Nat.{ℕ, suc, ◌+◌, ◌*◌, ◌-◌, ◌≤◌, ◌<◌}
+use Prim.Native.Nat.{ℕ, zero, suc, ◌+◌, ◌*◌, ◌-◌, ◌≤◌, ◌<◌}
 use mathlib.Core.Path.{◌≡◌, refl, ap, sym, ◌∙◌}
-use mathlib.Core.Bool.{Bool, true, false, not}
-use mathlib.Core.List.{List, ◌++◌, append_assoc, append-nil}
+use mathlib.Core.Bool.{Bool, true, false, not, cond}
+use mathlib.Core.List.{List, [], ◌∷◌, ◌++◌, append_assoc, append-nil}
 use native.Mathlib.Omega.{arith}
 use Rattle.std.proofs.lemmas.Bool.{not-true, not-false}
+use Rattle.std.specs.List.{filter, range_with_len}
 use native.Mathlib.Nat.{mul-le-mul_right}
 use lib.ListN.{length, length-append}
 use lib.Seq.{drop-drop}
@@ -47,6 +48,25 @@ pub mid_put : (l : List ℕ) (at : ℕ) {k : ℕ} {new vs : List ℕ} → new �
 unfolding put
 mid_put l at e f = rw (e, ← f, drop-drop)
 
+-- The rules of a range that stay, counted.
+kept_length : (out : ℕ → Bool) (k : ℕ) (ks : List ℕ) → length (filter (λ i. not (out i)) (k ∷ ks)) ≡ cond (out k) 0 1 + length (filter (λ i. not (out i)) ks)
+kept_length out k ks = go (out k)
+  where
+    go : (b : Bool) → length (cond (not b) (k ∷ filter (λ i. not (out i)) ks) (filter (λ i. not (out i)) ks)) ≡ cond b 0 1 + length (filter (λ i. not (out i)) ks)
+    go true = omega arith
+    go false = omega arith
+
+counted_more : (out : ℕ → Bool) (a n : ℕ) → length (filter (λ i. not (out i)) (range_with_len a (suc n))) ≡ length (filter (λ i. not (out i)) (range_with_len a n)) + cond (out (a + n)) 0 1
+counted_more out a zero = let e : a + 0 ≡ a = omega arith in kept_length out a [] ∙ rw e (omega arith)
+counted_more out a (suc n) =
+    let e : a + 1 + n ≡ a + suc n = omega arith in
+    kept_length out a (range_with_len (a + 1) (suc n)) ∙ rw (counted_more out (a + 1) n, kept_length out a (range_with_len (a + 1) n), e) (omega arith)
+
+counted : (out : ℕ → Bool) (n : ℕ) → length (filter (λ i. not (out i)) (range_with_len 0 n)) ≡ left_below out n
+unfolding left_below
+counted out zero = refl
+counted out (suc n) = let e : 0 + n ≡ n = omega arith in counted_more out 0 n ∙ rw (counted out n, e) refl
+
 -- The rows of the first k rules that stay stand behind the head, up to a place.
 pub record Copying (s : List ℕ) (l : Layout) (before : List ℕ) (k to : ℕ) (out : List ℕ) : Type 0 where
   pub to_is : to ≡ l.leads + length (rows_left s k)
@@ -74,25 +94,8 @@ module _ {s : List ℕ} {l : Layout} (st : Stored s l) where
 
   -- ---- counting
 
-  -- The rule stays, or goes: it is counted, or not,
-  pub count_stays : (k : ℕ) {b : Bool} → b ≡ not (blank_left s k) → b ≡ true → rules_left s k + 1 ≡ rules_left s (k + 1)
-  unfolding left_below
-  count_stays k e t =
-      let next : k + 1 ≡ suc k = omega arith in
-      let given : blank_left s k ≡ false = not-true _ (sym e ∙ t) in
-      rw (next, given) refl
-
-  pub count_goes : (k : ℕ) {b : Bool} → b ≡ not (blank_left s k) → b ≡ false → rules_left s k ≡ rules_left s (k + 1)
-  unfolding left_below
-  count_goes k e t =
-      let next : k + 1 ≡ suc k = omega arith in
-      let blank : blank_left s k ≡ true = not-false _ (sym e ∙ t) in
-      rw (next, blank) (omega arith)
-
-  pub counted_all : {k left : ℕ} → k ≡ l.m → left ≡ rules_left s k → (left ≡ rules_left s (m_field s)) × (left ≤ l.m)
-  counted_all {k} e f =
-      let m : k ≡ m_field s = omega (arith, st.m_is) in
-      (rw m at f, omega (arith, f, left_most (blank_left s) k))
+  pub counted_all : {left : ℕ} → left ≡ length (filter (λ i. not (blank_left s i)) (range_with_len 0 l.m)) → (left ≡ rules_left s (m_field s)) × (left ≤ l.m)
+  counted_all e = rw (← st.m_is) (e ∙ counted (blank_left s) l.m, omega (arith, e, counted (blank_left s) l.m, left_most (blank_left s) l.m))
 
   -- ---- copying
 

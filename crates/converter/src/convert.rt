@@ -44,13 +44,7 @@ impl Record<'_> {
     fn rules_left(&self) -> usize
         ensures { (result ≡ rules_left self.now.bytes.now (m_field self.now.bytes.now)) × (result ≤ self.now.layout.m) }
     {
-        let mut left = 0;
-        for i in 0..self.layout.m {
-            if self.stays(i) {
-                left += 1;
-            }
-        }
-        left
+        (0..self.layout.m).filter(|&i| self.stays(i)).count()
     }
 
     // The size of the record with so many rules.
