@@ -1,47 +1,24 @@
--- The cascade of refusals 12 and 13, and the answer whose body the reader judges.
-use Prim.Native.Nat.{ℕ, zero, suc, ◌+◌, ◌≤◌}
-use mathlib.Core.Path.{◌≡◌, refl, ap, ap₂, sym, ◌∙◌}
-use mathlib.Core.Bool.{Bool, true, false, ◌&&◌}
-use mathlib.Core.List.{List, [], ◌∷◌, map}
-use native.Mathlib.Omega.{arith}
-use lib.Dec.{eqb}
-use lib.ListN.{length}
+-- The answer whose body the reader judges, and what the reader answers.
+use Rattle.std.proofs.Common.{◌≡◌, ℕ, zero, suc, ◌+◌, ◌≤◌, ◌<◌, Bool, true, false, ◌&&◌, List, [], ◌∷◌, map, length, take, eqb, Result, Ok, Err, refl, ap, ap₂, sym, ◌∙◌, arith}
 use borrow.Author.Tests.{eqb-true}
 use Rattle.definitions.specs.Limits.{highest_n, highest_m, length_bytes, signed_bytes, signed_full, span_place, answer_kind, answer_header}
 use Rattle.definitions.specs.Bytes.{Bytes, num_at, trop_field, trop_at, or_else}
 use Rattle.definitions.specs.Offset.{trop_of, off}
 use Rattle.definitions.specs.ProblemRecord.{length_field, kind_field, n_field}
-use Rattle.definitions.specs.AnswerRecord.{Answer, known_class, start_fits, answer_size, span_fits, stamps_fit, picks_fit, highest_pick, form_refusal, stamp_count, pick_count, class_field, answer_of, span_field, start_field, answer_header_refusal, answer_header_judged, answer_header_outcome, answer_refusal, answer_outcome}
+use Rattle.definitions.specs.AnswerRecord.{known_class, start_fits, answer_size, form_refusal, stamp_count, pick_count, class_field, answer_of, span_field, start_field, answer_header_refusal, answer_header_judged, answer_header_outcome, answer_refusal, answer_outcome}
 use Rattle.definitions.proofs.Bytes.{num_at_bound, Below, nums_at_below}
 use Rattle.definitions.proofs.Offset.{trop_off}
 use Rattle.definitions.proofs.Refusals.{limits_clause, enough_clause, equal_clause, both_clause}
-use Rattle.answer_reader.specs.Fields.{Padded, body_of, stamps_at, picks_at, stamps_of, picks_of}
-use Rattle.answer_reader.specs.AnswerReading.{span_number, head_of, HeadAt, AnswerRead}
+use Rattle.records.specs.declared.refusal.Refusal.{Refusal}
+use Rattle.records.specs.Refusals.{number_of}
+use Rattle.records.proofs.Refusing.{number_range, outcome_ok, outcome_err, was_ok, was_err}
+use Rattle.answer_reader.specs.Fields.{fields_of, Padded, body_of, stamps_at, picks_at, stamps_of, picks_of}
+use Rattle.answer_reader.specs.AnswerReading.{told_by, span_number, head_of, HeadAt, AnswerRead}
 use Rattle.answer_reader.specs.declared.answer.Head.{Head}
-use Rattle.answer_reader.specs.declared.answer.AnswerHead.{AnswerHead}
-use Rattle.answer_reader.specs.declared.answer.AnswerHead.TheVariants.{Fields, Refused}
-use Rattle.answer_reader.proofs.Heads.{head_told, told_head, fields_by, refused_by_lem, head_fields, head_refused}
-
--- ---- refusals 12 and 13 in the code's order
-
-module _ (a : Answer) (n m : ℕ) where
-  pub form_span : {s : Bool} → s ≡ span_fits a.class a.span → s ≡ false → 12 ≡ form_refusal a n m
-  unfolding form_refusal
-  form_span e f = rw (← e, f)
-
-  pub form_stamps : {s t : Bool} → s ≡ span_fits a.class a.span → s ≡ true → t ≡ stamps_fit a.stamps → t ≡ false → 12 ≡ form_refusal a n m
-  unfolding form_refusal
-  form_stamps e f g h = rw (← e, f, ← g, h)
-
-  pub form_picks : {s t p : Bool} → s ≡ span_fits a.class a.span → s ≡ true → t ≡ stamps_fit a.stamps → t ≡ true
-      → p ≡ picks_fit (highest_pick a.class n m) a.picks → p ≡ false → 13 ≡ form_refusal a n m
-  unfolding form_refusal
-  form_picks e f g h i j = rw (← e, f, ← g, h, ← i, j)
-
-  pub form_right : {s t p : Bool} → s ≡ span_fits a.class a.span → s ≡ true → t ≡ stamps_fit a.stamps → t ≡ true
-      → p ≡ picks_fit (highest_pick a.class n m) a.picks → p ≡ true → 0 ≡ form_refusal a n m
-  unfolding form_refusal
-  form_right e f g h i j = rw (← e, f, ← g, h, ← i, j)
+use Rattle.answer_reader.proofs.Heads.{head_told, told_head}
+use Rattle.answer_reader.proofs.ByClass.{stamps_most, picks_most}
+use Rattle.answer_reader.proofs.Passing.{stamps_at_length, picks_at_length}
+use Rattle.answer_reader.proofs.Padding.{padded_take}
 
 -- ---- the answer in bytes
 
@@ -82,11 +59,11 @@ pub record HeadRight (s : List ℕ) (n m : ℕ) (head : Head) : Type 0 where
   pub m_most : m ≤ highest_m
   pub size_is : length s ≡ answer_size head.class n m
 
-pub head_right : (s : List ℕ) (n m : ℕ) {read : AnswerHead} {head : Head} → head_of read ≡ answer_header_outcome s (length s) n m → read ≡ Fields head
+pub head_right : (s : List ℕ) (n m : ℕ) {read : Result Head Refusal} {head : Head} → head_of read ≡ answer_header_outcome s (length s) n m → read ≡ Ok head
     → HeadRight s n m head
 unfolding answer_header_outcome answer_header_refusal answer_header_judged
 head_right s n m e f =
-    let h = fields_by (answer_header_refusal s (length s) n m) (class_field s, span_field s, start_field s) e f in
+    let h = was_ok told_by (answer_header_refusal s (length s) n m) (class_field s, span_field s, start_field s) e f in
     let a = (limits_clause n m _ _).0 h.0 in
     let b = (enough_clause (length s) answer_header _ _).0 a.1 in
     let c = (equal_clause (length_field s + length_bytes) (length s) _ _).0 b.1 in
@@ -101,55 +78,54 @@ head_right s n m e f =
       size_is = rw at.class_is (eqb-true (length s) (answer_size (class_field s) n m) g.0.1);
     }
 
--- The header is refused.
-pub read_turned_away : (s : List ℕ) (n m : ℕ) {read : AnswerHead} {k : ℕ} {stamps picks : List ℕ} → head_of read ≡ answer_header_outcome s (length s) n m → read ≡ Refused k
-    → AnswerRead s n m read stamps stamps picks picks
-unfolding answer_header_outcome answer_outcome answer_refusal
-read_turned_away s n m e f =
-    let k : ℕ = answer_header_refusal s (length s) n m in
-    let none = (refused_by_lem (answer_header_refusal s (length s) n m) (class_field s, span_field s, start_field s) e f).1 in
-    let same : answer_refusal s n m ≡ answer_header_refusal s (length s) n m = first_counts (answer_header_refusal s (length s) n m) _ none in
+-- What is refused.
+refused : (s : List ℕ) (n m : ℕ) (r : Refusal) {stamps picks : List ℕ} → number_of r ≡ answer_refusal s n m → AnswerRead s n m (Err r) stamps stamps picks picks
+unfolding answer_outcome
+refused s n m r same =
+    let some = number_range r in
     record {
-      answered = rw same e;
+      answered = outcome_err told_by r (class_field s, span_field s, start_field s) same;
       kept = λ h. (refl, refl);
-      stamps_read = λ h. absurd (none (sym same ∙ h));
-      picks_read = λ h. absurd (none (sym same ∙ h));
+      stamps_read = λ h. absurd (omega arith);
+      picks_read = λ h. absurd (omega arith);
     }
+
+-- The header is refused.
+pub read_turned_away : (s : List ℕ) (n m : ℕ) {read : Result Head Refusal} {r : Refusal} {stamps picks : List ℕ} → head_of read ≡ answer_header_outcome s (length s) n m → read ≡ Err r
+    → AnswerRead s n m (Err r) stamps stamps picks picks
+unfolding answer_header_outcome answer_refusal
+read_turned_away s n m {r = r} e f =
+    let p = was_err told_by (answer_header_refusal s (length s) n m) (class_field s, span_field s, start_field s) e f in
+    refused s n m r (sym p.0 ∙ first_counts (answer_header_refusal s (length s) n m) _ p.1)
   where
-    first_counts : (a b : ℕ) → (a ≡ 0 → ⊥) → or_else a b ≡ a
-    first_counts zero b h = absurd (h refl)
+    first_counts : (a b : ℕ) → 0 < a → a ≡ or_else a b
+    first_counts zero b h = absurd (omega arith)
     first_counts (suc a) b h = refl
 
-module _ {s : List ℕ} (bytes : Bytes s) {n m : ℕ} {head : Head} (right : HeadRight s n m head) where
+module _ {s : List ℕ} (bytes : Bytes s) {n m : ℕ} {head : Head} (right : HeadRight s n m head) {i j : ℕ} {stamps picks : List ℕ} (a : i ≡ stamp_count head.class n)
+    (b : j ≡ pick_count head.class n m) (p : Padded 32 (stamps_at s i) stamps) (q : Padded 64 (picks_at s i j) picks) where
   -- Once the header is right, the body's refusal is the answer's.
-  body_judged : (k : ℕ) → k ≡ form_refusal (body_of s head n m) n m → k ≡ answer_refusal s n m
+  body_judged : form_refusal (fields_of head (take i stamps) (take j picks)) n m ≡ answer_refusal s n m
   unfolding answer_refusal
-  body_judged k e = rw right.header (rw (body_meant bytes n m right.is) at e)
+  body_judged =
+      let x : take i stamps ≡ stamps_at s i = rw stamps_at_length at (padded_take p (rw stamps_at_length (omega (arith, stamps_most head.class n right.n_most)))) in
+      let y : take j picks ≡ picks_at s i j = rw picks_at_length at (padded_take q (rw picks_at_length (omega (arith, picks_most head.class n m right.n_most right.m_most)))) in
+      rw (x, y, a, b, right.header, body_meant bytes n m right.is) refl
 
   -- The body is refused.
-  pub read_refused : {k : ℕ} {stamps picks : List ℕ} → k ≡ form_refusal (body_of s head n m) n m → (k ≡ 0 → ⊥)
-      → AnswerRead s n m (Refused k) stamps stamps picks picks
-  unfolding answer_outcome
-  read_refused {k} e h =
-      let same : k ≡ answer_refusal s n m = body_judged k e in
-      record {
-        answered = rw (← same) (head_refused k (class_field s, span_field s, start_field s) h);
-        kept = λ r. (refl, refl);
-        stamps_read = λ r. absurd (h (same ∙ r));
-        picks_read = λ r. absurd (h (same ∙ r));
-      }
+  pub read_refused : {r : Refusal} {stamps-before picks-before : List ℕ} → number_of r ≡ form_refusal (fields_of head (take i stamps) (take j picks)) n m
+      → AnswerRead s n m (Err r) stamps-before stamps-before picks-before picks-before
+  read_refused {r} e = refused s n m r (e ∙ body_judged)
 
   -- The answer is read.
-  pub read_done : {read : AnswerHead} {k : ℕ} {stamps picks stamps-before picks-before : List ℕ} → read ≡ Fields head
-      → k ≡ form_refusal (body_of s head n m) n m → k ≡ 0
-      → Padded 32 (stamps_at s (stamp_count head.class n)) stamps → Padded 64 (picks_at s (stamp_count head.class n) (pick_count head.class n m)) picks
-      → AnswerRead s n m read stamps-before stamps picks-before picks
+  pub read_done : {stamps-before picks-before : List ℕ} → 0 ≡ form_refusal (fields_of head (take i stamps) (take j picks)) n m
+      → AnswerRead s n m (Ok head) stamps-before stamps picks-before picks
   unfolding answer_outcome stamps_of picks_of
-  read_done {k = k} f e z p q =
-      let same : answer_refusal s n m ≡ 0 = sym (body_judged k e) ∙ z in
+  read_done e =
+      let same : answer_refusal s n m ≡ 0 = sym (e ∙ body_judged) in
       record {
-        answered = ap head_of f ∙ head_fields (answer_refusal s n m) (class_field s, span_field s, start_field s) head same (head_told right.is);
+        answered = outcome_ok told_by head (class_field s, span_field s, start_field s) same (head_told right.is);
         kept = λ r. absurd (r same);
-        stamps_read = λ r. rw right.is.class_is at p;
-        picks_read = λ r. rw right.is.class_is at q;
+        stamps_read = λ r. rw (a, right.is.class_is) at p;
+        picks_read = λ r. rw (a, b, right.is.class_is) at q;
       }

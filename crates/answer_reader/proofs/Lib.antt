@@ -1,7 +1,7 @@
 pub mod ByClass
 pub mod Passing
-pub mod Reading
 pub mod Padding
 pub mod Heads
+pub mod Reading
 pub mod Judging
 pub mod Meaning

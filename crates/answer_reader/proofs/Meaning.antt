@@ -9,11 +9,13 @@ use Rattle.definitions.specs.AnswerRecord.{answer_of, answer_refusal}
 use Rattle.definitions.specs.Verdict.{point_of, strategy_of}
 use Rattle.answer_reader.specs.Fields.{stamps_of}
 use Rattle.answer_reader.specs.AnswerReading.{AnswerRead}
-use Rattle.answer_reader.specs.declared.answer.AnswerHead.{AnswerHead}
+use Rattle.std.proofs.Common.{Result}
+use Rattle.records.specs.declared.refusal.Refusal.{Refusal}
+use Rattle.answer_reader.specs.declared.answer.Head.{Head}
 use Rattle.answer_reader.proofs.Passing.{trop_at_lem}
 use Rattle.answer_reader.proofs.Judging.{stamps_meant, picks_meant}
 
-module _ {s : List ℕ} {n m : ℕ} {head : AnswerHead} {stamps-before stamps picks-before picks : List ℕ}
+module _ {s : List ℕ} {n m : ℕ} {head : Result Head Refusal} {stamps-before stamps picks-before picks : List ℕ}
     (read : AnswerRead s n m head stamps-before stamps picks-before picks) (accepted : answer_refusal s n m ≡ 0) where
   -- At every index the array of stamps is the answer's point: blank behind the last.
   pub stamps_point_lem : Bytes s → (j : ℕ) → trop_of (get_or stamps j 0) ≡ point_of (answer_of s n m).stamps j

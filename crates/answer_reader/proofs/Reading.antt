@@ -1,64 +1,24 @@
 -- Laws of reading an answer: from the numbers that the code reads to what the definitions say of the bytes.
-use Prim.Native.Nat.{ℕ, ◌+◌, ◌≤◌}
-use mathlib.Core.Path.{◌≡◌}
-use mathlib.Core.Bool.{Bool, true, false, ◌&&◌}
-use mathlib.Core.List.{List}
-use lib.Dec.{eqb}
-use borrow.Author.Tests.{eq-eqb, ne_eqb, le-ltb}
-use Rattle.definitions.specs.Limits.{highest_n, highest_m, length_bytes, answer_kind, answer_header}
+use Rattle.std.proofs.Common.{◌≡◌, ℕ, List, Ok, Err, sym, ◌∙◌}
 use Rattle.definitions.specs.ProblemRecord.{length_field, kind_field, n_field}
-use Rattle.definitions.specs.AnswerRecord.{known_class, start_fits, answer_size, answer_header_refusal, answer_header_judged}
-use Rattle.answer_reader.specs.AnswerReading.{HeadAt}
+use Rattle.definitions.specs.AnswerRecord.{class_field, span_field, start_field, answer_header_refusal, answer_header_judged, answer_header_outcome}
+use Rattle.records.specs.declared.refusal.Refusal.{Refusal}
+use Rattle.records.specs.Refusals.{number_of}
+use Rattle.records.proofs.Refusing.{outcome_ok, outcome_err}
+use Rattle.answer_reader.specs.AnswerReading.{told_by, HeadAt, head_of}
 use Rattle.answer_reader.specs.declared.answer.Head.{Head}
+use Rattle.answer_reader.proofs.Heads.{head_told}
 
--- ---- the header
+module _ {s : List ℕ} (size n m : ℕ) {length kind own : ℕ} {head : Head} (a : length ≡ length_field s) (b : kind ≡ kind_field s) (c : own ≡ n_field s) (d : HeadAt s head) where
+  -- The numbers of the header judged are the header judged.
+  judged : answer_header_judged size length kind own head.class head.start n m ≡ answer_header_refusal s size n m
+  unfolding answer_header_refusal
+  judged = rw (a, b, c, d.class_is, d.start_is)
 
-module _ (size length kind own class start n m : ℕ) {known : Bool} (a : n ≤ highest_n) (b : m ≤ highest_m) (c : answer_header ≤ size) (d : length + length_bytes ≡ size)
-    (e : known ≡ (eqb kind answer_kind && (known_class class && start_fits class start n))) where
-  -- Refusal 10, once 4, 8 and 9 are out.
-  pub judged_kind : known ≡ false → 10 ≡ answer_header_judged size length kind own class start n m
-  unfolding answer_header_judged
-  judged_kind f = rw (le-ltb highest_n n a, le-ltb highest_m m b, le-ltb size answer_header c, eq-eqb (length + length_bytes) size d, ← e, f)
+  pub header_err : (r : Refusal) → number_of r ≡ answer_header_judged size length kind own head.class head.start n m → head_of (Err r) ≡ answer_header_outcome s size n m
+  unfolding answer_header_outcome
+  header_err r e = outcome_err told_by r (class_field s, span_field s, start_field s) (e ∙ judged)
 
-  -- Refusal 11: another n.
-  pub judged_n : known ≡ true → (own ≡ n → ⊥) → 11 ≡ answer_header_judged size length kind own class start n m
-  unfolding answer_header_judged
-  judged_n f g = rw (le-ltb highest_n n a, le-ltb highest_m m b, le-ltb size answer_header c, eq-eqb (length + length_bytes) size d, ← e, f, ne_eqb own n g)
-
-  -- Refusal 11: another size than the class has.
-  pub judged_size : {most : ℕ} → known ≡ true → own ≡ n → most ≡ answer_size class n m → (size ≡ most → ⊥) → 11 ≡ answer_header_judged size length kind own class start n m
-  unfolding answer_header_judged
-  judged_size f g h i =
-      rw (
-        le-ltb highest_n n a,
-        le-ltb highest_m m b,
-        le-ltb size answer_header c,
-        eq-eqb (length + length_bytes) size d,
-        ← e,
-        f,
-        eq-eqb own n g,
-        ← h,
-        ne_eqb size _ i,
-      )
-
-  -- No refusal.
-  pub judged_none : {most : ℕ} → known ≡ true → own ≡ n → most ≡ answer_size class n m → size ≡ most → 0 ≡ answer_header_judged size length kind own class start n m
-  unfolding answer_header_judged
-  judged_none f g h i =
-      rw (
-        le-ltb highest_n n a,
-        le-ltb highest_m m b,
-        le-ltb size answer_header c,
-        eq-eqb (length + length_bytes) size d,
-        ← e,
-        f,
-        eq-eqb own n g,
-        ← h,
-        eq-eqb size _ i,
-      )
-
--- The numbers of the header judged are the header judged.
-pub header_judged_lem : (s : List ℕ) (size n m : ℕ) {length kind own k : ℕ} {head : Head} → length ≡ length_field s → kind ≡ kind_field s → own ≡ n_field s
-    → HeadAt s head → k ≡ answer_header_judged size length kind own head.class head.start n m → k ≡ answer_header_refusal s size n m
-unfolding answer_header_refusal
-header_judged_lem s size n m a b c d e = rw (a, b, c, d.class_is, d.start_is) at e
+  pub header_ok : 0 ≡ answer_header_judged size length kind own head.class head.start n m → head_of (Ok head) ≡ answer_header_outcome s size n m
+  unfolding answer_header_outcome
+  header_ok e = outcome_ok told_by head (class_field s, span_field s, start_field s) (sym (e ∙ judged)) (head_told d)

@@ -1,5 +1,6 @@
-// What depends on an answer's class: 1 least, 2 bottomless, 3 none. Document 01, "Records"; document 02, 2.4.
-ghost use Rattle.std.specs.Prelude.{◌≡◌, suc, ◌≤◌, ◌&&◌, eqb, ltb, leb};
+// What depends on an answer's class: 1 least, 2 bottomless, 3 none. Document 01, "Records"; document 02, 2.4. The class is a number here,
+// not a `Class`: the C interface hands the writer any number, and one that is no class has its own answers (refusal 10).
+ghost use Rattle.std.specs.Prelude.{◌≡◌, ◌≤◌, ◌&&◌, eqb};
 ghost use Rattle.definitions.specs.Limits.{highest_n, highest_m, answer_kind, answer_most, stride, table_rows};
 ghost use Rattle.definitions.specs.Offset.{trop_of};
 ghost use Rattle.definitions.specs.AnswerRecord.{known_class, start_fits, stamp_count, pick_count, highest_pick, answer_size, span_fits};
@@ -9,17 +10,6 @@ use records::limits::{
 };
 use records::offset::whole_within;
 
-// A start of bottomless: 1 + the number of a moment.
-fn names_moment(start: u64, n: usize) -> bool
-    requires { n ≤ highest_n }
-    ensures { result ≡ (ltb 0 start && leb start (suc n)) }
-{
-    if start == 0 {
-        return false;
-    }
-    start <= n as u64 + 1
-}
-
 // The class is 1, 2 or 3, and the start is one of the class: 0 or 1 for least and none, for bottomless 1 + the number of a moment.
 // Public for `answer_writer::writer`.
 pub fn start_fits(class: u64, start: u64, n: usize) -> bool
@@ -27,10 +17,9 @@ pub fn start_fits(class: u64, start: u64, n: usize) -> bool
     ensures { result ≡ (known_class class && start_fits class start n) }
 {
     match class {
-        OPTIMAL => start <= 1,
-        UNBOUNDED => names_moment(start, n),
-        INFEASIBLE => start <= 1,
-        0 | 4.. => false,
+        OPTIMAL | INFEASIBLE => start <= 1,
+        UNBOUNDED => 0 < start && start <= n as u64 + 1,
+        _ => false,
     }
 }
 
@@ -40,12 +29,7 @@ pub fn stamp_count(class: u64, n: usize) -> usize
     requires { n ≤ highest_n }
     ensures { (result ≡ stamp_count class n) × (result ≤ stride) }
 {
-    match class {
-        OPTIMAL => n + 1,
-        UNBOUNDED => 0,
-        INFEASIBLE => 0,
-        0 | 4.. => 0,
-    }
+    if class == OPTIMAL { n + 1 } else { 0 }
 }
 
 // How many picks: one a row for bottomless, one a moment for least and none.
@@ -55,10 +39,9 @@ pub fn pick_count(class: u64, n: usize, m: usize) -> usize
     ensures { (result ≡ pick_count class n m) × (result ≤ table_rows) }
 {
     match class {
-        OPTIMAL => n + 1,
+        OPTIMAL | INFEASIBLE => n + 1,
         UNBOUNDED => m + 1,
-        INFEASIBLE => n + 1,
-        0 | 4.. => 0,
+        _ => 0,
     }
 }
 
@@ -69,10 +52,9 @@ pub fn highest_pick(class: u64, n: usize, m: usize) -> u64
     ensures { result ≡ highest_pick class n m }
 {
     match class {
-        OPTIMAL => m as u64 + 1,
+        OPTIMAL | INFEASIBLE => m as u64 + 1,
         UNBOUNDED => n as u64 + 1,
-        INFEASIBLE => m as u64 + 1,
-        0 | 4.. => 0,
+        _ => 0,
     }
 }
 
@@ -83,9 +65,8 @@ pub fn span_fits(class: u64, span: u64) -> bool
 {
     match class {
         OPTIMAL => whole_within(SPAN_LIMIT, span),
-        UNBOUNDED => span == 0,
-        INFEASIBLE => span == 0,
-        0 | 4.. => false,
+        UNBOUNDED | INFEASIBLE => span == 0,
+        _ => false,
     }
 }
 
@@ -102,8 +83,5 @@ pub fn known_record(kind: u64, class: u64, start: u64, n: usize) -> bool
     requires { n ≤ highest_n }
     ensures { result ≡ (eqb kind answer_kind && (known_class class && start_fits class start n)) }
 {
-    match kind {
-        ANSWER_KIND => start_fits(class, start, n),
-        0..=3 | 5.. => false,
-    }
+    kind == ANSWER_KIND && start_fits(class, start, n)
 }

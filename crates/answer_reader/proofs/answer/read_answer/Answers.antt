@@ -1,28 +1,37 @@
-use mathlib.Core.Path.{refl}
+use Rattle.std.proofs.Common.{arith}
+use Rattle.std.proofs.lemmas.Result.{err_from_is_err_and}
+use Rattle.definitions.specs.Bytes.{Bytes}
 use Rattle.answer_reader.proofs.Judging.{head_right, read_turned_away, read_refused, read_done}
-use native.Mathlib.Omega.{arith}
 use Rattle.answer_reader.proofs.answer.read_answer.Goals as goal
 
-pub returns-in_default : goal.returns-in_default
-returns-in_default c = read_turned_away _ _ _ c.read_answer_header-read.ensures c.in_default.is
+pub returns-in_err-head : goal.returns-in_err-head
+returns-in_err-head c =
+    let p = err_from_is_err_and c.from_residual.result c.from_residual.ensures.1 in
+    rw (p.1, p.2) (read_turned_away _ _ _ c.read_answer_header.ensures c.in_err-head.was)
 
-pub judge_body-refusal-requires : goal.judge_body-refusal-requires
-judge_body-refusal-requires c = let h = (head_right _ _ _ c.read_answer_header-read.ensures c.in-Fields.is) in (h.n_most, h.m_most, h.size_is)
+pub stamp_count-s-requires : goal.stamp_count-s-requires
+stamp_count-s-requires c = (head_right _ _ _ c.read_answer_header.ensures c.in_ok-head.was).n_most
 
-pub returns-then-refusal-ne0 : goal.returns-then-refusal-ne0
-returns-then-refusal-ne0 c = read_refused (record { byte = λ i. (c.shared_slice_known-1.given i).fits }) (head_right _ _ _ c.read_answer_header-read.ensures c.in-Fields.is) c.judge_body-refusal.ensures c.if-refusal-ne0.true
+pub pick_count-p-requires : goal.pick_count-p-requires
+pick_count-p-requires c = let h = head_right _ _ _ c.read_answer_header.ensures c.in_ok-head.was in (h.n_most, h.m_most)
 
-pub stamp_count-count-requires : goal.stamp_count-count-requires
-stamp_count-count-requires c = (head_right _ _ _ c.read_answer_header-read.ensures c.in-Fields.is).n_most
+pub stamps_from-read_stamps-requires : goal.stamps_from-read_stamps-requires
+stamps_from-read_stamps-requires c = let h = head_right _ _ _ c.read_answer_header.ensures c.in_ok-head.was in (omega arith, omega arith)
 
-pub stamps_from-requires : goal.stamps_from-requires
-stamps_from-requires c = let h = (head_right _ _ _ c.read_answer_header-read.ensures c.in-Fields.is) in (omega arith, omega arith)
+pub picks_from-read_picks-requires : goal.picks_from-read_picks-requires
+picks_from-read_picks-requires c = let h = head_right _ _ _ c.read_answer_header.ensures c.in_ok-head.was in (omega arith, omega arith)
 
-pub pick_count-requires : goal.pick_count-requires
-pick_count-requires c = let h = (head_right _ _ _ c.read_answer_header-read.ensures c.in-Fields.is) in (h.n_most, h.m_most)
+pub judge_form-requires : goal.judge_form-requires
+judge_form-requires c = let h = head_right _ _ _ c.read_answer_header.ensures c.in_ok-head.was in (h.n_most, h.m_most)
 
-pub picks_from-requires : goal.picks_from-requires
-picks_from-requires c = let h = (head_right _ _ _ c.read_answer_header-read.ensures c.in-Fields.is) in (omega arith, omega arith)
+pub returns-in_err-judge_form : goal.returns-in_err-judge_form
+returns-in_err-judge_form c =
+    let p = err_from_is_err_and c.from_residual-in_err-judge_form.result c.from_residual-in_err-judge_form.ensures.1 in
+    let b : Bytes c.args.bytes.now = record { byte = λ i. (c.type_inv.bytes i).fits } in
+    rw (p.1, p.2)
+    (read_refused b (head_right _ _ _ c.read_answer_header.ensures c.in_ok-head.was) c.stamp_count-s.ensures.0 c.pick_count-p.ensures.0 c.stamps_from-read_stamps.ensures c.picks_from-read_picks.ensures c.in_err-judge_form.ensures)
 
 pub returns : goal.returns
-returns c = read_done (record { byte = λ i. (c.shared_slice_known-1.given i).fits }) (head_right _ _ _ c.read_answer_header-read.ensures c.in-Fields.is) refl c.judge_body-refusal.ensures c.if-refusal-ne0.false (rw c.stamp_count-count.ensures.0 at c.stamps_from.ensures) (rw (c.stamp_count-count.ensures.0, c.pick_count.ensures.0) at c.picks_from.ensures)
+returns c =
+    let b : Bytes c.args.bytes.now = record { byte = λ i. (c.type_inv.bytes i).fits } in
+    read_done b (head_right _ _ _ c.read_answer_header.ensures c.in_ok-head.was) c.stamp_count-s.ensures.0 c.pick_count-p.ensures.0 c.stamps_from-read_stamps.ensures c.picks_from-read_picks.ensures c.in_ok-judge_form.ensures

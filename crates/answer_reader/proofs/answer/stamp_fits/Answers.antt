@@ -1,9 +1,12 @@
-use mathlib.Core.Path.{◌∙◌}
-use Rattle.answer_reader.proofs.ByClass.{anchor_stamp, other_stamp}
+use Rattle.std.proofs.Common.{◌∙◌, eq-eqb, ne_eqb}
+use Rattle.definitions.proofs.Offset.{zero_offset}
+use Rattle.answer_reader.specs.Fields.{stamp_fits}
 use Rattle.answer_reader.proofs.answer.stamp_fits.Goals as goal
 
-pub returns-in-0 : goal.returns-in-0
-returns-in-0 c = anchor_stamp _ _ c.in-0.is
+pub returns-then-i-eq0 : goal.returns-then-i-eq0
+unfolding stamp_fits
+returns-then-i-eq0 c = rw (eq-eqb c.args.i 0 c.if-i-eq0.true, zero_offset)
 
-pub returns-in_default : goal.returns-in_default
-returns-in_default c = c.blank_or_within.ensures ∙ other_stamp _ _ c.in_default.in_default-own.rest.1
+pub returns-else-i-eq0 : goal.returns-else-i-eq0
+unfolding stamp_fits
+returns-else-i-eq0 c = rw (ne_eqb c.args.i 0 c.if-i-eq0.false) c.blank_or_within.ensures

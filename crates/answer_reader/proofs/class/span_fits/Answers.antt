@@ -1,19 +1,21 @@
-use mathlib.Core.Path.{◌∙◌}
-use native.Mathlib.Omega.{arith}
-use Rattle.answer_reader.proofs.ByClass.{span_least, span_bottomless, span_none, span_other}
+use Rattle.std.proofs.Common.{◌∙◌, rules, tests}
+use Rattle.definitions.specs.AnswerRecord.{span_fits}
+use Rattle.definitions.proofs.Offset.{blank_offset}
+use Rattle.records.proofs.Tests as records
 use Rattle.answer_reader.proofs.class.span_fits.Goals as goal
 
 pub returns-in-1 : goal.returns-in-1
-returns-in-1 c = c.whole_within.ensures ∙ span_least _ _ c.in-1.is
+unfolding span_fits
+returns-in-1 c = search rules
 
 pub returns-in-2 : goal.returns-in-2
-returns-in-2 c = span_bottomless _ _ c.in-2.is
+unfolding span_fits
+returns-in-2 c = search (rules, blank_offset)
 
-pub returns-in-3 : goal.returns-in-3
-returns-in-3 c = span_none _ _ c.in-3.is
+pub returns-in_default : goal.returns-in_default
+unfolding span_fits
+returns-in_default c = search (rules, records.tests)
 
-pub returns-in-0 : goal.returns-in-0
-returns-in-0 c = span_other _ _ (omega arith) (omega arith) (omega arith)
-
-pub returns-in-0-2 : goal.returns-in-0-2
-returns-in-0-2 c = span_other _ _ c.in-0.in-0-own.rest.0.0.0.1 c.in-0.in-0-own.rest.0.0.1 c.in-0.in-0-own.rest.0.1
+pub returns-in_default-2 : goal.returns-in_default-2
+unfolding span_fits
+returns-in_default-2 c = search (rules, records.tests)
