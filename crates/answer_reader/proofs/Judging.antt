@@ -78,6 +78,11 @@ head_right s n m e f =
       size_is = rw at.class_is (eqb-true (length s) (answer_size (class_field s) n m) g.0.1);
     }
 
+-- The first of two refusals counts, where there is one.
+pub first_counts : (a b : ℕ) → 0 < a → a ≡ or_else a b
+first_counts zero b h = absurd (omega arith)
+first_counts (suc a) b h = refl
+
 -- What is refused.
 refused : (s : List ℕ) (n m : ℕ) (r : Refusal) {stamps picks : List ℕ} → number_of r ≡ answer_refusal s n m → AnswerRead s n m (Err r) stamps stamps picks picks
 unfolding answer_outcome
@@ -97,10 +102,6 @@ unfolding answer_header_outcome answer_refusal
 read_turned_away s n m {r = r} e f =
     let p = was_err told_by (answer_header_refusal s (length s) n m) (class_field s, span_field s, start_field s) e f in
     refused s n m r (sym p.0 ∙ first_counts (answer_header_refusal s (length s) n m) _ p.1)
-  where
-    first_counts : (a b : ℕ) → 0 < a → a ≡ or_else a b
-    first_counts zero b h = absurd (omega arith)
-    first_counts (suc a) b h = refl
 
 module _ {s : List ℕ} (bytes : Bytes s) {n m : ℕ} {head : Head} (right : HeadRight s n m head) {i j : ℕ} {stamps picks : List ℕ} (a : i ≡ stamp_count head.class n)
     (b : j ≡ pick_count head.class n m) (p : Padded 32 (stamps_at s i) stamps) (q : Padded 64 (picks_at s i j) picks) where

@@ -1,11 +1,5 @@
 -- Round trips: an answer written is read back as it was, an answer read is written back as it was.
-use Prim.Native.Nat.{ℕ, zero, suc, ◌+◌, ◌≤◌, ◌<◌}
-use mathlib.Core.Path.{◌≡◌, refl, ap, ap₂, sym, ◌∙◌}
-use mathlib.Core.List.{List, [], ◌∷◌, map}
-use mathlib.Core.Logic.{⊎_elim}
-use native.Mathlib.Omega.{arith}
-use lib.ListN.{length, take}
-use borrow.Author.Tests.{lt-ltb, le-ltb}
+use Rattle.std.proofs.Common.{◌≡◌, ℕ, zero, suc, ◌+◌, ◌≤◌, ◌<◌, List, [], ◌∷◌, map, length, take, Result, Ok, Err, refl, sym, ap, ap₂, ◌∙◌, ⊎_elim, lt-ltb, le-ltb, arith}
 use Rattle.base.proofs.Numbers.{nat_le_or_lt}
 use Rattle.definitions.specs.Limits.{highest_n, highest_m, answer_most}
 use Rattle.definitions.specs.Tropical.{Trop}
@@ -13,44 +7,24 @@ use Rattle.definitions.specs.Bytes.{Bytes, put, or_else, outcome}
 use Rattle.definitions.specs.Offset.{trop_of}
 use Rattle.definitions.specs.AnswerRecord.{Answer, stamp_count, pick_count, answer_size, class_field, span_field, start_field, answer_of, answer_bytes, answer_refusal, answer_outcome, writer_refusal, writer_judged, writer_outcome, written}
 use Rattle.definitions.proofs.Put.{take_put, length_put}
-use Rattle.definitions.proofs.Outcomes.{outcome-some, outcome-gives, outcome_refusal}
 use Rattle.definitions.proofs.Offset.{trop_of_injective}
 use Rattle.definitions.proofs.AnswerFits.{answer_fits}
 use Rattle.definitions.proofs.RoundTrip.{answer_bytes_lem, write_read, read_write}
+use Rattle.records.specs.declared.refusal.Refusal.{Refusal}
+use Rattle.records.proofs.Refusing.{outcome_err, was_ok, was_err}
 use Rattle.answer_reader.specs.Fields.{fields_of, body_of, stamps_at, picks_at, stamps_of, picks_of}
 use Rattle.answer_reader.specs.AnswerReading.{told_by, HeadAt, AnswerRead}
-use Rattle.answer_writer.specs.AnswerWriting.{written_of, unless_refused, AnswerWritten}
-use Rattle.answer_writer.specs.RoundTrips.{fields_refusal, WrittenThenRead, back_refusal, ReadThenWritten}
 use Rattle.answer_reader.specs.declared.answer.Head.{Head}
-use Rattle.answer_reader.specs.declared.answer.AnswerHead.{AnswerHead}
-use Rattle.answer_reader.specs.declared.answer.AnswerHead.TheVariants as read_as
-use Rattle.answer_writer.specs.declared.writer.Written.{Written}
-use Rattle.answer_writer.specs.declared.writer.Written.TheVariants as result
-use Rattle.answer_reader.proofs.Passing.{stamps_at_length, picks_at_length}
-use Rattle.answer_reader.proofs.Padding.{padded_take}
-use Rattle.answer_reader.proofs.Judging.{stamps_meant, picks_meant, body_meant}
-use Rattle.answer_writer.proofs.Writing.{roomy}
+use Rattle.answer_writer.specs.AnswerWriting.{unless_refused, AnswerWritten}
+use Rattle.answer_writer.specs.RoundTrips.{fields_refusal, WrittenThenRead, back_refusal, ReadThenWritten}
 use Rattle.answer_reader.proofs.ByClass.{stamps_most, picks_most}
-use Rattle.answer_reader.proofs.Heads.{told_head, fields_by, refused_by_lem, head_refused}
+use Rattle.answer_reader.proofs.Heads.{told_head}
+use Rattle.answer_reader.proofs.Judging.{stamps_meant, picks_meant, body_meant, first_counts}
+use Rattle.answer_reader.proofs.Padding.{padded_take}
+use Rattle.answer_reader.proofs.Passing.{stamps_at_length, picks_at_length}
+use Rattle.answer_writer.proofs.Writing.{kept_if, roomy}
 
--- ---- what an outcome says of its refusal
-
-pub record_by : (k size : ℕ) {r : Written} {z : ℕ} → written_of r ≡ outcome k size → r ≡ result.Record z → (k ≡ 0) × (z ≡ size)
-unfolding written_of
-record_by k size {z = z} e f = let g = outcome-gives k size z (sym e ∙ ap written_of f) in (g.0, sym g.1)
-
-pub refused_record : (k size : ℕ) {r : Written} {j : ℕ} → written_of r ≡ outcome k size → r ≡ result.Refused j → (j ≡ k) × (k ≡ 0 → ⊥)
-unfolding written_of
-refused_record k size {j = j} e f = let g = outcome_refusal k size j (sym e ∙ ap written_of f) in (sym g.0, λ z. omega arith)
-
-refused_written : (k size : ℕ) → (k ≡ 0 → ⊥) → written_of (result.Refused k) ≡ outcome k size
-unfolding written_of
-refused_written k size h = sym (outcome-some k size h)
-
-kept_if : (k : ℕ) (before after : List ℕ) → (k ≡ 0 → ⊥) → before ≡ unless_refused k before after
-unfolding unless_refused
-kept_if zero before after h = absurd (h refl)
-kept_if (suc k) before after h = refl
+-- ---- numbers that stand for an answer
 
 -- Offset numbers that stand for the same are the same.
 trops_injective : (xs ys : List ℕ) → map trop_of xs ≡ map trop_of ys → xs ≡ ys
@@ -98,19 +72,19 @@ module _ (head : Head) (stamps picks : List ℕ) (n m : ℕ) where
         picks_are = picks_meant _ n m ∙ ap (λ (x : Answer). x.picks) w.1;
       }
 
-  module _ {r : Written} {before after : List ℕ} (w : AnswerWritten (fields_of head stamps picks) n m r before after) where
+  module _ {r : Result ℕ Refusal} {before after : List ℕ} (w : AnswerWritten (fields_of head stamps picks) n m r before after) where
     -- The writer refuses.
-    pub back_refused : {k : ℕ} {stamps_back picks_back : List ℕ} → r ≡ result.Refused k
-        → WrittenThenRead head stamps picks n m (read_as.Refused k) before after stamps_back stamps_back picks_back picks_back
+    pub back_refused : {k : Refusal} {stamps_back picks_back : List ℕ} → r ≡ Err k
+        → WrittenThenRead head stamps picks n m (Err k) before after stamps_back stamps_back picks_back picks_back
     unfolding writer_outcome
     back_refused {k} e =
-        let h = refused_record (fields_refusal head stamps picks n m (length before)) _ w.answered e in
+        let h = was_err (λ size. size) (fields_refusal head stamps picks n m (length before)) _ w.answered e in
         record {
-          answered = rw h.0 (head_refused _ (told_by head) h.1);
+          answered = outcome_err told_by k (told_by head) (sym h.0);
           buffer = w.buffer;
           kept = λ x. (refl, refl);
-          stamps_same = λ x. absurd (h.1 x);
-          picks_same = λ x. absurd (h.1 x);
+          stamps_same = λ x. absurd (omega arith);
+          picks_same = λ x. absurd (omega arith);
         }
 
     -- The writer writes: the record stands at the front of the buffer.
@@ -119,11 +93,10 @@ module _ (head : Head) (stamps picks : List ℕ) (n m : ℕ) where
       pub inside : size ≤ length after
       pub bytes : take size after ≡ answer_bytes n (fields_of head stamps picks)
 
-    pub front : {size : ℕ} → r ≡ result.Record size → Front size
+    pub front : {size : ℕ} → r ≡ Ok size → Front size
     unfolding writer_outcome unless_refused written
     front {size} e =
-        let h = record_by (fields_refusal head stamps picks n m (length before)) _ w.answered e in
-        let s : List ℕ = answer_bytes n (fields_of head stamps picks) in
+        let h = was_ok (λ size. size) (fields_refusal head stamps picks n m (length before)) _ w.answered e in
         let room = roomy head stamps picks n m (length before) h.0 in
         let long : length (answer_bytes n (fields_of head stamps picks)) ≡ answer_size head.class n m = (write_read (fields_of head stamps picks) n m (length before) h.0).2 in
         let put_is : after ≡ put before 0 (answer_bytes n (fields_of head stamps picks)) = rw h.0 at w.buffer in
@@ -136,7 +109,7 @@ module _ (head : Head) (stamps picks : List ℕ) (n m : ℕ) where
         }
 
     -- What is read back from there.
-    pub back_read : {size : ℕ} {said : AnswerHead} {stamps-before stamps_back picks-before picks_back : List ℕ} → r ≡ result.Record size
+    pub back_read : {size : ℕ} {said : Result Head Refusal} {stamps-before stamps_back picks-before picks_back : List ℕ} → r ≡ Ok size
         → AnswerRead (take size after) n m said stamps-before stamps_back picks-before picks_back
         → WrittenThenRead head stamps picks n m said before after stamps-before stamps_back picks-before picks_back
     unfolding answer_outcome
@@ -154,7 +127,7 @@ module _ (head : Head) (stamps picks : List ℕ) (n m : ℕ) where
 -- ---- read and written back
 
 -- A buffer that is long enough takes the same bytes.
-again_enough : (s : List ℕ) (n m : ℕ) (r : Written) (before after : List ℕ) → Bytes s → answer_refusal s n m ≡ 0 → answer_most ≤ length before
+again_enough : (s : List ℕ) (n m : ℕ) (r : Result ℕ Refusal) (before after : List ℕ) → Bytes s → answer_refusal s n m ≡ 0 → answer_most ≤ length before
     → AnswerWritten (answer_of s n m) n m r before after → ReadThenWritten s n m r before after
 unfolding back_refusal writer_outcome outcome unless_refused answer_of
 again_enough s n m r before after b none room w =
@@ -170,7 +143,7 @@ unfolding writer_refusal writer_judged
 short_refused a n m room h k l = rw (le-ltb highest_n n h, le-ltb highest_m m k, lt-ltb room answer_most l)
 
 -- A shorter one gets 7.
-again_short : (s : List ℕ) (n m : ℕ) (r : Written) (before after : List ℕ) → answer_refusal s n m ≡ 0 → length before < answer_most
+again_short : (s : List ℕ) (n m : ℕ) (r : Result ℕ Refusal) (before after : List ℕ) → answer_refusal s n m ≡ 0 → length before < answer_most
     → AnswerWritten (answer_of s n m) n m r before after → ReadThenWritten s n m r before after
 unfolding back_refusal writer_outcome outcome unless_refused
 again_short s n m r before after none room w =
@@ -181,24 +154,20 @@ again_short s n m r before after none room w =
       buffer = w.buffer ∙ (rw (seven, none, lt-ltb (length before) answer_most room) refl);
     }
 
-module _ {s : List ℕ} {n m : ℕ} {said : AnswerHead} {stamps-before stamps picks-before picks : List ℕ}
+module _ {s : List ℕ} {n m : ℕ} {said : Result Head Refusal} {stamps-before stamps picks-before picks : List ℕ}
     (q : AnswerRead s n m said stamps-before stamps picks-before picks) where
   -- The reader refuses.
-  pub again_refused : {k : ℕ} (before : List ℕ) → said ≡ read_as.Refused k → ReadThenWritten s n m (result.Refused k) before before
+  pub again_refused : {k : Refusal} (before : List ℕ) → said ≡ Err k → ReadThenWritten s n m (Err k) before before
   unfolding answer_outcome back_refusal
   again_refused {k} before e =
-      let h = refused_by_lem (answer_refusal s n m) _ q.answered e in
-      let first_is : back_refusal s n m (length before) ≡ answer_refusal s n m = first_counts (answer_refusal s n m) _ h.1 in
+      let h = was_err told_by (answer_refusal s n m) _ q.answered e in
+      let first_is : answer_refusal s n m ≡ back_refusal s n m (length before) = first_counts (answer_refusal s n m) _ h.1 in
       record {
-        answered = rw (first_is, h.0) (refused_written (answer_refusal s n m) (length s) h.1);
-        buffer = rw first_is (kept_if (answer_refusal s n m) before (written before s) h.1);
+        answered = outcome_err (λ size. size) k (length s) (sym h.0 ∙ first_is);
+        buffer = rw (← first_is) (kept_if (answer_refusal s n m) before (written before s) h.1);
       }
-    where
-      first_counts : (a b : ℕ) → (a ≡ 0 → ⊥) → or_else a b ≡ a
-      first_counts zero b h = absurd (h refl)
-      first_counts (suc a) b h = refl
 
-  module _ {head : Head} (e : said ≡ read_as.Fields head) where
+  module _ {head : Head} (e : said ≡ Ok head) where
     -- The reader reads: the numbers that the code goes by.
     pub record ReadRight : Type 0 where
       pub none : answer_refusal s n m ≡ 0
@@ -211,7 +180,7 @@ module _ {s : List ℕ} {n m : ℕ} {said : AnswerHead} {stamps-before stamps pi
     pub read_right : ReadRight
     unfolding answer_outcome
     read_right =
-        let h = fields_by (answer_refusal s n m) _ q.answered e in
+        let h = was_ok told_by (answer_refusal s n m) _ q.answered e in
         let f = (answer_fits s n m).0 h.0 in
         record {
           none = h.0;
@@ -235,7 +204,7 @@ module _ {s : List ℕ} {n m : ℕ} {said : AnswerHead} {stamps-before stamps pi
         rw (h.is.class_is, x, y) (rw h.is.class_is at same)
 
     -- What is written back.
-    pub again_written : Bytes s → {r : Written} {before after : List ℕ}
+    pub again_written : Bytes s → {r : Result ℕ Refusal} {before after : List ℕ}
         → AnswerWritten (fields_of head (take (stamp_count head.class n) stamps) (take (pick_count head.class n m) picks)) n m r before after
         → ReadThenWritten s n m r before after
     again_written b {r} {before} {after} w =

@@ -1,76 +1,76 @@
--- Laws of writing: numbers stored byte by byte, runs of fields put one after the other, the refusals in the code's order.
-use Prim.Native.Nat.{ℕ, zero, suc, ◌+◌, ◌*◌, ◌-◌, ◌/◌, ◌%◌, ◌≤◌, ◌<◌}
-use mathlib.Core.Path.{◌≡◌, refl, ap, ap₂, sym, ◌∙◌}
-use mathlib.Core.Bool.{Bool, true, false, ◌&&◌, and-eq-true_iff}
-use mathlib.Core.Logic.{⊎_elim}
-use mathlib.Core.List.{List, [], ◌∷◌, ◌++◌, map, append_assoc}
-use native.Mathlib.Omega.{arith}
-use native.Mathlib.Numerals.{add-one}
-use native.Mathlib.Nat.{mul-le-mul_left}
-use lib.ListN.{length, get_or, set, drop, length-set, length-append, length-map, drop_of_length-le}
-use lib.Seq.{drop-cons}
-use borrow.Author.Tests.{eq-eqb, ne_eqb, le-ltb}
-use Rattle.definitions.specs.Limits.{highest_n, highest_m, answer_most, signed_half, signed_full, span_limit, stamp_limit, short_bytes, signed_bytes, answer_header, length_bytes, kind_place, n_place, class_place, span_place, start_place, answer_kind}
+-- Laws of writing: the low bytes of a number, runs of fields put one after the other, the refusals in the code's order.
+use Rattle.std.proofs.Common.{◌≡◌, ℕ, zero, suc, ◌+◌, ◌*◌, ◌-◌, ◌/◌, ◌%◌, ◌^◌, ◌≤◌, ◌<◌, Bool, true, false, ◌&&◌, List, [], ◌∷◌, ◌++◌, map, length, get_or, take, Ok, Err, refl, sym, ap, ap₂, ◌∙◌, ⊎_elim, append_assoc, add-one, length-append, length-take-le, mul-le-mul_left, arith}
+use Rattle.std.proofs.lemmas.List.{length-map}
+use Rattle.std.specs.Int.{w64, to_le_bytes, bytes_low_first, byte_at}
+use native.Mathlib.Nat.{div-one, div-div-eq-div-mul, suc-add, pow-suc}
+use mathlib.Core.Bool.{and-eq-true_iff}
+use mathlib.Core.List.{append-nil}
+use borrow.Rule.Slice.PartMut.{put_mid}
+use lib.Seq.{take-suc, take_all}
+use Rattle.std.proofs.lemmas.Slice.{put_mid-paste}
+use Rattle.definitions.specs.Limits.{highest_n, highest_m, signed_half, signed_full, span_limit, stamp_limit, short_bytes, signed_bytes, answer_header, length_bytes, kind_place, n_place, class_place, span_place, start_place, answer_kind}
 use Rattle.definitions.specs.Offset.{trop_of, off}
-use Rattle.definitions.specs.Bytes.{le, fields, put, field_of, trop_field, all, blank_or_within, or_else, outcome}
-use Rattle.definitions.specs.AnswerRecord.{known_class, start_fits, stamp_count, pick_count, answer_size, form_refusal, right_counts, writer_refusal, writer_judged, writer_outcome, answer_bytes, written}
-use Rattle.definitions.proofs.Bytes.{length_le, length_fields}
-use Rattle.definitions.proofs.Outcomes.{outcome-some}
+use Rattle.definitions.specs.Bytes.{le, fields, put, field_of, trop_field, all, blank_or_within, or_else}
+use Rattle.definitions.specs.AnswerRecord.{stamp_count, pick_count, answer_size, form_refusal, right_counts, writer_refusal, writer_judged, writer_outcome, answer_bytes, written}
+use Rattle.definitions.proofs.Bytes.{length_le, length_fields, fields_append}
 use Rattle.definitions.proofs.Offset.{trop_off, off_off, off_bound, field_of_trop_field, within_iff}
 use Rattle.definitions.proofs.Refusals.{limits_clause}
 use Rattle.definitions.proofs.AnswerFits.{writer_fits}
 use Rattle.definitions.proofs.RoundTrip.{span_within, stamps_within, size_most}
-use Rattle.definitions.proofs.Put.{put_nil, put_one, put_put, length_put}
-use Rattle.answer_writer.specs.AnswerWriting.{stored, header_bytes, record_bytes, written_of, unless_refused, AnswerWritten}
+use Rattle.definitions.proofs.Put.{put_nil, put_put, length_put}
+use Rattle.records.specs.declared.refusal.Refusal.{Refusal}
+use Rattle.records.specs.Refusals.{number_of}
+use Rattle.records.proofs.Refusing.{number_range, outcome_ok, outcome_err}
+use Rattle.answer_reader.proofs.Judging.{first_counts}
+use Rattle.answer_writer.specs.AnswerWriting.{header_bytes, record_bytes, unless_refused, AnswerWritten}
 use Rattle.answer_reader.specs.Fields.{fields_of}
 use Rattle.answer_reader.specs.declared.answer.Head.{Head}
-use Rattle.answer_writer.specs.declared.writer.Written.TheVariants.{Record, Refused}
 
 -- ---- one number
 
--- Bytes stored one after the other are the number put.
-pub stored_put : (k : ℕ) (l : List ℕ) (at x : ℕ) → at + k ≤ length l → stored k l at x ≡ put l at (le k x)
-unfolding stored le
-stored_put zero l at x h = sym (put_nil l at)
-stored_put (suc k) l at x h =
-    stored_put k (set l at (x % 256)) (at + 1) (x / 256) (rw length-set (omega arith))
-    ∙ rw (put_one l at (x % 256) (omega arith)) (put_put l at ((x % 256) ∷ []) (at + 1) (le k (x / 256)) (omega arith) refl)
+-- The low bytes of a number, by the library's words.
+bytes_from : (i k x : ℕ) → bytes_low_first i k x ≡ le k (x / 256 ^ i)
+unfolding le
+bytes_from i zero x = refl
+bytes_from zero (suc k) x = ap₂ ◌∷◌ (rw div-one refl) (bytes_from 1 k x ∙ rw div-one refl)
+bytes_from (suc i) (suc k) x =
+    let less : x / 256 ^ suc i / 256 ≡ x / 256 ^ suc (suc i) = div-div-eq-div-mul x (256 ^ suc i) 256 ∙ ap (λ (p : ℕ). x / p) (sym (pow-suc 256 (suc i))) in
+    rw less (ap (λ (l : List ℕ). x / 256 ^ suc i % 256 ∷ l) (bytes_from (suc (suc i)) k x))
+
+take_bytes : (i k j x : ℕ) → take k (bytes_low_first i (k + j) x) ≡ bytes_low_first i k x
+take_bytes i zero j x = refl
+take_bytes i (suc k) j x = rw suc-add (ap (λ (l : List ℕ). byte_at i x ∷ l) (take_bytes (suc i) k j x))
+
+pub low_bytes : (k x : ℕ) → k ≤ 8 → take k (to_le_bytes w64 x) ≡ le k x
+low_bytes k x h =
+    let e : k + (8 - k) ≡ 8 = omega arith in
+    let same : take k (bytes_low_first 0 (k + (8 - k)) x) ≡ le k x = take_bytes 0 k (8 - k) x ∙ bytes_from 0 k x ∙ rw div-one refl in
+    rw e at same
+
+-- They are put where they are copied to.
+pub copied_put : (l : List ℕ) (at k n x : ℕ) {ys : List ℕ} → ys ≡ le k x → n ≡ k → put_mid at n l ys ≡ put l at (le k x)
+unfolding put
+copied_put l at k n x e f =
+    put_mid-paste at n l _ (le k x) k e (sym f) (sym (length_le k x))
+    ∙ rw (take_all k (le k x) (rw length_le (omega arith)), length_le, append_assoc)
 
 -- ---- a run of fields
 
--- In the loop that puts a run of fields of k bytes from a place on: what remains, put from here, is the whole.
-pub record Remains (k : ℕ) (l : List ℕ) (at : ℕ) (xs : List ℕ) (now-is : List ℕ) (p i : ℕ) : Type 0 where
-  pub inside : i ≤ length xs
-  pub place : p ≡ at + k * i
-  pub same_length : length now-is ≡ length l
-  pub rest : put now-is p (fields k (drop i xs)) ≡ put l at (fields k xs)
+module _ (k : ℕ) (l : List ℕ) (at : ℕ) (xs : List ℕ) (room : at + k * length xs ≤ length l) {i : ℕ} {l₁ : List ℕ} (e : l₁ ≡ put l at (fields k (take i xs))) where
+  -- So far the length is as it was.
+  pub run_length : i ≤ length xs → length l₁ ≡ length l
+  run_length h =
+      let n : length (fields k (take i xs)) ≡ k * i = length_fields k (take i xs) ∙ rw (length-take-le i xs h) refl in
+      let less : k * i ≤ k * length xs = mul-le-mul_left k h in
+      rw e (length_put l at (fields k (take i xs)) (omega arith) (omega arith))
 
-pub remains_start : (k : ℕ) (l : List ℕ) (at : ℕ) (xs : List ℕ) → Remains k l at xs l at 0
-remains_start k l at xs = record { inside = omega arith; place = omega arith; same_length = refl; rest = refl }
-
--- One field more.
-pub remains_turn : {k : ℕ} {l : List ℕ} {at : ℕ} {xs : List ℕ} {l₁ l₂ : List ℕ} {p i x : ℕ} → Remains k l at xs l₁ p i → i < length xs
-    → at + k * length xs ≤ length l → x ≡ get_or xs i 0 → l₂ ≡ put l₁ p (le k x) → Remains k l at xs l₂ (p + k) (i + 1)
-unfolding fields
-remains_turn {k} {l} {at} {xs} {l₁} {l₂} {p} {i} {x} r h room e f =
-    let more : k * suc i ≤ k * length xs = mul-le-mul_left k h in
-    let fits : p + k ≤ length l₁ = omega (arith, r.place, r.same_length) in
-    let step : put (put l₁ p (le k x)) (p + k) (fields k (drop (i + 1) xs)) ≡ put l₁ p (le k x ++ fields k (drop (i + 1) xs)) =
-    put_put l₁ p (le k x) (p + k) (fields k (drop (i + 1) xs)) (omega arith) (rw length_le refl) in
-    let split : fields k (drop i xs) ≡ le k x ++ fields k (drop (i + 1) xs) = rw (drop-cons xs i 0 h, add-one, e) in
-    record {
-      inside = omega arith;
-      place = omega (arith, r.place);
-      same_length = rw f (length_put l₁ p (le k x) (omega arith) (rw length_le fits)) ∙ r.same_length;
-      rest = rw f (step ∙ rw (← split) r.rest);
-    }
-
--- No field is left.
-pub remains_end : {k : ℕ} {l : List ℕ} {at : ℕ} {xs : List ℕ} {l₁ : List ℕ} {p i : ℕ} → Remains k l at xs l₁ p i → length xs ≤ i
-    → l₁ ≡ put l at (fields k xs)
-unfolding fields
-remains_end {xs = xs} {l₁ = l₁} {p = p} r h =
-    sym (put_nil l₁ p) ∙ (rw (drop_of_length-le xs h) at r.rest)
+  -- One field more.
+  pub run_more : i < length xs → {x : ℕ} {l₂ : List ℕ} → x ≡ get_or xs i 0 → l₂ ≡ put l₁ (at + k * i) (le k x) → l₂ ≡ put l at (fields k (take (i + 1) xs))
+  unfolding fields
+  run_more h {x} {l₂} f g =
+      let n : length (fields k (take i xs)) ≡ k * i = length_fields k (take i xs) ∙ rw (length-take-le i xs (omega arith)) refl in
+      let more : fields k (take (i + 1) xs) ≡ fields k (take i xs) ++ le k x = rw (add-one, take-suc xs i 0 h, ← f) (fields_append k (take i xs) (x ∷ []) ∙ ap (λ (s : List ℕ). fields k (take i xs) ++ s) (append-nil (le k x))) in
+      g ∙ rw e (put_put l at (fields k (take i xs)) (at + k * i) (le k x) (omega arith) (omega arith) ∙ ap (put l at) (sym more))
 
 -- ---- several writes
 
@@ -121,34 +121,12 @@ record_put l size n head stamps picks {at = at} h e a b c =
     let t₃ = trail_put (fields short_bytes picks) t₂ c (simp (length-append, length_header, length_fields) e) (rw length_fields (omega arith)) in
     simp append_assoc at t₃.is
 
--- ---- refusals 4, 7, 10 and 11 in the code's order
-
-module _ (class start stamps picks n m room : ℕ) {known : Bool} (a : n ≤ highest_n) (b : m ≤ highest_m) (c : answer_most ≤ room)
-    (e : known ≡ (known_class class && start_fits class start n)) where
-  pub counts_class : known ≡ false → 10 ≡ writer_judged class start stamps picks n m room
-  unfolding writer_judged
-  counts_class f = rw (le-ltb highest_n n a, le-ltb highest_m m b, le-ltb room answer_most c, ← e, f)
-
-  pub counts_stamps : {k : ℕ} → known ≡ true → k ≡ stamp_count class n → (stamps ≡ k → ⊥) → 11 ≡ writer_judged class start stamps picks n m room
-  unfolding writer_judged
-  counts_stamps f g h = rw (le-ltb highest_n n a, le-ltb highest_m m b, le-ltb room answer_most c, ← e, f, ← g, ne_eqb stamps _ h)
-
-  pub counts_picks : {k j : ℕ} → known ≡ true → k ≡ stamp_count class n → stamps ≡ k → j ≡ pick_count class n m → (picks ≡ j → ⊥)
-      → 11 ≡ writer_judged class start stamps picks n m room
-  unfolding writer_judged
-  counts_picks f g h i j = rw (le-ltb highest_n n a, le-ltb highest_m m b, le-ltb room answer_most c, ← e, f, ← g, eq-eqb stamps _ h, ← i, ne_eqb picks _ j)
-
-  pub counts_right : {k j : ℕ} → known ≡ true → k ≡ stamp_count class n → stamps ≡ k → j ≡ pick_count class n m → picks ≡ j
-      → 0 ≡ writer_judged class start stamps picks n m room
-  unfolding writer_judged
-  counts_right f g h i j = rw (le-ltb highest_n n a, le-ltb highest_m m b, le-ltb room answer_most c, ← e, f, ← g, eq-eqb stamps _ h, ← i, eq-eqb picks _ j)
-
 -- ---- the whole refusal
 
 -- Nothing refused so far: n and m are within their limits.
-pub counts_limits : (class start stamps picks n m room : ℕ) {k : ℕ} → k ≡ writer_judged class start stamps picks n m room → k ≡ 0 → (n ≤ highest_n) × (m ≤ highest_m)
+pub counts_limits : (class start stamps picks n m room : ℕ) → 0 ≡ writer_judged class start stamps picks n m room → (n ≤ highest_n) × (m ≤ highest_m)
 unfolding writer_judged
-counts_limits class start stamps picks n m room e z = ((limits_clause n m _ _).0 (sym e ∙ z)).0
+counts_limits class start stamps picks n m room e = ((limits_clause n m _ _).0 (sym e)).0
 
 module _ (head : Head) (stamps picks : List ℕ) (n m room : ℕ) where
   refusal_split : writer_refusal (fields_of head stamps picks) n m room
@@ -156,17 +134,13 @@ module _ (head : Head) (stamps picks : List ℕ) (n m room : ℕ) where
   unfolding writer_refusal writer_judged right_counts
   refusal_split = rw length-map
 
-  pub counts_refused_lem : {k : ℕ} → k ≡ writer_judged head.class head.start (length stamps) (length picks) n m room → (k ≡ 0 → ⊥)
-      → k ≡ writer_refusal (fields_of head stamps picks) n m room
-  counts_refused_lem {k} e h = rw (refusal_split, ← e) (go k h)
-    where
-      go : (k : ℕ) → (k ≡ 0 → ⊥) → k ≡ or_else k (form_refusal (fields_of head stamps picks) n m)
-      go zero h = absurd (h refl)
-      go (suc k) h = refl
+  pub counts_refused : (r : Refusal) → number_of r ≡ writer_judged head.class head.start (length stamps) (length picks) n m room
+      → number_of r ≡ writer_refusal (fields_of head stamps picks) n m room
+  counts_refused r e = rw (refusal_split, ← e) (first_counts (number_of r) _ (number_range r).0)
 
-  pub counts_then_form : {k j : ℕ} → k ≡ writer_judged head.class head.start (length stamps) (length picks) n m room → k ≡ 0
+  pub counts_then_form : {j : ℕ} → 0 ≡ writer_judged head.class head.start (length stamps) (length picks) n m room
       → j ≡ form_refusal (fields_of head stamps picks) n m → j ≡ writer_refusal (fields_of head stamps picks) n m room
-  counts_then_form e z f = rw (refusal_split, ← e, z) f
+  counts_then_form e f = rw (refusal_split, ← e) f
 
 -- ---- the record is the answer's
 
@@ -183,6 +157,12 @@ fields_off limit [] l t = refl
 fields_off limit (x ∷ xs) l t =
     let b = (and-eq-true_iff (blank_or_within limit (trop_of x)) (all (blank_or_within limit) (map trop_of xs))).0 t in
     ap₂ ◌∷◌ (field_off limit x l b.0) (fields_off limit xs l b.1)
+
+-- What a refusal keeps.
+pub kept_if : (k : ℕ) (before after : List ℕ) → 0 < k → before ≡ unless_refused k before after
+unfolding unless_refused
+kept_if zero before after h = absurd (omega arith)
+kept_if (suc k) before after h = refl
 
 module _ (head : Head) (stamps picks : List ℕ) (n m : ℕ) where
   -- The numbers that the code goes by, where nothing is refused.
@@ -215,21 +195,17 @@ module _ (head : Head) (stamps picks : List ℕ) (n m : ℕ) where
       rw (a, b, c, d, e)
 
   -- Something is refused.
-  pub write_refused : {k : ℕ} {before : List ℕ} → k ≡ writer_refusal (fields_of head stamps picks) n m (length before) → (k ≡ 0 → ⊥)
-      → AnswerWritten (fields_of head stamps picks) n m (Refused k) before before
-  unfolding written_of writer_outcome unless_refused
-  write_refused {k} {before} e h =
-      record { answered = rw (← e) (sym (outcome-some k (answer_size head.class n m) h)); buffer = rw (← e) (kept k h) }
-    where
-      kept : (k : ℕ) → (k ≡ 0 → ⊥) → before ≡ unless_refused k before (written before (answer_bytes n (fields_of head stamps picks)))
-      kept zero h = absurd (h refl)
-      kept (suc k) h = refl
+  pub write_refused : (r : Refusal) {before : List ℕ} → number_of r ≡ writer_refusal (fields_of head stamps picks) n m (length before)
+      → AnswerWritten (fields_of head stamps picks) n m (Err r) before before
+  unfolding writer_outcome
+  write_refused r {before} e =
+      let some = number_range r in
+      record { answered = outcome_err (λ size. size) r (answer_size head.class n m) e; buffer = kept_if _ before _ (omega arith) }
 
   -- The record is written.
-  pub write_done : {k size : ℕ} {before after : List ℕ} → k ≡ writer_refusal (fields_of head stamps picks) n m (length before) → k ≡ 0
+  pub write_done : {size : ℕ} {before after : List ℕ} → 0 ≡ writer_refusal (fields_of head stamps picks) n m (length before)
       → size ≡ answer_size head.class n m → after ≡ put before 0 (record_bytes (size - 4) n head (map off stamps) picks)
-      → AnswerWritten (fields_of head stamps picks) n m (Record size) before after
-  unfolding written_of writer_outcome outcome unless_refused written
-  write_done {before = before} e z f g =
-      let none : writer_refusal (fields_of head stamps picks) n m (length before) ≡ 0 = sym e ∙ z in
-      record { answered = rw (none, f); buffer = rw none (g ∙ ap (put before 0) (record_answer (length before) _ none f)) }
+      → AnswerWritten (fields_of head stamps picks) n m (Ok size) before after
+  unfolding writer_outcome unless_refused written
+  write_done {size} {before} e f g =
+      record { answered = outcome_ok (λ size. size) size (answer_size head.class n m) (sym e) f; buffer = rw (← e) (g ∙ ap (put before 0) (record_answer (length before) _ (sym e) f)) }

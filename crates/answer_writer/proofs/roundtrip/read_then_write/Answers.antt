@@ -1,18 +1,19 @@
-use mathlib.Core.Path.{sym}
+use Rattle.std.proofs.lemmas.Result.{err_from_is_err_and}
 use Rattle.answer_writer.proofs.Trips.{read_right, again_refused, again_written}
 use Rattle.answer_writer.proofs.roundtrip.read_then_write.Goals as goal
 
-pub slice_bounds-write_counted-end : goal.slice_bounds-write_counted-end
-slice_bounds-write_counted-end c = sym (read_right c.read_answer-read.ensures c.in-Fields.is).stamps_width
+pub returns-in_err-head : goal.returns-in_err-head
+returns-in_err-head c =
+    let p = err_from_is_err_and c.from_residual.result c.from_residual.ensures.1 in
+    rw (p.1, p.2) (again_refused c.read_answer.ensures _ c.in_err-head.was)
 
-pub slice_bounds-write_counted-end-in-Fields : goal.slice_bounds-write_counted-end-in-Fields
-slice_bounds-write_counted-end-in-Fields c = sym (read_right c.read_answer-read.ensures c.in-Fields.is).picks_width
+pub stamp_count-s-requires : goal.stamp_count-s-requires
+stamp_count-s-requires c = (read_right c.read_answer.ensures c.in_ok-head.was).n_most
 
-pub write_counted-requires : goal.write_counted-requires
-write_counted-requires c = let h = read_right c.read_answer-read.ensures c.in-Fields.is in (h.n_most, h.m_most, h.stamps_width, h.picks_width)
+pub pick_count-p-requires : goal.pick_count-p-requires
+pick_count-p-requires c = let h = read_right c.read_answer.ensures c.in_ok-head.was in (h.n_most, h.m_most)
 
-pub returns-in-Fields : goal.returns-in-Fields
-returns-in-Fields c = again_written c.read_answer-read.ensures c.in-Fields.is (record { byte = λ i. (c.shared_slice_known-1.given i).fits }) c.write_counted.ensures
-
-pub returns-in-Refused : goal.returns-in-Refused
-returns-in-Refused c = again_refused c.read_answer-read.ensures _ c.in-Refused.is
+pub returns : goal.returns
+returns c =
+    again_written c.read_answer.ensures c.in_ok-head.was (record { byte = λ i. (c.type_inv.bytes i).fits })
+    (rw (← c.stamp_count-s.ensures.0, ← c.pick_count-p.ensures.0) c.write_answer.ensures)

@@ -1,28 +1,44 @@
-use Rattle.answer_writer.proofs.Writing.{counts_class, counts_stamps, counts_picks, counts_right}
-use Rattle.definitions.specs.AnswerRecord.{writer_judged}
-use borrow.Author.Tests.{lt-ltb, le-ltb}
+use Rattle.std.proofs.Common.{◌≡◌, sym, ◌∙◌, ◌&&◌, true, false, eqb, eq-eqb, ne_eqb}
+use Rattle.definitions.specs.AnswerRecord.{known_class, start_fits, stamp_count, pick_count, writer_judged}
+use Rattle.records.proofs.Tests.{tests}
 use Rattle.answer_writer.proofs.writer.judge_counts.Goals as goal
+use Rattle.answer_writer.proofs.writer.judge_counts.Goals.{then-n-gt-HIGHEST_N-via-then-n-gt-HIGHEST_N, then-n-gt-HIGHEST_N-via-else-n-gt-HIGHEST_N+then-m-gt-HIGHEST_M, then-stamps-stamp_count-via-then-stamps-stamp_count, then-stamps-stamp_count-via-else-stamps-stamp_count+then-picks-pick_count}
 
 pub returns-then-n-gt-HIGHEST_N : goal.returns-then-n-gt-HIGHEST_N
 unfolding writer_judged
-returns-then-n-gt-HIGHEST_N c = search lt-ltb
-
-pub returns-then-m-gt-HIGHEST_M : goal.returns-then-m-gt-HIGHEST_M
-unfolding writer_judged
-returns-then-m-gt-HIGHEST_M c = search (lt-ltb, le-ltb)
+returns-then-n-gt-HIGHEST_N c =
+    elim c.then-n-gt-HIGHEST_N.branch [ then-n-gt-HIGHEST_N-via-then-n-gt-HIGHEST_N w ↦ search tests | then-n-gt-HIGHEST_N-via-else-n-gt-HIGHEST_N+then-m-gt-HIGHEST_M w ↦ search tests ]
 
 pub returns-then-room-lt-ANSWER_MOST : goal.returns-then-room-lt-ANSWER_MOST
 unfolding writer_judged
-returns-then-room-lt-ANSWER_MOST c = search (lt-ltb, le-ltb)
+returns-then-room-lt-ANSWER_MOST c = search tests
 
 pub returns-then-not-start_fits : goal.returns-then-not-start_fits
-returns-then-not-start_fits c = counts_class _ _ _ _ _ _ _ c.if-n-gt-HIGHEST_N.false c.if-m-gt-HIGHEST_M.false c.if-room-lt-ANSWER_MOST.false c.start_fits.ensures c.if-not-start_fits.true
+unfolding writer_judged
+returns-then-not-start_fits c =
+    let h = c.args.head in
+    let known : (known_class h.class && start_fits h.class h.start c.args.n) ≡ false = sym c.start_fits.ensures ∙ c.if-not-start_fits.true in
+    search (tests, known)
 
 pub returns-then-stamps-stamp_count : goal.returns-then-stamps-stamp_count
-returns-then-stamps-stamp_count c = counts_stamps _ _ _ _ _ _ _ c.if-n-gt-HIGHEST_N.false c.if-m-gt-HIGHEST_M.false c.if-room-lt-ANSWER_MOST.false c.start_fits.ensures c.if-not-start_fits.false c.stamp_count.ensures.0 c.if-stamps-stamp_count.true
-
-pub returns-then-picks-pick_count : goal.returns-then-picks-pick_count
-returns-then-picks-pick_count c = counts_picks _ _ _ _ _ _ _ c.if-n-gt-HIGHEST_N.false c.if-m-gt-HIGHEST_M.false c.if-room-lt-ANSWER_MOST.false c.start_fits.ensures c.if-not-start_fits.false c.stamp_count.ensures.0 c.if-stamps-stamp_count.false c.pick_count.ensures.0 c.if-picks-pick_count.true
+unfolding writer_judged
+returns-then-stamps-stamp_count c =
+    let h = c.args.head in
+    let known : (known_class h.class && start_fits h.class h.start c.args.n) ≡ true = sym c.start_fits.ensures ∙ c.if-not-start_fits.false in
+    elim c.then-stamps-stamp_count.branch [
+      | then-stamps-stamp_count-via-then-stamps-stamp_count w ↦
+          (let stamps : eqb c.args.stamps (stamp_count h.class c.args.n) ≡ false = ne_eqb _ _ (λ s. w.if-stamps-stamp_count.true (s ∙ sym c.stamp_count.ensures.0)) in search (tests, known, stamps))
+      | then-stamps-stamp_count-via-else-stamps-stamp_count+then-picks-pick_count w ↦
+          (let stamps : eqb c.args.stamps (stamp_count h.class c.args.n) ≡ true = eq-eqb _ _ (w.if-stamps-stamp_count.false ∙ c.stamp_count.ensures.0) in
+          let picks : eqb c.args.picks (pick_count h.class c.args.n c.args.m) ≡ false = ne_eqb _ _ (λ s. w.if-picks-pick_count.true (s ∙ sym w.pick_count.ensures.0)) in
+          search (tests, known, stamps, picks))
+    ]
 
 pub returns : goal.returns
-returns c = counts_right _ _ _ _ _ _ _ c.if-n-gt-HIGHEST_N.false c.if-m-gt-HIGHEST_M.false c.if-room-lt-ANSWER_MOST.false c.start_fits.ensures c.if-not-start_fits.false c.stamp_count.ensures.0 c.if-stamps-stamp_count.false c.pick_count.ensures.0 c.if-picks-pick_count.false
+unfolding writer_judged
+returns c =
+    let h = c.args.head in
+    let known : (known_class h.class && start_fits h.class h.start c.args.n) ≡ true = sym c.start_fits.ensures ∙ c.if-not-start_fits.false in
+    let stamps : eqb c.args.stamps (stamp_count h.class c.args.n) ≡ true = eq-eqb _ _ (c.if-stamps-stamp_count.false ∙ c.stamp_count.ensures.0) in
+    let picks : eqb c.args.picks (pick_count h.class c.args.n c.args.m) ≡ true = eq-eqb _ _ (c.if-picks-pick_count.false ∙ c.pick_count.ensures.0) in
+    search (tests, known, stamps, picks)

@@ -1,16 +1,12 @@
-use Rattle.answer_writer.proofs.Writing.{remains_start, remains_turn, remains_end}
-use mathlib.Core.Path.{refl}
-use native.Mathlib.Omega.{arith}
+use Rattle.std.proofs.Common.{sym, refl, arith}
+use Rattle.definitions.specs.Bytes.{fields}
+use Rattle.definitions.proofs.Put.{put_nil}
+use Rattle.answer_writer.proofs.Writing.{run_more}
 use Rattle.answer_writer.proofs.writer.put_picks.Goals as goal
 
 pub loop-i-init : goal.loop-i-init
-loop-i-init c = remains_start _ _ _ _
+unfolding fields
+loop-i-init c = sym (put_nil c.args.buffer.now c.args.at)
 
 pub loop-i-preserved : goal.loop-i-preserved
-loop-i-preserved c = remains_turn c.loop-i.invariant (omega arith) c.requires refl c.put_short.ensures
-
-pub shape_of-buffer : goal.shape_of-buffer
-shape_of-buffer c = c.loop-i.invariant.same_length
-
-pub returns : goal.returns
-returns c = remains_end c.loop-i.invariant (omega arith)
+loop-i-preserved c = run_more 2 c.args.buffer.now c.args.at c.args.picks.now c.requires c.loop-i.invariant (omega arith) refl c.put_short.ensures

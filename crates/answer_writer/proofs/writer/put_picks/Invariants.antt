@@ -1,10 +1,6 @@
-use Rattle.answer_writer.proofs.Writing.{Remains}
-use lib.ListN.{length}
-use Prim.Native.Nat.{◌-◌}
+use Rattle.std.proofs.Common.{◌≡◌, take}
+use Rattle.definitions.specs.Bytes.{fields, put}
 use Rattle.answer_writer.proofs.writer.put_picks.Given as goal
 
 abbrev pub invariant-loop-i : goal.invariant-loop-i
-invariant-loop-i l = Remains 2 l.initial.buffer l.at l.picks l.buffer l.p l.i
-
-abbrev pub decreases-loop-i : goal.decreases-loop-i
-decreases-loop-i l = length l.picks - l.i
+invariant-loop-i l = l.buffer ≡ put l.initial.buffer l.at (fields 2 (take l.i l.picks))

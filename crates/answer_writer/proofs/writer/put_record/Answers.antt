@@ -1,8 +1,7 @@
-use Rattle.answer_writer.proofs.Writing.{record_put}
+use Rattle.std.proofs.Common.{map, arith}
+use Rattle.std.proofs.lemmas.List.{length-map}
 use Rattle.definitions.specs.Offset.{off}
-use lib.ListN.{length-map}
-use mathlib.Core.List.{map}
-use native.Mathlib.Omega.{arith}
+use Rattle.answer_writer.proofs.Writing.{record_put}
 use Rattle.answer_writer.proofs.writer.put_record.Goals as goal
 
 pub returns : goal.returns

@@ -1,12 +1,7 @@
-use Rattle.answer_writer.proofs.Writing.{Remains}
+use Rattle.std.proofs.Common.{◌≡◌, map, take}
+use Rattle.definitions.specs.Bytes.{fields, put}
 use Rattle.definitions.specs.Offset.{off}
-use mathlib.Core.List.{map}
-use lib.ListN.{length}
-use Prim.Native.Nat.{◌-◌}
 use Rattle.answer_writer.proofs.writer.put_stamps.Given as goal
 
 abbrev pub invariant-loop-i : goal.invariant-loop-i
-invariant-loop-i l = Remains 4 l.initial.buffer l.at (map off l.stamps) l.buffer l.p l.i
-
-abbrev pub decreases-loop-i : goal.decreases-loop-i
-decreases-loop-i l = length l.stamps - l.i
+invariant-loop-i l = l.buffer ≡ put l.initial.buffer l.at (fields 4 (take l.i (map off l.stamps)))
