@@ -1,5 +1,5 @@
 -- Laws of a row that lowers the values of its variables.
-use Prim.Native.Nat.{ℕ, ◌+◌, ◌/◌, ◌%◌, ◌≤◌, ◌<◌}
+use Prim.Native.Nat.{ℕ, ◌+◌, ◌≤◌, ◌<◌}
 use mathlib.Core.Path.{◌≡◌, refl, sym, subst, ◌∙◌}
 use mathlib.Core.Logic.{inl, inr, ⊎_elim}
 use mathlib.Core.List.{List}
@@ -8,7 +8,8 @@ use lib.ListN.{length, get_or, set, length-set}
 use borrow.Author.Tests.{lt-ltb, le-ltb}
 use lib.Seq.{get_or-set_same, get_or-set_other}
 use Rattle.base.proofs.Numbers.{nat_le_or_lt, same_or_not, one_more}
-use Rattle.policy_iteration.specs.Ends.{RowEnds}
+use Rattle.policy_iteration.specs.Ends.{Holds}
+use Rattle.policy_iteration.specs.declared.ends.Ends.{Ends}
 use Rattle.policy_iteration.specs.Steps.{lesser, chosen_by, given_by, LoweredPlace, SamePlace, LoweredOne, LoweredAll, Lowered}
 
 pub lesser_first : (a b : ℕ) → a < b → a ≡ lesser a b
@@ -76,19 +77,19 @@ pub lowered_all : {left x picks x' picks' : List ℕ} {i top n : ℕ} → Lowere
 lowered_all w h = record { x_size = w.x_size; picks_size = w.picks_size; each = λ j b. inl (w.each j (omega arith)) }
 
 -- The places at the ends of a row.
-pub lowered_ends : (left x picks : List ℕ) (i top ends : ℕ) (y there x' picks' : List ℕ) → RowEnds left i ends → ends < 1024
-    → LoweredOne left i top (ends / 32) x picks y there → LoweredOne left i top (ends % 32) y there x' picks' → LoweredAll left i top x picks x' picks'
-lowered_ends left x picks i top ends y there x' picks' r b p q = record {
+pub lowered_ends : (left x picks : List ℕ) (i top : ℕ) (ends : Ends) (y there x' picks' : List ℕ) → Holds left i ends
+    → LoweredOne left i top ends.first x picks y there → LoweredOne left i top ends.last y there x' picks' → LoweredAll left i top x picks x' picks'
+lowered_ends left x picks i top ends y there x' picks' r p q = record {
   x_size = q.x_size;
   picks_size = q.picks_size;
   each = λ j h. ⊎_elim
-      (λ (e : j ≡ ends % 32). inl (rw e (⊎_elim
+      (λ (e : j ≡ ends.last). inl (rw e (⊎_elim
       (λ d. lowered_twice (subst (λ (j : ℕ). LoweredPlace left i top j x picks y there) (sym d) p.here) q.here)
-      (λ d. same_lowered (p.others (ends % 32) d) q.here)
-      (same_or_not (ends % 32) (ends / 32)))))
+      (λ d. same_lowered (p.others ends.last d) q.here)
+      (same_or_not ends.last ends.first))))
       (λ n. ⊎_elim
-      (λ (e : j ≡ ends / 32). inl (lowered_same (subst (λ (j : ℕ). LoweredPlace left i top j x picks y there) (sym e) p.here) (q.others j n)))
-      (λ m. inr (r.others b j h m n, same_same (p.others j m) (q.others j n)))
-      (same_or_not j (ends / 32)))
-      (same_or_not j (ends % 32));
+      (λ (e : j ≡ ends.first). inl (lowered_same (subst (λ (j : ℕ). LoweredPlace left i top j x picks y there) (sym e) p.here) (q.others j n)))
+      (λ m. inr (r.others j h m n, same_same (p.others j m) (q.others j n)))
+      (same_or_not j ends.first))
+      (same_or_not j ends.last);
 }
