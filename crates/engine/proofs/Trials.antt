@@ -33,7 +33,7 @@ use Rattle.search.proofs.Trials.{finds}
 use Rattle.search.proofs.Underway.{start_underway, underway_more}
 use Rattle.look.specs.declared.frame.Frame.{Frame}
 use Rattle.look.specs.declared.greatest.Look.{Look}
-use Rattle.look.specs.Frames.{Coefficients, Held}
+use Rattle.look.specs.Frames.{FrameOf, Held}
 use Rattle.look.specs.Look.{Looked}
 use Rattle.look.proofs.Tables.{decoded_held}
 use Rattle.class_answers.specs.declared.answer.Answer.{Answer}
@@ -87,20 +87,32 @@ begun_refused read e = record { refused_is = sym (read.refused _ e).0; begun = �
 
 -- ---- the look
 
-module _ {s : List ℕ} {n m : ℕ} {left right : List ℕ} (tables : TablesOf s n m left right) where
-  -- A look at the tables, or an answer, is one of the problem.
-  tables_looked : {k : Look} → Looked n m left right k → LookedAt s k
-  tables_looked look = rw (← tables.n_is, ← tables.m_is, ← tables.left_is, ← tables.right_is) look
+module _ {s : List ℕ} {n m : ℕ} {left right : List ℕ} {f : Frame} (tables : TablesOf s n m left right) (framed : FrameOf n m left right f) where
+  n_same : f.n ≡ n_field s
+  n_same = framed.n_is ∙ tables.n_is
 
-  pub looked_tables : {k : Look} → LookedAt s k → Looked n m left right k
-  looked_tables look = rw (tables.n_is, tables.m_is, tables.left_is, tables.right_is) look
+  m_same : f.m ≡ m_field s
+  m_same = framed.m_is ∙ tables.m_is
 
-  pub answer_kept : {found : Found} {a : Answer} {second : ℕ} {cells : List ℕ} → AnswerOf n m left right found a → PackedCells a.stamps a.picks 32 cells
+  left_same : f.left.now ≡ left_table s
+  left_same = framed.left_is ∙ tables.left_is
+
+  right_same : f.right.now ≡ right_table s
+  right_same = framed.right_is ∙ tables.right_is
+
+  -- A look by the frame, or an answer, is one of the problem.
+  framed_looked : {k : Look} → Looked f.n f.m f.left.now f.right.now k → LookedAt s k
+  framed_looked look = rw (← n_same, ← m_same, ← left_same, ← right_same) look
+
+  pub looked_framed : {k : Look} → LookedAt s k → Looked f.n f.m f.left.now f.right.now k
+  looked_framed look = rw (n_same, m_same, left_same, right_same) look
+
+  pub answer_kept : {found : Found} {a : Answer} {second : ℕ} {cells : List ℕ} → AnswerOf f.n f.m f.left.now f.right.now found a → PackedCells a.stamps a.picks 32 cells
       → AnswerKept s second found (record { start = a.start; second = second; picks = cells })
-  answer_kept {a = a} o c = record { answer = a; shows = rw (← tables.n_is, ← tables.m_is, ← tables.left_is, ← tables.right_is) o; start_is = refl; second_is = refl; packed = c }
+  answer_kept {a = a} o c = record { answer = a; shows = rw (← n_same, ← m_same, ← left_same, ← right_same) o; start_is = refl; second_is = refl; packed = c }
 
-  pub looked_new : {p : Pending} {k : Look} → Looked n m left right k → p.search.made ≡ 0 → LookFor s p k
-  looked_new look e = record { bytes = tables.bytes; looked = tables_looked look; stays = λ h. absurd (omega arith) }
+  pub looked_new : {p : Pending} {k : Look} → Looked f.n f.m f.left.now f.right.now k → p.search.made ≡ 0 → LookFor s p k
+  looked_new look e = record { bytes = tables.bytes; looked = framed_looked look; stays = λ h. absurd (omega arith) }
 
 -- A look that was made stays.
 pub looked_kept : (s : List ℕ) {p : Pending} → Bytes s → PendingFor (meant s) p → (p.search.made ≡ 0 → ⊥) → LookFor (meant s) p p.kept

@@ -7,11 +7,11 @@ returns-then-answer-room_for c = search refuses_room
 pub solve_questions-requires : goal.solve_questions-requires
 solve_questions-requires c = search several_read
 
-pub returns-then-layout-eq-QUESTIONS_KIND : goal.returns-then-layout-eq-QUESTIONS_KIND
-returns-then-layout-eq-QUESTIONS_KIND c = search several_solves
+pub returns-in-Questions : goal.returns-in-Questions
+returns-in-Questions c = search several_solves
 
-pub solve_one-one-requires : goal.solve_one-one-requires
-solve_one-one-requires c = (search one_tables, search one_room)
+pub solve_one-requires : goal.solve_one-requires
+solve_one-requires c = (search one_tables, search one_room)
 
 pub returns : goal.returns
 returns c = search solves_one
