@@ -4,6 +4,7 @@ use mathlib.Core.Path.{◌≡◌, refl, sym, ap, subst, ◌∙◌}
 use Rattle.std.specs.Prelude.{Option, Some, None}
 use mathlib.Core.Bool.{Bool, true, false, not}
 use Rattle.std.specs.Bool.{then_some}
+use Rattle.std.specs.Option.{unwrap_or}
 use borrow.Author.Rules.{rules}
 use mathlib.Core.Logic.{◌⊎◌, inl, inr, ⊎_elim}
 use native.Mathlib.Omega.{arith}
@@ -36,6 +37,10 @@ class_back None = refl
 class_back (Some Optimal) = refl
 class_back (Some Unbounded) = refl
 class_back (Some Infeasible) = refl
+
+-- so that classes of one number are one,
+pub number_class : (c d : Class) → class_number c ≡ class_number d → c ≡ d
+number_class c d e = ap (λ (o : Option Class). unwrap_or o c) (sym (class_back (Some c)) ∙ ap class_from e ∙ class_back (Some d))
 
 -- and the word of a class from a word is that word.
 pub word_back : (w : ℕ) → w ≤ class_infeasible → class_word (class_from w) ≡ w
@@ -250,8 +255,7 @@ module _ {second : ℕ} {s : Search} where
       same None (Some c) e f = absurd (clash q r m k e f)
       same (Some c) None e f = absurd (clash r q k m f e)
       same (Some c) (Some d) e f =
-          let n : class_number c ≡ class_number d = (found_one (m.ends c e) (k.ends d f)).class_same in
-          e ∙ sym (class_back (Some c)) ∙ ap class_from n ∙ class_back (Some d) ∙ sym f
+          e ∙ ap (λ (k : Class). Some k) (number_class c d (found_one (m.ends c e) (k.ends d f)).class_same) ∙ sym f
 
   -- so that what it leaves is one.
   pub tried_one : {q r : Search} → Tried second s q → Tried second s r → q ≡ r
