@@ -26,8 +26,8 @@ pub kept_solves : (kept : List ℕ) {size : ℕ} {before : List ℕ} {r : Result
 kept_solves kept {before = before} {r} {after} s input k h = subst (λ (x : List ℕ). Solves (meant x) before r after) (sym (kept_whole k h)) s
 
 -- A longer one is refused by its header: no problem is that long.
-pub long_not_ok : (kept : List ℕ) (size : ℕ) {r : Result Layout Refusal} → kept_bytes < size → header_of r ≡ header_outcome engine_kinds kept size → IsErr r
-long_not_ok kept size {r} h e = go r e
+pub long_not_ok : (kept : List ℕ) (size : ℕ) (r : Result Layout Refusal) → kept_bytes < size → header_of r ≡ header_outcome engine_kinds kept size → IsErr r
+long_not_ok kept size r h e = go r e
   where
     go : (q : Result Layout Refusal) → header_of q ≡ header_outcome engine_kinds kept size → IsErr q
     go (Ok l) e = absurd (omega (arith, header_most engine_kinds kept size (header_fits engine_kinds kept size e refl).none))

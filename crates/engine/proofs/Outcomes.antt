@@ -3,16 +3,18 @@ use Prim.Native.Nat.{ℕ, zero, suc, ◌*◌, ◌≤◌, ◌<◌}
 use mathlib.Core.Path.{◌≡◌, refl, ap, sym, subst₂, ◌∙◌}
 use mathlib.Core.Bool.{Bool, cond}
 use mathlib.Core.List.{List}
+use mathlib.Core.Logic.{◌⊎◌, ⊎_elim}
 use native.Mathlib.Omega.{arith}
 use lib.ListN.{length, take, length-take, length-map}
 use borrow.Author.Tests.{lt-ltb, ne_eqb}
 use Rattle.definitions.specs.Limits.{answer_most, questions_kind}
-use Rattle.definitions.specs.Bytes.{Bytes, Outcome, gives}
+use Rattle.definitions.specs.Bytes.{Bytes, gives}
 use Rattle.definitions.specs.Offset.{trop_of}
-use Rattle.definitions.specs.Problem.{Problem}
+use Rattle.definitions.specs.Problem as Problems
 use Rattle.definitions.specs.ProblemRecord.{Kinds, engine_kinds, AsksOne, kind_field, n_field, m_field, count_field, questions_asked, layout_of, refusal_for, record_refusal, problem_outcome, WithinLayout, problem_of, meant}
 use Rattle.definitions.specs.AnswerRecord.{stamp_count, pick_count, answer_size, answer_bytes, writer_outcome, written}
 use Rattle.definitions.specs.Questions.{asking}
+use Rattle.definitions.specs.Solved as Results
 use Rattle.definitions.specs.Solved.{Answers, Solves, turned_away, solved, engine_refusal}
 use Rattle.definitions.proofs.Questions.{asking_itself}
 use Rattle.definitions.proofs.IdleDay.{several_itself, meant_bytes}
@@ -22,7 +24,7 @@ use Rattle.definitions.proofs.AnswerFits.{WriterFits, writer_fits}
 use Rattle.definitions.proofs.Outcomes.{outcome-none}
 use Rattle.definitions.proofs.Solved.{answers_taken, none_refused, Wrote, wrote, WroteAll, wrote_all}
 use Rattle.std.specs.Prelude.{Result, Ok, Err, IsOk}
-use Rattle.records.specs.declared.problem.Kind.TheVariants.{Questions}
+use Rattle.records.specs.declared.problem.Kind.TheVariants.{Problem, Questions, States}
 use Rattle.records.specs.declared.problem.Layout.{Layout}
 use Rattle.records.specs.declared.refusal.Refusal.{Refusal}
 use Rattle.records.specs.declared.refusal.Refusal.TheVariants.{Room}
@@ -49,12 +51,12 @@ use Rattle.engine.specs.Outcome.{solved_of, shown_in, Gives, Writes, SolvedAs, F
 
 -- The writer was handed what was found, cut to the counts of the class.
 module _
-    {n m s p : ℕ} {a : Answer} {before after : List ℕ} {r : Result ℕ Refusal} (found : FoundFor n m (length before) a)
-    (wrote : AnswerWritten (fields_of (record { class = class_number a.class; span = a.span; start = a.start }) (take s a.stamps) (take p a.picks)) n m r before after)
-    (s-is : s ≡ stamp_count (class_number a.class) n) (p-is : p ≡ pick_count (class_number a.class) n m)
+    {n m k s p : ℕ} {a : Answer} {before after : List ℕ} {r : Result ℕ Refusal} (found : FoundFor n m (length before) a)
+    (wrote : AnswerWritten (fields_of (record { class = k; span = a.span; start = a.start }) (take s a.stamps) (take p a.picks)) n m r before after)
+    (k-is : k ≡ class_number a.class) (s-is : s ≡ stamp_count k n) (p-is : p ≡ pick_count k n m)
   where
     handed : AnswerWritten (shown_in n m a) n m r before after
-    handed = rw (s-is, p-is) at wrote
+    handed = rw (s-is, p-is, k-is) at wrote
 
     record_answered : written_of r ≡ gives (answer_size (class_number a.class) n m)
     unfolding writer_outcome
@@ -82,7 +84,7 @@ cut_enough : (k : ℕ) (xs : List ℕ) → length (take k xs) ≡ k → k ≤ le
 cut_enough k xs e = omega (arith, length-take k xs)
 
 pub found_for :
-    {p : Problem} {n m room trials : ℕ} {left right : List ℕ} {a : Answer} → p.n ≡ n → p.m ≡ m → Coefficients n m left right → answer_most ≤ room
+    {p : Problems.Problem} {n m room trials : ℕ} {left right : List ℕ} {a : Answer} → p.n ≡ n → p.m ≡ m → Coefficients n m left right → answer_most ≤ room
     → Answers p (class_number a.class) (trop_of a.span) trials (shown_in n m a) → FoundFor n m room a
 found_for {n = n} {m} {room} {a = a} e f c long ans =
     let w : WriterFits (shown_in n m a) n m room =
@@ -98,7 +100,7 @@ found_for {n = n} {m} {room} {a = a} e f c long ans =
 -- ---- one answer
 
 -- The tables of a problem are such as the search takes; and some problem stands in such tables.
-pub stands_tables : {p : Problem} {n m : ℕ} {left right : List ℕ} → InTables p n m left right → Coefficients n m left right
+pub stands_tables : {p : Problems.Problem} {n m : ℕ} {left right : List ℕ} → InTables p n m left right → Coefficients n m left right
 stands_tables o =
     let d = o.decoded in
     record {
@@ -127,7 +129,7 @@ tables_stand {n} {m} {left} {right} c =
     }
 
 module _ {n m : ℕ} {left right : List ℕ} {a : Answer} (found : Answered n m left right a) where
-  answers : (p : Problem) → InTables p n m left right → Answers p (class_number a.class) (trop_of a.span) a.trials (shown_in n m a)
+  answers : (p : Problems.Problem) → InTables p n m left right → Answers p (class_number a.class) (trop_of a.span) a.trials (shown_in n m a)
   answers p s = found.answers p s.decoded s.n_is s.m_is
 
   -- What was found is written,
@@ -143,10 +145,11 @@ module _ {n m : ℕ} {left right : List ℕ} {a : Answer} (found : Answered n m 
 
 pub refuses_with : (p before : List ℕ) (r : Refusal) → record_refusal p ≡ number_of r → SolvedAs p before (Err r) before
 unfolding engine_refusal solved_of
-refuses_with p before r e = record {
-  solves = let some = (number_range r).0 in turned_away (or_else_suc (record_refusal p) _ (rw e some) ∙ e);
-  writes = Writes.refused;
-}
+refuses_with p before r e = record { solves = go (number_of r) (number_range r).0 e; writes = Writes.refused }
+  where
+    go : (k : ℕ) → 0 < k → record_refusal p ≡ k → Solves p before (Results.refused k) before
+    go zero h e = absurd (omega arith)
+    go (suc k) h e = turned_away (or_else_suc (record_refusal p) _ (rw e h) ∙ e)
 
 -- What was read, or refused.
 pub layout_read : {kinds : Kinds} (p : List ℕ) {left right left' right' : List ℕ} {r : Result Layout Refusal} → Bytes p → ProblemRead kinds (meant p) left right r left' right'
@@ -170,7 +173,6 @@ layout_read {kinds} p b r = record {
 }
   where
     was_err_some : {q : Result Layout Refusal} {k : Refusal} → q ≡ Err k → header_of q ≡ problem_outcome kinds (meant p) → (refusal_for kinds (meant p) ≡ number_of k) × (0 < number_of k)
-    unfolding problem_outcome
     was_err_some {k = k} f e = let g = was_err layout_in (refusal_for kinds (meant p)) (layout_of (meant p)) e f in (g.0, (number_range k).0)
 
 -- A problem that is refused.
@@ -207,7 +209,13 @@ module _ {p : List ℕ} {l : Layout} {left right : List ℕ} (read : Read engine
   pub nothing_refused : {room : ℕ} → l.questions * answer_most ≤ room → engine_refusal p room ≡ 0
   nothing_refused {room} h = (none_refused p room).1 (read.within, rw (← read.questions_is) h)
 
-  -- One question.
+  -- A record of another kind asks one question.
+  pub not_several : (l.kind ≡ Problem) ⊎ (l.kind ≡ States) → kind_number l.kind ≡ questions_kind → ⊥
+  not_several e h = ⊎_elim
+      (λ (p : l.kind ≡ Problem). absurd (let z : 1 ≡ 3 = rw p at h in omega arith))
+      (λ (p : l.kind ≡ States). absurd (let z : 5 ≡ 3 = rw p at h in omega arith))
+      e
+
   module _ (k : kind_number l.kind ≡ questions_kind → ⊥) where
     one_kind : AsksOne p
     one_kind = ne_eqb (kind_field p) questions_kind (λ e. k (read.kind_is ∙ e))

@@ -28,7 +28,7 @@ use Rattle.problem_records.specs.Tables.{left_table, right_table}
 use Rattle.search.specs.declared.search.Found.{Found}
 use Rattle.search.specs.declared.steps.Search.{Search}
 use Rattle.search.specs.Trials.{FoundBy, whole_of, Trialled, PossibleBy}
-use Rattle.search.specs.Underway.{class_word, at_start, span_of, found_of, Underway, Tried}
+use Rattle.search.specs.Underway.{class_word, span_of, found_of, Underway, Tried}
 use Rattle.search.proofs.Trials.{finds}
 use Rattle.search.proofs.Underway.{start_underway, underway_more}
 use Rattle.look.specs.declared.frame.Frame.{Frame}
@@ -39,11 +39,10 @@ use Rattle.look.proofs.Tables.{decoded_held}
 use Rattle.class_answers.specs.declared.answer.Answer.{Answer}
 use Rattle.class_answers.specs.Answered.{answer_in, AnswerOf}
 use Rattle.class_answers.proofs.Found.{looked_found, looked_possible}
-use Rattle.engine.specs.declared.solve.Answered as Own
 use Rattle.engine.specs.declared.one_trial.Pending.{Pending}
 use Rattle.engine.specs.Outcome.{FoundFor, Read, LayoutRead}
 use Rattle.engine.specs.Packing.{stamp_in, pick_at, Packable, PackedCells}
-use Rattle.engine.specs.OneTrial.{fresh, class_in, span_in, TablesOf, LookedAt, AnswerKept, Of, PendingFor, BegunFor, LookFor, TrialFor, IsAnswered, HandedOver}
+use Rattle.engine.specs.OneTrial.{fresh, class_in, TablesOf, LookedAt, AnswerKept, Of, PendingFor, BegunFor, LookFor, TrialFor, IsAnswered, HandedOver}
 use Rattle.engine.proofs.Packing.{stamps_back, picks_back}
 use Rattle.engine.proofs.Outcomes.{found_for, stands_tables, within_stands, read_stands}
 
@@ -207,6 +206,9 @@ module _ {s : List ℕ} {p : Pending} {k : Look} {r : Search} (g : PendingFor s 
     in_search : FoundIn r f
     in_search = found_in r some
 
+    class_same : class_number f.class ≡ class_word r.class
+    class_same = sym (ap class_word in_search.class_is)
+
     closed : r.class ≡ None → ⊥
     closed e = let z : Some f.class ≡ None = sym in_search.class_is ∙ e in cc
 
@@ -231,12 +233,12 @@ module _ {s : List ℕ} {p : Pending} {k : Look} {r : Search} (g : PendingFor s 
           picks = o.answer.picks;
           packable = answer_packable o.shows;
           packed = o.packed;
-          answers = rw (o.start_is, in_search.class_is) (rw (o.shows.class_is, o.shows.span_is, o.shows.trials_is, in_search.span_is, in_search.trials_is) at (o.shows.answers (problem_of s) held));
+          answers = rw o.start_is (rw (o.shows.class_is, o.shows.span_is, o.shows.trials_is, in_search.span_is, in_search.trials_is, class_same) at (o.shows.answers (problem_of s) held));
           gives = record {
             found = o.answer;
             n_most = (stands_tables stands).n_most;
             given = o.shows.given;
-            is = rw (o.start_is, in_search.class_is, o.shows.class_is, o.shows.span_is, in_search.span_is) refl;
+            is = rw (o.start_is, o.shows.class_is, o.shows.span_is, in_search.span_is, class_same) refl;
           };
         },
         t.trial.counted,
@@ -259,14 +261,14 @@ module _ {p : Pending} {f : Found} {stamps picks : List ℕ} (g : IsAnswered p) 
   in_pending : FoundIn p.search f
   in_pending = found_in p.search some
 
-  class_same : class_in p ≡ class_number f.class
-  class_same = ap class_word in_pending.class_is
+  class_told : class_in p ≡ class_number f.class
+  class_told = ap class_word in_pending.class_is
 
   pub cells_found : {room : ℕ} → answer_most ≤ room → FoundFor p.n p.m room (record { class = f.class; span = f.span; start = p.kept.start; trials = f.trials; stamps = stamps; picks = picks })
   cells_found h =
       let a = g.answered in
       let s = within_stands g.bytes (desk_within g.problem a.of.within) in
-      rw (a.of.n_is, a.of.m_is, in_pending.span_is, stamps_back a.packable a.packed x, picks_back a.packable a.packed y) (found_for s.n_is s.m_is (stands_tables s) h (rw class_same at a.answers))
+      rw (a.of.n_is, a.of.m_is, in_pending.span_is, stamps_back a.packable a.packed x, picks_back a.packable a.packed y) (found_for s.n_is s.m_is (stands_tables s) h (rw class_told at a.answers))
 
   -- and are handed over.
   pub handed_over : {before after : List ℕ} {size : ℕ} → size ≡ answer_size (class_number f.class) p.n p.m
@@ -277,5 +279,9 @@ module _ {p : Pending} {f : Found} {stamps picks : List ℕ} (g : IsAnswered p) 
     span_is = in_pending.span_is;
     trials_is = in_pending.trials_is;
     size_is = e;
-    record_stands = λ s a. rw (← stamps_back a.packable a.packed x, ← picks_back a.packable a.packed y, ← in_pending.span_is, class_same, ← a.of.n_is, ← a.of.m_is) w;
+    record_stands = λ s a. rw (← stamps_back a.packable a.packed x, ← picks_back a.packable a.packed y, ← in_pending.span_is, class_told, ← a.of.n_is, ← a.of.m_is) w;
   }
+
+-- The class of what was handed over.
+pub handed_class : {p : Pending} {before after : List ℕ} {r : Own.Answered} → HandedOver p before r after → class_number r.class ≡ class_in p
+handed_class h = sym (ap class_word h.class_is)

@@ -1,5 +1,5 @@
 -- A problem in bytes under way, one trial at a time: what is kept of it, what a trial leaves, and its answer.
-use Rattle.std.specs.Prelude.{ℕ, ◌+◌, ◌<◌, ◌≡◌, ◌↔◌, List, length, replicate, Option, Some, None, Result, Ok}
+use Rattle.std.specs.Prelude.{ℕ, ◌+◌, ◌<◌, ◌≡◌, ◌↔◌, List, length, replicate, Some, None, Result, Ok}
 use Rattle.definitions.specs.Limits.{stride}
 use Rattle.definitions.specs.Tropical.{Trop}
 use Rattle.definitions.specs.Problem.{Attainable}

@@ -25,11 +25,7 @@ fn solve_kept(kept: &[u8], size: usize, answer: &mut [u8]) -> Result<Solution, R
 
 // The answer to every input of this size that begins with the kept bytes, written into the lent buffer; a refusal leaves
 // the buffer as it was.
-pub fn solve_input(
-    kept: &[u8; KEPT],
-    size: u64,
-    answer: &mut [u8],
-) -> Result<Solution, Refusal>
+pub fn solve_input(kept: &[u8; KEPT], size: u64, answer: &mut [u8]) -> Result<Solution, Refusal>
     ensures { (input : List ℕ) → KeptOf kept.now size input → Solves (meant input) answer.old (solved_of result) answer.new }
 {
     solve_kept(kept, size as usize, answer)

@@ -1,6 +1,3 @@
-use native.Mathlib.Omega.{arith}
-use mathlib.Core.Path.{sym}
-use lib.Seq.{length-take-le}
 use Rattle.engine.proofs.Outcomes.{never_refused, size_for, wrote_for}
 use Rattle.engine.proofs.solve.write_found.Goals as goal
 
