@@ -84,13 +84,6 @@ module _ {p : Problem} {right : List ℕ} (stamps : List ℕ) {n m : ℕ} (held 
 
 -- ---- where the turns start
 
--- The first met of a row is the first met of the same row in a table.
-pub met_as :
-    {coefficient other : ℕ → ℕ} {stamps : List ℕ} {k : ℕ} → ((l : ℕ) → l < k → coefficient l ≡ other l) → (r : Option ℕ) → FirstMet coefficient stamps k r
-    → FirstMet other stamps k r
-met_as same (Some r) f = (f.0, (rw (same r f.0) at f.1.0, f.1.1), λ i h w. f.2 i h (rw (same i (omega (arith, f.0))) w.0, w.1))
-met_as same None f = λ i h w. f i h (rw (same i h) w.0, w.1)
-
 -- Before the first turn none has come.
 pub turns_start :
     {right stamps picks : List ℕ} {n m start j : ℕ} → Binding right stamps picks n m start → Beginning right stamps n m start (Some j)

@@ -71,9 +71,9 @@ module _ {p a : List ℕ} (h : Founded p a) where
   parts = (or_else_none (problem_refusal p) (answer_refusal a (n_field p) (m_field p))).0 h.none
 
   -- Neither refuses.
-  pub header_stands : {r : Refusal} → header_of (Err r) ≡ problem_outcome checker_kinds p → ⊥
+  pub header_stands : (r : Refusal) → header_of (Err r) ≡ problem_outcome checker_kinds p → ⊥
   unfolding problem_outcome
-  header_stands e = let q = was_err layout_in (problem_refusal p) (layout_of p) e refl in omega (arith, q.1, parts.0)
+  header_stands r e = let q = was_err layout_in (problem_refusal p) (layout_of p) e refl in omega (arith, q.1, parts.0)
 
   module _ {left right left' right' : List ℕ} {header : Result Layout Refusal} {l : Layout} (bytes : Bytes p) (read : ProblemRead checker_kinds p left right header left' right')
       (told : header ≡ Ok l) where
@@ -86,9 +86,9 @@ module _ {p a : List ℕ} (h : Founded p a) where
     m_is : m_field p ≡ l.m
     m_is = sym lies.fits.m_is
 
-    pub answer_stands : {r : Refusal} → head_of (Err r) ≡ answer_outcome a l.n l.m → ⊥
+    pub answer_stands : (r : Refusal) → head_of (Err r) ≡ answer_outcome a l.n l.m → ⊥
     unfolding answer_outcome
-    answer_stands e =
+    answer_stands r e =
         let q = was_err told_by (answer_refusal a l.n l.m) (class_field a, span_field a, start_field a) e refl in
         omega (arith, q.1, rw (n_is, m_is) at parts.1)
 

@@ -6,11 +6,11 @@ use Rattle.grounds.proofs.Reading.{header_stands, answer_stands, certifies, reas
 use Rattle.grounds.proofs.reasons.read_reasons.Goals as goal
 
 pub returns-in_err-layout : goal.returns-in_err-layout
-returns-in_err-layout c = absurd (header_stands c.requires c.in_err-layout.ensures.result)
+returns-in_err-layout c = absurd (header_stands c.requires _ c.in_err-layout.ensures.result)
 
 pub returns-in_err-head : goal.returns-in_err-head
 returns-in_err-head c = let problem : Bytes c.args.problem.now = record { byte = λ i. (c.type_inv.problem i).fits } in
-    absurd (answer_stands c.requires (meant_bytes _ problem) c.read_problem.ensures c.in_ok-layout.was c.in_err-head.ensures.answered)
+    absurd (answer_stands c.requires (meant_bytes _ problem) c.read_problem.ensures c.in_ok-layout.was _ c.in_err-head.ensures.answered)
 
 pub tell-requires : goal.tell-requires
 tell-requires c = let problem : Bytes c.args.problem.now = record { byte = λ i. (c.type_inv.problem i).fits } in

@@ -11,10 +11,13 @@ pub push-requires : goal.push-requires
 push-requires c = (omega arith, omega (arith, listed_few c.loop-i.invariant.1, c.requires.1))
 
 pub loop-i-preserved : goal.loop-i-preserved
-loop-i-preserved c = (omega arith, elim c.if-is_picked.branch [
-  | then-is_picked w ↦ rw (w.rules-is, w.push.ensures) (listed_with c.loop-i.invariant.1 (c.is_picked.ensures.yes w.if-is_picked.true))
-  | else-is_picked w ↦ rw w.rules-is (listed_without c.loop-i.invariant.1 (c.is_picked.ensures.no w.if-is_picked.false))
-])
+loop-i-preserved c = (
+  omega arith,
+  elim c.if-is_picked.branch [
+    | then-is_picked w ↦ rw (w.rules-is, w.push.ensures) (listed_with c.loop-i.invariant.1 (c.is_picked.ensures.yes w.if-is_picked.true))
+    | else-is_picked w ↦ rw w.rules-is (listed_without c.loop-i.invariant.1 (c.is_picked.ensures.no w.if-is_picked.false))
+  ],
+)
 
 pub returns : goal.returns
 returns c = listed_end c.loop-i.invariant.1 (omega arith) (omega arith)
