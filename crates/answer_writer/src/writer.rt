@@ -1,9 +1,9 @@
 // The answer writer: class, span, start, stamps and picks to bytes. Document 01, "Records" and "What is turned away", 4, 7 and
 // 10 to 13; document 02, 2.4.
 ghost use Rattle.std.specs.Prelude.{◌≡◌, map, ◌+◌, ◌*◌, ◌-◌, ◌≤◌, length};
-ghost use Rattle.definitions.specs.Limits.{highest_n, highest_m, length_bytes, short_bytes, signed_bytes, answer_header};
+ghost use Rattle.definitions.specs.Limits.{length_bytes, short_bytes, signed_bytes, answer_header};
 ghost use Rattle.definitions.specs.Bytes.{le, fields, put};
-ghost use Rattle.definitions.specs.Offset.{trop_of, off};
+ghost use Rattle.definitions.specs.Offset.{off};
 ghost use Rattle.definitions.specs.AnswerRecord.{writer_judged};
 ghost use Rattle.records.specs.Refusals.{refused_by};
 ghost use Rattle.answer_reader.specs.Fields.{fields_of};

@@ -1,5 +1,5 @@
 -- Parts of a list that were written whole: what `list[base..base + count]` holds after a copy or a fill.
-use Rattle.std.proofs.Common.{◌≡◌, ℕ, ◌+◌, ◌≤◌, ◌<◌, ◌-◌, List, ◌++◌, length, get_or, take, drop, replicate, refl, sym, ◌∙◌, arith, length-append, length-take-le, length-drop}
+use Rattle.std.proofs.Common.{◌≡◌, ℕ, ◌+◌, ◌≤◌, ◌<◌, ◌-◌, List, ◌++◌, length, get_or, take, drop, replicate, refl, ◌∙◌, arith, length-append, length-take-le, length-drop}
 use Rattle.std.proofs.lemmas.List.{get_or-append_right, get_or_append_left, get_or-take, get_or-drop, get_or-replicate, length-replicate}
 use borrow.Rule.Slice.PartMut.{put_mid}
 use Rattle.base.specs.Filled.{FilledFrom}

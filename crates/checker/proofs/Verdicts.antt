@@ -1,14 +1,11 @@
 -- From what reading and judging answer to the verdict of the definitions; for all bytes there is one verdict, and only one.
 use Prim.Native.Nat.{ℕ, zero, suc, ◌<◌}
-use mathlib.Core.Path.{◌≡◌, refl, ap, sym, ◌∙◌}
+use mathlib.Core.Path.{◌≡◌, refl, ap}
 use mathlib.Core.Bool.{Bool, true, false}
 use mathlib.Core.List.{List}
-use mathlib.Core.Logic.{⊎_elim}
 use native.Mathlib.Omega.{arith}
-use native.Mathlib.Nat.{eq-zero-or-pos}
 use Rattle.base.specs.Decides.{Decides}
-use Rattle.definitions.specs.Tropical.{Trop}
-use Rattle.definitions.specs.Bytes.{or_else, outcome}
+use Rattle.definitions.specs.Bytes.{or_else}
 use Rattle.definitions.specs.Offset.{trop_of}
 use Rattle.definitions.specs.Problem.{Problem}
 use Rattle.definitions.specs.ProblemRecord.{checker_kinds, n_field, m_field, layout_of, problem_refusal, problem_outcome, WithinLayout, problem_of}

@@ -1,11 +1,11 @@
 // The verdict on bytes: refusals 1 to 5, 20, 6, 17 and 8 to 13 first, in order; then what document 01 lists for the answer's class.
-ghost use Rattle.std.specs.Prelude.{◌≡◌, ℕ, suc, ◌+◌, ◌≤◌, ◌<◌, ℤ, length, get_or};
+ghost use Rattle.std.specs.Prelude.{◌≡◌, ◌+◌, ◌≤◌, ℤ, get_or};
 ghost use Rattle.base.specs.Decides.{Decides};
-ghost use Rattle.definitions.specs.Limits.{signed_half, span_limit};
+ghost use Rattle.definitions.specs.Limits.{signed_half};
 ghost use Rattle.definitions.specs.Tropical.{fin};
 ghost use Rattle.definitions.specs.Offset.{trop_of};
 ghost use Rattle.definitions.specs.ProblemRecord.{problem_of, meant};
-ghost use Rattle.definitions.specs.AnswerRecord.{Answer, highest_pick};
+ghost use Rattle.definitions.specs.AnswerRecord.{Answer};
 ghost use Rattle.definitions.specs.Certificate.{Second, start_of, AnchorAnd, AcceptedOptimal, AcceptedUnbounded};
 ghost use Rattle.definitions.specs.Verdict.{Accepted, Judged, strategy_of};
 ghost use Rattle.records.specs.Stamps.{Stamped, stamps_point};

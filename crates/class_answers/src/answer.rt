@@ -1,6 +1,6 @@
 // The engine on tables: one look, document 01's trials by what it found, and the answer of each class. Document 01, "The engine".
 ghost use Rattle.std.specs.Prelude.{◌≡◌, ◌≤◌, length, get_or};
-ghost use Rattle.definitions.specs.Limits.{highest_n, highest_m, lead_limit, stride};
+ghost use Rattle.definitions.specs.Limits.{stride};
 ghost use Rattle.records.specs.Classes.{class_number};
 ghost use Rattle.records.specs.declared.class.Class.TheVariants.{Optimal, Unbounded, Infeasible};
 ghost use Rattle.policy_iteration.specs.Tables.{Ranged};

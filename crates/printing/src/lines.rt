@@ -1,5 +1,5 @@
 // The lines that the programs print, as bytes. Document 01, "Two programs". Each ends with one newline.
-ghost use Rattle.std.specs.Prelude.{◌≡◌, ◌+◌, ◌≤◌, ◌<◌, ◌++◌, length};
+ghost use Rattle.std.specs.Prelude.{◌+◌, ◌≤◌, ◌++◌, length};
 ghost use Rattle.definitions.specs.Offset.{trop_of};
 ghost use Rattle.definitions.specs.Verdict.{accepted, refused};
 ghost use Rattle.definitions.specs.Programs.{text_least, span_decimal, class_words, refused_line, verdict_line};

@@ -1,6 +1,6 @@
 // The rules in force of a record of kind 5, as a record of kind 1: document 02, 2.10. The rows of suspended rules are blank, so that
 // whoever reads leads where they stand needs to know nothing of states.
-ghost use Rattle.std.specs.Prelude.{◌≡◌, ◌+◌, ◌*◌, ◌≤◌, ◌<◌, cond, length, get_or};
+ghost use Rattle.std.specs.Prelude.{◌≡◌, ◌+◌, ◌*◌, ◌≤◌, ◌<◌, length, get_or};
 ghost use Rattle.base.specs.Filled.{FilledFrom};
 ghost use Rattle.definitions.specs.Limits.{highest_n, highest_m, problem_header, problem_most};
 ghost use Rattle.definitions.specs.ProblemRecord.{row_place, header_bytes};

@@ -1,7 +1,7 @@
 // A problem from its bytes: its leads judged, and read into two lent tables.
-ghost use Rattle.std.specs.Prelude.{◌≡◌, ◌+◌, ◌*◌, ◌-◌, ◌<◌, ◌≤◌, cond, ◌&&◌, eqb, length, get_or};
+ghost use Rattle.std.specs.Prelude.{◌≡◌, ◌+◌, ◌*◌, ◌-◌, ◌<◌, ◌≤◌, ◌&&◌, eqb, length};
 ghost use Rattle.base.specs.Filled.{FilledFrom};
-ghost use Rattle.definitions.specs.Limits.{lead_limit, signed_half, signed_full, signed_bytes, states_kind, highest_n, highest_m, most_questions, leads_latest, questions_leads, questions_row, stride, table_size};
+ghost use Rattle.definitions.specs.Limits.{lead_limit, signed_full, signed_bytes, states_kind, highest_n, highest_m, most_questions, leads_latest, questions_leads, questions_row, stride, table_size};
 ghost use Rattle.definitions.specs.Bytes.{trop_field, some_below, blank_or_within};
 ghost use Rattle.definitions.specs.ProblemRecord.{row_place, left_place, run_blank, wrong_state, problem_outcome, meant};
 ghost use Rattle.definitions.specs.Questions.{alone};

@@ -1,12 +1,10 @@
 -- Laws of a problem's header: its answer by the refusal's number, its refusals on plain numbers, its size.
-use Rattle.std.proofs.Common.{Result, Ok, Err, ◌≡◌, ℕ, suc, ◌+◌, ◌*◌, ◌<◌, ◌≤◌, Bool, true, false, ◌&&◌, ◌||◌, ◌⊎◌, List, length, sym, refl, ap, ◌∙◌, inl, inr, ⊎_elim, mul-le-mul_right, mul-le-mul_left, arith, eq-eqb, ne_eqb}
-use Rattle.definitions.specs.Limits.{highest_n, highest_m, kept_bytes, stride, table_rows, table_size, signed_bytes, short_bytes, problem_kind, questions_kind, states_kind, states_place, most_questions, problem_header, questions_header, leads_latest}
-use Rattle.definitions.specs.Bytes.{outcome}
-use Rattle.definitions.specs.ProblemRecord.{Kinds, checker_kinds, AsksOne, length_field, kind_field, n_field, m_field, count_field, leads_place, questions_asked, known_kind, wrong_count, layout_of, header_refusal, header_judged, header_outcome}
+use Rattle.std.proofs.Common.{Result, Ok, Err, ◌≡◌, ℕ, suc, ◌+◌, ◌*◌, ◌<◌, ◌≤◌, ◌⊎◌, List, length, sym, refl, ap, ◌∙◌, inl, inr, ⊎_elim, mul-le-mul_right, mul-le-mul_left, arith}
+use Rattle.definitions.specs.Limits.{highest_n, highest_m, kept_bytes, stride, table_rows, table_size, signed_bytes, problem_kind, questions_kind, states_kind, most_questions, problem_header, leads_latest}
+use Rattle.definitions.specs.ProblemRecord.{Kinds, checker_kinds, AsksOne, kind_field, n_field, m_field, count_field, leads_place, questions_asked, layout_of, header_refusal, header_outcome}
 use Rattle.definitions.specs.ProblemRecord as Problems
 use Rattle.definitions.specs.Programs.{KeptOf}
 use Rattle.definitions.proofs.Inputs.{kept_at, header_agrees, header_most}
-use Rattle.definitions.proofs.Outcomes.{outcome-none, outcome-some, outcome-gives, outcome_refusal}
 use Rattle.definitions.proofs.Refusals.{header_passes}
 use Rattle.definitions.proofs.KnownKinds.{kind_known, few_questions, kind_one, one_asks, one_or_several, leads_place_least, leads_place_most}
 use Rattle.records.specs.declared.problem.Layout.{Layout}

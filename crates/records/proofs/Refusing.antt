@@ -1,11 +1,11 @@
 -- Laws of what a function that may refuse answers.
-use Rattle.std.proofs.Common.{◌≡◌, ℕ, ◌<◌, ◌≤◌, Bool, true, false, List, Result, Ok, Err, refl, sym, ap, ◌∙◌, arith}
+use Rattle.std.proofs.Common.{◌≡◌, ℕ, ◌<◌, ◌≤◌, Result, Ok, Err, refl, sym, ap, ◌∙◌, arith}
 use Rattle.definitions.specs.Verdict.{not_certified}
-use Rattle.definitions.specs.Bytes.{Outcome, refusal, gives, outcome}
+use Rattle.definitions.specs.Bytes.{refusal, gives, outcome}
 use Rattle.definitions.proofs.Outcomes.{outcome-none, outcome-some, outcome-gives, outcome_refusal}
 use Rattle.records.specs.declared.refusal.Refusal.{Refusal}
 use Rattle.records.specs.declared.refusal.Refusal.TheVariants.{Short, Length, Kind, Limits, Size, Lead, Room, AnswerShort, AnswerLength, AnswerClass, AnswerSize, Form, Pick, NotCertified, Count, Bottomless, Silent, NoText, Week, State, Full, Ticket, Memory, Shift, Rule, Early, Census}
-use Rattle.records.specs.Refusals.{number_of, refused_by, outcome_by}
+use Rattle.records.specs.Refusals.{number_of, outcome_by}
 
 -- No refusal has the number 0, and none one above 27.
 pub number_range : (r : Refusal) → (0 < number_of r) × (number_of r ≤ 27)

@@ -1,5 +1,5 @@
 -- Classes of answers and their numbers.
-use Rattle.std.specs.Prelude.{◌≡◌, ℕ, Result, Ok, Err, true, false}
+use Rattle.std.specs.Prelude.{◌≡◌, ℕ, Result, Ok, Err, false}
 use Rattle.definitions.specs.Limits.{class_optimal, class_unbounded, class_infeasible}
 use Rattle.definitions.specs.AnswerRecord.{known_class}
 use Rattle.records.specs.declared.class.Class.{Class}

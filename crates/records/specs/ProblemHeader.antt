@@ -1,5 +1,5 @@
 -- What reading a problem's header answers: the layout, or the refusal. Document 01, "What is turned away", 1 to 5, document 02, 2.1, 2.10.
-use Rattle.std.specs.Prelude.{◌≡◌, ℕ, ◌<◌, List, Bool, true, false, Option, Some, None, Result}
+use Rattle.std.specs.Prelude.{◌≡◌, ℕ, ◌<◌, List, true, false, Option, Some, None, Result}
 use Rattle.definitions.specs.Limits.{signed_full, short_full, problem_kind, questions_kind, states_kind}
 use Rattle.definitions.specs.Bytes.{Outcome}
 use Rattle.definitions.specs.ProblemRecord as Problems

@@ -1,5 +1,5 @@
 -- Refusals and their numbers, and what a function that may refuse answers. Document 01, "What is turned away".
-use Rattle.std.specs.Prelude.{◌≡◌, ℕ, Result, Ok, Err}
+use Rattle.std.specs.Prelude.{ℕ, Result, Ok, Err}
 use Rattle.definitions.specs.Limits.{refused_short, refused_length, refused_kind, refused_limits, refused_size, refused_lead, refused_room, refused_answer_short, refused_answer_length, refused_answer_class, refused_answer_size, refused_form, refused_pick, refused_count, refused_silent, refused_state, refused_full, refused_ticket, refused_memory, refused_shift, refused_rule, refused_early, refused_census}
 use Rattle.definitions.specs.Bytes.{Outcome, refusal, gives}
 use Rattle.records.specs.declared.refusal.Refusal.{Refusal}

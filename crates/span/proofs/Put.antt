@@ -17,7 +17,6 @@ use Rattle.engine.specs.Outcome.{solved_of}
 use Rattle.engine.proofs.Outcomes.{own_wrote, own_wrote_all}
 use Rattle.std.specs.Prelude.{Result, Ok, Err}
 use Rattle.records.specs.declared.refusal.Refusal.{Refusal}
-use Rattle.records.specs.Refusals.{number_of}
 use Rattle.engine.specs.declared.solve.Solution.{Solution}
 use Rattle.engine.specs.declared.solve.Solution.TheVariants.{One, All}
 use Rattle.span.specs.Shown.{out_most, Shown}

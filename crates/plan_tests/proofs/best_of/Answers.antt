@@ -11,4 +11,3 @@ loop-l-preserved c = (
   omega arith,
   best_turn _ _ c.loop-l.l c.loop-l.invariant.2 c.sum_in.ensures.0 c.later-best.ensures.0,
 )
-

@@ -11,4 +11,3 @@ loop-l-preserved c = (
   omega arith,
   under_more _ _ c.loop-l.l _ c.loop-l.invariant.1 (c.offset_32.ensures.0 ∙ c.sum_in.ensures.0),
 )
-

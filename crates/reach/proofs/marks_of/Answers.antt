@@ -4,4 +4,3 @@ use Rattle.reach.proofs.marks_of.Goals as goal
 
 pub loop-l-init : goal.loop-l-init
 loop-l-init c = (omega arith, filled_none 32)
-

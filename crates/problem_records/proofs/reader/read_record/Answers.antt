@@ -1,4 +1,4 @@
-use Rattle.std.proofs.Common.{◌≡◌, ◌-◌, ◌⊎◌, inl, inr, ap, refl, arith, rules}
+use Rattle.std.proofs.Common.{◌-◌, ap, refl, arith, rules}
 use Rattle.std.proofs.lemmas.Result.{err_from_is_err_and}
 use Rattle.base.proofs.Lists.{rest_whole}
 use Rattle.records.specs.ProblemHeader.{kind_number}

@@ -11,4 +11,3 @@ loop-j-preserved c = (
     | else-self-j w ↦ rw (w.self-is) (spreading_skip c.loop-j.invariant.1 w.if-self-j.false)
   ],
 )
-

@@ -1,4 +1,4 @@
-use Rattle.std.proofs.Common.{◌≡◌, arith, sym, eq-eqb, ◌∙◌}
+use Rattle.std.proofs.Common.{eq-eqb, ◌∙◌}
 use Rattle.records.proofs.Within.{within_blank, within_other}
 use Rattle.records.proofs.offset.blank_or_within.Goals as goal
 

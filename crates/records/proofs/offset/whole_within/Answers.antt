@@ -1,4 +1,4 @@
-use Rattle.std.proofs.Common.{◌≡◌, ◌-◌, arith, sym, ◌∙◌}
+use Rattle.std.proofs.Common.{◌-◌, arith}
 use borrow.Author.Tests.{lt-leb}
 use Rattle.records.proofs.Within.{whole_low, whole_high}
 use Rattle.records.proofs.offset.whole_within.Goals as goal

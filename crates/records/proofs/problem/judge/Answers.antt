@@ -1,11 +1,11 @@
-use Rattle.std.proofs.Common.{◌≡◌, ℕ, Bool, true, false, arith, refl, sym, ap, ◌∙◌}
+use Rattle.std.proofs.Common.{◌≡◌, true, false, sym}
 use Rattle.std.proofs.lemmas.Result.{err_from_is_err_and}
 use Rattle.definitions.specs.Bytes.{first}
 use Rattle.definitions.specs.Limits.{refused_short, refused_length, refused_kind}
 use Rattle.definitions.specs.ProblemRecord.{known_kind, counts_refused, header_judged}
 use Rattle.records.specs.declared.refusal.Refusal.TheVariants.{Short, Length, Kind}
-use Rattle.records.specs.Refusals.{number_of, refused_by}
-use Rattle.records.specs.ProblemHeader.{kind_number, kinds_in, layout_in, layout_by}
+use Rattle.records.specs.Refusals.{number_of}
+use Rattle.records.specs.ProblemHeader.{kinds_in, layout_in, layout_by}
 use Rattle.records.proofs.Tests.{tests}
 use Rattle.records.proofs.Refusing.{outcome_ok, outcome_err}
 use Rattle.records.proofs.problem.judge.Goals as goal
