@@ -8,25 +8,22 @@ use native.Mathlib.Numerals.{add-one}
 use lib.Dec.{leb}
 use lib.ListN.{length, get_or, take}
 use lib.Seq.{take-suc, take_all}
-use borrow.Author.Tests.{le-leb, lt-leb, leb-true}
+use borrow.Author.Tests.{leb-true}
 use Rattle.base.proofs.Numbers.{one_more}
 use Rattle.definitions.specs.Bytes.{all}
 use Rattle.definitions.specs.Census.{is_digit, is_number, number_from, number_of, CensusOutput, Censuses}
 use Rattle.definitions.proofs.Bytes.{all_true}
 use Rattle.counting.proofs.Totals.{census_capped}
-use Rattle.census.specs.declared.words.Word.{Word}
-use Rattle.census.specs.declared.words.Word.TheVariants.{Number, Other}
-use Rattle.census.specs.Words.{up_to, WordRead, number, other, Answered, numbers, others}
+use Rattle.std.specs.Prelude.{Option, None, Some}
+use Rattle.std.specs.Char.{is_ascii_digit}
+use Rattle.census.specs.Words.{up_to, WordRead, number, other, put_out, Answered, numbers, others}
 
 -- ---- digits
 
-pub digit_below : (d : ℕ) → d < 48 → false ≡ is_digit d
+-- A byte is a digit by the library's test just where it is one.
+pub digit_is : (d : ℕ) → is_digit d ≡ is_ascii_digit d
 unfolding is_digit
-digit_below d h = rw (lt-leb 48 d h) refl
-
-pub digit_from : (d : ℕ) → 48 ≤ d → leb d 57 ≡ is_digit d
-unfolding is_digit
-digit_from d h = rw (le-leb 48 d h) refl
+digit_is d = refl
 
 -- A digit lies between.
 pub digit_range : (d : ℕ) → is_digit d ≡ true → (48 ≤ d) × (d < 58)
@@ -70,7 +67,7 @@ unfolding is_number
 is_number_all [] h = absurd (omega arith)
 is_number_all (d ∷ ds) h = refl
 
-pub read_number : {word : List ℕ} {i value : ℕ} → ReadSo word i value → 0 < length word → length word ≤ i → i ≤ length word → WordRead word (Number value)
+pub read_number : {word : List ℕ} {i value : ℕ} → ReadSo word i value → 0 < length word → length word ≤ i → i ≤ length word → WordRead word (Some value)
 read_number {word} {i} {value} r h g b =
     let is : value ≡ up_to (number_of word) = r.value_is ∙ ap (λ (s : List ℕ). up_to (number_of s)) (take_all i word g) in
     rw is (number (is_number_all word h ∙ (all_true is_digit 0 word).1 (λ j l. r.digits j (omega arith))))
@@ -90,11 +87,11 @@ read_empty (d ∷ ds) h = absurd (omega arith)
 
 -- ---- three words
 
-pub told_number : {word : List ℕ} {r : Word} {k : ℕ} → WordRead word r → r ≡ Number k → (is_number word ≡ true) × (k ≡ up_to (number_of word))
+pub told_number : {word : List ℕ} {r : Option ℕ} {k : ℕ} → WordRead word r → r ≡ Some k → (is_number word ≡ true) × (k ≡ up_to (number_of word))
 told_number (number h) e = (h, cc)
 told_number (other h) e = absurd (let z : ◌≡◌ {A = ℕ} 0 1 = cc in omega arith)
 
-pub told_other : {word : List ℕ} {r : Word} → WordRead word r → r ≡ Other → is_number word ≡ false
+pub told_other : {word : List ℕ} {r : Option ℕ} → WordRead word r → r ≡ None → is_number word ≡ false
 told_other (number h) e = absurd (let z : ◌≡◌ {A = ℕ} 0 1 = cc in omega arith)
 told_other (other h) e = h
 
@@ -103,6 +100,10 @@ pub three_numbers : {first second third : List ℕ} {a b c : ℕ} {output : List
 three_numbers {first} {second} {third} {output = output} (x, e) (y, f) (z, g) o =
     let is : Censuses (up_to (number_of first)) (up_to (number_of second)) (up_to (number_of third)) o.census = rw (← e, ← f, ← g) o.is in
     numbers x y z (record { census = o.census; is = census_capped (number_of first) (number_of second) (number_of third) is; line = o.line })
+
+-- None puts nothing out.
+pub nothing_out : {first second third : List ℕ} (line : List ℕ) {r : Option ℕ} → r ≡ None → Answered first second third [] → Answered first second third (put_out r line)
+nothing_out line e a = rw e a
 
 pub first_other : {first second third : List ℕ} → is_number first ≡ false → Answered first second third []
 first_other e = others (rw e refl)

@@ -3,7 +3,7 @@ use Prim.Native.Nat.{ℕ, zero, suc, ◌+◌, ◌≤◌, ◌<◌}
 use mathlib.Core.Path.{◌≡◌, refl, ap, sym, subst, ◌∙◌}
 use mathlib.Core.List.{List}
 use native.Mathlib.Omega.{arith}
-use lib.ListN.{length, take, length-take}
+use lib.ListN.{length, take}
 use lib.Seq.{length-take-le}
 use borrow.Author.Tests.{le-ltb}
 use Rattle.definitions.specs.Limits.{length_bytes}
@@ -18,12 +18,11 @@ use Rattle.definitions.proofs.Inputs.{header_length}
 use Rattle.definitions.proofs.Outcomes.{outcome-gives, outcome_refusal}
 use Rattle.definitions.proofs.Refusals.{or_else_suc}
 use Rattle.definitions.proofs.Put.{length_put, take_put}
-use Rattle.printing.specs.Text.{Output}
 use Rattle.converter.specs.Steps.{record_most, conversion_of}
 use Rattle.converter.specs.declared.convert.Conversion.{Conversion}
 use Rattle.converter.specs.declared.convert.Conversion.TheVariants.{Record, Refused}
 use Rattle.converter.proofs.Converted.{stored_fits, converted_length, converted_most}
-use Rattle.convert.specs.Shown.{Shown, shown_record}
+use Rattle.convert.specs.Shown.{Shown}
 
 -- With a buffer that has room for the largest record the converter's refusal is the record's.
 own_refusal : (s : List ℕ) (room k : ℕ) → record_most ≤ room → convert_refusal s room ≡ k → stored_refusal s ≡ k
@@ -57,20 +56,6 @@ convert_output {input} {before} {after} {out} (Record size) j b s =
     let size_is : size ≡ 0 + length (converted input) = omega (arith, g.1, long) in
     let bytes : take size after ≡ converted input = rw (put_is, size_is) (take_put before 0 (converted input) (omega arith)) in
     subst (ConvertOutput input) (sym (s (omega arith) (omega arith) ∙ bytes)) (stored none)
-
--- A record that fits is put out,
-pub record_shown : {before after : List ℕ} (buffer : List ℕ) (size : ℕ) {r : ℕ} → length before ≡ record_most → Output before (take size buffer) after r → size ≤ length before
-    → (r ≤ record_most) × shown_record size buffer (take r after)
-record_shown {before} {after} buffer size {r} room o fits =
-    let short : length (take size buffer) ≤ length before = omega (arith, length-take size buffer) in
-    (omega (arith, (o.shown short).0), λ h g. (o.shown short).1)
-
--- and a line.
-pub line_shown : {before after : List ℕ} {r : ℕ} (k : ℕ) → length before ≡ record_most → Output before (refused_line k) after r × (length (refused_line k) ≤ 64)
-    → (r ≤ record_most) × (take r after ≡ refused_line k)
-line_shown {before} {after} {r} k room (o, short) =
-    let fits : length (refused_line k) ≤ length before = omega arith in
-    (omega (arith, (o.shown fits).0), (o.shown fits).1)
 
 -- ---- from 2³³ bytes on
 

@@ -6,31 +6,17 @@ ghost use Rattle.std.specs.Prelude.{◌≡◌, ℕ, ◌≤◌, List, length, tak
 ghost use Rattle.definitions.specs.Programs.{ReadFrom};
 ghost use Rattle.definitions.specs.Conversion.{ConvertOutput};
 ghost use Rattle.converter.specs.Steps.{record_most};
-ghost use Rattle.convert.specs.Shown.{Shown, shown_record};
+ghost use Rattle.convert.specs.Shown.{Shown};
 
 use converter::convert::Conversion;
 use converter::input::convert_input;
-use input::{Input, read_all};
-use output::writer::{write_record, write_refused};
+use output::writer::{write_front, write_refused};
+use programs::run;
 use records::limits::{HIGHEST_M, KEPT, LEAD_BYTES, MOST_QUESTIONS, QUESTIONS_HEADER, STRIDE};
 
 // Room for what is put out: the largest record, or a line.
 const OUT_MOST: usize = QUESTIONS_HEADER
     + LEAD_BYTES * (2 * (STRIDE * (HIGHEST_M + MOST_QUESTIONS)));
-
-// Puts the record of this size at the front of the buffer for output, and gives its size.
-fn put_stored(out: &mut [u8], buffer: &[u8], size: usize) -> usize
-    requires { length out.old ≡ record_most }
-    ensures { (result ≤ record_most) × shown_record size buffer.now (take result out.new) }
-{
-    if buffer.len() < size {
-        return 0;
-    }
-    if out.len() < size {
-        return 0;
-    }
-    write_record(out, &buffer[..size])
-}
 
 // Puts what a result shows at the front of the buffer for output, and gives its size.
 fn put_out(out: &mut [u8], buffer: &[u8], conversion: Conversion) -> usize
@@ -39,7 +25,7 @@ fn put_out(out: &mut [u8], buffer: &[u8], conversion: Conversion) -> usize
 {
     match conversion {
         Conversion::Refused(number) => write_refused(out, number),
-        Conversion::Record(size) => put_stored(out, buffer, size),
+        Conversion::Record(size) => write_front(out, buffer, size),
     }
 }
 
@@ -54,15 +40,6 @@ fn answer(kept: &[u8; KEPT], size: u64, out: &mut [u8]) -> usize
 }
 
 fn main(rt: HostRuntime) {
-    let mut kept = [0u8; KEPT];
-    let input = read_all(&mut rt.stdin(), &mut kept);
-    let Input::Ended(size) = input else {
-        let _ = eprintln!(rt; "convert: standard input cannot be read to its end");
-        return;
-    };
     let mut out = [0u8; OUT_MOST];
-    let n = answer(&kept, size, &mut out);
-    if rt.stdout().write_all(&out[..n]).is_err() {
-        let _ = eprintln!(rt; "convert: standard output cannot be written");
-    }
+    run(&rt, "convert", &mut rt.stdin(), &mut out, answer);
 }

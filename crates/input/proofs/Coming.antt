@@ -1,6 +1,7 @@
 -- What several reads add to what is kept.
 use Prim.Native.Nat.{ℕ, ◌+◌, ◌-◌, ◌≤◌, ◌<◌}
 use mathlib.Core.Path.{◌≡◌, refl, sym, subst, ◌∙◌}
+use mathlib.Core.Bool.{false≢true}
 use mathlib.Core.List.{List, [], ◌++◌}
 use mathlib.Core.Logic.{⊎_elim}
 use native.Mathlib.Omega.{arith}
@@ -11,9 +12,7 @@ use Rattle.base.proofs.Numbers.{nat_le_or_lt}
 use Rattle.definitions.specs.Limits.{kept_bytes}
 use Rattle.definitions.specs.Bytes.{put}
 use Rattle.definitions.proofs.Put.{put_nil, put_put}
-use Rattle.input.specs.declared.Input.{Input}
-use Rattle.input.specs.declared.Input.TheVariants.{Ended, Failed}
-use Rattle.input.specs.Came.{Answer, Came, OnceRead, once, AllRead, read_size}
+use Rattle.input.specs.Came.{Answer, Came, OnceRead, once, read_size}
 
 -- As much of two lists as fits, where the first fits.
 take_both : (k : ℕ) (a b : List ℕ) → length a ≤ k → take k (a ++ b) ≡ a ++ take (k - length a) b
@@ -53,11 +52,7 @@ pub record Once (before : List ℕ) (size r : ℕ) (after : List ℕ) : Type 0 w
   pub few : r ≤ read_size
   pub came : Came before size r after
 
-pub once_came : {before : List ℕ} {size r : ℕ} {after : List ℕ} {x : Input} → OnceRead before size x after → x ≡ Ended r → Once before size r after
+pub once_came : {before : List ℕ} {size r : ℕ} {after : List ℕ} {x : Answer} → OnceRead before size x after → x ≡ Ok r → Once before size r after
 once_came {before} {size} (once {r = n} {after} a e h c) f =
     subst (λ (k : ℕ). Once before size k after) (let q : n ≡ _ = cc in q) (record { answer = a; is = e; few = h; came = c })
-once_came (OnceRead.broken a h) f = absurd (let z : ◌≡◌ {A = ℕ} 0 1 = cc in omega arith)
-
-pub once_broken : {first before : List ℕ} {size : ℕ} {after : List ℕ} {x : Input} → OnceRead before size x after → x ≡ Failed → AllRead first Failed after
-once_broken (once a e h c) f = absurd (let z : ◌≡◌ {A = ℕ} 0 1 = cc in omega arith)
-once_broken (OnceRead.broken a h) f = AllRead.broken a h
+once_came (OnceRead.broken a h) f = absurd (false≢true (rw f at h))

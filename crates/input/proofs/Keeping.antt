@@ -1,52 +1,40 @@
--- Bytes kept one by one, as far as they fit.
+-- Bytes kept in their places, as far as they fit.
 use Prim.Native.Nat.{ℕ, ◌+◌, ◌-◌, ◌≤◌, ◌<◌}
-use mathlib.Core.Path.{◌≡◌, sym, ap, ◌∙◌}
+use mathlib.Core.Path.{◌≡◌, sym, ◌∙◌}
 use mathlib.Core.List.{List}
 use mathlib.Core.Logic.{⊎_elim}
 use native.Mathlib.Omega.{arith}
-use lib.ListN.{length, get_or, take, set}
-use lib.Seq.{take-take, take_all, length-take-le}
+use lib.ListN.{length, take}
+use lib.Seq.{take_all, length-take-le}
+use borrow.Rule.Slice.PartMut.{put_mid, Post-is}
+use Rattle.std.specs.Prelude.{min}
 use Rattle.base.proofs.Numbers.{nat_le_or_lt}
 use Rattle.definitions.specs.Limits.{kept_bytes}
 use Rattle.definitions.specs.Bytes.{put}
-use Rattle.definitions.proofs.Put.{put_nil, put_more, length_put}
+use Rattle.definitions.proofs.Put.{put_nil}
 
--- i bytes are kept, from place `size` on.
-pub record Keeping (before : List ℕ) (size : ℕ) (buf : List ℕ) (n : ℕ) (now : List ℕ) (i at : ℕ) : Type 0 where
-  pub is : now ≡ put before size (take i buf)
-  pub at_is : at ≡ size + i
-  pub within : i ≤ n
-  pub fits : i ≤ kept_bytes - size
+-- Values written to the part of a list that is as long as they are.
+part_put : (l : List ℕ) (at n : ℕ) (vs : List ℕ) → length vs ≡ n → put_mid at (at + n - at) l vs ≡ put l at vs
+unfolding put
+part_put l at n vs e = rw (Post-is at (at + n) l (omega arith), e)
 
-pub keeping_start : (before : List ℕ) (size : ℕ) (buf : List ℕ) (n : ℕ) → Keeping before size buf n before 0 size
-keeping_start before size buf n = record { is = sym (put_nil before size); at_is = omega arith; within = omega arith; fits = omega arith }
+-- Of some bytes as many as fit.
+fitting : (k n : ℕ) (bytes : List ℕ) → n ≡ min (length bytes) k → take n bytes ≡ take k bytes
+fitting k n bytes e = ⊎_elim
+    (λ (s : length bytes ≤ k). take_all n bytes (omega arith) ∙ sym (take_all k bytes s))
+    (λ (s : k < length bytes). let f : n ≡ k = omega arith in rw f)
+    (nat_le_or_lt (length bytes) k)
 
-pub keeping_length : {before : List ℕ} {size : ℕ} {buf : List ℕ} {n : ℕ} {now : List ℕ} {i at : ℕ} → Keeping before size buf n now i at → length before ≡ kept_bytes
-    → n ≤ length buf → length now ≡ length before
-keeping_length {before} {size} {buf} {i = i} k l h = ⊎_elim
-    (λ (s : size ≤ kept_bytes). rw k.is (length_put before size (take i buf) (omega arith) (omega (arith, length-take-le i buf (omega (arith, k.within)), k.fits))))
-    (λ (s : kept_bytes < size). let none : i ≡ 0 = omega (arith, k.fits) in rw (k.is, none) (ap length (put_nil before size)))
+-- As many as fit are written from place `size` on, or nothing past the end.
+pub kept_part :
+    (l : List ℕ) (size : ℕ) (bytes : List ℕ) {at n : ℕ} {now : List ℕ} → at ≡ min size kept_bytes → n ≡ min (length bytes) (kept_bytes - at) → now ≡ take n bytes
+    → put_mid at (at + n - at) l now ≡ put l size (take (kept_bytes - size) bytes)
+kept_part l size bytes {at} {n} {now} a e is =
+    let front : now ≡ take (kept_bytes - size) bytes = is ∙ fitting (kept_bytes - size) n bytes (omega arith) in
+    let long : length now ≡ n = rw is (length-take-le n bytes (omega arith)) in
+    ⊎_elim
+    (λ (s : size ≤ kept_bytes). let same : at ≡ size = omega arith in part_put l at n now long ∙ rw (same, front))
+    (λ (s : kept_bytes < size).
+    let none : kept_bytes - size ≡ 0 = omega arith in
+    part_put l at n now long ∙ rw (front, none) (put_nil l at ∙ sym (put_nil l size)))
     (nat_le_or_lt size kept_bytes)
-
-pub keeping_turn : {before : List ℕ} {size : ℕ} {buf : List ℕ} {n : ℕ} {now : List ℕ} {i at : ℕ} → Keeping before size buf n now i at → length before ≡ kept_bytes
-    → i < length buf → i < n → at < kept_bytes → Keeping before size buf n (set now at (get_or buf i 0)) (i + 1) (at + 1)
-keeping_turn {before} {size} {buf} {i = i} k l h g f = record {
-  is = rw (k.is, k.at_is) (put_more before size buf i h (omega (arith, k.at_is)));
-  at_is = omega (arith, k.at_is);
-  within = omega arith;
-  fits = omega (arith, k.at_is);
-}
-
--- All n, or as many as fit.
-pub keeping_full : {before : List ℕ} {size : ℕ} {buf : List ℕ} {n : ℕ} {now : List ℕ} {i at : ℕ} → Keeping before size buf n now i at → kept_bytes ≤ at
-    → now ≡ put before size (take (kept_bytes - size) (take n buf))
-keeping_full {before} {size} {buf} {n} {i = i} k h =
-    let full : i ≡ kept_bytes - size = omega (arith, k.at_is, k.fits) in
-    k.is ∙ ap (put before size) (rw (← full) (sym (take-take i n buf k.within)))
-
-pub keeping_end : {before : List ℕ} {size : ℕ} {buf : List ℕ} {n : ℕ} {now : List ℕ} {i at : ℕ} → Keeping before size buf n now i at → n ≤ i → n ≤ length buf
-    → now ≡ put before size (take (kept_bytes - size) (take n buf))
-keeping_end {before} {size} {buf} {n} {i = i} k h l =
-    let all : i ≡ n = omega (arith, k.within) in
-    let long = length-take-le n buf l in
-    k.is ∙ ap (put before size) (rw all (sym (take_all (kept_bytes - size) (take n buf) (omega (arith, long, k.fits)))))

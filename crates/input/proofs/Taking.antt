@@ -5,12 +5,11 @@ use mathlib.Core.List.{List, [], ◌++◌, append_assoc, append-nil}
 use native.Mathlib.Omega.{arith}
 use lib.ListN.{length, take, length-append}
 use lib.Seq.{take-append_seam}
-use Rattle.std.specs.Prelude.{Option, None, Some}
+use Rattle.std.specs.Prelude.{Option, None, Some, Ok}
 use Rattle.std.specs.Io.KnownBytes.{Consumes, IsAtEnd}
 use Rattle.definitions.specs.Limits.{kept_bytes}
 use Rattle.definitions.specs.Programs as Programs
 use Rattle.definitions.specs.Programs.{read_most, KeptOf}
-use Rattle.input.specs.declared.Input.TheVariants.{Ended}
 use Rattle.input.specs.Taken.{Taken, AllTaken}
 use Rattle.input.proofs.Coming.{came_none, came_more}
 use Rattle.input.proofs.Reading.{came_kept}
@@ -44,7 +43,7 @@ taken_more {left} {mid} {rest} a b t = record {
 -- At the reader's end all that it had left was read.
 pub taken_end :
     (left rest : Option (List ℕ)) {before : List ℕ} {size : ℕ} {after : List ℕ} → length before ≡ kept_bytes → Taken left rest before 0 size after → IsAtEnd rest
-    → AllTaken left (Ended size) after
+    → AllTaken left (Ok size) after
 taken_end None rest l t e = tt
 taken_end (Some xs) None l t e = absurd t.first
 taken_end (Some xs) (Some ys) {size = size} {after} l t e = λ b.
@@ -54,7 +53,7 @@ taken_end (Some xs) (Some ys) {size = size} {after} l t e = λ b.
 -- From 2³³ bytes on what it had left begins with what was read.
 pub taken_enough :
     (left rest : Option (List ℕ)) {before : List ℕ} {size : ℕ} {after : List ℕ} → length before ≡ kept_bytes → Taken left rest before 0 size after
-    → read_most ≤ size → AllTaken left (Ended size) after
+    → read_most ≤ size → AllTaken left (Ok size) after
 taken_enough None rest l t h = tt
 taken_enough (Some xs) None l t h = absurd t.first
 taken_enough (Some xs) (Some ys) {size = size} {after} l t h = λ b.

@@ -4,10 +4,8 @@ use Rattle.std.specs.declared.io.Error.{Error}
 use Rattle.definitions.specs.Limits.{kept_bytes}
 use Rattle.definitions.specs.Bytes.{Bytes, put}
 use Rattle.definitions.specs.Programs.{read_most}
-use Rattle.input.specs.declared.Input.{Input}
-use Rattle.input.specs.declared.Input.TheVariants.{Ended, Failed}
 
--- What a read of std's answers: so many bytes, or an error.
+-- What a read answers: so many bytes, or an error.
 abbrev pub Answer : Type 0
 Answer = Result ℕ Error
 
@@ -32,15 +30,15 @@ pub record AllCame (before : List ℕ) (size : ℕ) (after : List ℕ) : Type 0 
   pub ends : Ends size
   pub most : size ≤ read_most + read_size
 
--- What one read left: the bytes that came, as many as it answered; or, where it answered an error, nothing.
-pub data OnceRead (before : List ℕ) (size : ℕ) : Input → List ℕ → Type 0 where
-  once : {r : ℕ} {after : List ℕ} (answer : Answer) → answer ≡ Ok r → r ≤ read_size → Came before size r after → OnceRead before size (Ended r) after
-  broken : (answer : Answer) → IsErr answer → OnceRead before size Failed before
+-- What one read left: the bytes that came, as many as it answered; or its error, and nothing.
+pub data OnceRead (before : List ℕ) (size : ℕ) : Answer → List ℕ → Type 0 where
+  once : {r : ℕ} {after : List ℕ} (answer : Answer) → answer ≡ Ok r → r ≤ read_size → Came before size r after → OnceRead before size (Ok r) after
+  broken : (answer : Answer) → IsErr answer → OnceRead before size answer before
 
--- What reading to the end left: all that was read; or some read answered an error, and reading failed.
-pub data AllRead (before : List ℕ) : Input → List ℕ → Type 0 where
-  whole : {size : ℕ} {after : List ℕ} → AllCame before size after → AllRead before (Ended size) after
-  broken : {after : List ℕ} (answer : Answer) → IsErr answer → AllRead before Failed after
+-- What reading to the end left: all that was read; or the error that some read answered.
+pub data AllRead (before : List ℕ) : Answer → List ℕ → Type 0 where
+  whole : {size : ℕ} {after : List ℕ} → AllCame before size after → AllRead before (Ok size) after
+  broken : {after : List ℕ} (answer : Answer) → IsErr answer → AllRead before answer after
 
 -- The input of which these bytes came: all of it where a read answered 0, else one that begins with them.
 pub data InputOf (bytes : List ℕ) (size : ℕ) : Ends size → List ℕ → Type 0 where

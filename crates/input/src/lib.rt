@@ -1,83 +1,58 @@
 // Standard input for the programs: the first 20,000 bytes are kept, all of them are counted.
 #![tactic(auto)]
 
-ghost use Rattle.std.specs.Prelude.{◌≡◌, ◌≤◌, ◌-◌, length, take};
+ghost use Rattle.std.specs.Prelude.{◌≡◌, ◌-◌, take};
 ghost use Rattle.definitions.specs.Limits.{kept_bytes};
 ghost use Rattle.definitions.specs.Bytes.{put};
 ghost use Rattle.input.specs.Came.{OnceRead, AllRead};
 ghost use Rattle.input.specs.Taken.{OnceTaken, AllTaken};
 
 use records::limits::{KEPT, READ_MOST};
-use std::io::Read;
+use std::io::{self, Read};
 
 // The most bytes that one read gives.
 const READ_SIZE: usize = 4096;
 
-// Copies the first `n` bytes of `buf` into `kept` from place `size` on, as far as they fit.
-fn keep(kept: &mut [u8], size: u64, buf: &[u8], n: usize)
-    requires { (length kept.old ≡ kept_bytes) × (n ≤ length buf.now) }
-    ensures { kept.new ≡ put kept.old size (take (kept_bytes - size) (take n buf.now)) }
+// Copies `bytes` into `kept` from place `size` on, as far as they fit.
+fn keep(kept: &mut [u8; KEPT], size: u64, bytes: &[u8])
+    ensures { kept.new ≡ put kept.old size (take (kept_bytes - size) bytes.now) }
 {
-    let mut i = 0;
-    let mut at = size;
-    while i < n {
-        if at >= KEPT as u64 {
-            return;
-        }
-        let place = at as usize;
-        kept[place] = buf[i];
-        at += 1;
-        i += 1;
-    }
+    let at = size.min(KEPT as u64) as usize;
+    let n = bytes.len().min(KEPT - at);
+    kept[at..at + n].copy_from_slice(&bytes[..n]);
 }
 
-// What reading ended with: the size of what came, or a read that failed.
-#[derive(Clone, Copy)]
-pub enum Input {
-    Ended(u64),
-    Failed,
-}
-
-// Reads once and keeps what fits: how many bytes came, 0 at the end of the input; or reading failed.
-fn read_some<R: Read>(input: &mut R, kept: &mut [u8], size: u64) -> Input
-    requires { length kept.old ≡ kept_bytes }
+// Reads once and keeps what fits: how many bytes came, 0 at the end of the input.
+fn read_some<R: Read>(input: &mut R, kept: &mut [u8; KEPT], size: u64) -> io::Result<u64>
     ensures answered { OnceRead kept.old size result kept.new }
     ensures taken { OnceTaken (R.remaining input.old) (R.remaining input.new) kept.old size result kept.new }
 {
     let mut buf = [0u8; READ_SIZE];
-    match input.read(&mut buf) {
-        Err(_) => Input::Failed,
-        Ok(n) => {
-            keep(kept, size, &buf, n);
-            Input::Ended(n as u64)
-        }
-    }
+    let n = input.read(&mut buf)?;
+    keep(kept, size, &buf[..n]);
+    Ok(n as u64)
 }
 
 // Reads an input to its end, or until so much was counted that no outcome changes; keeps its first 20,000 bytes, and
 // gives its size. A failed read is no end: what came before it is not answered. Public for the programs that read records.
-pub fn read_all<R: Read>(input: &mut R, kept: &mut [u8; KEPT]) -> Input
+pub fn read_all<R: Read>(input: &mut R, kept: &mut [u8; KEPT]) -> io::Result<u64>
     ensures answered { AllRead kept.old result kept.new }
     ensures taken { AllTaken (R.remaining input.old) result kept.new }
 {
     let mut size = 0;
     while size < READ_MOST {
-        let some = read_some(input, kept, size);
-        let Input::Ended(n) = some else {
-            return Input::Failed;
-        };
+        let n = read_some(input, kept, size)?;
         if n == 0 {
-            return Input::Ended(size);
+            return Ok(size);
         }
         size += n;
     }
-    Input::Ended(size)
+    Ok(size)
 }
 
 #[cfg(test)]
 mod tests {
     use super::*;
-    use std::io;
 
     // Gives this byte three times at each read, so many reads long; then it ends or fails.
     #[derive(Drop)]
@@ -111,7 +86,7 @@ mod tests {
                 fails: true,
             };
             let read = read_all(&mut input, &mut kept);
-            assert!(rt; matches!(read, Input::Failed), "after {reads} reads");
+            assert!(rt; read.is_err(), "after {reads} reads");
         }
     }
 
@@ -125,10 +100,7 @@ mod tests {
                 fails: false,
             };
             let read = read_all(&mut input, &mut kept);
-            assert!(rt;
-                matches!(read, Input::Ended(n) if n == size),
-                "{size} bytes"
-            );
+            assert!(rt; matches!(read, Ok(n) if n == size), "{size} bytes");
             assert_eq!(rt; kept[KEPT - 1], last, "the last of {size} bytes");
         }
     }
@@ -138,7 +110,7 @@ mod tests {
         let mut kept = [0u8; KEPT];
         let mut text: &[u8] = b"in their places";
         let read = read_all(&mut text, &mut kept);
-        assert!(rt; matches!(read, Input::Ended(15)));
+        assert!(rt; matches!(read, Ok(15)));
         assert!(rt; kept.starts_with(b"in their places"));
         assert_eq!(rt; kept[15], 0);
     }

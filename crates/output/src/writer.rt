@@ -1,7 +1,7 @@
 // What the programs put out: a record or a line, appended through a writer. The writer borrows a lent slice and holds the
-// next place in it. Each function over it takes it apart and leaves the work to `append`; `write`, with plain parameters,
-// stands above them.
-ghost use Rattle.std.specs.Prelude.{◌≡◌, ◌≤◌, length};
+// next place in it. Its methods leave the work to `printing::text::append`; `write`, with plain parameters, stands above
+// them.
+ghost use Rattle.std.specs.Prelude.{◌≡◌, ◌≤◌, length, take};
 ghost use Rattle.definitions.specs.Programs.{refused_line, verdict_line};
 ghost use Rattle.printing.specs.Text.{Appended, Output, line_most, verdict_by};
 ghost use Rattle.output.specs.Written.{writer_after};
@@ -16,30 +16,27 @@ pub struct Writer<'a> {
     at: usize,
 }
 
-// The writer on a slice, at a place of it. Public with the form, as the next three.
-pub fn made<'a>(buf: &'a mut [u8], at: usize) -> Writer<'a>
-    ensures { (result.buf ≡ buf.entry) × (result.at ≡ at) }
-{
-    Writer { buf: buf, at: at }
-}
-
-// The writer after a record or a line was appended: the same slice, and the next place.
-pub fn added<'a, 'b>(w: Writer<'a>, text: &'b [u8]) -> Writer<'a>
-    ensures { result ≡ writer_after w.entry text.now }
-{
-    let at = w.at;
-    let next = append(&mut *w.buf, at, text);
-    Writer {
-        buf: w.buf,
-        at: next,
+impl<'a> Writer<'a> {
+    // The writer on a slice, at a place of it.
+    pub fn new(buf: &'a mut [u8], at: usize) -> Writer<'a>
+        ensures { (result.buf ≡ buf.entry) × (result.at ≡ at) }
+    {
+        Writer { buf, at }
     }
-}
 
-// The next place. The slice goes back, as it is, to whom it was lent by.
-pub fn place<'a>(w: Writer<'a>) -> usize
-    ensures { (result ≡ w.entry.at) × (w.exit.0.now ≡ w.entry.buf.now) }
-{
-    w.at
+    // Appends a record or a line: the same slice, and the next place.
+    pub fn append(&mut self, text: &[u8])
+        ensures { self.new ≡ writer_after self.old text.now }
+    {
+        self.at = append(self.buf, self.at, text);
+    }
+
+    // The next place. The slice goes back, as it is, to whom it was lent by.
+    pub fn place(self) -> usize
+        ensures { (result ≡ self.entry.at) × (self.exit.0.now ≡ self.entry.buf.now) }
+    {
+        self.at
+    }
 }
 
 // Writes a record or a line at place `at`, through a writer, and gives the next place. Where there is no room nothing is
@@ -47,8 +44,9 @@ pub fn place<'a>(w: Writer<'a>) -> usize
 pub fn write(buf: &mut [u8], at: usize, text: &[u8]) -> usize
     ensures { Appended buf.old at text.now buf.new result }
 {
-    let w = added(made(buf, at), text);
-    place(w)
+    let mut w = Writer::new(buf, at);
+    w.append(text);
+    w.place()
 }
 
 // What the span program puts out for a problem that is answered: the record. Public for `span`.
@@ -58,12 +56,24 @@ pub fn write_record(buf: &mut [u8], answer: &[u8]) -> usize
     write(buf, 0, answer)
 }
 
+// What a program puts out of a buffer: the record of this size at its front. Where the buffer is shorter, nothing. Public
+// for `span` and `convert`.
+pub fn write_front(buf: &mut [u8], from: &[u8], size: usize) -> usize
+    ensures inside { result ≤ length buf.old }
+    ensures shown { size ≤ length from.now → size ≤ length buf.old → take result buf.new ≡ take size from.now }
+{
+    match from.get(..size) {
+        Some(record) => write_record(buf, record),
+        None => 0,
+    }
+}
+
 // What the span program puts out for a refusal: its line. Public for `span`.
 pub fn write_refused(buf: &mut [u8], number: usize) -> usize
     ensures shown { Output buf.old (refused_line number) buf.new result }
     ensures short { length (refused_line number) ≤ line_most }
 {
-    let mut line: [u8; LINE_MOST] = [0; LINE_MOST];
+    let mut line = [0u8; LINE_MOST];
     let size = refused_line(&mut line, number);
     write(buf, 0, &line[..size])
 }
@@ -74,7 +84,7 @@ pub fn write_verdict(buf: &mut [u8], refusal: usize, class: u64, span: u64) -> u
     ensures shown { Output buf.old (verdict_line (verdict_by refusal class span)) buf.new result }
     ensures short { length (verdict_line (verdict_by refusal class span)) ≤ line_most }
 {
-    let mut line: [u8; LINE_MOST] = [0; LINE_MOST];
+    let mut line = [0u8; LINE_MOST];
     let size = verdict_line(&mut line, refusal, class, span);
     write(buf, 0, &line[..size])
 }

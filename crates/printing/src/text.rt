@@ -8,13 +8,8 @@ pub fn copy(buf: &mut [u8], at: usize, text: &[u8]) -> usize
     requires { at + length text.now ≤ length buf.old }
     ensures { Putting buf.old at text.now buf.new result }
 {
-    let mut i = 0;
-    let mut next = at;
-    while i < text.len() {
-        buf[next] = text[i];
-        next += 1;
-        i += 1;
-    }
+    let next = at + text.len();
+    buf[at..next].copy_from_slice(text);
     next
 }
 
@@ -23,17 +18,14 @@ pub fn copy(buf: &mut [u8], at: usize, text: &[u8]) -> usize
 pub fn append(buf: &mut [u8], at: usize, text: &[u8]) -> usize
     ensures { Appended buf.old at text.now buf.new result }
 {
-    if buf.len() < at {
-        return at;
-    }
-    if buf.len() - at < text.len() {
+    if buf.len() < at || buf.len() - at < text.len() {
         return at;
     }
     copy(buf, at, text)
 }
 
 // Puts a number in decimal, without leading zeros, from place `at` on, and gives the place after it.
-// Public for `lines` and `hour_texts::writer`.
+// Public for `lines` and `hour_texts::writer`. By hand, as std says of `write!` to a lent slice no bytes, and CONTRIBUTING names std alone.
 pub fn put_decimal(buf: &mut [u8], at: usize, number: u64) -> usize
     requires { at + 20 ≤ length buf.old }
     ensures { Putting buf.old at (decimal number) buf.new result × (result ≤ at + 20) }
@@ -52,5 +44,5 @@ pub fn digit(number: u64) -> u8
     requires { number < 10 }
     ensures { result ≡ 48 + number }
 {
-    48 + number as u8
+    b'0' + number as u8
 }

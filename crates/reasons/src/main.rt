@@ -11,7 +11,7 @@ mod lines;
 
 use crate::lines::{LINES_MOST, put_lines};
 use grounds::input::input_reasons;
-use input::{Input, read_all};
+use programs::run;
 use records::limits::KEPT;
 
 // What the program puts out for every input of which this was read: so many bytes of the buffer.
@@ -24,15 +24,6 @@ fn answer(kept: &[u8; KEPT], size: u64, lines: &mut [u8]) -> usize
 }
 
 fn main(rt: HostRuntime) {
-    let mut kept = [0u8; KEPT];
-    let input = read_all(&mut rt.stdin(), &mut kept);
-    let Input::Ended(size) = input else {
-        let _ = eprintln!(rt; "reasons: standard input cannot be read to its end");
-        return;
-    };
     let mut lines = [0u8; LINES_MOST];
-    let n = answer(&kept, size, &mut lines);
-    if rt.stdout().write_all(&lines[..n]).is_err() {
-        let _ = eprintln!(rt; "reasons: standard output cannot be written");
-    }
+    run(&rt, "reasons", &mut rt.stdin(), &mut lines, answer);
 }

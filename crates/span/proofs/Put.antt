@@ -4,7 +4,7 @@ use mathlib.Core.Path.{◌≡◌, refl, ap, sym, subst, ◌∙◌}
 use mathlib.Core.List.{List}
 use native.Mathlib.Omega.{arith}
 use native.Mathlib.Nat.{mul-le-mul_right}
-use lib.ListN.{length, take, length-take}
+use lib.ListN.{length}
 use Rattle.definitions.specs.Limits.{answer_most, most_questions}
 use Rattle.definitions.specs.ProblemRecord.{record_refusal, kind_field, count_field, questions_asked}
 use Rattle.definitions.specs.Programs.{SpanOutput, refusal, answer, answers, refused_line}
@@ -17,8 +17,7 @@ use Rattle.engine.specs.Outcome.{solved_of}
 use Rattle.engine.proofs.Outcomes.{own_wrote, own_wrote_all}
 use Rattle.engine.specs.declared.solve.Solved.{Solved}
 use Rattle.engine.specs.declared.solve.Solved.TheVariants.{Refused, Answered, AllAnswered}
-use Rattle.printing.specs.Text.{Output}
-use Rattle.span.specs.Shown.{out_most, Shown, shown_records}
+use Rattle.span.specs.Shown.{out_most, Shown}
 
 -- With a buffer that has room for eight answers the engine's refusal is the problem's.
 own_refusal : (p : List ℕ) (room k : ℕ) → out_most ≤ room → engine_refusal p room ≡ k → record_refusal p ≡ k
@@ -53,17 +52,3 @@ span_output {input} (AllAnswered count trials size) j b l s =
     let w = own_wrote_all {r = AllAnswered count trials size} j refl in
     let inside = w.inside in
     subst (SpanOutput input) (sym (s inside (omega (arith, inside)) ∙ w.bytes)) (answers w.kind_is w.within w.in_turn)
-
--- Records that fit are put out,
-pub records_shown : {before after : List ℕ} (buffer : List ℕ) (size : ℕ) {r : ℕ} → length before ≡ out_most → Output before (take size buffer) after r → size ≤ length before
-    → (r ≤ out_most) × shown_records size buffer (take r after)
-records_shown {before} {after} buffer size {r} room o fits =
-    let short : length (take size buffer) ≤ length before = omega (arith, length-take size buffer) in
-    (omega (arith, (o.shown short).0), λ h g. (o.shown short).1)
-
--- and a line.
-pub line_shown : {before after : List ℕ} {r : ℕ} (k : ℕ) → length before ≡ out_most → Output before (refused_line k) after r × (length (refused_line k) ≤ 64)
-    → (r ≤ out_most) × (take r after ≡ refused_line k)
-line_shown {before} {after} {r} k room (o, short) =
-    let fits : length (refused_line k) ≤ length before = omega arith in
-    (omega (arith, (o.shown fits).0), (o.shown fits).1)

@@ -5,30 +5,16 @@
 ghost use Rattle.std.specs.Prelude.{◌≡◌, ℕ, ◌≤◌, List, length, take};
 ghost use Rattle.definitions.specs.ProblemRecord.{meant};
 ghost use Rattle.definitions.specs.Programs.{ReadFrom, SpanOutput};
-ghost use Rattle.span.specs.Shown.{out_most, Shown, shown_records};
+ghost use Rattle.span.specs.Shown.{out_most, Shown};
 
 use engine::input::solve_input;
 use engine::solve::Solved;
-use input::{Input, read_all};
-use output::writer::{write_record, write_refused};
+use output::writer::{write_front, write_refused};
+use programs::run;
 use records::limits::{ANSWER_MOST, KEPT, MOST_QUESTIONS};
 
 // Room for what is put out: the records of the answers to all questions, or a line.
 const OUT_MOST: usize = MOST_QUESTIONS * ANSWER_MOST;
-
-// Puts the records of this size at the front of the buffer for output, and gives its size.
-fn put_records(out: &mut [u8], buffer: &[u8], size: usize) -> usize
-    requires { length out.old ≡ out_most }
-    ensures { (result ≤ out_most) × shown_records size buffer.now (take result out.new) }
-{
-    if buffer.len() < size {
-        return 0;
-    }
-    if out.len() < size {
-        return 0;
-    }
-    write_record(out, &buffer[..size])
-}
 
 // Puts what a result shows at the front of the buffer for output, and gives its size.
 fn put_out(out: &mut [u8], buffer: &[u8], solved: Solved) -> usize
@@ -38,17 +24,8 @@ fn put_out(out: &mut [u8], buffer: &[u8], solved: Solved) -> usize
 {
     match solved {
         Solved::Refused(number) => write_refused(out, number),
-        Solved::Answered {
-            class: _,
-            span: _,
-            trials: _,
-            size,
-        } => put_records(out, buffer, size),
-        Solved::AllAnswered {
-            count: _,
-            trials: _,
-            size: all,
-        } => put_records(out, buffer, all),
+        Solved::Answered { size, .. } => write_front(out, buffer, size),
+        Solved::AllAnswered { size: all, .. } => write_front(out, buffer, all),
     }
 }
 
@@ -64,15 +41,6 @@ fn answer(kept: &[u8; KEPT], size: u64, out: &mut [u8]) -> usize
 }
 
 fn main(rt: HostRuntime) {
-    let mut kept = [0u8; KEPT];
-    let input = read_all(&mut rt.stdin(), &mut kept);
-    let Input::Ended(size) = input else {
-        let _ = eprintln!(rt; "span: standard input cannot be read to its end");
-        return;
-    };
     let mut out = [0u8; OUT_MOST];
-    let n = answer(&kept, size, &mut out);
-    if rt.stdout().write_all(&out[..n]).is_err() {
-        let _ = eprintln!(rt; "span: standard output cannot be written");
-    }
+    run(&rt, "span", &mut rt.stdin(), &mut out, answer);
 }

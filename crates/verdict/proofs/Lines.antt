@@ -11,6 +11,7 @@ use Rattle.definitions.specs.Verdict.{Verdict, refused, Judged, turned_away, cer
 use Rattle.checker.specs.Outcome.{verdict_of}
 use Rattle.checker.specs.declared.check.Verdict.TheVariants.{Accepted, Refused}
 use Rattle.printing.specs.Text.{Output, line_most}
+use Rattle.output.proofs.Shown.{shown_whole}
 use Rattle.printing.specs.Text as Text
 
 -- No verdict refuses with number 0, which stands for none.
@@ -31,7 +32,7 @@ refused_numbers k h = rw (ne_eqb k 0 (λ e. h (ap refused e)))
 -- What the writer puts out is the line.
 pub line_put : {before after : List ℕ} {r : ℕ} {w v : Verdict} → length before ≡ line_most → Output before (verdict_line w) after r × (length (verdict_line w) ≤ line_most)
     → ((v ≡ refused 0 → ⊥) → w ≡ v) → (r ≤ line_most) × ((v ≡ refused 0 → ⊥) → take r after ≡ verdict_line v)
-line_put room (put, short) same = (omega (arith, (put.shown (omega arith)).0), λ h. (put.shown (omega arith)).1 ∙ ap verdict_line (same h))
+line_put room (put, short) same = let s = shown_whole put room short in (s.0, λ h. s.1 ∙ ap verdict_line (same h))
 
 pub line_shown : {input output : List ℕ} {v : Verdict} → Judged (meant (problem_part input)) (answer_part input) v → ((v ≡ refused 0 → ⊥) → output ≡ verdict_line v)
     → VerdictOutput input output

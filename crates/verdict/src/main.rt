@@ -10,9 +10,9 @@ ghost use Rattle.printing.specs.Text.{line_most};
 
 use checker::check::Verdict;
 use checker::input::judge_input;
-use input::{Input, read_all};
 use output::writer::write_verdict;
 use printing::lines::LINE_MOST;
+use programs::run;
 use records::limits::KEPT;
 
 // Puts the line of a verdict at the front of a buffer, and gives its size.
@@ -35,15 +35,6 @@ fn answer(kept: &[u8; KEPT], size: u64, line: &mut [u8]) -> usize
 }
 
 fn main(rt: HostRuntime) {
-    let mut kept = [0u8; KEPT];
-    let input = read_all(&mut rt.stdin(), &mut kept);
-    let Input::Ended(size) = input else {
-        let _ = eprintln!(rt; "verdict: standard input cannot be read to its end");
-        return;
-    };
     let mut line = [0u8; LINE_MOST];
-    let n = answer(&kept, size, &mut line);
-    if rt.stdout().write_all(&line[..n]).is_err() {
-        let _ = eprintln!(rt; "verdict: standard output cannot be written");
-    }
+    run(&rt, "verdict", &mut rt.stdin(), &mut line, answer);
 }

@@ -5,8 +5,5 @@ use Rattle.printing.proofs.text.append.Goals as goal
 pub returns-then-buf-at : goal.returns-then-buf-at
 returns-then-buf-at c = append_none _ _ _ (omega arith)
 
-pub returns-then-buf-at-2 : goal.returns-then-buf-at-2
-returns-then-buf-at-2 c = append_none _ _ _ (omega arith)
-
 pub returns : goal.returns
 returns c = append_fits c.copy.ensures (omega arith)
