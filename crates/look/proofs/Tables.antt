@@ -6,8 +6,7 @@ use mathlib.Core.List.{List}
 use native.Mathlib.Omega.{arith}
 use native.Mathlib.Nat.{eq-zero-or-pos}
 use native.Mathlib.Numerals.{add-one}
-use lib.ListN.{length, get_or, set, length-set, length-replicate, get_or-replicate}
-use lib.Seq.{get_or-set_same, get_or-set_other}
+use lib.ListN.{get_or, length-replicate, get_or-replicate}
 use lib.IntN.{ℤ, pos, neg_ℤ}
 use borrow.Author.Tests.{ne_eqb}
 use Rattle.base.proofs.Numbers.{nat_le_or_lt}
@@ -25,8 +24,6 @@ use Rattle.duality.specs.Within.{Within}
 use Rattle.duality.specs.Look.{Capped}
 use Rattle.records.specs.Decoded.{Near, Decoded}
 use Rattle.policy_iteration.specs.Tables.{entry_of, system_of, cap_of, raised_limit, cap_limit, low_half, high, Table, Caps, Tables}
-use Rattle.std.specs.Prelude.{Option}
-use Rattle.policy_iteration.specs.declared.ends.Ends.{Ends}
 use Rattle.policy_iteration.specs.Ends.{EndsOf}
 use Rattle.policy_iteration.proofs.Low.{high_whole}
 use Rattle.policy_iteration.proofs.Small.{near_small}
@@ -38,10 +35,6 @@ use Rattle.look.specs.Look.{level, cap_for, CapsFor}
 use Rattle.duality.proofs.Agree.{Agree}
 
 -- ---- frames
-
--- The ends of fewer rows.
-pub ends_fewer : {table : List ℕ} {ends : List (Option Ends)} {rows more : ℕ} → rows ≤ more → EndsOf table more ends → EndsOf table rows ends
-ends_fewer h e = record { size = e.size; each = λ i b. e.each i (omega arith) }
 
 -- The tables of the inequalities alone.
 pub rules_tables : {f : Frame} → Ready f → Tables f.left.now f.right.now (f.n + 1) f.m
@@ -108,30 +101,6 @@ shifted_near k t n b = ⊎_elim
     (eq-zero-or-pos k)
 
 -- ---- the row raised
-
-pub raised_none : (before : List ℕ) (row t : ℕ) → length before ≡ 2048 → Raised before row t 0 before
-raised_none before row t l = record { size = l; raised = λ l h. absurd (omega arith); above = λ k h. refl; below = λ k h. refl }
-
-pub raised_more : (before after : List ℕ) (row t n v : ℕ) → Raised before row t n after → n < 32 → row < 64
-    → v ≡ shifted (get_or before (row * 32 + n) 0) t → Raised before row t (n + 1) (set after (row * 32 + n) v)
-raised_more before after row t n v r h b e = record {
-  size = length-set after (row * 32 + n) v ∙ r.size;
-  raised = λ l c. ⊎_elim (last l c) (earlier l) (nat_le_or_lt n l);
-  above = λ k c. get_or-set_other after (row * 32 + n) k v 0 (λ d. omega arith) ∙ r.above k c;
-  below = λ k c. get_or-set_other after (row * 32 + n) k v 0 (λ d. omega arith) ∙ r.below k (omega arith);
-}
-  where
-    last : (l : ℕ) → l < n + 1 → n ≤ l → get_or (set after (row * 32 + n) v) (row * 32 + l) 0 ≡ shifted (get_or before (row * 32 + l) 0) t
-    last l c d =
-        let q : n ≡ l = omega arith in
-        let s : row * 32 + n < length after = omega (arith, r.size) in
-        subst (λ (i : ℕ). get_or (set after (row * 32 + n) v) (row * 32 + i) 0 ≡ shifted (get_or before (row * 32 + i) 0) t) q (get_or-set_same after (row * 32 + n) v 0 s ∙ e)
-
-    earlier : (l : ℕ) → l < n → get_or (set after (row * 32 + n) v) (row * 32 + l) 0 ≡ shifted (get_or before (row * 32 + l) 0) t
-    earlier l c = get_or-set_other after (row * 32 + n) (row * 32 + l) v 0 (λ d. omega arith) ∙ r.raised l c
-
-pub raised_end : (before after : List ℕ) (row t n : ℕ) → n ≤ 32 → 32 ≤ n → Raised before row t n after → Raised before row t 32 after
-raised_end before after row t n h k r = let e : n ≡ 32 = omega arith in subst (λ (i : ℕ). Raised before row t i after) e r
 
 module _ {f : Frame} {raised' : List ℕ} {t : ℕ} (y : Ready f) (b : Trialled t) (r : Raised f.right.now f.m t 32 raised') where
   raised_near : (k : ℕ) → Near raised_limit (get_or raised' k 0)

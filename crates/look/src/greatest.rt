@@ -13,6 +13,11 @@ use policy_iteration::rows::Rows;
 use policy_iteration::values::side;
 use records::limits::{STRIDE, TABLE};
 
+// The starts of classes 1 and 3, by their numbers in a record.
+const ANCHOR: u64 = 0;
+
+const SECOND_LIST: u64 = 1;
+
 // What a look finds: the second side of the greatest point under caps as an offset number, 0 where it is blank or variable 0 has no
 // value; the strategy that the point ends with, which blocks from the start every trial that is not possible, row m being the objective's;
 // and that start: 0 the anchor, 1 the second list.
@@ -29,9 +34,9 @@ fn start_for(right: &[u32; TABLE], row: usize, second: u64) -> u64
     ensures { result ≡ start_for right.now row second }
 {
     if second == 0 || right[row * STRIDE] == 0 {
-        1
+        SECOND_LIST
     } else {
-        0
+        ANCHOR
     }
 }
 
@@ -51,7 +56,7 @@ fn greatest_under(frame: &Frame, caps: &[u32; STRIDE]) -> Look
     let end = rules.iterate(caps);
     if end.values[0] == 0 {
         return Look {
-            start: 0,
+            start: ANCHOR,
             second: 0,
             picks: end.picks,
         };

@@ -1,7 +1,7 @@
 -- Laws of the loops that make an answer's picks.
 use Prim.Native.Nat.{ℕ, ◌+◌, ◌-◌, ◌*◌, ◌/◌, ◌%◌, ◌≤◌, ◌<◌}
 use mathlib.Core.Path.{◌≡◌, refl, ap, ap₂, sym, subst, ◌∙◌}
-use mathlib.Core.Logic.{◌⊎◌, inl, inr, ⊎_elim}
+use mathlib.Core.Logic.{⊎_elim}
 use mathlib.Core.List.{List, ◌++◌}
 use native.Mathlib.Omega.{arith}
 use native.Mathlib.Nat.{eq-zero-or-pos}
@@ -11,7 +11,7 @@ use borrow.Author.Tests.{eq-eqb, ne_eqb, lt-ltb, le-ltb}
 use borrow.Rule.Slice.PartMut.{put_mid, mid_of}
 use Rattle.std.proofs.lemmas.List.{get_or_append_left, get_or-append_right, get_or-take, get_or-drop, length-take-le, length-drop, length-append}
 use Rattle.base.specs.Filled.{Filled}
-use Rattle.base.proofs.Numbers.{nat_le_or_lt, same_or_not, positive}
+use Rattle.base.proofs.Numbers.{nat_le_or_lt, same_or_not}
 use Rattle.base.proofs.Filled.{zeros, filled_map}
 use Rattle.definitions.specs.Tropical.{bot, plus, largest, ◌⊑◌, Finite}
 use Rattle.definitions.specs.Offset.{trop_of}
@@ -21,7 +21,7 @@ use Rattle.reach.specs.Spreading.{mark_of}
 use Rattle.reach.proofs.Marks.{mark_same, mark_arc}
 use Rattle.policy_iteration.specs.Tables.{entry_of, point_of, raised_limit, fold_limit, Table, Ranged}
 use Rattle.policy_iteration.specs.Rounds.{folded_at, sums}
-use Rattle.pick_tables.specs.Shown.{shown_pick, arc_by, VariableArcs, RowArcIs, RowArcs, Column, UsedIs, blank_most, Highest, BestIs}
+use Rattle.pick_tables.specs.Shown.{shown_pick, arc_by, VariableArcs, RowArcIs, RowArcs, Column, blank_most, Highest, BestIs}
 use Rattle.policy_iteration.proofs.Fold.{folded_low, folded_offsets, folded_mono}
 
 -- ---- one pick
@@ -224,56 +224,7 @@ rows_column {left} {picks} {arcs} {arcs'} {i} {width} s g c = record {
     there : (k : ℕ) → k < width * 32 → (k % 32 ≡ get_or picks i 0 → ⊥) → RowArcIs left picks (i + 1) (k / 32) (k % 32) (get_or arcs' k 0)
     there k h d = subst (RowArcIs left picks (i + 1) (k / 32) (k % 32)) (sym (c.others k (λ e. absurd (d e)))) (arc_passed (s.each k h) (λ e. absurd (d (sym e))))
 
--- ---- rows in use
-
-pub used_found : (left marks : List ℕ) (width i j : ℕ) → j < width → (get_or marks j 0 ≡ 0 → ⊥) → (get_or left (i * 32 + j) 0 ≡ 0 → ⊥)
-    → UsedIs left marks width i 1
-used_found left marks width i j h m d = record {
-  some = λ _. record { at = j; inside = h; marked = positive _ m; left_is = d };
-  none = λ f. absurd (omega arith);
-}
-
-pub used_none : (left marks : List ℕ) (width i n : ℕ) → ((j : ℕ) → j < n → (get_or marks j 0 ≡ 0 → ⊥) → get_or left (i * 32 + j) 0 ≡ 0) → width ≤ n
-    → UsedIs left marks width i 0
-used_none left marks width i n f h = record {
-  some = λ d. absurd (d refl);
-  none = λ _ t. t.left_is (f t.at (omega (arith, t.inside)) (λ z. omega (arith, t.marked, z)));
-}
-
 -- ---- the row strategy of a point
-
-pub highest_none : (table : List ℕ) (row : ℕ) (x : List ℕ) (width : ℕ) → Highest table row x width 0 blank_most width
-highest_none table row x width = record {
-  most = λ l h. absurd (omega arith);
-  least = omega arith;
-  some = λ h. absurd (omega arith);
-  none = λ h. (refl, refl);
-  first = λ h. absurd (omega arith);
-}
-
-pub highest_on : (table : List ℕ) (row : ℕ) (x : List ℕ) (width n top pick top' pick' : ℕ) → Highest table row x width n top pick → n < width
-    → ((top < sums table row x n) × (top' ≡ sums table row x n) × (pick' ≡ n)) ⊎ ((sums table row x n ≤ top) × (top' ≡ top) × (pick' ≡ pick))
-    → Highest table row x width (n + 1) top' pick'
-highest_on table row x width n top pick top' pick' s h (inl w) = rw (w.1, w.2) (record {
-  most = λ l b. ⊎_elim
-      (λ (k : n ≤ l). let q : n ≡ l = omega arith in subst (λ (i : ℕ). sums table row x i ≤ sums table row x n) q (omega arith))
-      (λ (k : l < n). omega (arith, s.most l k, w.0))
-      (nat_le_or_lt n l);
-  least = omega (arith, s.least, w.0);
-  some = λ _. (refl, omega (arith, s.least, w.0));
-  none = λ k. absurd (omega arith);
-  first = λ _ l k. omega (arith, s.most l k, w.0);
-})
-highest_on table row x width n top pick top' pick' s h (inr w) = rw (w.1, w.2) (record {
-  most = λ l b. ⊎_elim
-      (λ (k : n ≤ l). let q : n ≡ l = omega arith in subst (λ (i : ℕ). sums table row x i ≤ top) q w.0)
-      (λ (k : l < n). s.most l k)
-      (nat_le_or_lt n l);
-  least = s.least;
-  some = s.some;
-  none = s.none;
-  first = s.first;
-})
 
 pub highest_end : (right : List ℕ) (row : ℕ) (x : List ℕ) (width n top pick : ℕ) → Table raised_limit right → Ranged x
     → Highest right row x width n top pick → width ≤ n → BestIs right row x width pick

@@ -98,12 +98,7 @@ fn used(left: &[u32; TABLE], marks: &[u8; STRIDE], i: usize, width: usize) -> u8
     requires { (length left.now ≡ table_size) × (length marks.now ≡ stride) × (i < table_rows) × (width ≤ stride) }
     ensures { UsedIs left.now marks.now width i result }
 {
-    for j in 0..width {
-        if marks[j] != 0 && left[i * STRIDE + j] != 0 {
-            return 1;
-        }
-    }
-    0
+    u8::from((0..width).any(|j| marks[j] != 0 && left[i * STRIDE + j] != 0))
 }
 
 // The picks of a strategy of rows; those of rows that are not in use are 0. Public for `class_answers::answer`.

@@ -12,7 +12,7 @@ use Rattle.definitions.specs.Limits.{signed_half, span_limit, most_trials, class
 use Rattle.definitions.specs.Bisection.{Bracket, Brackets, opening, middle, next, width, Halved, counted, halved, trials_unbounded, trials_optimal}
 use Rattle.definitions.proofs.Whole.{whole, plus_read, subℕ_read, abs_show}
 use Rattle.definitions.proofs.Bisection.{half_up_is, width_is, Inside, middle_inside, halved_stop, halved_on, following, few_trials}
-use Rattle.search.specs.Trials.{whole_of, top_offset, lowest_offset, Trialled, PossibleBy, bracket_of, Between, Counted, Halving, LeastBy, FoundBy}
+use Rattle.search.specs.Trials.{whole_of, top_offset, lowest_offset, PossibleBy, bracket_of, Between, Counted, Halving, LeastBy, FoundBy}
 
 -- ---- the middle
 
@@ -137,13 +137,6 @@ module _ {second low high trials : ℕ} (h : Halving second low high trials) whe
   pub halving_apart : low < high
   halving_apart = omega (arith, h.impossible, h.possible)
 
-  -- Both are in the trials' range.
-  pub low_trialled : Trialled low
-  low_trialled = omega (arith, h.lowest, h.highest, halving_apart)
-
-  pub high_trialled : Trialled high
-  high_trialled = omega (arith, h.lowest, h.highest, halving_apart)
-
   high_brackets : Brackets (bracket_of low high) (whole_of high)
   high_brackets = record { above = omega (whole, halving_apart, subℕ_read low signed_half, subℕ_read high signed_half); within = omega whole }
 
@@ -200,10 +193,6 @@ module _ {second low high trials : ℕ} (h : Halving second low high trials) whe
   -- A bracket that is not 1 wide is wider.
   pub wider : (high - low ≡ 1 → ⊥) → low + 1 < high
   wider d = omega (arith, halving_apart)
-
-  -- The middle is in the trials' range.
-  pub middle_trialled : {half : ℕ} → Between low high half → Trialled half
-  middle_trialled b = omega (arith, b.is, h.lowest, h.highest, halving_apart)
 
 module _ {second low high trials half : ℕ} (h : Halving second low high trials) (w : low + 1 < high) (b : Between low high half) (low' high' : ℕ) where
   -- A trial at the middle gives the next bracket, and is counted.

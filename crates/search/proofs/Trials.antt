@@ -155,9 +155,3 @@ pub least_trials : {second class span trials : ℕ} → FoundBy second class spa
 least_trials (FoundBy.none h) e = absurd (omega arith)
 least_trials (FoundBy.bottomless h) e = absurd (omega arith)
 least_trials (FoundBy.least h) e = refl
-
--- Another class is least.
-pub else_least : {second class span trials : ℕ} → FoundBy second class span trials → (class ≡ class_infeasible → ⊥) → (class ≡ class_unbounded → ⊥) → class ≡ class_optimal
-else_least (FoundBy.none h) d e = absurd (d refl)
-else_least (FoundBy.bottomless h) d e = absurd (e refl)
-else_least (FoundBy.least h) d e = refl

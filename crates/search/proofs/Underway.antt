@@ -15,11 +15,11 @@ use Rattle.records.specs.declared.class.Class.{Class}
 use Rattle.records.specs.declared.class.Class.TheVariants.{Optimal, Unbounded, Infeasible}
 use Rattle.search.specs.declared.bracket.Bracket as Offsets
 use Rattle.search.specs.declared.steps.Search.{Search}
-use Rattle.search.specs.Trials.{whole_of, top_offset, lowest_offset, Trialled, PossibleBy, bracket_of, Between, Halving, FoundBy}
+use Rattle.search.specs.Trials.{whole_of, top_offset, lowest_offset, PossibleBy, bracket_of, Between, Halving, FoundBy}
 use Rattle.records.specs.Classes.{class_number}
 use Rattle.search.specs.Underway.{class_word, class_from, at_start, Underway, NextIs, TrialMade, Tried}
 use Rattle.search.proofs.Trials.{found_one}
-use Rattle.search.proofs.Halves.{middle_whole, halvings_left, whole_injective, two_at_least, halving_start, halving_apart, low_trialled, high_trialled, middle_trialled, halving_more, least_brackets, halving_on, halving_end, wider}
+use Rattle.search.proofs.Halves.{middle_whole, halvings_left, whole_injective, two_at_least, halving_start, halving_apart, halving_more, least_brackets, halving_on, halving_end, wider}
 
 -- None, one, or more trials made.
 few_or_more : (k : ℕ) → (k ≡ 0) ⊎ ((k ≡ 1) ⊎ (2 ≤ k))
@@ -59,17 +59,6 @@ start_underway second = record {
   halving = λ h. absurd (omega arith);
   wide = λ h. absurd (omega arith);
 }
-
--- The bracket and its middle are in the trials' range.
-module _ {second : ℕ} {s : Search} (u : Underway second s) (e : 2 ≤ s.made) where
-  pub low_underway : Trialled s.bracket.low
-  low_underway = low_trialled (u.halving e)
-
-  pub high_underway : Trialled s.bracket.high
-  high_underway = high_trialled (u.halving e)
-
-  pub middle_underway : {half : ℕ} → Between s.bracket.low s.bracket.high half → Trialled half
-  middle_underway b = middle_trialled (u.halving e) b
 
 -- ---- what each trial leaves
 

@@ -9,9 +9,6 @@ greatest_under-free-requires c = let p = c.requires in (p, rw c.level_caps.ensur
 pub returns-then-free-eq0 : goal.returns-then-free-eq0
 returns-then-free-eq0 c = looked_none (rw c.level_caps.ensures at c.greatest_under-free.ensures) c.if-free-eq0.true
 
-pub caps_of-requires : goal.caps_of-requires
-caps_of-requires c = let p = c.requires.coefficients in (p.lefts, omega (arith, p.m_most))
-
 pub greatest_under-requires : goal.greatest_under-requires
 greatest_under-requires c = let p = c.requires in (p, set_caps _ p.coefficients.lefts c.caps_of.ensures (omega (arith, p.coefficients.n_most)))
 

@@ -1,4 +1,3 @@
-use borrow.Author.Rules.{rules}
 use Rattle.search.specs.Trials.{FoundBy}
 use Rattle.search.proofs.search.search.Goals as goal
 
@@ -7,8 +6,3 @@ returns-then-not-trial c = FoundBy.none (c.trial.ensures.no c.if-not-trial.true)
 
 pub returns-then-trial : goal.returns-then-trial
 returns-then-trial c = FoundBy.bottomless (c.trial-2.ensures.yes c.if-trial.true)
-
-pub halve-requires : goal.halve-requires
-halve-requires c = let top = c.trial.ensures in
-    let lowest = c.trial-2.ensures in
-    (search rules, top.yes c.if-not-trial.false, lowest.no c.if-trial.false)

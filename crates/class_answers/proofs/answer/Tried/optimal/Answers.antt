@@ -5,10 +5,6 @@ use Rattle.class_answers.proofs.Points.{all_rows, point_ranged, point_anchored}
 use Rattle.class_answers.proofs.Optimal.{span_trialled, optimal_answer}
 use Rattle.class_answers.proofs.answer.Tried.optimal.Goals as goal
 
-pub raised-table-requires : goal.raised-table-requires
-raised-table-requires c = let k = c.requires.0 in
-    (k.ready.coefficients.rights, omega (arith, k.ready.coefficients.m_most), span_trialled k.found_by (ap class_number c.requires.1))
-
 pub point_at-point-requires : goal.point_at-point-requires
 point_at-point-requires c = let k = c.requires.0 in all_rows k.ready (span_trialled k.found_by (ap class_number c.requires.1)) c.raised-table.ensures
 
