@@ -1,7 +1,7 @@
 -- The answer to the problem in two tables is one.
 use Prim.Native.Nat.{ℕ, ◌+◌, ◌≤◌, ◌<◌}
-use mathlib.Core.Path.{◌≡◌, sym, ap, subst, ◌∙◌}
-use mathlib.Core.Logic.{⊎_elim}
+use mathlib.Core.Path.{◌≡◌, refl, sym, ap, subst, ◌∙◌}
+use mathlib.Core.Logic.{◌⊎◌, inl, inr, ⊎_elim}
 use mathlib.Core.List.{List}
 use native.Mathlib.Omega.{arith}
 use lib.ListN.{get_or}
@@ -10,7 +10,11 @@ use Rattle.base.proofs.Lists.{filled_one}
 use Rattle.definitions.specs.Limits.{highest_n}
 use Rattle.definitions.proofs.Offset.{trop_of_injective}
 use Rattle.reach.proofs.One.{SameBegin, anchored_one, anchored_and_one}
+use Rattle.records.specs.Classes.{class_number}
+use Rattle.records.specs.declared.class.Class.{Class}
+use Rattle.records.specs.declared.class.Class.TheVariants.{Optimal, Unbounded, Infeasible}
 use Rattle.search.proofs.Trials.{SameFound, found_one}
+use Rattle.search.proofs.Underway.{number_class}
 use Rattle.search.specs.Trials.{FoundBy}
 use Rattle.look.specs.Frames.{Copied}
 use Rattle.look.specs.Point.{PointFor}
@@ -72,6 +76,16 @@ module _ {n m i k : ℕ} {left right a b : List ℕ} (few : n ≤ highest_n) (p 
 
 -- ---- the answer
 
+unbounded_or_not : (c : Class) → (c ≡ Unbounded) ⊎ (c ≡ Unbounded → ⊥)
+unbounded_or_not Optimal = inr (λ e. omega (arith, ap class_number e))
+unbounded_or_not Unbounded = inl refl
+unbounded_or_not Infeasible = inr (λ e. omega (arith, ap class_number e))
+
+optimal_or_not : (c : Class) → (c ≡ Optimal) ⊎ (c ≡ Optimal → ⊥)
+optimal_or_not Optimal = inl refl
+optimal_or_not Unbounded = inr (λ e. omega (arith, ap class_number e))
+optimal_or_not Infeasible = inr (λ e. omega (arith, ap class_number e))
+
 -- The same answer, field by field.
 pub record SameAnswer (a b : Answer) : Type 0 where
   pub class : a.class ≡ b.class
@@ -83,26 +97,29 @@ pub record SameAnswer (a b : Answer) : Type 0 where
 
 pub given_one : {n m : ℕ} {left right : List ℕ} {a b : Answer} → n ≤ highest_n → Given n m left right a → Given n m left right b → SameAnswer a b
 given_one {n} {m} {left} {right} {a} {b} few g h = record {
-  class = same.class_same;
+  class = class_same;
   span = same.span_same;
   start = ⊎_elim
-      (λ (e : a.class ≡ 2). (saved_one few (g.saved e) (h.saved (sym same.class_same ∙ e))).0)
-      (λ (d : a.class ≡ 2 → ⊥). (g.blocked d).0 ∙ look.start ∙ sym (h.blocked (λ e. d (same.class_same ∙ e))).0)
-      (same_or_not a.class 2);
+      (λ (e : a.class ≡ Unbounded). (saved_one few (g.saved e) (h.saved (sym class_same ∙ e))).0)
+      (λ (d : a.class ≡ Unbounded → ⊥). (g.blocked d).0 ∙ look.start ∙ sym (h.blocked (λ e. d (class_same ∙ e))).0)
+      (unbounded_or_not a.class);
   trials = same.trials_same;
   stamps = ⊎_elim
-      (λ (e : a.class ≡ 1). plan_one (g.planned e) (rw (sym same.span_same) at (h.planned (sym same.class_same ∙ e))))
-      (λ (d : a.class ≡ 1 → ⊥). g.unplanned d ∙ sym (h.unplanned (λ e. d (same.class_same ∙ e))))
-      (same_or_not a.class 1);
+      (λ (e : a.class ≡ Optimal). plan_one (g.planned e) (rw (sym same.span_same) at (h.planned (sym class_same ∙ e))))
+      (λ (d : a.class ≡ Optimal → ⊥). g.unplanned d ∙ sym (h.unplanned (λ e. d (class_same ∙ e))))
+      (optimal_or_not a.class);
   picks = ⊎_elim
-      (λ (e : a.class ≡ 2). (saved_one few (g.saved e) (h.saved (sym same.class_same ∙ e))).1)
-      (λ (d : a.class ≡ 2 → ⊥). shown_one (g.blocked d).1
-      (subst (λ (i : ℕ). ShownPicks n m right i h.look.picks b.picks) (sym look.start) (h.blocked (λ e. d (same.class_same ∙ e))).1) look.picks)
-      (same_or_not a.class 2);
+      (λ (e : a.class ≡ Unbounded). (saved_one few (g.saved e) (h.saved (sym class_same ∙ e))).1)
+      (λ (d : a.class ≡ Unbounded → ⊥). shown_one (g.blocked d).1
+      (subst (λ (i : ℕ). ShownPicks n m right i h.look.picks b.picks) (sym look.start) (h.blocked (λ e. d (class_same ∙ e))).1) look.picks)
+      (unbounded_or_not a.class);
 }
   where
     look : SameLook n g.look h.look
     look = looks_one g.looks h.looks
 
-    same : SameFound a.class a.span a.trials b.class b.span b.trials
-    same = found_one g.found (subst (λ (i : ℕ). FoundBy i b.class b.span b.trials) (sym look.second) h.found)
+    same : SameFound (class_number a.class) a.span a.trials (class_number b.class) b.span b.trials
+    same = found_one g.found (subst (λ (i : ℕ). FoundBy i (class_number b.class) b.span b.trials) (sym look.second) h.found)
+
+    class_same : a.class ≡ b.class
+    class_same = number_class a.class b.class same.class_same

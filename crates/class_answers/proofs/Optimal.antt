@@ -33,6 +33,8 @@ use Rattle.duality.proofs.Unused.{optimal_unused}
 use Rattle.policy_iteration.specs.Tables.{point_of, pick_of}
 use Rattle.search.specs.Trials.{whole_of, Trialled, LeastBy, FoundBy}
 use Rattle.search.specs.declared.search.Found.{Found}
+use Rattle.records.specs.Classes.{class_number}
+use Rattle.records.specs.declared.class.Class.TheVariants.{Optimal}
 use Rattle.search.proofs.Trials.{found_least, least_trialled, below_trialled}
 use Rattle.look.specs.declared.frame.Frame.{Frame}
 use Rattle.look.specs.declared.greatest.Look.{Look}
@@ -51,14 +53,17 @@ pub span_trialled : {second class span trials : ℕ} → FoundBy second class sp
 span_trialled f e = least_trialled (found_least f e)
 
 -- The least span with its point: least.
-module _ {f : Frame} {left right raised : List ℕ} {l : Look} {found : Found} {x out stamps : List ℕ} (y : Ready f left right) (look : Looked f.n f.m left right l)
-    (some : FoundBy l.second found.class found.span found.trials) (class : found.class ≡ 1) (r : Raised right f.m found.span 32 raised)
-    (d : PointFor f.n f.m left raised x) (s : ShownPicks f.n f.m right l.start l.picks out) (z : Stamps x (f.n + 1) stamps) where
-  c : Coefficients f.n f.m left right
+module _ {f : Frame} {raised : List ℕ} {l : Look} {found : Found} {x out stamps : List ℕ} (y : Ready f) (look : Looked f.n f.m f.left.now f.right.now l)
+    (some : FoundBy l.second (class_number found.class) found.span found.trials) (class : found.class ≡ Optimal) (r : Raised f.right.now f.m found.span 32 raised)
+    (d : PointFor f.n f.m f.left.now raised x) (s : ShownPicks f.n f.m f.right.now l.start l.picks out) (z : Stamps x (f.n + 1) stamps) where
+  number : class_number found.class ≡ 1
+  number = ap class_number class
+
+  c : Coefficients f.n f.m f.left.now f.right.now
   c = y.coefficients
 
   least : LeastBy l.second found.span
-  least = found_least some class
+  least = found_least some number
 
   positive : 0 < found.span
   positive = omega (arith, least.lowest)
@@ -76,7 +81,7 @@ module _ {f : Frame} {left right raised : List ℕ} {l : Look} {found : Found} {
   abbrev plan : Point
   plan = moved (point_of x) anchor
 
-  module _ (p : Problem) (q : Held p f.n f.m left right) where
+  module _ (p : Problem) (q : Held p f.n f.m f.left.now f.right.now) where
     shows : PointAt p found.span x
     shows = point_shows q y (least_trialled least) r d ((look.decided p q).possible found.span (least_trialled least) least.possible)
 
@@ -128,7 +133,7 @@ module _ {f : Frame} {left right raised : List ℕ} {l : Look} {found : Found} {
     answers : Answers p 1 (trop_of found.span) found.trials (answer_in f.n f.m 1 found.span l.start stamps out)
     unfolding right_counts span_fits whole_within
     answers = record {
-      found = rw class at (looked_found c look p q some);
+      found = rw number at (looked_found c look p q some);
       class_is = refl;
       span_is = refl;
       counts = rw q.n_is ((and-eq-true_iff (eqb (length (map trop_of (take (suc f.n) stamps))) (suc f.n)) (eqb (length (take (suc f.n) out)) (suc f.n))).1
@@ -144,7 +149,7 @@ module _ {f : Frame} {left right raised : List ℕ} {l : Look} {found : Found} {
       accepted = Verdict.optimal refl (trop_fin found.span positive) (rw (shown_strategy q c s, stamps_point_lem) accepted);
     }
 
-  pub optimal_answer : AnswerOf f.n f.m left right found (record { class = 1; span = found.span; start = l.start; trials = found.trials; stamps = stamps; picks = out })
+  pub optimal_answer : AnswerOf f.n f.m f.left.now f.right.now found (record { class = Optimal; span = found.span; start = l.start; trials = found.trials; stamps = stamps; picks = out })
   optimal_answer = record {
     class_is = sym class;
     span_is = refl;
@@ -153,15 +158,15 @@ module _ {f : Frame} {left right raised : List ℕ} {l : Look} {found : Found} {
     picks_size = s.shown.shown.size_is;
     stamps_most = λ j. ⊎_elim
         (λ (h : f.n + 1 ≤ j). omega (arith, z.rest j h))
-        (λ (h : j < f.n + 1). number_within (get_or stamps j 0) (rw (z.each j h) ((shows _ (problem_in_lem f.n f.m left right)).stamps j)))
+        (λ (h : j < f.n + 1). number_within (get_or stamps j 0) (rw (z.each j h) ((shows _ (problem_in_lem f.n f.m f.left.now f.right.now)).stamps j)))
         (nat_le_or_lt (f.n + 1) j);
     picks_most = shown_few c s;
     given = record {
       look = l;
       looks = look.looks;
-      found = rw class at some;
+      found = rw number at some;
       blocked = λ _. (refl, s);
-      saved = λ e. absurd (omega arith);
+      saved = λ e. absurd (omega (arith, ap class_number e));
       planned = λ _. record { table = raised; point = x; raised = r; point_is = d; stamps_are = z };
       unplanned = λ e. absurd (e refl);
     };

@@ -41,31 +41,31 @@ use Rattle.class_answers.specs.Answered.{PointAt}
 
 -- ---- the tables of all rows
 
-pub all_rows : {f : Frame} {left right raised : List ℕ} {t : ℕ} → Ready f left right → Trialled t → Raised right f.m t 32 raised → AllRows f left raised
+pub all_rows : {f : Frame} {raised : List ℕ} {t : ℕ} → Ready f → Trialled t → Raised f.right.now f.m t 32 raised → AllRows f raised
 all_rows y b r = record { tables = raised_tables y b r; left_ends = y.left_ends; right_ends = raised_ends y b r }
 
-pub right_raised : {f : Frame} {left right raised : List ℕ} {t : ℕ} → Ready f left right → Trialled t → Raised right f.m t 32 raised → Table raised_limit raised
+pub right_raised : {f : Frame} {raised : List ℕ} {t : ℕ} → Ready f → Trialled t → Raised f.right.now f.m t 32 raised → Table raised_limit raised
 right_raised y b r = (raised_tables y b r).rights
 
 -- The values are in range.
-pub point_ranged : {f : Frame} {left right raised : List ℕ} {t : ℕ} {x : List ℕ} → Ready f left right → Trialled t → Raised right f.m t 32 raised
-    → PointFor f.n f.m left raised x → Ranged x
-point_ranged {f} {left} {right} {raised} {t} {x} y b r d =
+pub point_ranged : {f : Frame} {raised : List ℕ} {t : ℕ} {x : List ℕ} → Ready f → Trialled t → Raised f.right.now f.m t 32 raised
+    → PointFor f.n f.m f.left.now raised x → Ranged x
+point_ranged {f} {raised} {t} {x} y b r d =
     let w = raised_tables y b r in
-    values_ranged left raised level d.picks x (f.n + 1) (f.m + 1) w (level_caps (f.n + 1) w.width_most) d.ended.values_are
+    values_ranged f.left.now raised level d.picks x (f.n + 1) (f.m + 1) w (level_caps (f.n + 1) w.width_most) d.ended.values_are
 
-module _ {p : Problem} {f : Frame} {left right raised : List ℕ} {t : ℕ} {x : List ℕ} (q : Held p f.n f.m left right) (y : Ready f left right)
-    (b : Trialled t) (r : Raised right f.m t 32 raised) (d : PointFor f.n f.m left raised x) where
-  agree : Agree (rows_in f.n f.m left raised) (system_at p (whole_of t))
+module _ {p : Problem} {f : Frame} {raised : List ℕ} {t : ℕ} {x : List ℕ} (q : Held p f.n f.m f.left.now f.right.now) (y : Ready f)
+    (b : Trialled t) (r : Raised f.right.now f.m t 32 raised) (d : PointFor f.n f.m f.left.now raised x) where
+  agree : Agree (rows_in f.n f.m f.left.now raised) (system_at p (whole_of t))
   agree = agree_at q y.coefficients b r
 
   policy : Policy (system_at p (whole_of t)) (pick_of d.picks)
-  policy = agree_policy (rows_in f.n f.m left raised) (system_at p (whole_of t)) (pick_of d.picks) (pick_of d.picks) agree (λ j h. refl) d.ended.policy
+  policy = agree_policy (rows_in f.n f.m f.left.now raised) (system_at p (whole_of t)) (pick_of d.picks) (pick_of d.picks) agree (λ j h. refl) d.ended.policy
 
   value_is : (j : ℕ) → j ≤ p.n → point_of x j ≡ values (system_at p (whole_of t)) (pick_of d.picks) j
   value_is j h =
       d.ended.values_are.each j (omega (arith, q.n_is))
-      ∙ agree_values (rows_in f.n f.m left raised) (system_at p (whole_of t)) (pick_of d.picks) (pick_of d.picks) agree (λ j h. refl) j (omega (arith, q.n_is))
+      ∙ agree_values (rows_in f.n f.m f.left.now raised) (system_at p (whole_of t)) (pick_of d.picks) (pick_of d.picks) agree (λ j h. refl) j (omega (arith, q.n_is))
 
   -- ---- it is finite where some solution is
 
@@ -131,6 +131,6 @@ module _ {p : Problem} {f : Frame} {left right raised : List ℕ} {t : ℕ} {x :
   unfolding system_at
   anchored = (trop_order (get_or x 0 0) zero_offset).0 (rw (value_is 0 (omega arith), zero_is) (policy.below 0 (omega arith)))
 
-pub point_anchored : {f : Frame} {left right raised : List ℕ} {t : ℕ} {x : List ℕ} → Ready f left right → Trialled t → Raised right f.m t 32 raised → PointFor f.n f.m left raised x
+pub point_anchored : {f : Frame} {raised : List ℕ} {t : ℕ} {x : List ℕ} → Ready f → Trialled t → Raised f.right.now f.m t 32 raised → PointFor f.n f.m f.left.now raised x
     → get_or x 0 0 ≤ zero_offset
-point_anchored {f} {left} {right} y b r d = anchored (problem_in_lem f.n f.m left right) y b r d
+point_anchored {f} y b r d = anchored (problem_in_lem f.n f.m f.left.now f.right.now) y b r d

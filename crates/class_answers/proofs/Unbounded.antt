@@ -3,14 +3,16 @@ use Prim.Native.Nat.{ℕ, suc, ◌+◌, ◌≤◌, ◌<◌}
 use mathlib.Core.Path.{◌≡◌, refl, sym, ap, subst}
 use mathlib.Core.Bool.{true, ◌&&◌, and-eq-true_iff}
 use mathlib.Core.Logic.{⊎_elim}
+use borrow.Author.Rules.{rules}
+use Rattle.std.specs.Prelude.{Option, Some, None, MatchOption}
+use Rattle.std.specs.Option.{IsSome}
 use mathlib.Core.List.{List}
 use native.Mathlib.Omega.{arith}
 use native.Mathlib.Numerals.{add-one}
 use lib.Dec.{leb, ltb}
-use lib.ListN.{length, get_or, take, replicate, length-replicate, get_or-eq_default}
+use lib.ListN.{get_or, take, replicate, length-replicate}
 use borrow.Author.Tests.{le-leb, lt-ltb}
 use Rattle.base.proofs.Filled.{zeros}
-use Rattle.base.proofs.Numbers.{nat_le_or_lt}
 use Rattle.definitions.specs.Limits.{lead_limit, span_limit}
 use Rattle.definitions.specs.Tropical.{Trop, plus, Finite}
 use Rattle.definitions.specs.Problem.{Problem, Attainable}
@@ -38,6 +40,8 @@ use Rattle.reach.proofs.Marks.{anchored_and_marked}
 use Rattle.policy_iteration.specs.Tables.{system_of, point_of, pick_of}
 use Rattle.search.specs.Trials.{lowest_offset, FoundBy}
 use Rattle.search.specs.declared.search.Found.{Found}
+use Rattle.records.specs.Classes.{class_number}
+use Rattle.records.specs.declared.class.Class.TheVariants.{Unbounded}
 use Rattle.search.proofs.Trials.{found_bottomless, bottomless_span}
 use Rattle.look.specs.declared.frame.Frame.{Frame}
 use Rattle.look.specs.declared.greatest.Look.{Look}
@@ -72,121 +76,113 @@ rows_induced left right x rows n m s a f i h g =
 start_inside : (k n : ℕ) → k < n + 1 → (ltb 0 (k + 1) && leb (k + 1) (suc n)) ≡ true
 start_inside k n h = (and-eq-true_iff (ltb 0 (k + 1)) (leb (k + 1) (suc n))).1 (lt-ltb 0 (k + 1) (omega arith), le-leb (k + 1) (suc n) (omega arith))
 
--- Both marks are among the 32.
-pub anchored_below : {k : ℕ} {start : List ℕ} → AnchoredAnd k start → k < 32
-anchored_below {k} {start} a = ⊎_elim
-    (λ (h : 32 ≤ k). let b : length start ≤ k = omega (arith, a.flags.length_is) in absurd (omega (arith, a.other, get_or-eq_default start 0 b)))
-    (λ h. h)
-    (nat_le_or_lt 32 k)
-
--- A point that shows t possible is met: a variable of the second list has a value there.
-point_second : {p : Problem} {n m t : ℕ} {left right row x : List ℕ} {k : ℕ} → Held p n m left right → n ≤ 31 → Copied right m 32 row → PointAt p t x
-    → SecondIs row x (n + 1) k → k < n + 1
-point_second {n = n} {k = k} q b c x m = ⊎_elim
-    (λ (h : n + 1 ≤ k).
+-- A point that shows t possible is met: some variable of the second list has a value there.
+point_met : {p : Problem} {n m t : ℕ} {left right row x : List ℕ} → Held p n m left right → n ≤ 31 → Copied right m 32 row → PointAt p t x
+    → SecondIs row x (n + 1) (n + 1) → ⊥
+point_met {n = n} q b c x m =
     let s = x.second in
     let g = (second_held q b c s.at).0 s.started in
-    absurd (m.none h s.at g.0 (g.1, (number_finite _).0 s.finite)))
-    (λ h. h)
-    (nat_le_or_lt (n + 1) k)
+    m.none (omega arith) s.at g.0 (g.1, (number_finite _).0 s.finite)
 
 -- The lowest trial is possible: bottomless.
-module _ {f : Frame} {left right raised : List ℕ} {l : Look} {found : Found} {x row rows : List ℕ} {k : ℕ} (y : Ready f left right)
-    (look : Looked f.n f.m left right l) (some : FoundBy l.second found.class found.span found.trials) (class : found.class ≡ 2)
-    (r : Raised right f.m lowest_offset 32 raised) (d : PointFor f.n f.m left raised x) (i : InducedRows raised x (f.n + 1) (f.m + 1) rows)
-    (copied : Copied right f.m 32 row) (met : SecondIs row x (f.n + 1) k) where
-  c : Coefficients f.n f.m left right
+module _ {f : Frame} {raised : List ℕ} {l : Look} {found : Found} {x row rows : List ℕ} (y : Ready f)
+    (look : Looked f.n f.m f.left.now f.right.now l) (some : FoundBy l.second (class_number found.class) found.span found.trials) (class : found.class ≡ Unbounded)
+    (r : Raised f.right.now f.m lowest_offset 32 raised) (d : PointFor f.n f.m f.left.now raised x) (i : InducedRows raised x (f.n + 1) (f.m + 1) rows)
+    (copied : Copied f.right.now f.m 32 row) where
+  number : class_number found.class ≡ 2
+  number = ap class_number class
+
+  c : Coefficients f.n f.m f.left.now f.right.now
   c = y.coefficients
 
-  attained : (p : Problem) → Held p f.n f.m left right → Attainable p (lower span_limit)
-  attained p q = (look.decided p q).possible lowest_offset lowest_trialled (found_bottomless some class)
+  attained : (p : Problem) → Held p f.n f.m f.left.now f.right.now → Attainable p (lower span_limit)
+  attained p q = (look.decided p q).possible lowest_offset lowest_trialled (found_bottomless some number)
 
-  shows : (p : Problem) → Held p f.n f.m left right → PointAt p lowest_offset x
+  shows : (p : Problem) → Held p f.n f.m f.left.now f.right.now → PointAt p lowest_offset x
   shows p q = point_shows q y lowest_trialled r d (attained p q)
 
   -- The second list has a variable with a value.
-  second_inside : k < f.n + 1
-  second_inside = let q = problem_in_lem f.n f.m left right in point_second q c.n_most copied (shows _ q) met
+  pub second_some : (o : Option ℕ) → MatchOption o (SecondIs row x (f.n + 1) (f.n + 1)) (λ k. (k < f.n + 1) × SecondIs row x (f.n + 1) k) → IsSome o
+  second_some None m = let q = problem_in_lem f.n f.m f.left.now f.right.now in absurd (point_met q c.n_most copied (shows _ q) m)
+  second_some (Some k) m = search rules
 
-  -- The row strategy of the point saves there, from the anchor and that variable.
-  saves : (p : Problem) → Held p f.n f.m left right → Saves (system_at p (lower span_limit)) (AnchorAnd k) (pick_of rows)
-  unfolding system_at
-  saves p q =
-      let z = shows p q in
-      let t = lower span_limit in
-      let g = rows_induced left raised x rows f.n f.m (system_at p t) (agree_at q c lowest_trialled r) i in
-      solution_saves (system_at p t) (point_of x) (pick_of rows) z.solves g (AnchorAnd k)
-      (λ j. ⊎_elim (λ (e : j ≡ 0). (omega arith, rw e (point_anchor z))) (λ (e : j ≡ k). (omega (arith, q.n_is, second_inside), rw e ((number_finite _).1 (met.some second_inside).1))))
+  module _ {k : ℕ} (inside : k < f.n + 1) (met : SecondIs row x (f.n + 1) k) where
+    -- The row strategy of the point saves there, from the anchor and that variable.
+    saves : (p : Problem) → Held p f.n f.m f.left.now f.right.now → Saves (system_at p (lower span_limit)) (AnchorAnd k) (pick_of rows)
+    unfolding system_at
+    saves p q =
+        let z = shows p q in
+        let t = lower span_limit in
+        let g = rows_induced f.left.now raised x rows f.n f.m (system_at p t) (agree_at q c lowest_trialled r) i in
+        solution_saves (system_at p t) (point_of x) (pick_of rows) z.solves g (AnchorAnd k)
+        (λ j. ⊎_elim (λ (e : j ≡ 0). (omega arith, rw e (point_anchor z))) (λ (e : j ≡ k). (omega (arith, q.n_is, inside), rw e ((number_finite _).1 (met.some inside).1))))
 
-  pub second_below : k < 32
-  second_below = omega (arith, second_inside, c.n_most)
+    module _ {begin out : List ℕ} (anchored : AnchoredAnd k begin) (v : RowPicks f.left.now rows begin (f.n + 1) (f.m + 1) out) where
+      starts : StartMarked (AnchorAnd k) (f.n + 1) begin
+      starts = anchored_and_marked anchored inside
 
-  module _ {begin out : List ℕ} (anchored : AnchoredAnd k begin) (v : RowPicks left rows begin (f.n + 1) (f.m + 1) out) where
-    starts : StartMarked (AnchorAnd k) (f.n + 1) begin
-    starts = anchored_and_marked anchored second_inside
+      strategy : strategy_of (take (suc f.m) out) ≡ pick_of out
+      strategy = cut_64 f.m out c.m_most v.shown
 
-    strategy : strategy_of (take (suc f.m) out) ≡ pick_of out
-    strategy = cut_64 f.m out c.m_most v.shown
+      accepted : (p : Problem) → Held p f.n f.m f.left.now f.right.now → Second p k → AcceptedUnbounded (AnchorAnd k) p (pick_of out)
+      accepted p q second =
+          let g = save_picks p (lower span_limit) (picks_joined (pick_of rows) (suc p.n) (suc p.m)) (saves p q) in
+          unbounded_unused (rw (← same_count p.n f.n q.n_is) (rows_agree q c.n_most starts v))
+          (above_unbounded p lead_limit span_limit (picks_from (pick_of rows) (suc p.n)) (starts_inside p (anchor_and_below p k second)) (held_within q c) (enough q c)
+          (picks_none_above (pick_of rows) (suc p.n) (suc p.m)) g.0 g.1)
 
-    accepted : (p : Problem) → Held p f.n f.m left right → Second p k → AcceptedUnbounded (AnchorAnd k) p (pick_of out)
-    accepted p q second =
-        let g = save_picks p (lower span_limit) (picks_joined (pick_of rows) (suc p.n) (suc p.m)) (saves p q) in
-        unbounded_unused (rw (← same_count p.n f.n q.n_is) (rows_agree q c.n_most starts v))
-        (above_unbounded p lead_limit span_limit (picks_from (pick_of rows) (suc p.n)) (starts_inside p (anchor_and_below p k second)) (held_within q c) (enough q c)
-        (picks_none_above (pick_of rows) (suc p.n) (suc p.m)) g.0 g.1)
+      answers : (p : Problem) → Held p f.n f.m f.left.now f.right.now → Answers p 2 (trop_of 0) found.trials (answer_in f.n f.m 2 0 (k + 1) (replicate 32 0) out)
+      unfolding right_counts span_fits is_blank
+      answers p q =
+          let second : Second p k = (second_held q c.n_most copied k).1 (inside, (met.some inside).0) in
+          record {
+            found = rw (number, (bottomless_span some number).0) at (looked_found c look p q some);
+            class_is = refl;
+            span_is = refl;
+            counts = rw q.m_is (cut_count (suc f.m) out (omega (arith, c.m_most, v.shown.size_is)));
+            start_fits_is = rw q.n_is (start_inside k f.n inside);
+            form = rw (q.n_is, q.m_is) ((form_fits (answer_in f.n f.m 2 0 (k + 1) (replicate 32 0) out) f.n f.m).1 (record {
+              span_fits_is = rw trop_zero refl;
+              stamps_fit_lem = no_stamps_fit;
+              picks_fit_lem = fits_64 (suc f.n) f.m out c.m_most v.shown (λ j. omega (arith, rows_most v j));
+            }));
+            idle_variables = λ e. absurd (e refl);
+            idle_rows = λ _ i e. let same : i ≡ k = omega arith in rw (same, strategy) (rows_idle q c.n_most starts v);
+            accepted = Verdict.unbounded refl (add-one k) second (rw strategy (accepted p q second));
+          }
 
-    answers : (p : Problem) → Held p f.n f.m left right → Answers p 2 (trop_of 0) found.trials (answer_in f.n f.m 2 0 (k + 1) (replicate 32 0) out)
-    unfolding right_counts span_fits is_blank
-    answers p q =
-        let second : Second p k = (second_held q c.n_most copied k).1 (second_inside, (met.some second_inside).0) in
-        record {
-          found = rw (class, (bottomless_span some class).0) at (looked_found c look p q some);
-          class_is = refl;
-          span_is = refl;
-          counts = rw q.m_is (cut_count (suc f.m) out (omega (arith, c.m_most, v.shown.size_is)));
-          start_fits_is = rw q.n_is (start_inside k f.n second_inside);
-          form = rw (q.n_is, q.m_is) ((form_fits (answer_in f.n f.m 2 0 (k + 1) (replicate 32 0) out) f.n f.m).1 (record {
-            span_fits_is = rw trop_zero refl;
-            stamps_fit_lem = no_stamps_fit;
-            picks_fit_lem = fits_64 (suc f.n) f.m out c.m_most v.shown (λ j. omega (arith, rows_most v j));
-          }));
-          idle_variables = λ e. absurd (e refl);
-          idle_rows = λ _ i e. let same : i ≡ k = omega arith in rw (same, strategy) (rows_idle q c.n_most starts v);
-          accepted = Verdict.unbounded refl (add-one k) second (rw strategy (accepted p q second));
-        }
-
-    pub unbounded_answer : AnswerOf f.n f.m left right found (record { class = 2; span = 0; start = k + 1; trials = found.trials; stamps = replicate 32 0; picks = out })
-    unbounded_answer = record {
-      class_is = sym class;
-      span_is = sym (bottomless_span some class).0;
-      trials_is = refl;
-      stamps_size = length-replicate {A = ℕ} 32 0;
-      picks_size = v.shown.size_is;
-      stamps_most = λ j. omega (arith, zeros 32 j);
-      picks_most = λ j. omega (arith, c.n_most, rows_most v j);
-      given = record {
-        look = l;
-        looks = look.looks;
-        found = rw (class, (bottomless_span some class).0) at some;
-        blocked = λ e. absurd (e refl);
-        saved = λ _. record {
-          table = raised;
-          point = x;
-          targets = rows;
-          row = row;
-          begin = begin;
-          second = k;
-          raised = r;
-          point_is = d;
-          induced = i;
-          copied = copied;
-          second_is = met;
-          begin_is = anchored;
-          shown = v;
-          start_is = refl;
+      pub unbounded_answer : AnswerOf f.n f.m f.left.now f.right.now found (record { class = Unbounded; span = 0; start = k + 1; trials = found.trials; stamps = replicate 32 0; picks = out })
+      unbounded_answer = record {
+        class_is = sym class;
+        span_is = sym (bottomless_span some number).0;
+        trials_is = refl;
+        stamps_size = length-replicate {A = ℕ} 32 0;
+        picks_size = v.shown.size_is;
+        stamps_most = λ j. omega (arith, zeros 32 j);
+        picks_most = λ j. omega (arith, c.n_most, rows_most v j);
+        given = record {
+          look = l;
+          looks = look.looks;
+          found = rw (number, (bottomless_span some number).0) at some;
+          blocked = λ e. absurd (e refl);
+          saved = λ _. record {
+            table = raised;
+            point = x;
+            targets = rows;
+            row = row;
+            begin = begin;
+            second = k;
+            raised = r;
+            point_is = d;
+            induced = i;
+            copied = copied;
+            second_is = met;
+            begin_is = anchored;
+            shown = v;
+            start_is = refl;
+          };
+          planned = λ e. absurd (omega (arith, ap class_number e));
+          unplanned = λ _. refl;
         };
-        planned = λ e. absurd (omega arith);
-        unplanned = λ _. refl;
-      };
-      answers = answers;
-    }
+        answers = answers;
+      }

@@ -1,7 +1,7 @@
 -- The engine's answer, on tables.
 use Rattle.std.specs.Prelude.{ℕ, ◌+◌, ◌≤◌, ◌<◌, ◌≡◌, true, List, map, length, get_or, take, replicate}
 use Rattle.base.specs.Filled.{Filled}
-use Rattle.definitions.specs.Limits.{stamp_limit, signed_full, table_rows, stride, class_optimal, class_unbounded}
+use Rattle.definitions.specs.Limits.{stamp_limit, signed_full, table_rows, stride}
 use Rattle.definitions.specs.Problem.{Problem}
 use Rattle.definitions.specs.Certificate.{Second}
 use Rattle.definitions.specs.Bytes.{blank_or_within}
@@ -11,16 +11,19 @@ use Rattle.definitions.specs.Solved.{Answers}
 use Rattle.duality.specs.System.{Solves, Meets, system_at}
 use Rattle.duality.specs.Values.{difference}
 use Rattle.records.specs.Decoded.{Decoded}
+use Rattle.records.specs.Classes.{class_number}
+use Rattle.records.specs.declared.class.Class.TheVariants.{Optimal, Unbounded}
 use Rattle.reach.specs.Marks.{Flags, Anchored, AnchoredAnd}
 use Rattle.reach.specs.Spreading.{MarksOf}
 use Rattle.policy_iteration.specs.Tables.{point_of}
 use Rattle.search.specs.Trials.{whole_of, lowest_offset, FoundBy}
 use Rattle.search.specs.declared.search.Found.{Found}
-use Rattle.look.specs.Frames.{Copied, Held, Raised}
+use Rattle.look.specs.Frames.{Copied, Held, Raised, Ready}
 use Rattle.pick_tables.specs.Shown.{VariablePicks, InducedRows, RowPicks}
 use Rattle.class_answers.specs.declared.answer.Answer as Tables
+use Rattle.class_answers.specs.declared.answer.Tried.{Tried}
 use Rattle.look.specs.declared.greatest.Look.{Look}
-use Rattle.look.specs.Look.{Looks}
+use Rattle.look.specs.Look.{Looks, Looked}
 use Rattle.look.specs.Point.{PointFor}
 use Rattle.look.specs.SecondList.{SecondIs}
 
@@ -93,11 +96,17 @@ pub record SavedBy (n m : ℕ) (left right : List ℕ) (start : ℕ) (picks : Li
 pub record Given (n m : ℕ) (left right : List ℕ) (a : Tables.Answer) : Type 0 where
   pub look : Look
   pub looks : Looks n m left right look
-  pub found : FoundBy look.second a.class a.span a.trials
-  pub blocked : (a.class ≡ class_unbounded → ⊥) → (a.start ≡ look.start) × ShownPicks n m right look.start look.picks a.picks
-  pub saved : a.class ≡ class_unbounded → SavedBy n m left right a.start a.picks
-  pub planned : a.class ≡ class_optimal → PlanOf n m left right a.span a.stamps
-  pub unplanned : (a.class ≡ class_optimal → ⊥) → a.stamps ≡ replicate stride 0
+  pub found : FoundBy look.second (class_number a.class) a.span a.trials
+  pub blocked : (a.class ≡ Unbounded → ⊥) → (a.start ≡ look.start) × ShownPicks n m right look.start look.picks a.picks
+  pub saved : a.class ≡ Unbounded → SavedBy n m left right a.start a.picks
+  pub planned : a.class ≡ Optimal → PlanOf n m left right a.span a.stamps
+  pub unplanned : (a.class ≡ Optimal → ⊥) → a.stamps ≡ replicate stride 0
+
+-- What is known once the trials are made: the frame is ready, the look is one at its tables, and the trials found by it what they do.
+pub record ByTrials (t : Tried) : Type 0 where
+  pub ready : Ready t.frame.now
+  pub looked : Looked t.frame.now.n t.frame.now.m t.frame.now.left.now t.frame.now.right.now t.look.now
+  pub found_by : FoundBy t.look.now.second (class_number t.found.class) t.found.span t.found.trials
 
 -- An answer of every problem that the tables hold, with what the trials found.
 pub record AnswerOf (n m : ℕ) (left right : List ℕ) (found : Found) (a : Tables.Answer) : Type 0 where
@@ -110,10 +119,13 @@ pub record AnswerOf (n m : ℕ) (left right : List ℕ) (found : Found) (a : Tab
   pub picks_most : (j : ℕ) → get_or a.picks j 0 ≤ table_rows
   pub given : Given n m left right a
   pub answers : (p : Problem) → Held p n m left right
-      → Answers p a.class (trop_of a.span) a.trials (answer_in n m a.class a.span a.start a.stamps a.picks)
+      → Answers p (class_number a.class) (trop_of a.span) a.trials (answer_in n m (class_number a.class) a.span a.start a.stamps a.picks)
+
+abbrev pub ShowsTried : Tried → Tables.Answer → Type 0
+ShowsTried t a = AnswerOf t.frame.now.n t.frame.now.m t.frame.now.left.now t.frame.now.right.now t.found a
 
 -- The answer of the problem in the tables.
 pub record Answered (n m : ℕ) (left right : List ℕ) (a : Tables.Answer) : Type 0 where
   pub given : Given n m left right a
   pub answers : (p : Problem) → Decoded p left right → p.n ≡ n → p.m ≡ m
-      → Answers p a.class (trop_of a.span) a.trials (answer_in n m a.class a.span a.start a.stamps a.picks)
+      → Answers p (class_number a.class) (trop_of a.span) a.trials (answer_in n m (class_number a.class) a.span a.start a.stamps a.picks)

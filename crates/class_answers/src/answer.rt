@@ -1,11 +1,13 @@
 // The engine on tables: one look, document 01's trials by what it found, and the answer of each class. Document 01, "The engine".
 ghost use Rattle.std.specs.Prelude.{◌≡◌, ◌≤◌, length, get_or};
-ghost use Rattle.definitions.specs.Limits.{highest_n, highest_m, lead_limit, class_optimal, class_unbounded, class_infeasible, stride};
-ghost use Rattle.policy_iteration.specs.Tables.{Table, Ranged};
+ghost use Rattle.definitions.specs.Limits.{highest_n, highest_m, lead_limit, stride};
+ghost use Rattle.records.specs.Classes.{class_number};
+ghost use Rattle.records.specs.declared.class.Class.TheVariants.{Optimal, Unbounded, Infeasible};
+ghost use Rattle.policy_iteration.specs.Tables.{Ranged};
 ghost use Rattle.search.specs.Trials.{zero_offset, FoundBy};
 ghost use Rattle.look.specs.Frames.{Coefficients, Ready};
 ghost use Rattle.look.specs.Look.{Looked};
-ghost use Rattle.class_answers.specs.Answered.{Stamps, StartMarks, ShownPicks, AnswerOf, Answered};
+ghost use Rattle.class_answers.specs.Answered.{Stamps, StartMarks, ShownPicks, ByTrials, AnswerOf, ShowsTried, Answered};
 
 use look::frame::{Frame, frame_of, raised, row_of};
 use look::greatest::{Look, look_at};
@@ -14,15 +16,16 @@ use look::second::second_met;
 use pick_tables::tables::{induced, row_picks, variable_picks};
 use policy_iteration::values::gap;
 use reach::{anchor, anchor_and, marks_of};
-use records::limits::{INFEASIBLE, OPTIMAL, ROWS, STRIDE, TABLE, UNBOUNDED};
+use records::class::Class;
+use records::limits::{ROWS, STRIDE, TABLE};
 use search::search::{Found, search};
 use search::trial::LOWEST;
 
-// Class (1 least, 2 bottomless, 3 none), span and stamps as offset numbers, the start, the trials made, and picks. Stamps and picks
-// count as far as the class has them.
+// Class, span and stamps as offset numbers, the start, the trials made, and picks. Stamps and picks count as far as the class has
+// them.
 #[derive(Clone, Copy)]
 pub struct Answer {
-    pub class: u64,
+    pub class: Class,
     pub span: u64,
     pub start: u64,
     pub trials: u64,
@@ -37,10 +40,8 @@ fn stamps(point: &[u64; STRIDE], width: usize) -> [u64; STRIDE]
 {
     let first = point[0];
     let mut out = [0u64; STRIDE];
-    let mut j = 0;
-    while j < width {
+    for j in 0..width {
         out[j] = gap(point[j], first);
-        j += 1;
     }
     out
 }
@@ -50,114 +51,103 @@ fn begun(row: &[u32; STRIDE], start: u64) -> [u8; STRIDE]
     requires { length row.now ≡ stride }
     ensures { StartMarks row.now start result }
 {
-    if start == 0 {
-        return anchor();
-    }
-    marks_of(row)
+    if start == 0 { anchor() } else { marks_of(row) }
 }
 
-// The picks of classes 1 and 3: the look's strategy, as far as its start reaches.
-fn shown(right: &[u32; TABLE], frame: Frame, look: Look) -> [u64; ROWS]
-    requires { Table lead_limit right.now × (frame.n ≤ highest_n) × (frame.m ≤ highest_m) × (length look.picks ≡ stride) }
-    ensures { ShownPicks frame.n frame.m right.now look.start look.picks result }
-{
-    let marks = begun(&row_of(right, frame.m), look.start);
-    let picks = look.picks;
-    variable_picks(right, &picks, marks, frame.n + 1, frame.m + 1)
-}
-
-// Class 3: no span is possible.
-fn infeasible(
-    left: &[u32; TABLE],
-    right: &[u32; TABLE],
-    frame: Frame,
-    look: Look,
+// A problem whose trials are made: its frame, the look, and what the trials found by it.
+#[derive(Clone, Copy)]
+struct Tried<'a> {
+    frame: &'a Frame<'a>,
+    look: &'a Look,
     found: Found,
-) -> Answer
-    requires { Ready frame left.now right.now × Looked frame.n frame.m left.now right.now look × FoundBy look.second found.class found.span found.trials × (found.class ≡ class_infeasible) }
-    ensures { AnswerOf frame.n frame.m left.now right.now found result }
-{
-    let picks = shown(right, frame, look);
-    Answer {
-        class: INFEASIBLE,
-        span: 0,
-        start: look.start,
-        trials: found.trials,
-        stamps: [0; STRIDE],
-        picks,
-    }
 }
 
-// Class 2: each row picks a variable that attains its largest at a point of the lowest trial. The start names a variable of the second list
-// that has a value there.
-fn unbounded(
-    left: &[u32; TABLE],
-    right: &[u32; TABLE],
-    frame: Frame,
-    look: Look,
-    found: Found,
-) -> Answer
-    requires { Ready frame left.now right.now × Looked frame.n frame.m left.now right.now look × FoundBy look.second found.class found.span found.trials × (found.class ≡ class_unbounded) }
-    ensures { AnswerOf frame.n frame.m left.now right.now found result }
-{
-    let width = frame.n + 1;
-    let rows = frame.m + 1;
-    let lowered = raised(right, frame.m, LOWEST);
-    let point = point_at(left, &lowered, frame);
-    let targets = induced(&lowered, &point, width, rows);
-    let k = second_met(&row_of(right, frame.m), &point, width);
-    let picks = row_picks(left, &targets, anchor_and(k), width, rows);
-    Answer {
-        class: UNBOUNDED,
-        span: 0,
-        start: k as u64 + 1,
-        trials: found.trials,
-        stamps: [0; STRIDE],
-        picks,
+impl Tried<'_> {
+    // The picks of classes 1 and 3: the look's strategy, as far as its start reaches.
+    fn shown(&self) -> [u64; ROWS]
+        requires { ByTrials self.now }
+        ensures { ShownPicks self.now.frame.now.n self.now.frame.now.m self.now.frame.now.right.now self.now.look.now.start self.now.look.now.picks result }
+    {
+        let frame = self.frame;
+        let marks = begun(&row_of(frame.right, frame.m), self.look.start);
+        variable_picks(
+            frame.right,
+            &self.look.picks,
+            marks,
+            frame.n + 1,
+            frame.m + 1,
+        )
     }
-}
 
-// Class 1: a plan of the least span, and the strategy that blocks one below it.
-fn optimal(
-    left: &[u32; TABLE],
-    right: &[u32; TABLE],
-    frame: Frame,
-    look: Look,
-    found: Found,
-) -> Answer
-    requires { Ready frame left.now right.now × Looked frame.n frame.m left.now right.now look × FoundBy look.second found.class found.span found.trials × (found.class ≡ class_optimal) }
-    ensures { AnswerOf frame.n frame.m left.now right.now found result }
-{
-    let table = raised(right, frame.m, found.span);
-    let point = point_at(left, &table, frame);
-    let plan = stamps(&point, frame.n + 1);
-    let picks = shown(right, frame, look);
-    Answer {
-        class: OPTIMAL,
-        span: found.span,
-        start: look.start,
-        trials: found.trials,
-        stamps: plan,
-        picks,
+    // Class 3: no span is possible.
+    fn infeasible(&self) -> Answer
+        requires { ByTrials self.now × (self.now.found.class ≡ Infeasible) }
+        ensures { ShowsTried self.now result }
+    {
+        Answer {
+            class: Class::Infeasible,
+            span: 0,
+            start: self.look.start,
+            trials: self.found.trials,
+            stamps: [0; STRIDE],
+            picks: self.shown(),
+        }
+    }
+
+    // Class 2: each row picks a variable that attains its largest at a point of the lowest trial. The start names a variable of the second
+    // list that has a value there.
+    fn unbounded(&self) -> Answer
+        requires { ByTrials self.now × (self.now.found.class ≡ Unbounded) }
+        ensures { ShowsTried self.now result }
+    {
+        let frame = self.frame;
+        let width = frame.n + 1;
+        let rows = frame.m + 1;
+        let lowered = raised(frame.right, frame.m, LOWEST);
+        let point = point_at(frame, &lowered);
+        let targets = induced(&lowered, &point, width, rows);
+        let second = second_met(&row_of(frame.right, frame.m), &point, width);
+        let k = second.unwrap();
+        let picks = row_picks(frame.left, &targets, anchor_and(k), width, rows);
+        Answer {
+            class: Class::Unbounded,
+            span: 0,
+            start: k as u64 + 1,
+            trials: self.found.trials,
+            stamps: [0; STRIDE],
+            picks,
+        }
+    }
+
+    // Class 1: a plan of the least span, and the strategy that blocks one below it.
+    fn optimal(&self) -> Answer
+        requires { ByTrials self.now × (self.now.found.class ≡ Optimal) }
+        ensures { ShowsTried self.now result }
+    {
+        let frame = self.frame;
+        let table = raised(frame.right, frame.m, self.found.span);
+        let point = point_at(frame, &table);
+        Answer {
+            class: Class::Optimal,
+            span: self.found.span,
+            start: self.look.start,
+            trials: self.found.trials,
+            stamps: stamps(&point, frame.n + 1),
+            picks: self.shown(),
+        }
     }
 }
 
 // The answer that shows what the trials found, by the look that decided them.
-pub fn answer_of(
-    left: &[u32; TABLE],
-    right: &[u32; TABLE],
-    frame: Frame,
-    look: Look,
-    found: Found,
-) -> Answer
-    requires { Ready frame left.now right.now × Looked frame.n frame.m left.now right.now look × FoundBy look.second found.class found.span found.trials }
-    ensures { AnswerOf frame.n frame.m left.now right.now found result }
+pub fn answer_of(frame: &Frame, look: &Look, found: Found) -> Answer
+    requires { Ready frame.now × Looked frame.now.n frame.now.m frame.now.left.now frame.now.right.now look.now × FoundBy look.now.second (class_number found.class) found.span found.trials }
+    ensures { AnswerOf frame.now.n frame.now.m frame.now.left.now frame.now.right.now found result }
 {
-    let class = found.class;
-    match class {
-        INFEASIBLE => infeasible(left, right, frame, look, found),
-        UNBOUNDED => unbounded(left, right, frame, look, found),
-        0..=1 | 4.. => optimal(left, right, frame, look, found),
+    let tried = Tried { frame, look, found };
+    match found.class {
+        Class::Optimal => tried.optimal(),
+        Class::Unbounded => tried.unbounded(),
+        Class::Infeasible => tried.infeasible(),
     }
 }
 
@@ -167,7 +157,6 @@ pub fn solve_tables(left: &[u32; TABLE], right: &[u32; TABLE], n: usize, m: usiz
     ensures { Answered n m left.now right.now result }
 {
     let frame = frame_of(left, right, n, m);
-    let look = look_at(left, right, frame);
-    let found = search(look.second);
-    answer_of(left, right, frame, look, found)
+    let look = look_at(&frame);
+    answer_of(&frame, &look, search(look.second))
 }

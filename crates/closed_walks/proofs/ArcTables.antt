@@ -1,28 +1,11 @@
 -- Laws of the tables of arcs.
-use Rattle.std.proofs.Common.{◌≡◌, ℕ, suc, ◌+◌, ◌*◌, ◌<◌, ◌≤◌, Bool, true, false, cond, eqb, List, length, get_or, set, sym, refl, ap, ◌∙◌, subst, ⊎_elim, add-one, arith, length-set, eq-eqb, ne_eqb, eqb-true}
+use Rattle.std.proofs.Common.{◌≡◌, ℕ, suc, ◌+◌, ◌*◌, ◌<◌, ◌≤◌, Bool, true, false, cond, eqb, List, length, get_or, set, sym, refl, ap, ◌∙◌, subst, add-one, arith, length-set, eq-eqb, ne_eqb, eqb-true}
 use borrow.Author.Tests.{eqb-false}
 use Rattle.base.specs.Numbers.{most}
 use Rattle.base.specs.Filled.{FilledFrom}
-use Rattle.base.proofs.Numbers.{most_zero, one_more, below_or_last}
+use Rattle.base.proofs.Numbers.{most_zero, one_more}
 use Rattle.base.proofs.Filled.{set_here, set_there}
-use Rattle.closed_walks.specs.Arcs.{raised_by, lift, lifted, strict_arc, variable_arc, VariableArcs, fall, fallen, loose_arc, row_arc, heaviest, RowArcs, Column}
-
--- ---- rows of a table
-
--- What each row below j holds, and row j, each row below j + 1 holds.
-rows_more : {P : ℕ → ℕ → Type 0} {width : ℕ} (j : ℕ) → ((i l : ℕ) → i < j → l < width → P i l) → ((l : ℕ) → l < width → P j l)
-    → (i l : ℕ) → i < j + 1 → l < width → P i l
-rows_more {P} j h e i l b k = ⊎_elim (λ q. h i l q k) (λ q. subst (λ z. P z l) (sym q) (e l k)) (below_or_last i j b)
-
--- A row that is filled leaves the rows before it.
-filled_rows : {f : ℕ → ℕ} {width j : ℕ} {old new : List ℕ} → width ≤ 32 → FilledFrom f (j * 32) width old new
-    → (i l : ℕ) → i < j → l < width → get_or new (i * 32 + l) 0 ≡ get_or old (i * 32 + l) 0
-filled_rows w h i l b k = h.before (i * 32 + l) (omega arith)
-
-pub cleared_more : {width j : ℕ} {old new : List ℕ} → width ≤ 32 → ((i l : ℕ) → i < j → l < width → get_or old (i * 32 + l) 0 ≡ 0)
-    → FilledFrom (λ _. 0) (j * 32) width old new → (i l : ℕ) → i < j + 1 → l < width → get_or new (i * 32 + l) 0 ≡ 0
-cleared_more {width} {j} {old} {new} w h f =
-    rows_more {P = λ i l. get_or new (i * 32 + l) 0 ≡ 0} j (λ i l b k. filled_rows w f i l b k ∙ h i l b k) f.cells
+use Rattle.closed_walks.specs.Arcs.{raised_by, lift, lifted, strict_arc, variable_arc, fall, fallen, loose_arc, row_arc, heaviest, RowArcs, Column}
 
 -- ---- classes 1 and 3
 
@@ -64,19 +47,6 @@ module _ (left right : List ℕ) (m t : ℕ) {i pick a base count : ℕ} {old ne
   fill_arcs {up} {f} d u e h = filled_as
       (λ l b. rw (picked, u, lead) (sym (variable_lifted left right m t i j l (λ z. d (lead ∙ z)) ∙ ap (lifted (lift (get_or left (i * 32 + j) 0) (raised_by t m i))) (e l b))))
       h
-
-pub variable_rows_none : (left right : List ℕ) (m t : ℕ) (picks : List ℕ) (width : ℕ) (arcs : List ℕ) → length arcs ≡ 1024
-    → VariableArcs left right m t picks width 0 arcs
-variable_rows_none left right m t picks width arcs e = record { length_is = e; cells = λ j l h k. absurd (omega arith) }
-
-pub variable_rows_more : {left right : List ℕ} {m t : ℕ} {picks : List ℕ} {width j : ℕ} {old new : List ℕ} → width ≤ 32
-    → VariableArcs left right m t picks width j old → FilledFrom (variable_arc left right m t (get_or picks j 0) j) (j * 32) width old new
-    → VariableArcs left right m t picks width (j + 1) new
-variable_rows_more {left} {right} {m} {t} {picks} {width} {j} {old} {new} w h f = record {
-  length_is = f.same ∙ h.length_is;
-  cells = rows_more {P = λ i l. get_or new (i * 32 + l) 0 ≡ variable_arc left right m t (get_or picks i 0) i l} j
-      (λ i l b k. filled_rows w f i l b k ∙ h.cells i l b k) f.cells;
-}
 
 -- ---- class 2
 

@@ -1,6 +1,6 @@
 -- The closed-walk test: fields that are raised are tropical numbers that are raised; a round in which nothing moved shows
 -- that no closed walk weighs above zero; a value above the limit, or more rounds than variables, show a short one that does.
-use Rattle.std.proofs.Common.{◌≡◌, ℕ, zero, suc, ◌+◌, ◌-◌, ◌*◌, ◌%◌, ◌<◌, ◌≤◌, Bool, true, false, ◌⊎◌, List, length, get_or, set, replicate, ℤ, pos, ◌+ℤ◌, ◌≤ℤ◌, sym, refl, ap, ◌∙◌, inl, inr, ⊎_elim, eq-zero-or-pos, add-one, arith, length-set, eq-eqb, ne_eqb}
+use Rattle.std.proofs.Common.{◌≡◌, ℕ, zero, suc, ◌+◌, ◌-◌, ◌*◌, ◌%◌, ◌<◌, ◌≤◌, Bool, true, false, ◌⊎◌, List, get_or, set, replicate, ℤ, pos, ◌+ℤ◌, ◌≤ℤ◌, sym, refl, ap, ◌∙◌, inl, inr, ⊎_elim, eq-zero-or-pos, add-one, arith, length-set, eq-eqb, ne_eqb}
 use mathlib.Core.Bool.{false≢true}
 use lib.IntN.{sub_ℕ}
 use Rattle.base.specs.Numbers.{most}
@@ -124,22 +124,6 @@ tested_yes h = record { yes = λ _. h; no = λ e. absurd (false≢true (sym e)) 
 
 pub tested_no : {arcs marks : List ℕ} {width : ℕ} → SomeGains arcs marks width → Tested arcs marks width false
 tested_no h = record { yes = λ e. absurd (false≢true e); no = λ _. h }
-
--- ---- places of a push
-
-pub pushed_none : (arcs : List ℕ) (base by : ℕ) (f : List ℕ) → Pushed arcs base by 0 f f
-pushed_none arcs base by f = record { same = refl; cells = λ l h. absurd (omega arith); others = λ l h. refl }
-
-pub pushed_more : {arcs : List ℕ} {base by k : ℕ} {old new : List ℕ} {v : ℕ} → Pushed arcs base by k old new → k < length new
-    → (get_or new k 0 < arc_zero → by + get_or arcs (base + k) 0 < signed_full → v ≡ end_value (get_or new k 0) by (get_or arcs (base + k) 0))
-    → Pushed arcs base by (k + 1) old (set new k v)
-pushed_more {arcs} {base} {by} {k} {old} {new} {v} r b q = record {
-  same = length-set new k v ∙ r.same;
-  cells = one_more k
-      (λ l h s t. set_there new k l v (λ e. omega arith) ∙ r.cells l h s t)
-      (λ s t. set_here new k v b ∙ rw (r.others k (omega arith)) at q s t);
-  others = λ l h. set_there new k l v (λ e. omega arith) ∙ r.others l (omega arith);
-}
 
 -- ---- a round
 

@@ -1,22 +1,10 @@
--- Laws of the marked variables in order: none yet, one more variable looked at.
-use Rattle.std.proofs.Common.{◌≡◌, ℕ, zero, suc, ◌+◌, ◌<◌, ◌≤◌, not, eqb, List, length, get_or, set, replicate, sym, refl, ◌∙◌, subst, ⊎_elim, eq-zero-or-pos, arith, length-set, eq-eqb, ne_eqb}
+-- Laws of the marked variables in order: one more variable looked at, and each marked one found.
+use Rattle.std.proofs.Common.{◌≡◌, ℕ, zero, suc, ◌+◌, ◌<◌, ◌≤◌, not, eqb, List, length, get_or, set, sym, refl, ◌∙◌, subst, ⊎_elim, eq-zero-or-pos, arith, length-set, eq-eqb, ne_eqb}
 use Rattle.std.specs.Int.{from_bool}
 use Rattle.base.proofs.Numbers.{nat_le_or_lt, below_or_last}
 use Rattle.base.proofs.Filled.{set_here, set_there}
 use Rattle.reach.specs.Marks.{Marked}
 use Rattle.closed_walks.specs.Order.{past, Ordered}
-
--- No variable is looked at.
-pub order_none : (marks : List ℕ) → Ordered marks 0 (replicate 32 0) 0
-order_none marks = record {
-  length_is = refl;
-  few = omega arith;
-  inside = λ i h. absurd (omega arith);
-  marked = λ i h. absurd (omega arith);
-  ascending = λ i h. absurd (omega arith);
-  between = λ i j h. absurd (omega arith);
-  after = λ j h k. absurd (omega arith);
-}
 
 -- One past the first places.
 pub past_none : (places : List ℕ) → past places 0 ≡ 0

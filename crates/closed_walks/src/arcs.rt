@@ -1,12 +1,11 @@
 // The table of arcs of a strategy, 32 rows of 32: 0 no arc, else 2³¹ plus the arc's weight, scaled.
-ghost use Rattle.std.specs.Prelude.{◌≡◌, ℕ, suc, ◌+◌, ◌*◌, ◌<◌, ◌≤◌, cond, length, slice_index};
+ghost use Rattle.std.specs.Prelude.{◌≡◌, ℕ, suc, ◌+◌, ◌*◌, ◌<◌, ◌≤◌, length, slice_index};
 ghost use Rattle.base.specs.Filled.{FilledFrom};
-ghost use Rattle.definitions.specs.Limits.{signed_half, lead_limit, span_limit, arcs_size, signed_bytes, stride, table_size};
+ghost use Rattle.definitions.specs.Limits.{lead_limit, span_limit, arcs_size, stride, table_size};
 ghost use Rattle.records.specs.Decoded.{Near};
 ghost use Rattle.problem_records.specs.Tables.{left_table, right_table};
-ghost use Rattle.closed_walks.specs.Gains.{arc_zero};
 ghost use Rattle.closed_walks.specs.Tables.{Sized, Picked, Trial};
-ghost use Rattle.closed_walks.specs.Arcs.{raised_by, lift, lift_most, lifted, LiftSized, LiftFilled, variable_arc, VariableArcs, fall, fall_most, fallen, row_arc, heaviest, RowArcs, Column};
+ghost use Rattle.closed_walks.specs.Arcs.{raised_by, lift, lift_most, lifted, LiftSized, LiftFilled, variable_arc, VariableArcs, fall, fall_most, fallen, RowArcs, Column};
 
 use problem_records::laid::Rows;
 use problem_records::reader::lead_in;

@@ -19,8 +19,9 @@ use Rattle.definitions.proofs.Outcomes.{outcome-gives, outcome_refusal}
 use Rattle.definitions.proofs.Refusals.{or_else_suc}
 use Rattle.definitions.proofs.Put.{length_put, take_put}
 use Rattle.converter.specs.Steps.{record_most, conversion_of}
-use Rattle.converter.specs.declared.convert.Conversion.{Conversion}
-use Rattle.converter.specs.declared.convert.Conversion.TheVariants.{Record, Refused}
+use Rattle.std.specs.Prelude.{Result, Ok, Err}
+use Rattle.records.specs.declared.refusal.Refusal.{Refusal}
+use Rattle.records.specs.Refusals.{number_of}
 use Rattle.converter.proofs.Converted.{stored_fits, converted_length, converted_most}
 use Rattle.convert.specs.Shown.{Shown}
 
@@ -36,16 +37,16 @@ own_refusal s room k h e = go (stored_refusal s) refl
     go (suc i) f = sym (or_else_suc (stored_refusal s) _ (rw f (omega arith))) ∙ e
 
 -- A refusal shows its line, a record itself.
-pub convert_output : {input before after out : List ℕ} (r : Conversion) → Converts input before (conversion_of r) after → length before ≡ record_most → Shown r after out → ConvertOutput input out
-unfolding conversion_of written
-convert_output {input} {before} {after} {out} (Refused k) j b s =
-    let g = outcome_refusal (convert_refusal input (length before)) (converted_size input) k (sym j.result) in
-    some k refl g
+pub convert_output : {input before after out : List ℕ} (r : Result ℕ Refusal) → Converts input before (conversion_of r) after → length before ≡ record_most → Shown r after out → ConvertOutput input out
+unfolding written
+convert_output {input} {before} {after} {out} (Err r) j b s =
+    let g = outcome_refusal (convert_refusal input (length before)) (converted_size input) (number_of r) (sym j.result) in
+    some (number_of r) refl g
   where
-    some : (i : ℕ) → k ≡ i → (convert_refusal input (length before) ≡ k) × (0 < k) → ConvertOutput input out
+    some : (i : ℕ) → number_of r ≡ i → (convert_refusal input (length before) ≡ number_of r) × (0 < number_of r) → ConvertOutput input out
     some zero e g = absurd (omega (arith, g.1))
     some (suc i) e g = subst (ConvertOutput input) (sym (s ∙ ap refused_line e)) (refusal (own_refusal input (length before) (suc i) (omega arith) (g.0 ∙ e)))
-convert_output {input} {before} {after} {out} (Record size) j b s =
+convert_output {input} {before} {after} {out} (Ok size) j b s =
     let g = outcome-gives (convert_refusal input (length before)) (converted_size input) size (sym j.result) in
     let none = own_refusal input (length before) 0 (omega arith) g.0 in
     let h = (stored_fits input none).header in

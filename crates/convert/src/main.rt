@@ -8,24 +8,24 @@ ghost use Rattle.definitions.specs.Conversion.{ConvertOutput};
 ghost use Rattle.converter.specs.Steps.{record_most};
 ghost use Rattle.convert.specs.Shown.{Shown};
 
-use converter::convert::Conversion;
 use converter::input::convert_input;
 use output::writer::{write_front, write_refused};
 use programs::run;
 use records::limits::{HIGHEST_M, KEPT, LEAD_BYTES, MOST_QUESTIONS, QUESTIONS_HEADER, STRIDE};
+use records::refusal::Refusal;
 
 // Room for what is put out: the largest record, or a line.
 const OUT_MOST: usize = QUESTIONS_HEADER
     + LEAD_BYTES * (2 * (STRIDE * (HIGHEST_M + MOST_QUESTIONS)));
 
 // Puts what a result shows at the front of the buffer for output, and gives its size.
-fn put_out(out: &mut [u8], buffer: &[u8], conversion: Conversion) -> usize
+fn put_out(out: &mut [u8], buffer: &[u8], converted: Result<usize, Refusal>) -> usize
     requires { length out.old ≡ record_most }
-    ensures { (result ≤ record_most) × Shown conversion buffer.now (take result out.new) }
+    ensures { (result ≤ record_most) × Shown converted buffer.now (take result out.new) }
 {
-    match conversion {
-        Conversion::Refused(number) => write_refused(out, number),
-        Conversion::Record(size) => write_front(out, buffer, size),
+    match converted {
+        Ok(size) => write_front(out, buffer, size),
+        Err(refusal) => write_refused(out, refusal),
     }
 }
 
@@ -35,8 +35,8 @@ fn answer(kept: &[u8; KEPT], size: u64, out: &mut [u8]) -> usize
     ensures { (result ≤ record_most) × ((input : List ℕ) → ReadFrom kept.now size input → ConvertOutput input (take result out.new)) }
 {
     let mut buffer = [0u8; OUT_MOST];
-    let conversion = convert_input(kept, size, &mut buffer);
-    put_out(out, &buffer, conversion)
+    let converted = convert_input(kept, size, &mut buffer);
+    put_out(out, &buffer, converted)
 }
 
 fn main(rt: HostRuntime) {

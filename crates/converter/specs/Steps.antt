@@ -1,21 +1,20 @@
 -- What the steps of converting ask and leave, and the converter's answer in the words of the definitions.
-use Rattle.std.specs.Prelude.{ℕ, suc, ◌+◌, ◌*◌, ◌-◌, ◌≤◌, ◌≡◌, List, ◌++◌, length}
+use Rattle.std.specs.Prelude.{ℕ, suc, ◌+◌, ◌*◌, ◌-◌, ◌≤◌, ◌≡◌, List, ◌++◌, length, Result}
 use Rattle.definitions.specs.Limits.{highest_n, highest_m, most_questions, length_bytes, short_bytes, signed_bytes, kind_place, m_place, problem_header, questions_header, questions_leads}
-use Rattle.definitions.specs.Bytes.{le, put, Outcome, refusal, gives}
+use Rattle.definitions.specs.Bytes.{le, Outcome}
 use Rattle.definitions.specs.ProblemRecord.{converter_kinds, kind_field, n_field, m_field, count_field, leads_place, questions_asked, header_refusal}
 use Rattle.definitions.specs.Questions.{part}
 use Rattle.records.specs.declared.problem.Layout.{Layout}
-use Rattle.converter.specs.declared.convert.Conversion.{Conversion}
-use Rattle.converter.specs.declared.convert.Conversion.TheVariants.{Record, Refused}
+use Rattle.records.specs.declared.refusal.Refusal.{Refusal}
+use Rattle.records.specs.Refusals.{outcome_by}
 
 -- The largest record, 18,188 bytes: kind 3 with 31 moments, 63 rules and 8 questions.
 abbrev pub record_most : ℕ
 record_most = questions_header + signed_bytes * questions_leads
 
 -- The papers' result for each case: the size of the record, or the number of the refusal.
-unfoldable pub conversion_of : Conversion → Outcome ℕ
-conversion_of (Record size) = gives size
-conversion_of (Refused k) = refusal k
+abbrev pub conversion_of : Result ℕ Refusal → Outcome ℕ
+conversion_of r = outcome_by (λ size. size) r
 
 -- The layout is the record's, within the limits, and the record has its size.
 pub record Stored (s : List ℕ) (l : Layout) : Type 0 where
@@ -38,10 +37,3 @@ head_left s long m =
     ++ (part s kind_place (m_place - kind_place)
     ++ (le short_bytes m
     ++ part s problem_header (leads_place (kind_field s) (m_field s) - problem_header)))
-
--- `values`, so many bytes, stand in the buffer from a place on, everything else is as it was, and `next` is the place after them.
-pub record PutAt (values : List ℕ) (count at : ℕ) (before : List ℕ) (next : ℕ) (after : List ℕ) : Type 0 where
-  pub size_is : length values ≡ count
-  pub next_is : next ≡ at + count
-  pub after_is : after ≡ put before at values
-  pub kept : length after ≡ length before

@@ -1,130 +1,128 @@
 // A record of kind 1 or 3 copied into a lent buffer without the rules that have an all-blank left list.
-ghost use Rattle.std.specs.Prelude.{◌≡◌, ◌+◌, ◌*◌, ◌-◌, ◌≤◌, cond, length};
-ghost use Rattle.definitions.specs.Limits.{highest_n, highest_m, most_questions, length_bytes, signed_bytes, questions_header};
+ghost use Rattle.std.specs.Prelude.{◌≡◌, ◌+◌, ◌*◌, ◌-◌, ◌≤◌, ◌<◌, not, length};
+ghost use Rattle.definitions.specs.Limits.{highest_m, most_questions, length_bytes, signed_bytes};
 ghost use Rattle.definitions.specs.Bytes.{put};
-ghost use Rattle.definitions.specs.ProblemRecord.{m_field};
+ghost use Rattle.definitions.specs.ProblemRecord.{m_field, blank_left};
 ghost use Rattle.definitions.specs.Questions.{part};
 ghost use Rattle.definitions.specs.Conversion.{rules_left, rows_left, converted_size, converted, Converts};
-ghost use Rattle.converter.specs.Steps.{record_most, Stored, head_left, conversion_of, PutAt};
+ghost use Rattle.converter.specs.Steps.{record_most, Stored, head_left, conversion_of};
 
 use answer_writer::writer::{put_short, put_word};
-use printing::text::copy;
 use problem_records::reader::{all_blank, judge_leads};
 use records::limits::{
-    KIND_PLACE, LEAD_BYTES, LENGTH_BYTES, LENGTH_PLACE, M_PLACE, PROBLEM_HEADER, REFUSED_ROOM,
+    KIND_PLACE, LEAD_BYTES, LENGTH_BYTES, LENGTH_PLACE, M_PLACE, PROBLEM_HEADER,
 };
-use records::problem::{CONVERTER_KINDS, Header, Layout, lead_count, problem_refusal};
+use records::problem::{CONVERTER_KINDS, Layout, lead_count};
+use records::refusal::Refusal;
 
-// What converting answers: the size of the record written, or the number of the refusal.
+// A stored record: its bytes, and where things stand in them.
 #[derive(Clone, Copy)]
-pub enum Conversion {
-    Record(usize),
-    Refused(usize),
+struct Record<'a> {
+    bytes: &'a [u8],
+    layout: Layout,
+    ghost stored: { Stored bytes.now layout },
 }
 
-// 1 for a rule that stays, 0 for one whose left list is blank.
-fn stays(blank: bool) -> usize
-    ensures { (result ≡ cond blank 0 1) × (result ≤ 1) }
-{
-    if blank { 0 } else { 1 }
-}
-
-// How many rules stay.
-fn rules_left(bytes: &[u8], layout: Layout) -> usize
-    requires { Stored bytes.now layout }
-    ensures { (result ≡ rules_left bytes.now (m_field bytes.now)) × (result ≤ layout.m) }
-{
-    let width = layout.n + 1;
-    let mut from = layout.leads;
-    let mut left: usize = 0;
-    for _ in 0..layout.m {
-        left += stays(all_blank(bytes, from, width));
-        from += 2 * LEAD_BYTES * width;
+impl Record<'_> {
+    // How many bytes a row has.
+    fn row(&self) -> usize
+        ensures { result ≡ 2 * signed_bytes * (self.now.layout.n + 1) }
+    {
+        2 * LEAD_BYTES * (self.layout.n + 1)
     }
-    left
-}
 
-// The size of the record with so many rules.
-fn size_left(layout: Layout, left: usize) -> usize
-    requires { (layout.n ≤ highest_n) × (layout.leads ≤ questions_header) × (left + layout.questions ≤ highest_m + most_questions) }
-    ensures { (result ≡ layout.leads + 2 * signed_bytes * ((layout.n + 1) * (left + layout.questions))) × (result ≤ record_most) }
-{
-    layout.leads + LEAD_BYTES * lead_count(layout.n, left + layout.questions)
-}
-
-// Puts `count` bytes from a place of the record at a place of the buffer, and gives the place after them.
-fn put_part(bytes: &[u8], from: usize, count: usize, out: &mut [u8], at: usize) -> usize
-    requires { (from + count ≤ length bytes.now) × (at + count ≤ length out.old) }
-    ensures { PutAt (part bytes.now from count) count at out.old result out.new }
-{
-    copy(out, at, &bytes[from..from + count])
-}
-
-// Puts what stands before the leads: the new length, kind and n, the new m, and the count where there is one.
-fn put_head(bytes: &[u8], layout: Layout, left: usize, size: usize, out: &mut [u8])
-    requires { Stored bytes.now layout × (layout.leads ≤ length out.old) × (length_bytes ≤ size) }
-    ensures { out.new ≡ put out.old 0 (head_left bytes.now (size - length_bytes) left) }
-{
-    put_word(out, LENGTH_PLACE, (size - LENGTH_BYTES) as u64);
-    put_part(bytes, KIND_PLACE, M_PLACE - KIND_PLACE, out, KIND_PLACE);
-    put_short(out, M_PLACE, left as u64);
-    put_part(
-        bytes,
-        PROBLEM_HEADER,
-        layout.leads - PROBLEM_HEADER,
-        out,
-        PROBLEM_HEADER,
-    );
-}
-
-// Puts the rows of the rules that stay from a place on, in their order, and gives the place after them. A row that does not stay has no
-// bytes.
-fn put_rows(bytes: &[u8], layout: Layout, out: &mut [u8], at: usize) -> usize
-    requires { Stored bytes.now layout × (at + length (rows_left bytes.now (m_field bytes.now)) ≤ length out.old) }
-    ensures { PutAt (rows_left bytes.now (m_field bytes.now)) (length (rows_left bytes.now (m_field bytes.now))) at out.old result out.new }
-{
-    let width = layout.n + 1;
-    let mut from = layout.leads;
-    let mut to = at;
-    for _ in 0..layout.m {
-        let blank = all_blank(bytes, from, width);
-        to = put_part(bytes, from, 2 * LEAD_BYTES * width * stays(blank), out, to);
-        from += 2 * LEAD_BYTES * width;
+    // Rule i stays: its left list is not all blank.
+    fn stays(&self, i: usize) -> bool
+        requires { i < self.now.layout.m }
+        ensures { result ≡ not (blank_left self.now.bytes.now i) }
+    {
+        let start = self.layout.leads + self.row() * i;
+        !all_blank(self.bytes, start, self.layout.n + 1)
     }
-    to
-}
 
-// Puts the whole record at the front of the buffer.
-fn put_record(bytes: &[u8], layout: Layout, left: usize, size: usize, out: &mut [u8])
-    requires { Stored bytes.now layout × (left ≡ rules_left bytes.now (m_field bytes.now)) × (size ≡ converted_size bytes.now) × (size ≤ length out.old) }
-    ensures { out.new ≡ put out.old 0 (converted bytes.now) }
-{
-    let row = 2 * LEAD_BYTES * (layout.n + 1);
-    put_head(bytes, layout, left, size, out);
-    let at = put_rows(bytes, layout, out, layout.leads);
-    put_part(
-        bytes,
-        layout.leads + row * layout.m,
-        row * layout.questions,
-        out,
-        at,
-    );
+    // How many rules stay.
+    fn rules_left(&self) -> usize
+        ensures { (result ≡ rules_left self.now.bytes.now (m_field self.now.bytes.now)) × (result ≤ self.now.layout.m) }
+    {
+        (0..self.layout.m).filter(|&i| self.stays(i)).count()
+    }
+
+    // The size of the record with so many rules.
+    fn size_left(&self, left: usize) -> usize
+        requires { left + self.now.layout.questions ≤ highest_m + most_questions }
+        ensures { (result ≡ self.now.layout.leads + 2 * signed_bytes * ((self.now.layout.n + 1) * (left + self.now.layout.questions))) × (result ≤ record_most) }
+    {
+        self.layout.leads + LEAD_BYTES * lead_count(self.layout.n, left + self.layout.questions)
+    }
+
+    // Puts `count` of its bytes from a place on at a place of the buffer.
+    fn put_part(&self, from: usize, count: usize, out: &mut [u8], at: usize)
+        requires { (from + count ≤ length self.now.bytes.now) × (at + count ≤ length out.old) }
+        ensures { out.new ≡ put out.old at (part self.now.bytes.now from count) }
+    {
+        out[at..at + count].copy_from_slice(&self.bytes[from..from + count]);
+    }
+
+    // Puts what stands before the leads: the new length, kind and n, the new m, and the count where there is one.
+    fn put_head(&self, left: usize, size: usize, out: &mut [u8])
+        requires { (self.now.layout.leads ≤ length out.old) × (length_bytes ≤ size) }
+        ensures { out.new ≡ put out.old 0 (head_left self.now.bytes.now (size - length_bytes) left) }
+    {
+        put_word(out, LENGTH_PLACE, (size - LENGTH_BYTES) as u64);
+        self.put_part(KIND_PLACE, M_PLACE - KIND_PLACE, out, KIND_PLACE);
+        put_short(out, M_PLACE, left as u64);
+        self.put_part(
+            PROBLEM_HEADER,
+            self.layout.leads - PROBLEM_HEADER,
+            out,
+            PROBLEM_HEADER,
+        );
+    }
+
+    // Puts the rows of the rules that stay behind the head, in their order.
+    fn put_rows(&self, out: &mut [u8])
+        requires { self.now.layout.leads + length (rows_left self.now.bytes.now (m_field self.now.bytes.now)) ≤ length out.old }
+        ensures { out.new ≡ put out.old self.now.layout.leads (rows_left self.now.bytes.now (m_field self.now.bytes.now)) }
+    {
+        let row = self.row();
+        let mut to = self.layout.leads;
+        for i in 0..self.layout.m {
+            if self.stays(i) {
+                self.put_part(self.layout.leads + row * i, row, out, to);
+                to += row;
+            }
+        }
+    }
+
+    // Puts the whole record at the front of the buffer.
+    fn put(&self, left: usize, size: usize, out: &mut [u8])
+        requires { (left ≡ rules_left self.now.bytes.now (m_field self.now.bytes.now)) × (size ≡ converted_size self.now.bytes.now) × (size ≤ length out.old) }
+        ensures { out.new ≡ put out.old 0 (converted self.now.bytes.now) }
+    {
+        let row = self.row();
+        self.put_head(left, size, out);
+        self.put_rows(out);
+        self.put_part(
+            self.layout.leads + row * self.layout.m,
+            row * self.layout.questions,
+            out,
+            self.layout.leads + row * left,
+        );
+    }
 }
 
 // A stored record converted: its size, with the record at the front of the buffer and every byte after it as it was; or the first of
 // refusals 1 to 6 and 15, then 7 where the buffer is shorter than the record to be written, and the buffer as it was.
-pub fn convert(bytes: &[u8], out: &mut [u8]) -> Conversion
+pub fn convert(bytes: &[u8], out: &mut [u8]) -> Result<usize, Refusal>
     ensures { Converts bytes.now out.old (conversion_of result) out.new }
 {
-    let header = judge_leads(bytes, CONVERTER_KINDS);
-    let Header::Told(layout) = header else {
-        return Conversion::Refused(problem_refusal(header));
-    };
-    let left = rules_left(bytes, layout);
-    let size = size_left(layout, left);
+    let layout = judge_leads(bytes, CONVERTER_KINDS)?;
+    let record = Record { bytes, layout };
+    let left = record.rules_left();
+    let size = record.size_left(left);
     if out.len() < size {
-        return Conversion::Refused(REFUSED_ROOM);
+        return Err(Refusal::Room);
     }
-    put_record(bytes, layout, left, size, out);
-    Conversion::Record(size)
+    record.put(left, size, out);
+    Ok(size)
 }

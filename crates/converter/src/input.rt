@@ -6,24 +6,24 @@ ghost use Rattle.definitions.specs.Programs.{KeptOf};
 ghost use Rattle.definitions.specs.Conversion.{Converts};
 ghost use Rattle.converter.specs.Steps.{conversion_of};
 
-use crate::convert::{Conversion, convert};
+use crate::convert::convert;
 use records::limits::KEPT;
-use records::problem::{CONVERTER_KINDS, problem_refusal, read_header};
+use records::problem::{CONVERTER_KINDS, read_header};
+use records::refusal::Refusal;
 
 // The same on a slice.
-fn convert_kept(kept: &[u8], size: usize, out: &mut [u8]) -> Conversion
+fn convert_kept(kept: &[u8], size: usize, out: &mut [u8]) -> Result<usize, Refusal>
     requires { length kept.now ≡ kept_bytes }
     ensures { (input : List ℕ) → KeptOf kept.now size input → Converts input out.old (conversion_of result) out.new }
 {
     if size <= KEPT {
         return convert(&kept[..size], out);
     }
-    let header = read_header(kept, size, CONVERTER_KINDS);
-    Conversion::Refused(problem_refusal(header))
+    Err(read_header(kept, size, CONVERTER_KINDS).unwrap_err())
 }
 
 // Every input of this size that begins with the kept bytes converted into the lent buffer; a refusal leaves the buffer as it was.
-pub fn convert_input(kept: &[u8; KEPT], size: u64, out: &mut [u8]) -> Conversion
+pub fn convert_input(kept: &[u8; KEPT], size: u64, out: &mut [u8]) -> Result<usize, Refusal>
     ensures { (input : List ℕ) → KeptOf kept.now size input → Converts input out.old (conversion_of result) out.new }
 {
     convert_kept(kept, size as usize, out)

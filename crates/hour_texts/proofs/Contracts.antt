@@ -3,6 +3,7 @@ use Prim.Native.Nat.{ℕ, ◌<◌}
 use mathlib.Core.Path.{◌≡◌, refl}
 use mathlib.Core.Bool.{Bool, true, false, cond}
 use mathlib.Core.List.{List}
+use Rattle.std.specs.Prelude.{Result}
 use native.Mathlib.Omega.{arith}
 use lib.ListN.{length}
 use Rattle.definitions.specs.Limits.{signed_full, text_limit}
@@ -12,8 +13,7 @@ use Rattle.definitions.specs.Bytes.{Bytes, field_of, blank_or_within}
 use Rattle.definitions.specs.Hours.{has_text, HoursWriting, ReadsHours, WritesHours, HoursReader, HoursWriter, WriterWrites, HoursAndMinutes}
 use Rattle.definitions.proofs.Offset.{off_bound, within_fits, trop_field_of}
 use Rattle.definitions.proofs.Hours.{hours_and_minutes, hours_beyond, written_refused}
-use Rattle.hour_texts.specs.declared.reader.Read.{Read}
-use Rattle.hour_texts.specs.declared.writer.Written.{Written}
+use Rattle.records.specs.declared.refusal.Refusal.{Refusal}
 use Rattle.hour_texts.specs.Outcome.{reading_of, writing_of}
 
 -- The number by which a value is handed to the writer: its offset number; for a value without a text 1, which stands for a
@@ -46,7 +46,7 @@ beyond v w {before} e f h =
     let turned = written_refused {k = 17} h (hours_beyond w (length before) f) in
     rw (turned.0, turned.1) (WritesHours.turned_away {k = 17} (hours_beyond v (length before) e))
 
-module _ (reading : List ℕ → Read) (reads : (s : List ℕ) → Bytes s → ReadsHours s (reading_of (reading s))) (writing : ℕ → List ℕ → Written) (buffer : ℕ → List ℕ → List ℕ) (writes : (k : ℕ) → k < signed_full → (before : List ℕ) → Bytes before → WritesHours (trop_of k) before (writing_of (writing k before)) (buffer k before)) where
+module _ (reading : List ℕ → Result ℕ Refusal) (reads : (s : List ℕ) → Bytes s → ReadsHours s (reading_of (reading s))) (writing : ℕ → List ℕ → Result ℕ Refusal) (buffer : ℕ → List ℕ → List ℕ) (writes : (k : ℕ) → k < signed_full → (before : List ℕ) → Bytes before → WritesHours (trop_of k) before (writing_of (writing k before)) (buffer k before)) where
   -- The reader and the writer of the code, on values.
   abbrev pub code_reader : HoursReader
   code_reader s = reading_of (reading s)

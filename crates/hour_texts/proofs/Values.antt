@@ -8,10 +8,8 @@ use lib.IntN.{pos, negsuc}
 use Rattle.definitions.specs.Limits.{text_limit, text_most, signed_half}
 use Rattle.definitions.specs.Tropical.{Trop}
 use Rattle.definitions.specs.Offset.{trop_of}
-use Rattle.definitions.specs.Hours.{hyphen, no_text, Clock, HoursText, blank, plain, minus, HoursReading, ReadsHours, read, value, refused}
+use Rattle.definitions.specs.Hours.{hyphen, no_text, Clock, HoursText, blank, plain, minus, ReadsHours, read, value, refused}
 use Rattle.definitions.proofs.Offset.{trop_zero, trop_show}
-use Rattle.definitions.proofs.Decimals.{decimal_some}
-use Rattle.hour_texts.proofs.Numbers.{tail, tail_whole}
 use Rattle.definitions.proofs.Hours.{clock_tells, clock_first, clock_length, text_is, text_within, text_short}
 
 -- ---- texts that do not begin with a hyphen
@@ -56,41 +54,21 @@ behind (minus {k = k} h c) = below (suc k) (omega arith) h c
 behind_refused : {rest : List ℕ} → (Behind rest → ⊥) → ReadsHours (hyphen ∷ rest) (refused no_text)
 behind_refused n = ReadsHours.turned_away (λ v t. n (behind t))
 
--- Another hyphen alone makes blank.
-pub behind_blank : (rest : List ℕ) → length rest ≡ 1 → get_or rest 0 0 ≡ hyphen → ReadsHours (hyphen ∷ rest) (value (trop_of 0))
-behind_blank [] l e = absurd (omega arith)
-behind_blank (x ∷ []) l e = rw (e, trop_zero) (read blank)
-behind_blank (x ∷ y ∷ xs) l e = absurd (omega arith)
-
--- One other byte.
-pub behind_other : (rest : List ℕ) → length rest ≡ 1 → (get_or rest 0 0 ≡ hyphen → ⊥) → ReadsHours (hyphen ∷ rest) (refused no_text)
-behind_other rest l n = behind_refused no
-  where
-    no : Behind rest → ⊥
-    no (again e) = n (ap (λ (t : List ℕ). get_or t 0 0) e)
-    no (below k p h c) = omega (arith, clock_length c, decimal_some c.hours)
-
 -- No minutes.
-pub behind_none : {rest : List ℕ} → ((k : ℕ) → Clock k rest → ⊥) → (length rest ≡ 1 → ⊥) → ReadsHours (hyphen ∷ rest) (refused no_text)
+pub behind_none : {rest : List ℕ} → ((k : ℕ) → Clock k rest → ⊥) → (length rest ≡ 1 → get_or rest 0 0 ≡ hyphen → ⊥) → ReadsHours (hyphen ∷ rest) (refused no_text)
 behind_none {rest} m n = behind_refused no
   where
     no : Behind rest → ⊥
-    no (again e) = n (ap length e)
+    no (again e) = n (ap length e) (ap (λ (t : List ℕ). get_or t 0 0) e)
     no (below k p h c) = m k c
 
 -- Minus zero, or beyond the limit.
-behind_outside : {rest : List ℕ} {k : ℕ} → Clock k rest → (0 < k → k ≤ text_limit → ⊥) → (length rest ≡ 1 → ⊥) → ReadsHours (hyphen ∷ rest) (refused no_text)
-behind_outside {rest} {k} d m n = behind_refused no
+pub behind_outside : {rest : List ℕ} {k : ℕ} → Clock k rest → (0 < k → k ≤ text_limit → ⊥) → ReadsHours (hyphen ∷ rest) (refused no_text)
+behind_outside {rest} {k} d m = behind_refused no
   where
     no : Behind rest → ⊥
-    no (again e) = n (ap length e)
+    no (again e) = omega (arith, ap length e, clock_length d)
     no (below j p h c) = let e : j ≡ k = clock_tells c d in m (omega arith) (omega arith)
-
-pub behind_zero : {rest : List ℕ} {k : ℕ} → Clock k rest → k ≡ 0 → (length rest ≡ 1 → ⊥) → ReadsHours (hyphen ∷ rest) (refused no_text)
-behind_zero c e n = behind_outside c (λ p h. omega arith) n
-
-pub behind_beyond : {rest : List ℕ} {k : ℕ} → Clock k rest → text_limit < k → (length rest ≡ 1 → ⊥) → ReadsHours (hyphen ∷ rest) (refused no_text)
-behind_beyond c l n = behind_outside c (λ p h. omega arith) n
 
 -- Minutes above zero and within the limit.
 pub behind_value : {rest : List ℕ} {k : ℕ} → Clock k rest → (k ≡ 0 → ⊥) → k ≤ text_limit → ReadsHours (hyphen ∷ rest) (value (trop_of (signed_half - k)))
@@ -103,16 +81,9 @@ behind_value {k = suc k} c n h = rw (trop_show (signed_half - suc k) (negsuc k) 
 pub long_none : {s : List ℕ} → text_most < length s → ReadsHours s (refused no_text)
 long_none {s} l = ReadsHours.turned_away (λ v t. omega (arith, text_short v (text_within t), ap length (text_is t)))
 
--- Every text has a byte.
-text_some : {v : Trop} {s : List ℕ} → HoursText v s → 0 < length s
-text_some blank = omega arith
-text_some (plain h c) = omega (arith, clock_length c)
-text_some (minus h c) = omega arith
-
-pub empty_refused : {s : List ℕ} → length s ≡ 0 → ReadsHours s (refused no_text)
-empty_refused e = ReadsHours.turned_away (λ v t. omega (arith, text_some t))
-
--- A text that begins with a hyphen is one, and what follows it.
-pub hyphen_first : {s : List ℕ} {r : HoursReading} → ReadsHours (hyphen ∷ tail s 1) r → get_or s 0 0 ≡ hyphen → (length s ≡ 0 → ⊥) → ReadsHours s r
-hyphen_first {s = []} h e n = absurd (n refl)
-hyphen_first {s = x ∷ s} h e n = rw e (rw (tail_whole (x ∷ s) 1) at h)
+-- Two hyphens are the text of blank.
+pub blank_text : (s : List ℕ) → length s ≡ 2 → get_or s 0 0 ≡ hyphen → get_or s 1 0 ≡ hyphen → ReadsHours s (value (trop_of 0))
+blank_text [] l e f = absurd (omega arith)
+blank_text (x ∷ []) l e f = absurd (omega arith)
+blank_text (x ∷ y ∷ []) l e f = rw (e, f, trop_zero) (read blank)
+blank_text (x ∷ y ∷ z ∷ s) l e f = absurd (omega arith)

@@ -4,7 +4,7 @@ use mathlib.Core.Path.{◌≡◌}
 use mathlib.Core.Bool.{true, false}
 use mathlib.Core.List.{List, [], ◌∷◌}
 use native.Mathlib.Omega.{arith}
-use lib.ListN.{length, take, set, length-set}
+use lib.ListN.{length, take}
 use lib.IntN.{pos, negsuc}
 use borrow.Author.Tests.{lt-ltb}
 use Rattle.definitions.specs.Limits.{signed_half, text_most, hour_minutes}
@@ -16,17 +16,9 @@ use Rattle.definitions.proofs.Offset.{trop_zero, trop_show}
 use Rattle.definitions.proofs.Put.{take_put}
 use Rattle.definitions.proofs.Hours.{hours_none, hours_beyond, text_short}
 use Rattle.printing.specs.Text.{Putting}
-use Rattle.printing.proofs.Copy.{put_single, put_then}
+use Rattle.printing.proofs.Copy.{put_then}
 
 -- ---- the text in a line
-
--- A colon and two digits.
-pub minutes_put : (l : List ℕ) (at m : ℕ) {x y : ℕ} → x ≡ 48 + m / 10 → y ≡ 48 + m % 10 → at + 3 ≤ length l
-    → Putting l at (colon ∷ two_digits m) (set (set (set l at colon) (at + 1) x) (at + 1 + 1) y) (at + 1 + 1 + 1)
-minutes_put l at m {x} {y} e f room = rw (← e, ← f)
-    (put_then (put_single l at colon (omega arith))
-    (put_then (put_single (set l at colon) (at + 1) x (rw length-set (omega arith))) (put_single (set (set l at colon) (at + 1) x) (at + 1 + 1) y (simp length-set (omega arith))) (rw length-set (omega arith)))
-    (omega arith))
 
 -- Hours, then minutes.
 pub clock_put : (number : ℕ) {l : List ℕ} {at : ℕ} {mid : List ℕ} {next : ℕ} {after : List ℕ} {end : ℕ} → Putting l at (decimal (number / hour_minutes)) mid next

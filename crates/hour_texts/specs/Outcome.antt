@@ -1,29 +1,25 @@
 -- What the code's answers mean in document 02's words, and what reading a part of a text finds.
-use Rattle.std.specs.Prelude.{ℕ, ◌+◌, ◌<◌, ◌≡◌, List, ◌∷◌}
+use Rattle.std.specs.Prelude.{ℕ, ◌+◌, ◌<◌, ◌≡◌, List, ◌∷◌, Option, Some, None, Result, Ok, Err}
 use Rattle.definitions.specs.Limits.{hour_minutes}
 use Rattle.definitions.specs.Offset.{trop_of}
 use Rattle.definitions.specs.Hours.{colon, two_digits, HoursReading, value, refused, HoursWriting, text, unwritten}
-use Rattle.hour_texts.specs.declared.reader.Read.{Read}
-use Rattle.hour_texts.specs.declared.reader.Read.TheVariants as Reads
-use Rattle.hour_texts.specs.declared.reader.Found.{Found}
-use Rattle.hour_texts.specs.declared.reader.Found.TheVariants.{Number, Nothing}
-use Rattle.hour_texts.specs.declared.writer.Written.{Written}
-use Rattle.hour_texts.specs.declared.writer.Written.TheVariants as Writes
+use Rattle.records.specs.declared.refusal.Refusal.{Refusal}
+use Rattle.records.specs.Refusals.{number_of}
 
 -- The reader's answer: the value that its offset number stands for, or the refusal's number.
-unfoldable pub reading_of : Read → HoursReading
-reading_of (Reads.Value k) = value (trop_of k)
-reading_of (Reads.Refused k) = refused k
+abbrev pub reading_of : Result ℕ Refusal → HoursReading
+reading_of (Ok k) = value (trop_of k)
+reading_of (Err r) = refused (number_of r)
 
 -- The writer's answer: the size of the text, or the refusal's number.
-unfoldable pub writing_of : Written → HoursWriting
-writing_of (Writes.Text size) = text size
-writing_of (Writes.Refused k) = unwritten k
+abbrev pub writing_of : Result ℕ Refusal → HoursWriting
+writing_of (Ok size) = text size
+writing_of (Err r) = unwritten (number_of r)
 
 -- What is found is such a number; nothing is found where there is none.
-pub data FoundBy (Is : ℕ → Type 0) : Found → Type 0 where
-  some : {k : ℕ} → Is k → FoundBy Is (Number k)
-  none : ((k : ℕ) → Is k → ⊥) → FoundBy Is Nothing
+abbrev pub FoundBy : (ℕ → Type 0) → Option ℕ → Type 0
+FoundBy Is (Some k) = Is k
+FoundBy Is None = (k : ℕ) → Is k → ⊥
 
 -- The byte is the digit of a number below 10.
 pub record IsDigit (byte k : ℕ) : Type 0 where

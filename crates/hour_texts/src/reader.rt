@@ -5,157 +5,98 @@ ghost use Rattle.definitions.specs.Programs.{decimal};
 ghost use Rattle.definitions.specs.Hours.{hyphen, Clock, ReadsHours};
 ghost use Rattle.hour_texts.specs.Outcome.{reading_of, FoundBy, IsDigit, IsMinutes};
 
-use records::limits::{HOUR, NO_TEXT, OFFSET, TEXT_LIMIT, TEXT_MOST};
+use records::limits::{HOUR, OFFSET, TEXT_LIMIT, TEXT_MOST};
+use records::refusal::Refusal;
 
 // The bytes of minutes in a text: a colon and two digits.
 const MINUTES_PART: usize = 3;
 
-// What reading a text answers: the value, or the number of the refusal.
-#[derive(Clone, Copy)]
-pub enum Read {
-    Value(u64),
-    Refused(usize),
-}
-
-// What reading a part of a text finds: its number, or that it is none.
-#[derive(Clone, Copy)]
-pub enum Found {
-    Number(u64),
-    Nothing,
-}
-
 // The number of a digit.
-fn read_digit(byte: u8) -> Found
+fn read_digit(byte: u8) -> Option<u64>
     ensures { FoundBy (IsDigit byte) result }
 {
-    if byte < b'0' {
-        return Found::Nothing;
+    match byte {
+        b'0'..=b'9' => Some(u64::from(byte - b'0')),
+        _ => None,
     }
-    if b'9' < byte {
-        return Found::Nothing;
+}
+
+// The number in one or more decimal digits, of which the first is 0 only where it stands alone.
+fn read_digits(digits: &[u8]) -> Option<u64>
+    requires { (0 < length digits.now) × (length digits.now + 3 ≤ text_most) × (get_or digits.now 0 0 ≡ 48 → length digits.now ≡ 1) }
+    ensures { FoundBy (λ k. digits.now ≡ decimal k) result }
+{
+    let mut number = 0;
+    for &byte in digits {
+        number = 10 * number + read_digit(byte)?;
     }
-    Found::Number((byte - b'0') as u64)
+    Some(number)
 }
 
 // The number in decimal digits without leading zeros.
-fn read_number(digits: &[u8]) -> Found
+fn read_number(digits: &[u8]) -> Option<u64>
     requires { length digits.now + 3 ≤ text_most }
     ensures { FoundBy (λ k. digits.now ≡ decimal k) result }
 {
-    let count = digits.len();
-    if count == 0 {
-        return Found::Nothing;
+    match digits {
+        [] | [b'0', _, ..] => None,
+        _ => read_digits(digits),
     }
-    if digits[0] == b'0' {
-        if count == 1 {
-            return Found::Number(0);
-        }
-        return Found::Nothing;
-    }
-    let mut number: u64 = 0;
-    let mut i: usize = 0;
-    while i < count {
-        let Found::Number(digit) = read_digit(digits[i]) else {
-            return Found::Nothing;
-        };
-        number = 10 * number + digit;
-        i += 1;
-    }
-    Found::Number(number)
 }
 
 // The minutes behind a colon, two digits, below 60.
-fn read_minutes(part: &[u8]) -> Found
+fn read_minutes(part: &[u8]) -> Option<u64>
     ensures { FoundBy (IsMinutes part.now) result }
 {
-    if part.len() != MINUTES_PART {
-        return Found::Nothing;
-    }
-    if part[0] != b':' {
-        return Found::Nothing;
-    }
-    let Found::Number(tens) = read_digit(part[1]) else {
-        return Found::Nothing;
+    let &[b':', tens, ones] = part else {
+        return None;
     };
-    let Found::Number(ones) = read_digit(part[2]) else {
-        return Found::Nothing;
-    };
-    let minutes = 10 * tens + ones;
-    if HOUR <= minutes {
-        return Found::Nothing;
-    }
-    Found::Number(minutes)
+    let minutes = 10 * read_digit(tens)? + read_digit(ones)?;
+    if minutes < HOUR { Some(minutes) } else { None }
 }
 
 // The minutes that a text without a sign says.
-fn read_clock(text: &[u8]) -> Found
+fn read_clock(text: &[u8]) -> Option<u64>
     requires { length text.now ≤ text_most }
     ensures { FoundBy (λ k. Clock k text.now) result }
 {
-    let size = text.len();
-    if size < MINUTES_PART {
-        return Found::Nothing;
-    }
-    let at = size - MINUTES_PART;
-    let Found::Number(minutes) = read_minutes(&text[at..]) else {
-        return Found::Nothing;
-    };
-    let Found::Number(hours) = read_number(&text[..at]) else {
-        return Found::Nothing;
-    };
-    Found::Number(HOUR * hours + minutes)
+    let at = text.len().checked_sub(MINUTES_PART)?;
+    let (hours, minutes) = text.split_at(at);
+    Some(HOUR * read_number(hours)? + read_minutes(minutes)?)
 }
 
 // The value of a text that does not begin with a hyphen: zero or above.
-fn read_plain(text: &[u8]) -> Read
+fn read_plain(text: &[u8]) -> Result<u64, Refusal>
     requires { (length text.now ≤ text_most) × (get_or text.now 0 0 ≡ hyphen → ⊥) }
     ensures { ReadsHours text.now (reading_of result) }
 {
-    let Found::Number(number) = read_clock(text) else {
-        return Read::Refused(NO_TEXT);
-    };
-    if TEXT_LIMIT < number {
-        return Read::Refused(NO_TEXT);
+    match read_clock(text) {
+        Some(number) if number <= TEXT_LIMIT => Ok(OFFSET + number),
+        _ => Err(Refusal::NoText),
     }
-    Read::Value(OFFSET + number)
 }
 
-// The value of a text that begins with a hyphen, from what follows it: another hyphen, which makes blank, or a value below zero.
-fn read_behind_hyphen(rest: &[u8]) -> Read
-    requires { length rest.now ≤ text_most }
+// The value of a text that begins with a hyphen and is not blank, from what follows the hyphen: below zero.
+fn read_behind_hyphen(rest: &[u8]) -> Result<u64, Refusal>
+    requires { (length rest.now ≤ text_most) × (length rest.now ≡ 1 → get_or rest.now 0 0 ≡ hyphen → ⊥) }
     ensures { ReadsHours (hyphen ∷ rest.now) (reading_of result) }
 {
-    if rest.len() == 1 {
-        if rest[0] == b'-' {
-            return Read::Value(0);
-        }
-        return Read::Refused(NO_TEXT);
+    match read_clock(rest) {
+        Some(number) if 0 < number && number <= TEXT_LIMIT => Ok(OFFSET - number),
+        _ => Err(Refusal::NoText),
     }
-    let Found::Number(number) = read_clock(rest) else {
-        return Read::Refused(NO_TEXT);
-    };
-    if number == 0 {
-        return Read::Refused(NO_TEXT);
-    }
-    if TEXT_LIMIT < number {
-        return Read::Refused(NO_TEXT);
-    }
-    Read::Value(OFFSET - number)
 }
 
-// A text read: the value whose text it is, an offset number, or 18.
-pub fn read_hours(text: &[u8]) -> Read
+// A text read: the value whose text it is, an offset number, or refusal 18.
+pub fn read_hours(text: &[u8]) -> Result<u64, Refusal>
     ensures { ReadsHours text.now (reading_of result) }
 {
-    let size = text.len();
-    if TEXT_MOST < size {
-        return Read::Refused(NO_TEXT);
+    if TEXT_MOST < text.len() {
+        return Err(Refusal::NoText);
     }
-    if size == 0 {
-        return Read::Refused(NO_TEXT);
+    match text {
+        [b'-', b'-'] => Ok(0),
+        [b'-', rest @ ..] => read_behind_hyphen(rest),
+        _ => read_plain(text),
     }
-    if text[0] == b'-' {
-        return read_behind_hyphen(&text[1..]);
-    }
-    read_plain(text)
 }

@@ -7,30 +7,19 @@ ghost use Rattle.printing.specs.Text.{Putting};
 ghost use Rattle.hour_texts.specs.Outcome.{writing_of};
 
 use printing::text::{copy, digit, put_decimal};
-use records::limits::{HOUR, NO_TEXT, OFFSET, TEXT_LIMIT, TEXT_MOST};
+use records::limits::{HOUR, OFFSET, TEXT_LIMIT, TEXT_MOST};
 use records::offset::blank_or_within;
+use records::refusal::Refusal;
 
 // Room for a minus, the 20 digits that a number of 64 bits may have, and the minutes.
 const LINE: usize = 24;
-
-// What writing answers: the size of the text, or the number of the refusal.
-#[derive(Clone, Copy)]
-pub enum Written {
-    Text(usize),
-    Refused(usize),
-}
 
 // Puts a colon and two digits of minutes.
 fn put_minutes(line: &mut [u8], at: usize, minutes: u64) -> usize
     requires { (at + 3 ≤ length line.old) × (minutes < hour_minutes) }
     ensures { Putting line.old at (colon ∷ two_digits minutes) line.new result }
 {
-    let b = at + 1;
-    let c = b + 1;
-    line[at] = b':';
-    line[b] = digit(minutes / 10);
-    line[c] = digit(minutes % 10);
-    c + 1
+    copy(line, at, &[b':', digit(minutes / 10), digit(minutes % 10)])
 }
 
 // Puts so many minutes in hours and minutes.
@@ -47,28 +36,25 @@ fn put_text(line: &mut [u8], value: u64) -> usize
     requires { 24 ≤ length line.old }
     ensures { Putting line.old 0 (text_of (trop_of value)) line.new result }
 {
-    if value == 0 {
-        return copy(line, 0, b"--");
+    match value {
+        0 => copy(line, 0, b"--"),
+        OFFSET.. => put_clock(line, 0, value - OFFSET),
+        _ => {
+            let next = copy(line, 0, b"-");
+            put_clock(line, next, OFFSET - value)
+        }
     }
-    if OFFSET <= value {
-        return put_clock(line, 0, value - OFFSET);
-    }
-    let next = copy(line, 0, b"-");
-    put_clock(line, next, OFFSET - value)
 }
 
-// The text of a value written: its size, with the text at the front of the buffer and every byte after it as it was; or 18,
-// and the buffer as it was. The text is put together in a line of its own, as decimal numbers want room for 64 bits.
-pub fn write_hours(value: u64, buffer: &mut [u8]) -> Written
+// The text of a value written: its size, with the text at the front of the buffer and every byte after it as it was; or refusal
+// 18, and the buffer as it was. The text is put together in a line of its own, as decimal numbers want room for 64 bits.
+pub fn write_hours(value: u64, buffer: &mut [u8]) -> Result<usize, Refusal>
     ensures { WritesHours (trop_of value) buffer.old (writing_of result) buffer.new }
 {
-    if buffer.len() < TEXT_MOST {
-        return Written::Refused(NO_TEXT);
+    if buffer.len() < TEXT_MOST || !blank_or_within(TEXT_LIMIT, value) {
+        return Err(Refusal::NoText);
     }
-    if !blank_or_within(TEXT_LIMIT, value) {
-        return Written::Refused(NO_TEXT);
-    }
-    let mut line = [0u8; LINE];
+    let mut line = [0; LINE];
     let size = put_text(&mut line, value);
-    Written::Text(copy(buffer, 0, &line[..size]))
+    Ok(copy(buffer, 0, &line[..size]))
 }

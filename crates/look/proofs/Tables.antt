@@ -25,29 +25,26 @@ use Rattle.duality.specs.Within.{Within}
 use Rattle.duality.specs.Look.{Capped}
 use Rattle.records.specs.Decoded.{Near, Decoded}
 use Rattle.policy_iteration.specs.Tables.{entry_of, system_of, cap_of, raised_limit, cap_limit, low_half, high, Table, Caps, Tables}
+use Rattle.std.specs.Prelude.{Option}
+use Rattle.policy_iteration.specs.declared.ends.Ends.{Ends}
 use Rattle.policy_iteration.specs.Ends.{EndsOf}
 use Rattle.policy_iteration.proofs.Low.{high_whole}
 use Rattle.policy_iteration.proofs.Small.{near_small}
 use Rattle.policy_iteration.proofs.Steps.{table_raised}
 use Rattle.search.specs.Trials.{whole_of, Trialled}
 use Rattle.look.specs.declared.frame.Frame.{Frame}
-use Rattle.look.specs.Frames.{shifted, Raised, Coefficients, Ready, FrameOf, Held}
+use Rattle.look.specs.Frames.{shifted, Raised, Coefficients, Ready, Held}
 use Rattle.look.specs.Look.{level, cap_for, CapsFor}
 use Rattle.duality.proofs.Agree.{Agree}
 
 -- ---- frames
 
--- Tables within the leads' limit, with the ends of their rows.
-pub framed : (n m : ℕ) (left right lefts rights : List ℕ) → Coefficients n m left right → EndsOf left (m + 1) lefts → EndsOf right (m + 1) rights
-    → FrameOf n m left right (record { n = n; m = m; lefts = lefts; rights = rights })
-framed n m left right lefts rights c a b = record { n_is = refl; m_is = refl; ready = record { coefficients = c; left_ends = a; right_ends = b } }
-
 -- The ends of fewer rows.
-pub ends_fewer : {table ends : List ℕ} {rows more : ℕ} → rows ≤ more → EndsOf table more ends → EndsOf table rows ends
+pub ends_fewer : {table : List ℕ} {ends : List (Option Ends)} {rows more : ℕ} → rows ≤ more → EndsOf table more ends → EndsOf table rows ends
 ends_fewer h e = record { size = e.size; each = λ i b. e.each i (omega arith) }
 
 -- The tables of the inequalities alone.
-pub rules_tables : {f : Frame} {left right : List ℕ} → Ready f left right → Tables left right (f.n + 1) f.m
+pub rules_tables : {f : Frame} → Ready f → Tables f.left.now f.right.now (f.n + 1) f.m
 rules_tables y = let c = y.coefficients in record {
   width_most = omega (arith, c.n_most);
   rows_most = omega (arith, c.m_most);
@@ -136,7 +133,7 @@ raised_more before after row t n v r h b e = record {
 pub raised_end : (before after : List ℕ) (row t n : ℕ) → n ≤ 32 → 32 ≤ n → Raised before row t n after → Raised before row t 32 after
 raised_end before after row t n h k r = let e : n ≡ 32 = omega arith in subst (λ (i : ℕ). Raised before row t i after) e r
 
-module _ {f : Frame} {left right raised' : List ℕ} {t : ℕ} (y : Ready f left right) (b : Trialled t) (r : Raised right f.m t 32 raised') where
+module _ {f : Frame} {raised' : List ℕ} {t : ℕ} (y : Ready f) (b : Trialled t) (r : Raised f.right.now f.m t 32 raised') where
   raised_near : (k : ℕ) → Near raised_limit (get_or raised' k 0)
   raised_near k = ⊎_elim
       (λ (h : f.m * 32 ≤ k). ⊎_elim
@@ -151,10 +148,10 @@ module _ {f : Frame} {left right raised' : List ℕ} {t : ℕ} (y : Ready f left
           let l : ℕ = k - f.m * 32 in
           let e : k ≡ f.m * 32 + l = omega arith in
           let d : l < 32 = omega arith in
-          rw e (rw (r.raised l d) (shifted_near (get_or right (f.m * 32 + l) 0) t (y.coefficients.rights.near (f.m * 32 + l)) b))
+          rw e (rw (r.raised l d) (shifted_near (get_or f.right.now (f.m * 32 + l) 0) t (y.coefficients.rights.near (f.m * 32 + l)) b))
 
   -- The tables of all rows, the objective's raised,
-  pub raised_tables : Tables left raised' (f.n + 1) (f.m + 1)
+  pub raised_tables : Tables f.left.now raised' (f.n + 1) (f.m + 1)
   raised_tables = let c = y.coefficients in record {
     width_most = omega (arith, c.n_most);
     rows_most = omega (arith, c.m_most);
@@ -163,13 +160,16 @@ module _ {f : Frame} {left right raised' : List ℕ} {t : ℕ} (y : Ready f left
   }
 
   -- and the ends of their rows: blank stays blank.
-  pub raised_ends : EndsOf raised' (f.m + 1) f.rights
+  pub raised_ends : EndsOf raised' (f.m + 1) f.right_ends
   raised_ends = record {
     size = y.right_ends.size;
-    each = λ i h. record { others = λ w l k d e. still i l h k ((y.right_ends.each i h).others w l k d e) };
+    each = λ i h. record {
+      known = λ two e. let q = (y.right_ends.each i h).known two e in
+          record { first_is = q.first_is; last_is = q.last_is; others = λ l k d g. still i l h k (q.others l k d g) };
+    };
   }
     where
-      still : (i l : ℕ) → i < f.m + 1 → l < 32 → get_or right (i * 32 + l) 0 ≡ 0 → get_or raised' (i * 32 + l) 0 ≡ 0
+      still : (i l : ℕ) → i < f.m + 1 → l < 32 → get_or f.right.now (i * 32 + l) 0 ≡ 0 → get_or raised' (i * 32 + l) 0 ≡ 0
       still i l h k z = ⊎_elim
           (λ (c : f.m ≤ i). let e : i ≡ f.m = omega arith in rw e (r.raised l k ∙ ap (λ (v : ℕ). shifted v t) (rw e at z) ∙ sym (shifted_blank t)))
           (λ (c : i < f.m). r.above (i * 32 + l) (omega arith) ∙ z)

@@ -30,16 +30,18 @@ pub record Coefficients (n m : ℕ) (left right : List ℕ) : Type 0 where
   pub rights : Table lead_limit right
 
 -- The frame tells the ends of the rows of such tables.
-pub record Ready (f : Frame) (left right : List ℕ) : Type 0 where
-  pub coefficients : Coefficients f.n f.m left right
-  pub left_ends : EndsOf left (f.m + 1) f.lefts
-  pub right_ends : EndsOf right (f.m + 1) f.rights
+pub record Ready (f : Frame) : Type 0 where
+  pub coefficients : Coefficients f.n f.m f.left.now f.right.now
+  pub left_ends : EndsOf f.left.now (f.m + 1) f.left_ends
+  pub right_ends : EndsOf f.right.now (f.m + 1) f.right_ends
 
 -- The frame of the problem in two tables.
 pub record FrameOf (n m : ℕ) (left right : List ℕ) (f : Frame) : Type 0 where
   pub n_is : f.n ≡ n
   pub m_is : f.m ≡ m
-  pub ready : Ready f left right
+  pub left_is : f.left.now ≡ left
+  pub right_is : f.right.now ≡ right
+  pub ready : Ready f
 
 -- The tables hold the problem, every row as it is.
 pub record Held (p : Problem) (n m : ℕ) (left right : List ℕ) : Type 0 where

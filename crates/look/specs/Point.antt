@@ -11,11 +11,11 @@ use Rattle.look.specs.Look.{level}
 abbrev pub rows_in : ℕ → ℕ → List ℕ → List ℕ → System
 rows_in n m left raised = system_of left raised level (n + 1) (m + 1)
 
--- The tables of all rows, with their ends.
-pub record AllRows (f : Frame) (left raised : List ℕ) : Type 0 where
-  pub tables : Tables left raised (f.n + 1) (f.m + 1)
-  pub left_ends : EndsOf left (f.m + 1) f.lefts
-  pub right_ends : EndsOf raised (f.m + 1) f.rights
+-- The tables of all rows, the right one raised, with their ends.
+pub record AllRows (f : Frame) (raised : List ℕ) : Type 0 where
+  pub tables : Tables f.left.now raised (f.n + 1) (f.m + 1)
+  pub left_ends : EndsOf f.left.now (f.m + 1) f.left_ends
+  pub right_ends : EndsOf raised (f.m + 1) f.right_ends
 
 -- The values that the iteration ends with.
 pub record PointFor (n m : ℕ) (left raised x : List ℕ) : Type 0 where

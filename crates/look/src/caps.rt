@@ -36,10 +36,8 @@ pub fn caps_of(left: &[u32; TABLE], row: usize) -> [u32; STRIDE]
 {
     let base = row * STRIDE;
     let mut out = [0u32; STRIDE];
-    let mut j = 0;
-    while j < STRIDE {
+    for j in 0..STRIDE {
         out[j] = cap_for(left[base + j]);
-        j += 1;
     }
     out
 }

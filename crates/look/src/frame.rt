@@ -1,37 +1,43 @@
-// The frame of a problem in two tables: its sizes and the ends of its rows. A row of a table, and a table with its objective's row
-// raised by t.
-ghost use Rattle.std.specs.Prelude.{◌≡◌, ◌+◌, ◌*◌, ◌<◌, ◌≤◌, length};
+// The frame of a problem in two tables: the tables, its sizes and the ends of its rows. A row of a table, and a table with its
+// objective's row raised by t.
+ghost use Rattle.std.specs.Prelude.{◌≡◌, ◌<◌, length};
 ghost use Rattle.definitions.specs.Limits.{lead_limit, table_size, table_rows, stride};
 ghost use Rattle.records.specs.Decoded.{Near};
 ghost use Rattle.policy_iteration.specs.Tables.{Table};
 ghost use Rattle.search.specs.Trials.{Trialled};
 ghost use Rattle.look.specs.Frames.{shifted, Raised, Copied, Coefficients, FrameOf};
 
-use policy_iteration::ends::ends_of;
+use policy_iteration::ends::{Ends, ends_of};
 use records::limits::{OFFSET, ROWS, STRIDE, TABLE};
 
-// n and m of a problem, and the ends of the rows of both tables, the objective's among them.
+// The tables of a problem, its n and m, and the ends of the rows of both tables, the objective's among them.
 #[derive(Clone, Copy)]
-pub struct Frame {
+pub struct Frame<'a> {
+    pub left: &'a [u32; TABLE],
+    pub right: &'a [u32; TABLE],
     pub n: usize,
     pub m: usize,
-    pub lefts: [u32; ROWS],
-    pub rights: [u32; ROWS],
+    pub left_ends: [Option<Ends>; ROWS],
+    pub right_ends: [Option<Ends>; ROWS],
 }
 
 // The frame of the problem in two tables.
-pub fn frame_of(left: &[u32; TABLE], right: &[u32; TABLE], n: usize, m: usize) -> Frame
+pub fn frame_of<'a>(
+    left: &'a [u32; TABLE],
+    right: &'a [u32; TABLE],
+    n: usize,
+    m: usize,
+) -> Frame<'a>
     requires { Coefficients n m left.now right.now }
     ensures { FrameOf n m left.now right.now result }
 {
-    let rows = m + 1;
-    let lefts = ends_of(left, rows);
-    let rights = ends_of(right, rows);
     Frame {
+        left,
+        right,
         n,
         m,
-        lefts,
-        rights,
+        left_ends: ends_of(left, m + 1),
+        right_ends: ends_of(right, m + 1),
     }
 }
 
@@ -40,13 +46,8 @@ pub fn row_of(table: &[u32; TABLE], row: usize) -> [u32; STRIDE]
     requires { (length table.now ≡ table_size) × (row < table_rows) }
     ensures { Copied table.now row stride result }
 {
-    let base = row * STRIDE;
     let mut out = [0u32; STRIDE];
-    let mut l = 0;
-    while l < STRIDE {
-        out[l] = table[base + l];
-        l += 1;
-    }
+    out.copy_from_slice(&table[row * STRIDE..(row + 1) * STRIDE]);
     out
 }
 
@@ -58,7 +59,7 @@ fn shift(k: u32, t: u64) -> u32
     if k == 0 {
         return 0;
     }
-    (k as u64 + t - OFFSET) as u32
+    (u64::from(k) + t - OFFSET) as u32
 }
 
 // The right table with the objective's row raised by t.
@@ -68,10 +69,8 @@ pub fn raised(right: &[u32; TABLE], row: usize, t: u64) -> [u32; TABLE]
 {
     let base = row * STRIDE;
     let mut out = *right;
-    let mut l = 0;
-    while l < STRIDE {
+    for l in 0..STRIDE {
         out[base + l] = shift(right[base + l], t);
-        l += 1;
     }
     out
 }

@@ -8,7 +8,8 @@ ghost use Rattle.look.specs.Look.{start_for, Under, Looked};
 
 use crate::caps::{caps_of, level_caps};
 use crate::frame::Frame;
-use policy_iteration::policy::{high_of, iterate};
+use policy_iteration::policy::high_of;
+use policy_iteration::rows::Rows;
 use policy_iteration::values::side;
 use records::limits::{STRIDE, TABLE};
 
@@ -27,51 +28,57 @@ fn start_for(right: &[u32; TABLE], row: usize, second: u64) -> u64
     requires { (length right.now ≡ table_size) × (row < table_rows) }
     ensures { result ≡ start_for right.now row second }
 {
-    if second == 0 {
-        return 1;
+    if second == 0 || right[row * STRIDE] == 0 {
+        1
+    } else {
+        0
     }
-    if right[row * STRIDE] == 0 { 1 } else { 0 }
 }
 
 // The greatest point that keeps the inequalities under caps. A variable without a pick has the number m.
-fn greatest_under(
-    left: &[u32; TABLE],
-    right: &[u32; TABLE],
-    frame: Frame,
-    caps: &[u32; STRIDE],
-) -> Look
-    requires { Ready frame left.now right.now × Caps (frame.n + 1) caps.now }
-    ensures { Under frame.n frame.m left.now right.now caps.now result }
+fn greatest_under(frame: &Frame, caps: &[u32; STRIDE]) -> Look
+    requires { Ready frame.now × Caps (frame.now.n + 1) caps.now }
+    ensures { Under frame.now.n frame.now.m frame.now.left.now frame.now.right.now caps.now result }
 {
-    let lefts = frame.lefts;
-    let rights = frame.rights;
-    let end = iterate(left, right, &lefts, &rights, caps, frame.n + 1, frame.m);
-    let values = end.values;
-    let picks = end.picks;
-    if values[0] == 0 {
+    let rules = Rows {
+        left: frame.left,
+        right: frame.right,
+        left_ends: &frame.left_ends,
+        right_ends: &frame.right_ends,
+        width: frame.n + 1,
+        count: frame.m,
+    };
+    let end = rules.iterate(caps);
+    if end.values[0] == 0 {
         return Look {
             start: 0,
             second: 0,
-            picks,
+            picks: end.picks,
         };
     }
     let row = frame.m;
-    let second = high_of(side(right, rights[row], row, &values, frame.n + 1));
+    let second = high_of(side(
+        frame.right,
+        frame.right_ends[row],
+        row,
+        &end.values,
+        rules.width,
+    ));
     Look {
-        start: start_for(right, row, second),
+        start: start_for(frame.right, row, second),
         second,
-        picks,
+        picks: end.picks,
     }
 }
 
 // A look at the problem in two tables. Level caps tell first whether any span is possible.
-pub fn look_at(left: &[u32; TABLE], right: &[u32; TABLE], frame: Frame) -> Look
-    requires { Ready frame left.now right.now }
-    ensures { Looked frame.n frame.m left.now right.now result }
+pub fn look_at(frame: &Frame) -> Look
+    requires { Ready frame.now }
+    ensures { Looked frame.now.n frame.now.m frame.now.left.now frame.now.right.now result }
 {
-    let free = greatest_under(left, right, frame, &level_caps());
+    let free = greatest_under(frame, &level_caps());
     if free.second == 0 {
         return free;
     }
-    greatest_under(left, right, frame, &caps_of(left, frame.m))
+    greatest_under(frame, &caps_of(frame.left, frame.m))
 }

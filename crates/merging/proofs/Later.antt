@@ -1,15 +1,17 @@
 -- The later of two stamps, the second moved back: when it is below the least stamp, and its offset number.
-use Prim.Native.Nat.{ℕ, ◌+◌, ◌-◌, ◌≤◌, ◌<◌}
+use Prim.Native.Nat.{ℕ, ◌+◌, ◌-◌, ◌%◌, max, ◌≤◌, ◌<◌}
 use mathlib.Core.Path.{◌≡◌, refl, ap, sym, subst, ◌∙◌}
 use mathlib.Core.Bool.{Bool, true, false, not, cond}
-use mathlib.Core.Logic.{⊎_elim}
+use mathlib.Core.Logic.{◌⊎◌, ⊎_elim}
 use native.Mathlib.Omega.{arith}
 use lib.Dec.{ltb, T}
 use lib.IntN.{ℤ, pos, neg_ℤ, sub_ℕ, ◌+ℤ◌}
-use lib.Signed.{◌≤ℤ◌, ◌<ℤ◌, le_z}
+use lib.Signed.{◌≤ℤ◌, ◌<ℤ◌, le_z, lt_z}
+use mir.Syntax.{w64}
+use mir.Val.{to_z}
 use borrow.Author.Tests.{lt-ltb, le-ltb, le-leb, lt-leb}
 use Rattle.base.proofs.Numbers.{nat_le_or_lt, same_or_not}
-use Rattle.definitions.specs.Limits.{stamp_limit, signed_half, word_half, word_values}
+use Rattle.definitions.specs.Limits.{stamp_limit, signed_half, signed_full, word_half, word_values}
 use Rattle.definitions.specs.Tropical.{Trop, bot, fin, plus, larger, ◌⊑◌, whole_least}
 use Rattle.definitions.specs.Offset.{trop_of}
 use Rattle.definitions.specs.Merging.{shift_of, above_zero, early}
@@ -38,12 +40,39 @@ le_z_false {a} {b} h = go (le_z a b) refl
     go true e = let k : a ≤ℤ b = record { le = subst T (sym e) tt } in absurd (omega whole)
     go false e = refl
 
+lt_z_true : {a b : ℤ} → a <ℤ b → lt_z a b ≡ true
+lt_z_true {a} {b} h = go (lt_z a b) h.lt
+  where
+    go : (t : Bool) → T t → t ≡ true
+    go true u = refl
+    go false u = absurd u
+
+lt_z_false : {a b : ℤ} → b ≤ℤ a → lt_z a b ≡ false
+lt_z_false {a} {b} h = go (lt_z a b) refl
+  where
+    go : (t : Bool) → lt_z a b ≡ t → t ≡ false
+    go true e = let k : a <ℤ b = record { lt = subst T (sym e) tt } in absurd (omega whole)
+    go false e = refl
+
 -- ---- shifts
 
--- 0 and every number from 2⁶³ on is no shift above 0; the others are.
-pub forward_zero : false ≡ above_zero (shift_of 0)
-unfolding above_zero shift_of
-forward_zero = refl
+-- The shift is the signed number with the same bits.
+signed_is : (w : ℕ) → w < word_values → to_z w64 w ≡ shift_of w
+unfolding shift_of
+signed_is w h = ⊎_elim
+    (λ (k : word_half ≤ w). rw (le-ltb w word_half k, lt-ltb w word_values h) refl)
+    (λ (k : w < word_half). rw (lt-ltb w word_half k) refl)
+    (nat_le_or_lt word_half w)
+
+above_is : (t : ℤ) → lt_z (pos 0) t ≡ above_zero t
+unfolding above_zero
+above_is t = ⊎_elim
+    (λ (h : t ≤ℤ pos 0). rw (le_z_true h) (lt_z_false h))
+    (λ (h : pos 0 <ℤ t). rw (le_z_false h) (lt_z_true h))
+    (le_or_lt t (pos 0))
+
+pub forward_is : (w : ℕ) → w < word_values → lt_z (pos 0) (to_z w64 w) ≡ above_zero (shift_of w)
+forward_is w h = rw (signed_is w h) (above_is (shift_of w))
 
 forward_above : (w : ℕ) → (w ≡ 0 → ⊥) → w < word_half → true ≡ above_zero (shift_of w)
 unfolding above_zero shift_of
@@ -51,32 +80,30 @@ forward_above w z h =
     let a : pos 0 <ℤ pos w = omega whole in
     rw (lt-ltb w word_half h, le_z_false a)
 
-forward_below : (w : ℕ) → word_half ≤ w → w < word_values → false ≡ above_zero (shift_of w)
-unfolding above_zero shift_of
-forward_below w h k =
-    let a : sub_ℕ w word_values ≤ℤ pos 0 = omega (whole, subℕ_read w word_values) in
-    rw (le-ltb w word_half h, le_z_true a)
-
-pub forward_rest : (w : ℕ) → (w ≡ 0 → ⊥) → w < word_values → ltb w word_half ≡ above_zero (shift_of w)
-forward_rest w z h = ⊎_elim
-    (λ (k : word_half ≤ w). rw (le-ltb w word_half k) (forward_below w k h))
-    (λ (k : w < word_half). rw (lt-ltb w word_half k) (forward_above w z k))
-    (nat_le_or_lt word_half w)
-
 -- What is not above 0 is 0 or stands from 2⁶³ on.
-pub back_half : (w : ℕ) → above_zero (shift_of w) ≡ false → (w ≡ 0 → ⊥) → word_half ≤ w
+back_half : (w : ℕ) → above_zero (shift_of w) ≡ false → (w ≡ 0 → ⊥) → word_half ≤ w
 back_half w e z = ⊎_elim
     (λ (h : word_half ≤ w). h)
     (λ (h : w < word_half). let d : true ≡ false = forward_above w z h ∙ e in absurd (true_false d))
     (nat_le_or_lt word_half w)
 
-pub back_zero : back_by 0 ≡ shift_of 0
+back_zero : back_by 0 ≡ shift_of 0
 unfolding shift_of
 back_zero = refl
 
-pub back_shift : (w : ℕ) → word_half ≤ w → w < word_values → back_by (word_values - 1 - w + 1) ≡ shift_of w
+back_shift : (w : ℕ) → word_half ≤ w → w < word_values → back_by (word_values - w) ≡ shift_of w
 unfolding shift_of
-back_shift w h k = rw (le-ltb w word_half h) (let e : neg_ℤ (pos (word_values - 1 - w + 1)) ≡ sub_ℕ w word_values = omega (whole, neg_read (pos (word_values - 1 - w + 1)), subℕ_read w word_values) in e)
+back_shift w h k = rw (le-ltb w word_half h) (let e : neg_ℤ (pos (word_values - w)) ≡ sub_ℕ w word_values = omega (whole, neg_read (pos (word_values - w)), subℕ_read w word_values) in e)
+
+-- What makes a multiple of 2⁶⁴ with it is how far it moves back.
+pub back_rest : (w b : ℕ) → above_zero (shift_of w) ≡ false → w < word_values → b < word_values → (b + w) % word_values ≡ 0 → (back_by b ≡ shift_of w) × (b ≤ word_half)
+back_rest w b e h k r = ⊎_elim
+    (λ (z : w ≡ 0). let none : b ≡ 0 = omega arith in (rw (none, z) back_zero, omega arith))
+    (λ (z : w ≡ 0 → ⊥).
+    let half = back_half w e z in
+    let rest : b ≡ word_values - w = omega arith in
+    (rw rest (back_shift w half h), omega arith))
+    (same_or_not w 0)
 
 -- A shift that is not above 0 is at most 0.
 pub shift_most : (t : ℤ) → above_zero t ≡ false → t ≤ℤ pos 0
@@ -123,7 +150,7 @@ unfolding larger
 blank_larger x = refl
 
 -- It is early only where the first is blank and the second is not.
-pub early_first : (back k l : ℕ) → Near stamp_limit k → (k ≡ 0 → ⊥) → false ≡ early (later_of back k l)
+early_first : (back k l : ℕ) → Near stamp_limit k → (k ≡ 0 → ⊥) → false ≡ early (later_of back k l)
 early_first back k l h z =
     let e : trop_of k ≡ fin (sub_ℕ k signed_half) = trop_fin k (omega arith) in
     let o : fin (sub_ℕ k signed_half) ⊑ later_of back k l = ⊑_trans (⊑_of_eq (sym e)) (larger_left (trop_of k) (plus (trop_of l) (fin (back_by back)))) in
@@ -133,7 +160,7 @@ early_first back k l h z =
     let late : neg_ℤ (pos stamp_limit) ≤ℤ f.whole = omega (whole, least, le) in
     sym (ap early f.is ∙ late_whole late)
 
-pub early_neither : (back : ℕ) → false ≡ early (later_of back 0 0)
+early_neither : (back : ℕ) → false ≡ early (later_of back 0 0)
 unfolding early
 early_neither back = rw (trop_zero, bot_plus (fin (back_by back)), blank_larger bot) refl
 
@@ -149,8 +176,14 @@ early_second back l z =
     rw (lt-ltb l (back + (signed_half - stamp_limit)) h) (sym (ap early whole_is ∙ early_whole r)))
     (nat_le_or_lt (back + (signed_half - stamp_limit)) l)
 
+pub early_is : (back k l : ℕ) → Near stamp_limit k → k ≡ 0 → (l ≡ 0 → ⊥) → ltb l (back + (signed_half - stamp_limit)) ≡ early (later_of back k l)
+early_is back k l near e z = rw e (early_second back l z)
+
+pub early_not : (back k l : ℕ) → Near stamp_limit k → ((k ≡ 0) × (l ≡ 0)) ⊎ (k ≡ 0 → ⊥) → false ≡ early (later_of back k l)
+early_not back k l near h = ⊎_elim (λ (z : (k ≡ 0) × (l ≡ 0)). rw (z.0, z.1) (early_neither back)) (λ (z : k ≡ 0 → ⊥). early_first back k l near z) h
+
 -- A second stamp of no more minutes than it is moved back is the earlier, or blank.
-pub later_first : (back k l : ℕ) → Near stamp_limit k → early (later_of back k l) ≡ false → l ≤ back → trop_of k ≡ later_of back k l
+later_first : (back k l : ℕ) → Near stamp_limit k → early (later_of back k l) ≡ false → l ≤ back → trop_of k ≡ later_of back k l
 later_first back k l near e h = ⊎_elim
     (λ (z : l ≡ 0). rw (z, trop_zero, bot_plus (fin (back_by back))) (sym (larger_blank (trop_of k))))
     (λ (z : l ≡ 0 → ⊥). ⊎_elim
@@ -169,8 +202,21 @@ moved_number : (back l : ℕ) → back < l → plus (trop_of l) (fin (back_by ba
 moved_number back l h = moved_is back l (omega arith) ∙ sym (trop_show (l - back) (sub_ℕ l signed_half +ℤ back_by back) (omega arith)
     (omega (arith, neg_read (pos back), subℕ_read l signed_half, plus_read (sub_ℕ l signed_half) (back_by back))))
 
-pub later_moved : (back k l : ℕ) → back < l → k ≤ l - back → trop_of (l - back) ≡ later_of back k l
+later_moved : (back k l : ℕ) → back < l → k ≤ l - back → trop_of (l - back) ≡ later_of back k l
 later_moved back k l h le = rw (moved_number back l h, trop_larger k (l - back), le-leb k (l - back) le) refl
 
-pub later_kept : (back k l : ℕ) → back < l → l - back < k → trop_of k ≡ later_of back k l
+later_kept : (back k l : ℕ) → back < l → l - back < k → trop_of k ≡ later_of back k l
 later_kept back k l h lt = rw (moved_number back l h, trop_larger k (l - back), lt-leb k (l - back) lt) refl
+
+-- So the later of the first and what is left of the second is the later of the two.
+pub later_is : (back k l : ℕ) → Near stamp_limit k → Near stamp_limit l → early (later_of back k l) ≡ false → (trop_of (max k (l - back)) ≡ later_of back k l) × (max k (l - back) < signed_full)
+later_is back k l near near₂ e = (
+  ⊎_elim
+      (λ (h : l ≤ back). let q : max k (l - back) ≡ k = omega arith in rw q (later_first back k l near e h))
+      (λ (h : back < l). ⊎_elim
+      (λ (g : k ≤ l - back). let q : max k (l - back) ≡ l - back = omega arith in rw q (later_moved back k l h g))
+      (λ (g : l - back < k). let q : max k (l - back) ≡ k = omega arith in rw q (later_kept back k l h g))
+      (nat_le_or_lt k (l - back)))
+      (nat_le_or_lt l back),
+  omega (arith, near.hi, near₂.hi),
+)

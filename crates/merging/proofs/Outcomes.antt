@@ -2,10 +2,13 @@
 use Prim.Native.Nat.{ℕ, zero, suc, ◌+◌, ◌*◌, ◌≤◌, ◌<◌}
 use mathlib.Core.Path.{◌≡◌, refl, ap, sym, ◌∙◌}
 use mathlib.Core.Bool.{Bool, true, false, not, cond}
+use mathlib.Core.Logic.{◌⊎◌, inl, inr, ⊎_elim}
 use mathlib.Core.List.{List, [], ◌∷◌, map}
 use native.Mathlib.Omega.{arith}
 use lib.ListN.{length, get_or, take, length-map}
 use lib.Dec.{ltb}
+use mir.Syntax.{w8}
+use mir.Val.{Fits}
 use lib.IntN.{ℤ}
 use lib.Seq.{get_or-take, length-take-le, ext_get_or}
 use borrow.Author.Tests.{lt-ltb, le-ltb}
@@ -14,7 +17,7 @@ use Rattle.base.specs.Filled.{Filled}
 use Rattle.definitions.specs.Limits.{highest_n, signed_bytes, signed_full, stride, merged_most}
 use Rattle.definitions.specs.Tropical.{Trop, bot}
 use Rattle.definitions.specs.Problem.{Problem, Point, side}
-use Rattle.definitions.specs.Bytes.{Bytes, fields, trop_field, field_of, put, or_else, Outcome}
+use Rattle.definitions.specs.Bytes.{Bytes, fields, trop_field, field_of, put, or_else, Outcome, refusal}
 use Rattle.definitions.specs.Offset.{trop_of, off}
 use Rattle.definitions.specs.ProblemRecord.{checker_kinds, n_field, layout_of, problem_refusal, problem_outcome, WithinLayout, problem_of, list_of}
 use Rattle.definitions.specs.AnswerRecord.{written}
@@ -26,12 +29,14 @@ use Rattle.definitions.proofs.ProblemBack.{listed-length, listed_at}
 use Rattle.definitions.proofs.Questions.{asking_itself}
 use Rattle.definitions.proofs.Refusals.{or_else_suc, enough_clause, passes_clause}
 use Rattle.definitions.proofs.Silent.{some_same}
-use Rattle.records.specs.declared.problem.Header.{Header}
+use Rattle.std.specs.Prelude.{Result, Ok, Err}
 use Rattle.records.specs.declared.problem.Layout.{Layout}
-use Rattle.records.specs.declared.problem.Header.TheVariants as Headers
-use Rattle.records.specs.ProblemHeader.{header_of, problem_refused}
+use Rattle.records.specs.declared.refusal.Refusal.{Refusal}
+use Rattle.records.specs.declared.refusal.Refusal.TheVariants.{Early}
+use Rattle.records.specs.Refusals.{number_of, refused_by}
+use Rattle.records.specs.ProblemHeader.{layout_in, header_of}
 use Rattle.records.specs.Stamps.{Stamped, stamps_point}
-use Rattle.records.proofs.ProblemHeader.{answer_refused_lem}
+use Rattle.records.proofs.Refusing.{number_range, was_err}
 use Rattle.problem_records.specs.Tables.{ProblemRead}
 use Rattle.problem_records.proofs.LeadTables.{problem_decoded}
 use Rattle.problem_records.proofs.ReadProblem.{told_of}
@@ -40,7 +45,6 @@ use Rattle.answer_reader.proofs.Passing.{map_at}
 use Rattle.policy_iteration.specs.Tables.{Tables}
 use Rattle.merging.specs.Plans.{numbers_in, plans_judged, pair_judged, back_by}
 use Rattle.merging.specs.Outcome.{merged_of, Read, Wrote, below, above, joined, joined_early}
-use Rattle.merging.specs.declared.merge.Merged.TheVariants as Results
 use Rattle.merging.proofs.Plans.{plan_point, plan_stamped}
 
 -- ---- refusals 7 and 12
@@ -79,20 +83,17 @@ module _ (n : ℕ) (a b : List ℕ) (room : ℕ) where
 
 -- ---- refusals 24 and 25
 
-pub pair_forward : (k : Bool) {f : Bool} → f ≡ true → 24 ≡ pair_judged f k
-pair_forward k e = rw e refl
-
-pub pair_broken : {f k : Bool} → f ≡ false → k ≡ false → 25 ≡ pair_judged f k
-pair_broken e g = rw (e, g) refl
-
-pub pair_none : {f k : Bool} → f ≡ false → k ≡ true → 0 ≡ pair_judged f k
-pair_none e g = rw (e, g) refl
-
 -- What no refusal says.
 pub none_pair : (f k : Bool) → pair_judged f k ≡ 0 → (f ≡ false) × (k ≡ true)
 none_pair true k e = absurd (omega arith)
 none_pair false true e = (refl, refl)
 none_pair false false e = absurd (omega arith)
+
+-- Which one there is.
+pub some_pair : (f k : Bool) (r : Refusal) → number_of r ≡ pair_judged f k → ((f ≡ true) × (number_of r ≡ 24)) ⊎ ((f ≡ false) × ((k ≡ false) × (number_of r ≡ 25)))
+some_pair true k r e = inl (refl, e)
+some_pair false false r e = inr (refl, (refl, e))
+some_pair false true r e = absurd (let p = number_range r in omega arith)
 
 -- ---- all of them
 
@@ -109,31 +110,34 @@ unfolding merge_refusal plans_judged
 merge_refusal_lem p a b t room = ap (or_else (problem_refusal p)) (shift_last (ltb room merged_most) (plan_fits (n_field p) a) (plan_fits (n_field p) b) (cond (above_zero t) 24 0))
 
 -- Refused by the problem, and by 7 or 12.
-turned : {p a b before : List ℕ} {t : ℤ} (r : ℕ) → 0 < r → merge_refusal p a b t (length before) ≡ r → Merges p a b t before (merged_of (Results.Refused r)) before
-unfolding merged_of
-turned zero h e = absurd (omega arith)
-turned (suc k) h e = Merging.turned_away e
+turned : {p a b before : List ℕ} {t : ℤ} (r : Refusal) → merge_refusal p a b t (length before) ≡ number_of r → Merges p a b t before (merged_of (Err r)) before
+turned {p} {a} {b} {before} {t} r e = go (number_of r) e (number_range r).0
+  where
+    go : (k : ℕ) → merge_refusal p a b t (length before) ≡ k → 0 < k → Merges p a b t before (refusal k) before
+    go zero e h = absurd (omega arith)
+    go (suc k) e h = Merging.turned_away e
 
-pub refused_problem : {p : List ℕ} (a b : List ℕ) (t : ℤ) (before : List ℕ) {header : Header} {k r : ℕ} → header_of header ≡ problem_outcome checker_kinds p → header ≡ Headers.Refused k
-    → r ≡ problem_refused header → Merges p a b t before (merged_of (Results.Refused r)) before
-unfolding problem_refused problem_outcome
-refused_problem {p} a b t before {header} {k} {r} e f g =
-    let h = answer_refused_lem (problem_refusal p) (layout_of p) e f in
-    let q : r ≡ k = g ∙ ap problem_refused f in
-    let z : problem_refusal p ≡ r = h.0 ∙ sym q in
-    let some : 0 < problem_refusal p = omega (arith, h.0, h.1) in
-    turned r (omega (arith, h.1, q)) (merge_refusal_lem p a b t (length before) ∙ or_else_suc (problem_refusal p) _ some ∙ z)
+pub refused_problem : {p : List ℕ} (a b : List ℕ) (t : ℤ) (before : List ℕ) {r : Result Layout Refusal} {k : Refusal} → header_of r ≡ problem_outcome checker_kinds p → r ≡ Err k
+    → Merges p a b t before (merged_of (Err k)) before
+unfolding problem_outcome
+refused_problem {p} a b t before {k = k} e f =
+    let h = was_err layout_in (problem_refusal p) (layout_of p) e f in
+    turned k (merge_refusal_lem p a b t (length before) ∙ or_else_suc (problem_refusal p) _ (omega (arith, h.0, h.1)) ∙ h.0)
 
-pub refused_plans : {p : List ℕ} {n : ℕ} (a b : List ℕ) (t : ℤ) (before : List ℕ) {r : ℕ} → WithinLayout p → n_field p ≡ n → r ≡ plans_judged n a b (length before) → (r ≡ 0 → ⊥)
-    → Merges p a b t before (merged_of (Results.Refused r)) before
-refused_plans {p} {n} a b t before {r} w e f z =
-    let same : plans_judged (n_field p) a b (length before) ≡ r = ap (λ (i : ℕ). plans_judged i a b (length before)) e ∙ sym f in
-    turned r (omega arith) (merge_refusal_lem p a b t (length before) ∙ rw (w, same) (or_else_suc r _ (omega arith)))
+pub refused_plans : {p : List ℕ} {n : ℕ} (a b : List ℕ) (t : ℤ) (before : List ℕ) {A : Type 0} {r : Result A Refusal} {k : Refusal} → WithinLayout p → n_field p ≡ n → refused_by r ≡ plans_judged n a b (length before) → r ≡ Err k
+    → Merges p a b t before (merged_of (Err k)) before
+refused_plans {p} {n} a b t before {k = k} w e f g =
+    let same : plans_judged (n_field p) a b (length before) ≡ number_of k = ap (λ (i : ℕ). plans_judged i a b (length before)) e ∙ sym f ∙ ap refused_by g in
+    turned k (merge_refusal_lem p a b t (length before) ∙ rw (w, same) (or_else_suc (number_of k) _ (number_range k).0))
 
 -- ---- a problem in tables
 
+-- A list whose elements fit in 8 bits is one of bytes.
+pub bytes_of : {s : List ℕ} → ((i : ℕ) → Fits w8 (get_or s i 0)) → Bytes s
+bytes_of f = record { byte = λ i. (f i).fits }
+
 -- A problem of one question that was read.
-pub read_told : {p left₀ right₀ left right : List ℕ} {header : Header} {l : Layout} → Bytes p → ProblemRead checker_kinds p left₀ right₀ header left right → header ≡ Headers.Told l
+pub read_told : {p left₀ right₀ left right : List ℕ} {header : Result Layout Refusal} {l : Layout} → Bytes p → ProblemRead checker_kinds p left₀ right₀ header left right → header ≡ Ok l
     → Read p l.n l.m left right
 unfolding problem_of
 read_told {p} b r f =
@@ -192,15 +196,14 @@ module _ (n back : ℕ) (x y : List ℕ) {stamps : List ℕ} (filled : Filled (�
       ∙ off_field _ (filled.each k b).1 (filled.each k b).0
       ∙ sym (mapped_at field_of (list_of (joined back x y) (suc n)) k (rw (listed-length (joined back x y) (suc n)) (omega arith)) ∙ ap field_of (listed_at (joined back x y) bot (suc n) k (omega arith))))
 
-pub wrote_below : (n back : ℕ) (x y before : List ℕ) {r : Bool} → r ≡ joined_early back x y (n + 1) → r ≡ true → Wrote n back x y before (merged_of (Results.Refused 26)) before
-unfolding merged_of
+pub wrote_below : (n back : ℕ) (x y before : List ℕ) {r : Bool} → r ≡ joined_early back x y (n + 1) → r ≡ true → Wrote n back x y before (merged_of (Err Early)) before
 wrote_below n back x y before e f = let q : n + 1 ≡ suc n = omega arith in below (rw q at (sym e ∙ f))
 
 pub wrote_above : (n back : ℕ) (x y before : List ℕ) {stamps after : List ℕ} {r : Bool} → r ≡ joined_early back x y (n + 1) → r ≡ false
     → Filled (λ j v. (trop_of v ≡ joined back x y j) × (v < signed_full)) stride (n + 1) stamps → n + 1 ≤ stride
     → after ≡ put before 0 (fields signed_bytes (map off (take (n + 1) stamps)))
-    → Wrote n back x y before (merged_of (Results.Stamps (signed_bytes * (n + 1)))) after
-unfolding merged_of written
+    → Wrote n back x y before (merged_of (Ok (signed_bytes * (n + 1)))) after
+unfolding written
 wrote_above n back x y before e f filled h g =
     let q : n + 1 ≡ suc n = omega arith in
     rw (q, g, fields_are n back x y filled h) (above (rw q at (sym e ∙ f)))
@@ -229,6 +232,10 @@ pub record Held (n : ℕ) (a b x y : List ℕ) : Type 0 where
   pub a_fits : plan_fits n a ≡ true
   pub b_fits : plan_fits n b ≡ true
 
+pub held_of : {n : ℕ} {a b x y : List ℕ} → ((i : ℕ) → Fits w8 (get_or a i 0)) → ((i : ℕ) → Fits w8 (get_or b i 0))
+    → Padded stride (numbers_in a (n + 1)) x → Padded stride (numbers_in b (n + 1)) y → plan_fits n a ≡ true → plan_fits n b ≡ true → Held n a b x y
+held_of f g p q h k = record { a_bytes = bytes_of f; b_bytes = bytes_of g; x_is = p; y_is = q; a_fits = h; b_fits = k }
+
 module _ {n : ℕ} {a b x y : List ℕ} (held : Held n a b x y) where
   pub held_first : Stamped x
   held_first = plan_stamped n held.a_bytes held.x_is held.a_fits
@@ -248,8 +255,8 @@ module _ {n : ℕ} {a b x y : List ℕ} (held : Held n a b x y) where
     unfolding plans_judged
     only_shift = merge_refusal_lem p a b (shift_of w) (length before) ∙ rw (read.within, read.n_is, le-ltb (length before) merged_most room, held.a_fits, held.b_fits) refl
 
-    refused_forward : {r : Bool} → r ≡ above_zero (shift_of w) → r ≡ true → Merges p a b (shift_of w) before (merged_of (Results.Refused 24)) before
-    refused_forward e f = turned 24 (omega arith) (only_shift ∙ rw (← e, f) refl)
+    refused_forward : {f : Bool} (r : Refusal) → f ≡ above_zero (shift_of w) → f ≡ true → number_of r ≡ 24 → Merges p a b (shift_of w) before (merged_of (Err r)) before
+    refused_forward r e f g = turned r (only_shift ∙ rw (← e, f) (sym g))
 
     module _ {r : Bool} (e : r ≡ above_zero (shift_of w)) (f : r ≡ false) where
       none : merge_refusal p a b (shift_of w) (length before) ≡ 0
@@ -264,9 +271,8 @@ module _ {n : ℕ} {a b x y : List ℕ} (held : Held n a b x y) where
           (keeps_as (problem_of p) (plan_of n a) (stamps_point x) (λ j. sym (first_point j)) q.0, keeps_as (problem_of p) (plan_of n b) (stamps_point y) (λ j. sym (second_point j)) q.1)
 
       module _ {d : Bool} (decides : Decides (KeepsRules (problem_of p) (stamps_point x) × KeepsRules (problem_of p) (stamps_point y)) d) where
-        refused_broken : d ≡ false → Merges p a b (shift_of w) before (merged_of (Results.Refused 25)) before
-        unfolding merged_of
-        refused_broken g = Merging.rule_broken none (λ k. decides.no g (to_stamps k))
+        refused_broken : (r : Refusal) → d ≡ false → number_of r ≡ 25 → Merges p a b (shift_of w) before (merged_of (Err r)) before
+        refused_broken r g h = rw h (Merging.rule_broken none (λ k. decides.no g (to_stamps k)))
 
         module _ (back : ℕ) (back_is : back_by back ≡ shift_of w) where
           -- The merged plan is the same from arrays and from bytes.
@@ -288,11 +294,9 @@ module _ {n : ℕ} {a b x y : List ℕ} (held : Held n a b x y) where
           wrote_merges g (above k) = rw (bytes_same, size_same) (Merging.stamps none (to_plans (decides.yes g)) (sym early_same ∙ k))
 
     -- 24 or 25 applies.
-    pub refused_pair : {f d : Bool} {r : ℕ} → f ≡ above_zero (shift_of w) → Decides (KeepsRules (problem_of p) (stamps_point x) × KeepsRules (problem_of p) (stamps_point y)) d
-        → r ≡ pair_judged f d → (r ≡ 0 → ⊥) → Merges p a b (shift_of w) before (merged_of (Results.Refused r)) before
-    refused_pair {f} {d} {r} e decides q z = go f d refl refl
-      where
-        go : (g k : Bool) → f ≡ g → d ≡ k → Merges p a b (shift_of w) before (merged_of (Results.Refused r)) before
-        go true k h l = let n : r ≡ 24 = q ∙ sym (pair_forward d h) in rw n (refused_forward e h)
-        go false false h l = let n : r ≡ 25 = q ∙ sym (pair_broken h l) in rw n (refused_broken e h decides l)
-        go false true h l = absurd (z (q ∙ sym (pair_none h l)))
+    pub refused_pair : {A : Type 0} {f d : Bool} {r : Result A Refusal} {k : Refusal} → f ≡ above_zero (shift_of w) → Decides (KeepsRules (problem_of p) (stamps_point x) × KeepsRules (problem_of p) (stamps_point y)) d
+        → refused_by r ≡ pair_judged f d → r ≡ Err k → Merges p a b (shift_of w) before (merged_of (Err k)) before
+    refused_pair {f} {d} {k = k} e decides q g = ⊎_elim
+        (λ (h : (f ≡ true) × (number_of k ≡ 24)). refused_forward k e h.0 h.1)
+        (λ (h : (f ≡ false) × ((d ≡ false) × (number_of k ≡ 25))). refused_broken e h.0 decides k h.1.0 h.1.1)
+        (some_pair f d k (sym (ap refused_by g) ∙ q))

@@ -1,17 +1,18 @@
 -- A plan in bytes and its stamps in an array; the plan merged from two arrays, stamp by stamp.
-use Prim.Native.Nat.{ℕ, suc, ◌+◌, ◌*◌, ◌≤◌, ◌<◌}
+use Prim.Native.Nat.{ℕ, zero, suc, ◌+◌, ◌*◌, ◌≤◌, ◌<◌}
 use mathlib.Core.Path.{◌≡◌, refl, ap, sym, ◌∙◌}
-use mathlib.Core.Bool.{Bool, true, false, and-eq-true_iff}
+use mathlib.Core.Bool.{Bool, true, false, ◌||◌, and-eq-true_iff}
+use Rattle.std.specs.List.{list_any, range_with_len}
 use mathlib.Core.List.{List, map}
 use mathlib.Core.Logic.{⊎_elim}
 use native.Mathlib.Omega.{arith}
 use lib.Dec.{eqb}
 use lib.ListN.{length, get_or, take, length-map, get_or-eq_default}
 use borrow.Author.Tests.{eq-eqb, ne_eqb, eqb-true}
-use Rattle.base.proofs.Numbers.{nat_le_or_lt, below_or_last}
+use Rattle.base.proofs.Numbers.{nat_le_or_lt}
 use Rattle.definitions.specs.Limits.{stamp_limit, signed_bytes, stride}
 use Rattle.definitions.specs.Tropical.{bot}
-use Rattle.definitions.specs.Bytes.{Bytes, num_at, nums_at, all, blank_or_within}
+use Rattle.definitions.specs.Bytes.{Bytes, num_at, nums_at, all, blank_or_within, some_below}
 use Rattle.definitions.specs.Offset.{trop_of, off}
 use Rattle.definitions.specs.AnswerRecord.{stamps_fit}
 use Rattle.definitions.specs.Verdict.{point_of}
@@ -28,7 +29,6 @@ use Rattle.answer_reader.proofs.Padding.{padded_take}
 use Rattle.answer_reader.proofs.Judging.{trops_off}
 use Rattle.merging.specs.Plans.{numbers_in, later_of}
 use Rattle.merging.specs.Outcome.{joined, joined_early}
-use Rattle.merging.proofs.Later.{true_false}
 
 -- ---- in bytes
 
@@ -100,31 +100,34 @@ module _ (n : ℕ) {s x : List ℕ} (b : Bytes s) (p : Padded stride (numbers_in
 
 -- ---- merged, stamp by stamp
 
+-- A test that passes for a number of a range.
+any_more : (test : ℕ → Bool) (a n : ℕ) → list_any test (range_with_len a (suc n)) ≡ (list_any test (range_with_len a n) || test (a + n))
+any_more test a zero = let e : a + 0 ≡ a = omega arith in rw e (or_none (test a))
+  where
+    or_none : (b : Bool) → (b || false) ≡ b
+    or_none true = refl
+    or_none false = refl
+any_more test a (suc n) =
+    let e : a + 1 + n ≡ a + suc n = omega arith in
+    ap (λ (b : Bool). test a || b) (any_more test (a + 1) n) ∙ rw e (or_assoc (test a) (list_any test (range_with_len (a + 1) n)) (test (a + suc n)))
+  where
+    or_assoc : (a b c : Bool) → (a || (b || c)) ≡ ((a || b) || c)
+    or_assoc true b c = refl
+    or_assoc false b c = refl
+
+any_below : (test : ℕ → Bool) (n : ℕ) → list_any test (range_with_len 0 n) ≡ some_below test n
+unfolding some_below
+any_below test zero = refl
+any_below test (suc n) = let e : 0 + n ≡ n = omega arith in any_more test 0 n ∙ rw (any_below test n, e) refl
+
 module _ (back : ℕ) (one other : List ℕ) where
   pub joined_at : (j : ℕ) → later_of back (get_or one j 0) (get_or other j 0) ≡ joined back one other j
   unfolding stamps_point
   joined_at j = refl
 
-  pub joined_none : joined_early back one other 0 ≡ false
-  joined_none = (none_below (λ j. early (joined back one other j)) 0).1 (λ i h. absurd (omega arith))
-
-  pub joined_more : (j : ℕ) {r : Bool} → joined_early back one other j ≡ false → r ≡ early (later_of back (get_or one j 0) (get_or other j 0)) → r ≡ false
-      → joined_early back one other (j + 1) ≡ false
-  joined_more j e f g = (none_below (λ j. early (joined back one other j)) (j + 1)).1 (λ i h. ⊎_elim
-      (λ (l : i < j). (none_below (λ j. early (joined back one other j)) j).0 e i l)
-      (λ (l : i ≡ j). rw (l, ← joined_at j, ← f) g)
-      (below_or_last i j h))
-
-  pub joined_found : (j count : ℕ) {r : Bool} → j < count → r ≡ early (later_of back (get_or one j 0) (get_or other j 0)) → r ≡ true
-      → true ≡ joined_early back one other count
-  joined_found j count h f g = go (joined_early back one other count) refl
-    where
-      go : (t : Bool) → joined_early back one other count ≡ t → true ≡ t
-      go true e = refl
-      go false e = absurd (true_false (sym g ∙ f ∙ ap early (joined_at j) ∙ (none_below (λ j. early (joined back one other j)) count).0 e j h))
-
-  pub joined_end : (j count : ℕ) → joined_early back one other j ≡ false → j ≤ count → count ≤ j → false ≡ joined_early back one other count
-  joined_end j count e h k = let q : j ≡ count = omega arith in sym (rw q at e)
+  pub joined_any : (count : ℕ) → list_any (λ j. early (later_of back (get_or one j 0) (get_or other j 0))) (range_with_len 0 count) ≡ joined_early back one other count
+  unfolding stamps_point
+  joined_any count = any_below (λ j. early (joined back one other j)) count
 
   pub joined_late : (count j : ℕ) → joined_early back one other count ≡ false → j < count → early (later_of back (get_or one j 0) (get_or other j 0)) ≡ false
   joined_late count j e h = rw (joined_at j) ((none_below (λ j. early (joined back one other j)) count).0 e j h)

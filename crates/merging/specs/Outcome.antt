@@ -1,21 +1,20 @@
 -- What merging answers, in the words of the definitions, and what its steps ask and leave.
-use Rattle.std.specs.Prelude.{ℕ, suc, ◌*◌, ◌≤◌, ◌≡◌, Bool, true, false, List, map}
-use Rattle.definitions.specs.Limits.{highest_n, signed_bytes, word_half, merged_most, refused_early}
+use Rattle.std.specs.Prelude.{ℕ, suc, ◌*◌, ◌≤◌, ◌≡◌, Bool, true, false, List, map, Result}
+use Rattle.definitions.specs.Limits.{signed_bytes, merged_most, refused_early}
 use Rattle.definitions.specs.Problem.{Point}
 use Rattle.definitions.specs.Bytes.{fields, field_of, some_below, Outcome, refusal, gives}
 use Rattle.definitions.specs.ProblemRecord.{n_field, WithinLayout, problem_of, list_of}
 use Rattle.definitions.specs.AnswerRecord.{written}
 use Rattle.definitions.specs.Merging.{plan_fits, merged, early}
-use Rattle.records.specs.Stamps.{Stamped, stamps_point}
+use Rattle.records.specs.Stamps.{stamps_point}
 use Rattle.records.specs.Decoded.{InTables}
+use Rattle.records.specs.declared.refusal.Refusal.{Refusal}
+use Rattle.records.specs.Refusals.{outcome_by}
 use Rattle.merging.specs.Plans.{back_by}
-use Rattle.merging.specs.declared.merge.Merged.{Merged}
-use Rattle.merging.specs.declared.merge.Merged.TheVariants.{Stamps, Refused}
 
 -- The papers' result for each case: how many bytes are written, or the number of the refusal.
-unfoldable pub merged_of : Merged → Outcome ℕ
-merged_of (Stamps size) = gives size
-merged_of (Refused k) = refusal k
+abbrev pub merged_of : Result ℕ Refusal → Outcome ℕ
+merged_of r = outcome_by (λ size. size) r
 
 -- A problem within the layout, of this n and m, was read into the tables.
 pub record Read (p : List ℕ) (n m : ℕ) (left right : List ℕ) : Type 0 where
@@ -29,14 +28,6 @@ pub record Posed (n m : ℕ) (left right first second : List ℕ) (room : ℕ) :
   pub read : Read problem n m left right
   pub first_fits : plan_fits n first ≡ true
   pub second_fits : plan_fits n second ≡ true
-  pub room_enough : merged_most ≤ room
-
--- Stamps of two plans to be merged, the second moved back, into a buffer of `room` bytes.
-pub record Kept (n back : ℕ) (first second : List ℕ) (room : ℕ) : Type 0 where
-  pub n_most : n ≤ highest_n
-  pub back_most : back ≤ word_half
-  pub first_stamps : Stamped first
-  pub second_stamps : Stamped second
   pub room_enough : merged_most ≤ room
 
 -- The plan merged from stamps, the second moved back; one of its first stamps is below the least.

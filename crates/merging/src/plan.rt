@@ -25,13 +25,7 @@ pub fn stamps_in(bytes: &[u8], count: usize) -> [u64; STRIDE]
     requires { (count ≤ stride) × (signed_bytes * count ≤ length bytes.now) }
     ensures { Padded stride (numbers_in bytes.now count) result }
 {
-    let mut out = [0u64; STRIDE];
-    let mut j: usize = 0;
-    while j < count {
-        out[j] = stamp_in(bytes, j);
-        j += 1;
-    }
-    out
+    std::array::from_fn(|j| if j < count { stamp_in(bytes, j) } else { 0 })
 }
 
 // The bytes are n + 1 stamps of the form of class 1. Public for `merge`.
@@ -40,9 +34,5 @@ pub fn plan_fits(bytes: &[u8], n: usize) -> bool
     ensures { result ≡ plan_fits n bytes.now }
 {
     let count = n + 1;
-    if bytes.len() != LEAD_BYTES * count {
-        return false;
-    }
-    let stamps = stamps_in(bytes, count);
-    stamps_fit(&stamps[..count])
+    bytes.len() == LEAD_BYTES * count && stamps_fit(&stamps_in(bytes, count)[..count])
 }

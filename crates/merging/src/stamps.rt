@@ -9,16 +9,13 @@ ghost use Rattle.records.specs.Stamps.{Stamped};
 ghost use Rattle.merging.specs.Plans.{back_by, later_of};
 ghost use Rattle.merging.specs.Outcome.{joined, joined_early};
 
-use records::limits::{LAST_WORD, OFFSET, STAMP_LIMIT, STRIDE, WORD_HALF};
+use records::limits::{OFFSET, STAMP_LIMIT, STRIDE};
 
-// The shift, a signed number of 64 bits, is above 0. Public for `merge`, as are the next and the last two.
+// The shift, a signed number of 64 bits, is above 0. Public for `merge`, as are the next and the pair.
 pub fn is_forward(shift: u64) -> bool
     ensures { result ≡ above_zero (shift_of shift) }
 {
-    if shift == 0 {
-        return false;
-    }
-    shift < WORD_HALF
+    0 < shift.cast_signed()
 }
 
 // How many minutes a shift that is not above 0 moves a plan back.
@@ -26,10 +23,7 @@ pub fn minutes_back(shift: u64) -> u64
     requires { above_zero (shift_of shift) ≡ false }
     ensures { (back_by result ≡ shift_of shift) × (result ≤ word_half) }
 {
-    if shift == 0 {
-        return 0;
-    }
-    LAST_WORD - shift + 1
+    shift.wrapping_neg()
 }
 
 // The later of the first stamp and the second moved back is below the least stamp: that is so only where the first is blank.
@@ -37,13 +31,7 @@ fn is_early(first: u64, second: u64, back: u64) -> bool
     requires { Near stamp_limit first × Near stamp_limit second × (back ≤ word_half) }
     ensures { result ≡ early (later_of back first second) }
 {
-    if first != 0 {
-        return false;
-    }
-    if second == 0 {
-        return false;
-    }
-    second < back + (OFFSET - STAMP_LIMIT)
+    first == 0 && second != 0 && second < back + (OFFSET - STAMP_LIMIT)
 }
 
 // The later of the first stamp and the second moved back. A second stamp that would have no offset number any more is the earlier.
@@ -51,43 +39,38 @@ fn later_of(first: u64, second: u64, back: u64) -> u64
     requires { Near stamp_limit first × Near stamp_limit second × (back ≤ word_half) × (early (later_of back first second) ≡ false) }
     ensures { (trop_of result ≡ later_of back first second) × (result < signed_full) }
 {
-    if second <= back {
-        return first;
-    }
-    let moved = second - back;
-    if first <= moved { moved } else { first }
+    first.max(second.saturating_sub(back))
 }
 
-// One of the first `count` stamps of the merged plan is below the least stamp.
-pub fn some_early(first: &[u64; STRIDE], second: &[u64; STRIDE], back: u64, count: usize) -> bool
-    requires { Stamped first.now × Stamped second.now × (back ≤ word_half) × (count ≤ stride) }
-    ensures { result ≡ joined_early back first.now second.now count }
-{
-    let mut j: usize = 0;
-    while j < count {
-        if is_early(first[j], second[j], back) {
-            return true;
+// The stamps of two plans to be merged, and how many minutes the second is moved back.
+#[derive(Clone, Copy)]
+pub struct Pair<'a> {
+    pub first: &'a [u64; STRIDE],
+    pub second: &'a [u64; STRIDE],
+    pub back: u64,
+    ghost first_stamps: { Stamped first.now },
+    ghost second_stamps: { Stamped second.now },
+    ghost back_most: { back ≤ word_half },
+}
+
+impl Pair<'_> {
+    // One of the first `count` stamps of the merged plan is below the least stamp.
+    pub fn some_early(&self, count: usize) -> bool
+        requires { count ≤ stride }
+        ensures { result ≡ joined_early self.now.back self.now.first.now self.now.second.now count }
+    {
+        (0..count).any(|j| is_early(self.first[j], self.second[j], self.back))
+    }
+
+    // The first `count` stamps of the merged plan, then blanks, where none is below the least stamp.
+    pub fn merged_stamps(&self, count: usize) -> [u64; STRIDE]
+        requires { (count ≤ stride) × (joined_early self.now.back self.now.first.now self.now.second.now count ≡ false) }
+        ensures { Filled (λ j v. (trop_of v ≡ joined self.now.back self.now.first.now self.now.second.now j) × (v < signed_full)) stride count result }
+    {
+        let mut out = [0u64; STRIDE];
+        for j in 0..count {
+            out[j] = later_of(self.first[j], self.second[j], self.back);
         }
-        j += 1;
+        out
     }
-    false
-}
-
-// The first `count` stamps of the merged plan, then blanks, where none is below the least stamp.
-pub fn merged_stamps(
-    first: &[u64; STRIDE],
-    second: &[u64; STRIDE],
-    back: u64,
-    count: usize,
-) -> [u64; STRIDE]
-    requires { Stamped first.now × Stamped second.now × (back ≤ word_half) × (count ≤ stride) × (joined_early back first.now second.now count ≡ false) }
-    ensures { Filled (λ j v. (trop_of v ≡ joined back first.now second.now j) × (v < signed_full)) stride count result }
-{
-    let mut out = [0u64; STRIDE];
-    let mut j: usize = 0;
-    while j < count {
-        out[j] = later_of(first[j], second[j], back);
-        j += 1;
-    }
-    out
 }

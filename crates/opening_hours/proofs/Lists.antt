@@ -1,10 +1,13 @@
 -- Week lists: what a good one has, how a run over the windows judges it, and where it finds the first open minute.
-use Prim.Native.Nat.{ℕ, zero, suc, ◌+◌, ◌-◌, ◌*◌, ◌%◌, ◌≤◌, ◌<◌}
-use mathlib.Core.Path.{◌≡◌, refl, ap, sym, subst}
-use mathlib.Core.Logic.{inl, inr, ⊎_elim}
-use mathlib.Core.List.{List}
+use Prim.Native.Nat.{ℕ, max, zero, suc, ◌+◌, ◌-◌, ◌*◌, ◌%◌, ◌≤◌, ◌<◌}
+use mathlib.Core.Path.{◌≡◌, refl, ap, sym, subst, ◌∙◌}
+use mathlib.Core.Logic.{◌⊎◌, inl, inr, ⊎_elim}
+use mathlib.Core.List.{List, []}
 use native.Mathlib.Omega.{arith}
-use lib.ListN.{length}
+use lib.ListN.{length, get_or, take, drop}
+use Rattle.std.proofs.Common.{get_or-take, get_or-drop}
+use Rattle.std.proofs.lemmas.List.{drop-drop}
+use Rattle.std.specs.Simd.{first_chunks}
 use Rattle.base.proofs.Numbers.{nat_le_or_lt}
 use Rattle.definitions.specs.Limits.{week_minutes, most_windows}
 use Rattle.definitions.specs.Week.{windows, opening, closing, InWindow, BadWeek, odd, too_many_windows, closing_not_after_opening, opening_outside, closing_outside, starts_before_last_closes}
@@ -29,6 +32,30 @@ small_remainder k h = omega arith
 
 next_remainder : (k : ℕ) → k < week_minutes → k ≡ (week_minutes + k) % week_minutes
 next_remainder k h = omega arith
+
+-- ---- the pairs of a list
+
+-- Pair i has the numbers at 2i and 2i + 1,
+pair_at : (n i : ℕ) (week : List ℕ) → i < n → get_or (first_chunks 2 n week) i [] ≡ take 2 (drop (2 * i) week)
+pair_at zero i week h = absurd (omega arith)
+pair_at (suc n) zero week h = refl
+pair_at (suc n) (suc i) week h =
+    let e : 2 + 2 * i ≡ 2 * suc i = omega arith in
+    pair_at n i (drop 2 week) (omega arith) ∙ ap (take 2) (drop-drop (2 * i) 2 week) ∙ ap (λ (k : ℕ). take 2 (drop k week)) e
+
+-- the opening and the closing minute of window i.
+pub record Pair (week pair : List ℕ) (i : ℕ) : Type 0 where
+  pub opens : get_or pair 0 0 ≡ opening week i
+  pub closes : get_or pair 1 0 ≡ closing week i
+
+pub pair_is : (week : List ℕ) (i : ℕ) {pairs : List (List ℕ)} → pairs ≡ first_chunks 2 (windows week) week → i < windows week → Pair week (get_or pairs i []) i
+pair_is week i e h =
+    let p = ap (λ (t : List (List ℕ)). get_or t i []) e ∙ pair_at (windows week) i week h in
+    let zero : 2 * i + 0 ≡ 2 * i = omega arith in
+    record {
+      opens = ap (λ (t : List ℕ). get_or t 0 0) p ∙ get_or-take 2 (drop (2 * i) week) 0 0 (omega arith) ∙ get_or-drop (2 * i) week 0 0 ∙ ap (λ (k : ℕ). get_or week k 0) zero;
+      closes = ap (λ (t : List ℕ). get_or t 1 0) p ∙ get_or-take 2 (drop (2 * i) week) 1 0 (omega arith) ∙ get_or-drop (2 * i) week 1 0;
+    }
 
 -- ---- a good list
 
@@ -133,6 +160,11 @@ starts_early {week} {i} {last} f h k = go i refl
 pub closes_late : (week : List ℕ) (i : ℕ) → i < windows week → week_minutes < closing week i → BadWeek week
 closes_late week i h k = closing_outside i h (inr k)
 
+-- A window that doesn't fit behind those before it.
+pub window_bad : {week : List ℕ} {i last : ℕ} → FitsTo week i last → i < windows week
+    → (opening week i < last) ⊎ (((last ≤ opening week i) × (closing week i ≤ opening week i)) ⊎ ((last ≤ opening week i) × (opening week i < closing week i) × (week_minutes < closing week i))) → BadWeek week
+window_bad {week} {i} f h s = ⊎_elim (starts_early f h) (λ t. ⊎_elim (λ p. closing_not_after_opening i h p.1) (λ p. closes_late week i h p.2) t) s
+
 -- All windows were looked at.
 pub fits_all : {week : List ℕ} {i last : ℕ} → FitsTo week i last → windows week ≤ i → length week % 2 ≡ 0 → windows week ≤ most_windows → Fits week
 fits_all {week} {i} f h even few =
@@ -172,25 +204,16 @@ shut_until {week} {minute} {i} f shut h k l r w = ⊎_elim
     (λ (g : w.window < i). omega (arith, shut.closed w.window g, w.not_closed))
     (nat_le_or_lt i w.window)
 
--- The window is open at the minute.
-pub found_open : {week : List ℕ} {minute i : ℕ} → Asked week minute → i < windows week → opening week i ≤ minute → minute < closing week i → FirstFrom week minute minute
-found_open {week} {minute} {i} a h o c = record {
-  at_or_after = omega arith;
-  is_open = subst (InWindow week) (small_remainder minute a.minute_small) (record { window = i; listed = h; opened = o; not_closed = c });
-  shut_before = λ j l k w. omega arith;
-  near = omega arith;
-}
-
--- The window opens later in this week.
-pub found_later : {week : List ℕ} {minute i : ℕ} → Asked week minute → ShutTo week minute i → i < windows week → minute < opening week i → FirstFrom week minute (opening week i)
-found_later {week} {minute} {i} a shut h o =
+-- The first window that closes after the minute: it is open at the minute, or opens later in this week.
+pub found_window : {week : List ℕ} {minute i : ℕ} → Asked week minute → ShutTo week minute i → i < windows week → minute < closing week i → FirstFrom week minute (max minute (opening week i))
+found_window {week} {minute} {i} a shut h c =
     let f = good_fits a.good in
     let after : opening week i < closing week i = f.closes_after i h in
     let within : closing week i ≤ week_minutes = f.closes_within i h in record {
       at_or_after = omega arith;
-      is_open = subst (InWindow week) (small_remainder (opening week i) (omega arith)) (record { window = i; listed = h; opened = omega arith; not_closed = after });
-      shut_before = λ j l k w. shut_until f shut h j l k (subst (InWindow week) (sym (small_remainder j (omega arith))) w);
-      near = omega arith;
+      is_open = subst (InWindow week) (small_remainder (max minute (opening week i)) (omega arith)) (record { window = i; listed = h; opened = omega arith; not_closed = omega arith });
+      shut_before = λ j l k w. shut_until f shut h j l (omega arith) (subst (InWindow week) (sym (small_remainder j (omega arith))) w);
+      near = omega (arith, a.minute_small);
     }
 
 -- All windows of this week are closed: the first of the next.

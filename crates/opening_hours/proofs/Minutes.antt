@@ -4,6 +4,7 @@ use mathlib.Core.Path.{◌≡◌, refl, ap, sym, subst, ◌∙◌}
 use mathlib.Core.Bool.{Bool, true, false, and-eq-true_iff}
 use mathlib.Core.Logic.{⊎_elim}
 use mathlib.Core.List.{List, [], ◌∷◌}
+use Rattle.std.specs.Prelude.{Some, None, Ok, Err}
 use native.Mathlib.Omega.{arith}
 use lib.Dec.{leb}
 use lib.ListN.{length}
@@ -13,11 +14,11 @@ use Rattle.base.proofs.Numbers.{nat_le_or_lt}
 use Rattle.definitions.specs.Limits.{signed_half, week_minutes, minute_limit}
 use Rattle.definitions.specs.Bytes.{whole_within}
 use Rattle.definitions.specs.Offset.{trop_of}
-use Rattle.definitions.specs.Week.{windows, InWindow, minute_of_week, FirstOpen, BadWeek, TurnedAway, bad_week, minute_beyond, week_refusal, Admits, turned_away, never_open, opens}
+use Rattle.definitions.specs.Week.{windows, InWindow, minute_of_week, FirstOpen, BadWeek, TurnedAway, bad_week, minute_beyond, Admits, turned_away, never_open, opens}
 use Rattle.definitions.proofs.Whole.{up, down, whole, plus_read, subℕ_read, abs_read, abs_show}
 use Rattle.definitions.proofs.Offset.{whole_offset}
 use Rattle.definitions.proofs.Week.{minute_ahead, ahead}
-use Rattle.opening_hours.specs.declared.lookup.Admission.TheVariants.{At, Never, Refused}
+use Rattle.records.specs.declared.refusal.Refusal.TheVariants as Refusals
 use Rattle.opening_hours.specs.Lookup.{minute_of, admission_of, ListJudged, fits, bad, Asked, FirstFrom}
 use Rattle.opening_hours.proofs.Lists.{good_fits}
 
@@ -78,14 +79,12 @@ beyond_limit k f = ⊎_elim
     (nat_le_or_lt (nat_abs (minute_of k)) minute_limit)
 
 -- The list is bad.
-pub admits_bad_week : {week : List ℕ} (z : ℕ) {r : Bool} → ListJudged week r → r ≡ false → Admits week (minute_of z) (admission_of (Refused week_refusal))
-unfolding admission_of
+pub admits_bad_week : {week : List ℕ} (z : ℕ) {r : Bool} → ListJudged week r → r ≡ false → Admits week (minute_of z) (admission_of (Err Refusals.Week))
 admits_bad_week z (fits g) e = absurd (true_not_false refl e)
 admits_bad_week z (bad b) e = turned_away (bad_week b)
 
 -- The minute is beyond.
-pub admits_beyond : {week : List ℕ} (z : ℕ) {r : Bool} → r ≡ whole_within minute_limit (trop_of z) → r ≡ false → Admits week (minute_of z) (admission_of (Refused week_refusal))
-unfolding admission_of
+pub admits_beyond : {week : List ℕ} (z : ℕ) {r : Bool} → r ≡ whole_within minute_limit (trop_of z) → r ≡ false → Admits week (minute_of z) (admission_of (Err Refusals.Week))
 admits_beyond z {r} e t = turned_away (minute_beyond (beyond_limit z (sym e ∙ t)))
 
 -- Neither is turned away.
@@ -125,8 +124,7 @@ no_list [] e = refl
 no_list (x ∷ xs) e = absurd (omega arith)
 
 -- It is never open.
-pub admits_never : {week : List ℕ} {z : ℕ} → Taken week z → length week ≡ 0 → Admits week (minute_of z) (admission_of Never)
-unfolding admission_of
+pub admits_never : {week : List ℕ} {z : ℕ} → Taken week z → length week ≡ 0 → Admits week (minute_of z) (admission_of (Ok None))
 admits_never {week} t e = never_open (none_applies t) (no_list week e)
 
 -- A list with numbers and without a refusal has a window.
@@ -138,8 +136,7 @@ answer_is : (z m k : ℕ) → m ≤ z → m ≤ k → minute_of z +ℤ pos (k - 
 answer_is z m k h l = omega (whole, plus_read (minute_of z) (pos (k - m)), minute_read z, minute_read (z - m + k))
 
 -- The first open minute.
-pub admits_at : {week : List ℕ} {z m k : ℕ} → Taken week z → m ≡ minute_of_week (minute_of z) → m < week_minutes → FirstFrom week m k → Admits week (minute_of z) (admission_of (At (z - m + k)))
-unfolding admission_of
+pub admits_at : {week : List ℕ} {z m k : ℕ} → Taken week z → m ≡ minute_of_week (minute_of z) → m < week_minutes → FirstFrom week m k → Admits week (minute_of z) (admission_of (Ok (Some (z - m + k))))
 admits_at {week} {z} {m} {k} t e s f =
     let g : FirstFrom week (minute_of_week (minute_of z)) k = subst (λ (x : ℕ). FirstFrom week x k) e f in
     let q : minute_of z +ℤ pos (k - minute_of_week (minute_of z)) ≡ minute_of (z - m + k) = subst (λ (x : ℕ). minute_of z +ℤ pos (k - x) ≡ minute_of (z - m + k)) e (answer_is z m k (omega arith) f.at_or_after) in

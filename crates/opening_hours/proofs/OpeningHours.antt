@@ -13,7 +13,7 @@ use Rattle.definitions.specs.Week.{windows, opening, closing, InWindow, minute_o
 use Rattle.definitions.proofs.Whole.{whole, plus_read, abs_read, abs_show, le_or_lt}
 use Rattle.definitions.proofs.Week.{minute_below, minute_ahead, every_week, first_open_unique}
 use Rattle.opening_hours.specs.Lookup.{Asked, FirstFrom}
-use Rattle.opening_hours.proofs.Lists.{Fits, good_fits, fits_good, FitsTo, fits_none, fits_more, fits_all, starts_early, closes_late, ShutTo, shut_none, shut_more, found_open, found_later, found_next_week}
+use Rattle.opening_hours.proofs.Lists.{Fits, good_fits, fits_good, FitsTo, fits_none, fits_more, fits_all, starts_early, closes_late, ShutTo, shut_none, shut_more, found_window, found_next_week}
 use Rattle.opening_hours.proofs.Minutes.{first_of_all, no_list}
 
 -- ---- the answer is less than a week away
@@ -90,10 +90,7 @@ found_from : {week : List ℕ} {minute : ℕ} → Asked week minute → (n i : �
 found_from a zero i e s = record { k = _; first = found_next_week a s (omega arith) }
 found_from {week} {minute} a (suc n) i e s = ⊎_elim
     (λ (h : closing week i ≤ minute). found_from a n (i + 1) (omega arith) (shut_more s (omega arith) h))
-    (λ (h : minute < closing week i). ⊎_elim
-    (λ (k : opening week i ≤ minute). record { k = minute; first = found_open a (omega arith) k h })
-    (λ (k : minute < opening week i). record { k = opening week i; first = found_later a s (omega arith) k })
-    (nat_le_or_lt (opening week i) minute))
+    (λ (h : minute < closing week i). record { k = _; first = found_window a s (omega arith) h })
     (nat_le_or_lt (closing week i) minute)
 
 -- The answer to a good list and a minute within the limit.

@@ -1,21 +1,21 @@
 -- What looking up a minute answers, in the words of the definitions.
-use Rattle.std.specs.Prelude.{ℕ, ◌+◌, ◌%◌, ◌≤◌, ◌<◌, Bool, true, false, List, ℤ}
+use Rattle.std.specs.Prelude.{ℕ, ◌+◌, ◌%◌, ◌≤◌, ◌<◌, Bool, true, false, List, ℤ, Option, Some, None, Result, Ok, Err}
 use Rattle.std.proofs.Math.IntN.{sub_ℕ}
 use Rattle.definitions.specs.Limits.{signed_half, week_minutes}
 use Rattle.definitions.specs.Week as Weeks
 use Rattle.definitions.specs.Week.{windows, InWindow, BadWeek}
-use Rattle.opening_hours.specs.declared.lookup.Admission.{Admission}
-use Rattle.opening_hours.specs.declared.lookup.Admission.TheVariants.{At, Never, Refused}
+use Rattle.records.specs.declared.refusal.Refusal.{Refusal}
+use Rattle.records.specs.Refusals.{number_of}
 
 -- The minute that an offset number stands for. Each number has one; those too far away, 0 among them, are refused by 19.
 unfoldable pub minute_of : ℕ → ℤ
 minute_of k = sub_ℕ k signed_half
 
 -- Document 02's answer for each case: the minute, never, or the refusal's number.
-unfoldable pub admission_of : Admission → Weeks.Admission
-admission_of (At k) = Weeks.open_at (minute_of k)
-admission_of Never = Weeks.never
-admission_of (Refused k) = Weeks.refused k
+abbrev pub admission_of : Result (Option ℕ) Refusal → Weeks.Admission
+admission_of (Ok (Some k)) = Weeks.open_at (minute_of k)
+admission_of (Ok None) = Weeks.never
+admission_of (Err r) = Weeks.refused (number_of r)
 
 -- The test of a week list: true exactly where refusal 19 has nothing against it.
 pub data ListJudged (week : List ℕ) : Bool → Type 0 where

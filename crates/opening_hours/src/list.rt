@@ -8,30 +8,16 @@ use records::limits::{MOST_WINDOWS, WEEK};
 pub fn list_fits(week: &[u64]) -> bool
     ensures { ListJudged week.now result }
 {
-    let count = week.len();
-    if count % 2 != 0 {
+    let (windows, rest) = week.as_chunks::<2>();
+    if !rest.is_empty() || MOST_WINDOWS < windows.len() {
         return false;
     }
-    let windows = count / 2;
-    if MOST_WINDOWS < windows {
-        return false;
-    }
-    let mut last: u64 = 0;
-    let mut i: usize = 0;
-    while i < windows {
-        let opening = week[2 * i];
-        let closing = week[2 * i + 1];
-        if opening < last {
-            return false;
-        }
-        if closing <= opening {
-            return false;
-        }
-        if WEEK < closing {
+    let mut last = 0;
+    for &[opening, closing] in windows {
+        if opening < last || closing <= opening || WEEK < closing {
             return false;
         }
         last = closing;
-        i += 1;
     }
     true
 }

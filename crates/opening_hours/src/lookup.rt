@@ -5,26 +5,19 @@ ghost use Rattle.definitions.specs.Week.{minute_of_week, Admits};
 ghost use Rattle.opening_hours.specs.Lookup.{Asked, FirstFrom, minute_of, admission_of};
 
 use crate::list::list_fits;
-use records::limits::{MINUTE_LIMIT, OFFSET, WEEK, WEEK_REFUSAL};
+use records::limits::{MINUTE_LIMIT, OFFSET, WEEK};
 use records::offset::whole_within;
-
-// What looking up answers: the first open minute, never, or the number of the refusal.
-#[derive(Clone, Copy)]
-pub enum Admission {
-    At(u64),
-    Never,
-    Refused(usize),
-}
+use records::refusal::Refusal;
 
 // The minute of its week at which a minute stands.
 fn minute_of_week(z: u64) -> u64
     ensures { (result ≡ minute_of_week (minute_of z)) × (result < week_minutes) }
 {
-    if z < OFFSET {
-        let before = OFFSET - z;
-        return (WEEK - before % WEEK) % WEEK;
+    if OFFSET <= z {
+        (z - OFFSET) % WEEK
+    } else {
+        (WEEK - (OFFSET - z) % WEEK) % WEEK
     }
-    (z - OFFSET) % WEEK
 }
 
 // The first open minute at or after a minute of this week, counted from this week's Monday 0:00: in the first window that closes
@@ -33,36 +26,25 @@ fn open_from(week: &[u64], minute: u64) -> u64
     requires { Asked week.now minute }
     ensures { FirstFrom week.now minute result }
 {
-    let windows = week.len() / 2;
-    let mut i: usize = 0;
-    while i < windows {
-        let opening = week[2 * i];
-        let closing = week[2 * i + 1];
+    let (windows, _) = week.as_chunks::<2>();
+    for &[opening, closing] in windows {
         if minute < closing {
-            if minute < opening {
-                return opening;
-            }
-            return minute;
+            return minute.max(opening);
         }
-        i += 1;
     }
     WEEK + week[0]
 }
 
-// The first open minute at or after z by a week list, never for an empty list, or refusal 19.
-pub fn first_open(week: &[u64], z: u64) -> Admission
+// The first open minute at or after z by a week list, none for an empty list, or refusal 19.
+pub fn first_open(week: &[u64], z: u64) -> Result<Option<u64>, Refusal>
     ensures { Admits week.now (minute_of z) (admission_of result) }
 {
-    if !list_fits(week) {
-        return Admission::Refused(WEEK_REFUSAL);
+    if !list_fits(week) || !whole_within(MINUTE_LIMIT, z) {
+        return Err(Refusal::Week);
     }
-    if !whole_within(MINUTE_LIMIT, z) {
-        return Admission::Refused(WEEK_REFUSAL);
-    }
-    if week.len() == 0 {
-        return Admission::Never;
+    if week.is_empty() {
+        return Ok(None);
     }
     let minute = minute_of_week(z);
-    let monday = z - minute;
-    Admission::At(monday + open_from(week, minute))
+    Ok(Some(z - minute + open_from(week, minute)))
 }

@@ -2,12 +2,16 @@
 // next place in it. Its methods leave the work to `printing::text::append`; `write`, with plain parameters, stands above
 // them.
 ghost use Rattle.std.specs.Prelude.{◌≡◌, ◌≤◌, length, take};
+ghost use Rattle.definitions.specs.Offset.{trop_of};
 ghost use Rattle.definitions.specs.Programs.{refused_line, verdict_line};
-ghost use Rattle.printing.specs.Text.{Appended, Output, line_most, verdict_by};
+ghost use Rattle.definitions.specs.Verdict.{accepted, refused};
+ghost use Rattle.records.specs.Refusals.{number_of};
+ghost use Rattle.printing.specs.Text.{Appended, Output, line_most};
 ghost use Rattle.output.specs.Written.{writer_after};
 
-use printing::lines::{LINE_MOST, refused_line, verdict_line};
+use printing::lines::{LINE_MOST, accepted_line, refused_line, turned_away_line};
 use printing::text::append;
+use records::refusal::Refusal;
 
 // A lent slice, and the place in it where the next record or line goes.
 #[derive(Drop)]
@@ -68,23 +72,32 @@ pub fn write_front(buf: &mut [u8], from: &[u8], size: usize) -> usize
     }
 }
 
-// What the span program puts out for a refusal: its line. Public for `span`.
-pub fn write_refused(buf: &mut [u8], number: usize) -> usize
-    ensures shown { Output buf.old (refused_line number) buf.new result }
-    ensures short { length (refused_line number) ≤ line_most }
+// What the span program puts out for a refusal: its line. Public for `span` and `convert`.
+pub fn write_refused(buf: &mut [u8], refusal: Refusal) -> usize
+    ensures shown { Output buf.old (refused_line (number_of refusal)) buf.new result }
+    ensures short { length (refused_line (number_of refusal)) ≤ line_most }
 {
     let mut line = [0u8; LINE_MOST];
-    let size = refused_line(&mut line, number);
+    let size = refused_line(&mut line, refusal);
     write(buf, 0, &line[..size])
 }
 
-// What the verdict program puts out: the line of refusal `refusal`, or of class and span where it is 0. Public for
-// `verdict`.
-pub fn write_verdict(buf: &mut [u8], refusal: usize, class: u64, span: u64) -> usize
-    ensures shown { Output buf.old (verdict_line (verdict_by refusal class span)) buf.new result }
-    ensures short { length (verdict_line (verdict_by refusal class span)) ≤ line_most }
+// What the verdict program puts out for an accepted answer. Public for `verdict`.
+pub fn write_accepted(buf: &mut [u8], class: u64, span: u64) -> usize
+    ensures shown { Output buf.old (verdict_line (accepted class (trop_of span))) buf.new result }
+    ensures short { length (verdict_line (accepted class (trop_of span))) ≤ line_most }
 {
     let mut line = [0u8; LINE_MOST];
-    let size = verdict_line(&mut line, refusal, class, span);
+    let size = accepted_line(&mut line, class, span);
+    write(buf, 0, &line[..size])
+}
+
+// What it puts out for one that is turned away. Public for `verdict` and `reasons`.
+pub fn write_turned_away(buf: &mut [u8], refusal: Refusal) -> usize
+    ensures shown { Output buf.old (verdict_line (refused (number_of refusal))) buf.new result }
+    ensures short { length (verdict_line (refused (number_of refusal))) ≤ line_most }
+{
+    let mut line = [0u8; LINE_MOST];
+    let size = turned_away_line(&mut line, refusal);
     write(buf, 0, &line[..size])
 }

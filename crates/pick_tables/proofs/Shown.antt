@@ -1,16 +1,18 @@
 -- Laws of the loops that make an answer's picks.
-use Prim.Native.Nat.{ℕ, ◌+◌, ◌*◌, ◌/◌, ◌%◌, ◌≤◌, ◌<◌}
+use Prim.Native.Nat.{ℕ, ◌+◌, ◌-◌, ◌*◌, ◌/◌, ◌%◌, ◌≤◌, ◌<◌}
 use mathlib.Core.Path.{◌≡◌, refl, ap, ap₂, sym, subst, ◌∙◌}
-use mathlib.Core.Bool.{Bool, true, false}
 use mathlib.Core.Logic.{◌⊎◌, inl, inr, ⊎_elim}
-use mathlib.Core.List.{List}
+use mathlib.Core.List.{List, ◌++◌}
 use native.Mathlib.Omega.{arith}
 use native.Mathlib.Nat.{eq-zero-or-pos}
-use lib.ListN.{length, get_or, set, replicate, length-set, length-replicate}
+use lib.ListN.{length, get_or, set, take, drop, replicate, length-set, length-replicate}
 use lib.Seq.{get_or-set_same, get_or-set_other}
 use borrow.Author.Tests.{eq-eqb, ne_eqb, lt-ltb, le-ltb}
+use borrow.Rule.Slice.PartMut.{put_mid, mid_of}
+use Rattle.std.proofs.lemmas.List.{get_or_append_left, get_or-append_right, get_or-take, get_or-drop, length-take-le, length-drop, length-append}
+use Rattle.base.specs.Filled.{Filled}
 use Rattle.base.proofs.Numbers.{nat_le_or_lt, same_or_not, positive}
-use Rattle.base.proofs.Filled.{zeros, filled_more, filled_map}
+use Rattle.base.proofs.Filled.{zeros, filled_map}
 use Rattle.definitions.specs.Tropical.{bot, plus, largest, ◌⊑◌, Finite}
 use Rattle.definitions.specs.Offset.{trop_of}
 use Rattle.definitions.proofs.Tropical.{not_finite_bot, below_bot, ⊑_of_eq, largest_least}
@@ -19,9 +21,8 @@ use Rattle.reach.specs.Spreading.{mark_of}
 use Rattle.reach.proofs.Marks.{mark_same, mark_arc}
 use Rattle.policy_iteration.specs.Tables.{entry_of, point_of, raised_limit, fold_limit, Table, Ranged}
 use Rattle.policy_iteration.specs.Rounds.{folded_at, sums}
-use Rattle.pick_tables.specs.Shown.{shown_pick, arc_by, VariableArcs, RowArcIs, RowArcs, Column, BothAre, UsedIs, blank_most, Highest, BestIs}
+use Rattle.pick_tables.specs.Shown.{shown_pick, arc_by, VariableArcs, RowArcIs, RowArcs, Column, UsedIs, blank_most, Highest, BestIs}
 use Rattle.policy_iteration.proofs.Fold.{folded_low, folded_offsets, folded_mono}
-use Rattle.policy_iteration.proofs.Rounds.{false_not_true}
 
 -- ---- one pick
 
@@ -47,22 +48,90 @@ arc_none right rows i l h = rw (le-ltb i rows h)
 
 -- ---- arcs of variables
 
--- One arc more of variable j.
-pub arcs_more : (right picks : List ℕ) (rows j l : ℕ) {arcs : List ℕ} {v : ℕ} → VariableArcs right picks rows (j * 32 + l) arcs → j < 32 → l < 32
-    → v ≡ arc_by right rows (get_or picks j 0) l → VariableArcs right picks rows (j * 32 + (l + 1)) (set arcs (j * 32 + l) v)
-arcs_more right picks rows j l {arcs} {v} s g h e =
-    let row : j ≡ (j * 32 + l) / 32 = omega arith in
-    let column : l ≡ (j * 32 + l) % 32 = omega arith in
-    let next : j * 32 + l + 1 ≡ j * 32 + (l + 1) = omega arith in
-    subst (λ (n : ℕ). VariableArcs right picks rows n (set arcs (j * 32 + l) v)) next
-    (filled_more s (omega arith) (e ∙ ap₂ (λ (i z : ℕ). arc_by right rows (get_or picks i 0) z) row column))
+-- A row of arcs is copied: what is filled goes on by it.
+mid_filled : {P : ℕ → ℕ → Type 0} {size n k : ℕ} {xs : List ℕ} (ys : List ℕ) → Filled P size n xs → length ys ≡ k → n + k ≤ size
+    → ((l : ℕ) → l < k → P (n + l) (get_or ys l 0)) → Filled P size (n + k) (put_mid n k xs ys)
+mid_filled {P} {size} {n} {k} {xs} ys f c h g = record {
+  size_is =
+      omega (
+        arith,
+        length-append (take n xs) (ys ++ drop k (drop n xs)),
+        length-append ys (drop k (drop n xs)),
+        start,
+        length-drop k (drop n xs),
+        length-drop n xs,
+        f.size_is,
+        c,
+      );
+  each = λ i b. ⊎_elim (λ (l : n ≤ i). after i b l) (λ (l : i < n). subst (P i) (sym (before i l)) (f.each i l)) (nat_le_or_lt n i);
+  rest = λ i b. past i b ∙ f.rest i (omega arith);
+}
+  where
+    start : length (take n xs) ≡ n
+    start = length-take-le n xs (omega (arith, f.size_is))
+
+    before : (i : ℕ) → i < n → get_or (put_mid n k xs ys) i 0 ≡ get_or xs i 0
+    before i l = get_or_append_left (take n xs) _ 0 i (omega (arith, start)) ∙ get_or-take n xs i 0 l
+
+    inside : (l : ℕ) → l < k → get_or (put_mid n k xs ys) (n + l) 0 ≡ get_or ys l 0
+    inside l b = get_or-append_right (take n xs) _ n (n + l) 0 start (omega arith)
+        ∙ (let e : n + l - n ≡ l = omega arith in rw e (get_or_append_left ys _ 0 l (omega (arith, c))))
+
+    after : (i : ℕ) → i < n + k → n ≤ i → P i (get_or (put_mid n k xs ys) i 0)
+    after i b l =
+        let e : n + (i - n) ≡ i = omega arith in
+        subst (λ (z : ℕ). P z (get_or (put_mid n k xs ys) z 0)) e (subst (P (n + (i - n))) (sym (inside (i - n) (omega arith))) (g (i - n) (omega arith)))
+
+    past : (i : ℕ) → n + k ≤ i → get_or (put_mid n k xs ys) i 0 ≡ get_or xs i 0
+    past i b =
+        let e : n + (k + (i - n - k)) ≡ i = omega arith in
+        get_or-append_right (take n xs) _ n i 0 start (omega arith) ∙ get_or-append_right ys _ k (i - n) 0 c (omega arith)
+        ∙ get_or-drop k (drop n xs) (i - n - k) 0 ∙ get_or-drop n xs (k + (i - n - k)) 0 ∙ ap (λ z. get_or xs z 0) e
+
+-- The arcs of variable j, whose pick is a row.
+pub arcs_copied : (right picks : List ℕ) {arcs : List ℕ} {rows : ℕ} (j : ℕ) → VariableArcs right picks rows (j * 32) arcs → j < 32 → get_or picks j 0 < rows
+    → rows ≤ 64 → length right ≡ 2048
+    → VariableArcs right picks rows ((j + 1) * 32)
+    (put_mid (j * 32) ((j + 1) * 32 - j * 32) arcs (mid_of (get_or picks j 0 * 32) ((get_or picks j 0 + 1) * 32 - get_or picks j 0 * 32) right))
+arcs_copied right picks {arcs} {rows} j f h p few size =
+    let e : (j + 1) * 32 ≡ j * 32 + 32 = omega arith in
+    let d : (j + 1) * 32 - j * 32 ≡ 32 = omega arith in
+    let g : (get_or picks j 0 + 1) * 32 - get_or picks j 0 * 32 ≡ 32 = omega arith in
+    rw (d, g, e) (mid_filled row f (length-take-le 32 _ (omega (arith, length-drop from right))) (omega arith) copied)
+  where
+    from : ℕ
+    from = get_or picks j 0 * 32
+
+    row : List ℕ
+    row = take 32 (drop from right)
+
+    copied : (l : ℕ) → l < 32 → get_or row l 0 ≡ arc_by right rows (get_or picks ((j * 32 + l) / 32) 0) ((j * 32 + l) % 32)
+    copied l b =
+        let q : j ≡ (j * 32 + l) / 32 = omega arith in
+        let c : l ≡ (j * 32 + l) % 32 = omega arith in
+        get_or-take 32 (drop from right) l 0 b ∙ get_or-drop from right l 0 ∙ arc_picked right rows (get_or picks j 0) l p
+        ∙ ap₂ (λ (i z : ℕ). arc_by right rows (get_or picks i 0) z) q c
+
+-- Those of one that picks none.
+pub arcs_passed : (right picks : List ℕ) {arcs : List ℕ} {rows : ℕ} (j : ℕ) → VariableArcs right picks rows (j * 32) arcs → rows ≤ get_or picks j 0
+    → VariableArcs right picks rows ((j + 1) * 32) arcs
+arcs_passed right picks {arcs} {rows} j f h = record {
+  size_is = f.size_is;
+  each = λ k b. ⊎_elim (λ (l : j * 32 ≤ k). past k b l) (λ (l : k < j * 32). f.each k l) (nat_le_or_lt (j * 32) k);
+  rest = λ k b. f.rest k (omega arith);
+}
+  where
+    past : (k : ℕ) → k < (j + 1) * 32 → j * 32 ≤ k → get_or arcs k 0 ≡ arc_by right rows (get_or picks (k / 32) 0) (k % 32)
+    past k b l =
+        let row : j ≡ k / 32 = omega arith in
+        f.rest k l ∙ arc_none right rows (get_or picks (k / 32) 0) (k % 32) (subst (λ (i : ℕ). rows ≤ get_or picks i 0) row h)
 
 -- ---- arcs by rows
 
 pub column_none : (left : List ℕ) (base l : ℕ) (old : List ℕ) → Column left base l 0 old old
 column_none left base l old = record { same = refl; cells = λ j h. absurd (omega arith); others = λ k h. refl }
 
-pub column_more : {left : List ℕ} {base l n : ℕ} {old new : List ℕ} {v : ℕ} → Column left base l n old new → l < 32 → n * 32 + l < length new
+column_more : {left : List ℕ} {base l n : ℕ} {old new : List ℕ} {v : ℕ} → Column left base l n old new → l < 32 → n * 32 + l < length new
     → v ≡ mark_of (get_or new (n * 32 + l) 0) (get_or left (base + n) 0) → Column left base l (n + 1) old (set new (n * 32 + l) v)
 column_more {left} {base} {l} {n} {old} {new} {v} s g h e = record {
   same = length-set new (n * 32 + l) v ∙ s.same;
@@ -76,6 +145,31 @@ column_more {left} {base} {l} {n} {old} {new} {v} s g h e = record {
   where
     here : get_or (set new (n * 32 + l) v) (n * 32 + l) 0 ≡ mark_of (get_or old (n * 32 + l) 0) (get_or left (base + n) 0)
     here = get_or-set_same new (n * 32 + l) v 0 h ∙ e ∙ ap (λ z. mark_of z (get_or left (base + n) 0)) (s.others (n * 32 + l) (λ p. omega arith))
+
+-- A place whose coefficient is blank stays,
+pub column_blank : {left : List ℕ} {base l n : ℕ} {old new : List ℕ} → Column left base l n old new → l < 32 → get_or left (base + n) 0 ≡ 0
+    → Column left base l (n + 1) old new
+column_blank {left} {base} {l} {n} {old} {new} s g e = record {
+  same = s.same;
+  cells = λ j b. ⊎_elim
+      (λ (q : n ≤ j). let p : n ≡ j = omega arith in
+      subst (λ (i : ℕ). get_or new (i * 32 + l) 0 ≡ mark_of (get_or old (i * 32 + l) 0) (get_or left (base + i) 0)) p here)
+      (λ (q : j < n). s.cells j q)
+      (nat_le_or_lt n j);
+  others = λ k b. s.others k (λ p. omega (arith, b p));
+}
+  where
+    here : get_or new (n * 32 + l) 0 ≡ mark_of (get_or old (n * 32 + l) 0) (get_or left (base + n) 0)
+    here = s.others (n * 32 + l) (λ p. omega arith) ∙ sym (mark_same _ _ e)
+
+-- another has an arc.
+mark_one : (v arc : ℕ) → (arc ≡ 0 → ⊥) → 1 ≡ mark_of v arc
+unfolding mark_of
+mark_one v arc d = rw (ne_eqb arc 0 d) refl
+
+pub column_set : {left : List ℕ} {base l n : ℕ} {old new : List ℕ} → Column left base l n old new → l < 32 → n * 32 + l < length new
+    → (get_or left (base + n) 0 ≡ 0 → ⊥) → Column left base l (n + 1) old (set new (n * 32 + l) 1)
+column_set {left} {base} {l} {n} {old} {new} s g h d = column_more s g h (mark_one _ _ d)
 
 -- A row that does not lead from j to l changes nothing there.
 arc_passed : {left picks : List ℕ} {i j l v : ℕ} → RowArcIs left picks i j l v → (get_or picks i 0 ≡ l → get_or left (i * 32 + j) 0 ≡ 0)
@@ -132,16 +226,10 @@ rows_column {left} {picks} {arcs} {arcs'} {i} {width} s g c = record {
 
 -- ---- rows in use
 
-pub both_first : (a b : ℕ) → a ≡ 0 → BothAre a b false
-both_first a b e = record { yes = λ f. absurd (false_not_true f); no = λ _ d. absurd (d e) }
-
-pub both_second : (a b : ℕ) (r : Bool) → (a ≡ 0 → ⊥) → (r ≡ true → b ≡ 0 → ⊥) → (r ≡ false → b ≡ 0) → BothAre a b r
-both_second a b r d y n = record { yes = λ e. (d, y e); no = λ e _. n e }
-
-pub used_found : (left marks : List ℕ) (width i j : ℕ) (r : Bool) → j < width → BothAre (get_or marks j 0) (get_or left (i * 32 + j) 0) r → r ≡ true
+pub used_found : (left marks : List ℕ) (width i j : ℕ) → j < width → (get_or marks j 0 ≡ 0 → ⊥) → (get_or left (i * 32 + j) 0 ≡ 0 → ⊥)
     → UsedIs left marks width i 1
-used_found left marks width i j r h b e = record {
-  some = λ _. record { at = j; inside = h; marked = positive _ (b.yes e).0; left_is = (b.yes e).1 };
+used_found left marks width i j h m d = record {
+  some = λ _. record { at = j; inside = h; marked = positive _ m; left_is = d };
   none = λ f. absurd (omega arith);
 }
 

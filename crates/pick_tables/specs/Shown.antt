@@ -1,5 +1,5 @@
 -- The picks of an answer: in the record's form, 0 where they play no part; and the row strategy that a point induces.
-use Rattle.std.specs.Prelude.{ℕ, ◌+◌, ◌*◌, ◌/◌, ◌%◌, ◌≤◌, ◌<◌, ◌≡◌, Bool, true, false, cond, List, eqb, ltb, length, get_or}
+use Rattle.std.specs.Prelude.{ℕ, ◌+◌, ◌*◌, ◌/◌, ◌%◌, ◌≤◌, ◌<◌, ◌≡◌, cond, List, eqb, ltb, length, get_or}
 use Rattle.base.specs.Filled.{Filled}
 use Rattle.definitions.specs.Limits.{stride, arcs_size, table_rows}
 use Rattle.definitions.specs.Tropical.{plus, largest, ◌⊑◌, Finite}
@@ -58,11 +58,6 @@ pub record Column (left : List ℕ) (base l n : ℕ) (old new : List ℕ) : Type
   pub same : length new ≡ length old
   pub cells : (j : ℕ) → j < n → get_or new (j * stride + l) 0 ≡ mark_of (get_or old (j * stride + l) 0) (get_or left (base + j) 0)
   pub others : (k : ℕ) → (k % stride ≡ l → n ≤ k / stride) → get_or new k 0 ≡ get_or old k 0
-
--- A test of two numbers: both are above 0.
-pub record BothAre (a b : ℕ) (r : Bool) : Type 0 where
-  pub yes : r ≡ true → (a ≡ 0 → ⊥) × (b ≡ 0 → ⊥)
-  pub no : r ≡ false → (a ≡ 0 → ⊥) → b ≡ 0
 
 -- A marked variable that the row holds on its left.
 pub record UsedBy (left marks : List ℕ) (width i : ℕ) : Type 0 where

@@ -8,14 +8,14 @@ use native.Mathlib.Omega.{arith}
 use native.Mathlib.Nat.{eq-zero-or-pos, mul-le-mul_right}
 use native.Mathlib.Numerals.{add-one}
 use lib.Dec.{leb}
-use lib.ListN.{length, get_or}
+use lib.ListN.{get_or}
 use lib.IntN.{ℤ, ◌-ℤ◌}
 use borrow.Author.Tests.{eq-eqb, ne_eqb, leb-true, leb-false}
 use Rattle.base.specs.Numbers.{most}
 use Rattle.base.specs.Decides.{Decides}
 use Rattle.base.proofs.Numbers.{nat_le_or_lt, positive, most_one, most_left, most_right, most_under}
 use Rattle.base.proofs.Decides.{decides_as, said_yes, said_no}
-use Rattle.definitions.specs.Limits.{signed_half, signed_full, lead_limit, stamp_limit, signed_bytes, problem_most}
+use Rattle.definitions.specs.Limits.{signed_half, lead_limit, stamp_limit, signed_bytes, problem_most}
 use Rattle.definitions.specs.Tropical.{Trop, bot, fin, plus, blank_least, larger, largest}
 use Rattle.definitions.specs.Problem.{Keeps, side, value, minus, minus_infinity, plus_infinity, whole}
 use Rattle.definitions.specs.ProblemRecord.{n_field, left_place, right_place, problem_of}
@@ -188,11 +188,6 @@ side_small {s} {at} {count} {x} z =
     let q : best_sum (run s at) x count ≤ 4294967296 =
     best_under (run s at) x count 4294967296 (omega arith) (λ l b. omega (arith, (z.leads l b).hi, z.points l)) in
     ⊎_elim (λ r. omega arith) (λ r. omega arith) (side_cases (best_sum (run s at) x count) (best_floor (run s at) x count))
-
--- A lead in range with a stamp in range stays below 2³².
-pub sum_fits : {s : List ℕ} {at count : ℕ} {x : List ℕ} → RowSized s at count x → (l : ℕ) → l < count
-    → (at + 4 * l + 4 ≤ length s) × (run s at l + get_or x l 0 < signed_full)
-sum_fits z l h = (omega (arith, z.inside), omega (arith, (z.leads l h).hi, z.points l))
 
 -- A row of the full width.
 pub full : {n : ℕ} → n ≡ 31 → n + 1 ≡ 32

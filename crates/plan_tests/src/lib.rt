@@ -11,7 +11,7 @@ ghost use Rattle.definitions.specs.ProblemRecord.{problem_of};
 ghost use Rattle.records.specs.Decoded.{Near};
 ghost use Rattle.records.specs.Stamps.{Stamped, stamps_point};
 ghost use Rattle.problem_records.specs.Tables.{lead_at};
-ghost use Rattle.plan_tests.specs.Sides.{lowered, Lowered, side_floor, run, best_sum, side_of, Low, RowSized, BestIs, NoneOver};
+ghost use Rattle.plan_tests.specs.Sides.{lowered, Lowered, side_floor, run, side_of, Low, RowSized, BestIs, NoneOver};
 
 use problem_records::laid::Rows;
 use records::bytes::word_in;

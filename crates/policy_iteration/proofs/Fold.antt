@@ -1,6 +1,6 @@
 -- The largest of coefficient + variable, found on plain sums of a coefficient and a low value: a sum of two whole numbers
 -- lies above the limit, a sum with a blank below it, so that one test at the end tells them apart.
-use Prim.Native.Nat.{ℕ, zero, suc, ◌+◌, ◌*◌, ◌-◌, ◌/◌, ◌%◌, ◌≤◌, ◌<◌}
+use Prim.Native.Nat.{ℕ, zero, suc, max, ◌+◌, ◌*◌, ◌-◌, ◌≤◌, ◌<◌}
 use mathlib.Core.Path.{◌≡◌, refl, sym, ap, subst, ◌∙◌}
 use mathlib.Core.Bool.{Bool, true, false, cond}
 use mathlib.Core.Logic.{⊎_elim}
@@ -11,7 +11,7 @@ use lib.Dec.{leb}
 use lib.ListN.{get_or}
 use borrow.Author.Tests.{leb-true, leb-false, lt-ltb, le-ltb}
 use Rattle.base.specs.Numbers.{most, uppermost}
-use Rattle.base.proofs.Numbers.{nat_le_or_lt, same_or_not, most_under, uppermost_more, uppermost_most}
+use Rattle.base.proofs.Numbers.{nat_le_or_lt, same_or_not, most_one, most_under, uppermost_more, uppermost_most}
 use Rattle.definitions.specs.Limits.{signed_half, signed_full}
 use Rattle.definitions.specs.Tropical.{Trop, bot, plus, larger, largest, ◌⊑◌, blank_least}
 use Rattle.definitions.specs.Offset.{trop_of, off}
@@ -19,9 +19,14 @@ use Rattle.definitions.proofs.Tropical.{⊑_refl, ⊑_antisym, larger_left, larg
 use Rattle.definitions.proofs.Offset.{off_off, trop_zero, trop_order, plus_trop, plus_trop_zero}
 use Rattle.records.specs.Decoded.{Near}
 use Rattle.policy_iteration.specs.Tables.{raised_limit, value_limit, low_half, fold_limit, low_fold, side_most, side_least, high, highs, Table, Ranged, Lows}
-use Rattle.policy_iteration.specs.Ends.{RowEnds}
+use Rattle.policy_iteration.specs.Ends.{Holds}
+use Rattle.policy_iteration.specs.declared.ends.Ends.{Ends}
 use Rattle.policy_iteration.specs.Rounds.{folded_at, folded, sums, SideIs}
 use Rattle.policy_iteration.proofs.Low.{high_zero, high_whole, high_mono, highs_at}
+
+-- std's word for the larger of two.
+pub most_max : (a b : ℕ) → max a b ≡ most a b
+most_max a b = ⊎_elim (λ h. omega arith) (λ h. omega arith) (most_one a b)
 
 -- ---- one sum
 
@@ -175,20 +180,20 @@ module _ (table : List ℕ) (row : ℕ) (x : List ℕ) (width : ℕ) (t : Table 
   adds_under l = ⊎_elim (λ (b : width ≤ l). subst (λ (z : Trop). z ⊑ largest adds width) (sym (adds_past l b)) blank_least) (largest_above adds width l) (nat_le_or_lt width l)
 
   -- The larger of the sums at the ends is the side.
-  pub side_ends : (ends best : ℕ) → RowEnds table row ends → ends < 1024 → best ≡ most (sums table row x (ends / 32)) (sums table row x (ends % 32))
+  pub side_ends : (ends : Ends) (best : ℕ) → Holds table row ends → best ≡ most (sums table row x ends.first) (sums table row x ends.last)
       → SideIs table row (highs x) width (folded best)
-  side_ends ends best n h e = side_is best
-      (rw e (most_under _ _ _ (sum_most table x t g.ranged row (ends / 32)) (sum_most table x t g.ranged row (ends % 32))))
-      (rw e (folded_most _ _ ∙ ap (λ (z : Trop). larger z (trop_of (high (folded (sums table row x (ends % 32)))))) (adds_folded (ends / 32)) ∙ ap (larger (adds (ends / 32))) (adds_folded (ends % 32)) ∙ both))
+  side_ends ends best n e = side_is best
+      (rw e (most_under _ _ _ (sum_most table x t g.ranged row ends.first) (sum_most table x t g.ranged row ends.last)))
+      (rw e (folded_most _ _ ∙ ap (λ (z : Trop). larger z (trop_of (high (folded (sums table row x ends.last))))) (adds_folded ends.first) ∙ ap (larger (adds ends.first)) (adds_folded ends.last) ∙ both))
     where
-      under : (l : ℕ) → l < width → adds l ⊑ larger (adds (ends / 32)) (adds (ends % 32))
+      under : (l : ℕ) → l < width → adds l ⊑ larger (adds ends.first) (adds ends.last)
       under l b = ⊎_elim
-          (λ (p : l ≡ ends / 32). subst (λ (i : ℕ). adds i ⊑ larger (adds (ends / 32)) (adds (ends % 32))) (sym p) (larger_left _ _))
+          (λ (p : l ≡ ends.first). subst (λ (i : ℕ). adds i ⊑ larger (adds ends.first) (adds ends.last)) (sym p) (larger_left _ _))
           (λ p. ⊎_elim
-          (λ (q : l ≡ ends % 32). subst (λ (i : ℕ). adds i ⊑ larger (adds (ends / 32)) (adds (ends % 32))) (sym q) (larger_right _ _))
-          (λ q. subst (λ (z : Trop). z ⊑ larger (adds (ends / 32)) (adds (ends % 32))) (sym (adds_blank l (n.others h l (omega arith) p q))) blank_least)
-          (same_or_not l (ends % 32)))
-          (same_or_not l (ends / 32))
+          (λ (q : l ≡ ends.last). subst (λ (i : ℕ). adds i ⊑ larger (adds ends.first) (adds ends.last)) (sym q) (larger_right _ _))
+          (λ q. subst (λ (z : Trop). z ⊑ larger (adds ends.first) (adds ends.last)) (sym (adds_blank l (n.others l (omega arith) p q))) blank_least)
+          (same_or_not l ends.last))
+          (same_or_not l ends.first)
 
-      both : larger (adds (ends / 32)) (adds (ends % 32)) ≡ largest adds width
-      both = ⊑_antisym (larger_least (adds_under (ends / 32)) (adds_under (ends % 32))) (largest_least adds width under)
+      both : larger (adds ends.first) (adds ends.last) ≡ largest adds width
+      both = ⊑_antisym (larger_least (adds_under ends.first) (adds_under ends.last)) (largest_least adds width under)

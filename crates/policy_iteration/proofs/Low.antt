@@ -55,6 +55,5 @@ filled_highs {P} {xs = xs} f = record {
 }
 
 -- An array that holds the offset numbers of another.
-pub is_highs : (x y : List ℕ) → length x ≡ 32 → Filled (λ k v. v ≡ high (get_or x k 0)) 32 32 y → y ≡ highs x
-is_highs x y e f =
-    ext_get_or 0 y (highs x) (f.size_is ∙ sym (length-map x high ∙ e)) (λ k h. f.each k (omega (arith, f.size_is)) ∙ sym (highs_at x k))
+pub is_highs : (x y : List ℕ) → length x ≡ 32 → length y ≡ 32 → ((k : ℕ) → k < 32 → get_or y k 0 ≡ high (get_or x k 0)) → y ≡ highs x
+is_highs x y e l f = ext_get_or 0 y (highs x) (l ∙ sym (length-map x high ∙ e)) (λ k h. f k (omega arith) ∙ sym (highs_at x k))

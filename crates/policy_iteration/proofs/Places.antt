@@ -1,5 +1,5 @@
 -- Laws of the ends of a row: bits that are those of two places leave no other place.
-use Prim.Native.Nat.{ℕ, zero, suc, ◌+◌, ◌*◌, ◌/◌, ◌%◌, ◌^◌, ◌≤◌, ◌<◌}
+use Prim.Native.Nat.{ℕ, zero, suc, ◌+◌, ◌*◌, ◌%◌, ◌^◌, ◌≤◌, ◌<◌}
 use mathlib.Core.Path.{◌≡◌, refl, sym, subst, ◌∙◌}
 use mathlib.Core.Bool.{Bool, true, false, cond}
 use mathlib.Core.Logic.{⊎_elim}
@@ -8,13 +8,14 @@ use native.Mathlib.Omega.{arith}
 use native.Mathlib.Nat.{eq-zero-or-pos, pow-suc}
 use native.Mathlib.Numerals.{add-one}
 use lib.Dec.{eqb}
-use lib.ListN.{get_or}
+use lib.ListN.{get_or, replicate}
 use lib.Pow.{pow_pos, pow_mono, shl_exact}
 use borrow.Author.Tests.{eq-eqb, ne_eqb}
-use Rattle.base.specs.Filled.{Filled}
 use Rattle.base.proofs.Numbers.{nat_le_or_lt, same_or_not}
 use Rattle.duality.specs.Height.{total}
-use Rattle.policy_iteration.specs.Ends.{entry, bits_in, RowEnds, BitsEnds, EndsOf}
+use Rattle.policy_iteration.specs.Ends.{entry, bits_in, Holds, RowEnds, BitsEnds}
+use Rattle.policy_iteration.specs.declared.ends.Ends.{Ends}
+use Rattle.std.specs.Prelude.{Option, Some, None}
 
 -- ---- numbers by their bits
 
@@ -127,17 +128,22 @@ bits_fit table row n bits r h e d =
     let g : 2 ^ (n + 1) ≤ 2 ^ 32 = pow_mono {i = n + 1} {j = 32} (omega arith) in
     omega arith
 
-pub bits_end : (table : List ℕ) (row n bits : ℕ) → n ≤ 32 → 32 ≤ n → bits ≡ bits_in table row n → bits ≡ bits_in table row 32
-bits_end table row n bits h k e = let d : n ≡ 32 = omega arith in subst (λ (z : ℕ). bits ≡ bits_in table row z) d e
-
 -- ---- the ends
 
 -- The ends of a row that was not looked at.
-pub ends_wide : (table : List ℕ) (row : ℕ) → RowEnds table row 1024
-ends_wide table row = record { others = λ h. absurd (omega arith) }
+pub ends_none : {table : List ℕ} {row : ℕ} → RowEnds table row None
+ends_none = record { known = λ two e. cc }
 
-pub bits_wide : (bits : ℕ) → BitsEnds bits 1024
-bits_wide bits = record { row = λ table row e. ends_wide table row }
+pub ends_nowhere : {table : List ℕ} {row : ℕ} (size k : ℕ) → RowEnds table row (get_or {A = Option Ends} (replicate size None) k None)
+ends_nowhere zero k = ends_none
+ends_nowhere (suc size) zero = ends_none
+ends_nowhere (suc size) (suc k) = ends_nowhere size k
+
+pub bits_wide : {bits : ℕ} → BitsEnds bits None
+bits_wide = record { row = λ table row e. ends_none }
+
+pub ends_known : {table : List ℕ} {row : ℕ} {two : Ends} → Holds table row two → RowEnds table row (Some two)
+ends_known {table} {row} {two} h = record { known = λ other e. let d : two ≡ other = cc in rw (← d) h }
 
 -- The bits of some places: the others are blank.
 ends_by : (table : List ℕ) (row bits : ℕ) (g : ℕ → ℕ) → bits ≡ bits_in table row 32 → ((l : ℕ) → g l ≤ 1) → bits ≡ binary g 32
@@ -145,45 +151,41 @@ ends_by : (table : List ℕ) (row bits : ℕ) (g : ℕ → ℕ) → bits ≡ bit
 ends_by table row bits g e b d l h z = entry_blank _ (same_bits (λ l. entry (get_or table (row * 32 + l) 0)) g (λ l. entry_most (get_or table (row * 32 + l) 0)) b 32 (sym e ∙ d) l h ∙ z)
 
 -- No entry at all: any ends will do.
-pub ends_none : (table : List ℕ) (row bits : ℕ) → bits ≡ bits_in table row 32 → bits ≡ 0 → RowEnds table row 0
-ends_none table row bits c z = record { others = λ h l b d e. ends_by table row bits (only 32) c (only_most 32) (z ∙ sym (only_none 32 32 (omega arith))) l b (only_other 32 l (λ q. omega arith)) }
+pub ends_blank : (table : List ℕ) (row bits : ℕ) (two : Ends) → two.first < 32 → two.last < 32 → bits ≡ bits_in table row 32 → bits ≡ 0 → RowEnds table row (Some two)
+ends_blank table row bits two h k c z = ends_known (record {
+  first_is = h;
+  last_is = k;
+  others = λ l b d e. ends_by table row bits (only 32) c (only_most 32) (z ∙ sym (only_none 32 32 (omega arith))) l b (only_other 32 l (λ q. omega arith));
+})
 
--- Two places as one number.
-place_first : (first last : ℕ) → last < 32 → (first * 32 + last) / 32 ≡ first
-place_first first last h = omega arith
-
-place_last : (first last : ℕ) → last < 32 → (first * 32 + last) % 32 ≡ last
-place_last first last h = omega arith
-
-module _ (bits first last : ℕ) (h : first < 32) (k : last < 32) where
+module _ (bits : ℕ) (two : Ends) (h : two.first < 32) (k : two.last < 32) where
   -- One entry.
-  pub ends_one : bits ≡ 2 ^ first → BitsEnds bits (first * 32 + last)
+  pub ends_one : bits ≡ 2 ^ two.first → BitsEnds bits (Some two)
   ends_one o = record {
-    row = λ table row c. record {
-      others = λ w l b d e. ends_by table row bits (only first) c (only_most first) (o ∙ sym (only_binary first 32 h)) l b
-          (only_other first l (λ z. d (z ∙ sym (place_first first last k))));
-    };
+    row = λ table row c. ends_known (record {
+      first_is = h;
+      last_is = k;
+      others = λ l b d e. ends_by table row bits (only two.first) c (only_most two.first) (o ∙ sym (only_binary two.first 32 h)) l b (only_other two.first l d);
+    });
   }
 
   -- Two entries.
-  pub ends_two : bits ≡ 2 ^ first + 2 ^ last → (first ≡ last → ⊥) → BitsEnds bits (first * 32 + last)
+  pub ends_two : bits ≡ 2 ^ two.first + 2 ^ two.last → (two.first ≡ two.last → ⊥) → BitsEnds bits (Some two)
   ends_two o n = record {
-    row = λ table row c. record {
-      others = λ w l b d e. ends_by table row bits both c both_most
-          (o ∙ sym (binary_plus (only first) (only last) 32 ∙ rw (only_binary first 32 h, only_binary last 32 k))) l b
-          (rw (only_other first l (λ z. d (z ∙ sym (place_first first last k))), only_other last l (λ z. e (z ∙ sym (place_last first last k)))));
-    };
+    row = λ table row c. ends_known (record {
+      first_is = h;
+      last_is = k;
+      others = λ l b d e. ends_by table row bits both c both_most
+          (o ∙ sym (binary_plus (only two.first) (only two.last) 32 ∙ rw (only_binary two.first 32 h, only_binary two.last 32 k))) l b
+          (rw (only_other two.first l d, only_other two.last l e));
+    });
   }
     where
       both : ℕ → ℕ
-      both l = only first l + only last l
+      both l = only two.first l + only two.last l
 
       both_most : (l : ℕ) → both l ≤ 1
       both_most l = ⊎_elim
-          (λ (z : l ≡ first). omega (arith, only_most first l, only_other last l (λ q. n (sym z ∙ q))))
-          (λ z. omega (arith, only_most last l, only_other first l z))
-          (same_or_not l first)
-
--- The ends of all rows.
-pub ends_filled : {table ends : List ℕ} {n rows : ℕ} → Filled (λ i v. RowEnds table i v) 64 n ends → n ≤ rows → rows ≤ n → EndsOf table rows ends
-ends_filled f h k = record { size = f.size_is; each = λ i b. f.each i (omega arith) }
+          (λ (z : l ≡ two.first). omega (arith, only_most two.first l, only_other two.last l (λ q. n (sym z ∙ q))))
+          (λ z. omega (arith, only_most two.last l, only_other two.first l z))
+          (same_or_not l two.first)

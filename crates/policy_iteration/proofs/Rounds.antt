@@ -24,7 +24,7 @@ use Rattle.duality.specs.Values.{difference, value_at, exit_by, values_after, va
 use Rattle.duality.proofs.Weights.{difference_bot, exit_picked, exit_terminal, round_picked, round_terminal, values_still}
 use Rattle.records.specs.Decoded.{Near}
 use Rattle.policy_iteration.specs.Tables.{entry_of, system_of, point_of, pick_of, raised_limit, cap_limit, first_limit, value_limit, low_half, low_fold, side_most, side_least, high, highs, Ranged, Lows, Within, Caps, Tables}
-use Rattle.policy_iteration.specs.Rounds.{folded, exit_number, PickedSum, PickedLeft, PickedSums, PickedLefts, stepped_by, Stepped, Exits, Level, ValuesIs, SameUpTo}
+use Rattle.policy_iteration.specs.Rounds.{folded, PickedSum, PickedLeft, PickedSums, PickedLefts, stepped_by, Stepped, Exits, Level, ValuesIs, SameUpTo}
 use Rattle.policy_iteration.proofs.Low.{high_zero, high_whole, high_blank, highs_at, highs_size, filled_highs}
 use Rattle.policy_iteration.proofs.Fold.{folded_low, folded_high}
 use Rattle.policy_iteration.proofs.Small.{near_small, near_abs, small_near, small_more, rounds_small}
@@ -127,11 +127,11 @@ module _ (left right caps picks x : List ℕ) (width rows : ℕ) (t : Tables lef
   })
 
 -- The number of an exit.
-pub exit_is : (caps : List ℕ) (width rows i j : ℕ) → 0 < get_or caps j 0 → trop_of (high (exit_number rows (get_or caps j 0) i)) ≡ exit_by (system_of [] [] caps width rows) i j
-exit_is caps width rows i j b = ⊎_elim
-    (λ (t : rows ≤ i). rw (le-ltb i rows t) (cap_is (get_or caps j 0) b ∙ sym (exit_terminal (system_of [] [] caps width rows) i j t)))
-    (λ (t : i < rows). rw (lt-ltb i rows t, high_zero) (trop_zero ∙ sym (exit_picked (system_of [] [] caps width rows) i j t)))
-    (nat_le_or_lt rows i)
+pub exit_not : (caps : List ℕ) (width j : ℕ) {rows i : ℕ} → i < rows → trop_of (high 0) ≡ exit_by (system_of [] [] caps width rows) i j
+exit_not caps width j {rows} {i} t = rw high_zero (trop_zero ∙ sym (exit_picked (system_of [] [] caps width rows) i j t))
+
+pub exit_cap : (caps : List ℕ) (width j : ℕ) {rows i : ℕ} → rows ≤ i → 0 < get_or caps j 0 → trop_of (high (get_or caps j 0)) ≡ exit_by (system_of [] [] caps width rows) i j
+exit_cap caps width j {rows} {i} t b = cap_is (get_or caps j 0) b ∙ sym (exit_terminal (system_of [] [] caps width rows) i j t)
 
 -- ---- levels
 

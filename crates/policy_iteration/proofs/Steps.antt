@@ -23,7 +23,8 @@ use Rattle.duality.proofs.Iteration.{next_kept, next_lower, last_values, last_so
 use Rattle.records.specs.Decoded.{Near}
 use Rattle.policy_iteration.specs.Tables.{entry_of, system_of, point_of, pick_of, raised_limit, cap_limit, turn_limit, first_limit, value_limit, high, highs, Table, Ranged, Lows, Within, Caps, Tables}
 use Rattle.policy_iteration.specs.Rounds.{SideIs, ValuesIs}
-use Rattle.policy_iteration.specs.Steps.{Gives, given_by, LoweredPlace, LoweredBy, Passing, Passed, AllPicked, Turned, Ended}
+use Rattle.policy_iteration.specs.declared.rows.Rows.{Rows}
+use Rattle.policy_iteration.specs.Steps.{Gives, given_by, LoweredPlace, LoweredAt, Passing, Passed, AllPicked, Turned, Ended}
 use Rattle.policy_iteration.proofs.Low.{high_zero, high_whole, high_blank, high_mono, high_strict, highs_at}
 use Rattle.policy_iteration.proofs.Small.{Small, near_small, near_abs, small_near, small_more, small_plus, small_difference, small_largest}
 use Rattle.policy_iteration.proofs.Rounds.{within_more, level_ranged, level_lows, level_within}
@@ -115,53 +116,40 @@ module _ (left right : List ℕ) (width rows n : ℕ) (t : Tables left right wid
               value = ap trop_of (highs_at x' j) ∙ rw e (gi.is _ (t.lefts.near (n * 32 + j)) (gives_held here top gi _ _ (t.lefts.near (n * 32 + j)) (near j) b)) ∙ ap (λ (z : Trop). difference z (entry_of left n j)) si.is;
             })
 
-    -- Every variable.
-    row_place_lem : (r : ℕ) → LoweredBy left n here there x picks x' picks' r → (j : ℕ)
-        → HadTurn j
-    row_place_lem r w j = ⊎_elim stood fallen (nat_le_or_lt there here)
-      where
-        stood : there ≤ here → HadTurn j
-        stood b = let e = w.stands b in inl (record { value = rw e.0; pick = rw e.1; stands = λ k. row_whole [] b j k })
-
-        fallen : here < there → HadTurn j
-        fallen b = let l = w.lowers b in ⊎_elim
-            (λ (k : 32 ≤ j). inl (record {
-              value = past x' j (omega (arith, l.lowered.x_size)) ∙ sym (past x j (omega (arith, g.size)));
-              pick = past picks' j (omega (arith, l.lowered.picks_size)) ∙ sym (past picks j (omega arith));
-              stands = λ q. absurd (omega (arith, t.width_most));
-            }))
-            (λ (k : j < 32). ⊎_elim
-            (λ p. place_turned l.top j l.gives p)
-            (λ p. inl (record { value = p.1.value; pick = p.1.choice; stands = λ q. rw (p.0, (plus_trop_zero (point_of (highs x) j)).0) blank_least }))
-            (l.lowered.each j k))
-            (nat_le_or_lt 32 j)
-
-    module _ (r : ℕ) (w : LoweredBy left n here there x picks x' picks' r) where
-      row_sizes : (length x' ≡ 32) × (length picks' ≡ 32)
-      row_sizes = ⊎_elim
-          (λ (b : there ≤ here). let e = w.stands b in (rw e.0 g.size, rw e.1 s))
-          (λ (b : here < there). ((w.lowers b).lowered.x_size, (w.lowers b).lowered.picks_size))
-          (nat_le_or_lt there here)
+    -- A row that fails.
+    module _ (b : here < there) (l : LoweredAt left n here x picks x' picks') where
+      row_place : (j : ℕ) → HadTurn j
+      row_place j = ⊎_elim
+          (λ (k : 32 ≤ j). inl (record {
+            value = past x' j (omega (arith, l.lowered.x_size)) ∙ sym (past x j (omega (arith, g.size)));
+            pick = past picks' j (omega (arith, l.lowered.picks_size)) ∙ sym (past picks j (omega arith));
+            stands = λ q. absurd (omega (arith, t.width_most));
+          }))
+          (λ (k : j < 32). ⊎_elim
+          (λ p. place_turned l.top j l.gives p)
+          (λ p. inl (record { value = p.1.value; pick = p.1.choice; stands = λ q. rw (p.0, (plus_trop_zero (point_of (highs x) j)).0) blank_least }))
+          (l.lowered.each j k))
+          (nat_le_or_lt 32 j)
 
       -- What the row makes of strategy and point, whatever the caps.
       row_falls : (caps : List ℕ) → RowFalls (system_of left right caps width rows) n (pick_of picks) (point_of (highs x)) (pick_of picks') (point_of (highs x'))
       row_falls caps j k = ⊎_elim
           (λ c. inl (record { stands = c.stands k; value = ap trop_of (highs_at x' j ∙ ap high c.value ∙ sym (highs_at x j)); pick = c.pick }))
           (λ c. inr (record { fails = c.fails; value = c.value; pick = c.pick }))
-          (row_place_lem r w j)
+          (row_place j)
 
       row_picked : (j : ℕ) → (pick_of picks' j < rows) ⊎ (pick_of picks' j ≡ pick_of picks j)
-      row_picked j = ⊎_elim (λ c. inr c.pick) (λ c. inl (rw c.pick h)) (row_place_lem r w j)
+      row_picked j = ⊎_elim (λ c. inr c.pick) (λ c. inl (rw c.pick h)) (row_place j)
 
       -- A row gives little more or less than a variable has.
       row_within : (d : ℕ) → Within d width x → Within (d + turn_limit) width x'
       row_within d i = record {
-        size = row_sizes.0;
+        size = l.lowered.x_size;
         near = λ k. ⊎_elim
             (λ c. rw c.value ((within_more {c = d} {d = d + turn_limit} (omega arith) i).near k))
             (λ c. small_near (d + turn_limit) (high (get_or x' k 0)) (subst (Small (d + turn_limit)) (sym c.value ∙ ap trop_of (highs_at x' k)) (given k)))
-            (row_place_lem r w k);
-        rest = λ k b. ⊎_elim (λ c. c.value ∙ i.rest k b) (λ c. absurd (omega (arith, c.inside))) (row_place_lem r w k);
+            (row_place k);
+        rest = λ k b. ⊎_elim (λ c. c.value ∙ i.rest k b) (λ c. absurd (omega (arith, c.inside))) (row_place k);
       }
         where
           given : (k : ℕ) → Small (d + turn_limit) (difference (here_side) (entry_of left n k))
@@ -170,34 +158,31 @@ module _ (left right : List ℕ) (width rows n : ℕ) (t : Tables left right wid
               (small_largest _ width (λ l b. small_plus _ _ (near_small raised_limit _ (t.rights.near (n * 32 + l))) (near_small d _ (rw (highs_at x l) (i.near l)))))
               (near_small lead_limit _ (t.lefts.near (n * 32 + k))))
 
-      -- One row more of a pass.
-      pub passed_more : (x₀ picks₀ : List ℕ) (failed : ℕ) → Passed left right width rows n x₀ picks₀ x picks failed
-          → Passed left right width rows (n + 1) x₀ picks₀ x' picks' (failed + r)
-      passed_more x₀ picks₀ failed p = record {
-        size = row_sizes.1;
+      -- One row more of a pass, which fails,
+      pub passed_fails : {x₀ picks₀ : List ℕ} {failed : ℕ} → Passed left right width rows n x₀ picks₀ x picks failed
+          → Passed left right width rows (n + 1) x₀ picks₀ x' picks' (failed + 1)
+      passed_fails p = record {
+        size = l.lowered.picks_size;
         within = λ d i. within_more (omega arith) (row_within (d + n * turn_limit) (p.within d i));
         picked = λ j. then_picked (row_picked j) (p.picked j);
-        falls = λ caps. ⊎_elim
-            (λ (b : there ≤ here).
-            let e = w.stands b in
-            let f : failed + r ≡ failed = omega (arith, e.2) in
-            rw (add-one, f, e.0, e.1) (RowsFall.stands (p.falls caps) (row_whole caps b)))
-            (λ (b : here < there).
-            let f : failed + r ≡ suc failed = omega (arith, w.counts b) in
-            rw (add-one, f) (RowsFall.falls (p.falls caps) (row_not caps b) (row_falls caps)))
-            (nat_le_or_lt there here);
+        falls = λ caps. rw (add-one, add-one) (RowsFall.falls (p.falls caps) (row_not caps b) (row_falls caps));
       }
+
+  -- or one that stands.
+  pub passed_stands : {x₀ picks₀ : List ℕ} {failed : ℕ} → there ≤ here → Passed left right width rows n x₀ picks₀ x picks failed
+      → Passed left right width rows (n + 1) x₀ picks₀ x picks failed
+  passed_stands b p = record {
+    size = p.size;
+    within = λ d i. within_more (omega arith) (p.within d i);
+    picked = p.picked;
+    falls = λ caps. rw add-one (RowsFall.stands (p.falls caps) (row_whole caps b));
+  }
 
 -- ---- a pass
 
 pub passed_none : (left right : List ℕ) (width rows : ℕ) (x picks : List ℕ) → length picks ≡ 32 → Passed left right width rows 0 x picks x picks 0
 passed_none left right width rows x picks e =
     record { size = e; within = λ d w. within_more (omega arith) w; picked = λ j. inr refl; falls = λ caps. RowsFall.none }
-
-pub passed_end : {left right : List ℕ} {width rows n : ℕ} {x picks x' picks' : List ℕ} {failed : ℕ} → Passed left right width rows n x picks x' picks' failed
-    → n ≤ rows → rows ≤ n → Passed left right width rows rows x picks x' picks' failed
-passed_end {left} {right} {width} {rows} {n} {x} {picks} {x'} {picks'} {failed} p h k =
-    let e : n ≡ rows = omega arith in subst (λ (z : ℕ). Passed left right width rows z x picks x' picks' failed) e p
 
 -- Variable 0 is blank where its number is 0.
 blank_is : (x : List ℕ) → get_or x 0 0 ≡ 0 → point_of (highs x) 0 ≡ bot
@@ -207,36 +192,34 @@ blank_not : (x : List ℕ) → (get_or x 0 0 ≡ 0 → ⊥) → point_of (highs 
 blank_not x d e = d (high_blank (get_or x 0 0) (trop_of_injective (high (get_or x 0 0)) 0 (rw (highs_at x 0) at e ∙ sym trop_zero)))
 
 -- What passes start from, and what they make of it.
-module _ {left right lefts rights x picks : List ℕ} {width rows : ℕ} (p : Passing first_limit left right lefts rights x picks width rows) where
-  pub passing_first : Passing (first_limit + 64 * turn_limit) left right lefts rights x picks width rows
-  passing_first = record { tables = p.tables; lefts_are = p.lefts_are; rights_are = p.rights_are; within = within_more (omega arith) p.within; size = p.size }
+module _ {rows : Rows} {x picks : List ℕ} (p : Passing first_limit rows x picks) where
+  pub passing_first : Passing (first_limit + 64 * turn_limit) rows x picks
+  passing_first = record { sides = p.sides; within = within_more (omega arith) p.within; size = p.size }
 
-  pub turned_none : get_or x 0 0 ≡ 0 → Turned left right width rows x picks x picks 0
+  pub turned_none : get_or x 0 0 ≡ 0 → Turned rows.left.now rows.right.now rows.width rows.count x picks x picks 0
   turned_none e = record { size = p.size; within = within_more (omega arith) p.within; picked = λ j. inr refl; passes = λ caps. Passes.none (blank_is x e) }
 
-  module _ {y there : List ℕ} {r : ℕ} (d : get_or x 0 0 ≡ 0 → ⊥) (q : Passed left right width rows rows x picks y there r) where
-    pub passing_second : Passing (first_limit + 64 * turn_limit) left right lefts rights y there width rows
+  module _ {y there : List ℕ} {r : ℕ} (d : get_or x 0 0 ≡ 0 → ⊥) (q : Passed rows.left.now rows.right.now rows.width rows.count rows.count x picks y there r) where
+    pub passing_second : Passing (first_limit + 64 * turn_limit) rows y there
     passing_second = record {
-      tables = p.tables;
-      lefts_are = p.lefts_are;
-      rights_are = p.rights_are;
-      within = within_more (omega (arith, p.tables.rows_most)) (q.within first_limit p.within);
+      sides = p.sides;
+      within = within_more (omega (arith, p.sides.right.tables.rows_most)) (q.within first_limit p.within);
       size = q.size;
     }
 
-    pub turned_once : (r ≡ 0) ⊎ ((get_or y 0 0 ≡ 0) ⊎ AllPicked there width rows) → Turned left right width rows x picks y there r
+    pub turned_once : (r ≡ 0) ⊎ ((get_or y 0 0 ≡ 0) ⊎ AllPicked there rows.width rows.count) → Turned rows.left.now rows.right.now rows.width rows.count x picks y there r
     turned_once e = record {
       size = q.size;
-      within = within_more (omega (arith, p.tables.rows_most)) (q.within first_limit p.within);
+      within = within_more (omega (arith, p.sides.right.tables.rows_most)) (q.within first_limit p.within);
       picked = q.picked;
       passes = λ caps. Passes.once (blank_not x d) (q.falls caps) (⊎_elim (λ z. inl z) (λ z. inr (⊎_elim (λ b. inl (blank_is y b)) (λ n. inr n) z)) e);
     }
 
-    pub turned_twice : {x' picks' : List ℕ} {failed : ℕ} → (r ≡ 0 → ⊥) → (get_or y 0 0 ≡ 0 → ⊥) → (AllPicked there width rows → ⊥) → Passed left right width rows rows y there x' picks' failed
-        → Turned left right width rows x picks x' picks' failed
+    pub turned_twice : {x' picks' : List ℕ} {failed : ℕ} → (r ≡ 0 → ⊥) → (get_or y 0 0 ≡ 0 → ⊥) → (AllPicked there rows.width rows.count → ⊥) → Passed rows.left.now rows.right.now rows.width rows.count rows.count y there x' picks' failed
+        → Turned rows.left.now rows.right.now rows.width rows.count x picks x' picks' failed
     turned_twice e f n a = record {
       size = a.size;
-      within = within_more (omega (arith, p.tables.rows_most)) (a.within _ (q.within first_limit p.within));
+      within = within_more (omega (arith, p.sides.right.tables.rows_most)) (a.within _ (q.within first_limit p.within));
       picked = λ j. then_picked (a.picked j) (q.picked j);
       passes = λ caps. Passes.twice (blank_not x d) (q.falls caps) e (blank_not y f) n (a.falls caps);
     }

@@ -1,4 +1,5 @@
 pub mod Tables
 pub mod Ends
+pub mod Rows
 pub mod Rounds
 pub mod Steps

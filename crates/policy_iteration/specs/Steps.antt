@@ -6,8 +6,9 @@ use Rattle.duality.specs.System.{System, Solves}
 use Rattle.duality.specs.Values.{difference, Policy}
 use Rattle.duality.specs.Iteration.{RowsFall, Passes, Iterated}
 use Rattle.records.specs.Decoded.{Near}
-use Rattle.policy_iteration.specs.Tables.{system_of, point_of, pick_of, turn_limit, value_limit, low_half, high, highs, Within, Tables}
-use Rattle.policy_iteration.specs.Ends.{EndsOf}
+use Rattle.policy_iteration.specs.Tables.{system_of, point_of, pick_of, turn_limit, value_limit, low_half, high, highs, Within}
+use Rattle.policy_iteration.specs.Rows.{BothSides}
+use Rattle.policy_iteration.specs.declared.rows.Rows.{Rows}
 use Rattle.policy_iteration.specs.Rounds.{ValuesIs}
 
 -- What a row with this right side gives the variables that it holds, as low numbers: `top` less the left coefficient, and not below 0;
@@ -63,12 +64,6 @@ pub record LoweredAt (left : List ℕ) (i side : ℕ) (x picks x' picks' : List 
   pub gives : Gives side top
   pub lowered : LoweredAll left i top x picks x' picks'
 
--- Row i with these right and left sides has lowered the values, unless it stands everywhere; r is 1 if it did, else 0.
-pub record LoweredBy (left : List ℕ) (i here there : ℕ) (x picks x' picks' : List ℕ) (r : ℕ) : Type 0 where
-  pub stands : there ≤ here → (x' ≡ x) × (picks' ≡ picks) × (r ≡ 0)
-  pub lowers : here < there → LoweredAt left i here x picks x' picks'
-  pub counts : here < there → r ≡ 1
-
 -- What gives the variables of a row with a blank right side their values: no more than any left coefficient.
 abbrev pub blank_top : ℕ
 blank_top = signed_half - lead_limit
@@ -98,12 +93,10 @@ pub record Turned (left right : List ℕ) (width rows : ℕ) (x picks x' picks' 
   pub picked : (j : ℕ) → (pick_of picks' j < rows) ⊎ (pick_of picks' j ≡ pick_of picks j)
   pub passes : (caps : List ℕ) → Passes (system_of left right caps width rows) (pick_of picks) (point_of (highs x)) failed (pick_of picks') (point_of (highs x'))
 
--- The tables of a pass, its ends, and a point within d of 0.
-pub record Passing (d : ℕ) (left right lefts rights x picks : List ℕ) (width rows : ℕ) : Type 0 where
-  pub tables : Tables left right width rows
-  pub lefts_are : EndsOf left rows lefts
-  pub rights_are : EndsOf right rows rights
-  pub within : Within d width x
+-- The rows of a pass, and a point within d of 0.
+pub record Passing (d : ℕ) (rows : Rows) (x picks : List ℕ) : Type 0 where
+  pub sides : BothSides rows
+  pub within : Within d rows.width x
   pub size : length picks ≡ stride
 
 -- The end of the iteration: the one strategy that the system leads to, kept, with a row or no pick for each variable; and its values,

@@ -1,13 +1,17 @@
 // The ends of a row: two places such that the others are blank. Most rows of a ward hold one or two moments on a side; that
-// side is then the larger of two sums. Both places stand in one number, first * 32 + last.
-ghost use Rattle.std.specs.Prelude.{◌≡◌, ◌*◌, ◌+◌, ◌^◌, ◌<◌, ◌≤◌, length};
+// side is then the larger of two sums.
+ghost use Rattle.std.specs.Prelude.{◌≡◌, ◌*◌, ◌^◌, ◌<◌, ◌≤◌, length};
 ghost use Rattle.definitions.specs.Limits.{stride, table_size, table_rows};
 ghost use Rattle.policy_iteration.specs.Ends.{entry, bits_in, RowEnds, BitsEnds, EndsOf};
 
-use records::limits::{ARCS, ROWS, STRIDE, TABLE};
+use records::limits::{ROWS, STRIDE, TABLE};
 
-// Stands for the ends of a row with more entries than two, and of one that was not looked at.
-pub const WIDE: u32 = ARCS as u32;
+// The two places, which may be one.
+#[derive(Clone, Copy)]
+pub struct Ends {
+    pub first: u8,
+    pub last: u8,
+}
 
 // After so many wide rows the others are not looked at.
 const MANY_WIDE: u32 = 8;
@@ -35,87 +39,71 @@ fn bits_of(table: &[u32; TABLE], row: usize) -> u32
 {
     let base = row * STRIDE;
     let mut bits = 0u32;
-    let mut l = 0;
-    while l < STRIDE {
+    for l in 0..STRIDE {
         bits += bit(table[base + l], l);
-        l += 1;
     }
     bits
 }
 
-// These two places are the ends of a row with these bits, if there are no others.
-fn tested(bits: u32, first: usize, last: usize) -> u32
-    requires { (first < stride) × (last < stride) }
+// These are the ends of a row with these bits, if there are no others.
+fn tested(bits: u32, ends: Ends) -> Option<Ends>
+    requires { (ends.first < stride) × (ends.last < stride) }
     ensures { BitsEnds bits result }
 {
-    let low = power(first);
+    let low = power(usize::from(ends.first));
     if bits == low {
-        return (first * STRIDE + last) as u32;
+        return Some(ends);
     }
-    if bits < low {
-        return WIDE;
+    if ends.first == ends.last || bits < low {
+        return None;
     }
-    if first == last {
-        return WIDE;
+    if bits - low == power(usize::from(ends.last)) {
+        Some(ends)
+    } else {
+        None
     }
-    if bits - low == power(last) {
-        return (first * STRIDE + last) as u32;
-    }
-    WIDE
 }
 
 // The ends of a row. Nothing is promised of counts of zeros: they guess the ends, which are then tested.
-fn row_ends(table: &[u32; TABLE], row: usize) -> u32
+fn row_ends(table: &[u32; TABLE], row: usize) -> Option<Ends>
     requires { (length table.now ≡ table_size) × (row < table_rows) }
     ensures { RowEnds table.now row result }
 {
     let bits = bits_of(table, row);
     if bits == 0 {
-        return 0;
+        return Some(Ends { first: 0, last: 0 });
     }
-    let before = u32::trailing_zeros(bits);
-    let after = u32::leading_zeros(bits);
-    if 31 < before {
-        return WIDE;
+    let before = bits.trailing_zeros();
+    let after = bits.leading_zeros();
+    if 31 < before || 31 < after {
+        return None;
     }
-    if 31 < after {
-        return WIDE;
-    }
-    tested(bits, before as usize, (31 - after) as usize)
+    tested(
+        bits,
+        Ends {
+            first: before as u8,
+            last: (31 - after) as u8,
+        },
+    )
 }
 
-// The ends of the next row, or none after many wide rows.
-fn next_ends(table: &[u32; TABLE], row: usize, wide: u32) -> u32
-    requires { (length table.now ≡ table_size) × (row < table_rows) }
-    ensures { RowEnds table.now row result }
-{
-    if MANY_WIDE < wide {
-        return WIDE;
-    }
-    row_ends(table, row)
-}
-
-// One more where a row is wide.
-fn more_wide(wide: u32, ends: u32) -> u32
-    requires { wide ≤ table_rows }
-    ensures { result ≤ wide + 1 }
-{
-    if ends < WIDE { wide } else { wide + 1 }
-}
-
-// The ends of the rows of a table. Public for `class_answers::answer`.
-pub fn ends_of(table: &[u32; TABLE], rows: usize) -> [u32; ROWS]
+// The ends of the rows of a table: none for a row with more entries than two, and for one that was not looked at.
+// Public for `look::frame`.
+pub fn ends_of(table: &[u32; TABLE], rows: usize) -> [Option<Ends>; ROWS]
     requires { (length table.now ≡ table_size) × (rows ≤ table_rows) }
     ensures { EndsOf table.now rows result }
 {
-    let mut out = [0u32; ROWS];
-    let mut wide = 0;
-    let mut i = 0;
-    while i < rows {
-        let ends = next_ends(table, i, wide);
-        wide = more_wide(wide, ends);
+    let mut out = [None; ROWS];
+    let mut wide = 0u32;
+    for i in 0..rows {
+        if MANY_WIDE < wide {
+            break;
+        }
+        let ends = row_ends(table, i);
+        if ends.is_none() {
+            wide += 1;
+        }
         out[i] = ends;
-        i += 1;
     }
     out
 }

@@ -3,4 +3,5 @@
 
 pub mod ends;
 pub mod policy;
+pub mod rows;
 pub mod values;

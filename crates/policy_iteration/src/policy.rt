@@ -1,21 +1,20 @@
 // Policy iteration until no row fails. Values are low numbers here, and they fall in place: a row that
 // fails lowers its variables at once, and they pick it.
-ghost use Rattle.std.specs.Prelude.{◌≡◌, ◌+◌, ◌-◌, ◌*◌, ◌/◌, ◌%◌, ◌<◌, ◌≤◌, length};
+ghost use Rattle.std.specs.Prelude.{◌≡◌, ◌+◌, ◌*◌, ◌<◌, ◌≤◌, length};
 ghost use Rattle.base.specs.Decides.{Decides};
 ghost use Rattle.definitions.specs.Limits.{stride, table_rows};
-ghost use Rattle.policy_iteration.specs.Tables.{system_of, turn_limit, first_limit, side_most, side_least, high, highs, Caps, Tables};
-ghost use Rattle.policy_iteration.specs.Ends.{wide, RowEnds, EndsOf};
-ghost use Rattle.policy_iteration.specs.Steps.{Gives, lesser, chosen_by, Lowering, LoweredOne, LoweredAll, LoweredBy, Passing, Passed, AllPicked, Turned, Ended};
+ghost use Rattle.policy_iteration.specs.Tables.{turn_limit, first_limit, side_most, side_least, high, highs, Caps};
+ghost use Rattle.policy_iteration.specs.Ends.{Holds, RowEnds};
+ghost use Rattle.policy_iteration.specs.Rows.{BothSides, system_in};
+ghost use Rattle.policy_iteration.specs.Steps.{Gives, lesser, chosen_by, Lowering, LoweredOne, LoweredAll, LoweredAt, Passing, Passed, AllPicked, Turned, Ended};
 
-use crate::ends::WIDE;
-use crate::values::{HALF, LOW, evaluate, side};
-use records::limits::{LEAD_LIMIT, ROWS, STRIDE, STRIDE_32, TABLE};
+use crate::ends::Ends;
+use crate::rows::Rows;
+use crate::values::{HALF, LOW};
+use records::limits::{LEAD_LIMIT, STRIDE, TABLE};
 
 // At most every whole left coefficient, and above every value: what stands for a blank right side.
 const BLANK_TOP: u32 = HALF - LEAD_LIMIT as u32;
-
-// The low number of 0 in 64 bits.
-const LOW_64: u64 = LOW as u64;
 
 // What gives every variable of a row its value, once the left coefficient is taken off.
 fn top_of(side: u32) -> u32
@@ -23,13 +22,6 @@ fn top_of(side: u32) -> u32
     ensures { Gives side result }
 {
     if side == 0 { BLANK_TOP } else { side + HALF }
-}
-
-// The difference, not below 0.
-fn less(a: u32, b: u32) -> u32
-    ensures { result ≡ a - b }
-{
-    if a < b { 0 } else { a - b }
 }
 
 // The smaller of two.
@@ -46,7 +38,8 @@ fn choice(a: u32, b: u32, i: u32, k: u32) -> u32
     if a < b { i } else { k }
 }
 
-// Row i lowers the value of variable j, and is picked if it does.
+// Row i lowers the value of variable j, and is picked if it does. Written as a choice and a `min` here, or as an `if`, it would have a
+// branch, which costs a tenth of an iteration.
 fn lower_place(
     left: &[u32; TABLE],
     i: usize,
@@ -58,7 +51,7 @@ fn lower_place(
     requires { Lowering left.now x.old picks.old i × (j < stride) }
     ensures { LoweredOne left.now i top j x.old picks.old x.new picks.new }
 {
-    let given = less(top, left[i * STRIDE + j]);
+    let given = top.saturating_sub(left[i * STRIDE + j]);
     let was = x[j];
     picks[j] = choice(given, was, i as u32, picks[j]);
     x[j] = smaller(given, was);
@@ -75,77 +68,44 @@ fn lower_row(
     requires { Lowering left.now x.old picks.old i }
     ensures { LoweredAll left.now i top x.old picks.old x.new picks.new }
 {
-    let mut j = 0;
-    while j < STRIDE {
+    for j in 0..STRIDE {
         lower_place(left, i, top, j, x, picks);
-        j += 1;
     }
 }
 
 // Row i lowers the values of the variables at its ends: it holds no others.
 fn lower_ends(
     left: &[u32; TABLE],
-    ends: u32,
+    ends: Ends,
     i: usize,
     top: u32,
     x: &mut [u32; STRIDE],
     picks: &mut [u32; STRIDE],
 )
-    requires { Lowering left.now x.old picks.old i × RowEnds left.now i ends × (ends < wide) }
+    requires { Lowering left.now x.old picks.old i × Holds left.now i ends }
     ensures { LoweredAll left.now i top x.old picks.old x.new picks.new }
 {
-    lower_place(left, i, top, (ends / STRIDE_32) as usize, x, picks);
-    lower_place(left, i, top, (ends % STRIDE_32) as usize, x, picks);
+    lower_place(left, i, top, usize::from(ends.first), x, picks);
+    lower_place(left, i, top, usize::from(ends.last), x, picks);
 }
 
-// Row i, with these right and left sides, lowers values if it fails: 1, else 0, as for most rows.
+// Row i, with this right side, lowers the values of its variables: it fails, and by its ends or whole.
 fn lower_by(
     left: &[u32; TABLE],
-    ends: u32,
+    ends: Option<Ends>,
     i: usize,
     here: u32,
-    there: u32,
     x: &mut [u32; STRIDE],
     picks: &mut [u32; STRIDE],
-) -> u32
+)
     requires { Lowering left.now x.old picks.old i × RowEnds left.now i ends × (here ≤ side_most) × (0 < here → side_least ≤ here) }
-    ensures { LoweredBy left.now i here there x.old picks.old x.new picks.new result × (result ≤ 1) }
+    ensures { LoweredAt left.now i here x.old picks.old x.new picks.new }
 {
-    if there <= here {
-        return 0;
-    }
     let top = top_of(here);
-    if ends < WIDE {
-        lower_ends(left, ends, i, top, x, picks);
-        return 1;
+    match ends {
+        Some(two) => lower_ends(left, two, i, top, x, picks),
+        None => lower_row(left, i, top, x, picks),
     }
-    lower_row(left, i, top, x, picks);
-    1
-}
-
-// A pass: each row in turn lowers the values of its variables, where it fails at the values as they then are. How many failed.
-fn pass(
-    left: &[u32; TABLE],
-    right: &[u32; TABLE],
-    lefts: &[u32; ROWS],
-    rights: &[u32; ROWS],
-    x: &mut [u32; STRIDE],
-    picks: &mut [u32; STRIDE],
-    width: usize,
-    rows: usize,
-) -> u32
-    requires { Passing (first_limit + table_rows * turn_limit) left.now right.now lefts.now rights.now x.old picks.old width rows }
-    ensures { Passed left.now right.now width rows rows x.old picks.old x.new picks.new result }
-{
-    let mut failed = 0;
-    let mut i = 0;
-    while i < rows {
-        let here = side(right, rights[i], i, x, width);
-        let there = side(left, lefts[i], i, x, width);
-        failed += lower_by(left, lefts[i], i, here, there, x, picks);
-        i += 1;
-    }
-    failed
 }
 
 // Whether no variable is without a pick: then all values are blank.
@@ -153,64 +113,17 @@ fn no_exit(picks: &[u32; STRIDE], width: usize, rows: usize) -> bool
     requires { (length picks.now ≡ stride) × (width ≤ stride) }
     ensures { Decides (AllPicked picks.now width rows) result }
 {
-    let mut j = 0;
-    while j < width {
-        if rows <= index(picks[j]) {
-            return false;
-        }
-        j += 1;
-    }
-    true
+    picks[..width].iter().all(|pick| (*pick as usize) < rows)
 }
 
-// Two passes; or one in which no row failed, or after which variable 0 is blank or no variable is without a pick: no later pass changes
-// that. None where variable 0 is blank already.
-fn passes(
-    left: &[u32; TABLE],
-    right: &[u32; TABLE],
-    lefts: &[u32; ROWS],
-    rights: &[u32; ROWS],
-    x: &mut [u32; STRIDE],
-    picks: &mut [u32; STRIDE],
-    width: usize,
-    rows: usize,
-) -> u32
-    requires { Passing first_limit left.now right.now lefts.now rights.now x.old picks.old width rows }
-    ensures { Turned left.now right.now width rows x.old picks.old x.new picks.new result }
-{
-    if x[0] == 0 {
-        return 0;
-    }
-    let failed = pass(left, right, lefts, rights, x, picks, width, rows);
-    if failed == 0 {
-        return failed;
-    }
-    if x[0] == 0 {
-        return failed;
-    }
-    if no_exit(picks, width, rows) {
-        return failed;
-    }
-    pass(left, right, lefts, rights, x, picks, width, rows)
-}
-
-// A pick as an index.
-fn index(pick: u32) -> usize
-    ensures { result ≡ pick }
-{
-    pick as usize
-}
-
-// Picks as indices.
+// Picks as indices. By `map` of arrays an iteration would take a tenth of a microsecond more.
 fn indices(picks: &[u32; STRIDE]) -> [usize; STRIDE]
     requires { length picks.now ≡ stride }
     ensures { result ≡ picks.now }
 {
     let mut out = [0usize; STRIDE];
-    let mut j = 0;
-    while j < STRIDE {
-        out[j] = index(picks[j]);
-        j += 1;
+    for j in 0..STRIDE {
+        out[j] = picks[j] as usize;
     }
     out
 }
@@ -219,19 +132,21 @@ fn indices(picks: &[u32; STRIDE]) -> [usize; STRIDE]
 pub fn high_of(k: u32) -> u64
     ensures { result ≡ high k }
 {
-    if k == 0 { 0 } else { k as u64 + LOW_64 }
+    if k == 0 {
+        0
+    } else {
+        u64::from(k) + u64::from(LOW)
+    }
 }
 
-// Low values as offset numbers. Public for `look::point`.
+// Low values as offset numbers, by a loop as in `indices`. Public for `look::point`.
 pub fn highs_of(x: &[u32; STRIDE]) -> [u64; STRIDE]
     requires { length x.now ≡ stride }
     ensures { result ≡ highs x.now }
 {
     let mut out = [0u64; STRIDE];
-    let mut j = 0;
-    while j < STRIDE {
+    for j in 0..STRIDE {
         out[j] = high_of(x[j]);
-        j += 1;
     }
     out
 }
@@ -243,28 +158,54 @@ pub struct Outcome {
     pub picks: [usize; STRIDE],
 }
 
-// Policy iteration under caps, from the strategy without picks: its values, passes that lower them, the values of the strategy
-// that these have picked, and so on, until no row fails in a pass or variable 0 has no value left.
-pub fn iterate(
-    left: &[u32; TABLE],
-    right: &[u32; TABLE],
-    lefts: &[u32; ROWS],
-    rights: &[u32; ROWS],
-    caps: &[u32; STRIDE],
-    width: usize,
-    rows: usize,
-) -> Outcome
-    requires { Tables left.now right.now width rows × EndsOf left.now rows lefts.now × EndsOf right.now rows rights.now × Caps width caps.now }
-    ensures { Ended (system_of left.now right.now caps.now width rows) (highs result.values) result.picks }
-{
-    let mut kept = [rows as u32; STRIDE];
-    loop {
-        let mut x = evaluate(left, right, rights, caps, &kept, width, rows);
-        if passes(left, right, lefts, rights, &mut x, &mut kept, width, rows) == 0 {
-            return Outcome {
-                values: x,
-                picks: indices(&kept),
-            };
+impl Rows<'_> {
+    // A pass: each row in turn lowers the values of its variables, where it fails at the values as they then are. How many failed.
+    fn pass(&self, x: &mut [u32; STRIDE], picks: &mut [u32; STRIDE]) -> u32
+        requires { Passing (first_limit + table_rows * turn_limit) self.now x.old picks.old }
+        ensures { Passed self.now.left.now self.now.right.now self.now.width self.now.count self.now.count x.old picks.old x.new picks.new result }
+    {
+        let mut failed = 0u32;
+        for i in 0..self.count {
+            let here = self.right_side(i, x);
+            let there = self.left_side(i, x);
+            if here < there {
+                lower_by(self.left, self.left_ends[i], i, here, x, picks);
+                failed += 1;
+            }
+        }
+        failed
+    }
+
+    // Two passes; or one in which no row failed, or after which variable 0 is blank or no variable is without a pick: no later pass changes
+    // that. None where variable 0 is blank already.
+    fn passes(&self, x: &mut [u32; STRIDE], picks: &mut [u32; STRIDE]) -> u32
+        requires { Passing first_limit self.now x.old picks.old }
+        ensures { Turned self.now.left.now self.now.right.now self.now.width self.now.count x.old picks.old x.new picks.new result }
+    {
+        if x[0] == 0 {
+            return 0;
+        }
+        let failed = self.pass(x, picks);
+        if failed == 0 || x[0] == 0 || no_exit(picks, self.width, self.count) {
+            return failed;
+        }
+        self.pass(x, picks)
+    }
+
+    // Policy iteration under caps, from the strategy without picks: its values, passes that lower them, the values of the strategy
+    // that these have picked, and so on, until no row fails in a pass or variable 0 has no value left.
+    pub fn iterate(&self, caps: &[u32; STRIDE]) -> Outcome
+        requires { BothSides self.now × Caps self.now.width caps.now }
+        ensures { Ended (system_in self.now caps.now) (highs result.values) result.picks }
+    {
+        let mut kept = [self.count as u32; STRIDE];
+        let mut x = self.evaluate(caps, &kept);
+        while self.passes(&mut x, &mut kept) != 0 {
+            x = self.evaluate(caps, &kept);
+        }
+        Outcome {
+            values: x,
+            picks: indices(&kept),
         }
     }
 }

@@ -9,10 +9,14 @@ use borrow.Author.Tests.{eq-eqb, ne_eqb}
 use Rattle.definitions.specs.Limits.{signed_half, class_optimal, class_unbounded, class_infeasible}
 use Rattle.definitions.specs.Tropical.{Trop}
 use Rattle.definitions.specs.Offset.{trop_of}
-use Rattle.definitions.specs.Verdict.{accepted, not_certified}
+use Rattle.definitions.specs.Verdict.{refused, not_certified}
+use Rattle.records.specs.declared.refusal.Refusal.{Refusal}
+use Rattle.records.specs.declared.refusal.Refusal.TheVariants.{NotCertified}
+use Rattle.records.specs.Refusals.{number_of}
+use Rattle.records.proofs.Refusing.{not_fourteen}
 use Rattle.definitions.specs.Programs.{decimal, whole_decimal, span_decimal, text_least, text_bottomless, text_none, text_not_certified, newline, class_words, refused_line, verdict_line}
 use Rattle.definitions.proofs.Offset.{trop_zero, trop_show}
-use Rattle.printing.specs.Text.{Putting, verdict_by}
+use Rattle.printing.specs.Text.{Putting}
 use Rattle.printing.proofs.Copy.{put_nothing, put_then}
 
 -- ---- a span
@@ -67,20 +71,13 @@ pub line_puts : {l a one : List ℕ} {i : ℕ} {b two : List ℕ} {j : ℕ} {aft
     → i ≤ length one → Putting l 0 (a ++ (b ++ newline)) after next
 line_puts p q r inside = put_then p (put_then q r inside) (omega arith)
 
--- Refusal 0 is none: the line of class and span.
-pub verdict_accepted : {l : List ℕ} (refusal class span : ℕ) {after : List ℕ} {next : ℕ} → Putting l 0 (verdict_line (accepted class (trop_of span))) after next → refusal ≡ 0
-    → Putting l 0 (verdict_line (verdict_by refusal class span)) after next
-unfolding verdict_by
-verdict_accepted refusal class span p e = rw (eq-eqb refusal 0 e) p
-
 -- Refusal 14 is printed in words.
-pub verdict_uncertified : {l : List ℕ} (refusal class span : ℕ) {after : List ℕ} {next : ℕ} → Putting l 0 (text_not_certified ++ newline) after next → refusal ≡ not_certified
-    → Putting l 0 (verdict_line (verdict_by refusal class span)) after next
-unfolding verdict_by verdict_line
-verdict_uncertified refusal class span p e = rw (ne_eqb refusal 0 (omega arith), eq-eqb refusal not_certified e) p
+pub verdict_uncertified : {l : List ℕ} {after : List ℕ} {next : ℕ} → Putting l 0 (text_not_certified ++ newline) after next → Putting l 0 (verdict_line (refused not_certified)) after next
+unfolding verdict_line
+verdict_uncertified p = p
 
 -- Any other by its number.
-pub verdict_refused : {l : List ℕ} (refusal class span : ℕ) {after : List ℕ} {next : ℕ} → Putting l 0 (refused_line refusal) after next → (refusal ≡ 0 → ⊥) → (refusal ≡ not_certified → ⊥)
-    → Putting l 0 (verdict_line (verdict_by refusal class span)) after next
-unfolding verdict_by verdict_line
-verdict_refused refusal class span p m n = rw (ne_eqb refusal 0 m, ne_eqb refusal not_certified n) p
+pub verdict_refused : {l : List ℕ} (r : Refusal) {after : List ℕ} {next : ℕ} → Putting l 0 (refused_line (number_of r)) after next → (r ≡ NotCertified → ⊥)
+    → Putting l 0 (verdict_line (refused (number_of r))) after next
+unfolding verdict_line
+verdict_refused r p n = rw (ne_eqb (number_of r) not_certified (not_fourteen r n)) p

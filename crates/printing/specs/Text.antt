@@ -1,8 +1,6 @@
--- What putting bytes into a lent buffer leaves, and what a verdict is as three numbers.
-use Rattle.std.specs.Prelude.{ℕ, ◌+◌, ◌≤◌, ◌<◌, ◌≡◌, cond, List, eqb, leb, length, take}
+-- What putting bytes into a lent buffer leaves.
+use Rattle.std.specs.Prelude.{ℕ, ◌+◌, ◌≤◌, ◌<◌, ◌≡◌, cond, List, leb, length, take}
 use Rattle.definitions.specs.Bytes.{put}
-use Rattle.definitions.specs.Offset.{trop_of}
-use Rattle.definitions.specs.Verdict.{Verdict, accepted, refused}
 
 -- `values` stand in the buffer from place `at` on, everything else is as it was, and `next` is the place after them.
 pub record Putting (before : List ℕ) (at : ℕ) (values after : List ℕ) (next : ℕ) : Type 0 where
@@ -33,7 +31,3 @@ pub record Output (before bytes after : List ℕ) (size : ℕ) : Type 0 where
 -- No line that a program prints is longer.
 abbrev pub line_most : ℕ
 line_most = 64
-
--- The verdict that a refusal's number gives, 0 for none, with class and span where there is none. The span is an offset number.
-unfoldable pub verdict_by : ℕ → ℕ → ℕ → Verdict
-verdict_by refusal class span = cond (eqb refusal 0) (accepted class (trop_of span)) (refused refusal)

@@ -1,12 +1,14 @@
 // The lines that the programs print, as bytes. Document 01, "Two programs". Each ends with one newline.
 ghost use Rattle.std.specs.Prelude.{◌≡◌, ◌+◌, ◌≤◌, ◌<◌, ◌++◌, length};
 ghost use Rattle.definitions.specs.Offset.{trop_of};
-ghost use Rattle.definitions.specs.Verdict.{accepted};
+ghost use Rattle.definitions.specs.Verdict.{accepted, refused};
 ghost use Rattle.definitions.specs.Programs.{text_least, span_decimal, class_words, refused_line, verdict_line};
-ghost use Rattle.printing.specs.Text.{Putting, line_most, verdict_by};
+ghost use Rattle.records.specs.Refusals.{number_of};
+ghost use Rattle.printing.specs.Text.{Putting, line_most};
 
 use crate::text::{copy, put_decimal};
-use records::limits::{INFEASIBLE, NOT_CERTIFIED, OFFSET, OPTIMAL, UNBOUNDED};
+use records::limits::{INFEASIBLE, OFFSET, OPTIMAL, UNBOUNDED};
+use records::refusal::Refusal;
 
 // Room enough for every line.
 pub const LINE_MOST: usize = 64;
@@ -48,8 +50,8 @@ fn put_class(line: &mut [u8], at: usize, class: u64, span: u64) -> usize
     }
 }
 
-// Puts the line of an accepted answer.
-fn accepted_line(line: &mut [u8], class: u64, span: u64) -> usize
+// Puts the line of an accepted answer. Public for `output::writer`.
+pub fn accepted_line(line: &mut [u8], class: u64, span: u64) -> usize
     requires { line_most ≤ length line.old }
     ensures { Putting line.old 0 (verdict_line (accepted class (trop_of span))) line.new result × (result ≤ line_most) }
 {
@@ -59,25 +61,22 @@ fn accepted_line(line: &mut [u8], class: u64, span: u64) -> usize
 }
 
 // Puts the line of a refusal. Public for `output::writer`.
-pub fn refused_line(line: &mut [u8], number: usize) -> usize
+pub fn refused_line(line: &mut [u8], refusal: Refusal) -> usize
     requires { line_most ≤ length line.old }
-    ensures { Putting line.old 0 (refused_line number) line.new result × (result ≤ line_most) }
+    ensures { Putting line.old 0 (refused_line (number_of refusal)) line.new result × (result ≤ line_most) }
 {
     let a = copy(line, 0, b"refused ");
-    let b = put_decimal(line, a, number as u64);
+    let b = put_decimal(line, a, refusal.number() as u64);
     copy(line, b, b"\n")
 }
 
-// Puts the line of a verdict: that of refusal `refusal`, or of class and span where it is 0. Public for `output::writer`.
-pub fn verdict_line(line: &mut [u8], refusal: usize, class: u64, span: u64) -> usize
+// Puts the line of a verdict that turns an answer away: a form that is right is told in words. Public for `output::writer`.
+pub fn turned_away_line(line: &mut [u8], refusal: Refusal) -> usize
     requires { line_most ≤ length line.old }
-    ensures { Putting line.old 0 (verdict_line (verdict_by refusal class span)) line.new result × (result ≤ line_most) }
+    ensures { Putting line.old 0 (verdict_line (refused (number_of refusal))) line.new result × (result ≤ line_most) }
 {
-    if refusal == 0 {
-        return accepted_line(line, class, span);
+    match refusal {
+        Refusal::NotCertified => copy(line, 0, b"not certified\n"),
+        _ => refused_line(line, refusal),
     }
-    if refusal == NOT_CERTIFIED {
-        return copy(line, 0, b"not certified\n");
-    }
-    refused_line(line, refusal)
 }

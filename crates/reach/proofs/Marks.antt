@@ -16,7 +16,6 @@ use Rattle.base.proofs.Filled.{zeros}
 use Rattle.definitions.specs.Certificate.{Reachable, Anchor, AnchorAnd, start, onward}
 use Rattle.definitions.specs.Marks.{DifferBelow}
 use Rattle.definitions.proofs.Marks.{differ_here}
-use Rattle.duality.specs.Starts.{StartBelow}
 use Rattle.duality.proofs.Height.{total_falls}
 use Rattle.duality.proofs.Reach.{reach_keep, reach_map}
 use Rattle.reach.specs.Marks.{Marked, Led, Begins, Flags, StartMarked, Anchored, AnchoredAnd, Reached}
@@ -37,21 +36,6 @@ anchor_marked = record { flags = record { length_is = refl; flag = flag }; ancho
     only : (j : ℕ) → 0 < get_or (1 ∷ replicate 31 0) j 0 → j ≡ 0
     only zero h = refl
     only (suc j) h = absurd (omega (arith, zeros 31 j))
-
--- Variable k marked too.
-pub anchor_and_marked : {begin : List ℕ} (k : ℕ) → k < 32 → Anchored begin → AnchoredAnd k (set begin k 1)
-anchor_and_marked {begin} k h a = record {
-  flags = record { length_is = length-set begin k 1 ∙ a.flags.length_is; flag = λ j. ⊎_elim (λ e. omega (arith, here j e)) (λ d. omega (arith, there j d, a.flags.flag j)) (same_or_not j k) };
-  anchor = ⊎_elim (λ e. omega (arith, here 0 e)) (λ d. omega (arith, there 0 d, a.anchor)) (same_or_not 0 k);
-  other = omega (arith, here k refl);
-  only = λ j m. ⊎_elim (λ e. inr e) (λ d. inl (a.only j (omega (arith, there j d)))) (same_or_not j k);
-}
-  where
-    here : (j : ℕ) → j ≡ k → get_or (set begin k 1) j 0 ≡ 1
-    here j e = rw e (get_or-set_same begin k 1 0 (omega (arith, a.flags.length_is)))
-
-    there : (j : ℕ) → (j ≡ k → ⊥) → get_or (set begin k 1) j 0 ≡ get_or begin j 0
-    there j d = get_or-set_other begin k j 1 0 d
 
 -- ---- one mark
 
@@ -195,15 +179,6 @@ reaching_done {arcs} {width} {begin} {marks} {done} f h all = record { flags = f
 
 -- ---- a round
 
-pub spreading_none : (arcs : List ℕ) (width : ℕ) (marks done : List ℕ) → Flags marks → Flags done → Spreading arcs width marks done 0 marks done
-spreading_none arcs width marks done f g = record {
-  flags = f;
-  done_flags = g;
-  reaching = λ s h. h;
-  kept = λ j m. m;
-  settled = λ j h. absurd (omega arith);
-}
-
 -- A variable that is not marked, or is done, is passed.
 pub spreading_skip : {arcs : List ℕ} {width : ℕ} {marks done : List ℕ} {k : ℕ} {new spread : List ℕ}
     → Spreading arcs width marks done k new spread → get_or new k 0 ≤ get_or spread k 0 → Spreading arcs width marks done (k + 1) new spread
@@ -308,19 +283,6 @@ coefficients_flags coefficients {begin} m = record {
   length_is = m.size_is;
   flag = λ j. ⊎_elim (λ (h : 32 ≤ j). omega (arith, m.rest j h)) (λ (h : j < 32). rw (m.each j h) (mark_flag 0 _ (omega arith))) (nat_le_or_lt 32 j);
 }
-
--- Whether a variable is one of the start is decided by its mark.
-pub marked_start : {Start : ℕ → Type 0} {width : ℕ} {begin : List ℕ} → StartMarked Start width begin → StartBelow width Start
-marked_start {Start} {width} {begin} s = record { decided = decided; inside = λ j h. (s.marked j h).inside }
-  where
-    decided : (j : ℕ) → Start j ⊎ (Start j → ⊥)
-    decided j = ⊎_elim
-        (λ (h : width ≤ j). inr (λ b. omega (arith, (s.marked j b).inside)))
-        (λ (h : j < width). ⊎_elim
-        (λ (z : get_or begin j 0 ≡ 0). inr (λ b. omega (arith, (s.marked j b).marked)))
-        (λ m. inl (s.only j (record { inside = h; marked = m })))
-        (eq-zero-or-pos (get_or begin j 0)))
-        (nat_le_or_lt width j)
 
 -- What is reached from these marks is reachable from the start, and what is reachable from it is reached.
 module _ {Start : ℕ → Type 0} {arcs : List ℕ} {width : ℕ} {begin marks : List ℕ} (starts : StartMarked Start width begin)

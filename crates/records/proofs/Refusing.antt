@@ -1,5 +1,6 @@
 -- Laws of what a function that may refuse answers.
 use Rattle.std.proofs.Common.{◌≡◌, ℕ, ◌<◌, ◌≤◌, Bool, true, false, List, Result, Ok, Err, refl, sym, ap, ◌∙◌, arith}
+use Rattle.definitions.specs.Verdict.{not_certified}
 use Rattle.definitions.specs.Bytes.{Outcome, refusal, gives, outcome}
 use Rattle.definitions.proofs.Outcomes.{outcome-none, outcome-some, outcome-gives, outcome_refusal}
 use Rattle.records.specs.declared.refusal.Refusal.{Refusal}
@@ -35,6 +36,36 @@ number_range Shift = (omega arith, omega arith)
 number_range Rule = (omega arith, omega arith)
 number_range Early = (omega arith, omega arith)
 number_range Census = (omega arith, omega arith)
+
+-- A form that is right is refused by the number 14 alone.
+pub not_fourteen : (r : Refusal) → (r ≡ NotCertified → ⊥) → number_of r ≡ not_certified → ⊥
+not_fourteen NotCertified n e = n refl
+not_fourteen Short n e = omega arith
+not_fourteen Length n e = omega arith
+not_fourteen Kind n e = omega arith
+not_fourteen Limits n e = omega arith
+not_fourteen Size n e = omega arith
+not_fourteen Lead n e = omega arith
+not_fourteen Room n e = omega arith
+not_fourteen AnswerShort n e = omega arith
+not_fourteen AnswerLength n e = omega arith
+not_fourteen AnswerClass n e = omega arith
+not_fourteen AnswerSize n e = omega arith
+not_fourteen Form n e = omega arith
+not_fourteen Pick n e = omega arith
+not_fourteen Count n e = omega arith
+not_fourteen Bottomless n e = omega arith
+not_fourteen Silent n e = omega arith
+not_fourteen NoText n e = omega arith
+not_fourteen Week n e = omega arith
+not_fourteen State n e = omega arith
+not_fourteen Full n e = omega arith
+not_fourteen Ticket n e = omega arith
+not_fourteen Memory n e = omega arith
+not_fourteen Shift n e = omega arith
+not_fourteen Rule n e = omega arith
+not_fourteen Early n e = omega arith
+not_fourteen Census n e = omega arith
 
 module _ {A B : Type 0} (f : A → B) where
   -- What is given was not refused.

@@ -1,24 +1,34 @@
 // The same search one trial at a time, for a desk. Document 02, 2.11.
 ghost use Rattle.std.specs.Prelude.{◌≡◌, ◌<◌};
 ghost use Rattle.definitions.specs.Limits.{signed_full};
-ghost use Rattle.search.specs.Underway.{at_start, found_of, Underway, Tried};
+ghost use Rattle.search.specs.Underway.{class_word, class_from, at_start, found_of, Underway, Tried};
 
 use crate::bracket::Bracket;
 use crate::search::Found;
 use crate::trial::{LOWEST, TOP, trial};
-use records::limits::{INFEASIBLE, OPTIMAL, UNBOUNDED};
+use records::class::Class;
 
-// A search under way: the trials made, the bracket, and the class, 0 while the search is open.
+// A search under way: the trials made, the bracket, and the class, none while the search is open.
 #[derive(Clone, Copy)]
 pub struct Search {
     pub made: u64,
-    pub low: u64,
-    pub high: u64,
-    pub class: u64,
+    pub bracket: Bracket,
+    pub class: Option<Class>,
 }
 
-// The class of a search that is open.
-pub const OPEN: u64 = 0;
+// The word that keeps a search's class: its number, 0 while the search is open.
+pub fn class_word(class: Option<Class>) -> u64
+    ensures { result ≡ class_word class }
+{
+    class.map_or(0, |c| c.number())
+}
+
+// The class that a word keeps; none where it is no class's number.
+pub fn class_from(word: u64) -> Option<Class>
+    ensures { result ≡ class_from word }
+{
+    Class::try_from(word).ok()
+}
 
 // No trial is made, and the bracket is the two outer trials.
 pub fn opened() -> Search
@@ -26,9 +36,11 @@ pub fn opened() -> Search
 {
     Search {
         made: 0,
-        low: LOWEST,
-        high: TOP,
-        class: OPEN,
+        bracket: Bracket {
+            low: LOWEST,
+            high: TOP,
+        },
+        class: None,
     }
 }
 
@@ -37,47 +49,42 @@ pub fn next_trial(second: u64, search: Search) -> Search
     requires { (second < signed_full) × Underway second search }
     ensures { Tried second search result }
 {
-    let mut next = search;
-    next.made = search.made + 1;
+    let made = search.made + 1;
     if search.made == 0 {
-        if !trial(second, TOP) {
-            next.class = INFEASIBLE;
-        }
-        return next;
-    }
-    if search.made == 1 {
-        if trial(second, LOWEST) {
-            next.class = UNBOUNDED;
-        }
-        return next;
-    }
-    let bracket = Bracket {
-        low: search.low,
-        high: search.high,
-    };
-    let narrower = bracket.next(trial(second, bracket.middle()));
-    next.low = narrower.low;
-    next.high = narrower.high;
-    if next.high - next.low == 1 {
-        next.class = OPTIMAL;
-    }
-    next
-}
-
-// What a search found: the span is its high where it closed as least.
-pub fn found_of(search: Search) -> Found
-    ensures { result ≡ found_of search }
-{
-    if search.class == OPTIMAL {
-        return Found {
-            class: search.class,
-            span: search.high,
-            trials: search.made,
+        let class = (!trial(second, TOP)).then_some(Class::Infeasible);
+        return Search {
+            made,
+            class,
+            ..search
         };
     }
-    Found {
-        class: search.class,
-        span: 0,
-        trials: search.made,
+    if search.made == 1 {
+        let class = trial(second, LOWEST).then_some(Class::Unbounded);
+        return Search {
+            made,
+            class,
+            ..search
+        };
     }
+    let bracket = search.bracket.next(trial(second, search.bracket.middle()));
+    let class = (bracket.high - bracket.low == 1).then_some(Class::Optimal);
+    Search {
+        made,
+        bracket,
+        class,
+    }
+}
+
+// What a search found, none while it is open: the span is its high where it closed as least.
+pub fn found_of(search: Search) -> Option<Found>
+    ensures { result ≡ found_of search }
+{
+    search.class.map(|class| Found {
+        class,
+        span: match class {
+            Class::Optimal => search.bracket.high,
+            Class::Unbounded | Class::Infeasible => 0,
+        },
+        trials: search.made,
+    })
 }

@@ -15,8 +15,11 @@ use Rattle.definitions.proofs.Layouts.{one_question}
 use Rattle.definitions.proofs.Solved.{none_refused, asked_few}
 use Rattle.engine.specs.Outcome.{solved_of}
 use Rattle.engine.proofs.Outcomes.{own_wrote, own_wrote_all}
-use Rattle.engine.specs.declared.solve.Solved.{Solved}
-use Rattle.engine.specs.declared.solve.Solved.TheVariants.{Refused, Answered, AllAnswered}
+use Rattle.std.specs.Prelude.{Result, Ok, Err}
+use Rattle.records.specs.declared.refusal.Refusal.{Refusal}
+use Rattle.records.specs.Refusals.{number_of}
+use Rattle.engine.specs.declared.solve.Solution.{Solution}
+use Rattle.engine.specs.declared.solve.Solution.TheVariants.{One, All}
 use Rattle.span.specs.Shown.{out_most, Shown}
 
 -- With a buffer that has room for eight answers the engine's refusal is the problem's.
@@ -40,15 +43,14 @@ refused_output (solved a k f ans) e b s = absurd (let z : ◌≡◌ {A = ℕ} 0 
 refused_output (all_solved k f turn) e b s = absurd (let z : ◌≡◌ {A = ℕ} 0 1 = cc in omega arith)
 
 -- an answer its record, and several theirs.
-pub span_output : {input before after out : List ℕ} (r : Solved) → Solves input before (solved_of r) after → length before ≡ out_most → length after ≡ length before → Shown r after out
+pub span_output : {input before after out : List ℕ} (r : Result Solution Refusal) → Solves input before (solved_of r) after → length before ≡ out_most → length after ≡ length before → Shown r after out
     → SpanOutput input out
-unfolding solved_of
-span_output (Refused k) j b l s = refused_output j refl b s
-span_output {input} (Answered class span trials size) j b l s =
-    let w = own_wrote {r = Answered class span trials size} j refl in
+span_output (Err k) j b l s = refused_output j refl b s
+span_output {input} (Ok (One a)) j b l s =
+    let w = own_wrote {r = Ok (One a)} j refl in
     let inside = w.inside in
     subst (SpanOutput input) (sym (s inside (omega (arith, inside)) ∙ w.bytes)) (answer w.answer w.kind_is (one_question input w.kind_is ∙ w.within) w.answers)
-span_output {input} (AllAnswered count trials size) j b l s =
-    let w = own_wrote_all {r = AllAnswered count trials size} j refl in
+span_output {input} (Ok (All count trials size)) j b l s =
+    let w = own_wrote_all {r = Ok (All count trials size)} j refl in
     let inside = w.inside in
     subst (SpanOutput input) (sym (s inside (omega (arith, inside)) ∙ w.bytes)) (answers w.kind_is w.within w.in_turn)

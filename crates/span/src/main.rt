@@ -8,24 +8,25 @@ ghost use Rattle.definitions.specs.Programs.{ReadFrom, SpanOutput};
 ghost use Rattle.span.specs.Shown.{out_most, Shown};
 
 use engine::input::solve_input;
-use engine::solve::Solved;
+use engine::solve::{Answered, Solution};
 use output::writer::{write_front, write_refused};
 use programs::run;
 use records::limits::{ANSWER_MOST, KEPT, MOST_QUESTIONS};
+use records::refusal::Refusal;
 
 // Room for what is put out: the records of the answers to all questions, or a line.
 const OUT_MOST: usize = MOST_QUESTIONS * ANSWER_MOST;
 
 // Puts what a result shows at the front of the buffer for output, and gives its size.
-fn put_out(out: &mut [u8], buffer: &[u8], solved: Solved) -> usize
+fn put_out(out: &mut [u8], buffer: &[u8], solved: Result<Solution, Refusal>) -> usize
     requires { length out.old ≡ out_most }
     ensures inside { result ≤ out_most }
     ensures shown { Shown solved buffer.now (take result out.new) }
 {
     match solved {
-        Solved::Refused(number) => write_refused(out, number),
-        Solved::Answered { size, .. } => write_front(out, buffer, size),
-        Solved::AllAnswered { size: all, .. } => write_front(out, buffer, all),
+        Ok(Solution::One(Answered { size, .. })) => write_front(out, buffer, size),
+        Ok(Solution::All { size: all, .. }) => write_front(out, buffer, all),
+        Err(refusal) => write_refused(out, refusal),
     }
 }
 

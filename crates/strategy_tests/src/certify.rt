@@ -1,7 +1,7 @@
 // A strategy judged: picks that count, and cycles at a trial t. Document 01 asks of classes 1 and 3 that every reached
 // variable has a pick that counts and every reached cycle weighs below zero, of class 2 that every row in use picks
 // and every reached cycle weighs zero or more. The test is of closed walks, which is the same.
-ghost use Rattle.std.specs.Prelude.{◌≡◌, ℕ, suc, ◌+◌, ◌*◌, ◌≤◌, ◌<◌, ℤ};
+ghost use Rattle.std.specs.Prelude.{◌≡◌, ◌+◌, ◌*◌, ◌≤◌, ℤ};
 ghost use Rattle.base.specs.Decides.{Decides};
 ghost use Rattle.definitions.specs.Limits.{stride, table_size};
 ghost use Rattle.definitions.specs.Tropical.{fin};

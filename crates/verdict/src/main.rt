@@ -4,25 +4,25 @@
 
 ghost use Rattle.std.specs.Prelude.{◌≡◌, ℕ, ◌≤◌, List, length, take};
 ghost use Rattle.definitions.specs.Programs.{ReadFrom, VerdictOutput, verdict_line};
-ghost use Rattle.definitions.specs.Verdict.{refused};
 ghost use Rattle.checker.specs.Outcome.{verdict_of};
 ghost use Rattle.printing.specs.Text.{line_most};
 
-use checker::check::Verdict;
+use checker::check::Certified;
 use checker::input::judge_input;
-use output::writer::write_verdict;
+use output::writer::{write_accepted, write_turned_away};
 use printing::lines::LINE_MOST;
 use programs::run;
 use records::limits::KEPT;
+use records::refusal::Refusal;
 
 // Puts the line of a verdict at the front of a buffer, and gives its size.
-fn put_line(line: &mut [u8], verdict: Verdict) -> usize
+fn put_line(line: &mut [u8], verdict: Result<Certified, Refusal>) -> usize
     requires { length line.old ≡ line_most }
-    ensures { (result ≤ line_most) × ((verdict_of verdict ≡ refused 0 → ⊥) → take result line.new ≡ verdict_line (verdict_of verdict)) }
+    ensures { (result ≤ line_most) × (take result line.new ≡ verdict_line (verdict_of verdict)) }
 {
     match verdict {
-        Verdict::Accepted { class, span } => write_verdict(line, 0, class, span),
-        Verdict::Refused(number) => write_verdict(line, number, 0, 0),
+        Ok(Certified { class, span }) => write_accepted(line, class, span),
+        Err(refusal) => write_turned_away(line, refusal),
     }
 }
 

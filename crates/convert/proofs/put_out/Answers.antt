@@ -1,6 +1,6 @@
-use native.Mathlib.Omega.{arith}
+use Rattle.std.proofs.Common.{arith}
 use Rattle.output.proofs.Shown.{shown_whole}
 use Rattle.convert.proofs.put_out.Goals as goal
 
-pub returns-in-Refused : goal.returns-in-Refused
-returns-in-Refused c = rw c.in-Refused.is (shown_whole c.write_refused.ensures.shown c.requires (omega arith))
+pub returns-in-Err : goal.returns-in-Err
+returns-in-Err c = rw c.in-Err.is (shown_whole c.write_refused.ensures.shown c.requires (omega arith))

@@ -1,13 +1,9 @@
-use mathlib.Core.Path.{◌≡◌}
 use native.Mathlib.Omega.{arith}
-use Rattle.plan_tests.proofs.Sides.{best_start, best_turn, sum_fits}
+use Rattle.plan_tests.proofs.Sides.{best_start, best_turn}
 use Rattle.plan_tests.proofs.best_of.Goals as goal
 
 pub loop-l-init : goal.loop-l-init
 loop-l-init c = (omega arith, omega arith, best_start _ _ c.offset_32-best.ensures.0)
-
-pub sum_in-requires : goal.sum_in-requires
-sum_in-requires c = sum_fits c.requires c.loop-l.l (omega arith)
 
 pub loop-l-preserved : goal.loop-l-preserved
 loop-l-preserved c = (
@@ -16,5 +12,3 @@ loop-l-preserved c = (
   best_turn _ _ c.loop-l.l c.loop-l.invariant.2 c.sum_in.ensures.0 c.later-best.ensures.0,
 )
 
-pub returns : goal.returns
-returns c = let e : c.loop-l.l ≡ c.args.count = omega arith in record { is = rw e at c.loop-l.invariant.2; field = omega arith }

@@ -1,10 +1,6 @@
-use native.Mathlib.Omega.{arith}
 use borrow.Author.Tests.{eq-eqb, ne_eqb}
 use Rattle.plan_tests.specs.Sides.{lowered}
 use Rattle.plan_tests.proofs.lower_stamp.Goals as goal
-
-pub overflow_sub-result : goal.overflow_sub-result
-overflow_sub-result c = omega (arith, c.requires.lo (omega (arith, c.if-stamp-eq0.false)))
 
 pub returns-then-stamp-eq0 : goal.returns-then-stamp-eq0
 unfolding lowered

@@ -11,6 +11,3 @@ returns-then-not-marks_differ c = spreading_reached c.loop-spread.invariant.2 c.
 pub loop-spread-smaller : goal.loop-spread-smaller
 loop-spread-smaller c = spreading_fewer c.loop-spread.invariant.0 c.round.ensures (told_yes c.marks_differ.ensures c.if-not-marks_differ.false)
 
-pub loop-spread-preserved : goal.loop-spread-preserved
-loop-spread-preserved c = let s = c.round.ensures in
-    (s.flags, s.done_flags, s.reaching _ c.loop-spread.invariant.2)

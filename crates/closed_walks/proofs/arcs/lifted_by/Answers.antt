@@ -1,9 +1,6 @@
-use Rattle.std.proofs.Common.{arith, eq-eqb, ne_eqb}
+use Rattle.std.proofs.Common.{eq-eqb, ne_eqb}
 use Rattle.closed_walks.specs.Arcs.{lifted}
 use Rattle.closed_walks.proofs.arcs.lifted_by.Goals as goal
-
-pub overflow_sub-result : goal.overflow_sub-result
-overflow_sub-result c = omega (arith, c.requires.1.lo (omega (arith, c.if-b-eq0.false)))
 
 pub returns-then-b-eq0 : goal.returns-then-b-eq0
 unfolding lifted

@@ -5,17 +5,11 @@ use Rattle.closed_walks.proofs.gains.none_gains.Goals as goal
 pub loop-init : goal.loop-init
 loop-init c = (omega arith, omega (arith, c.requires.0.width_most), rounds_start _ _ _ c.requires.0)
 
-pub push_round-requires : goal.push_round-requires
-push_round-requires c = (c.requires.0, c.loop.invariant.2.ready)
-
 pub returns-in_default : goal.returns-in_default
 returns-in_default c = tested_no (rounds_beyond _ _ _ c.requires.0 c.loop.invariant.2 c.push_round.ensures c.in_default.is)
 
 pub returns-then-not-moved : goal.returns-then-not-moved
 returns-then-not-moved c = tested_yes (rounds_still _ _ _ c.requires.0 (ended_whole _ _ _ c.requires.0 c.push_round.ensures c.in-Some.is) c.if-not-moved.true)
-
-pub loop-smaller : goal.loop-smaller
-loop-smaller c = omega arith
 
 pub loop-preserved : goal.loop-preserved
 loop-preserved c = (

@@ -1,28 +1,15 @@
-use Rattle.hour_texts.proofs.Values.{behind_blank, behind_other, behind_none, behind_zero, behind_beyond, behind_value}
-use Rattle.hour_texts.proofs.Numbers.{found, found_none}
-use Rattle.hour_texts.specs.Outcome.{reading_of}
+use native.Mathlib.Omega.{arith}
+use Rattle.hour_texts.proofs.Values.{behind_none, behind_outside, behind_value}
 use Rattle.hour_texts.proofs.reader.read_behind_hyphen.Goals as goal
 
-pub returns-then-rest-eq45 : goal.returns-then-rest-eq45
-unfolding reading_of
-returns-then-rest-eq45 c = behind_blank _ c.if-rest-eq1.true c.if-rest-eq45.true
-
-pub returns-then-rest-eq1 : goal.returns-then-rest-eq1
-unfolding reading_of
-returns-then-rest-eq1 c = behind_other _ c.if-rest-eq1.true c.if-rest-eq45.false
+pub returns-in-Some : goal.returns-in-Some
+returns-in-Some c = behind_value c.in-Some.ensures (omega arith) (omega arith)
 
 pub returns-in_default : goal.returns-in_default
-unfolding reading_of
-returns-in_default c = behind_none (found_none c.read_clock.ensures c.in_default.is) c.if-rest-eq1.false
+returns-in_default c = behind_outside c.in-Some.ensures (λ p h. omega arith)
 
-pub returns-then-number-eq0 : goal.returns-then-number-eq0
-unfolding reading_of
-returns-then-number-eq0 c = behind_zero (found c.read_clock.ensures c.in-Number.is) c.if-number-eq0.true c.if-rest-eq1.false
+pub returns-in_default-2 : goal.returns-in_default-2
+returns-in_default-2 c = behind_outside c.in-Some.ensures (λ p h. omega arith)
 
-pub returns-then-number-gt-TEXT_LIMIT : goal.returns-then-number-gt-TEXT_LIMIT
-unfolding reading_of
-returns-then-number-gt-TEXT_LIMIT c = behind_beyond (found c.read_clock.ensures c.in-Number.is) c.if-number-gt-TEXT_LIMIT.true c.if-rest-eq1.false
-
-pub returns : goal.returns
-unfolding reading_of
-returns c = behind_value (found c.read_clock.ensures c.in-Number.is) c.if-number-eq0.false c.if-number-gt-TEXT_LIMIT.false
+pub returns-in_default-3 : goal.returns-in_default-3
+returns-in_default-3 c = behind_none (rw c.in_default.is at c.read_clock.ensures) c.requires.1

@@ -1,5 +1,5 @@
-use Rattle.hour_texts.proofs.Writing.{clock_put}
 use native.Mathlib.Omega.{arith}
+use Rattle.hour_texts.proofs.Writing.{clock_put}
 use Rattle.hour_texts.proofs.writer.put_clock.Goals as goal
 
 pub returns : goal.returns

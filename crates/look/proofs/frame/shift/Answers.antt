@@ -9,8 +9,5 @@ returns-then-k-eq0 c = rw c.if-k-eq0.true (shifted_blank _)
 pub overflow_sub-result : goal.overflow_sub-result
 overflow_sub-result c = omega (arith, c.requires.1.lo (positive _ c.if-k-eq0.false))
 
-pub overflow_cast-result-2 : goal.overflow_cast-result-2
-overflow_cast-result-2 c = omega (arith, c.requires.1.lo (positive _ c.if-k-eq0.false), c.requires.1.hi)
-
 pub returns : goal.returns
-returns c = shifted_whole _ _ c.if-k-eq0.false
+returns c = rw c.from.ensures (shifted_whole _ _ c.if-k-eq0.false)

@@ -1,30 +1,29 @@
-use mathlib.Core.Path.{sym, ◌∙◌}
-use Rattle.definitions.specs.Bytes.{Bytes}
+use mathlib.Core.Path.{sym, ap, ◌∙◌}
+use Rattle.std.proofs.lemmas.Result.{err_from_is_err_and}
 use Rattle.definitions.specs.ProblemRecord.{meant}
 use Rattle.definitions.proofs.IdleDay.{meant_bytes}
-use Rattle.merging.proofs.Outcomes.{read_told, read_n_most, none_judged, refused_problem, refused_plans}
+use Rattle.records.specs.Refusals.{refused_by}
+use Rattle.merging.proofs.Outcomes.{bytes_of, read_told, read_n_most, none_judged, refused_problem, refused_plans}
 use Rattle.merging.proofs.merge.merge.Goals as goal
 
-pub returns-in_default : goal.returns-in_default
-returns-in_default c = refused_problem _ _ _ _ c.read_problem-header.ensures.result c.in_default.is c.problem_refusal.ensures
+pub returns-in_err-layout : goal.returns-in_err-layout
+returns-in_err-layout c = let p = err_from_is_err_and c.from_residual.result c.from_residual.ensures.1 in
+    rw (p.1, p.2) (refused_problem _ _ _ _ c.read_problem.ensures.result c.in_err-layout.was)
 
-pub judge_plans-refusal-requires : goal.judge_plans-refusal-requires
-judge_plans-refusal-requires c = let bytes : Bytes c.args.problem.now = record { byte = λ i. (c.shared_slice_known-1.given i).fits } in
-    let read = read_told (meant_bytes _ bytes) c.read_problem-header.ensures c.in-Told.is in
+pub judge_plans-requires : goal.judge_plans-requires
+judge_plans-requires c = let read = read_told (meant_bytes _ (bytes_of c.type_inv.problem)) c.read_problem.ensures c.in_ok-layout.was in
     read_n_most read
 
-pub returns-then-refusal-ne0 : goal.returns-then-refusal-ne0
-returns-then-refusal-ne0 c = let bytes : Bytes c.args.problem.now = record { byte = λ i. (c.shared_slice_known-1.given i).fits } in
-    let read = read_told (meant_bytes _ bytes) c.read_problem-header.ensures c.in-Told.is in
-    refused_plans _ _ _ _ read.within read.n_is c.judge_plans-refusal.ensures c.if-refusal-ne0.true
+pub returns-in_err-judge_plans : goal.returns-in_err-judge_plans
+returns-in_err-judge_plans c = let read = read_told (meant_bytes _ (bytes_of c.type_inv.problem)) c.read_problem.ensures c.in_ok-layout.was in
+    let p = err_from_is_err_and c.from_residual-in_err-judge_plans.result c.from_residual-in_err-judge_plans.ensures.1 in
+    rw (p.1, p.2) (refused_plans _ _ _ _ read.within read.n_is c.judge_plans.ensures c.in_err-judge_plans.was)
 
 pub merge_plans-requires : goal.merge_plans-requires
-merge_plans-requires c = let bytes : Bytes c.args.problem.now = record { byte = λ i. (c.shared_slice_known-1.given i).fits } in
-    let read = read_told (meant_bytes _ bytes) c.read_problem-header.ensures c.in-Told.is in
-    let none = none_judged _ _ _ _ (sym c.judge_plans-refusal.ensures ∙ c.if-refusal-ne0.false) in
+merge_plans-requires c = let read = read_told (meant_bytes _ (bytes_of c.type_inv.problem)) c.read_problem.ensures c.in_ok-layout.was in
+    let none = none_judged _ _ _ _ (sym c.judge_plans.ensures ∙ ap refused_by c.in_ok-judge_plans.was) in
     record { problem = meant c.args.problem.now; read = read; first_fits = none.first_fits; second_fits = none.second_fits; room_enough = none.room_enough }
 
 pub returns : goal.returns
-returns c = let bytes : Bytes c.args.problem.now = record { byte = λ i. (c.shared_slice_known-1.given i).fits } in
-    let read = read_told (meant_bytes _ bytes) c.read_problem-header.ensures c.in-Told.is in
+returns c = let read = read_told (meant_bytes _ (bytes_of c.type_inv.problem)) c.read_problem.ensures c.in_ok-layout.was in
     c.merge_plans.ensures _ read

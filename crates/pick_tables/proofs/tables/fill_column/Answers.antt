@@ -1,17 +1,16 @@
-use mathlib.Core.Path.{◌≡◌}
 use native.Mathlib.Omega.{arith}
-use lib.ListN.{length-set}
-use Rattle.pick_tables.proofs.Shown.{column_none, column_more}
+use Rattle.pick_tables.proofs.Shown.{column_none, column_blank, column_set}
 use Rattle.pick_tables.proofs.tables.fill_column.Goals as goal
+use Rattle.pick_tables.proofs.tables.fill_column.Goals.{then-left-base-ne0, else-left-base-ne0}
 
 pub loop-j-init : goal.loop-j-init
-loop-j-init c = (omega arith, c.requires.0, column_none _ _ _ _)
-
-pub loop-j-smaller : goal.loop-j-smaller
-loop-j-smaller c = omega arith
+loop-j-init c = (c.requires.0, column_none _ _ _ _)
 
 pub loop-j-preserved : goal.loop-j-preserved
-loop-j-preserved c = (omega arith, simp length-set (omega arith), column_more c.loop-j.invariant.2 (omega arith) (omega arith) c.arc_or.ensures)
-
-pub returns : goal.returns
-returns c = let e : c.loop-j.j ≡ c.args.width = omega arith in rw e at c.loop-j.invariant.2
+loop-j-preserved c = (
+  c.if-left-base-ne0.array_long,
+  elim c.if-left-base-ne0.branch [
+    | then-left-base-ne0 w ↦ rw w.arcs-is (column_set c.loop-j.invariant.1 (omega arith) (omega (arith, c.loop-j.invariant.0)) w.if-left-base-ne0.true)
+    | else-left-base-ne0 w ↦ rw w.arcs-is (column_blank c.loop-j.invariant.1 (omega arith) w.if-left-base-ne0.false)
+  ],
+)

@@ -1,10 +1,7 @@
-use Prim.Native.Nat.{ℕ, ◌≤◌, ◌<◌, ◌-◌, ◌+◌, ◌*◌}
+use Prim.Native.Nat.{ℕ, ◌<◌, ◌+◌, ◌*◌}
 use mathlib.Core.Path.{◌≡◌}
 use lib.ListN.{get_or}
 use Rattle.pick_tables.proofs.tables.used.Given as goal
 
 abbrev pub invariant-loop-j : goal.invariant-loop-j
-invariant-loop-j l = (l.j ≤ l.width) × ((k : ℕ) → k < l.j → (get_or l.marks k 0 ≡ 0 → ⊥) → get_or l.left (l.i * 32 + k) 0 ≡ 0)
-
-abbrev pub decreases-loop-j : goal.decreases-loop-j
-decreases-loop-j l = l.width - l.j
+invariant-loop-j l = (k : ℕ) → k < l.j → (get_or l.marks k 0 ≡ 0 → ⊥) → get_or l.left (l.i * 32 + k) 0 ≡ 0

@@ -1,9 +1,6 @@
-use Prim.Native.Nat.{◌*◌, ◌-◌, ◌≤◌}
+use Prim.Native.Nat.{◌*◌}
 use Rattle.pick_tables.specs.Shown.{VariableArcs}
 use Rattle.pick_tables.proofs.tables.variable_arcs.Given as goal
 
 abbrev pub invariant-loop-j : goal.invariant-loop-j
-invariant-loop-j l = (l.j ≤ l.width) × VariableArcs l.right l.picks l.rows (l.j * 32) l.out
-
-abbrev pub decreases-loop-j : goal.decreases-loop-j
-decreases-loop-j l = l.width - l.j
+invariant-loop-j l = VariableArcs l.right l.picks l.rows (l.j * 32) l.arcs

@@ -1,10 +1,6 @@
-use Prim.Native.Nat.{◌≤◌, ◌-◌}
 use mathlib.Core.Path.{◌≡◌}
 use Rattle.policy_iteration.specs.Ends.{bits_in}
 use Rattle.policy_iteration.proofs.ends.bits_of.Given as goal
 
 abbrev pub invariant-loop-l : goal.invariant-loop-l
-invariant-loop-l l = (l.l ≤ 32) × (l.bits ≡ bits_in l.table l.row l.l)
-
-abbrev pub decreases-loop-l : goal.decreases-loop-l
-decreases-loop-l l = 32 - l.l
+invariant-loop-l l = l.bits ≡ bits_in l.table l.row l.l

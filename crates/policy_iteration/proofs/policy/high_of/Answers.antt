@@ -7,4 +7,4 @@ pub returns-then-k-eq0 : goal.returns-then-k-eq0
 returns-then-k-eq0 c = rw c.if-k-eq0.true (sym high_zero)
 
 pub returns-else-k-eq0 : goal.returns-else-k-eq0
-returns-else-k-eq0 c = sym (high_whole _ (positive _ c.if-k-eq0.false))
+returns-else-k-eq0 c = (let e = high_whole _ (positive _ c.if-k-eq0.false) in cc)

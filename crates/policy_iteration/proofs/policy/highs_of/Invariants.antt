@@ -1,4 +1,3 @@
-use Prim.Native.Nat.{◌≤◌, ◌-◌}
 use mathlib.Core.Path.{◌≡◌}
 use lib.ListN.{get_or}
 use Rattle.base.specs.Filled.{Filled}
@@ -6,7 +5,4 @@ use Rattle.policy_iteration.specs.Tables.{high}
 use Rattle.policy_iteration.proofs.policy.highs_of.Given as goal
 
 abbrev pub invariant-loop-j : goal.invariant-loop-j
-invariant-loop-j l = (l.j ≤ 32) × Filled (λ k v. v ≡ high (get_or l.x k 0)) 32 l.j l.out
-
-abbrev pub decreases-loop-j : goal.decreases-loop-j
-decreases-loop-j l = 32 - l.j
+invariant-loop-j l = Filled (λ k v. v ≡ high (get_or l.x k 0)) 32 l.j l.out

@@ -1,4 +1,4 @@
-use Prim.Native.Nat.{◌≤◌, ◌<◌, ◌-◌}
+use Prim.Native.Nat.{◌<◌}
 use mathlib.Core.Path.{◌≡◌}
 use Rattle.base.specs.Numbers.{uppermost}
 use Rattle.definitions.specs.Limits.{signed_full}
@@ -7,7 +7,4 @@ use Rattle.policy_iteration.specs.Rounds.{sums}
 use Rattle.policy_iteration.proofs.values.full_sum.Given as goal
 
 abbrev pub invariant-loop-l : goal.invariant-loop-l
-invariant-loop-l l = (l.l ≤ 32) × (off l.best ≡ uppermost (sums l.table l.row l.x) l.l) × (l.best < signed_full)
-
-abbrev pub decreases-loop-l : goal.decreases-loop-l
-decreases-loop-l l = 32 - l.l
+invariant-loop-l l = (off l.best ≡ uppermost (sums l.table l.row l.x) l.l) × (l.best < signed_full)

@@ -1,11 +1,8 @@
 use Prim.Native.Nat.{◌+◌, ◌*◌}
 use mathlib.Core.Path.{◌≡◌, sym, ◌∙◌}
 use native.Mathlib.Omega.{arith}
-use Rattle.definitions.proofs.Marks.{differ_none, differ_more, differ_word, same_word, says_yes, says_no}
+use Rattle.definitions.proofs.Marks.{differ_more, differ_word, same_word, says_yes}
 use Rattle.reach.proofs.compare.words_differ.Goals as goal
-
-pub loop-w-init : goal.loop-w-init
-loop-w-init c = (omega arith, differ_none)
 
 pub returns-then-eight_at : goal.returns-then-eight_at
 returns-then-eight_at c = says_yes (differ_more (omega arith) (differ_word 8 _ _ _ (λ q. c.if-eight_at.true (c.eight_at.ensures ∙ q ∙ sym c.eight_at-in-loop-w.ensures))))
@@ -14,5 +11,3 @@ pub loop-w-preserved : goal.loop-w-preserved
 loop-w-preserved c = let e : 8 * c.loop-w.w + 8 ≡ 8 * (c.loop-w.w + 1) = omega arith in
     (omega arith, rw e at (same_word 8 _ (record { byte = λ i. (c.shared_slice_known-1.given i).fits }) (record { byte = λ i. (c.shared_slice_known-2-1.given i).fits }) c.loop-w.invariant.1 (sym c.eight_at.ensures ∙ c.if-eight_at.false ∙ c.eight_at-in-loop-w.ensures)))
 
-pub returns : goal.returns
-returns c = says_no (λ d. c.loop-w.invariant.1 (differ_more (omega arith) d))

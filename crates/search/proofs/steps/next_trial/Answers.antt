@@ -1,37 +1,36 @@
 use native.Mathlib.Omega.{arith}
 use borrow.Author.Rules.{rules}
-use Rattle.search.proofs.Underway.{tried_none, tried_top, tried_bottomless, tried_lowest, tried_apart, tried_least, tried_middle, underway_few, two_or_more, low_underway, high_underway, middle_underway}
+use borrow.Author.Tests.{eqb-true, eqb-false}
+use Prim.Native.Nat.{◌-◌}
+use Rattle.search.proofs.Underway.{tried_top, tried_lowest, tried_apart, tried_middle, underway_few, two_or_more, low_underway, high_underway, middle_underway}
 use Rattle.search.proofs.steps.next_trial.Goals as goal
 
-pub overflow_add-next : goal.overflow_add-next
-overflow_add-next c = omega (arith, underway_few c.requires.1)
+pub overflow_add-made : goal.overflow_add-made
+overflow_add-made c = omega (arith, underway_few c.requires.1)
 
-pub returns-then-not-trial : goal.returns-then-not-trial
-returns-then-not-trial c = search (tried_none)
+pub returns-then-search-eq0 : goal.returns-then-search-eq0
+returns-then-search-eq0 c = rw c.then_some-class.ensures (tried_top c.requires.1 c.if-search-eq0.true _ c.trial.ensures)
 
-pub returns-else-not-trial : goal.returns-else-not-trial
-returns-else-not-trial c = search (tried_top)
-
-pub returns-then-trial : goal.returns-then-trial
-returns-then-trial c = search tried_bottomless
-
-pub returns-else-trial : goal.returns-else-trial
-returns-else-trial c = search tried_lowest
+pub returns-then-search-eq1 : goal.returns-then-search-eq1
+returns-then-search-eq1 c =
+    rw c.then_some-class-then-search-eq1.ensures (tried_lowest c.requires.1 c.if-search-eq1.true _ c.trial-then-search-eq1.ensures)
 
 pub middle-requires : goal.middle-requires
 middle-requires c = search (low_underway, high_underway, two_or_more)
 
-pub trial-requires-2 : goal.trial-requires-2
-trial-requires-2 c = search (rules, middle_underway, two_or_more)
+pub trial-requires : goal.trial-requires
+trial-requires c = search (rules, middle_underway, two_or_more)
 
-pub next-narrower-requires : goal.next-narrower-requires
-next-narrower-requires c = search (low_underway, high_underway, two_or_more)
+pub next-bracket-requires : goal.next-bracket-requires
+next-bracket-requires c = search (low_underway, high_underway, two_or_more)
 
-pub overflow_sub-next : goal.overflow_sub-next
-overflow_sub-next c = search (tried_apart, two_or_more, rules)
+pub overflow_sub-bracket : goal.overflow_sub-bracket
+overflow_sub-bracket c = search (tried_apart, two_or_more, rules)
 
-pub returns-then-next-eq1 : goal.returns-then-next-eq1
-returns-then-next-eq1 c = search (tried_least, two_or_more)
-
-pub returns-else-next-eq1 : goal.returns-else-next-eq1
-returns-else-next-eq1 c = search (tried_middle, two_or_more)
+pub returns : goal.returns
+returns c =
+    let made = two_or_more _ c.if-search-eq0.false c.if-search-eq1.false in
+    let width = c.next-bracket.result.high - c.next-bracket.result.low in
+    rw c.then_some-class-2.ensures (
+    tried_middle c.requires.1 made c.middle.ensures.1 c.trial-2.ensures _ c.next-bracket.ensures _ (record { yes = eqb-true width 1; no = eqb-false width 1 })
+    )

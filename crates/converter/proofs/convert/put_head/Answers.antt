@@ -1,7 +1,0 @@
-use Prim.Native.Nat.{◌-◌}
-use Rattle.converter.proofs.Steps.{head_put}
-use Rattle.converter.proofs.convert.put_head.Goals as goal
-
-pub returns : goal.returns
-returns c = let a = c.args in
-    head_put c.requires.0 a.out.now (a.size - 4) a.left c.requires.1 c.put_word.ensures c.put_part.ensures c.put_short.ensures c.put_part-2.ensures
