@@ -52,6 +52,8 @@ pub fn read_all<R: Read>(input: &mut R, kept: &mut [u8; KEPT]) -> io::Result<u64
 
 #[cfg(test)]
 mod tests {
+    use super::*;
+
     // Gives this byte three times at each read, so many reads long; then it ends or fails.
     #[derive(Drop)]
     struct Pieces {
