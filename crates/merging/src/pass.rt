@@ -12,5 +12,10 @@ pub fn rows_stand(rows: &Rows, x: &[u32; STRIDE]) -> bool
     requires { BothSides rows.now × Lows rows.now.width x.now }
     ensures { Stand (system_in rows.now []) (point_of (highs x.now)) result }
 {
-    (0..rows.count).all(|i| rows.left_side(i, x) <= rows.right_side(i, x))
+    for i in 0..rows.count {
+        if rows.right_side(i, x) < rows.left_side(i, x) {
+            return false;
+        }
+    }
+    true
 }

@@ -11,6 +11,7 @@ ghost use Rattle.merging.specs.Plans.{LowPlan};
 
 use crate::pass::rows_stand;
 use policy_iteration::ends::ends_of;
+use policy_iteration::rows::Rows;
 use policy_iteration::values::LOW;
 use records::limits::{STRIDE, TABLE};
 
@@ -32,10 +33,8 @@ fn low_plan(stamps: &[u64; STRIDE], count: usize) -> [u32; STRIDE]
     ensures { LowPlan stamps.now count result }
 {
     let mut x = [0u32; STRIDE];
-    let mut j: usize = 0;
-    while j < count {
+    for j in 0..count {
         x[j] = low_stamp(stamps[j]);
-        j += 1;
     }
     x
 }
@@ -52,12 +51,18 @@ pub fn both_keep(
     requires { Tables left.now right.now (n + 1) m × Stamped first.now × Stamped second.now }
     ensures { (p : Problem) → InTables p n m left.now right.now → Decides (KeepsRules p (stamps_point first.now) × KeepsRules p (stamps_point second.now)) result }
 {
-    let lefts = ends_of(left, m);
-    let rights = ends_of(right, m);
+    let rows = Rows {
+        left,
+        right,
+        left_ends: &ends_of(left, m),
+        right_ends: &ends_of(right, m),
+        width: n + 1,
+        count: m,
+    };
     let x = low_plan(first, n + 1);
-    if !rows_stand(left, right, &lefts, &rights, &x, n + 1, m) {
+    if !rows_stand(&rows, &x) {
         return false;
     }
     let y = low_plan(second, n + 1);
-    rows_stand(left, right, &lefts, &rights, &y, n + 1, m)
+    rows_stand(&rows, &y)
 }

@@ -1,22 +1,12 @@
-use Rattle.policy_iteration.proofs.Steps.{table_raised}
-use Rattle.merging.proofs.Passing.{stand_more, stand_not, stand_all}
 use native.Mathlib.Omega.{arith}
+use Rattle.merging.proofs.Passing.{stand_more, stand_not, stand_all}
 use Rattle.merging.proofs.pass.rows_stand.Goals as goal
 
-pub loop-i-init : goal.loop-i-init
-loop-i-init c = (omega arith, λ i h. absurd (omega arith))
-
-pub side-here-requires : goal.side-here-requires
-side-here-requires c = let p = c.requires in (omega (arith, p.0.rows_most), p.0.width_most, p.0.rights, p.1, p.3.each _ c.loop-i-test.true)
-
-pub side-there-requires : goal.side-there-requires
-side-there-requires c = let p = c.requires in (omega (arith, p.0.rows_most), p.0.width_most, table_raised p.0.lefts, p.1, p.2.each _ c.loop-i-test.true)
-
-pub returns-then-here-there : goal.returns-then-here-there
-returns-then-here-there c = let a = c.args in stand_not a.x.now a.rows c.side-here.ensures c.side-there.ensures c.loop-i-test.true c.if-here-there.true
-
 pub loop-i-preserved : goal.loop-i-preserved
-loop-i-preserved c = let a = c.args in (omega arith, stand_more a.x.now a.rows c.side-here.ensures c.side-there.ensures (λ l. omega arith) c.loop-i.invariant.1)
+loop-i-preserved c = let a = c.args in stand_more a.x.now a.rows.now.count c.right_side.ensures c.left_side.ensures (λ l. omega arith) c.loop-i.invariant
 
 pub returns : goal.returns
-returns c = stand_all c.loop-i.invariant.1 c.loop-i-test.false
+returns c = stand_all c.loop-i.invariant (omega arith)
+
+pub returns-then-right_side-left_side : goal.returns-then-right_side-left_side
+returns-then-right_side-left_side c = let a = c.args in stand_not a.x.now a.rows.now.count c.right_side.ensures c.left_side.ensures (omega arith) c.if-right_side-left_side.true

@@ -2,10 +2,10 @@ use Rattle.merging.proofs.Rows.{low_lows, stand_keeps, first_no, then_second}
 use Rattle.merging.proofs.rules.both_keep.Goals as goal
 
 pub rows_stand-requires : goal.rows_stand-requires
-rows_stand-requires c = let p = c.requires in (p.0, low_lows _ _ p.1 c.low_plan-x.ensures, c.ends_of-lefts.ensures, c.ends_of-rights.ensures)
+rows_stand-requires c = let p = c.requires in (record { right = record { tables = p.0; right_are = c.ends_of-2.ensures }; left_are = c.ends_of.ensures }, low_lows _ _ p.1 c.low_plan-x.ensures)
 
 pub rows_stand-requires-2 : goal.rows_stand-requires-2
-rows_stand-requires-2 c = let p = c.requires in (p.0, low_lows _ _ p.2 c.low_plan-y.ensures, c.ends_of-lefts.ensures, c.ends_of-rights.ensures)
+rows_stand-requires-2 c = let p = c.requires in (record { right = record { tables = p.0; right_are = c.ends_of-2.ensures }; left_are = c.ends_of.ensures }, low_lows _ _ p.2 c.low_plan-y.ensures)
 
 pub returns-then-not-rows_stand : goal.returns-then-not-rows_stand
 returns-then-not-rows_stand c p t = first_no (stand_keeps t _ c.low_plan-x.ensures c.rows_stand.ensures) c.if-not-rows_stand.true
