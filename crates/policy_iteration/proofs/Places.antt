@@ -128,9 +128,6 @@ bits_fit table row n bits r h e d =
     let g : 2 ^ (n + 1) ≤ 2 ^ 32 = pow_mono {i = n + 1} {j = 32} (omega arith) in
     omega arith
 
-pub bits_end : (table : List ℕ) (row n bits : ℕ) → n ≤ 32 → 32 ≤ n → bits ≡ bits_in table row n → bits ≡ bits_in table row 32
-bits_end table row n bits h k e = let d : n ≡ 32 = omega arith in subst (λ (z : ℕ). bits ≡ bits_in table row z) d e
-
 -- ---- the ends
 
 -- The ends of a row that was not looked at.

@@ -53,10 +53,6 @@ stepped_by s i j x = cond (ltb i s.rows) (difference (side_of s (s.right i) x) (
 abbrev pub Stepped : System → Strategy → Point → List ℕ → Type 0
 Stepped s τ x out = Filled (λ j v. trop_of v ≡ stepped_by s (τ j) j x) stride s.variables out
 
--- The low number of an exit: 0 where the pick is a row, else the cap.
-abbrev pub exit_number : ℕ → ℕ → ℕ → ℕ
-exit_number rows cap pick = cond (ltb pick rows) 0 cap
-
 -- The exits of a strategy.
 abbrev pub Exits : System → Strategy → ℕ → List ℕ → Type 0
 Exits s τ n out = Filled (λ j v. trop_of v ≡ exits s τ j) stride n out

@@ -39,6 +39,7 @@ fn fold(k: u32) -> u32
 
 // The largest of coefficient + variable in a row, at low values. All 32 places are looked at, whatever the width: past it
 // there are blanks. The sums are compared as fields, with their signs: for these the processor has vectors.
+#[inline(always)]
 fn full_sum(table: &[u32; TABLE], row: usize, x: &[u32; STRIDE], width: usize) -> u32
     requires { (row < table_rows) × (width ≤ stride) × Table raised_limit table.now × Lows width x.now }
     ensures { SideIs table.now row (highs x.now) width (folded result) }
@@ -62,7 +63,9 @@ fn end_sum(table: &[u32; TABLE], ends: Ends, row: usize, x: &[u32; STRIDE], widt
     (table[base + first] + x[first]).max(table[base + last] + x[last])
 }
 
-// The same by its ends or whole.
+// The same by its ends or whole. Inlined, as `full_sum` and the sides below: known ends are else stored to be passed, and the two sides of
+// a row share the vectors of x.
+#[inline(always)]
 fn row_sum(
     table: &[u32; TABLE],
     ends: Option<Ends>,
@@ -79,7 +82,18 @@ fn row_sum(
     }
 }
 
-// One side of a row at low values. Public for `rows` and `look::greatest`.
+// One side of a row at low values.
+#[inline(always)]
+pub fn full_side(table: &[u32; TABLE], row: usize, x: &[u32; STRIDE], width: usize) -> u32
+    requires { (row < table_rows) × (width ≤ stride) × Table raised_limit table.now × Lows width x.now }
+    ensures { SideIs table.now row (highs x.now) width result }
+{
+    fold(full_sum(table, row, x, width))
+}
+
+// One side of a row at low values, by its ends or whole. Each is folded by itself: folded after `row_sum`, a pass would be slower by a
+// tenth. Public for `rows` and `look::greatest`.
+#[inline(always)]
 pub fn side(
     table: &[u32; TABLE],
     ends: Option<Ends>,
@@ -90,7 +104,10 @@ pub fn side(
     requires { (row < table_rows) × (width ≤ stride) × Table raised_limit table.now × Lows width x.now × RowEnds table.now row ends }
     ensures { SideIs table.now row (highs x.now) width result }
 {
-    fold(row_sum(table, ends, row, x, width))
+    match ends {
+        Some(two) => fold(end_sum(table, two, row, x, width)),
+        None => full_side(table, row, x, width),
+    }
 }
 
 // An offset number less another. Public for `class_answers::answer`.
@@ -140,7 +157,8 @@ fn exits(caps: &[u32; STRIDE], picks: &[u32; STRIDE], width: usize, rows: usize)
     out
 }
 
-// The two arrays agree. All places are compared, so that the loop has no branch: `==` stops at the first that differs.
+// The two arrays agree. All places are compared, so that the loop has no branch: `==` stops at the first that differs, and is no
+// vector code.
 fn same(x: &[u32; STRIDE], y: &[u32; STRIDE]) -> bool
     requires { (length x.now ≡ stride) × (length y.now ≡ stride) }
     ensures { result ≡ true → SameUpTo stride x.now y.now }

@@ -1,7 +1,3 @@
-use mathlib.Core.Path.{◌≡◌, sym, ◌∙◌}
-use native.Mathlib.Omega.{arith}
-use borrow.Author.Rules.{rules}
-use lib.Seq.{ext_get_or}
 use Rattle.policy_iteration.specs.Rows.{system_in}
 use Rattle.policy_iteration.proofs.Steps.{kept_none, values_within, step_kept, step_lower, step_end}
 use Rattle.policy_iteration.proofs.rows.Rows.iterate.Goals as goal
@@ -30,5 +26,4 @@ pub returns : goal.returns
 returns c = let pre = c.requires in
     let turn = c.loop-x.invariant in
     let end = step_end c.passes.ensures pre.1 pre.0.right.tables turn.0 turn.1 c.loop-x-test.false in
-    let same : c.map.result ≡ c.passes.new.picks = ext_get_or 0 _ _ (c.map.ensures.items.long ∙ sym end.size) (λ k h. let at = c.map.ensures.items.at k 0 0 (omega (arith, c.map.ensures.items.long)) in search rules) in
-    rw same end
+    rw c.indices.ensures end
