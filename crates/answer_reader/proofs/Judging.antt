@@ -1,5 +1,5 @@
 -- The answer whose body the reader judges, and what the reader answers.
-use Rattle.std.proofs.Common.{◌≡◌, ℕ, zero, suc, ◌+◌, ◌≤◌, ◌<◌, Bool, true, false, ◌&&◌, List, [], ◌∷◌, map, length, take, eqb, Result, Ok, Err, refl, ap, ap₂, sym, ◌∙◌, arith}
+use Rattle.std.proofs.Common.{◌≡◌, ℕ, zero, suc, ◌+◌, ◌≤◌, ◌<◌, ◌&&◌, List, [], ◌∷◌, map, length, take, eqb, Result, Ok, Err, refl, ap₂, sym, ◌∙◌, arith}
 use borrow.Author.Tests.{eqb-true}
 use Rattle.definitions.specs.Limits.{highest_n, highest_m, length_bytes, signed_bytes, signed_full, span_place, answer_kind, answer_header}
 use Rattle.definitions.specs.Bytes.{Bytes, num_at, trop_field, trop_at, or_else}

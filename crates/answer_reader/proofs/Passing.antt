@@ -1,9 +1,9 @@
 -- The tests of form as the code makes them, element by element, and the elements of runs in bytes.
-use Rattle.std.proofs.Common.{◌≡◌, ℕ, zero, suc, ◌+◌, ◌*◌, ◌≤◌, ◌<◌, Bool, ◌&&◌, List, [], ◌∷◌, map, length, get_or, refl, sym, ap, ap₂, ◌∙◌, ne_eqb, arith}
+use Rattle.std.proofs.Common.{◌≡◌, ℕ, zero, suc, ◌+◌, ◌*◌, ◌<◌, Bool, ◌&&◌, List, [], ◌∷◌, map, length, get_or, refl, sym, ap, ne_eqb, arith}
 use Rattle.std.specs.List.{list_all, enumerate_from}
 use lib.ListN.{length-map, get_or-map}
 use Rattle.definitions.specs.Limits.{stamp_limit, short_bytes, signed_bytes, answer_header}
-use Rattle.definitions.specs.Tropical.{Trop, bot}
+use Rattle.definitions.specs.Tropical.{bot}
 use Rattle.definitions.specs.Bytes.{num_at, nums_at, all, blank_or_within}
 use Rattle.definitions.specs.Offset.{trop_of, off}
 use Rattle.definitions.specs.AnswerRecord.{is_zero, stamps_fit}

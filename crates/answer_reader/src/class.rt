@@ -45,8 +45,7 @@ pub fn pick_count(class: u64, n: usize, m: usize) -> usize
     }
 }
 
-// The highest pick: 1 + a moment's number for bottomless, m + 1, the question, for least and none. Public for `answer` and
-// `answer_writer::writer`.
+// The highest pick: 1 + a moment's number for bottomless, m + 1, the question, for least and none. Public for `answer`.
 pub fn highest_pick(class: u64, n: usize, m: usize) -> u64
     requires { (n ≤ highest_n) × (m ≤ highest_m) }
     ensures { result ≡ highest_pick class n m }
@@ -59,7 +58,7 @@ pub fn highest_pick(class: u64, n: usize, m: usize) -> u64
 }
 
 // The span, an offset number, has the form of its class: whole and within its limit for least, blank for bottomless and none.
-// Public for `answer` and `answer_writer::writer`.
+// Public for `answer`.
 pub fn span_fits(class: u64, span: u64) -> bool
     ensures { result ≡ span_fits class (trop_of span) }
 {

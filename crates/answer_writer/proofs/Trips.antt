@@ -1,9 +1,9 @@
 -- Round trips: an answer written is read back as it was, an answer read is written back as it was.
-use Rattle.std.proofs.Common.{◌≡◌, ℕ, zero, suc, ◌+◌, ◌≤◌, ◌<◌, List, [], ◌∷◌, map, length, take, Result, Ok, Err, refl, sym, ap, ap₂, ◌∙◌, ⊎_elim, lt-ltb, le-ltb, arith}
+use Rattle.std.proofs.Common.{◌≡◌, ℕ, ◌+◌, ◌≤◌, ◌<◌, List, [], ◌∷◌, map, length, take, Result, Ok, Err, refl, sym, ap, ap₂, ◌∙◌, ⊎_elim, lt-ltb, le-ltb, arith}
 use Rattle.base.proofs.Numbers.{nat_le_or_lt}
 use Rattle.definitions.specs.Limits.{highest_n, highest_m, answer_most}
 use Rattle.definitions.specs.Tropical.{Trop}
-use Rattle.definitions.specs.Bytes.{Bytes, put, or_else, outcome}
+use Rattle.definitions.specs.Bytes.{Bytes, put, outcome}
 use Rattle.definitions.specs.Offset.{trop_of}
 use Rattle.definitions.specs.AnswerRecord.{Answer, stamp_count, pick_count, answer_size, class_field, span_field, start_field, answer_of, answer_bytes, answer_refusal, answer_outcome, writer_refusal, writer_judged, writer_outcome, written}
 use Rattle.definitions.proofs.Put.{take_put, length_put}

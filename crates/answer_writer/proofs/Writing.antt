@@ -1,5 +1,5 @@
 -- Laws of writing: the low bytes of a number, runs of fields put one after the other, the refusals in the code's order.
-use Rattle.std.proofs.Common.{◌≡◌, ℕ, zero, suc, ◌+◌, ◌*◌, ◌-◌, ◌/◌, ◌%◌, ◌^◌, ◌≤◌, ◌<◌, Bool, true, false, ◌&&◌, List, [], ◌∷◌, ◌++◌, map, length, get_or, take, Ok, Err, refl, sym, ap, ap₂, ◌∙◌, ⊎_elim, append_assoc, add-one, length-append, length-take-le, mul-le-mul_left, arith}
+use Rattle.std.proofs.Common.{◌≡◌, ℕ, zero, suc, ◌+◌, ◌*◌, ◌-◌, ◌/◌, ◌%◌, ◌^◌, ◌≤◌, ◌<◌, true, List, [], ◌∷◌, ◌++◌, map, length, get_or, take, Ok, Err, refl, sym, ap, ap₂, ◌∙◌, ⊎_elim, append_assoc, add-one, length-append, length-take-le, arith}
 use Rattle.std.proofs.lemmas.List.{length-map}
 use Rattle.std.specs.Int.{w64, to_le_bytes, bytes_low_first, byte_at}
 use native.Mathlib.Nat.{div-one, div-div-eq-div-mul, suc-add, pow-suc}
@@ -57,13 +57,6 @@ copied_put l at k n x e f =
 -- ---- a run of fields
 
 module _ (k : ℕ) (l : List ℕ) (at : ℕ) (xs : List ℕ) (room : at + k * length xs ≤ length l) {i : ℕ} {l₁ : List ℕ} (e : l₁ ≡ put l at (fields k (take i xs))) where
-  -- So far the length is as it was.
-  pub run_length : i ≤ length xs → length l₁ ≡ length l
-  run_length h =
-      let n : length (fields k (take i xs)) ≡ k * i = length_fields k (take i xs) ∙ rw (length-take-le i xs h) refl in
-      let less : k * i ≤ k * length xs = mul-le-mul_left k h in
-      rw e (length_put l at (fields k (take i xs)) (omega arith) (omega arith))
-
   -- One field more.
   pub run_more : i < length xs → {x : ℕ} {l₂ : List ℕ} → x ≡ get_or xs i 0 → l₂ ≡ put l₁ (at + k * i) (le k x) → l₂ ≡ put l at (fields k (take (i + 1) xs))
   unfolding fields

@@ -9,6 +9,7 @@ ghost use Rattle.records.specs.Refusals.{refused_by};
 ghost use Rattle.answer_reader.specs.Fields.{fields_of};
 ghost use Rattle.answer_writer.specs.AnswerWriting.{header_bytes, record_bytes, AnswerWritten};
 
+// Public for `merging::plan`.
 pub use answer_reader::answer::stamps_fit;
 use answer_reader::answer::{Head, judge_form};
 use answer_reader::class::{answer_size, pick_count, stamp_count, start_fits};
@@ -79,7 +80,7 @@ pub fn put_stamps(stamps: &[u64], buffer: &mut [u8], at: usize)
     }
 }
 
-// The picks put from a place on.
+// The picks put from a place on. (One function for this loop and that of `put_stamps` would take a closure with clauses: no plainer.)
 fn put_picks(picks: &[u64], buffer: &mut [u8], at: usize)
     requires { at + short_bytes * length picks.now ≤ length buffer.old }
     ensures { buffer.new ≡ put buffer.old at (fields short_bytes picks.now) }

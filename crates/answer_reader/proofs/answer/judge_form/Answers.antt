@@ -1,4 +1,4 @@
-use Rattle.std.proofs.Common.{rules, tests}
+use Rattle.std.proofs.Common.{rules}
 use Rattle.definitions.specs.AnswerRecord.{form_refusal}
 use Rattle.answer_reader.proofs.answer.judge_form.Goals as goal
 use Rattle.answer_reader.proofs.answer.judge_form.Goals.{then-not-span_fits-via-then-not-span_fits, then-not-span_fits-via-else-not-span_fits+then-not-stamps_fit}

@@ -1,4 +1,4 @@
-use Rattle.std.proofs.Common.{◌∙◌, eq-eqb, ne_eqb}
+use Rattle.std.proofs.Common.{eq-eqb, ne_eqb}
 use Rattle.definitions.proofs.Offset.{zero_offset}
 use Rattle.answer_reader.specs.Fields.{stamp_fits}
 use Rattle.answer_reader.proofs.answer.stamp_fits.Goals as goal

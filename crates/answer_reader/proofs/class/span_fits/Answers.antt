@@ -1,4 +1,4 @@
-use Rattle.std.proofs.Common.{◌∙◌, rules, tests}
+use Rattle.std.proofs.Common.{rules}
 use Rattle.definitions.specs.AnswerRecord.{span_fits}
 use Rattle.definitions.proofs.Offset.{blank_offset}
 use Rattle.records.proofs.Tests as records

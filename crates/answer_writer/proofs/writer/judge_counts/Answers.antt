@@ -1,4 +1,4 @@
-use Rattle.std.proofs.Common.{◌≡◌, sym, ◌∙◌, ◌&&◌, true, false, eqb, eq-eqb, ne_eqb}
+use Rattle.std.proofs.Common.{◌≡◌, sym, ◌∙◌, ◌&&◌, true, false, eqb, eq-eqb, ne_eqb, arith}
 use Rattle.definitions.specs.AnswerRecord.{known_class, start_fits, stamp_count, pick_count, writer_judged}
 use Rattle.records.proofs.Tests.{tests}
 use Rattle.answer_writer.proofs.writer.judge_counts.Goals as goal
@@ -27,10 +27,10 @@ returns-then-stamps-stamp_count c =
     let known : (known_class h.class && start_fits h.class h.start c.args.n) ≡ true = sym c.start_fits.ensures ∙ c.if-not-start_fits.false in
     elim c.then-stamps-stamp_count.branch [
       | then-stamps-stamp_count-via-then-stamps-stamp_count w ↦
-          (let stamps : eqb c.args.stamps (stamp_count h.class c.args.n) ≡ false = ne_eqb _ _ (λ s. w.if-stamps-stamp_count.true (s ∙ sym c.stamp_count.ensures.0)) in search (tests, known, stamps))
+          (let stamps : eqb c.args.stamps (stamp_count h.class c.args.n) ≡ false = ne_eqb _ _ (λ s. omega arith) in search (tests, known, stamps))
       | then-stamps-stamp_count-via-else-stamps-stamp_count+then-picks-pick_count w ↦
-          (let stamps : eqb c.args.stamps (stamp_count h.class c.args.n) ≡ true = eq-eqb _ _ (w.if-stamps-stamp_count.false ∙ c.stamp_count.ensures.0) in
-          let picks : eqb c.args.picks (pick_count h.class c.args.n c.args.m) ≡ false = ne_eqb _ _ (λ s. w.if-picks-pick_count.true (s ∙ sym w.pick_count.ensures.0)) in
+          (let stamps : eqb c.args.stamps (stamp_count h.class c.args.n) ≡ true = eq-eqb _ _ (omega arith) in
+          let picks : eqb c.args.picks (pick_count h.class c.args.n c.args.m) ≡ false = ne_eqb _ _ (λ s. omega arith) in
           search (tests, known, stamps, picks))
     ]
 
@@ -39,6 +39,6 @@ unfolding writer_judged
 returns c =
     let h = c.args.head in
     let known : (known_class h.class && start_fits h.class h.start c.args.n) ≡ true = sym c.start_fits.ensures ∙ c.if-not-start_fits.false in
-    let stamps : eqb c.args.stamps (stamp_count h.class c.args.n) ≡ true = eq-eqb _ _ (c.if-stamps-stamp_count.false ∙ c.stamp_count.ensures.0) in
-    let picks : eqb c.args.picks (pick_count h.class c.args.n c.args.m) ≡ true = eq-eqb _ _ (c.if-picks-pick_count.false ∙ c.pick_count.ensures.0) in
+    let stamps : eqb c.args.stamps (stamp_count h.class c.args.n) ≡ true = eq-eqb _ _ (omega arith) in
+    let picks : eqb c.args.picks (pick_count h.class c.args.n c.args.m) ≡ true = eq-eqb _ _ (omega arith) in
     search (tests, known, stamps, picks)
