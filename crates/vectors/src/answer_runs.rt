@@ -1,35 +1,12 @@
 // The answer reader run on a record, for the n and m of a problem that are handed over.
 use crate::build::Record;
-use crate::noise::{NUMBER, touched};
+use crate::noise::{NUMBER, show_touched};
 use crate::print::{Minutes, edge};
 use crate::script::Case;
 use answer_reader::answer::{Head, read_answer};
 use records::class::Class;
 use records::limits::{ROWS, STRIDE};
-use records::refusal::Refusal;
 use std::io;
-
-fn show_refused(
-    rt: &impl Print,
-    refusal: Refusal,
-    stamps: &[u64],
-    picks: &[u64],
-) -> io::Result<()> {
-    print!(rt; "refused {}", refusal.number())?;
-    if touched(stamps, &NUMBER) {
-        print!(rt; ", stamps touched")?;
-    }
-    if touched(picks, &NUMBER) {
-        print!(rt; ", picks touched")?;
-    }
-    Ok(())
-}
-
-fn show_head(rt: &impl Print, head: Head) -> io::Result<()> {
-    let Head { class, span, start } = head;
-    let span = Minutes(span);
-    print!(rt; "read, class {class} span {span} start {start}")
-}
 
 // The first and the last stamp of an answer that was read.
 fn show_stamps(rt: &impl Print, stamps: &[u64; STRIDE], last: usize) -> io::Result<()> {
@@ -45,26 +22,41 @@ fn show_picks(rt: &impl Print, picks: &[u64; ROWS], last: usize) -> io::Result<(
     print!(rt; ", picks {first} to {last}")
 }
 
-// Reads the bytes for a problem's n and m and prints what came of it: of stamps and picks what the class has.
+// What was read: of stamps and picks what the class has.
+fn show_read(
+    rt: &impl Print,
+    head: Head,
+    n: usize,
+    m: usize,
+    stamps: &[u64; STRIDE],
+    picks: &[u64; ROWS],
+) -> io::Result<()> {
+    let Head { class, span, start } = head;
+    print!(rt; "read, class {class} span {} start {start}", Minutes(span))?;
+    match Class::try_from(class) {
+        Ok(Class::Optimal) => {
+            show_stamps(rt, stamps, n)?;
+            show_picks(rt, picks, n)
+        }
+        Ok(Class::Unbounded) => show_picks(rt, picks, m),
+        Ok(Class::Infeasible) => show_picks(rt, picks, n),
+        Err(_) => Ok(()),
+    }
+}
+
+// Reads the bytes for a problem's n and m and prints what came of it.
 pub fn run(rt: &(impl Print + AllocGlobal), case: Case<'_>) -> io::Result<()> {
     let Record { bytes, n, m, .. } = Record::read(rt.alloc(), case.marks())?;
     let mut stamps = [NUMBER; STRIDE];
     let mut picks = [NUMBER; ROWS];
     edge(rt, "answer", case)?;
     match read_answer(&bytes, n, m, &mut stamps, &mut picks) {
-        Ok(head) => {
-            show_head(rt, head)?;
-            match Class::try_from(head.class) {
-                Ok(Class::Optimal) => {
-                    show_stamps(rt, &stamps, n)?;
-                    show_picks(rt, &picks, n)?;
-                }
-                Ok(Class::Unbounded) => show_picks(rt, &picks, m)?,
-                Ok(Class::Infeasible) => show_picks(rt, &picks, n)?,
-                Err(_) => (),
-            }
+        Ok(head) => show_read(rt, head, n, m, &stamps, &picks)?,
+        Err(refusal) => {
+            print!(rt; "refused {}", refusal.number())?;
+            show_touched(rt, &stamps, &NUMBER, "stamps")?;
+            show_touched(rt, &picks, &NUMBER, "picks")?;
         }
-        Err(refusal) => show_refused(rt, refusal, &stamps, &picks)?,
     }
     println!(rt)
 }

@@ -24,7 +24,8 @@ pub struct Record {
 
 // Puts a field at a place, and gives the place after it. What is past the end stays out.
 fn put(bytes: &mut [u8], at: usize, field: &[u8]) -> usize {
-    for (byte, new) in bytes.iter_mut().skip(at).zip(field) {
+    let rest = bytes.get_mut(at..).unwrap_or(&mut []);
+    for (byte, new) in rest.iter_mut().zip(field) {
         *byte = *new;
     }
     at.saturating_add(field.len())
@@ -53,12 +54,9 @@ fn put_ring(bytes: &mut [u8], left: u64) {
     put_blanks(bytes);
     for i in 0..STRIDE {
         let row = PROBLEM_HEADER + ROW * i;
+        let next = (i + 1) % STRIDE;
         put_word(bytes, row + LEAD_BYTES * i, left);
-        put_word(
-            bytes,
-            row + ROW / 2 + LEAD_BYTES * ((i + 1) % STRIDE),
-            minus(left),
-        );
+        put_word(bytes, row + ROW / 2 + LEAD_BYTES * next, minus(left));
     }
 }
 

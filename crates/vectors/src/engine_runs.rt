@@ -4,8 +4,37 @@ use crate::noise::{BUFFER, BYTE, show_refused, show_written};
 use crate::print::edge;
 use crate::script::Case;
 use crate::verdicts::{Found, judged};
-use engine::solve::{Answered, Solution, solve};
+use engine::solve::{Solution, solve};
 use std::io;
+
+// What was answered, and the verdict on the bytes that were written; of several questions how many they are.
+fn show_solved(
+    rt: &impl Print,
+    problem: &[u8],
+    solution: Solution,
+    buffer: &[u8],
+) -> io::Result<()> {
+    match solution {
+        Solution::One(answered) => {
+            let found = Found {
+                class: answered.class,
+                span: answered.span,
+            };
+            print!(rt; "{found}, trials {}, ", answered.trials)?;
+            show_written(rt, answered.size, buffer)?;
+            print!(rt; ", ")?;
+            judged(rt, problem, buffer.get(..answered.size).unwrap_or(&[]))
+        }
+        Solution::All {
+            count,
+            trials,
+            size,
+        } => {
+            print!(rt; "questions {count}, trials {trials}, ")?;
+            show_written(rt, size, buffer)
+        }
+    }
+}
 
 // Runs the engine with so many bytes of room and prints what came of it.
 pub fn run(rt: &(impl Print + AllocGlobal), case: Case<'_>) -> io::Result<()> {
@@ -13,31 +42,7 @@ pub fn run(rt: &(impl Print + AllocGlobal), case: Case<'_>) -> io::Result<()> {
     let mut buffer = [BYTE; BUFFER];
     edge(rt, "engine", case)?;
     match solve(&bytes, buffer.get_mut(..room).unwrap_or(&mut [])) {
-        Ok(
-            Solution::One(
-                Answered {
-                    class,
-                    span,
-                    trials,
-                    size,
-                },
-            ),
-        ) => {
-            print!(rt; "{}, trials {trials}, ", Found { class, span })?;
-            show_written(rt, size, &buffer)?;
-            print!(rt; ", ")?;
-            judged(rt, &bytes, buffer.get(..size).unwrap_or(&[]))?;
-        }
-        Ok(
-            Solution::All {
-                count,
-                trials,
-                size,
-            },
-        ) => {
-            print!(rt; "questions {count}, trials {trials}, ")?;
-            show_written(rt, size, &buffer)?;
-        }
+        Ok(solution) => show_solved(rt, &bytes, solution, &buffer)?,
         Err(refusal) => show_refused(rt, refusal, &buffer)?,
     }
     println!(rt)

@@ -16,6 +16,19 @@ pub fn touched<T: PartialEq>(list: &[T], noise: &T) -> bool {
     list.iter().any(|x| x != noise)
 }
 
+// The name of a lent list where it is noise no more.
+pub fn show_touched<T: PartialEq>(
+    rt: &impl Print,
+    list: &[T],
+    noise: &T,
+    name: &str,
+) -> io::Result<()> {
+    if touched(list, noise) {
+        print!(rt; ", {name} touched")?;
+    }
+    Ok(())
+}
+
 // The bytes of a buffer from a place on, in a word.
 fn word_from(buffer: &[u8], at: usize) -> &'static str {
     if touched(buffer.get(at..).unwrap_or(&[]), &BYTE) {

@@ -1,12 +1,11 @@
 // The problem reader run on a record.
 use crate::build::Record;
-use crate::noise::{LEAD, touched};
+use crate::noise::{LEAD, show_touched};
 use crate::print::{Minutes, edge};
 use crate::script::Case;
 use problem_records::reader::read_problem;
 use records::limits::{STRIDE, TABLE};
 use records::problem::{CHECKER_KINDS, Layout};
-use records::refusal::Refusal;
 use std::io;
 
 // A lead of a table, blank where there is none.
@@ -23,17 +22,6 @@ fn show_read(rt: &impl Print, layout: Layout, left: &[u32], right: &[u32]) -> io
     print!(rt; "read, n {n} m {m}, leads {first} to {last}")
 }
 
-fn show_refused(rt: &impl Print, refusal: Refusal, left: &[u32], right: &[u32]) -> io::Result<()> {
-    print!(rt; "refused {}", refusal.number())?;
-    if touched(left, &LEAD) {
-        print!(rt; ", left table touched")?;
-    }
-    if touched(right, &LEAD) {
-        print!(rt; ", right table touched")?;
-    }
-    Ok(())
-}
-
 // Reads the bytes and prints what came of it.
 pub fn run(rt: &(impl Print + AllocGlobal), case: Case<'_>) -> io::Result<()> {
     let record = Record::read(rt.alloc(), case.marks())?;
@@ -42,7 +30,11 @@ pub fn run(rt: &(impl Print + AllocGlobal), case: Case<'_>) -> io::Result<()> {
     edge(rt, "problem", case)?;
     match read_problem(&record.bytes, CHECKER_KINDS, &mut left, &mut right) {
         Ok(layout) => show_read(rt, layout, &left, &right)?,
-        Err(refusal) => show_refused(rt, refusal, &left, &right)?,
+        Err(refusal) => {
+            print!(rt; "refused {}", refusal.number())?;
+            show_touched(rt, &left, &LEAD, "left table")?;
+            show_touched(rt, &right, &LEAD, "right table")?;
+        }
     }
     println!(rt)
 }

@@ -32,6 +32,11 @@ impl<'a> Case<'a> {
         (Marks::of(first.get(1..)), Marks::of(second))
     }
 
+    // The text behind the letter and a space; a line of one byte is the text itself.
+    pub fn text(self) -> &'a [u8] {
+        self.0.get(2..).unwrap_or(self.0)
+    }
+
     // The words.
     pub fn words(self) -> &'a [u8] {
         let at = before(self.0, b';').len() + 2;

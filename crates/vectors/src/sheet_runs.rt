@@ -7,9 +7,9 @@ use hour_texts::reader::read_hours;
 use hour_texts::writer::write_hours;
 use std::io;
 
-// Reads a text and prints what came of it. The text is what follows the letter and a space.
+// Reads a text and prints what came of it.
 pub fn run_read(rt: &impl Print, case: Case<'_>) -> io::Result<()> {
-    let text = case.0.get(2..).unwrap_or(case.0);
+    let text = case.text();
     print!(rt; "hours read, ")?;
     rt.write_all(text)?;
     match read_hours(text) {
