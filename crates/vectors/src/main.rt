@@ -6,7 +6,6 @@ mod answer_runs;
 mod build;
 mod cases;
 mod checker_runs;
-mod cut;
 mod engine_runs;
 mod noise;
 mod print;
@@ -17,6 +16,8 @@ mod sheet_runs;
 mod verdicts;
 mod writer_runs;
 
-fn main(rt: HostRuntime) {
-    cases::run(&rt);
+use std::io;
+
+fn main(rt: HostRuntime) -> io::Result<()> {
+    cases::run(&rt)
 }

@@ -1,88 +1,64 @@
 // The problem reader run on a record.
-ghost use Rattle.std.specs.Prelude.{◌≤◌};
-
-use crate::{noise, print};
+use crate::build::Record;
+use crate::noise::{LEAD, show_touched};
+use crate::print::{Minutes, edge};
+use crate::script::Case;
 use problem_records::reader::read_problem;
-use records::limits::TABLE;
-use records::problem::{CHECKER_KINDS, Header};
+use records::limits::{STRIDE, TABLE};
+use records::problem::{CHECKER_KINDS, Layout};
+use std::io;
 
-fn wide(x: u32) -> u64 {
-    x as u64
+// A lead of a table, blank where there is none.
+fn lead_at(table: &[u32], row: usize, column: usize) -> Minutes {
+    let row = table.chunks(STRIDE).nth(row).unwrap_or(&[]);
+    Minutes(row.get(column).map_or(0, |lead| u64::from(*lead)))
 }
 
-// An element of a table, blank where there is none.
-fn lead_at(table: &[u32; TABLE], at: usize) -> u64 {
-    if at < table.len() { wide(table[at]) } else { 0 }
-}
-
-// The right lead of the last variable in the question.
-fn last_lead(right: &[u32; TABLE], n: usize, m: usize) -> u64 {
-    if n >= 32 {
-        return 0;
-    }
-    if m >= 64 {
-        return 0;
-    }
-    lead_at(right, 32 * m + n)
-}
-
-// The first left lead and the last right one of a problem that was read.
-fn show_read(rt: &impl Print, n: usize, m: usize, left: &[u32; TABLE], right: &[u32; TABLE]) {
-    print::counted(rt, b"read, n ", n as u64);
-    print::counted(rt, b" m ", m as u64);
-    print::text(rt, b", leads ");
-    print::minutes(rt, lead_at(left, 0));
-    print::text(rt, b" to ");
-    print::minutes(rt, last_lead(right, n, m));
-}
-
-fn show_refused(rt: &impl Print, number: usize, left: &[u32; TABLE], right: &[u32; TABLE]) {
-    print::counted(rt, b"refused ", number as u64);
-    noise::show_leads(rt, left, b", left table touched");
-    noise::show_leads(rt, right, b", right table touched");
+// The first left lead and the last right one of a problem that was read: that of the last variable in the question.
+fn show_read(rt: &impl Print, layout: Layout, left: &[u32], right: &[u32]) -> io::Result<()> {
+    let Layout { n, m, .. } = layout;
+    let first = lead_at(left, 0, 0);
+    let last = lead_at(right, m, n);
+    print!(rt; "read, n {n} m {m}, leads {first} to {last}")
 }
 
 // Reads the bytes and prints what came of it.
-pub fn run(rt: &impl Print, line: &[u8], bytes: &[u8]) {
-    let mut left = noise::table();
-    let mut right = noise::table();
-    print::edge(rt, b"problem", line);
-    let header = read_problem(bytes, CHECKER_KINDS, &mut left, &mut right);
-    match header {
-        Header::Told(layout) => show_read(rt, layout.n, layout.m, &left, &right),
-        Header::Refused(k) => show_refused(rt, k, &left, &right),
+pub fn run(rt: &(impl Print + AllocGlobal), case: Case<'_>) -> io::Result<()> {
+    let record = Record::read(rt.alloc(), case.marks())?;
+    let mut left = [LEAD; TABLE];
+    let mut right = [LEAD; TABLE];
+    edge(rt, "problem", case)?;
+    match read_problem(&record.bytes, CHECKER_KINDS, &mut left, &mut right) {
+        Ok(layout) => show_read(rt, layout, &left, &right)?,
+        Err(refusal) => {
+            print!(rt; "refused {}", refusal.number())?;
+            show_touched(rt, &left, &LEAD, "left table")?;
+            show_touched(rt, &right, &LEAD, "right table")?;
+        }
     }
-    print::end(rt);
+    println!(rt)
 }
 
-// Which lead stands where: leads 1 to 8 in the order of the record.
-fn show_places(rt: &impl Print, left: &[u32; TABLE], right: &[u32; TABLE]) {
-    print::text(rt, b"left");
-    show_row(rt, left, 0);
-    show_row(rt, left, 32);
-    print::text(rt, b", right");
-    show_row(rt, right, 0);
-    show_row(rt, right, 32);
-}
-
-// Three places of a row: two leads, and what follows them.
-fn show_row(rt: &impl Print, table: &[u32; TABLE], at: usize)
-    requires { at ≤ 2000 }
-{
-    print::text(rt, b" ");
-    print::minutes(rt, lead_at(table, at));
-    print::text(rt, b" ");
-    print::minutes(rt, lead_at(table, at + 1));
-    print::text(rt, b" ");
-    print::minutes(rt, lead_at(table, at + 2));
+// Which lead stands where: three places of each of two rows, two leads and what follows them.
+fn show_rows(rt: &impl Print, table: &[u32]) -> io::Result<()> {
+    for row in table.chunks(STRIDE).take(2) {
+        for lead in row.iter().take(3) {
+            print!(rt; " {}", Minutes(u64::from(*lead)))?;
+        }
+    }
+    Ok(())
 }
 
 // Reads the bytes and prints places of both tables.
-pub fn run_places(rt: &impl Print, line: &[u8], bytes: &[u8]) {
-    let mut left = noise::table();
-    let mut right = noise::table();
-    print::edge(rt, b"problem", line);
-    read_problem(bytes, CHECKER_KINDS, &mut left, &mut right);
-    show_places(rt, &left, &right);
-    print::end(rt);
+pub fn run_places(rt: &(impl Print + AllocGlobal), case: Case<'_>) -> io::Result<()> {
+    let record = Record::read(rt.alloc(), case.marks())?;
+    let mut left = [LEAD; TABLE];
+    let mut right = [LEAD; TABLE];
+    edge(rt, "problem", case)?;
+    let _ = read_problem(&record.bytes, CHECKER_KINDS, &mut left, &mut right);
+    print!(rt; "left")?;
+    show_rows(rt, &left)?;
+    print!(rt; ", right")?;
+    show_rows(rt, &right)?;
+    println!(rt)
 }

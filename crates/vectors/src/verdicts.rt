@@ -1,45 +1,41 @@
 // The checker on records, and its verdict in the words of the verdict program.
-use crate::cut::bytes_within;
-use crate::print;
-use checker::check::{Verdict, check};
-use records::limits::{INFEASIBLE, NOT_CERTIFIED, OPTIMAL, UNBOUNDED};
+use crate::print::Minutes;
+use checker::check::{Certified, check};
+use records::class::Class;
+use records::refusal::Refusal;
+use std::{fmt, io};
 
 // A class in words, and the span of least.
-pub fn found(rt: &impl Print, class: u64, span: u64) {
-    match class {
-        OPTIMAL => {
-            print::text(rt, b"least ");
-            print::minutes(rt, span);
+#[derive(Drop)]
+pub struct Found {
+    pub class: Class,
+    pub span: u64,
+}
+
+impl fmt::Display for Found {
+    fn fmt<W: fmt::Write>(&self, f: &mut fmt::Formatter<W>) -> fmt::Result {
+        match self.class {
+            Class::Optimal => write!(f, "least {}", Minutes(self.span)),
+            Class::Unbounded => write!(f, "bottomless"),
+            Class::Infeasible => write!(f, "none"),
         }
-        UNBOUNDED => print::text(rt, b"bottomless"),
-        INFEASIBLE => print::text(rt, b"none"),
-        0 | 4.. => (),
     }
 }
 
-fn accepted(rt: &impl Print, class: u64, span: u64) {
-    print::text(rt, b"accepted ");
-    found(rt, class, span);
-}
-
-fn refused(rt: &impl Print, number: usize) {
-    if number == NOT_CERTIFIED {
-        print::text(rt, b"not certified");
-        return;
-    }
-    print::counted(rt, b"refused ", number as u64);
-}
-
-fn show(rt: &impl Print, verdict: Verdict) {
-    match verdict {
-        Verdict::Accepted { class, span } => accepted(rt, class, span),
-        Verdict::Refused(number) => refused(rt, number),
+fn accepted(rt: &impl Print, certified: Certified) -> io::Result<()> {
+    let Certified { class, span } = certified;
+    print!(rt; "accepted ")?;
+    match Class::try_from(class) {
+        Ok(class) => rt.print(Found { class, span }),
+        Err(_) => Ok(()),
     }
 }
 
-// Judges the first bytes of both, so many of each, and prints the verdict.
-pub fn judged(rt: &impl Print, problem: &[u8], size: usize, answer: &[u8], answer_size: usize) {
-    let p = bytes_within(size, problem);
-    let a = bytes_within(answer_size, answer);
-    show(rt, check(&problem[..p], &answer[..a]));
+// Judges both and prints the verdict.
+pub fn judged(rt: &impl Print, problem: &[u8], answer: &[u8]) -> io::Result<()> {
+    match check(problem, answer) {
+        Ok(certified) => accepted(rt, certified),
+        Err(Refusal::NotCertified) => print!(rt; "not certified"),
+        Err(refusal) => print!(rt; "refused {}", refusal.number()),
+    }
 }
