@@ -20,7 +20,8 @@ fn stamp_in(bytes: &[u8], j: usize) -> u64
     offset_32(word_in(bytes, LEAD_BYTES * j)) as u64
 }
 
-// The first `count` stamps, and blanks behind them. Public for `merge`.
+// The first `count` stamps, and blanks behind them. The answer reader has the same behind its header: one function over both would take
+// the law of a part behind a place, and be no plainer. Public for `merge`.
 pub fn stamps_in(bytes: &[u8], count: usize) -> [u64; STRIDE]
     requires { (count ≤ stride) × (signed_bytes * count ≤ length bytes.now) }
     ensures { Padded stride (numbers_in bytes.now count) result }

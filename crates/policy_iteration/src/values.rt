@@ -122,7 +122,8 @@ pub fn gap(side: u64, left: u64) -> u64
     }
 }
 
-// A right side less a left coefficient, as low numbers.
+// A right side less a left coefficient, as low numbers. `gap` is its twin over offset numbers: each promises in its own form, and a trait
+// with both forms as its laws would be no plainer.
 fn given(side: u32, left: u32) -> u32
     requires { (side ≤ side_most) × (0 < side → side_least ≤ side) × (left ≤ signed_half + lead_limit) }
     ensures { trop_of (high result) ≡ difference (trop_of (high side)) (trop_of left) }
