@@ -1,18 +1,15 @@
 -- The lines that the reasons program puts out are those of the reasons for its input.
-use Prim.Native.Nat.{ℕ, suc, ◌+◌, ◌≤◌}
-use mathlib.Core.Path.{◌≡◌, refl, ap, ◌∙◌}
+use Prim.Native.Nat.{ℕ, ◌+◌, ◌≤◌}
+use mathlib.Core.Path.{◌≡◌, ◌∙◌}
 use mathlib.Core.List.{List, ◌++◌, append_assoc}
 use native.Mathlib.Omega.{arith}
 use lib.ListN.{length, take}
-use borrow.Author.Tests.{ne_eqb}
 use Rattle.definitions.specs.ProblemRecord.{meant}
 use Rattle.definitions.specs.Programs.{verdict_line, newline, problem_part, answer_part}
 use Rattle.definitions.specs.Reasons as Reasons
 use Rattle.definitions.specs.Reasons.{Reasoned, ReasonsOutput, spaced, text_rules, text_round, reasons_lines, of_none, of_least}
-use Rattle.records.specs.declared.refusal.Refusal.{Refusal}
-use Rattle.records.specs.Refusals.{number_of}
-use Rattle.records.proofs.Refusing.{number_range}
-use Rattle.printing.specs.Text.{Putting, Output, verdict_by}
+use Rattle.definitions.specs.Verdict as Verdicts
+use Rattle.printing.specs.Text.{Putting, Output}
 use Rattle.printing.proofs.Copy.{put_then}
 use Rattle.printing.proofs.Appending.{append_fits, output_of}
 use Rattle.reasons.specs.Lines.{lines_most}
@@ -32,23 +29,20 @@ put_shown {l} {v} p h = let room : 0 + length v ≤ length l = omega (arith, p.n
 module _ {l after : List ℕ} {r : ℕ} (long : length l ≡ lines_most) where
   -- What the program puts out for a refusal, for none, and for least.
   pub shown_refused :
-      (x : Refusal) → Output l (verdict_line (verdict_by (number_of x) 0 0)) after r → length (verdict_line (verdict_by (number_of x) 0 0)) ≤ 64
-      → (r ≤ lines_most) × (take r after ≡ reasons_lines (Reasons.refused (number_of x)))
-  unfolding reasons_lines verdict_by
-  shown_refused x p h =
-      let s = p.shown (omega arith) in
-      let some = number_range x in
-      (omega (arith, s.0, h), s.1 ∙ ap verdict_line (rw (ne_eqb (number_of x) 0 (λ z. omega arith)) refl))
-
-  pub shown_none : {rules : List ℕ} → Putting l 0 (text_rules ++ (spaced rules ++ newline)) after r → r ≤ lines_most → take r after ≡ reasons_lines (of_none rules)
+      (number : ℕ) → Output l (verdict_line (Verdicts.refused number)) after r → length (verdict_line (Verdicts.refused number)) ≤ 64
+      → (r ≤ lines_most) × (take r after ≡ reasons_lines (Reasons.refused number))
   unfolding reasons_lines
-  shown_none p b = put_shown p (omega arith)
+  shown_refused number p h = let s = p.shown (omega arith) in (omega (arith, s.0, h), s.1)
+
+  pub shown_none : (rules : List ℕ) → Putting l 0 (text_rules ++ (spaced rules ++ newline)) after r → r ≤ lines_most → take r after ≡ reasons_lines (of_none rules)
+  unfolding reasons_lines
+  shown_none rules p b = put_shown p (omega arith)
 
   pub shown_least :
-      {rules round mid : List ℕ} {next : ℕ} → Putting l 0 (text_rules ++ (spaced rules ++ newline)) mid next
+      (rules round : List ℕ) {mid : List ℕ} {next : ℕ} → Putting l 0 (text_rules ++ (spaced rules ++ newline)) mid next
       → Putting mid next (text_round ++ (spaced round ++ newline)) after r → r ≤ lines_most → take r after ≡ reasons_lines (of_least rules round)
   unfolding reasons_lines
-  shown_least {rules} {round} p q b =
+  shown_least rules round p q b =
       let a = text_rules in
       let s = spaced rules in
       let d = text_round ++ (spaced round ++ newline) in

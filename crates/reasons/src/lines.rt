@@ -7,7 +7,7 @@ ghost use Rattle.grounds.specs.Outcome.{reasons_of};
 ghost use Rattle.reasons.specs.Lines.{number_most, lines_most};
 
 use grounds::reasons::Grounds;
-use output::writer::write_verdict;
+use output::writer::write_turned_away;
 use printing::text::{copy, put_decimal};
 use records::limits::{HIGHEST_M, STRIDE};
 use records::refusal::Refusal;
@@ -48,14 +48,13 @@ pub fn put_lines(lines: &mut [u8], reasons: Result<Grounds, Refusal>) -> usize
     ensures lines_are { take result lines.new ≡ reasons_lines (reasons_of reasons) }
 {
     match reasons {
-        Err(refusal) => write_verdict(lines, refusal.number(), 0, 0),
-        Ok(Grounds { rules, round: None }) => put_line(lines, 0, b"rules", rules.as_slice()),
-        Ok(Grounds {
-            rules,
-            round: Some(round),
-        }) => {
+        Err(refusal) => write_turned_away(lines, refusal),
+        Ok(Grounds { rules, round }) => {
             let next = put_line(lines, 0, b"rules", rules.as_slice());
-            put_line(lines, next, b"round", round.as_slice())
+            match round {
+                None => next,
+                Some(round) => put_line(lines, next, b"round", round.as_slice()),
+            }
         }
     }
 }
