@@ -7,8 +7,8 @@ ghost use Rattle.merging.specs.Plans.{Stand};
 use policy_iteration::rows::Rows;
 use records::limits::STRIDE;
 
-// Every row stands at the point: its left side is at most its right side. A `while`: `all` over
-// the range would take a proof by hand.
+// Every row stands at the point: its left side is at most its right side. A `for` that leaves early: `all`
+// over the range would take a proof by hand.
 pub fn rows_stand(rows: &Rows, x: &[u32; STRIDE]) -> bool
     requires { BothSides rows.now × Lows rows.now.width x.now }
     ensures { Stand (system_in rows.now []) (point_of (highs x.now)) result }
