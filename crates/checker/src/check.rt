@@ -28,7 +28,7 @@ use records::refusal::Refusal;
 use strategy_tests::certify::{certify_rows, certify_variables};
 use strategy_tests::starts::{in_second, start_marks};
 
-// An accepted answer's class, as its record has it, and the span's offset number.
+// An accepted answer's class, a number as `Head` has it, and the span's offset number.
 #[derive(Clone, Copy, Debug, PartialEq, Eq)]
 pub struct Certified {
     pub class: u64,

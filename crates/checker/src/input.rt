@@ -35,7 +35,8 @@ pub fn cut_place(input: &[u8]) -> usize
     end
 }
 
-// The verdict on an input that was kept whole.
+// The verdict on an input that was kept whole. `grounds::input` has the same over its own answer: each promises in its own words, and
+// what they share is `cut_place`.
 fn judge_whole(input: &[u8]) -> Result<Certified, Refusal>
     ensures { Judged (meant (problem_part input.now)) (answer_part input.now) (verdict_of result) }
 {

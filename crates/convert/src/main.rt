@@ -29,7 +29,8 @@ fn put_out(out: &mut [u8], buffer: &[u8], converted: Result<usize, Refusal>) -> 
     }
 }
 
-// What the program puts out for every input of which this was read: so many bytes of the buffer.
+// What the program puts out for every input of which this was read: so many bytes of the buffer. Span's is like it over its own
+// call: each promises its own program's output.
 fn answer(kept: &[u8; KEPT], size: u64, out: &mut [u8]) -> usize
     requires { length out.old ≡ record_most }
     ensures { (result ≤ record_most) × ((input : List ℕ) → ReadFrom kept.now size input → ConvertOutput input (take result out.new)) }

@@ -79,7 +79,7 @@ impl Record<'_> {
         );
     }
 
-    // Puts the rows of the rules that stay behind the head, in their order.
+    // Puts the rows of the rules that stay behind the head, in their order: the next place moves by rows that stay alone.
     fn put_rows(&self, out: &mut [u8])
         requires { self.now.layout.leads + length (rows_left self.now.bytes.now (m_field self.now.bytes.now)) ≤ length out.old }
         ensures { out.new ≡ put out.old self.now.layout.leads (rows_left self.now.bytes.now (m_field self.now.bytes.now)) }

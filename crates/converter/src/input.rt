@@ -11,7 +11,8 @@ use records::limits::KEPT;
 use records::problem::{CONVERTER_KINDS, read_header};
 use records::refusal::Refusal;
 
-// The same on a slice.
+// The same on a slice. The engine's `input` has it over its own call: each promises in its own words, and a closure's law would be
+// as long.
 fn convert_kept(kept: &[u8], size: usize, out: &mut [u8]) -> Result<usize, Refusal>
     requires { length kept.now ≡ kept_bytes }
     ensures { (input : List ℕ) → KeptOf kept.now size input → Converts input out.old (conversion_of result) out.new }

@@ -12,7 +12,8 @@ use records::limits::KEPT;
 use records::problem::{ENGINE_KINDS, read_header};
 use records::refusal::Refusal;
 
-// The same on a slice.
+// The same on a slice. The converter's `input` has it over its own call: each promises in its own words, and a closure's law would be
+// as long.
 fn solve_kept(kept: &[u8], size: usize, answer: &mut [u8]) -> Result<Solution, Refusal>
     requires { length kept.now ≡ kept_bytes }
     ensures { (input : List ℕ) → KeptOf kept.now size input → Solves (meant input) answer.old (solved_of result) answer.new }

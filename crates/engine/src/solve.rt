@@ -89,7 +89,7 @@ fn solve_one(
     }
 }
 
-// The answers to all questions of a record whose rules stand in the tables, each written where the one before ended.
+// The answers to all questions of a record whose rules stand in the tables, each written where the one before ended: their sizes differ.
 fn solve_questions(
     problem: &[u8],
     layout: Layout,

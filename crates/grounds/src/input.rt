@@ -11,7 +11,7 @@ use checker::input::{cut_place, judge_input};
 use records::limits::KEPT;
 use records::refusal::Refusal;
 
-// The reasons for an input that was kept whole.
+// The reasons for an input that was kept whole, cut as in the checker's `input`: each promises in its own words.
 fn whole_reasons(input: &[u8]) -> Result<Grounds, Refusal>
     ensures { Reasoned (meant (problem_part input.now)) (answer_part input.now) (reasons_of result) }
 {

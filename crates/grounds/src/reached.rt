@@ -14,7 +14,7 @@ use crate::plan::Plan;
 use reach::{anchor, marks_of, reach};
 use records::limits::{ARCS, ROWS, STRIDE, TABLE};
 
-// The coefficient by which a pick leads to moment l, 0 where it does not.
+// The coefficient by which a pick leads to moment l, blank (0, as in every table) where it does not.
 fn pick_arc(right: &[u32; TABLE], pick: usize, l: usize) -> u32
     requires { (pick ≤ table_rows) × (l < stride) }
     ensures { result ≡ pick_arc right.now pick l }

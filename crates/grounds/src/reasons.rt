@@ -61,7 +61,7 @@ fn read_reasons(problem: &[u8], answer: &[u8]) -> Result<Grounds, Refusal>
     Ok(tell(&plan, head))
 }
 
-// The reasons for an accepted answer of any class: 16 for bottomless.
+// The reasons for an accepted answer of any class, a number as `Head` has it: 16 for bottomless.
 pub fn accepted_reasons(problem: &[u8], answer: &[u8], class: u64) -> Result<Grounds, Refusal>
     requires { Passed (meant problem.now) answer.now class }
     ensures { Reasoned (meant problem.now) answer.now (reasons_of result) }

@@ -18,8 +18,8 @@ const ANCHOR: u64 = 0;
 
 const SECOND_LIST: u64 = 1;
 
-// What a look finds: the second side of the greatest point under caps as an offset number, 0 where it is blank or variable 0 has no
-// value; the strategy that the point ends with, which blocks from the start every trial that is not possible, row m being the objective's;
+// What a look finds: the second side of the greatest point under caps as an offset number, whose 0 is blank, also where variable 0 has
+// no value (`FoundBy` of `search` speaks of it so); the strategy that the point ends with, which blocks from the start every trial that is not possible, row m being the objective's;
 // and that start: 0 the anchor, 1 the second list.
 #[derive(Clone, Copy)]
 pub struct Look {

@@ -23,7 +23,8 @@ fn low_stamp(stamp: u64) -> u32
     stamp.saturating_sub(LOW as u64) as u32
 }
 
-// The stamps of a plan the same way, then blanks.
+// The stamps of a plan the same way, then blanks. `plan_tests` has the like: one over the conversion would take its law as a
+// parameter, for a loop of three lines.
 fn low_plan(stamps: &[u64; STRIDE], count: usize) -> [u32; STRIDE]
     requires { Stamped stamps.now × (count ≤ stride) }
     ensures { LowPlan stamps.now count result }

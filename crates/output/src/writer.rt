@@ -72,7 +72,8 @@ pub fn write_front(buf: &mut [u8], from: &[u8], size: usize) -> usize
     }
 }
 
-// What the span program puts out for a refusal: its line. Public for `span` and `convert`.
+// What the span program puts out for a refusal: its line. Public for `span` and `convert`. The two below do the same with other lines:
+// a closure that puts the line would take its law as a parameter, and be no plainer.
 pub fn write_refused(buf: &mut [u8], refusal: Refusal) -> usize
     ensures shown { Output buf.old (refused_line (number_of refusal)) buf.new result }
     ensures short { length (refused_line (number_of refusal)) ≤ line_most }

@@ -16,7 +16,7 @@ pub struct Search {
     pub class: Option<Class>,
 }
 
-// The word that keeps a search's class: its number, 0 while the search is open.
+// The word that keeps a search's class in memory that C lends: its number, 0 while the search is open.
 pub fn class_word(class: Option<Class>) -> u64
     ensures { result ≡ class_word class }
 {

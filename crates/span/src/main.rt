@@ -30,7 +30,8 @@ fn put_out(out: &mut [u8], buffer: &[u8], solved: Result<Solution, Refusal>) -> 
     }
 }
 
-// What the program puts out for every input of which this was read: so many bytes of the buffer.
+// What the program puts out for every input of which this was read: so many bytes of the buffer. Convert's is like it over its own
+// call: each promises its own program's output.
 fn answer(kept: &[u8; KEPT], size: u64, out: &mut [u8]) -> usize
     requires { length out.old ≡ out_most }
     ensures inside { result ≤ out_most }
