@@ -63,8 +63,7 @@ pub struct Layout {
     pub questions: usize,
 }
 
-// The numbers of a header, the kind as it stands there, known or not. The count is that of a record of several questions; in others it
-// plays no part.
+// The numbers of a header. The count is that of a record of several questions; in others it plays no part.
 #[derive(Clone, Copy)]
 struct Fields {
     length: usize,
