@@ -1,12 +1,9 @@
 -- Looking for a ticket.
-use Prim.Native.Nat.{ℕ, ◌+◌, ◌≤◌, ◌<◌}
-use mathlib.Core.Path.{◌≡◌, subst}
-use mathlib.Core.Logic.{⊎_elim}
+use Prim.Native.Nat.{ℕ}
+use mathlib.Core.Path.{◌≡◌}
 use native.Mathlib.Omega.{arith}
-use Rattle.std.specs.Prelude.{Option, Some, None}
-use Rattle.base.proofs.Numbers.{nat_le_or_lt}
-use Rattle.definitions.specs.Limits.{desk_places}
-use Rattle.desk.specs.State.{Desk, place_in, Finds, HoldsTicket}
+use Rattle.std.specs.Prelude.{Option, None}
+use Rattle.desk.specs.State.{Desk, Finds, HoldsTicket}
 
 -- A ticket that was given.
 pub ticket_some : {d : Desk} {ticket : ℕ} {r : Option ℕ} → (ticket ≡ 0 → ⊥) → Finds d ticket r → HoldsTicket d ticket r

@@ -1,6 +1,5 @@
 use mathlib.Core.Path.{refl}
 use native.Mathlib.Omega.{arith}
-use Rattle.desk_words.specs.Words.{PutAt}
 use Rattle.desk_words.proofs.Back.{copied, putting_none, putting_more, putting_all, put_two}
 use Rattle.desk_words.proofs.runs.put_run.Goals as goal
 

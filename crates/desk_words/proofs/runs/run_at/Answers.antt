@@ -1,4 +1,4 @@
-use Rattle.std.proofs.Common.{arith, rules}
+use Rattle.std.proofs.Common.{rules}
 use Rattle.desk_words.proofs.Back.{is_part}
 use Rattle.desk_words.proofs.runs.run_at.Goals as goal
 
