@@ -6,104 +6,139 @@ use mathlib.Core.List.{List}
 use native.Mathlib.Omega.{arith}
 use native.Mathlib.Nat.{eq-zero-or-pos}
 use lib.ListN.{length}
-use Rattle.definitions.specs.Limits.{desk_places, desk_memory, problem_most, answer_most, refused_room, refused_ticket, refused_memory}
+use Rattle.std.specs.Prelude.{Option, Some, None, Ok, Err}
+use Rattle.definitions.specs.Limits.{desk_places, desk_memory, problem_most, answer_most}
 use Rattle.definitions.specs.Bytes.{Bytes}
 use Rattle.definitions.specs.ProblemRecord.{meant}
 use Rattle.definitions.specs.AnswerRecord.{answer_size}
 use Rattle.definitions.specs.Desk as Machine
 use Rattle.definitions.specs.Desk.{place_at, Stands, NotHeld, Collects, handed_over}
 use Rattle.definitions.proofs.IdleDay.{meant_bytes}
-use Rattle.engine.specs.declared.one_trial.Handed.{Handed}
-use Rattle.engine.specs.OneTrial.{Answered, HandedOver}
+use Rattle.records.specs.declared.refusal.Refusal.TheVariants.{Memory, Room, Ticket}
+use Rattle.records.specs.Classes.{class_number}
+use Rattle.search.specs.Underway.{class_word}
+use Rattle.engine.specs.declared.solve.Answered.{Answered}
+use Rattle.engine.specs.OneTrial.{class_in, IsAnswered, HandedOver}
 use Rattle.desk.specs.declared.state.Place.{Place}
-use Rattle.desk.specs.declared.calls.Collected.TheVariants as Collections
-use Rattle.desk.specs.State.{Desk, place_in, HoldsTicket, bytes_at, PlaceIs, is_empty}
-use Rattle.desk.specs.Calls.{Left, DidCollect, CanCollect, CollectedAt}
+use Rattle.desk.specs.State.{Desk, place_in, FirstWith, HoldsTicket, bytes_at, PlaceIs, is_empty}
+use Rattle.desk.specs.Calls.{Left, stands_at, DidCollect, CanCollect, CollectedAt}
 use Rattle.tickets.proofs.Sound.{beyond_empty}
 use Rattle.desk.proofs.Kept.{part_bytes}
 use Rattle.desk.proofs.Holding.{place_empty, place_ticket, place_open, AnsweredAs, place_closed, others_stay, holds_moved}
 use Rattle.desk.proofs.Taking.{memory_enough}
 
-not_held : {d : Desk} {memory : List ℕ} {ticket : ℕ} (left : Left d memory) → HoldsTicket d ticket desk_places → NotHeld left.state ticket
-not_held {d} {ticket = ticket} left t i some same =
+not_held : {d : Desk} {memory : List ℕ} {ticket : ℕ} {r : Option ℕ} (left : Left d memory) → HoldsTicket d ticket r → r ≡ None → NotHeld left.state ticket
+not_held {d} {ticket = ticket} left t nowhere i some same =
     let inside = beyond_empty left.state i left.holds.places_size some in
     let is = left.holds.places i inside in
     let mine : (place_in d i).ticket ≡ ticket = sym (place_ticket is) ∙ same in
     ⊎_elim
     (λ (z : ticket ≡ 0). some (place_empty is (mine ∙ z)))
-    (λ (z : 0 < ticket). t.before i inside z mine)
+    (λ (z : 0 < ticket). t.nowhere nowhere z i inside mine)
     (eq-zero-or-pos ticket)
 
-module _ {at : ℕ} {c : Place} {memory : List ℕ} {d : Desk} {ticket : ℕ} (left : Left d memory) (found : HoldsTicket d ticket at) (here : at < desk_places → place_in d at ≡ c) (n : at ≡ desk_places → ⊥) where
-  inside : at < desk_places
-  inside = omega (arith, found.most)
+-- A place that is given stands somewhere,
+record StandsAs (d : Desk) (c : Place) (r : Option ℕ) : Type 0 where
+  at : ℕ
+  at_is : r ≡ Some at
+  here : place_in d at ≡ c
+
+stands_somewhere : {d : Desk} {c : Place} (r : Option ℕ) → Some c ≡ stands_at d r → StandsAs d c r
+stands_somewhere (Some i) e = record { at = i; at_is = refl; here = cc }
+stands_somewhere None e = absurd cc
+
+-- and none stands nowhere.
+stands_nowhere : {d : Desk} (r : Option ℕ) → None ≡ stands_at d r → r ≡ None
+stands_nowhere (Some i) e = absurd cc
+stands_nowhere None e = refl
+
+module _ {c : Place} {memory : List ℕ} {d : Desk} {ticket : ℕ} {r : Option ℕ} (left : Left d memory) (found : HoldsTicket d ticket r) (here : Some c ≡ stands_at d r) where
+  stands : StandsAs d c r
+  stands = stands_somewhere r here
+
+  abbrev at : ℕ
+  at = stands.at
+
+  first : FirstWith d ticket at
+  first = (found.held at stands.at_is).1
 
   place_is : PlaceIs (bytes_at memory at c.size) c (place_at left.state at)
-  place_is = subst (λ (z : Place). PlaceIs (bytes_at memory at z.size) z (place_at left.state at)) (here inside) (left.holds.places at inside)
+  place_is = subst (λ (z : Place). PlaceIs (bytes_at memory at z.size) z (place_at left.state at)) stands.here (left.holds.places at first.inside)
 
   ticket_is : c.ticket ≡ ticket
-  ticket_is = sym (ap (λ (z : Place). z.ticket) (here inside)) ∙ (found.held inside).1
+  ticket_is = sym (ap (λ (z : Place). z.ticket) stands.here) ∙ first.here
 
-  waiting : c.pending.class ≡ 0 → Stands left.state at (Machine.waits ticket (meant (bytes_at memory at c.size)) c.pending.made)
-  waiting e = record { is = place_open place_is ticket_is (found.held inside).0 e }
+  some : 0 < ticket
+  some = (found.held at stands.at_is).0
 
-  answered : (c.pending.class ≡ 0 → ⊥) → AnsweredAs (bytes_at memory at c.size) c ticket (place_at left.state at)
-  answered e = place_closed place_is ticket_is (found.held inside).0 e
+  waiting : c.pending.search.class ≡ None → Stands left.state at (Machine.waits ticket (meant (bytes_at memory at c.size)) c.pending.search.made)
+  waiting e = record { is = place_open place_is ticket_is some e }
 
-module _ (at : ℕ) (c : Place) (memory buffer : List ℕ) where
-  pub collected_short : length memory < desk_memory → CollectedAt at c memory buffer (Collections.Refused refused_memory) buffer
+  answered : (c.pending.search.class ≡ None → ⊥) → AnsweredAs (bytes_at memory at c.size) c ticket (place_at left.state at)
+  answered e = place_closed place_is ticket_is some e
+
+module _ (memory buffer : List ℕ) where
+  pub collected_short : {c : Option Place} → length memory < desk_memory → CollectedAt c memory buffer (Err Memory) buffer
   collected_short h = record { short = λ _. (refl, refl); moves = λ l. absurd (omega arith) }
 
   module _ (h : desk_memory ≤ length memory) where
     -- No place holds the ticket.
-    pub collected_none : at ≡ desk_places → CollectedAt at c memory buffer (Collections.Refused refused_ticket) buffer
+    pub collected_none : CollectedAt None memory buffer (Err Ticket) buffer
     unfolding DidCollect
-    collected_none e = record {
+    collected_none = record {
       short = λ l. absurd (omega arith);
-      moves = λ _ left found here. (Collects.no_such_ticket (memory_enough (length memory) h) (not_held left (subst (HoldsTicket _ _) e found)), refl);
+      moves = λ _ left found here. (Collects.no_such_ticket (memory_enough (length memory) h) (not_held left found (stands_nowhere _ here)), refl);
     }
 
-    module _ (n : at ≡ desk_places → ⊥) where
+    module _ (c : Place) where
       -- It still waits.
-      pub collected_waits : c.pending.class ≡ 0 → CollectedAt at c memory buffer Collections.StillWaits buffer
+      pub collected_waits : c.pending.search.class ≡ None → CollectedAt (Some c) memory buffer (Ok None) buffer
       unfolding DidCollect
       collected_waits e = record {
         short = λ l. absurd (omega arith);
-        moves = λ _ left found here. (Collects.waits_yet {i = at} (memory_enough (length memory) h) (waiting left found here n e), refl);
+        moves = λ _ left found here. (Collects.waits_yet {i = (stands left found here).at} (memory_enough (length memory) h) (waiting left found here e), refl);
       }
 
-      module _ (e : c.pending.class ≡ 0 → ⊥) where
+      module _ (e : c.pending.search.class ≡ None → ⊥) where
         -- The buffer is too short.
-        pub collected_room : length buffer < answer_most → CollectedAt at c memory buffer (Collections.Refused refused_room) buffer
+        pub collected_room : length buffer < answer_most → CollectedAt (Some c) memory buffer (Err Room) buffer
         unfolding DidCollect
         collected_room b = record {
           short = λ l. absurd (omega arith);
-          moves = λ _ left found here. (Collects.short_buffer {i = at} (memory_enough (length memory) h) (record { is = (answered left found here n e).is }) b, refl);
+          moves = λ _ left found here. (Collects.short_buffer {i = (stands left found here).at} (memory_enough (length memory) h) (record { is = (answered left found here e).is }) b, refl);
         }
 
         -- It is answered,
-        pub can_answer : Bytes memory → CanCollect at c memory → Answered c.pending
+        pub can_answer : Bytes memory → CanCollect (Some c) memory → IsAnswered c.pending
         can_answer b can =
-            let a = answered (can.left h) can.found can.here n e in
-            record { problem = meant (bytes_at memory at c.size); bytes = meant_bytes _ (part_bytes memory (at * problem_most) c.size b (omega (arith, a.seated.size_most, can.found.most))); answered = a.answer }
+            let left = can.left h in
+            let a = answered left can.found can.here e in
+            let f = first left can.found can.here in
+            record { problem = meant (bytes_at memory _ c.size); bytes = meant_bytes _ (part_bytes memory _ c.size b (omega (arith, a.seated.size_most, f.inside))); answered = a.answer }
 
         -- and handed over.
-        pub collected_handed : {buffer' : List ℕ} {r : Handed} → answer_most ≤ length buffer → length buffer' ≡ length buffer → HandedOver c.pending buffer r buffer'
-            → CollectedAt at c memory buffer (Collections.Handed r.class r.span r.trials r.size) buffer'
+        pub collected_handed : {buffer' : List ℕ} {r : Answered} → answer_most ≤ length buffer → length buffer' ≡ length buffer → HandedOver c.pending buffer r buffer'
+            → CollectedAt (Some c) memory buffer (Ok (Some r)) buffer'
         unfolding DidCollect
-        collected_handed room same handed = record {
+        collected_handed {r = r} room same handed = record {
           short = λ l. absurd (omega arith);
           moves = λ _ left found here.
-              let w = answered left found here n e in
+              let w = answered left found here e in
               let a = w.answer in
-              record {
-                inside = inside left found here n;
-                found = found;
-                same_length = same;
-                others = others_stay _ _ _;
-                next = _;
-                holds = holds_moved left.holds left.holds.fits left.holds.given_is left.holds.line_is (inside left found here n) (λ k l d. left.holds.places k l) (is_empty refl);
-                collects = rw (handed.class_is, handed.span_is, handed.trials_is, handed.size_is ∙ ap₂ (answer_size c.pending.class) a.of.n_is a.of.m_is, handed.record_stands _ a)
-                    (handed_over {i = at} (memory_enough (length memory) h) (record { is = w.is }) room);
-              };
+              let s = stands left found here in
+              let f = first left found here in
+              let class_is : class_number r.class ≡ class_in c.pending = sym (ap class_word handed.class_is) in (
+                s.at,
+                s.at_is,
+                record {
+                  inside = f.inside;
+                  found = rw s.at_is at found;
+                  same_length = same;
+                  others = others_stay _ _ _;
+                  next = _;
+                  holds = holds_moved left.holds left.holds.fits left.holds.given_is left.holds.line_is f.inside (λ k l d. left.holds.places k l) (is_empty refl);
+                  collects = rw (handed.size_is ∙ ap₂ (answer_size (class_number r.class)) a.of.n_is a.of.m_is, class_is, handed.span_is, handed.trials_is, handed.record_stands _ a)
+                      (handed_over {i = s.at} (memory_enough (length memory) h) (record { is = w.is }) room);
+                },
+              );
         }

@@ -7,16 +7,17 @@ use native.Mathlib.Omega.{arith}
 use native.Mathlib.Decide.{ℕ_discrete}
 use lib.ListN.{get_or, set, length-set}
 use lib.Seq.{get_or-set_same, get_or-set_other}
+use Rattle.std.specs.Prelude.{None}
 use Rattle.definitions.specs.Limits.{desk_places, problem_most}
 use Rattle.definitions.specs.Offset.{trop_of}
 use Rattle.definitions.specs.ProblemRecord.{meant}
 use Rattle.definitions.specs.Desk as Machine
 use Rattle.definitions.specs.Desk.{place_at, ticket_of, held, FirstEmpty}
-use Rattle.engine.specs.OneTrial.{span_in, PendingFor, answer_with, AnsweredFor}
+use Rattle.engine.specs.OneTrial.{class_in, span_in, PendingFor, answer_with, AnsweredFor}
 use Rattle.engine.proofs.Trials.{pending_open}
 use Rattle.desk.specs.declared.state.Place.{Place}
 use Rattle.desk.specs.declared.state.Front.{Front}
-use Rattle.desk.specs.State.{Desk, desk_of, Fits, no_place, place_in, head_of, OthersStay, FirstFree, ring, bytes_at, Seated, blank_place, PlaceIs, is_empty, is_waiting, is_answered, Holds}
+use Rattle.desk.specs.State.{Desk, desk_of, Fits, no_place, place_in, head_of, OthersStay, FirstWith, NoneWith, ring, bytes_at, Seated, blank_place, PlaceIs, is_empty, is_waiting, is_answered, Holds}
 use Rattle.tickets.proofs.Line.{At}
 use Rattle.tickets.proofs.Sound.{Sound, waiting_inside, empty_not_waits, answered_not_waits}
 use Rattle.tickets.proofs.Places.{held_less, held_all}
@@ -28,12 +29,12 @@ use Rattle.desk.proofs.Ring.{ring_head}
 pub record WaitsAs (bytes : List ℕ) (c : Place) (p : Machine.Place) : Type 0 where
   pub seated : Seated c
   pub pending : PendingFor (meant bytes) c.pending
-  pub is : p ≡ Machine.waits c.ticket (meant bytes) c.pending.made
+  pub is : p ≡ Machine.waits c.ticket (meant bytes) c.pending.search.made
 
 pub record AnsweredAs (bytes : List ℕ) (c : Place) (ticket : ℕ) (p : Machine.Place) : Type 0 where
   pub seated : Seated c
   pub answer : AnsweredFor (meant bytes) c.pending
-  pub is : p ≡ Machine.answered ticket (meant bytes) c.pending.class (trop_of (span_in c.pending)) c.pending.made
+  pub is : p ≡ Machine.answered ticket (meant bytes) (class_in c.pending) (trop_of (span_in c.pending)) c.pending.search.made
       (answer_with (meant bytes) c.pending answer.stamps answer.picks)
 
 module _ {bytes : List ℕ} {c : Place} where
@@ -56,12 +57,12 @@ module _ {bytes : List ℕ} {c : Place} where
   place_waits (is_answered s g) e = absurd (answered_not_waits e)
 
   -- A place with this ticket whose class is open waits; else it is answered.
-  pub place_open : {p : Machine.Place} {ticket : ℕ} → PlaceIs bytes c p → c.ticket ≡ ticket → 0 < ticket → c.pending.class ≡ 0 → p ≡ Machine.waits ticket (meant bytes) c.pending.made
+  pub place_open : {p : Machine.Place} {ticket : ℕ} → PlaceIs bytes c p → c.ticket ≡ ticket → 0 < ticket → c.pending.search.class ≡ None → p ≡ Machine.waits ticket (meant bytes) c.pending.search.made
   place_open (is_empty z) t some e = absurd (omega (arith, ap (λ (c : Place). c.ticket) z))
   place_open (is_waiting s g) t some e = rw t refl
   place_open (is_answered s g) t some e = absurd (g.closed e)
 
-  pub place_closed : {p : Machine.Place} {ticket : ℕ} → PlaceIs bytes c p → c.ticket ≡ ticket → 0 < ticket → (c.pending.class ≡ 0 → ⊥) → AnsweredAs bytes c ticket p
+  pub place_closed : {p : Machine.Place} {ticket : ℕ} → PlaceIs bytes c p → c.ticket ≡ ticket → 0 < ticket → (c.pending.search.class ≡ None → ⊥) → AnsweredAs bytes c ticket p
   place_closed (is_empty z) t some e = absurd (omega (arith, ap (λ (c : Place). c.ticket) z))
   place_closed (is_waiting s g) t some e = absurd (e (pending_open g))
   place_closed (is_answered s g) t some e = record { seated = s; answer = g; is = rw t refl }
@@ -130,16 +131,16 @@ module _ {d : Desk} {memory : List ℕ} {state : Machine.Desk} (h : Holds d memo
   ticket_at i b = place_ticket (h.places i b)
 
   -- The first free place is the machine's first empty one,
-  pub first_empty : {r : ℕ} → FirstFree d r → r < desk_places → FirstEmpty state r
-  first_empty {r} f b = record {
-    inside = b;
-    is_empty = place_empty (h.places r b) (f.free b);
-    before = λ k l e. f.before k l (sym (ticket_at k (omega arith)) ∙ rw e (empty_ticket));
+  pub first_empty : {r : ℕ} → FirstWith d 0 r → FirstEmpty state r
+  first_empty {r} f = record {
+    inside = f.inside;
+    is_empty = place_empty (h.places r f.inside) f.here;
+    before = λ k l e. f.before k l (let b = f.inside in sym (ticket_at k (omega arith)) ∙ rw e (empty_ticket));
   }
 
   -- and where there is none, all are held.
-  pub held_sixteen : FirstFree d desk_places → held state.places ≡ desk_places
-  held_sixteen f = held_all state.places (λ i b e. f.before i (omega (arith, h.places_size)) (sym (ticket_at i (omega (arith, h.places_size))) ∙ e)) ∙ h.places_size
+  pub held_sixteen : NoneWith d 0 → held state.places ≡ desk_places
+  held_sixteen f = held_all state.places (λ i b e. f i (omega (arith, h.places_size)) (sym (ticket_at i (omega (arith, h.places_size))) ∙ e)) ∙ h.places_size
 
-  pub held_fewer : {r : ℕ} → FirstFree d r → r < desk_places → held state.places < desk_places
-  held_fewer {r} f b = let less = held_less state.places r (omega (arith, h.places_size)) (ticket_at r b ∙ f.free b) in omega (arith, h.places_size)
+  pub held_fewer : {r : ℕ} → FirstWith d 0 r → held state.places < desk_places
+  held_fewer {r} f = let less = held_less state.places r (omega (arith, f.inside, h.places_size)) (ticket_at r f.inside ∙ f.here) in omega (arith, h.places_size)

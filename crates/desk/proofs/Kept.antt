@@ -5,15 +5,16 @@ use mathlib.Core.Logic.{⊎_elim}
 use mathlib.Core.List.{List, [], ◌∷◌, ◌++◌}
 use native.Mathlib.Omega.{arith}
 use native.Mathlib.Nat.{mul-le-mul_left, mul-le-mul_right}
-use lib.ListN.{length, get_or, set, take, drop, length-set, get_or-append, get_or-eq_default}
-use lib.Seq.{ext_get_or, get_or-take, take-append_seam, drop_at, length-take-le, take-length}
+use lib.ListN.{length, get_or, take, drop, get_or-append, get_or-eq_default}
+use borrow.Rule.Slice.PartMut.{put_mid}
+use lib.Seq.{drop-drop, ext_get_or, get_or-take, take-append_seam, drop_at, length-take-le}
 use Rattle.base.proofs.Numbers.{nat_le_or_lt}
 use Rattle.definitions.specs.Limits.{desk_places, desk_memory, problem_most}
 use Rattle.definitions.specs.Bytes.{Bytes, put}
 use Rattle.definitions.specs.ProblemRecord.{problem_size, meant}
 use Rattle.definitions.specs.Desk.{WithinDesk}
 use Rattle.definitions.specs.Questions.{part}
-use Rattle.definitions.proofs.Put.{drop_put, length_put, put_more, put_nil}
+use Rattle.definitions.proofs.Put.{drop_put, length_put}
 use Rattle.definitions.proofs.Questions.{part_length, part_at}
 use Rattle.definitions.proofs.Layouts.{plain_desk}
 use Rattle.engine.specs.declared.one_trial.Pending.{Pending}
@@ -75,25 +76,12 @@ part_bytes memory from size b h = record {
       (nat_le_or_lt size k);
 }
 
--- ---- the copy's loop
+-- ---- what is copied
 
--- The first j bytes are copied.
-pub record Copied (before : List ℕ) (at : ℕ) (run : List ℕ) (j : ℕ) (after : List ℕ) : Type 0 where
-  pub is : after ≡ put before at (take j run)
-  pub same : length after ≡ length before
-
-pub copied_none : (before : List ℕ) (at : ℕ) (run : List ℕ) → Copied before at run 0 before
-copied_none before at run = record { is = sym (put_nil before at); same = refl }
-
-pub copied_more : {before after run : List ℕ} {at j : ℕ} → at + length run ≤ length before → j < length run → Copied before at run j after
-    → Copied before at run (j + 1) (set after (at + j) (get_or run j 0))
-copied_more {before} {after} {run} {at} {j} h l c = record {
-  is = subst (λ (z : List ℕ). set z (at + j) (get_or run j 0) ≡ put before at (take (j + 1) run)) (sym c.is) (put_more before at run j l (omega arith));
-  same = length-set after (at + j) (get_or run j 0) ∙ c.same;
-}
-
-pub copied_all : {before after run : List ℕ} {at j : ℕ} → j ≡ length run → Copied before at run j after → after ≡ put before at run
-copied_all {before} {after} {run} {at} e c = c.is ∙ ap (λ (z : List ℕ). put before at z) (rw e (take-length run))
+-- Values that are copied to a place are put there.
+pub copied_put : (l : List ℕ) (at n : ℕ) (vs : List ℕ) → n ≡ length vs → put_mid at n l vs ≡ put l at vs
+unfolding put
+copied_put l at n vs e = rw (e, drop-drop) refl
 
 -- The part of the memory up to its end.
 pub part_end : (memory : List ℕ) (from size : ℕ) → take (from + size - from) (drop from memory) ≡ part memory from size

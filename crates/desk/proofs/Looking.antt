@@ -3,9 +3,10 @@ use Prim.Native.Nat.{ℕ, ◌+◌, ◌≤◌, ◌<◌}
 use mathlib.Core.Path.{◌≡◌, subst}
 use mathlib.Core.Logic.{⊎_elim}
 use native.Mathlib.Omega.{arith}
+use Rattle.std.specs.Prelude.{Option, Some, None}
 use Rattle.base.proofs.Numbers.{nat_le_or_lt}
 use Rattle.definitions.specs.Limits.{desk_places}
-use Rattle.desk.specs.State.{Desk, place_in, FirstFree, HoldsTicket}
+use Rattle.desk.specs.State.{Desk, place_in, Finds, HoldsTicket}
 
 -- None of the first i places has the ticket.
 pub record Looked (d : Desk) (ticket i : ℕ) : Type 0 where
@@ -24,17 +25,18 @@ looked_more {d} {ticket} {i} l h n = record {
       (nat_le_or_lt i k);
 }
 
-pub free_found : {d : Desk} {i : ℕ} → Looked d 0 i → i < desk_places → (place_in d i).ticket ≡ 0 → FirstFree d i
-free_found l h e = record { most = omega arith; free = λ _. e; before = l.before }
+pub looked_found : {d : Desk} {ticket i : ℕ} → Looked d ticket i → i < desk_places → (place_in d i).ticket ≡ ticket → Finds d ticket (Some i)
+looked_found {d} {ticket} {i} l h e = record {
+  found = λ k f. let same : i ≡ k = cc in rw (← same) (record { inside = h; here = e; before = l.before });
+  nowhere = λ f. absurd cc;
+}
 
-pub free_none : {d : Desk} {i : ℕ} → Looked d 0 i → desk_places ≤ i → FirstFree d i
-free_none l h = record { most = l.inside; free = λ b. absurd (omega arith); before = l.before }
+pub looked_nowhere : {d : Desk} {ticket i : ℕ} → Looked d ticket i → desk_places ≤ i → Finds d ticket None
+looked_nowhere l h = record { found = λ k f. absurd cc; nowhere = λ f k b. l.before k (omega arith) }
 
-pub ticket_found : {d : Desk} {ticket i : ℕ} → (ticket ≡ 0 → ⊥) → Looked d ticket i → i < desk_places → (place_in d i).ticket ≡ ticket → HoldsTicket d ticket i
-ticket_found n l h e = record { most = omega arith; held = λ _. (omega arith, e); before = λ k b some. l.before k b }
+-- A ticket that was given.
+pub ticket_some : {d : Desk} {ticket : ℕ} {r : Option ℕ} → (ticket ≡ 0 → ⊥) → Finds d ticket r → HoldsTicket d ticket r
+ticket_some n f = record { held = λ i e. (omega arith, f.found i e); nowhere = λ e some. f.nowhere e }
 
-pub ticket_none : {d : Desk} {ticket i : ℕ} → Looked d ticket i → desk_places ≤ i → HoldsTicket d ticket i
-ticket_none l h = record { most = l.inside; held = λ b. absurd (omega arith); before = λ k b some. l.before k b }
-
-pub ticket_zero : {d : Desk} {ticket : ℕ} → ticket ≡ 0 → HoldsTicket d ticket desk_places
-ticket_zero e = record { most = omega arith; held = λ b. absurd (omega arith); before = λ k b some. absurd (omega arith) }
+pub ticket_zero : {d : Desk} {ticket : ℕ} → ticket ≡ 0 → HoldsTicket d ticket None
+ticket_zero e = record { held = λ i f. absurd cc; nowhere = λ f some. absurd (omega arith) }

@@ -6,15 +6,16 @@ use native.Mathlib.Omega.{arith}
 use native.Mathlib.Numerals.{add-one}
 use lib.ListN.{length, set, length-set}
 use lib.Seq.{get_or-set_same}
-use Rattle.definitions.specs.Limits.{desk_places, desk_memory, refused_memory}
+use Rattle.std.specs.Prelude.{true, false, Some, None, Ok, Err}
+use Rattle.definitions.specs.Limits.{desk_places, desk_memory}
 use Rattle.definitions.specs.ProblemRecord.{problem_of, meant}
 use Rattle.definitions.specs.Desk as Machine
 use Rattle.definitions.specs.Desk.{Stands, Steps, one_more, last_one}
+use Rattle.records.specs.declared.refusal.Refusal.TheVariants.{Memory}
 use Rattle.engine.specs.OneTrial.{TrialFor}
 use Rattle.engine.specs.Outcome.{Gives}
 use Rattle.desk.specs.declared.state.Front.{Front}
 use Rattle.desk.specs.declared.state.Place.{Place}
-use Rattle.desk.specs.declared.calls.Stepped.TheVariants as Steppings
 use Rattle.desk.specs.State.{desk_of, Fits, front_joined, front_gone, no_place, head_of, ring, bytes_at, Seated, PlaceIs, is_waiting, is_answered, Tryable, Tried}
 use Rattle.desk.specs.Calls.{Left, HeadTried, DidStep, AtHead, CanStep, StepAt}
 use Rattle.tickets.proofs.Sound.{classed, from_opening_sound}
@@ -25,12 +26,12 @@ use Rattle.desk.proofs.Taking.{memory_enough}
 -- ---- nothing to do
 
 module _ {f : Front} {c : Place} {memory : List ℕ} where
-  pub stepped_short : length memory < desk_memory → StepAt f c memory (record { outcome = Steppings.Refused refused_memory; front = f; place = c })
+  pub stepped_short : length memory < desk_memory → StepAt f c memory (Err Memory)
   stepped_short h = record { short = λ _. refl; moves = λ l. absurd (omega arith) }
 
-  pub stepped_idle : desk_memory ≤ length memory → f.waiting ≡ 0 → StepAt f c memory (record { outcome = Steppings.NoneWaits; front = f; place = c })
+  pub stepped_idle : desk_memory ≤ length memory → f.waiting ≡ 0 → StepAt f c memory (Ok None)
   unfolding DidStep
-  stepped_idle h e = record { short = λ l. absurd (omega arith); moves = λ _ left here. (Steps.idle (memory_enough (length memory) h) (none_wait left.holds e), refl) }
+  stepped_idle h e = record { short = λ l. absurd (omega arith); moves = λ _ left here. Steps.idle (memory_enough (length memory) h) (none_wait left.holds e) }
 
 -- ---- the head
 
@@ -74,7 +75,7 @@ module _ (f : Front) (c : Place) (memory : List ℕ) (enough : desk_memory ≤ l
       trial : TrialFor (meant bytes) c.pending r.pending
       trial = subst (λ (z : List ℕ). TrialFor (meant z) c.pending r.pending) same_size tried.trial
 
-      stands : Stands state at (Machine.waits r.ticket (meant bytes) c.pending.made)
+      stands : Stands state at (Machine.waits r.ticket (meant bytes) c.pending.search.made)
       stands = record { is = rw (tried.ticket_is, ← same_size) (waits_as left here).is }
 
       seated : Seated r
@@ -99,27 +100,27 @@ module _ (f : Front) (c : Place) (memory : List ℕ) (enough : desk_memory ≤ l
       line_is = line_head left.holds (omega arith)
 
     -- It is answered,
-    pub stepped_done : (r.pending.class ≡ 0 → ⊥) → StepAt f c memory (record { outcome = Steppings.Done r.ticket; front = rest; place = r })
+    pub stepped_done : (r.pending.search.class ≡ None → ⊥) → StepAt f c memory (Ok (Some (record { ticket = r.ticket; done = true; front = rest; place = r })))
     unfolding DidStep
     stepped_done e = rw gone (record {
       short = λ l. absurd (omega arith);
       moves = λ _ left here.
           let s = (trial left here).ends e in
-          let last : suc c.pending.made ≡ r.pending.made = omega (arith, s.1) in
+          let last : suc c.pending.search.made ≡ r.pending.search.made = omega (arith, s.1) in
           head_tried left here (gone_fits left.holds.fits some refl).0 left.holds.given_is refl (is_answered (seated left here) s.0)
           (last_one (memory_enough (length memory) enough) (line_is left here) (stands left here) last s.0.answers s.0.gives);
     })
 
     -- or goes on, at the end of the line.
-    pub stepped_on : {next : Front} → next ≡ front_joined rest (head_of f) → r.pending.class ≡ 0 → StepAt f c memory (record { outcome = Steppings.GoesOn r.ticket; front = next; place = r })
+    pub stepped_on : {next : Front} → next ≡ front_joined rest (head_of f) → r.pending.search.class ≡ None → StepAt f c memory (Ok (Some (record { ticket = r.ticket; done = false; front = next; place = r })))
     unfolding DidStep
     stepped_on j e = rw (j, gone) (record {
       short = λ l. absurd (omega arith);
       moves = λ _ left here.
           let g = (trial left here).goes_on e in
-          let made : r.pending.made ≡ suc c.pending.made = g.made_is ∙ add-one c.pending.made in
+          let made : r.pending.search.made ≡ suc c.pending.search.made = g.made_is ∙ add-one c.pending.search.made in
           let k = classed (problem_of (meant bytes)) in
-          let more : suc c.pending.made < k.trials = omega (arith, g.more k.class k.trials k.span k.found) in
+          let more : suc c.pending.search.made < k.trials = omega (arith, g.more k.class k.trials k.span k.found) in
           let fits = gone_fits left.holds.fits some refl in
           head_tried left here
           (record { line_size = length-set f.line (((f.head + 1) % 16 + (f.waiting - 1)) % 16) at ∙ left.holds.fits.line_size; head_inside = fits.0.head_inside; few = omega (arith, fits.1) })

@@ -8,20 +8,25 @@ use native.Mathlib.Omega.{arith}
 use lib.ListN.{length, get_or, set, replicate, length-set, length-replicate, get_or-replicate, length-append}
 use lib.Seq.{get_or-set_same}
 use borrow.Author.Tests.{le-ltb, le-leb, lt-leb}
-use Rattle.definitions.specs.Limits.{desk_places, desk_memory, problem_most, last_ticket, refused_memory, refused_full}
+use Rattle.std.specs.Prelude.{Option, Some, None, Result, Ok, Err}
+use Rattle.definitions.specs.Limits.{desk_places, desk_memory, problem_most, last_ticket, refused_memory}
 use Rattle.definitions.specs.Bytes.{first, put}
 use Rattle.definitions.specs.ProblemRecord.{meant}
 use Rattle.definitions.specs.Desk as Machine
-use Rattle.definitions.specs.Desk.{memory_refused, WithinDesk, place_at, held, take_refusal, TakesIn, taken}
+use Rattle.definitions.specs.Desk.{memory_refused, desk_refusal, WithinDesk, place_at, held, take_refusal, TakesIn, taken}
 use Rattle.definitions.proofs.Put.{length_put}
-use Rattle.engine.specs.declared.one_trial.Begun.{Begun}
+use Rattle.definitions.proofs.Refusals.{or_else_suc}
+use Rattle.records.specs.declared.refusal.Refusal.{Refusal}
+use Rattle.records.specs.declared.refusal.Refusal.TheVariants.{Full, Memory}
+use Rattle.records.specs.Refusals.{number_of, refused_by}
+use Rattle.records.proofs.Refusing.{number_range}
 use Rattle.engine.specs.declared.one_trial.Pending.{Pending}
 use Rattle.engine.specs.OneTrial.{BegunFor}
 use Rattle.desk.specs.declared.state.Front.{Front}
 use Rattle.desk.specs.declared.state.Place.{Place}
 use Rattle.desk.specs.declared.calls.Taking.{Taking}
-use Rattle.desk.specs.State.{Desk, desk_of, no_place, place_in, FirstFree, Room, ring, bytes_at, blank_place, PlaceIs, is_empty, is_waiting}
-use Rattle.desk.specs.Calls.{Left, OpenedBy, TakenAt, TookIn, CanTake, refused_in, entry, TookAt}
+use Rattle.desk.specs.State.{Desk, desk_of, no_place, place_in, FirstWith, FirstFree, Room, ring, bytes_at, blank_place, PlaceIs, is_empty, is_waiting}
+use Rattle.desk.specs.Calls.{Left, OpenedBy, TakenAt, TookIn, CanTake, entry, TookAt}
 use Rattle.tickets.proofs.Sound.{from_opening_sound, sound_taken, line_few}
 use Rattle.desk.proofs.Ring.{ring_length, ring_join}
 use Rattle.desk.proofs.Kept.{kept_here, kept_there, fits_place}
@@ -34,75 +39,87 @@ memory_enough memory h = ap (λ (b : Bool). cond b refused_memory 0) (le-ltb mem
 
 -- ---- opening
 
-pub opened_ready : {memory : List ℕ} (c : Place) → c ≡ blank_place → desk_memory ≤ length memory
-    → OpenedBy memory 0 (desk_of (record { given = 0; head = 0; waiting = 0; line = replicate 16 0 }) (replicate 16 c))
+pub opened_ready : {memory : List ℕ} → desk_memory ≤ length memory → OpenedBy memory (Ok (record { given = 0; head = 0; waiting = 0; line = replicate 16 0 }))
 unfolding ring
-opened_ready c e h = record {
+opened_ready h = record {
   short = λ l. absurd (omega arith);
   ready = λ _. (
+    _,
     refl,
     record {
       fits = record { line_size = length-replicate {A = ℕ} 16 0; head_inside = omega arith; few = omega arith };
-      size = length-replicate {A = Place} 16 c;
+      size = length-replicate {A = Place} 16 blank_place;
       given_is = refl;
       line_is = refl;
       places_size = length-replicate {A = Machine.Place} desk_places Machine.empty;
-      places = λ i h. rw (get_or-replicate {A = Place} 16 i c no_place h, get_or-replicate {A = Machine.Place} desk_places i Machine.empty Machine.empty h) (is_empty e);
+      places = λ i h. rw (get_or-replicate {A = Place} 16 i blank_place no_place h, get_or-replicate {A = Machine.Place} desk_places i Machine.empty Machine.empty h) (is_empty refl);
     },
   );
 }
 
-pub opened_short : {memory : List ℕ} {d : Desk} → length memory < desk_memory → OpenedBy memory refused_memory d
+pub opened_short : {memory : List ℕ} → length memory < desk_memory → OpenedBy memory (Err Memory)
 opened_short h = record { short = λ _. refl; ready = λ l. absurd (omega arith) }
 
 -- ---- refusals of taking in
 
-module _ {f : Front} {at : ℕ} {memory p : List ℕ} {r : Taking} where
-  pub took_short : length memory < desk_memory → r ≡ refused_in f refused_memory → TookAt f at memory p r memory
-  took_short h e = rw e (record { short = λ _. (refl, refl); moves = λ l. absurd (omega arith) })
+module _ {f : Front} {at : Option ℕ} {memory p : List ℕ} where
+  pub took_short : length memory < desk_memory → TookAt f at memory p (Err Memory) memory
+  took_short h = record { short = λ _. (refl, refl); moves = λ l. absurd (omega arith) }
 
   module _ (enough : desk_memory ≤ length memory) where
     -- A refusal changes nothing.
-    took_nothing : {k : ℕ} → r ≡ refused_in f (suc k)
-        → ((places : List Place) (left : Left (desk_of f places) memory) → FirstFree (desk_of f places) at → take_refusal (length memory) left.state p ≡ suc k) → TookAt f at memory p r memory
+    took_nothing : (k : Refusal)
+        → ((places : List Place) (left : Left (desk_of f places) memory) → FirstFree (desk_of f places) at → take_refusal (length memory) left.state p ≡ number_of k) → TookAt f at memory p (Err k) memory
     unfolding TookIn
-    took_nothing e refusal = rw e (record { short = λ l. absurd (omega arith); moves = λ _ left free. (TakesIn.turned_away (refusal _ left free), refl, refl) })
+    took_nothing k refusal = record {
+      short = λ l. absurd (omega arith);
+      moves = λ _ left free. (turned_away_by (refusal _ left free), refl);
+    }
+      where
+        turned_away_by : {state : Machine.Desk} → take_refusal (length memory) state p ≡ number_of k → TakesIn (length memory) state p (Machine.TakenIn.refused (number_of k)) state
+        turned_away_by {state} e = go (number_of k) (number_range k).0 e
+          where
+            go : (number : ℕ) → 0 < number → take_refusal (length memory) state p ≡ number → TakesIn (length memory) state p (Machine.TakenIn.refused number) state
+            go zero h e = absurd (omega arith)
+            go (suc number) h e = TakesIn.turned_away e
 
     -- The problem's refusals come first,
-    pub took_refused : {b : Begun} → BegunFor (meant p) b → (b.refused ≡ 0 → ⊥) → r ≡ refused_in f b.refused → TookAt f at memory p r memory
+    pub took_refused : {b : Result Pending Refusal} {k : Refusal} → BegunFor (meant p) b → b ≡ Err k → TookAt f at memory p (Err k) memory
     unfolding take_refusal
-    took_refused {b} g n = go b.refused refl
-      where
-        go : (k : ℕ) → b.refused ≡ k → r ≡ refused_in f k → TookAt f at memory p r memory
-        go zero e is = absurd (n e)
-        go (suc k) e is = took_nothing is (λ places left free. rw (memory_enough (length memory) enough, sym g.refused_is ∙ e) refl)
+    took_refused {b} {k} g e =
+        let refused : desk_refusal (meant p) ≡ number_of k = sym g.refused_is ∙ ap refused_by e in
+        let some = (number_range k).0 in
+        took_nothing k (λ places left free. rw (memory_enough (length memory) enough, refused) (or_else_suc (number_of k) _ some))
 
-    module _ {b : Begun} (g : BegunFor (meant p) b) (z : b.refused ≡ 0) (is : r ≡ refused_in f refused_full) where
+    module _ {b : Result Pending Refusal} {begun : Pending} (g : BegunFor (meant p) b) (z : b ≡ Ok begun) where
+      none_refused : desk_refusal (meant p) ≡ 0
+      none_refused = sym g.refused_is ∙ ap refused_by z
+
       -- then 21: all places are held,
-      pub took_full : at ≡ desk_places → TookAt f at memory p r memory
+      pub took_full : at ≡ None → TookAt f at memory p (Err Full) memory
       unfolding take_refusal
-      took_full e = took_nothing is (λ places left free.
-          let all = held_sixteen left.holds (subst (FirstFree (desk_of f places)) e free) in
-          rw (memory_enough (length memory) enough, sym g.refused_is ∙ z, le-leb desk_places (held left.state.places) (omega arith)) refl)
+      took_full e = took_nothing Full (λ places left free.
+          let all = held_sixteen left.holds (free.nowhere e) in
+          rw (memory_enough (length memory) enough, none_refused, le-leb desk_places (held left.state.places) (omega arith)) refl)
 
       -- or the tickets are used up.
-      pub took_last : (at ≡ desk_places → ⊥) → f.given ≡ last_ticket → TookAt f at memory p r memory
+      pub took_last : {i : ℕ} → at ≡ Some i → f.given ≡ last_ticket → TookAt f at memory p (Err Full) memory
       unfolding take_refusal
-      took_last n e = took_nothing is (λ places left free.
-          let some = held_fewer left.holds free (omega (arith, free.most)) in
-          rw (memory_enough (length memory) enough, sym g.refused_is ∙ z, lt-leb desk_places (held left.state.places) some, le-leb last_ticket left.state.given (omega (arith, left.holds.given_is))) refl)
+      took_last e last = took_nothing Full (λ places left free.
+          let some = held_fewer left.holds (free.found _ e) in
+          rw (memory_enough (length memory) enough, none_refused, lt-leb desk_places (held left.state.places) some, le-leb last_ticket left.state.given (omega (arith, left.holds.given_is))) refl)
 
 -- ---- one taken in
 
-module _ (f : Front) (at : ℕ) (memory p : List ℕ) {b : Begun} (enough : desk_memory ≤ length memory) (g : BegunFor (meant p) b) (z : b.refused ≡ 0) (n : at ≡ desk_places → ⊥)
-    (below : f.given < last_ticket) where
+module _ (f : Front) (free : Option ℕ) (at : ℕ) (memory p : List ℕ) {b : Result Pending Refusal} {begun : Pending} (enough : desk_memory ≤ length memory) (g : BegunFor (meant p) b) (z : b ≡ Ok begun)
+    (here : free ≡ Some at) (below : f.given < last_ticket) where
   within : WithinDesk (meant p)
-  within = sym g.refused_is ∙ z
+  within = sym g.refused_is ∙ ap refused_by z
 
   abbrev c : Place
-  c = (entry f at p b.pending).place
+  c = (entry f at p begun).place
 
-  module _ {places : List Place} (left : Left (desk_of f places) memory) (free : FirstFree (desk_of f places) at) where
+  module _ {places : List Place} (left : Left (desk_of f places) memory) (first : FirstWith (desk_of f places) 0 at) where
     abbrev d : Desk
     d = desk_of f places
 
@@ -110,7 +127,7 @@ module _ (f : Front) (at : ℕ) (memory p : List ℕ) {b : Begun} (enough : desk
     state = left.state
 
     inside : at < desk_places
-    inside = omega (arith, free.most)
+    inside = first.inside
 
     abbrev next : Machine.Desk
     next = record { given = suc state.given; line = state.line ++ (at ∷ []); places = set state.places at (Machine.waits (suc state.given) (meant p) 0) }
@@ -118,8 +135,8 @@ module _ (f : Front) (at : ℕ) (memory p : List ℕ) {b : Begun} (enough : desk
     -- Nothing refuses it.
     takes : TakesIn (length memory) state p (Machine.ticket (suc state.given)) next
     unfolding take_refusal
-    takes = taken (rw (memory_enough (length memory) enough, within, lt-leb desk_places (held state.places) (held_fewer left.holds free inside), lt-leb last_ticket state.given (omega (arith, left.holds.given_is))) refl)
-        (first_empty left.holds free inside)
+    takes = taken (rw (memory_enough (length memory) enough, within, lt-leb desk_places (held state.places) (held_fewer left.holds first), lt-leb last_ticket state.given (omega (arith, left.holds.given_is))) refl)
+        (first_empty left.holds first)
 
     -- There is room for it: the line is shorter than 16.
     room : Room f at p memory
@@ -134,24 +151,24 @@ module _ (f : Front) (at : ℕ) (memory p : List ℕ) {b : Begun} (enough : desk
     new : PlaceIs (bytes_at memory' at (length p)) c (Machine.waits (suc state.given) (meant p) 0)
     new =
         let ticket : f.given + 1 ≡ suc state.given = omega (arith, left.holds.given_is) in
-        let none : b.pending.made ≡ 0 = ap (λ (s : Pending). s.made) (g.fresh_is z) in
-        rw (kept_here memory p at enough inside room.short, ← ticket, ← none) (is_waiting (record { some = omega arith; size_most = room.short }) (g.begun z))
+        let none : begun.search.made ≡ 0 = ap (λ (s : Pending). s.search.made) (g.fresh_is begun z) in
+        rw (kept_here memory p at enough inside room.short, ← ticket, ← none) (is_waiting (record { some = omega arith; size_most = room.short }) (g.begun begun z))
 
     others : (k : ℕ) → k < desk_places → (k ≡ at → ⊥) → PlaceIs (bytes_at memory' k (place_in d k).size) (place_in d k) (place_at state k)
     others k l n = ⊎_elim
-        (λ (free : place_in d k ≡ blank_place). rw (place_empty (left.holds.places k l) (ap (λ (x : Place). x.ticket) free)) (is_empty free))
+        (λ (blank : place_in d k ≡ blank_place). rw (place_empty (left.holds.places k l) (ap (λ (x : Place). x.ticket) blank)) (is_empty blank))
         (λ (size : (place_in d k).size ≤ problem_most). rw (kept_there memory p at enough inside room.short k (place_in d k).size n size) (left.holds.places k l))
         (size_known (left.holds.places k l))
 
-    taken_at : TakenAt d memory p state at (f.given + 1) (desk_of (entry f at p b.pending).front (set places at c)) memory'
+    taken_at : TakenAt d memory p state at (f.given + 1) (desk_of (entry f at p begun).front (set places at c)) memory'
     taken_at =
         let ticket : f.given + 1 ≡ suc state.given = omega (arith, left.holds.given_is) in
         let here : get_or (set places at c) at no_place ≡ c = get_or-set_same places at c no_place (omega (arith, inside, left.holds.size)) in
         record {
-          first = first_empty left.holds free inside;
+          first = first_empty left.holds first;
           memory_is = refl;
           same_length = length_put memory (at * problem_most) p (omega arith) (omega (arith, room.short, inside));
-          begun = (ap (λ (x : Place). x.size) here, ap (λ (x : Place). x.pending) here ∙ g.fresh_is z);
+          begun = (ap (λ (x : Place). x.size) here, ap (λ (x : Place). x.pending) here ∙ g.fresh_is begun z);
           others = others_stay _ _ _;
           next = next;
           takes = rw ticket takes;
@@ -162,9 +179,9 @@ module _ (f : Front) (at : ℕ) (memory p : List ℕ) {b : Begun} (enough : desk
               inside others new;
         }
 
-  pub can_room : CanTake f at memory → Room f at p memory
-  can_room can = room (can.left enough) can.free
+  pub can_room : CanTake f free memory → Room f at p memory
+  can_room can = room (can.left enough) (can.free.found at here)
 
-  pub took_one : {r : Taking} {memory' : List ℕ} → r ≡ entry f at p b.pending → memory' ≡ put memory (at * problem_most) p → TookAt f at memory p r memory'
+  pub took_one : {r : Taking} {memory' : List ℕ} → r ≡ entry f at p begun → memory' ≡ put memory (at * problem_most) p → TookAt f free memory p (Ok r) memory'
   unfolding TookIn
-  took_one e m = rw (e, m) (record { short = λ l. absurd (omega arith); moves = λ _ left free. taken_at left free })
+  took_one e m = rw (e, m) (record { short = λ l. absurd (omega arith); moves = λ _ left first. (at, here, taken_at left (first.found at here)) })

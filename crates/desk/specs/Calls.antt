@@ -1,20 +1,19 @@
 -- What the desk's calls leave, in the words of the machine. Document 02, 2.11.
-use Rattle.std.specs.Prelude.{ℕ, ◌+◌, ◌*◌, ◌%◌, ◌≤◌, ◌<◌, ◌≡◌, List, length, set}
-use Rattle.definitions.specs.Limits.{desk_places, desk_memory, problem_most, refused_memory}
+use Rattle.std.specs.Prelude.{ℕ, ◌+◌, ◌*◌, ◌%◌, ◌≤◌, ◌<◌, ◌≡◌, cond, List, length, set, replicate, Option, Some, None, Result, Ok, Err}
+use Rattle.definitions.specs.Limits.{desk_places, desk_memory, problem_most}
 use Rattle.definitions.specs.Bytes.{put}
 use Rattle.definitions.specs.Offset.{trop_of}
 use Rattle.definitions.specs.ProblemRecord.{meant, n_field, m_field}
 use Rattle.definitions.specs.Desk as Machine
 use Rattle.definitions.specs.Desk.{FirstEmpty, FromOpening, TakesIn, Steps, Collects}
+use Rattle.records.specs.declared.refusal.Refusal.{Refusal}
+use Rattle.records.specs.declared.refusal.Refusal.TheVariants.{Memory}
+use Rattle.records.specs.Classes.{class_number}
+use Rattle.records.specs.Refusals.{number_of}
 use Rattle.engine.specs.OneTrial.{fresh}
 use Rattle.engine.specs.declared.one_trial.Pending.{Pending}
+use Rattle.engine.specs.declared.solve.Answered.{Answered}
 use Rattle.engine.specs.Outcome.{Gives}
-use Rattle.desk.specs.declared.calls.TakenIn.{TakenIn}
-use Rattle.desk.specs.declared.calls.TakenIn.TheVariants as Takings
-use Rattle.desk.specs.declared.calls.Stepped.{Stepped}
-use Rattle.desk.specs.declared.calls.Stepped.TheVariants as Steppings
-use Rattle.desk.specs.declared.calls.Collected.{Collected}
-use Rattle.desk.specs.declared.calls.Collected.TheVariants as Collections
 use Rattle.desk.specs.declared.calls.Taking.{Taking}
 use Rattle.desk.specs.declared.calls.Stepping.{Stepping}
 use Rattle.desk.specs.declared.state.Front.{Front}
@@ -35,29 +34,25 @@ AsLeft d memory = desk_memory ≤ length memory → Left d memory
 
 -- ---- opening
 
--- 23, or a desk with nothing on it, whatever the memory holds.
-pub record OpenedBy (memory : List ℕ) (refused : ℕ) (d : Desk) : Type 0 where
-  pub short : length memory < desk_memory → refused ≡ refused_memory
-  pub ready : desk_memory ≤ length memory → (refused ≡ 0) × Holds d memory Machine.opened
+-- 23, or the front of a desk with nothing on it, whatever the memory holds.
+pub record OpenedBy (memory : List ℕ) (r : Result Front Refusal) : Type 0 where
+  pub short : length memory < desk_memory → r ≡ Err Memory
+  pub ready : desk_memory ≤ length memory → (f : Front) × (r ≡ Ok f) × Holds (desk_of f (replicate desk_places blank_place)) memory Machine.opened
 
 -- The other calls get the front of a desk and one of its places.
 
 -- ---- taking in
 
 -- A desk with this front, whose first free place this is.
-pub record CanTake (f : Front) (at : ℕ) (memory : List ℕ) : Type 0 where
+pub record CanTake (f : Front) (at : Option ℕ) (memory : List ℕ) : Type 0 where
   pub places : List Place
   pub left : AsLeft (desk_of f places) memory
   pub free : FirstFree (desk_of f places) at
 
--- Nothing is taken in.
-abbrev pub refused_in : Front → ℕ → Taking
-refused_in f k = record { outcome = Takings.Refused k; front = f; place = blank_place }
-
 -- A problem that was begun, with the next ticket, at the end of the line.
 abbrev pub entry : Front → ℕ → List ℕ → Pending → Taking
 entry f at p pending = record {
-  outcome = Takings.Ticket (f.given + 1);
+  ticket = f.given + 1;
   front = record { given = f.given + 1; head = f.head; waiting = f.waiting + 1; line = set f.line ((f.head + f.waiting) % desk_places) at };
   place = record { ticket = f.given + 1; size = length p; pending = pending };
 }
@@ -77,16 +72,16 @@ pub record TakenAt (d : Desk) (memory p : List ℕ) (state : Machine.Desk) (at t
   pub takes : TakesIn (length memory) state p (Machine.ticket ticket) next
   pub holds : Holds d' memory' next
 
--- The machine's transition: a refusal leaves memory, front and state as they were, a ticket every other place.
-unfoldable pub TookIn : Desk → List ℕ → List ℕ → Machine.Desk → ℕ → TakenIn → Desk → List ℕ → Type 0
-TookIn d memory p state at (Takings.Refused k) d' memory' = TakesIn (length memory) state p (Machine.TakenIn.refused k) state × (d'.front ≡ d.front) × (memory' ≡ memory)
-TookIn d memory p state at (Takings.Ticket k) d' memory' = TakenAt d memory p state at k d' memory'
+-- The machine's transition: a refusal leaves memory and state as they were, a ticket every other place.
+unfoldable pub TookIn : Desk → List ℕ → List ℕ → Machine.Desk → Option ℕ → Result Taking Refusal → List ℕ → Type 0
+TookIn d memory p state at (Err k) memory' = TakesIn (length memory) state p (Machine.TakenIn.refused (number_of k)) state × (memory' ≡ memory)
+TookIn d memory p state at (Ok t) memory' = (i : ℕ) × (at ≡ Some i) × TakenAt d memory p state i t.ticket (desk_of t.front (set d.places i t.place)) memory'
 
 -- 23 where the memory is too short, else that transition of every state that the desk can hold.
-pub record TookAt (f : Front) (at : ℕ) (memory p : List ℕ) (r : Taking) (memory' : List ℕ) : Type 0 where
-  pub short : length memory < desk_memory → (r ≡ refused_in f refused_memory) × (memory' ≡ memory)
+pub record TookAt (f : Front) (at : Option ℕ) (memory p : List ℕ) (r : Result Taking Refusal) (memory' : List ℕ) : Type 0 where
+  pub short : length memory < desk_memory → (r ≡ Err Memory) × (memory' ≡ memory)
   pub moves : {places : List Place} → desk_memory ≤ length memory → (left : Left (desk_of f places) memory) → FirstFree (desk_of f places) at
-      → TookIn (desk_of f places) memory p left.state at r.outcome (desk_of r.front (set places at r.place)) memory'
+      → TookIn (desk_of f places) memory p left.state at r memory'
 
 -- ---- a step
 
@@ -108,32 +103,41 @@ pub record HeadTried (d : Desk) (memory : List ℕ) (state : Machine.Desk) (r : 
   pub steps : Steps Gives (length memory) state r next
   pub holds : Holds d' memory next
 
--- The machine's transition, which is never refused: with none waiting nothing changes.
-unfoldable pub DidStep : Desk → List ℕ → Machine.Desk → Stepped → Desk → Type 0
-DidStep d memory state (Steppings.Refused k) d' = ⊥
-DidStep d memory state Steppings.NoneWaits d' = Steps Gives (length memory) state Machine.none_waits state × (d'.front ≡ d.front)
-DidStep d memory state (Steppings.GoesOn k) d' = HeadTried d memory state (Machine.goes_on k) d'
-DidStep d memory state (Steppings.Done k) d' = HeadTried d memory state (Machine.done k) d'
+-- What a step that made a trial answers.
+abbrev pub stepped_as : Stepping → Machine.Stepped
+stepped_as s = cond s.done (Machine.done s.ticket) (Machine.goes_on s.ticket)
 
-pub record StepAt (f : Front) (c : Place) (memory : List ℕ) (r : Stepping) : Type 0 where
-  pub short : length memory < desk_memory → r ≡ record { outcome = Steppings.Refused refused_memory; front = f; place = c }
+-- The machine's transition, which is never refused: with none waiting nothing changes.
+unfoldable pub DidStep : Desk → List ℕ → Machine.Desk → Result (Option Stepping) Refusal → Type 0
+DidStep d memory state (Err k) = ⊥
+DidStep d memory state (Ok None) = Steps Gives (length memory) state Machine.none_waits state
+DidStep d memory state (Ok (Some s)) = HeadTried d memory state (stepped_as s) (desk_of s.front (set d.places (head_of d.front) s.place))
+
+pub record StepAt (f : Front) (c : Place) (memory : List ℕ) (r : Result (Option Stepping) Refusal) : Type 0 where
+  pub short : length memory < desk_memory → r ≡ Err Memory
   pub moves : {places : List Place} → desk_memory ≤ length memory → (left : Left (desk_of f places) memory) → AtHead f places c
-      → DidStep (desk_of f places) memory left.state r.outcome (desk_of r.front (set places (head_of f) r.place))
+      → DidStep (desk_of f places) memory left.state r
 
 -- ---- collecting
 
--- A desk that has the ticket at this place, or nowhere.
-pub record CanCollect (at : ℕ) (c : Place) (memory : List ℕ) : Type 0 where
+-- What stands at a place, if there is one.
+abbrev pub stands_at : Desk → Option ℕ → Option Place
+stands_at d (Some i) = Some (place_in d i)
+stands_at d None = None
+
+-- A desk that has the ticket at a place, which is given, or nowhere.
+pub record CanCollect (c : Option Place) (memory : List ℕ) : Type 0 where
   pub desk : Desk
   pub ticket : ℕ
+  pub at : Option ℕ
   pub left : AsLeft desk memory
   pub found : HoldsTicket desk ticket at
-  pub here : at < desk_places → place_in desk at ≡ c
+  pub here : c ≡ stands_at desk at
 
 -- The place of the ticket whose answer was handed over is empty; every other place stays.
 pub record FreedAt (d : Desk) (memory : List ℕ) (state : Machine.Desk) (ticket : ℕ) (buffer : List ℕ) (at : ℕ) (r : Machine.Collected) (d' : Desk) (buffer' : List ℕ) : Type 0 where
   pub inside : at < desk_places
-  pub found : HoldsTicket d ticket at
+  pub found : HoldsTicket d ticket (Some at)
   pub same_length : length buffer' ≡ length buffer
   pub others : OthersStay d at d'
   pub next : Machine.Desk
@@ -141,13 +145,13 @@ pub record FreedAt (d : Desk) (memory : List ℕ) (state : Machine.Desk) (ticket
   pub collects : Collects (length memory) state ticket buffer r next buffer'
 
 -- The machine's transition: a refusal, and the word that the ticket still waits, change nothing.
-unfoldable pub DidCollect : Desk → List ℕ → Machine.Desk → ℕ → List ℕ → ℕ → Collected → List ℕ → Type 0
-DidCollect d memory state ticket buffer at (Collections.Refused k) buffer' = Collects (length memory) state ticket buffer (Machine.Collected.refused k) state buffer × (buffer' ≡ buffer)
-DidCollect d memory state ticket buffer at Collections.StillWaits buffer' = Collects (length memory) state ticket buffer Machine.still_waits state buffer × (buffer' ≡ buffer)
-DidCollect d memory state ticket buffer at (Collections.Handed class span own size) buffer' =
-    FreedAt d memory state ticket buffer at (Machine.collected class (trop_of span) own size) (desk_of d.front (set d.places at blank_place)) buffer'
+unfoldable pub DidCollect : Desk → List ℕ → Machine.Desk → ℕ → List ℕ → Option ℕ → Result (Option Answered) Refusal → List ℕ → Type 0
+DidCollect d memory state ticket buffer at (Err k) buffer' = Collects (length memory) state ticket buffer (Machine.Collected.refused (number_of k)) state buffer × (buffer' ≡ buffer)
+DidCollect d memory state ticket buffer at (Ok None) buffer' = Collects (length memory) state ticket buffer Machine.still_waits state buffer × (buffer' ≡ buffer)
+DidCollect d memory state ticket buffer at (Ok (Some a)) buffer' = (i : ℕ) × (at ≡ Some i)
+    × FreedAt d memory state ticket buffer i (Machine.collected (class_number a.class) (trop_of a.span) a.trials a.size) (desk_of d.front (set d.places i blank_place)) buffer'
 
-pub record CollectedAt (at : ℕ) (c : Place) (memory buffer : List ℕ) (r : Collected) (buffer' : List ℕ) : Type 0 where
-  pub short : length memory < desk_memory → (r ≡ Collections.Refused refused_memory) × (buffer' ≡ buffer)
-  pub moves : {d : Desk} {ticket : ℕ} → desk_memory ≤ length memory → (left : Left d memory) → HoldsTicket d ticket at → (at < desk_places → place_in d at ≡ c)
+pub record CollectedAt (c : Option Place) (memory buffer : List ℕ) (r : Result (Option Answered) Refusal) (buffer' : List ℕ) : Type 0 where
+  pub short : length memory < desk_memory → (r ≡ Err Memory) × (buffer' ≡ buffer)
+  pub moves : {d : Desk} {ticket : ℕ} {at : Option ℕ} → desk_memory ≤ length memory → (left : Left d memory) → HoldsTicket d ticket at → c ≡ stands_at d at
       → DidCollect d memory left.state ticket buffer at r buffer'

@@ -1,11 +1,11 @@
 -- The state of the desk in code, what a change of it leaves, and which state of the machine it holds.
-use Rattle.std.specs.Prelude.{ℕ, zero, suc, ◌+◌, ◌*◌, ◌-◌, ◌%◌, ◌≤◌, ◌<◌, ◌≡◌, List, [], ◌∷◌, length, get_or, set}
+use Rattle.std.specs.Prelude.{ℕ, zero, suc, ◌+◌, ◌*◌, ◌-◌, ◌%◌, ◌≤◌, ◌<◌, ◌≡◌, List, [], ◌∷◌, length, get_or, set, Option, Some, None}
 use Rattle.definitions.specs.Limits.{desk_places, desk_memory, problem_most, last_ticket}
 use Rattle.definitions.specs.Offset.{trop_of}
 use Rattle.definitions.specs.ProblemRecord.{meant}
 use Rattle.definitions.specs.Questions.{part}
 use Rattle.definitions.specs.Desk as Machine
-use Rattle.engine.specs.OneTrial.{fresh, span_in, PendingFor, answer_with, AnsweredFor, TrialFor}
+use Rattle.engine.specs.OneTrial.{fresh, class_in, span_in, PendingFor, answer_with, AnsweredFor, TrialFor}
 use Rattle.desk.specs.declared.state.Place.{Place}
 use Rattle.desk.specs.declared.state.Front.{Front}
 
@@ -38,7 +38,12 @@ abbrev pub no_place : Place
 no_place = record {
   ticket = 0;
   size = 0;
-  pending = record { n = 0; m = 0; made = 0; class = 0; low = 0; high = 0; start = 0; second = 0; cells = [] };
+  pending = record {
+    n = 0;
+    m = 0;
+    search = record { made = 0; bracket = record { low = 0; high = 0 }; class = None };
+    kept = record { start = 0; second = 0; picks = [] };
+  };
 }
 
 -- What stands at a place.
@@ -53,17 +58,28 @@ head_of f = get_or f.line f.head 0
 pub record OthersStay (d : Desk) (at : ℕ) (d' : Desk) : Type 0 where
   pub stay : (k : ℕ) → (k ≡ at → ⊥) → place_in d' k ≡ place_in d k
 
--- The first empty place, or 16.
-pub record FirstFree (d : Desk) (r : ℕ) : Type 0 where
-  pub most : r ≤ desk_places
-  pub free : r < desk_places → (place_in d r).ticket ≡ 0
-  pub before : (k : ℕ) → k < r → (place_in d k).ticket ≡ 0 → ⊥
+-- The first place with this ticket, which is 0 at the empty ones; and that no place has it.
+pub record FirstWith (d : Desk) (ticket i : ℕ) : Type 0 where
+  pub inside : i < desk_places
+  pub here : (place_in d i).ticket ≡ ticket
+  pub before : (k : ℕ) → k < i → (place_in d k).ticket ≡ ticket → ⊥
 
--- The first place with the ticket, or 16; 16 for ticket 0, which none has.
-pub record HoldsTicket (d : Desk) (ticket r : ℕ) : Type 0 where
-  pub most : r ≤ desk_places
-  pub held : r < desk_places → (0 < ticket) × ((place_in d r).ticket ≡ ticket)
-  pub before : (k : ℕ) → k < r → 0 < ticket → (place_in d k).ticket ≡ ticket → ⊥
+abbrev pub NoneWith : Desk → ℕ → Type 0
+NoneWith d ticket = (k : ℕ) → k < desk_places → (place_in d k).ticket ≡ ticket → ⊥
+
+-- The first place with this ticket, if one has it.
+pub record Finds (d : Desk) (ticket : ℕ) (r : Option ℕ) : Type 0 where
+  pub found : (i : ℕ) → r ≡ Some i → FirstWith d ticket i
+  pub nowhere : r ≡ None → NoneWith d ticket
+
+-- The first empty place, if there is one.
+abbrev pub FirstFree : Desk → Option ℕ → Type 0
+FirstFree d r = Finds d 0 r
+
+-- The first place that holds the ticket, if one does; none does for ticket 0.
+pub record HoldsTicket (d : Desk) (ticket : ℕ) (r : Option ℕ) : Type 0 where
+  pub held : (i : ℕ) → r ≡ Some i → (0 < ticket) × FirstWith d ticket i
+  pub nowhere : r ≡ None → 0 < ticket → NoneWith d ticket
 
 -- ---- parts of calls
 
@@ -99,10 +115,10 @@ blank_place = record { ticket = 0; size = 0; pending = fresh 0 0 }
 -- What a place with these bytes holds.
 pub data PlaceIs (bytes : List ℕ) (c : Place) : Machine.Place → Type 0 where
   is_empty : c ≡ blank_place → PlaceIs bytes c Machine.empty
-  is_waiting : Seated c → PendingFor (meant bytes) c.pending → PlaceIs bytes c (Machine.waits c.ticket (meant bytes) c.pending.made)
+  is_waiting : Seated c → PendingFor (meant bytes) c.pending → PlaceIs bytes c (Machine.waits c.ticket (meant bytes) c.pending.search.made)
   is_answered :
       Seated c → (a : AnsweredFor (meant bytes) c.pending)
-      → PlaceIs bytes c (Machine.answered c.ticket (meant bytes) c.pending.class (trop_of (span_in c.pending)) c.pending.made
+      → PlaceIs bytes c (Machine.answered c.ticket (meant bytes) (class_in c.pending) (trop_of (span_in c.pending)) c.pending.search.made
       (answer_with (meant bytes) c.pending a.stamps a.picks))
 
 -- The state and the memory hold this state of the machine.

@@ -1,63 +1,31 @@
 // The desk's four calls: opening, taking in, a step, collecting. The office lends the memory; a call gets the front of the desk and the one
-// place that it looks at.
-ghost use Rattle.std.specs.Prelude.{◌≡◌, ◌+◌, ◌*◌, ◌-◌, ◌≤◌, length, replicate};
-ghost use Rattle.definitions.specs.Limits.{problem_most, desk_places};
+// place that it looks at, and a refusal changes nothing.
+ghost use Rattle.std.specs.Prelude.{◌≡◌, ◌*◌};
+ghost use Rattle.definitions.specs.Limits.{problem_most};
 ghost use Rattle.definitions.specs.Bytes.{put};
-ghost use Rattle.definitions.specs.ProblemRecord.{meant};
-ghost use Rattle.definitions.specs.Questions.{part};
-ghost use Rattle.engine.specs.OneTrial.{PendingFor, TrialFor};
-ghost use Rattle.desk.specs.State.{desk_of, bytes_at, blank_place, Room, Tryable, Tried};
-ghost use Rattle.desk.specs.Calls.{OpenedBy, refused_in, entry, CanTake, TookAt, CanStep, StepAt, CanCollect, CollectedAt};
+ghost use Rattle.desk.specs.State.{bytes_at, blank_place, Room, Tryable, Tried};
+ghost use Rattle.desk.specs.Calls.{OpenedBy, entry, CanTake, TookAt, CanStep, StepAt, CanCollect, CollectedAt};
 
-use crate::limits::{
-    LAST_TICKET, MEMORY, PLACES, PROBLEM_MOST, REFUSED_FULL, REFUSED_MEMORY, REFUSED_TICKET,
-};
-use crate::state::{Front, Place, joined, left_line};
+use crate::limits::{LAST_TICKET, MEMORY, PLACES, PROBLEM_MOST};
+use crate::state::{Front, Place};
 use engine::one_trial::{Pending, begin, hand_over, not_tried, one_trial};
-use records::limits::{ANSWER_MOST, REFUSED_ROOM};
+use engine::solve::Answered;
+use records::limits::ANSWER_MOST;
+use records::refusal::Refusal;
 
-// What taking in answers: refused with the number, or the ticket.
-#[derive(Clone, Copy)]
-pub enum TakenIn {
-    Refused(usize),
-    Ticket(u64),
-}
-
-// What a step answers: refused; none waits; or the ticket that had its trial, which goes on waiting or is answered now.
-#[derive(Clone, Copy)]
-pub enum Stepped {
-    Refused(usize),
-    NoneWaits,
-    GoesOn(u64),
-    Done(u64),
-}
-
-// What collecting answers: refused; the ticket still waits; or class, the span's offset number, own trials and the record's size.
-#[derive(Clone, Copy)]
-pub enum Collected {
-    Refused(usize),
-    StillWaits,
-    Handed(u64, u64, u64, usize),
-}
-
-// What a call answers, the front after it, and the place that it changed: of an opening every place, else the one taken, tried or given.
-#[derive(Clone, Copy)]
-pub struct Opening {
-    pub refused: usize,
-    pub front: Front,
-    pub place: Place,
-}
-
+// A problem that was taken in: its ticket, the front after it, and its place.
 #[derive(Clone, Copy)]
 pub struct Taking {
-    pub outcome: TakenIn,
+    pub ticket: u64,
     pub front: Front,
     pub place: Place,
 }
 
+// A trial that was made: the ticket that had it, whether it is answered now or goes on waiting, the front after it, and its place.
 #[derive(Clone, Copy)]
 pub struct Stepping {
-    pub outcome: Stepped,
+    pub ticket: u64,
+    pub done: bool,
     pub front: Front,
     pub place: Place,
 }
@@ -66,56 +34,26 @@ pub struct Stepping {
 pub fn no_place() -> Place
     ensures { result ≡ blank_place }
 {
-    let pending = not_tried(0, 0);
     Place {
         ticket: 0,
         size: 0,
-        pending,
+        pending: not_tried(0, 0),
     }
 }
 
-// A taking-in that changes nothing.
-fn refused_in(front: Front, number: usize) -> Taking
-    ensures { result ≡ refused_in front number }
+// The front of a desk with nothing on it, whatever the memory holds; each of its places is `no_place`.
+pub fn open_desk(memory: &[u8]) -> Result<Front, Refusal>
+    ensures { OpenedBy memory.now result }
 {
-    let place = no_place();
-    Taking {
-        outcome: TakenIn::Refused(number),
-        front,
-        place,
+    if memory.len() < MEMORY {
+        return Err(Refusal::Memory);
     }
-}
-
-// A desk with nothing on it, whatever the memory holds.
-pub fn open_desk(memory: &[u8]) -> Opening
-    ensures { OpenedBy memory.now result.refused (desk_of result.front (replicate desk_places result.place)) }
-{
-    let place = no_place();
-    let front = Front {
+    Ok(Front {
         given: 0,
         head: 0,
         waiting: 0,
         line: [0; PLACES],
-    };
-    let mut refused = 0;
-    if memory.len() < MEMORY {
-        refused = REFUSED_MEMORY;
-    }
-    Opening {
-        refused,
-        front,
-        place,
-    }
-}
-
-// Copies the problem to its place in the memory.
-fn keep(memory: &mut [u8], from: usize, problem: &[u8])
-    requires { from + length problem.now ≤ length memory.old }
-    ensures { memory.new ≡ put memory.old from problem.now }
-{
-    for j in 0..problem.len() {
-        memory[from + j] = problem[j];
-    }
+    })
 }
 
 // A problem that was begun gets the next ticket, a place, and the end of the line.
@@ -123,49 +61,44 @@ fn enter(memory: &mut [u8], front: Front, at: usize, problem: &[u8], pending: Pe
     requires { Room front at problem.now memory.old }
     ensures { (result ≡ entry front at problem.now pending) × (memory.new ≡ put memory.old (at * problem_most) problem.now) }
 {
-    keep(memory, at * PROBLEM_MOST, problem);
+    let from = at * PROBLEM_MOST;
+    memory[from..from + problem.len()].copy_from_slice(problem);
     let ticket = front.given + 1;
-    let mut next = joined(front, at);
-    next.given = ticket;
-    let place = Place {
-        ticket,
-        size: problem.len(),
-        pending,
-    };
     Taking {
-        outcome: TakenIn::Ticket(ticket),
-        front: next,
-        place,
+        ticket,
+        front: Front {
+            given: ticket,
+            ..front.joined(at)
+        },
+        place: Place {
+            ticket,
+            size: problem.len(),
+            pending,
+        },
     }
 }
 
 // A problem that nothing refuses goes to the first empty place and to the end of the line, with the next ticket.
-pub fn take_in(memory: &mut [u8], front: Front, at: usize, problem: &[u8]) -> Taking
-    requires { CanTake front at memory.old }
-    ensures { TookAt front at memory.old problem.now result memory.new }
+pub fn take_in(
+    memory: &mut [u8],
+    front: Front,
+    free: Option<usize>,
+    problem: &[u8],
+) -> Result<Taking, Refusal>
+    requires { CanTake front free memory.old }
+    ensures { TookAt front free memory.old problem.now result memory.new }
 {
     if memory.len() < MEMORY {
-        return refused_in(front, REFUSED_MEMORY);
+        return Err(Refusal::Memory);
     }
-    let begun = begin(problem);
-    if begun.refused != 0 {
-        return refused_in(front, begun.refused);
-    }
-    if at == PLACES {
-        return refused_in(front, REFUSED_FULL);
-    }
+    let pending = begin(problem)?;
+    let Some(at) = free else {
+        return Err(Refusal::Full);
+    };
     if front.given == LAST_TICKET {
-        return refused_in(front, REFUSED_FULL);
+        return Err(Refusal::Full);
     }
-    enter(memory, front, at, problem, begun.pending)
-}
-
-// The next trial of the problem in a part of the memory.
-fn trial_at(memory: &[u8], from: usize, to: usize, pending: Pending) -> Pending
-    requires { (from ≤ to) × (to ≤ length memory.now) × PendingFor (meant (part memory.now from (to - from))) pending }
-    ensures { TrialFor (meant (part memory.now from (to - from))) pending result }
-{
-    one_trial(&memory[from..to], pending)
+    Ok(enter(memory, front, at, problem, pending))
 }
 
 // The place after the next trial of its problem.
@@ -174,71 +107,54 @@ fn tried(memory: &[u8], at: usize, place: Place) -> Place
     ensures { Tried (bytes_at memory.now at place.size) place result }
 {
     let from = at * PROBLEM_MOST;
-    let to = from + place.size;
-    let pending = trial_at(memory, from, to, place.pending);
-    Place {
-        ticket: place.ticket,
-        size: place.size,
-        pending,
-    }
+    let pending = one_trial(&memory[from..from + place.size], place.pending);
+    Place { pending, ..place }
 }
 
-// One trial of the problem at the head of the line, whose place is given.
-pub fn step(memory: &[u8], front: Front, place: Place) -> Stepping
+// One trial of the problem at the head of the line, whose place is given; none where nobody waits.
+pub fn step(memory: &[u8], front: Front, place: Place) -> Result<Option<Stepping>, Refusal>
     requires { CanStep front place memory.now }
     ensures { StepAt front place memory.now result }
 {
     if memory.len() < MEMORY {
-        return Stepping {
-            outcome: Stepped::Refused(REFUSED_MEMORY),
-            front,
-            place,
-        };
+        return Err(Refusal::Memory);
     }
     if front.waiting == 0 {
-        return Stepping {
-            outcome: Stepped::NoneWaits,
-            front,
-            place,
-        };
+        return Ok(None);
     }
-    let head = front.head;
-    let at = front.line[head];
+    let at = front.first();
     let next = tried(memory, at, place);
-    let rest = left_line(front);
-    let after = next.pending;
-    if after.class == 0 {
-        return Stepping {
-            outcome: Stepped::GoesOn(next.ticket),
-            front: joined(rest, at),
-            place: next,
-        };
-    }
-    Stepping {
-        outcome: Stepped::Done(next.ticket),
-        front: rest,
+    let rest = front.left_line();
+    let done = next.pending.search.class.is_some();
+    Ok(Some(Stepping {
+        ticket: next.ticket,
+        done,
+        front: if done { rest } else { rest.joined(at) },
         place: next,
-    }
+    }))
 }
 
-// The answer at the place of a ticket, 16 where no place has it, written at the buffer's start.
-pub fn collect(memory: &[u8], at: usize, place: Place, buffer: &mut [u8]) -> Collected
-    requires { CanCollect at place memory.now }
-    ensures { CollectedAt at place memory.now buffer.old result buffer.new }
+// The answer at the place that holds a ticket, if one does, written at the buffer's start; none while the ticket still waits.
+pub fn collect(
+    memory: &[u8],
+    held: Option<Place>,
+    buffer: &mut [u8],
+) -> Result<Option<Answered>, Refusal>
+    requires { CanCollect held memory.now }
+    ensures { CollectedAt held memory.now buffer.old result buffer.new }
 {
     if memory.len() < MEMORY {
-        return Collected::Refused(REFUSED_MEMORY);
+        return Err(Refusal::Memory);
     }
-    if at == PLACES {
-        return Collected::Refused(REFUSED_TICKET);
-    }
+    let Some(place) = held else {
+        return Err(Refusal::Ticket);
+    };
     let pending = place.pending;
-    if pending.class == 0 {
-        return Collected::StillWaits;
+    if pending.search.class.is_none() {
+        return Ok(None);
     }
     if buffer.len() < ANSWER_MOST {
-        return Collected::Refused(REFUSED_ROOM);
+        return Err(Refusal::Room);
     }
-    let handed = hand_over(pending, buffer);
-    Collected::Handed(handed.class, handed.span, handed.trials, handed.size)
+    Ok(Some(hand_over(pending, buffer)))
 }

@@ -10,11 +10,4 @@ pub const PROBLEM_MOST: usize = PROBLEM_HEADER + 2 * LEAD_BYTES * TABLE;
 pub const MEMORY: usize = PLACES * PROBLEM_MOST;
 
 // The last ticket, 2⁶⁴ − 1.
-pub const LAST_TICKET: u64 = 18446744073709551615;
-
-// All places hold a problem, or the tickets are used up; no such ticket is held; the memory is too short.
-pub const REFUSED_FULL: usize = 21;
-
-pub const REFUSED_TICKET: usize = 22;
-
-pub const REFUSED_MEMORY: usize = 23;
+pub const LAST_TICKET: u64 = u64::MAX;

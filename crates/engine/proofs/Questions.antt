@@ -20,7 +20,10 @@ use Rattle.definitions.proofs.AnswerFits.{WriterFits}
 use Rattle.definitions.proofs.RoundTrip.{answer_length, answer_length_most}
 use Rattle.definitions.proofs.Solved.{OneAsked, one_asked, asked_takes}
 use Rattle.duality.proofs.SmallLeads.{trials_few}
+use Rattle.std.specs.Prelude.{Ok}
 use Rattle.records.specs.declared.problem.Layout.{Layout}
+use Rattle.records.specs.Classes.{class_number}
+use Rattle.records.specs.ProblemHeader.{kind_number}
 use Rattle.records.specs.Decoded.{InTables}
 use Rattle.records.proofs.Rewritten.{rewritten_refl}
 use Rattle.problem_records.specs.Tables.{left_table, right_table}
@@ -28,14 +31,14 @@ use Rattle.problem_records.specs.Filling.{QuestionHeld}
 use Rattle.problem_records.proofs.LeadTables.{left_length, right_length, problem_decoded}
 use Rattle.problem_records.proofs.QuestionTables.{left_steady, right_steady}
 use Rattle.look.specs.Frames.{Coefficients}
-use Rattle.engine.specs.declared.solve.One.{One}
-use Rattle.engine.specs.declared.solve.Solved.TheVariants.{AllAnswered}
+use Rattle.engine.specs.declared.solve.Answered.{Answered}
+use Rattle.engine.specs.declared.solve.Solution.TheVariants.{All}
 use Rattle.engine.specs.Outcome.{shown_in, Gives, GivesInTurn, Writes, SolvedAs, solved_of, OneWrote, SeveralRead, Turns}
 use Rattle.engine.proofs.Outcomes.{nothing_refused, stands_tables}
 
 module _ {s : List ℕ} {l : Layout} {left₀ right₀ before : List ℕ} (several : SeveralRead s l left₀ right₀ before) where
   kind_is : kind_field s ≡ questions_kind
-  kind_is = sym several.read.kind_is ∙ several.kind_is
+  kind_is = sym several.read.kind_is ∙ ap kind_number several.kind_is
 
   count_is : l.questions ≡ count_field s
   count_is = several.read.questions_is ∙ rw kind_is refl
@@ -61,7 +64,7 @@ module _ {s : List ℕ} {l : Layout} {left₀ right₀ before : List ℕ} (sever
 
   module _ {q at trials : ℕ} {after left right : List ℕ} (turns : Turns s q at trials before after left right) where
     -- After the last.
-    pub turns_all : q ≤ l.questions → l.questions ≤ q → SolvedAs s before (AllAnswered l.questions trials at) after
+    pub turns_all : q ≤ l.questions → l.questions ≤ q → SolvedAs s before (Ok (All l.questions trials at)) after
     unfolding solved_of
     turns_all h k =
         let e : l.questions ≡ q = omega arith in
@@ -115,8 +118,8 @@ module _ {s : List ℕ} {l : Layout} {left₀ right₀ before : List ℕ} (sever
         pub turn_tables : Coefficients l.n l.m left' right'
         turn_tables = stands_tables stands
 
-        module _ {own : One} {part : List ℕ} (w : OneWrote l.n l.m left' right' own (mid_of at (length after - at) after) part) where
-          answers : Answers (problem_of (alone s q)) own.class (trop_of own.span) own.trials w.answer
+        module _ {own : Answered} {part : List ℕ} (w : OneWrote l.n l.m left' right' own (mid_of at (length after - at) after) part) where
+          answers : Answers (problem_of (alone s q)) (class_number own.class) (trop_of own.span) own.trials w.answer
           answers = w.answers (problem_of (alone s q)) stands
 
           abbrev bytes : List ℕ

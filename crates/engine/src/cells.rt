@@ -26,10 +26,8 @@ pub fn pack(stamps: &[u64; STRIDE], picks: &[u64; ROWS]) -> [usize; STRIDE]
     ensures { PackedCells stamps.now picks.now stride result }
 {
     let mut out = [0usize; STRIDE];
-    let mut j = 0;
-    while j < STRIDE {
+    for j in 0..STRIDE {
         out[j] = cell(stamps[j], picks[j], picks[j + STRIDE]);
-        j += 1;
     }
     out
 }
@@ -39,13 +37,7 @@ pub fn stamps_in(cells: &[usize; STRIDE]) -> [u64; STRIDE]
     requires { length cells.now ≡ stride }
     ensures { Filled (λ j v. v ≡ stamp_in (get_or cells.now j 0)) stride stride result }
 {
-    let mut out = [0u64; STRIDE];
-    let mut j = 0;
-    while j < STRIDE {
-        out[j] = (cells[j] % STAMPS) as u64;
-        j += 1;
-    }
-    out
+    cells.map(|cell| (cell % STAMPS) as u64)
 }
 
 // The pick at place k in cells.
@@ -53,10 +45,12 @@ fn pick_at(cells: &[usize; STRIDE], k: usize) -> u64
     requires { (length cells.now ≡ stride) × (k < table_rows) }
     ensures { result ≡ pick_at cells.now k }
 {
-    if k < STRIDE {
-        return (cells[k] / STAMPS % PICKS) as u64;
-    }
-    (cells[k - STRIDE] / STAMPS / PICKS) as u64
+    let pick = if k < STRIDE {
+        cells[k] / STAMPS % PICKS
+    } else {
+        cells[k - STRIDE] / STAMPS / PICKS
+    };
+    pick as u64
 }
 
 // The picks in cells.
@@ -65,10 +59,8 @@ pub fn picks_in(cells: &[usize; STRIDE]) -> [u64; ROWS]
     ensures { Filled (λ k v. v ≡ pick_at cells.now k) table_rows table_rows result }
 {
     let mut out = [0u64; ROWS];
-    let mut k = 0;
-    while k < ROWS {
+    for k in 0..ROWS {
         out[k] = pick_at(cells, k);
-        k += 1;
     }
     out
 }

@@ -7,25 +7,25 @@ ghost use Rattle.definitions.specs.Programs.{KeptOf};
 ghost use Rattle.definitions.specs.Solved.{Solves};
 ghost use Rattle.engine.specs.Outcome.{solved_of};
 
-use crate::solve::{Solved, solve};
+use crate::solve::{Solution, solve};
 use records::limits::KEPT;
-use records::problem::{ENGINE_KINDS, problem_refusal, read_header};
+use records::problem::{ENGINE_KINDS, read_header};
+use records::refusal::Refusal;
 
 // The same on a slice.
-fn solve_kept(kept: &[u8], size: usize, answer: &mut [u8]) -> Solved
+fn solve_kept(kept: &[u8], size: usize, answer: &mut [u8]) -> Result<Solution, Refusal>
     requires { length kept.now ≡ kept_bytes }
     ensures { (input : List ℕ) → KeptOf kept.now size input → Solves (meant input) answer.old (solved_of result) answer.new }
 {
     if size <= KEPT {
         return solve(&kept[..size], answer);
     }
-    let header = read_header(kept, size, ENGINE_KINDS);
-    Solved::Refused(problem_refusal(header))
+    Err(read_header(kept, size, ENGINE_KINDS).unwrap_err())
 }
 
 // The answer to every input of this size that begins with the kept bytes, written into the lent buffer; a refusal leaves
 // the buffer as it was.
-pub fn solve_input(kept: &[u8; KEPT], size: u64, answer: &mut [u8]) -> Solved
+pub fn solve_input(kept: &[u8; KEPT], size: u64, answer: &mut [u8]) -> Result<Solution, Refusal>
     ensures { (input : List ℕ) → KeptOf kept.now size input → Solves (meant input) answer.old (solved_of result) answer.new }
 {
     solve_kept(kept, size as usize, answer)

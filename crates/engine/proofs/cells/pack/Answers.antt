@@ -3,13 +3,13 @@ use Rattle.base.proofs.Filled.{filled_none, filled_more, filled_end}
 use Rattle.engine.proofs.cells.pack.Goals as goal
 
 pub loop-j-init : goal.loop-j-init
-loop-j-init c = (omega arith, filled_none 32)
+loop-j-init c = filled_none 32
 
 pub cell-requires : goal.cell-requires
 cell-requires c = let p = c.requires in (p.stamps_most _, p.picks_most _, p.picks_most _)
 
 pub loop-j-preserved : goal.loop-j-preserved
-loop-j-preserved c = (omega arith, search (filled_more, arith))
+loop-j-preserved c = search (filled_more, arith)
 
 pub returns : goal.returns
 returns c = search filled_end

@@ -1,12 +1,7 @@
 use native.Mathlib.Omega.{arith}
-use Rattle.base.proofs.Filled.{filled_none, filled_more, filled_end}
+use lib.ListN.{get_or-eq_default}
+use borrow.Author.Rules.{rules}
 use Rattle.engine.proofs.cells.stamps_in.Goals as goal
 
-pub loop-j-init : goal.loop-j-init
-loop-j-init c = (omega arith, filled_none 32)
-
-pub loop-j-preserved : goal.loop-j-preserved
-loop-j-preserved c = (omega arith, search (filled_more, arith))
-
 pub returns : goal.returns
-returns c = search filled_end
+returns c = record { size_is = c.map.ensures.items.long; each = λ k h. let w = c.map.ensures.items.at k 0 0 h in search rules; rest = λ k h. get_or-eq_default c.map.result 0 {n = k} (omega (arith, c.map.ensures.items.long)) }

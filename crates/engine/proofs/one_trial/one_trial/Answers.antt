@@ -1,14 +1,16 @@
+use mathlib.Core.Path.{sym, ◌∙◌}
 use Rattle.engine.proofs.Trials.{looked_underway, trial_open, trial_found, trial_answered}
 use Rattle.engine.proofs.one_trial.one_trial.Goals as goal
 
 pub next_trial-search-requires : goal.next_trial-search-requires
 next_trial-search-requires c = search looked_underway
 
-pub returns-then-search-eq-OPEN : goal.returns-then-search-eq-OPEN
-returns-then-search-eq-OPEN c = search trial_open
+pub returns-in-None : goal.returns-in-None
+returns-in-None c = trial_open c.requires c.looked-look.ensures c.next_trial-search.ensures (sym c.found_of.ensures ∙ c.in-None.is)
 
 pub answered-kept-requires : goal.answered-kept-requires
-answered-kept-requires c = search trial_found
+answered-kept-requires c =
+    (c.requires.of.within, c.looked-look.ensures.looked, trial_found c.requires c.looked-look.ensures c.next_trial-search.ensures (sym c.found_of.ensures ∙ c.in-Some.is))
 
-pub returns : goal.returns
-returns c = search trial_answered
+pub returns-in-Some : goal.returns-in-Some
+returns-in-Some c = trial_answered c.requires c.looked-look.ensures c.next_trial-search.ensures (sym c.found_of.ensures ∙ c.in-Some.is) c.answered-kept.ensures

@@ -3,7 +3,7 @@ use Rattle.engine.proofs.Questions.{turns_none, turns_all, turn_held, turn_table
 use Rattle.engine.proofs.solve.solve_questions.Goals as goal
 
 pub loop-q-init : goal.loop-q-init
-loop-q-init c = (omega arith, search turns_none)
+loop-q-init c = search turns_none
 
 pub read_question-requires : goal.read_question-requires
 read_question-requires c = search turn_held
@@ -23,17 +23,11 @@ overflow_add-at c = search turn_at
 pub overflow_add-trials : goal.overflow_add-trials
 overflow_add-trials c = search turn_trials
 
-pub overflow_step-q : goal.overflow_step-q
-overflow_step-q c = omega arith
-
-pub loop-q-smaller : goal.loop-q-smaller
-loop-q-smaller c = omega arith
-
 pub loop-q-preserved : goal.loop-q-preserved
-loop-q-preserved c = (omega arith, search turn_more)
+loop-q-preserved c = search turn_more
 
 pub shape_of-answer : goal.shape_of-answer
-shape_of-answer c = c.loop-q.invariant.1.same
+shape_of-answer c = c.loop-q.invariant.same
 
 pub returns : goal.returns
 returns c = search turns_all
