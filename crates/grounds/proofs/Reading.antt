@@ -1,7 +1,5 @@
 -- From bytes: what the checker's verdict and the readers give is what the reasons rest on, and what is told is the definition's.
-use Prim.Native.Nat.{ℕ, suc}
-use mathlib.Core.Path.{◌≡◌, sym, ap, ◌∙◌}
-use mathlib.Core.List.{List}
+use Rattle.std.proofs.Common.{◌≡◌, ℕ, suc, List, Result, Ok, Err, refl, sym, ap, ◌∙◌}
 use mathlib.Core.Logic.{◌⊎◌, inl, inr, ⊎_elim}
 use native.Mathlib.Omega.{arith}
 use Rattle.definitions.specs.Limits.{class_optimal, class_unbounded, class_infeasible}
@@ -15,25 +13,20 @@ use Rattle.definitions.specs.Reasons as Definitions
 use Rattle.definitions.specs.Reasons.{Reasoned}
 use Rattle.definitions.proofs.Refusals.{or_else_none}
 use Rattle.definitions.proofs.Questions.{asking_itself}
-use Rattle.records.specs.declared.problem.Header.{Header}
+use Rattle.records.specs.declared.refusal.Refusal.{Refusal}
 use Rattle.records.specs.declared.problem.Layout.{Layout}
-use Rattle.records.specs.declared.problem.Header.TheVariants as Headers
-use Rattle.records.specs.ProblemHeader.{header_of}
-use Rattle.records.proofs.ProblemHeader.{answer_refused_lem}
+use Rattle.records.specs.ProblemHeader.{layout_in, header_of}
+use Rattle.records.proofs.Refusing.{was_err}
 use Rattle.problem_records.specs.Tables.{ProblemRead, right_table}
 use Rattle.problem_records.proofs.ReadProblem.{Told-of, told_of}
 use Rattle.problem_records.proofs.LeadTables.{problem_decoded}
 use Rattle.answer_reader.specs.declared.answer.Head.{Head}
-use Rattle.answer_reader.specs.declared.answer.AnswerHead.{AnswerHead}
-use Rattle.answer_reader.specs.declared.answer.AnswerHead.TheVariants as Heads
-use Rattle.answer_reader.specs.AnswerReading.{head_of, AnswerRead}
-use Rattle.answer_reader.proofs.Heads.{refused_by_lem}
+use Rattle.answer_reader.specs.AnswerReading.{told_by, head_of, AnswerRead}
 use Rattle.checker.specs.Outcome.{Meant, verdict_of}
-use Rattle.checker.specs.declared.check.Verdict.{Verdict}
-use Rattle.checker.specs.declared.check.Verdict.TheVariants as Codes
+use Rattle.checker.specs.declared.check.Certified.{Certified}
 use Rattle.checker.proofs.Answers.{head_read, read_means, read_formed}
 use Rattle.grounds.specs.Outcome as Outcome
-use Rattle.grounds.specs.Outcome.{refused_by, Passed, Founded, Certifies, Tells}
+use Rattle.grounds.specs.Outcome.{Passed, Founded, Certifies, Tells}
 
 -- ---- verdicts
 
@@ -50,17 +43,8 @@ reasoned_refused {k = k} (certified e h) q = let z : ◌≡◌ {A = ℕ} 0 1 = c
 reasoned_refused {k = k} (uncertified e d) q = let z : 14 ≡ k = cc in rw (← z) (Definitions.uncertified e d)
 
 -- The same of the checker's answer in code.
-pub accepted_verdict : {p a : List ℕ} (v : Verdict) {class span : ℕ} → Judged p a (verdict_of v) → v ≡ Codes.Accepted class span → Passed p a class
-unfolding verdict_of
-accepted_verdict v j e = passed j (ap verdict_of e)
-
-pub refused_verdict :
-    {p a : List ℕ} (v : Verdict) {k number : ℕ} {r : Definitions.Reasons} → Judged p a (verdict_of v) → v ≡ Codes.Refused k → number ≡ refused_by v
-    → r ≡ Definitions.refused number → Reasoned p a r
-unfolding verdict_of refused_by
-refused_verdict v {k} {number} j e f g =
-    let d : number ≡ k = f ∙ ap refused_by e in
-    rw (g, d) (reasoned_refused j (ap verdict_of e))
+pub accepted_verdict : {p a : List ℕ} {v : Result Certified Refusal} {c : Certified} → Judged p a (verdict_of v) → v ≡ Ok c → Passed p a c.class
+accepted_verdict j e = passed j (ap verdict_of e)
 
 -- An accepted answer is bottomless, or least or none.
 pub reasoned_bottomless : {p a : List ℕ} {class : ℕ} → Passed p a class → class ≡ class_unbounded → Reasoned p a (Definitions.refused Definitions.bottomless_refused)
@@ -87,12 +71,12 @@ module _ {p a : List ℕ} (h : Founded p a) where
   parts = (or_else_none (problem_refusal p) (answer_refusal a (n_field p) (m_field p))).0 h.none
 
   -- Neither refuses.
-  pub header_stands : {header : Header} {k : ℕ} → header_of header ≡ problem_outcome checker_kinds p → header ≡ Headers.Refused k → ⊥
+  pub header_stands : (r : Refusal) → header_of (Err r) ≡ problem_outcome checker_kinds p → ⊥
   unfolding problem_outcome
-  header_stands e f = let r = answer_refused_lem (problem_refusal p) (layout_of p) e f in omega (arith, parts.0)
+  header_stands r e = let q = was_err layout_in (problem_refusal p) (layout_of p) e refl in omega (arith, q.1, parts.0)
 
-  module _ {left right left' right' : List ℕ} {header : Header} {l : Layout} (bytes : Bytes p) (read : ProblemRead checker_kinds p left right header left' right')
-      (told : header ≡ Headers.Told l) where
+  module _ {left right left' right' : List ℕ} {header : Result Layout Refusal} {l : Layout} (bytes : Bytes p) (read : ProblemRead checker_kinds p left right header left' right')
+      (told : header ≡ Ok l) where
     lies : Told-of checker_kinds p l
     lies = told_of checker_kinds read.result told
 
@@ -102,18 +86,19 @@ module _ {p a : List ℕ} (h : Founded p a) where
     m_is : m_field p ≡ l.m
     m_is = sym lies.fits.m_is
 
-    pub answer_stands : {head : AnswerHead} {k : ℕ} → head_of head ≡ answer_outcome a l.n l.m → head ≡ Heads.Refused k → ⊥
+    pub answer_stands : (r : Refusal) → head_of (Err r) ≡ answer_outcome a l.n l.m → ⊥
     unfolding answer_outcome
-    answer_stands e f =
-        (refused_by_lem (answer_refusal a l.n l.m) (class_field a, span_field a, start_field a) e f).1 (rw (n_is, m_is) at parts.1)
+    answer_stands r e =
+        let q = was_err told_by (answer_refusal a l.n l.m) (class_field a, span_field a, start_field a) e refl in
+        omega (arith, q.1, rw (n_is, m_is) at parts.1)
 
     table : right' ≡ right_table p
     table = read.right_read lies.within ∙ ap right_table (asking_itself p 0 lies.within)
 
     -- They give the problem's right table, and the answer's fields.
     pub certifies :
-        {head : AnswerHead} {fields : Head} {stamps-before stamps picks-before picks : List ℕ} → Bytes a
-        → AnswerRead a l.n l.m head stamps-before stamps picks-before picks → head ≡ Heads.Fields fields
+        {head : Result Head Refusal} {fields : Head} {stamps-before stamps picks-before picks : List ℕ} → Bytes a
+        → AnswerRead a l.n l.m head stamps-before stamps picks-before picks → head ≡ Ok fields
         → Certifies (problem_of p) (answer_for p a) right' stamps picks l.n l.m fields
     unfolding problem_of
     certifies {fields = fields} {stamps = stamps} {picks = picks} b r f =

@@ -7,7 +7,9 @@ use mathlib.Core.Logic.{⊎_elim}
 use native.Mathlib.Omega.{arith}
 use lib.Dec.{eqb, ltb}
 use lib.IntN.{ℤ}
-use lib.ListN.{get_or, take}
+use lib.ListN.{get_or}
+use Rattle.std.proofs.Common.{Option, Some, None}
+use Rattle.std.proofs.lemmas.Option.{none-some}
 use borrow.Author.Tests.{eqb-true, eqb-false, ltb-true, ltb-false, leb-true}
 use Rattle.base.proofs.Numbers.{positive, nat_le_or_lt}
 use Rattle.definitions.specs.Limits.{class_optimal, class_infeasible}
@@ -15,8 +17,7 @@ use Rattle.definitions.specs.Problem.{Problem}
 use Rattle.definitions.specs.Certificate.{start_of, Leads, AcceptedOptimal}
 use Rattle.definitions.specs.AnswerRecord.{Answer, highest_pick}
 use Rattle.definitions.specs.Verdict.{Accepted, optimal, unbounded, infeasible, point_of, strategy_of}
-use Rattle.definitions.specs.Reasons as Definitions
-use Rattle.definitions.specs.Reasons.{Behind, Listed, no_number, with_it, without, RulesBehind, Round}
+use Rattle.definitions.specs.Reasons.{Behind, Listed, no_number, with_it, without, RulesBehind, Round, of_none, of_least}
 use Rattle.definitions.proofs.Counts.{counts_met, whole_counts}
 use Rattle.duality.specs.Picks.{NoneAbove}
 use Rattle.duality.proofs.Starts.{start_below}
@@ -27,9 +28,9 @@ use Rattle.answer_reader.specs.declared.answer.Head.{Head}
 use Rattle.binding.specs.Turns.{Live}
 use Rattle.binding.proofs.Turns.{live_picks, turn, live_on, begins_live}
 use Rattle.grounds.specs.Tables.{RightHeld}
-use Rattle.grounds.specs.Rules.{PickedBy, PickedListed}
+use Rattle.grounds.specs.Rules.{PickedBy}
 use Rattle.grounds.specs.Turns.{Going}
-use Rattle.grounds.specs.Rounds.{Beginning, Binding}
+use Rattle.grounds.specs.Rounds.{Beginning, BeginsAlive, Binding}
 use Rattle.grounds.specs.Outcome.{Certifies, Tells}
 use Rattle.grounds.proofs.Reaching.{offset_finite, finite_offset}
 use Rattle.grounds.proofs.Binding.{next_yields, second_met, begins_at}
@@ -97,10 +98,10 @@ module _ {p : Problem} {a : Answer} {right stamps picks : List ℕ} {n m : ℕ} 
 
   module _ {marks : List ℕ} (reached : ReachedBy (start_of p head.start) (Leads p (strategy_of picks)) (n + 1) marks) where
     -- The rules that marked variables pick are those behind the answer.
-    pub rules_behind : {numbers : List ℕ} {count : ℕ} → PickedListed marks picks (n + 1) m numbers count → RulesBehind p a (take count numbers)
+    pub rules_behind : {numbers : List ℕ} → Listed (PickedBy marks picks (n + 1)) m numbers → RulesBehind p a numbers
     unfolding strategy_of
-    rules_behind {numbers} {count} l =
-        subst (λ (k : ℕ). Listed (Behind p a) k (take count numbers)) (sym c.held.m_is) (listed_as on back l.listed)
+    rules_behind {numbers} l =
+        subst (λ (k : ℕ). Listed (Behind p a) k numbers) (sym c.held.m_is) (listed_as on back l)
       where
         on : (v : ℕ) → PickedBy marks picks (n + 1) v → Behind p a v
         on v b =
@@ -150,18 +151,14 @@ module _ {p : Problem} {a : Answer} {right stamps picks : List ℕ} {n m : ℕ} 
                 live_marked (live_on start_inside above h v (turn start_inside above h v (next_yields stamps c.held certified_picked x)));
           }
 
-      -- The turns begin at a variable of the problem: a point of value s has a number at a variable of the second list.
-      begins_inside : {j : ℕ} → Beginning right stamps n m head.start j → j ≤ n
-      begins_inside {j} g = ⊎_elim
-          (λ (q : head.start ≤ 0). let e : j ≡ 0 = g.anchor (omega arith) in omega arith)
+      -- The turns begin somewhere: a point of value s has a number at a variable of the second list.
+      begins_some : Beginning right stamps n m head.start None → ⊥
+      begins_some g = ⊎_elim
+          (λ (q : head.start ≤ 0). none-some 0 (g.anchor (omega arith)))
           (λ (q : 0 < head.start).
-          let f = g.second q in
           let w = counts_met (whole_counts h.value_is) in
           let u = second_met stamps c.held w.second w.finite in
-          ⊎_elim
-          (λ (b : n + 1 ≤ j). absurd (f.before w.at (omega (arith, u.0)) u.1))
-          (λ (b : j < n + 1). omega arith)
-          (nat_le_or_lt (n + 1) j))
+          g.second q w.at (omega (arith, u.0)) u.1)
           (nat_le_or_lt head.start 0)
 
       -- So the round can be found.
@@ -172,8 +169,12 @@ module _ {p : Problem} {a : Answer} {right stamps picks : List ℕ} {n m : ℕ} 
             going = going;
             m_most = c.m_most;
             picked = certified_picked;
-            begins = λ j g. live_marked (begins_live h (begins_at stamps c.held head.start start_most (begins_inside g) g));
+            begins = begins;
           }
+        where
+          begins : (first : Option ℕ) → Beginning right stamps n m head.start first → BeginsAlive (live_of n stamps marks) first
+          begins (Some j) g = live_marked (begins_live h (begins_at stamps c.held head.start start_most g))
+          begins None g = begins_some g
 
     -- An accepted answer of class 1 as the lists hold it.
     pub certified_binds : (head.class ≡ class_infeasible → ⊥) → Binding right stamps picks n m head.start
@@ -186,13 +187,13 @@ module _ {p : Problem} {a : Answer} {right stamps picks : List ℕ} {n m : ℕ} 
 
     -- ---- what is told
 
-    pub tells_none : {numbers : List ℕ} {count : ℕ} → head.class ≡ class_infeasible → PickedListed marks picks (n + 1) m numbers count → Tells p a (Definitions.of_none (take count numbers))
+    pub tells_none : {numbers : List ℕ} → head.class ≡ class_infeasible → Listed (PickedBy marks picks (n + 1)) m numbers → Tells p a (of_none numbers)
     tells_none e l = Tells.none (c.meant.class_is ∙ e) (rules_behind l)
 
     pub tells_least :
-        {numbers : List ℕ} {count : ℕ} {round : List ℕ} → (head.class ≡ class_infeasible → ⊥) → PickedListed marks picks (n + 1) m numbers count
+        {numbers round : List ℕ} → (head.class ≡ class_infeasible → ⊥) → Listed (PickedBy marks picks (n + 1)) m numbers
         → ((p : Problem) → RightHeld p right n m → head.start ≤ 1 → Round p (stamps_point stamps) (strategy_of picks) head.start round)
-        → Tells p a (Definitions.of_least (take count numbers) round)
+        → Tells p a (of_least numbers round)
     tells_least {round = round} d l r =
         Tells.least {round = round}
         (⊎_elim (λ e. c.meant.class_is ∙ e) (λ e. absurd (d e)) c.some)

@@ -1,42 +1,28 @@
 -- What the tool's functions answer, in the words of the definitions.
-use Rattle.std.specs.Prelude.{ℕ, ◌≤◌, ◌≡◌, List, ◌⊎◌, get_or, take}
-use Rattle.definitions.specs.Limits.{highest_n, highest_m, lead_limit, stride, class_optimal, class_infeasible}
+use Rattle.std.specs.Prelude.{ℕ, ◌≤◌, ◌≡◌, List, ◌⊎◌, get_or, Option, Some, None, Result, Ok, Err}
+use Rattle.definitions.specs.Limits.{highest_n, highest_m, lead_limit, class_optimal, class_infeasible}
 use Rattle.definitions.specs.Problem.{Problem}
 use Rattle.definitions.specs.AnswerRecord.{Answer}
 use Rattle.definitions.specs.ProblemRecord.{problem_of}
 use Rattle.definitions.specs.Verdict.{Accepted, point_of, strategy_of, check_refusal, answer_for}
 use Rattle.definitions.specs.Reasons as Definitions
 use Rattle.definitions.specs.Reasons.{RulesBehind, Round, of_none, of_least}
+use Rattle.records.specs.declared.refusal.Refusal.{Refusal}
+use Rattle.records.specs.Refusals.{number_of}
 use Rattle.records.specs.Decoded.{Near}
 use Rattle.answer_reader.specs.declared.answer.Head.{Head}
 use Rattle.checker.specs.Outcome.{Formed, Meant}
-use Rattle.checker.specs.declared.check.Verdict.{Verdict}
-use Rattle.checker.specs.declared.check.Verdict.TheVariants as Verdicts
 use Rattle.grounds.specs.Tables.{RightHeld}
-use Rattle.grounds.specs.declared.reasons.Told.{Told}
-use Rattle.grounds.specs.declared.reasons.Told.TheVariants.{Refused, None, Least}
 use Rattle.grounds.specs.declared.reasons.Grounds.{Grounds}
 
--- Document 02's answer for each case: refused with the number; the rules behind none; the rules and the round behind least. The counts say
--- how many of each are told.
-unfoldable pub told_of : Told → List ℕ → List ℕ → Definitions.Reasons
-told_of (Refused k) rules round = Definitions.refused k
-told_of (None count) rules round = of_none (take count rules)
-told_of (Least count turns) rules round = of_least (take count rules) (take turns round)
+-- Document 02's answer for each case: the rules behind none; the rules and the round behind least; refused with the number.
+abbrev pub told_by : List ℕ → Option (List ℕ) → Definitions.Reasons
+told_by rules None = of_none rules
+told_by rules (Some round) = of_least rules round
 
-abbrev pub reasons_of : Grounds → Definitions.Reasons
-reasons_of r = told_of r.told r.rules r.round
-
--- No more rules and moments are told than there can be.
-unfoldable pub counts_fit : Told → Type 0
-counts_fit (Refused k) = Unit
-counts_fit (None count) = count ≤ highest_m
-counts_fit (Least count turns) = (count ≤ highest_m) × (turns ≤ stride)
-
--- The number with which the checker refused, 0 where it accepted.
-unfoldable pub refused_by : Verdict → ℕ
-refused_by (Verdicts.Accepted class span) = 0
-refused_by (Verdicts.Refused k) = k
+abbrev pub reasons_of : Result Grounds Refusal → Definitions.Reasons
+reasons_of (Ok g) = told_by g.rules g.round
+reasons_of (Err r) = Definitions.refused (number_of r)
 
 -- The checker accepts the answer in the bytes a, of this class, for the problem in the bytes p.
 pub record Passed (p a : List ℕ) (class : ℕ) : Type 0 where

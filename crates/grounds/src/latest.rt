@@ -1,40 +1,23 @@
 // The first latest right moment of a row: the first with the largest right lead plus stamp.
-ghost use Rattle.std.specs.Prelude.{◌≡◌, ℕ, ◌+◌, ◌*◌, ◌≤◌, ◌<◌, get_or};
-ghost use Rattle.base.specs.Filled.{Filled};
-ghost use Rattle.definitions.specs.Limits.{lead_limit, stamp_limit, stride, table_rows};
+ghost use Rattle.std.specs.Prelude.{◌≡◌, ℕ, ◌≤◌, ◌<◌, get_or};
+ghost use Rattle.definitions.specs.Limits.{lead_limit, stamp_limit, stride};
 ghost use Rattle.definitions.specs.Tropical.{plus};
 ghost use Rattle.definitions.specs.Offset.{trop_of};
 ghost use Rattle.records.specs.Decoded.{Near};
 ghost use Rattle.records.specs.Stamps.{Stamped};
-ghost use Rattle.grounds.specs.Tables.{row_in};
 ghost use Rattle.grounds.specs.Latest.{FirstLatest};
 
-use records::limits::{OFFSET, STRIDE, TABLE};
-
-// Row i of a table.
-pub fn row_at(table: &[u32; TABLE], i: usize) -> [u32; STRIDE]
-    requires { i < table_rows }
-    ensures { Filled (λ l v. v ≡ row_in table.now i l) stride stride result }
-{
-    let mut row = [0u32; STRIDE];
-    for l in 0..STRIDE {
-        row[l] = table[i * STRIDE + l];
-    }
-    row
-}
+use records::limits::{OFFSET, STRIDE};
 
 // A lead plus a stamp, as offset numbers; blank where one is.
 fn sum_of(lead: u32, stamp: u64) -> u64
     requires { Near lead_limit lead × Near stamp_limit stamp }
     ensures { trop_of result ≡ plus (trop_of lead) (trop_of stamp) }
 {
-    if lead == 0 {
+    if lead == 0 || stamp == 0 {
         return 0;
     }
-    if stamp == 0 {
-        return 0;
-    }
-    lead as u64 + stamp - OFFSET
+    u64::from(lead) + stamp - OFFSET
 }
 
 // The first moment with the largest lead plus stamp.

@@ -3,6 +3,8 @@
 
 pub mod input;
 pub mod latest;
+pub mod numbers;
+pub mod plan;
 pub mod reached;
 pub mod reasons;
 pub mod round;

@@ -10,7 +10,7 @@ ghost use Rattle.reach.specs.Marks.{Flags, StartMarked, ReachedBy};
 ghost use Rattle.grounds.specs.Tables.{RightHeld};
 ghost use Rattle.grounds.specs.Reached.{pick_arc, arc_cell};
 
-use crate::latest::row_at;
+use crate::plan::Plan;
 use reach::{anchor, marks_of, reach};
 use records::limits::{ARCS, ROWS, STRIDE, TABLE};
 
@@ -38,29 +38,21 @@ fn pick_arcs(right: &[u32; TABLE], picks: &[u64; ROWS]) -> [u32; ARCS]
 }
 
 // Marks of the moments where reach begins: the anchor for start 0, else all with a lead in the question's second list.
-fn start_marks(right: &[u32; TABLE], m: usize, start: u64) -> [u8; STRIDE]
-    requires { m ≤ highest_m }
-    ensures { Flags result × ((p : Problem) → (n : ℕ) → n ≤ highest_n → RightHeld p right.now n m → StartMarked (start_of p start) (n + 1) result) }
+fn start_marks(plan: &Plan, start: u64) -> [u8; STRIDE]
+    requires { plan.now.m ≤ highest_m }
+    ensures { Flags result × ((p : Problem) → (n : ℕ) → n ≤ highest_n → RightHeld p plan.now.right.now n plan.now.m → StartMarked (start_of p start) (n + 1) result) }
 {
-    if start == 0 {
-        return anchor();
+    match start {
+        0 => anchor(),
+        1.. => marks_of(&plan.leads(plan.m)),
     }
-    let second = row_at(right, m);
-    marks_of(&second)
 }
 
 // Marks of the reached moments.
-pub fn reached_moments(
-    right: &[u32; TABLE],
-    picks: &[u64; ROWS],
-    n: usize,
-    m: usize,
-    start: u64,
-) -> [u8; STRIDE]
-    requires { (n ≤ highest_n) × (m ≤ highest_m) × Picked picks.now (m + 1) }
-    ensures { (p : Problem) → RightHeld p right.now n m → ReachedBy (start_of p start) (Leads p (strategy_of picks.now)) (n + 1) result }
+pub fn reached_moments(plan: &Plan, start: u64) -> [u8; STRIDE]
+    requires { (plan.now.n ≤ highest_n) × (plan.now.m ≤ highest_m) × Picked plan.now.picks.now (plan.now.m + 1) }
+    ensures { (p : Problem) → RightHeld p plan.now.right.now plan.now.n plan.now.m → ReachedBy (start_of p start) (Leads p (strategy_of plan.now.picks.now)) (plan.now.n + 1) result }
 {
-    let arcs = pick_arcs(right, picks);
-    let begin = start_marks(right, m, start);
-    reach(&arcs, n + 1, begin)
+    let arcs = pick_arcs(plan.right, plan.picks);
+    reach(&arcs, plan.n + 1, start_marks(plan, start))
 }

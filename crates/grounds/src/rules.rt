@@ -2,16 +2,11 @@
 ghost use Rattle.std.specs.Prelude.{◌≤◌};
 ghost use Rattle.base.specs.Decides.{Decides};
 ghost use Rattle.definitions.specs.Limits.{highest_m, stride};
-ghost use Rattle.grounds.specs.Rules.{PickedBy, PickedListed};
+ghost use Rattle.definitions.specs.Reasons.{Listed};
+ghost use Rattle.grounds.specs.Rules.{PickedBy};
 
-use records::limits::{ROWS, STRIDE};
-
-// Rules by their numbers, and how many.
-#[derive(Clone, Copy)]
-pub struct Rules {
-    pub numbers: [usize; ROWS],
-    pub count: usize,
-}
+use crate::numbers::Numbers;
+use records::limits::{HIGHEST_M, ROWS, STRIDE};
 
 // A marked moment picks the rule with this number.
 fn is_picked(marks: &[u8; STRIDE], picks: &[u64; ROWS], width: usize, number: usize) -> bool
@@ -19,27 +14,28 @@ fn is_picked(marks: &[u8; STRIDE], picks: &[u64; ROWS], width: usize, number: us
     ensures { Decides (PickedBy marks.now picks.now width number) result }
 {
     for j in 0..width {
-        if marks[j] != 0 {
-            if picks[j] == number as u64 {
-                return true;
-            }
+        if marks[j] != 0 && picks[j] == number as u64 {
+            return true;
         }
     }
     false
 }
 
 // The rules of 1 to m that marked moments pick, ascending.
-pub fn picked_rules(marks: &[u8; STRIDE], picks: &[u64; ROWS], width: usize, m: usize) -> Rules
+pub fn picked_rules(
+    marks: &[u8; STRIDE],
+    picks: &[u64; ROWS],
+    width: usize,
+    m: usize,
+) -> Numbers<HIGHEST_M>
     requires { (width ≤ stride) × (m ≤ highest_m) }
-    ensures { PickedListed marks.now picks.now width m result.numbers result.count }
+    ensures { Listed (PickedBy marks.now picks.now width) m result }
 {
-    let mut numbers = [0usize; ROWS];
-    let mut count = 0;
+    let mut rules = Numbers::new();
     for i in 0..m {
         if is_picked(marks, picks, width, i + 1) {
-            numbers[count] = i + 1;
-            count += 1;
+            rules.push(i + 1);
         }
     }
-    Rules { numbers, count }
+    rules
 }

@@ -1,6 +1,10 @@
-use native.Mathlib.Omega.{arith}
-use Rattle.grounds.proofs.LongInput.{long_reasoned}
+use Rattle.std.proofs.Common.{refl, arith}
+use Rattle.grounds.proofs.LongInput.{long_refused}
+use Rattle.grounds.proofs.Reading.{reasoned_refused}
 use Rattle.grounds.proofs.input.input_reasons.Goals as goal
 
+pub unwrap_err-requires : goal.unwrap_err-requires
+unwrap_err-requires c = long_refused c.args.kept.now c.args.size c.judge_input.result c.told-kept (omega (arith, c.if-size.false)) c.judge_input.ensures
+
 pub returns : goal.returns
-returns c = record { reasoned = λ input k. rw c.refused.ensures.told (long_reasoned input _ (omega (arith, k.size_is, c.if-size.false)) (c.judge_input.ensures input k) c.refusal_of.ensures); counted = c.refused.ensures.counted }
+returns c = λ input k. reasoned_refused (rw c.unwrap_err.ensures at (c.judge_input.ensures input k)) refl

@@ -8,4 +8,4 @@ pub slice_bounds-whole_reasons-end : goal.slice_bounds-whole_reasons-end
 slice_bounds-whole_reasons-end c = sym (length-take-le _ _ (omega arith))
 
 pub returns : goal.returns
-returns c = record { reasoned = λ input k. rw (kept_whole k c.requires.1) c.whole_reasons.ensures.reasoned; counted = c.whole_reasons.ensures.counted }
+returns c = λ input k. rw (kept_whole k c.requires.1) c.whole_reasons.ensures

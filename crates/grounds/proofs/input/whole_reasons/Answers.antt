@@ -8,4 +8,4 @@ pub slice_bounds-reasons-end : goal.slice_bounds-reasons-end
 slice_bounds-reasons-end c = sym (length-take-le _ _ c.cut_place-cut.ensures.inside)
 
 pub returns : goal.returns
-returns c = record { reasoned = reasoned_parts _ c.cut_place-cut.ensures.place (rw (rest_whole c.args.input.now c.cut_place-cut.result) at c.reasons.ensures.reasoned); counted = c.reasons.ensures.counted }
+returns c = reasoned_parts _ c.cut_place-cut.ensures.place (rw (rest_whole c.args.input.now c.cut_place-cut.result) at c.reasons.ensures)

@@ -5,23 +5,23 @@ use Rattle.definitions.proofs.IdleDay.{meant_bytes}
 use Rattle.grounds.proofs.Reading.{header_stands, answer_stands, certifies, reasoned_told}
 use Rattle.grounds.proofs.reasons.read_reasons.Goals as goal
 
-pub returns-in_default : goal.returns-in_default
-returns-in_default c = absurd (header_stands c.requires c.read_problem-header.ensures.result c.in_default.is)
+pub returns-in_err-layout : goal.returns-in_err-layout
+returns-in_err-layout c = absurd (header_stands c.requires _ c.in_err-layout.ensures.result)
 
-pub returns-in_default-read : goal.returns-in_default-read
-returns-in_default-read c = let problem : Bytes c.args.problem.now = record { byte = λ i. (c.shared_slice_known-1.given i).fits } in
-    let answer : Bytes c.args.answer.now = record { byte = λ i. (c.shared_slice_known-2-1.given i).fits } in
-    absurd (answer_stands c.requires (meant_bytes _ problem) c.read_problem-header.ensures c.in-Told.is c.read_answer-read.ensures.answered c.in_default-read.is)
+pub returns-in_err-head : goal.returns-in_err-head
+returns-in_err-head c = let problem : Bytes c.args.problem.now = record { byte = λ i. (c.type_inv.problem i).fits } in
+    absurd (answer_stands c.requires (meant_bytes _ problem) c.read_problem.ensures c.in_ok-layout.was _ c.in_err-head.ensures.answered)
 
 pub tell-requires : goal.tell-requires
-tell-requires c = let problem : Bytes c.args.problem.now = record { byte = λ i. (c.shared_slice_known-1.given i).fits } in
-    let answer : Bytes c.args.answer.now = record { byte = λ i. (c.shared_slice_known-2-1.given i).fits } in
+tell-requires c = let problem : Bytes c.args.problem.now = record { byte = λ i. (c.type_inv.problem i).fits } in
+    let answer : Bytes c.args.answer.now = record { byte = λ i. (c.type_inv.answer i).fits } in
     record {
       problem = problem_of (meant c.args.problem.now);
       answer = answer_for (meant c.args.problem.now) c.args.answer.now;
-      certifies = certifies c.requires (meant_bytes _ problem) c.read_problem-header.ensures c.in-Told.is answer c.read_answer-read.ensures c.in-Fields.is;
+      certifies = certifies c.requires (meant_bytes _ problem) c.read_problem.ensures c.in_ok-layout.was answer c.read_answer.ensures c.in_ok-head.was;
     }
 
 pub returns : goal.returns
-returns c = let problem : Bytes c.args.problem.now = record { byte = λ i. (c.shared_slice_known-1.given i).fits } in
-    let answer : Bytes c.args.answer.now = record { byte = λ i. (c.shared_slice_known-2-1.given i).fits } in record { reasoned = reasoned_told c.requires (c.tell.ensures.tells _ _ (certifies c.requires (meant_bytes _ problem) c.read_problem-header.ensures c.in-Told.is answer c.read_answer-read.ensures c.in-Fields.is)); counted = c.tell.ensures.counted }
+returns c = let problem : Bytes c.args.problem.now = record { byte = λ i. (c.type_inv.problem i).fits } in
+    let answer : Bytes c.args.answer.now = record { byte = λ i. (c.type_inv.answer i).fits } in
+    reasoned_told c.requires (c.tell.ensures _ _ (certifies c.requires (meant_bytes _ problem) c.read_problem.ensures c.in_ok-layout.was answer c.read_answer.ensures c.in_ok-head.was))

@@ -6,6 +6,3 @@ use Rattle.grounds.proofs.rules.is_picked.Given as goal
 
 abbrev pub invariant-loop-j : goal.invariant-loop-j
 invariant-loop-j l = (l.j ≤ l.width) × ((k : ℕ) → k < l.j → Marked l.marks k → get_or l.picks k 0 ≡ l.number → ⊥)
-
-abbrev pub decreases-loop-j : goal.decreases-loop-j
-decreases-loop-j l = l.width - l.j

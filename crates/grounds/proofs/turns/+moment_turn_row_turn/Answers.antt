@@ -1,27 +1,20 @@
-use Rattle.std.proofs.Common.{arith}
-use Rattle.grounds.proofs.Turning.{turn_back, turn_left, turn_row, turn_moment, turn_first, turn_kept}
+use Rattle.std.proofs.Common.{sym, ◌∙◌, arith}
+use Rattle.grounds.proofs.Turning.{turn_back, turn_left, turn_row, turn_moment}
 use Rattle.grounds.proofs.turns.+moment_turn_row_turn.Goals as goal
 
-pub moment_turn-returns-then-at-count : goal.moment_turn-returns-then-at-count
-moment_turn-returns-then-at-count t c = turn_back c.requires c.place_of-at.ensures c.if-at-count.true
+pub moment_turn-returns-in-Some : goal.moment_turn-returns-in-Some
+moment_turn-returns-in-Some t c = turn_back c.requires (rw c.as_slice.ensures.0 at (sym c.place_of.ensures ∙ c.in-Some.is))
 
-pub moment_turn-bounds-came-count : goal.moment_turn-bounds-came-count
-moment_turn-bounds-came-count t c = omega (arith, c.requires.going.n_most, turn_left c.requires c.place_of-at.ensures (omega arith))
+pub moment_turn-push-requires : goal.moment_turn-push-requires
+moment_turn-push-requires t c = let left = turn_left c.requires (rw c.as_slice.ensures.0 at (sym c.place_of.ensures ∙ c.in-None.is)) in
+    (omega arith, omega (arith, left, c.requires.gone, c.requires.going.n_most))
 
 pub moment_turn-overflow_sub-turns : goal.moment_turn-overflow_sub-turns
-moment_turn-overflow_sub-turns t c = turn_left c.requires c.place_of-at.ensures (omega arith)
+moment_turn-overflow_sub-turns t c = turn_left c.requires (rw c.as_slice.ensures.0 at (sym c.place_of.ensures ∙ c.in-None.is))
 
 pub moment_turn-row_turn-requires : goal.moment_turn-row_turn-requires
-moment_turn-row_turn-requires t c = (
-  omega (arith, turn_left c.requires c.place_of-at.ensures (omega arith)),
-  turn_row c.requires c.place_of-at.ensures (omega arith),
-)
-
-pub moment_turn-returns : goal.moment_turn-returns
-moment_turn-returns t c = turn_kept c.requires c.place_of-at.ensures (omega arith) c.row_turn.ensures
+moment_turn-row_turn-requires t c = let none = rw c.as_slice.ensures.0 at (sym c.place_of.ensures ∙ c.in-None.is) in
+    (omega (arith, turn_left c.requires none), rw c.push.ensures (turn_row c.requires none))
 
 pub row_turn-moment_turn-requires : goal.row_turn-moment_turn-requires
-row_turn-moment_turn-requires t c = (omega arith, turn_moment c.requires c.row_at-leads.ensures c.first_latest.ensures)
-
-pub row_turn-returns : goal.row_turn-returns
-row_turn-returns t c = turn_first c.requires c.first_latest.result c.moment_turn.ensures
+row_turn-moment_turn-requires t c = (omega arith, turn_moment c.requires c.leads-leads.ensures c.first_latest-l.ensures)
