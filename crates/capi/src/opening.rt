@@ -3,18 +3,19 @@ ghost use Rattle.std.specs.Prelude.{◌≡◌};
 ghost use Rattle.opening_hours.specs.Lookup.{admission_of};
 ghost use Rattle.capi.specs.Opening.{AdmitsAs, SmallMinute, admission_number};
 
-use opening_hours::lookup::{Admission, first_open};
+use opening_hours::lookup::first_open;
 use records::limits::FULL;
+use records::refusal::Refusal;
 
 // 2³² × the minute's offset number where there is one, 0 for never, else the refusal.
-fn admission_number(admission: Admission) -> u64
+fn admission_number(admission: Result<Option<u64>, Refusal>) -> u64
     requires { SmallMinute admission }
     ensures { result ≡ admission_number (admission_of admission) }
 {
     match admission {
-        Admission::At(minute) => FULL * minute,
-        Admission::Never => 0,
-        Admission::Refused(k) => k as u64,
+        Ok(Some(minute)) => FULL * minute,
+        Ok(None) => 0,
+        Err(refusal) => refusal.number() as u64,
     }
 }
 
