@@ -47,38 +47,37 @@ abbrev lead_fields : ℕ → ℕ → ℕ → List ℕ
 lead_fields w k c = fields signed_bytes (map field_of (leads_at w k c))
 
 -- So many were put: those that are left, put from here, are the whole.
-pub record Putting (w leads number : ℕ) (l now-is : List ℕ) (at rest i : ℕ) : Type 0 where
-  pub place : at ≡ problem_header + signed_bytes * i
+pub record Putting (w leads number : ℕ) (l now-is : List ℕ) (rest i : ℕ) : Type 0 where
   pub same_length : length now-is ≡ length l
   pub left : ℕ
   pub left_is : i + left ≡ leads
-  pub whole_is : put now-is at (lead_fields w left rest) ≡ put l problem_header (lead_fields w leads number)
+  pub whole_is : put now-is (problem_header + signed_bytes * i) (lead_fields w left rest) ≡ put l problem_header (lead_fields w leads number)
 
-pub putting_start : (w leads number : ℕ) (l : List ℕ) → Putting w leads number l l problem_header number 0
-putting_start w leads number l = record { place = refl; same_length = refl; left = leads; left_is = omega arith; whole_is = refl }
+pub putting_start : (w leads number : ℕ) (l : List ℕ) → Putting w leads number l l number 0
+putting_start w leads number l = record { same_length = refl; left = leads; left_is = omega arith; whole_is = refl }
 
-turn_from : (w leads number : ℕ) (l l₁ l₂ : List ℕ) (at rest i left x : ℕ) → at ≡ problem_header + signed_bytes * i → length l₁ ≡ length l → i + left ≡ leads
-    → put l₁ at (lead_fields w left rest) ≡ put l problem_header (lead_fields w leads number) → i < leads → problem_header + signed_bytes * leads ≤ length l
-    → x ≡ field_of (census_lead w (rest % leads_up_to w)) → l₂ ≡ put l₁ at (le signed_bytes x)
-    → Putting w leads number l l₂ (at + signed_bytes) (rest / leads_up_to w) (i + 1)
+turn_from : (w leads number : ℕ) (l l₁ l₂ : List ℕ) (rest i left x : ℕ) → length l₁ ≡ length l → i + left ≡ leads
+    → put l₁ (problem_header + signed_bytes * i) (lead_fields w left rest) ≡ put l problem_header (lead_fields w leads number) → i < leads → problem_header + signed_bytes * leads ≤ length l
+    → x ≡ field_of (census_lead w (rest % leads_up_to w)) → l₂ ≡ put l₁ (problem_header + signed_bytes * i) (le signed_bytes x)
+    → Putting w leads number l l₂ (rest / leads_up_to w) (i + 1)
 unfolding leads_at fields
-turn_from w leads number l l₁ l₂ at rest i zero x p s e g h room f q = absurd (omega arith)
-turn_from w leads number l l₁ l₂ at rest i (suc left) x p s e g h room f q =
-    let step = put_put l₁ at (le signed_bytes x) (at + signed_bytes) (lead_fields w left (rest / leads_up_to w)) (omega arith) (rw length_le refl) in
+turn_from w leads number l l₁ l₂ rest i zero x s e g h room f q = absurd (omega arith)
+turn_from w leads number l l₁ l₂ rest i (suc left) x s e g h room f q =
+    let next : problem_header + signed_bytes * (i + 1) ≡ problem_header + signed_bytes * i + length (le signed_bytes x) = rw length_le (omega arith) in
+    let step = put_put l₁ (problem_header + signed_bytes * i) (le signed_bytes x) (problem_header + signed_bytes * (i + 1)) (lead_fields w left (rest / leads_up_to w)) (omega arith) next in
     record {
-      place = omega arith;
-      same_length = rw q (length_put l₁ at (le signed_bytes x) (omega arith) (rw length_le (omega arith))) ∙ s;
+      same_length = rw q (length_put l₁ (problem_header + signed_bytes * i) (le signed_bytes x) (omega arith) (rw length_le (omega arith))) ∙ s;
       left = left;
       left_is = omega arith;
       whole_is = rw q (step ∙ rw f g);
     }
 
-pub putting_turn : {w leads number : ℕ} {l l₁ l₂ : List ℕ} {at rest i x : ℕ} → Putting w leads number l l₁ at rest i → i < leads → problem_header + signed_bytes * leads ≤ length l
-    → x ≡ field_of (census_lead w (rest % leads_up_to w)) → l₂ ≡ put l₁ at (le signed_bytes x)
-    → Putting w leads number l l₂ (at + signed_bytes) (rest / leads_up_to w) (i + 1)
-putting_turn r h room f q = turn_from _ _ _ _ _ _ _ _ _ r.left _ r.place r.same_length r.left_is r.whole_is h room f q
+pub putting_turn : {w leads number : ℕ} {l l₁ l₂ : List ℕ} {rest i x : ℕ} → Putting w leads number l l₁ rest i → i < leads → problem_header + signed_bytes * leads ≤ length l
+    → x ≡ field_of (census_lead w (rest % leads_up_to w)) → l₂ ≡ put l₁ (problem_header + signed_bytes * i) (le signed_bytes x)
+    → Putting w leads number l l₂ (rest / leads_up_to w) (i + 1)
+putting_turn r h room f q = turn_from _ _ _ _ _ _ _ _ _ _ r.same_length r.left_is r.whole_is h room f q
 
-pub putting_end : {w leads number : ℕ} {l l₁ : List ℕ} {at rest i : ℕ} → Putting w leads number l l₁ at rest i → leads ≤ i
+pub putting_end : {w leads number : ℕ} {l l₁ : List ℕ} {rest i : ℕ} → Putting w leads number l l₁ rest i → leads ≤ i
     → l₁ ≡ put l problem_header (lead_fields w leads number)
 unfolding leads_at fields
-putting_end {l₁ = l₁} {at = at} r h = let none : r.left ≡ 0 = omega (arith, r.left_is) in sym (put_nil l₁ at) ∙ (rw none at r.whole_is)
+putting_end {l₁ = l₁} {i = i} r h = let none : r.left ≡ 0 = omega (arith, r.left_is) in sym (put_nil l₁ (problem_header + signed_bytes * i)) ∙ (rw none at r.whole_is)

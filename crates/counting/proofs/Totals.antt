@@ -1,41 +1,21 @@
 -- The total of a census as a power, multiplied as far as it is at most 65,536; and refusal 27.
 use Prim.Native.Nat.{ℕ, ◌+◌, ◌*◌, ◌^◌, ◌≤◌, ◌<◌, min}
-use mathlib.Core.Path.{◌≡◌, refl, sym, subst, ◌∙◌}
+use mathlib.Core.Path.{◌≡◌, refl, sym, ◌∙◌}
 use mathlib.Core.Bool.{Bool, true, false, cond}
 use mathlib.Core.Logic.{◌↔◌, ◌⊎◌, inl, inr, ⊎_elim}
 use lib.Dec.{eqb, ltb}
 use borrow.Author.Tests.{eqb-false, ne_eqb}
 use native.Mathlib.Omega.{arith}
-use native.Mathlib.Numerals.{add-one}
-use native.Mathlib.Nat.{pow-suc, pow-le-pow_left, pow-le-pow_right, mul-le-mul_left, mul-le-mul_right}
+use native.Mathlib.Nat.{pow-le-pow_left, pow-le-pow_right}
 use Rattle.base.proofs.Numbers.{nat_le_or_lt}
 use Rattle.definitions.specs.Limits.{highest_n, highest_m, lead_limit, census_most, refused_census}
 use Rattle.definitions.specs.Bytes.{outcome}
 use Rattle.definitions.specs.ProblemRecord.{above_limits}
 use Rattle.definitions.proofs.Refusals.{fails_clause, limits_clause, enough_clause}
 use Rattle.definitions.specs.Census.{leads_up_to, lead_count, census_total, census_refusal, Census, Censuses, turned_away, counts}
-use Rattle.counting.specs.Steps.{PowerUpTo, CensusFits, few_leads, total_of}
-use Rattle.counting.specs.declared.total.Total.TheVariants.{Problems, Refused as Untaken}
-
--- One factor more fits a word.
-pub product_fits : (t b : ℕ) → t ≤ census_most → b ≤ leads_up_to lead_limit → t * b < 18446744073709551616
-product_fits t b h g =
-    let one = mul-le-mul_right {m = t} {n = 65536} b h in
-    let two = mul-le-mul_left {m = b} {n = 40322} 65536 g in
-    omega (arith, one, two)
-
-pub power_more : (base i t : ℕ) → t ≡ base ^ i → t * base ≡ base ^ (i + 1)
-power_more base i t e = rw (e, add-one i) (sym (pow-suc base i))
-
--- A power above 65,536 is below the later ones.
-pub power_above : (base places i t : ℕ) → 0 < base → i < places → t ≡ base ^ i → census_most < t * base → PowerUpTo base places (t * base)
-power_above base places i t b h e g =
-    let more = pow-le-pow_right {n = base} b {i = i + 1} {j = places} (omega arith) in
-    let here = power_more base i t e in
-    record { exact = λ k. absurd (omega arith); above = λ k. omega (arith, more, here) }
-
-pub power_exact : (base places i t : ℕ) → i ≤ places → places ≤ i → t ≡ base ^ i → t ≤ census_most → PowerUpTo base places t
-power_exact base places i t h g e m = let same : i ≡ places = omega arith in record { exact = λ k. rw (← same) e; above = λ k. absurd (omega arith) }
+use Rattle.std.specs.Prelude.{Ok, Err}
+use Rattle.records.specs.declared.refusal.Refusal.TheVariants.{Census as RefusalCensus}
+use Rattle.counting.specs.Steps.{CensusFits, few_leads, total_of}
 
 -- ---- refusal 27
 
@@ -68,21 +48,33 @@ census_either n m w = one_of (eqb w 0) _ (one_of (ltb lead_limit w) _ (one_of (a
 pub census_refused : (n m w : ℕ) → (CensusFits n m w → ⊥) → census_refusal n m w ≡ refused_census
 census_refused n m w h = ⊎_elim (λ e. absurd (h ((census_fits n m w).0 e))) (λ (e : census_refusal n m w ≡ refused_census). e) (census_either n m w)
 
+-- One of the first four tests fails.
+pub outside : {n m w : ℕ}
+    → (w ≡ 0) ⊎ (((w ≡ 0 → ⊥) × (lead_limit < w)) ⊎ (((w ≡ 0 → ⊥) × (w ≤ lead_limit) × (highest_n < n)) ⊎ ((w ≡ 0 → ⊥) × (w ≤ lead_limit) × (n ≤ highest_n) × (highest_m < m))))
+    → CensusFits n m w → ⊥
+outside (inl e) f = f.some e
+outside (inr (inl h)) f = absurd (omega (arith, h.1, f.w_most))
+outside (inr (inr (inl h))) f = absurd (omega (arith, h.2, f.n_most))
+outside (inr (inr (inr h))) f = absurd (omega (arith, h.3, f.m_most))
+
 -- What the code answers.
-pub judged_away : (n m w : ℕ) → (CensusFits n m w → ⊥) → total_of (Untaken refused_census) ≡ outcome (census_refusal n m w) (census_total n m w)
-unfolding total_of outcome
+pub judged_away : (n m w : ℕ) → (CensusFits n m w → ⊥) → total_of (Err RefusalCensus) ≡ outcome (census_refusal n m w) (census_total n m w)
+unfolding outcome
 judged_away n m w h = rw (census_refused n m w h) refl
 
-pub judged_total : (n m w t : ℕ) → (w ≡ 0 → ⊥) → w ≤ lead_limit → n ≤ highest_n → m ≤ highest_m → PowerUpTo (leads_up_to w) (lead_count n m) t → t ≤ census_most
-    → total_of (Problems t) ≡ outcome (census_refusal n m w) (census_total n m w)
-unfolding total_of outcome
-judged_total n m w t s h a b p e =
-    let is = p.exact e in
-    let none = (census_fits n m w).1 (record { some = s; w_most = h; n_most = a; m_most = b; total_most = omega (arith, is) }) in
-    rw (none, is) refl
+module _ (n m w : ℕ) {k t : ℕ} (count : k ≡ 2 * ((n + 1) * (m + 1))) (power : t ≡ min (leads_up_to w ^ k) 18446744073709551615) where
+  capped_total : t ≡ min (census_total n m w) 18446744073709551615
+  capped_total = let same : k ≡ lead_count n m = omega arith in power ∙ rw same refl
 
-pub total_above : (n m w t : ℕ) → PowerUpTo (leads_up_to w) (lead_count n m) t → census_most < t → CensusFits n m w → ⊥
-total_above n m w t p h f = let g = p.above h in absurd (omega (arith, g, f.total_most))
+  pub total_above : census_most < t → CensusFits n m w → ⊥
+  total_above h f = absurd (omega (arith, capped_total, f.total_most))
+
+  pub judged_total : (w ≡ 0 → ⊥) → w ≤ lead_limit → n ≤ highest_n → m ≤ highest_m → t ≤ census_most → total_of (Ok t) ≡ outcome (census_refusal n m w) (census_total n m w)
+  unfolding outcome
+  judged_total s h a b e =
+      let is : t ≡ census_total n m w = omega (arith, capped_total) in
+      let none = (census_fits n m w).1 (record { some = s; w_most = h; n_most = a; m_most = b; total_most = omega (arith, is) }) in
+      rw (none, is) refl
 
 -- Eight leads at most.
 pub leads_few : (n m w : ℕ) → CensusFits n m w → lead_count n m ≤ few_leads
@@ -93,9 +85,6 @@ leads_few n m w f = ⊎_elim
     let long = pow-le-pow_right {n = leads_up_to w} (omega arith) {i = 9} {j = lead_count n m} h in
     absurd (omega (arith, wide, long, f.total_most)))
     (nat_le_or_lt (lead_count n m) few_leads)
-
-pub power_of : {b k r : ℕ} (n m : ℕ) → PowerUpTo b k r → k ≡ 2 * ((n + 1) * (m + 1)) → PowerUpTo b (lead_count n m) r
-power_of {b} {k} {r} n m p e = let same : k ≡ lead_count n m = omega arith in subst (λ (j : ℕ). PowerUpTo b j r) same p
 
 -- ---- numbers as far as 65,536
 

@@ -1,25 +1,29 @@
 -- What the steps of a census ask and leave, and its answer in the words of the definitions.
-use Rattle.std.specs.Prelude.{ℕ, zero, suc, ◌+◌, ◌*◌, ◌^◌, ◌/◌, ◌%◌, ◌≤◌, ◌<◌, ◌≡◌, cond, List, [], ◌∷◌, eqb, length, take}
+use Rattle.std.specs.Prelude.{ℕ, zero, suc, ◌+◌, ◌*◌, ◌/◌, ◌%◌, ◌≤◌, ◌<◌, ◌≡◌, cond, List, [], ◌∷◌, eqb, length, take, Option, Some, None, Result, Ok, Err}
 use Rattle.definitions.specs.Limits.{highest_n, highest_m, lead_limit, problem_header, signed_bytes, problem_kind, class_optimal, class_unbounded, class_infeasible, refused_silent, census_most}
 use Rattle.definitions.specs.Tropical.{Trop}
-use Rattle.definitions.specs.Bytes.{Outcome, refusal, gives}
+use Rattle.definitions.specs.Bytes.{Outcome}
 use Rattle.definitions.specs.ProblemRecord.{problem_refusal, silent_refused, kind_field, header_bytes, list_of}
 use Rattle.definitions.specs.Census as Papers
 use Rattle.definitions.specs.Census.{Counted, CountsAs, census_lead, leads_up_to, leads_record, lead_count, census_total}
-use Rattle.counting.specs.declared.census.Census.{Census}
-use Rattle.counting.specs.declared.census.Census.TheVariants.{Refused, Counted as Told}
-use Rattle.counting.specs.declared.total.Total.{Total}
-use Rattle.counting.specs.declared.total.Total.TheVariants.{Problems, Refused as Untaken}
+use Rattle.records.specs.declared.class.Class.{Class}
+use Rattle.records.specs.declared.refusal.Refusal.{Refusal}
+use Rattle.records.specs.Classes.{class_number}
+use Rattle.records.specs.Refusals.{number_of, outcome_by}
 use Rattle.counting.specs.declared.tally.Tally.{Tally}
 
 -- The papers' result for each case: the number of the refusal, or the four counts.
-unfoldable pub census_of : Census → Papers.Census
-census_of (Refused k) = Papers.refused k
-census_of (Told a b c d) = Papers.counted a b c d
+abbrev pub census_of : Result Tally Refusal → Papers.Census
+census_of (Err r) = Papers.refused (number_of r)
+census_of (Ok t) = Papers.counted t.least t.bottomless t.none t.silent
 
-unfoldable pub total_of : Total → Outcome ℕ
-total_of (Problems k) = gives k
-total_of (Untaken k) = refusal k
+abbrev pub total_of : Result ℕ Refusal → Outcome ℕ
+total_of r = outcome_by (λ total. total) r
+
+-- The number by which a problem is counted: that of its class, or 17.
+abbrev pub counts_as : Option Class → ℕ
+counts_as (Some class) = class_number class
+counts_as None = refused_silent
 
 -- The most leads of a problem of a census: already of four leads each, blank and −1 to 1, eight make 65,536.
 abbrev pub few_leads : ℕ
@@ -28,11 +32,6 @@ few_leads = 8
 -- The largest record of a census, 42 bytes.
 abbrev pub small_most : ℕ
 small_most = problem_header + signed_bytes * few_leads
-
--- A power as far as it is at most 65,536; where it is not, some number above that.
-pub record PowerUpTo (base places r : ℕ) : Type 0 where
-  pub exact : r ≤ census_most → r ≡ base ^ places
-  pub above : census_most < r → census_most < base ^ places
 
 -- Refusal 27 does not apply.
 pub record CensusFits (n m w : ℕ) : Type 0 where

@@ -4,10 +4,11 @@ ghost use Rattle.definitions.specs.Limits.{lead_limit, signed_bytes, problem_hea
 ghost use Rattle.definitions.specs.Bytes.{put, fields, field_of};
 ghost use Rattle.definitions.specs.ProblemRecord.{header_bytes};
 ghost use Rattle.definitions.specs.Census.{leads_up_to, lead_count, census_lead, CountsAs};
-ghost use Rattle.counting.specs.Steps.{few_leads, leads_at, Posed};
+ghost use Rattle.counting.specs.Steps.{few_leads, leads_at, Posed, counts_as};
 
 use answer_writer::writer::{put_short, put_word};
-use engine::solve::{Solved, solve};
+use engine::solve::{Solution, solve};
+use records::class::Class;
 use records::limits::{
     ANSWER_MOST, KIND_PLACE, LEAD_BYTES, LENGTH_BYTES, LENGTH_PLACE, M_PLACE, N_PLACE, OFFSET,
     PROBLEM_HEADER, PROBLEM_KIND,
@@ -44,33 +45,25 @@ pub fn put_leads(buffer: &mut [u8], leads: usize, w: u64, number: u64)
 {
     let base = 2 * w + 2;
     let mut rest = number;
-    let mut at = PROBLEM_HEADER;
-    for _ in 0..leads {
-        put_word(buffer, at, lead_field(w, rest % base));
-        at += LEAD_BYTES;
+    for i in 0..leads {
+        put_word(
+            buffer,
+            PROBLEM_HEADER + LEAD_BYTES * i,
+            lead_field(w, rest % base),
+        );
         rest /= base;
     }
 }
 
-// As what a problem is counted: its class, or 17.
-pub fn counted_as(problem: &[u8]) -> u64
+// The class of a problem, by which it is counted; none where it is under refusal 17.
+pub fn counted_as(problem: &[u8]) -> Option<Class>
     requires { Posed problem.now }
-    ensures { CountsAs problem.now result }
+    ensures { CountsAs problem.now (counts_as result) }
 {
     let mut answer = [0u8; ANSWER_MOST];
-    let solved = solve(problem, &mut answer);
-    match solved {
-        Solved::Refused(k) => k as u64,
-        Solved::Answered {
-            class,
-            span: _,
-            trials: _,
-            size: _,
-        } => class,
-        Solved::AllAnswered {
-            count: _,
-            trials: _,
-            size: _,
-        } => 0,
+    match solve(problem, &mut answer) {
+        Ok(Solution::One(answered)) => Some(answered.class),
+        Ok(Solution::All { .. }) => unreachable!(),
+        Err(_) => None,
     }
 }

@@ -1,5 +1,5 @@
 -- From lists to the problem: the turns over lists are the yielding of the definition, and what came back is its round.
-use Rattle.std.proofs.Common.{◌≡◌, ℕ, zero, suc, ◌+◌, ◌-◌, ◌≤◌, ◌<◌, Bool, true, false, cond, List, [], length, get_or, drop, Option, Some, None, refl, sym, ap, ◌∙◌, arith, length-drop, get_or-drop}
+use Rattle.std.proofs.Common.{◌≡◌, ℕ, zero, suc, ◌+◌, ◌-◌, ◌≤◌, ◌<◌, Bool, true, false, cond, List, [], length, get_or, drop, Some, refl, sym, ap, ◌∙◌, arith, length-drop, get_or-drop}
 use mathlib.Core.Logic.{⊎_elim}
 use lib.Dec.{ltb}
 use lib.Seq.{ext_get_or}
@@ -20,7 +20,7 @@ use Rattle.closed_walks.specs.Tables.{Picked}
 use Rattle.grounds.specs.Tables.{row_in, RightHeld}
 use Rattle.grounds.specs.Latest.{sum_at, FirstLatest}
 use Rattle.grounds.specs.Turns.{Next, MomentTurn, CameBack}
-use Rattle.grounds.specs.Rounds.{MetAt, FirstMet, Beginning, Binding}
+use Rattle.grounds.specs.Rounds.{MetAt, Beginning, Binding}
 use Rattle.grounds.specs.declared.turns.Turns.{Turns}
 use Rattle.grounds.proofs.Reaching.{offset_finite, finite_offset}
 

@@ -1,11 +1,13 @@
+use Rattle.std.proofs.lemmas.Result.{err_from_is_err_and}
 use Rattle.counting.proofs.Answers.{total_told, census_told, census_away}
 use Rattle.counting.proofs.census.take_census.Goals as goal
 
-pub tally_all-tally-requires : goal.tally_all-tally-requires
-tally_all-tally-requires c = total_told c.judge-total.ensures c.in-Problems.is
+pub returns-in_err-total : goal.returns-in_err-total
+returns-in_err-total c = let p = err_from_is_err_and c.from_residual.result c.from_residual.ensures.1 in
+    rw (p.1, p.2) (census_away c.judge.ensures c.in_err-total.was)
 
-pub returns-in-Problems : goal.returns-in-Problems
-returns-in-Problems c = census_told c.judge-total.ensures c.in-Problems.is c.tally_all-tally.ensures
+pub tally_all-requires : goal.tally_all-requires
+tally_all-requires c = total_told c.judge.ensures c.in_ok-total.was
 
-pub returns-in-Refused : goal.returns-in-Refused
-returns-in-Refused c = census_away c.judge-total.ensures c.in-Refused.is
+pub returns : goal.returns
+returns c = census_told c.judge.ensures c.in_ok-total.was c.tally_all.ensures

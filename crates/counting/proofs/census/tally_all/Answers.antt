@@ -10,29 +10,29 @@ pub put_head-requires : goal.put_head-requires
 put_head-requires c = let few = leads_few _ _ _ c.requires.0 in (omega arith, omega arith, omega (arith, few))
 
 pub loop-number-init : goal.loop-number-init
-loop-number-init c = (omega arith, headed_start _ _ _ refl c.put_head.ensures, tallied_none _ _ _ refl refl refl refl)
+loop-number-init c = (headed_start _ _ _ refl c.put_head.ensures, let h = c.default-tally.ensures in tallied_none _ _ _ h.0 h.1.0 h.1.1.0 h.1.1.1)
 
 pub slice_bounds-put_leads-end : goal.slice_bounds-put_leads-end
-slice_bounds-put_leads-end c = sym c.loop-number.invariant.1.size_is
+slice_bounds-put_leads-end c = sym c.loop-number.invariant.0.size_is
 
 pub put_leads-requires : goal.put_leads-requires
-put_leads-requires c = let few = leads_few _ _ _ c.requires.0 in (omega (arith, few, c.loop-number.invariant.1.size_is), c.requires.0.w_most)
+put_leads-requires c = let few = leads_few _ _ _ c.requires.0 in (omega (arith, few, c.loop-number.invariant.0.size_is), c.requires.0.w_most)
 
 pub slice_bounds-problem-end : goal.slice_bounds-problem-end
-slice_bounds-problem-end c = let d = made c.loop-number.number c.requires.0 c.lead_count-leads.ensures.0 c.loop-number.invariant.1 c.put_leads.ensures in omega (arith, d.few, d.headed.size_is)
+slice_bounds-problem-end c = let d = made c.loop-number.number c.requires.0 c.lead_count-leads.ensures.0 c.loop-number.invariant.0 c.put_leads.ensures in omega (arith, d.few, d.headed.size_is)
 
 pub slice_bounds-counted_as-end : goal.slice_bounds-counted_as-end
-slice_bounds-counted_as-end c = let d = made c.loop-number.number c.requires.0 c.lead_count-leads.ensures.0 c.loop-number.invariant.1 c.put_leads.ensures in sym (length-take-le _ _ (omega (arith, d.few, d.headed.size_is)))
+slice_bounds-counted_as-end c = let d = made c.loop-number.number c.requires.0 c.lead_count-leads.ensures.0 c.loop-number.invariant.0 c.put_leads.ensures in sym (length-take-le _ _ (omega (arith, d.few, d.headed.size_is)))
 
 pub counted_as-requires : goal.counted_as-requires
-counted_as-requires c = let d = made c.loop-number.number c.requires.0 c.lead_count-leads.ensures.0 c.loop-number.invariant.1 c.put_leads.ensures in rw d.here d.posed
+counted_as-requires c = let d = made c.loop-number.number c.requires.0 c.lead_count-leads.ensures.0 c.loop-number.invariant.0 c.put_leads.ensures in rw d.here d.posed
 
-pub one_more-tally-requires : goal.one_more-tally-requires
-one_more-tally-requires c = omega (arith, c.loop-number.invariant.2.sum_is, c.requires.0.total_most)
+pub add-requires : goal.add-requires
+add-requires c = omega (arith, c.loop-number.invariant.1.sum_is, c.requires.0.total_most)
 
 pub loop-number-preserved : goal.loop-number-preserved
-loop-number-preserved c = let d = made c.loop-number.number c.requires.0 c.lead_count-leads.ensures.0 c.loop-number.invariant.1 c.put_leads.ensures in
-    (omega arith, d.headed, tallied_more c.loop-number.invariant.2 (rw d.here at c.counted_as.ensures) c.one_more-tally.ensures)
+loop-number-preserved c = let d = made c.loop-number.number c.requires.0 c.lead_count-leads.ensures.0 c.loop-number.invariant.0 c.put_leads.ensures in
+    (d.headed, tallied_more c.loop-number.invariant.1 (rw d.here at c.counted_as.ensures) c.add.ensures)
 
 pub returns : goal.returns
-returns c = tallied_all c.loop-number.invariant.2 (omega arith)
+returns c = tallied_all c.loop-number.invariant.1 (omega arith)

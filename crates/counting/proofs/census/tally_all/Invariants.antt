@@ -1,9 +1,5 @@
-use Prim.Native.Nat.{◌-◌, ◌≤◌}
 use Rattle.counting.specs.Steps.{Headed, Tallied}
 use Rattle.counting.proofs.census.tally_all.Given as goal
 
 abbrev pub invariant-loop-number : goal.invariant-loop-number
-invariant-loop-number l = (l.number ≤ l.total) × Headed l.n l.m l.problem × Tallied l.n l.m l.w l.number l.tally
-
-abbrev pub decreases-loop-number : goal.decreases-loop-number
-decreases-loop-number l = l.total - l.number
+invariant-loop-number l = Headed l.n l.m l.problem × Tallied l.n l.m l.w l.number l.tally

@@ -1,11 +1,6 @@
-use mathlib.Core.Path.{sym}
-use lib.Seq.{length-take-le}
 use Rattle.base.proofs.Lists.{rest_whole}
 use Rattle.grounds.proofs.LongInput.{reasoned_parts}
 use Rattle.grounds.proofs.input.whole_reasons.Goals as goal
-
-pub slice_bounds-reasons-end : goal.slice_bounds-reasons-end
-slice_bounds-reasons-end c = sym (length-take-le _ _ c.cut_place-cut.ensures.inside)
 
 pub returns : goal.returns
 returns c = reasoned_parts _ c.cut_place-cut.ensures.place (rw (rest_whole c.args.input.now c.cut_place-cut.result) at c.reasons.ensures)

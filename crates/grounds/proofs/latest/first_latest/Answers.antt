@@ -6,15 +6,8 @@ use borrow.Author.Rules.{rules}
 use Rattle.grounds.proofs.latest.first_latest.Goals as goal
 use Rattle.grounds.proofs.latest.first_latest.Goals.{then-sum-best, else-sum-best}
 
-pub sum_of-best-requires : goal.sum_of-best-requires
-sum_of-best-requires c = (c.requires.1 0, c.requires.0.near 0)
-
 pub loop-l-init : goal.loop-l-init
 loop-l-init c = (omega arith, omega arith, latest_one, search rules)
-
-pub sum_of-sum-requires : goal.sum_of-sum-requires
-sum_of-sum-requires c = let l = c.loop-l.l in
-    (c.requires.1 l, c.requires.0.near l)
 
 pub loop-l-preserved : goal.loop-l-preserved
 loop-l-preserved c = let turn = c.loop-l in

@@ -1,4 +1,4 @@
-use Prim.Native.Nat.{◌-◌, ◌≤◌}
+use Prim.Native.Nat.{◌≤◌}
 use mathlib.Core.Path.{◌≡◌}
 use lib.ListN.{get_or}
 use Rattle.definitions.specs.Offset.{trop_of}
@@ -7,6 +7,3 @@ use Rattle.grounds.proofs.latest.first_latest.Given as goal
 
 abbrev pub invariant-loop-l : goal.invariant-loop-l
 invariant-loop-l l = (1 ≤ l.l) × (l.l ≤ l.width) × FirstLatest (λ k. get_or l.row k 0) l.stamps l.l l.at × (trop_of l.best ≡ sum_at (λ k. get_or l.row k 0) l.stamps l.at)
-
-abbrev pub decreases-loop-l : goal.decreases-loop-l
-decreases-loop-l l = l.width - l.l

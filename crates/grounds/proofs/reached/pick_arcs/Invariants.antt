@@ -1,4 +1,4 @@
-use Prim.Native.Nat.{◌-◌, ◌≤◌}
+use Prim.Native.Nat.{◌≤◌}
 use mathlib.Core.Path.{◌≡◌}
 use Rattle.base.specs.Filled.{Filled}
 use Rattle.grounds.specs.Reached.{arc_cell}
@@ -6,6 +6,3 @@ use Rattle.grounds.proofs.reached.pick_arcs.Given as goal
 
 abbrev pub invariant-loop-k : goal.invariant-loop-k
 invariant-loop-k l = (l.k ≤ 1024) × Filled (λ i v. v ≡ arc_cell l.right l.picks i) 1024 l.k l.arcs
-
-abbrev pub decreases-loop-k : goal.decreases-loop-k
-decreases-loop-k l = 1024 - l.k

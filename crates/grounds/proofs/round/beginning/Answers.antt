@@ -1,1 +1,0 @@
-use Rattle.grounds.proofs.round.beginning.Goals as goal

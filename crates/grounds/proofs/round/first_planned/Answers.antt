@@ -1,1 +1,0 @@
-use Rattle.grounds.proofs.round.first_planned.Goals as goal
