@@ -1,5 +1,5 @@
 -- The numbers of the first open minute: they fit 64 bits, and each list and minute has one.
-use Prim.Native.Nat.{ℕ, ◌*◌, ◌≤◌, ◌<◌}
+use Prim.Native.Nat.{ℕ, ◌≤◌, ◌<◌}
 use mathlib.Core.Path.{◌≡◌, ap, sym, ◌∙◌}
 use mathlib.Core.Logic.{⊎_elim}
 use mathlib.Core.List.{List}
@@ -14,7 +14,6 @@ use Rattle.records.specs.declared.refusal.Refusal.{Refusal}
 use Rattle.opening_hours.specs.Lookup.{minute_of, admission_of}
 use Rattle.opening_hours.proofs.Minutes.{minute_read, minute_before, minute_from}
 use Rattle.opening_hours.proofs.OpeningHours.{answer_near, admits_unique}
-use Rattle.capi.specs.Numbers.{low_half}
 use Rattle.capi.specs.Opening.{offset_of, admission_number, AdmitsAs, SmallMinute}
 
 -- A minute's offset number is below 2³².

@@ -1,11 +1,10 @@
 -- Numbers copied to the first of the lent places, and what reading then gives.
 use Prim.Native.Nat.{ℕ, zero, suc, ◌+◌, ◌≤◌, ◌<◌}
-use mathlib.Core.Path.{◌≡◌, refl, ap, sym, subst, ◌∙◌}
+use mathlib.Core.Path.{◌≡◌, refl, sym, subst, ◌∙◌}
 use mathlib.Core.List.{List, ◌++◌}
 use native.Mathlib.Omega.{arith}
 use native.Mathlib.Nat.{zero-add}
 use lib.ListN.{length, get_or, take, drop, set}
-use lib.Seq.{length-take-le, take_all}
 use Rattle.std.specs.Prelude.{Result, Ok, Err}
 use Rattle.definitions.specs.Limits.{signed_bytes, span_place}
 use Rattle.definitions.specs.Bytes.{Bytes, put, num_at}
@@ -13,7 +12,7 @@ use Rattle.definitions.specs.AnswerRecord.{answer_refusal, answer_outcome, answe
 use Rattle.definitions.proofs.Offset.{off_bound, trop_of_injective}
 use Rattle.definitions.proofs.AnswerFits.{answer_fits}
 use Rattle.definitions.proofs.RoundTrip.{class_most, start_most}
-use Rattle.definitions.proofs.Put.{put_nil, put_more, put_front, length_put}
+use Rattle.definitions.proofs.Put.{put_more, put_front}
 use Rattle.records.specs.declared.refusal.Refusal.{Refusal}
 use Rattle.records.specs.Refusals.{number_of}
 use Rattle.records.proofs.Refusing.{number_range, was_ok, was_err}
@@ -26,6 +25,12 @@ use Rattle.capi.specs.Numbers.{ReadsAs, PlacesAs, stamp_places, pick_places, hea
 -- Numbers copied to the front of the places.
 pub front_put : {from now : List ℕ} {count : ℕ} (to : List ℕ) → now ≡ from → length from ≡ count → now ++ drop count to ≡ put to 0 from
 front_put {from} to e f = rw (e, ← f) (sym (put_front to from))
+
+-- One number more copied.
+pub copied_more : (before from : List ℕ) (i : ℕ) → i < length from → length from ≤ length before → {now : List ℕ} → now ≡ put before 0 (take i from)
+    → set now i (get_or from i 0) ≡ put before 0 (take (i + 1) from)
+copied_more before from i h room e =
+    rw e (subst (λ (k : ℕ). set (put before 0 (take i from)) k (get_or from i 0) ≡ put before 0 (take (i + 1) from)) (zero-add i) (put_more before 0 from i h (omega arith)))
 
 pub both_lent : (number : ℕ) (stamps picks stamps-before picks-before : List ℕ) {stamps-after picks-after : List ℕ} → stamp_places ≤ length stamps-before
     → pick_places ≤ length picks-before → stamps-after ≡ put stamps-before 0 stamps

@@ -1,6 +1,6 @@
 -- What merging answers as a number.
 use Prim.Native.Nat.{ℕ, suc, ◌*◌, ◌≤◌}
-use mathlib.Core.Path.{◌≡◌, ap, sym}
+use mathlib.Core.Path.{◌≡◌, ap}
 use mathlib.Core.List.{List}
 use Rattle.std.specs.Prelude.{Result}
 use native.Mathlib.Omega.{arith}
@@ -29,4 +29,4 @@ few_stamps p a b t before after size (stamps e f g) q =
     omega (arith, fits.header.n_most)
 
 pub small_merged : {p a b : List ℕ} {t : ℤ} {before after : List ℕ} {r : Result ℕ Refusal} → Merges p a b t before (merged_of r) after → Small r
-small_merged {p} {a} {b} {t} {before} {after} m = record { small = λ {size} e. let h = few_stamps p a b t before after size m (ap merged_of e) in omega arith }
+small_merged {p} {a} {b} {t} {before} {after} m = record { small = λ {k = size} e. let h = few_stamps p a b t before after size m (ap merged_of e) in omega arith }

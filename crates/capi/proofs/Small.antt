@@ -1,9 +1,9 @@
--- The numbers fit 64 bits: few trials, a small class and span, a short record; and what the results' numbers are.
-use Prim.Native.Nat.{ℕ, ◌+◌, ◌*◌, ◌≤◌, ◌<◌}
-use mathlib.Core.Path.{◌≡◌, refl, ap, sym, ◌∙◌}
+-- The numbers fit 64 bits: few trials, a small class and span, a short record.
+use Prim.Native.Nat.{ℕ, ◌+◌, ◌≤◌, ◌<◌}
+use mathlib.Core.Path.{◌≡◌, refl, ap, ◌∙◌}
 use mathlib.Core.Bool.{true}
 use mathlib.Core.List.{List}
-use Rattle.std.specs.Prelude.{Result, Ok}
+use Rattle.std.specs.Prelude.{Result}
 use mathlib.Core.Logic.{⊎_elim}
 use native.Mathlib.Omega.{arith}
 use native.Mathlib.Nat.{mul-le-mul_right}
@@ -61,7 +61,6 @@ accepted_small p a (Verdicts.certified e g) class span f =
 accepted_small p a (Verdicts.uncertified e g) class span f = absurd (let z : ◌≡◌ {A = ℕ} 0 1 = cc in omega arith)
 
 pub small_fields : {p a : List ℕ} {v : Result Certified Refusal} → Judged p a (verdict_of v) → SmallFields v
-unfolding verdict_of
 small_fields {p} {a} j = record {
   class_small = λ e. (accepted_small p a j _ _ (ap verdict_of e)).0;
   span_small = λ e. (accepted_small p a j _ _ (ap verdict_of e)).1;
@@ -70,7 +69,7 @@ small_fields {p} {a} j = record {
 pub small_record : (a : Answer) (n m : ℕ) {r : Result ℕ Refusal} (before after : List ℕ) → AnswerWritten a n m r before after → Small r
 unfolding writer_outcome
 small_record a n m before after w = record {
-  small = λ {size} e.
+  small = λ {k = size} e.
       let h = was_ok (λ k. k) (writer_refusal a n m (length before)) (answer_size a.class n m) w.answered e in
       let f = (writer_fits a n m (length before)).0 h.0 in
       omega (arith, h.1, size_most a.class n m f.n_most f.m_most);

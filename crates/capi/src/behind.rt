@@ -15,8 +15,8 @@ fn copy_numbers(from: &[usize], to: &mut [u64])
     requires { length from.now ≤ length to.old }
     ensures { to.new ≡ put to.old 0 from.now }
 {
-    for (place, number) in to.iter_mut().zip(from) {
-        *place = *number as u64;
+    for (i, number) in from.iter().enumerate() {
+        to[i] = *number as u64;
     }
 }
 
@@ -49,14 +49,15 @@ pub extern "C" fn span_reasons(
     ensures { ReasonsAs (meant problem.now) answer.now rules.old round.old result rules.new round.new }
 {
     match reasons(problem, answer) {
-        Ok(Grounds {
-            rules: behind,
-            round: None,
-        }) => lend_numbers(behind.as_slice(), &[], rules, round),
-        Ok(Grounds {
-            rules: behind,
-            round: Some(moments),
-        }) => lend_numbers(behind.as_slice(), moments.as_slice(), rules, round),
+        Ok(
+            Grounds {
+                rules: behind,
+                round: found,
+            },
+        ) => match found {
+            None => lend_numbers(behind.as_slice(), &[], rules, round),
+            Some(turns) => lend_numbers(behind.as_slice(), turns.as_slice(), rules, round),
+        },
         Err(refusal) => refusal.number() as u64,
     }
 }

@@ -11,6 +11,7 @@ use records::limits::{BYTE, FULL};
 use records::refusal::Refusal;
 
 // 256 × trials where answered, else the refusal.
+#[tactic(auto, unfolding(engine::specs::Outcome::solved_of))]
 fn solved_number(solved: Result<Solution, Refusal>) -> u64
     requires { FewTrials solved }
     ensures { result ≡ solved_number (solved_of solved) }

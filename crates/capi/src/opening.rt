@@ -8,6 +8,7 @@ use records::limits::FULL;
 use records::refusal::Refusal;
 
 // 2³² × the minute's offset number where there is one, 0 for never, else the refusal.
+#[tactic(auto, using(crate::proofs::FirstOpen::offset_minute))]
 fn admission_number(admission: Result<Option<u64>, Refusal>) -> u64
     requires { SmallMinute admission }
     ensures { result ≡ admission_number (admission_of admission) }
