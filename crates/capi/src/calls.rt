@@ -29,8 +29,7 @@ fn solved_number(solved: Result<Solution, Refusal>) -> u64
 pub extern "C" fn span_solve(problem: &[u8], answer: &mut [u8]) -> u64
     ensures { SolvesAs (meant problem.now) answer.old result answer.new }
 {
-    let solved = solve(problem, answer);
-    solved_number(solved)
+    solved_number(solve(problem, answer))
 }
 
 // 256 × class + 2³² × the span's offset number where accepted, else the refusal.
@@ -49,6 +48,5 @@ fn verdict_number(verdict: Result<Certified, Refusal>) -> u64
 pub extern "C" fn span_check(problem: &[u8], answer: &[u8]) -> u64
     ensures { JudgedAs (meant problem.now) answer.now result }
 {
-    let verdict = check(problem, answer);
-    verdict_number(verdict)
+    verdict_number(check(problem, answer))
 }

@@ -9,6 +9,5 @@ use converter::convert::convert;
 pub extern "C" fn span_convert(stored: &[u8], buffer: &mut [u8]) -> u64
     ensures { ConvertsAs stored.now buffer.old result buffer.new }
 {
-    let conversion = convert(stored, buffer);
-    size_number(conversion)
+    size_number(convert(stored, buffer))
 }

@@ -28,8 +28,7 @@ pub extern "C" fn span_write(
     ensures { WritesAs (fields_of (head_with class span start) stamps.now picks.now) n m result buffer.old buffer.new }
 {
     let head = Head { class, span, start };
-    let written = write_answer(head, stamps, picks, n as usize, m as usize, buffer);
-    size_number(written)
+    size_number(write_answer(head, stamps, picks, n as usize, m as usize, buffer))
 }
 
 // Class, start and span as a number, stamps and picks in the lent places, where there are enough.

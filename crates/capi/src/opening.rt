@@ -25,6 +25,5 @@ fn admission_number(admission: Result<Option<u64>, Refusal>) -> u64
 pub extern "C" fn span_first_open(week: &[u64], minute: u64) -> u64
     ensures { AdmitsAs week.now minute result }
 {
-    let admission = first_open(week, minute);
-    admission_number(admission)
+    admission_number(first_open(week, minute))
 }

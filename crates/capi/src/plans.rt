@@ -18,6 +18,5 @@ pub extern "C" fn span_merge(
 ) -> u64
     ensures { MergesAs (meant problem.now) first.now second.now (shift_of shift) buffer.old result buffer.new }
 {
-    let merged = merge(problem, first, second, shift, buffer);
-    size_number(merged)
+    size_number(merge(problem, first, second, shift, buffer))
 }

@@ -27,8 +27,7 @@ fn read_number(read: Result<u64, Refusal>) -> u64
 pub extern "C" fn span_hours_read(text: &[u8]) -> u64
     ensures { ReadsHoursAs text.now result }
 {
-    let read = read_hours(text);
-    read_number(read)
+    read_number(read_hours(text))
 }
 
 // Writes the text of a value, an offset number.
@@ -36,6 +35,5 @@ pub extern "C" fn span_hours_read(text: &[u8]) -> u64
 pub extern "C" fn span_hours_write(value: u64, buffer: &mut [u8]) -> u64
     ensures { WritesHoursAs (trop_of value) result buffer.old buffer.new }
 {
-    let written = write_hours(value, buffer);
-    size_number(written)
+    size_number(write_hours(value, buffer))
 }
