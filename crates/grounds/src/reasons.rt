@@ -76,6 +76,6 @@ pub fn accepted_reasons(problem: &[u8], answer: &[u8], class: u64) -> Result<Gro
 pub fn reasons(problem: &[u8], answer: &[u8]) -> Result<Grounds, Refusal>
     ensures { Reasoned (meant problem.now) answer.now (reasons_of result) }
 {
-    let Certified { class, span: _ } = check(problem, answer)?;
+    let Certified { class, .. } = check(problem, answer)?;
     accepted_reasons(problem, answer, class)
 }

@@ -1,25 +1,15 @@
-use native.Mathlib.Omega.{arith}
-use Rattle.reasons.proofs.Shown.{fits_none, fits_least, shown_refused, shown_none, shown_least}
-use borrow.Author.Rules.{rules}
+use Rattle.std.proofs.Common.{arith}
+use Rattle.definitions.specs.Reasons.{text_rules, text_round}
+use Rattle.reasons.proofs.Shown.{shown_refused, shown_none, shown_least}
 use Rattle.reasons.proofs.lines.put_lines.Goals as goal
 
-pub put_rules-requires : goal.put_rules-requires
-put_rules-requires c = (search rules, fits_none _ c.requires.1 c.in-None.is, search rules)
-
-pub put_rules-next-requires : goal.put_rules-next-requires
-put_rules-next-requires c = (search rules, (fits_least _ c.requires.1 c.in-Least.is).0, search rules)
-
-pub put_round-requires : goal.put_round-requires
-put_round-requires c = (search rules, (fits_least _ c.requires.1 c.in-Least.is).1, c.put_rules-next.ensures.1, search rules)
-
-pub returns-in-Refused-clause-inside : goal.returns-in-Refused-clause-inside
-returns-in-Refused-clause-inside c = (shown_refused _ c.args.reasons.rules c.args.reasons.round c.requires.0 c.in-Refused.is (c.write_verdict.ensures.shown, c.write_verdict.ensures.short)).0
-
-pub returns-in-Refused-clause-lines_are : goal.returns-in-Refused-clause-lines_are
-returns-in-Refused-clause-lines_are c = (shown_refused _ _ _ c.requires.0 c.in-Refused.is (c.write_verdict.ensures.shown, c.write_verdict.ensures.short)).1
+pub returns-in-Err-clause-lines_are : goal.returns-in-Err-clause-lines_are
+returns-in-Err-clause-lines_are c = rw c.in-Err.is (shown_refused c.requires _ c.write_turned_away.ensures.shown c.write_turned_away.ensures.short).1
 
 pub returns-in-None-clause-lines_are : goal.returns-in-None-clause-lines_are
-returns-in-None-clause-lines_are c = (shown_none _ _ _ c.requires.0 c.in-None.is c.put_rules.ensures.0 (omega arith)).1
+unfolding text_rules
+returns-in-None-clause-lines_are c = rw (c.in-Ok.is, c.in-None.is) (shown_none c.requires _ (rw c.as_slice.ensures.0 at c.put_line-next.ensures.0) (omega (arith, c.put_line-next.ensures.1, c.as_slice.ensures.1)))
 
-pub returns-in-Least-clause-lines_are : goal.returns-in-Least-clause-lines_are
-returns-in-Least-clause-lines_are c = (shown_least _ _ _ c.requires.0 c.in-Least.is c.put_rules-next.ensures.0 c.put_round.ensures.0 (omega arith)).1
+pub returns-in-Some-clause-lines_are : goal.returns-in-Some-clause-lines_are
+unfolding text_rules text_round
+returns-in-Some-clause-lines_are c = rw (c.in-Ok.is, c.in-Some.is) (shown_least c.requires _ _ (rw c.as_slice.ensures.0 at c.put_line-next.ensures.0) (rw c.as_slice-in-Some.ensures.0 at c.put_line.ensures.0) (omega (arith, c.put_line-next.ensures.1, c.as_slice.ensures.1, c.put_line.ensures.1, c.as_slice-in-Some.ensures.1)))
