@@ -1,64 +1,43 @@
 -- What the tool tells, in the lent places.
-use Prim.Native.Nat.{ℕ, ◌≤◌}
+use Prim.Native.Nat.{ℕ}
 use mathlib.Core.Path.{◌≡◌, sym, subst}
 use mathlib.Core.List.{List, []}
 use native.Mathlib.Omega.{arith}
-use lib.ListN.{length, take}
-use lib.Seq.{length-take-le}
-use Rattle.definitions.specs.Limits.{highest_m, stride, table_rows}
+use lib.ListN.{length}
+use Rattle.std.specs.Prelude.{Option, Some, None}
 use Rattle.definitions.specs.Bytes.{put}
-use Rattle.definitions.specs.Reasons.{Reasoned}
+use Rattle.definitions.specs.Reasons as Definitions
+use Rattle.definitions.specs.Reasons.{Reasoned, of_none, of_least}
 use Rattle.definitions.proofs.Put.{put_nil}
-use Rattle.grounds.specs.Outcome.{told_of, counts_fit}
-use Rattle.grounds.specs.declared.reasons.Told.{Told}
-use Rattle.grounds.specs.declared.reasons.Told.TheVariants.{Refused, None, Least}
+use Rattle.grounds.specs.Outcome.{told_by}
 use Rattle.capi.specs.Numbers.{PlacesAs}
 use Rattle.capi.specs.Behind as Behind
 use Rattle.capi.specs.Behind.{ReasonsAs, counts_number}
-use Rattle.capi.proofs.Lent.{both_lent}
 
--- The counts are those of the places that the tool has.
-pub none_fits : (t : Told) {count : ℕ} → counts_fit t → t ≡ None count → count ≤ highest_m
-unfolding counts_fit
-none_fits t h e = rw e at h
+pub as_refused : {p a rules-before round-before : List ℕ} {k number : ℕ} → Reasoned p a (Definitions.refused k) → number ≡ k → ReasonsAs p a rules-before round-before number rules-before round-before
+as_refused reasoned e = rw e (Behind.turned_away reasoned)
 
-pub least_fits : (t : Told) {count turns : ℕ} → counts_fit t → t ≡ Least count turns → (count ≤ highest_m) × (turns ≤ stride)
-unfolding counts_fit
-least_fits t h e = rw e at h
+none : {p a rules rules-before round-before rules-after round-after : List ℕ} {number : ℕ} → Reasoned p a (of_none rules)
+    → PlacesAs (counts_number (length rules) 0) [] rules round-before rules-before number round-after rules-after
+    → ReasonsAs p a rules-before round-before number rules-after round-after
+none reasoned (PlacesAs.too_few h) = Behind.too_few reasoned (λ k d. let z : ◌≡◌ {A = ℕ} 0 1 = cc in omega arith) h
+none {p} {a} {rules} {rules-before} {round-before} reasoned (PlacesAs.lent f g) =
+    subst (λ (l : List ℕ). ReasonsAs p a rules-before round-before (counts_number (length rules) 0) (put rules-before 0 rules) l) (sym (put_nil round-before 0))
+    (Behind.none reasoned f g)
 
--- So many of each stand in the lent places, and the number says how many.
-pub numbers_lent :
-    (rules round rules-before round-before : List ℕ) {rules-after round-after : List ℕ} (count turns : ℕ) → count ≤ length rules → turns ≤ length round
-    → stride ≤ length round-before → table_rows ≤ length rules-before → round-after ≡ put round-before 0 (take turns round)
-    → rules-after ≡ put rules-before 0 (take count rules)
-    → PlacesAs (counts_number (length (take count rules)) (length (take turns round))) (take turns round) (take count rules) round-before rules-before (counts_number count turns) round-after rules-after
-numbers_lent rules round rules-before round-before {rules-after} {round-after} count turns h k f g d e =
-    let l = length-take-le count rules h in
-    let m = length-take-le turns round k in
-    subst
-    (λ (number : ℕ). PlacesAs (counts_number (length (take count rules)) (length (take turns round))) (take turns round) (take count rules) round-before rules-before number round-after rules-after)
-    (omega arith)
-    (both_lent _ (take turns round) (take count rules) round-before rules-before f g d e)
+least : {p a rules round rules-before round-before rules-after round-after : List ℕ} {number : ℕ} → Reasoned p a (of_least rules round)
+    → PlacesAs (counts_number (length rules) (length round)) round rules round-before rules-before number round-after rules-after
+    → ReasonsAs p a rules-before round-before number rules-after round-after
+least reasoned (PlacesAs.too_few h) = Behind.too_few reasoned (λ k d. let z : ◌≡◌ {A = ℕ} 0 1 = cc in omega arith) h
+least reasoned (PlacesAs.lent f g) = Behind.least reasoned f g
 
-module _ {p a : List ℕ} (t : Told) (rules round : List ℕ) (reasoned : Reasoned p a (told_of t rules round)) {rules-before round-before : List ℕ} where
-  pub as_refused : {k : ℕ} → t ≡ Refused k → ReasonsAs p a rules-before round-before k rules-before round-before
-  unfolding told_of
-  as_refused e = Behind.turned_away (rw e at reasoned)
-
-  pub as_none :
-      {count number : ℕ} {rules-after round-after : List ℕ} → t ≡ None count
-      → PlacesAs (counts_number (length (take count rules)) 0) [] (take count rules) round-before rules-before number round-after rules-after
+-- What is told has a round or none.
+module _ {p a own rules rules-before round-before rules-after round-after : List ℕ} {told : Option (List ℕ)} {number : ℕ} (reasoned : Reasoned p a (told_by own told)) (same : rules ≡ own) where
+  pub as_none : told ≡ None → PlacesAs (counts_number (length rules) 0) [] rules round-before rules-before number round-after rules-after
       → ReasonsAs p a rules-before round-before number rules-after round-after
-  unfolding told_of
-  as_none e (PlacesAs.too_few h) = Behind.too_few (rw e at reasoned) (λ k d. let z : ◌≡◌ {A = ℕ} 0 1 = cc in omega arith) h
-  as_none {count} e (PlacesAs.lent f g) =
-      subst (λ (l : List ℕ). ReasonsAs p a rules-before round-before (counts_number (length (take count rules)) 0) (put rules-before 0 (take count rules)) l) (sym (put_nil round-before 0))
-      (Behind.none (rw e at reasoned) f g)
+  as_none e l = none (rw (e, ← same) at reasoned) l
 
-  pub as_least :
-      {count turns number : ℕ} {rules-after round-after : List ℕ} → t ≡ Least count turns
-      → PlacesAs (counts_number (length (take count rules)) (length (take turns round))) (take turns round) (take count rules) round-before rules-before number round-after rules-after
+  pub as_least : {turns round : List ℕ} → told ≡ Some turns → round ≡ turns
+      → PlacesAs (counts_number (length rules) (length round)) round rules round-before rules-before number round-after rules-after
       → ReasonsAs p a rules-before round-before number rules-after round-after
-  unfolding told_of
-  as_least e (PlacesAs.too_few h) = Behind.too_few (rw e at reasoned) (λ k d. let z : ◌≡◌ {A = ℕ} 0 1 = cc in omega arith) h
-  as_least e (PlacesAs.lent f g) = Behind.least (rw e at reasoned) f g
+  as_least e f l = least (rw (e, ← f, ← same) at reasoned) l

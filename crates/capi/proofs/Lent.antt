@@ -1,50 +1,36 @@
 -- Numbers copied to the first of the lent places, and what reading then gives.
 use Prim.Native.Nat.{ℕ, zero, suc, ◌+◌, ◌≤◌, ◌<◌}
-use mathlib.Core.Path.{◌≡◌, refl, ap, sym, subst, ◌∙◌}
-use mathlib.Core.List.{List}
+use mathlib.Core.Path.{◌≡◌, refl, sym, subst, ◌∙◌}
+use mathlib.Core.List.{List, ◌++◌}
 use native.Mathlib.Omega.{arith}
 use native.Mathlib.Nat.{zero-add}
-use lib.ListN.{length, get_or, take, set}
-use lib.Seq.{length-take-le, take_all}
+use lib.ListN.{length, get_or, take, drop, set}
+use Rattle.std.specs.Prelude.{Result, Ok, Err}
 use Rattle.definitions.specs.Limits.{signed_bytes, span_place}
 use Rattle.definitions.specs.Bytes.{Bytes, put, num_at}
 use Rattle.definitions.specs.AnswerRecord.{answer_refusal, answer_outcome, answer_of, class_field, span_field, start_field}
 use Rattle.definitions.proofs.Offset.{off_bound, trop_of_injective}
 use Rattle.definitions.proofs.AnswerFits.{answer_fits}
 use Rattle.definitions.proofs.RoundTrip.{class_most, start_most}
-use Rattle.definitions.proofs.Put.{put_nil, put_more, length_put}
+use Rattle.definitions.proofs.Put.{put_more, put_front}
+use Rattle.records.specs.declared.refusal.Refusal.{Refusal}
+use Rattle.records.specs.Refusals.{number_of}
+use Rattle.records.proofs.Refusing.{number_range, was_ok, was_err}
 use Rattle.answer_reader.specs.declared.answer.Head.{Head}
-use Rattle.answer_reader.specs.declared.answer.AnswerHead.{AnswerHead}
-use Rattle.answer_reader.specs.declared.answer.AnswerHead.TheVariants as Heads
-use Rattle.answer_reader.specs.AnswerReading.{AnswerRead, span_number, head_in}
-use Rattle.answer_reader.proofs.Heads.{told_head, fields_by, refused_by_lem}
+use Rattle.answer_reader.specs.AnswerReading.{AnswerRead, told_by, span_number, head_in}
+use Rattle.answer_reader.proofs.Heads.{told_head}
 use Rattle.answer_reader.proofs.Judging.{span_meant}
 use Rattle.capi.specs.Numbers.{ReadsAs, PlacesAs, stamp_places, pick_places, head_number, low_byte, low_quarter, low_half}
 
--- The first i numbers are copied.
-pub record Copied (before from : List ℕ) (i : ℕ) (now : List ℕ) : Type 0 where
-  pub is : now ≡ put before 0 (take i from)
-  pub within : i ≤ length from
-  pub room : length from ≤ length before
+-- Numbers copied to the front of the places.
+pub front_put : {from now : List ℕ} {count : ℕ} (to : List ℕ) → now ≡ from → length from ≡ count → now ++ drop count to ≡ put to 0 from
+front_put {from} to e f = rw (e, ← f) (sym (put_front to from))
 
-pub copied_start : (before from : List ℕ) → length from ≤ length before → Copied before from 0 before
-copied_start before from h = record { is = sym (put_nil before 0); within = omega arith; room = h }
-
-pub copied_length : {before from : List ℕ} {i : ℕ} {now : List ℕ} → Copied before from i now → length now ≡ length before
-copied_length {before} {from} {i} c = rw c.is (length_put before 0 (take i from) (omega arith) (omega (arith, length-take-le i from c.within, c.within, c.room)))
-
-pub copied_turn : {before from : List ℕ} {i : ℕ} {now : List ℕ} → Copied before from i now → i < length from → Copied before from (i + 1) (set now i (get_or from i 0))
-copied_turn {before} {from} {i} {now} c h = record {
-  is = rw c.is (subst (λ (k : ℕ). set (put before 0 (take i from)) k (get_or from i 0) ≡ put before 0 (take (i + 1) from)) (zero-add i) (put_more before 0 from i h (omega (arith, c.room))));
-  within = omega arith;
-  room = c.room;
-}
-
-pub copied_end : {before from : List ℕ} {i : ℕ} {now : List ℕ} → Copied before from i now → length from ≤ i → now ≡ put before 0 from
-copied_end {before} {from} {i} c h = c.is ∙ ap (put before 0) (take_all i from h)
-
-pub copied_stop : {before from : List ℕ} {i : ℕ} {now : List ℕ} (count : ℕ) → Copied before from i now → i ≡ count → now ≡ put before 0 (take count from)
-copied_stop {before} {from} count c e = c.is ∙ ap (λ (k : ℕ). put before 0 (take k from)) e
+-- One number more copied.
+pub copied_more : (before from : List ℕ) (i : ℕ) → i < length from → length from ≤ length before → {now : List ℕ} → now ≡ put before 0 (take i from)
+    → set now i (get_or from i 0) ≡ put before 0 (take (i + 1) from)
+copied_more before from i h room e =
+    rw e (subst (λ (k : ℕ). set (put before 0 (take i from)) k (get_or from i 0) ≡ put before 0 (take (i + 1) from)) (zero-add i) (put_more before 0 from i h (omega arith)))
 
 pub both_lent : (number : ℕ) (stamps picks stamps-before picks-before : List ℕ) {stamps-after picks-after : List ℕ} → stamp_places ≤ length stamps-before
     → pick_places ≤ length picks-before → stamps-after ≡ put stamps-before 0 stamps
@@ -60,11 +46,11 @@ pub record Taken (s : List ℕ) (n m : ℕ) (head : Head) : Type 0 where
   pub span_is : span_number s ≡ head.span
   pub start_is : start_field s ≡ head.start
 
-pub taken : {s : List ℕ} {n m : ℕ} {read : AnswerHead} {head : Head} {stamps-before stamps picks-before picks : List ℕ}
-    → Bytes s → AnswerRead s n m read stamps-before stamps picks-before picks → read ≡ Heads.Fields head → Taken s n m head
+pub taken : {s : List ℕ} {n m : ℕ} {read : Result Head Refusal} {head : Head} {stamps-before stamps picks-before picks : List ℕ}
+    → Bytes s → AnswerRead s n m read stamps-before stamps picks-before picks → read ≡ Ok head → Taken s n m head
 unfolding answer_outcome answer_of
 taken {s} {n} {m} {head = head} b r e =
-    let h = fields_by (answer_refusal s n m) (class_field s, span_field s, start_field s) r.answered e in
+    let h = was_ok told_by (answer_refusal s n m) (class_field s, span_field s, start_field s) r.answered e in
     let a = told_head h.1 in
     record {
       none = h.0;
@@ -86,8 +72,8 @@ taken_small {s} {n} {m} t =
 taken_number : {s : List ℕ} {n m : ℕ} {head : Head} → Taken s n m head → head_number (head_in s) ≡ head_number head
 taken_number t = rw (t.class_is, t.span_is, t.start_is) refl
 
-pub reads_fields : {s : List ℕ} {n m : ℕ} {read : AnswerHead} {head : Head} {stamps-own stamps picks-own picks : List ℕ}
-    → Bytes s → AnswerRead s n m read stamps-own stamps picks-own picks → read ≡ Heads.Fields head
+pub reads_fields : {s : List ℕ} {n m : ℕ} {read : Result Head Refusal} {head : Head} {stamps-own stamps picks-own picks : List ℕ}
+    → Bytes s → AnswerRead s n m read stamps-own stamps picks-own picks → read ≡ Ok head
     → {stamps-before picks-before stamps-after picks-after : List ℕ} {number : ℕ}
     → PlacesAs (head_number head) stamps picks stamps-before picks-before number stamps-after picks-after
     → ReadsAs s n m stamps-before picks-before number stamps-after picks-after
@@ -97,12 +83,14 @@ reads_fields {s} {n} {m} {stamps = stamps} {picks = picks} b r e {stamps-before}
     subst (λ (k : ℕ). ReadsAs s n m stamps-before picks-before k (put stamps-before 0 stamps) (put picks-before 0 picks)) (taken_number t)
     (ReadsAs.read t.none f g (r.stamps_read t.none) (r.picks_read t.none))
 
-pub reads_refused : {s : List ℕ} {n m : ℕ} {head : AnswerHead} {k : ℕ} {stamps-own stamps picks-own picks : List ℕ}
-    → AnswerRead s n m head stamps-own stamps picks-own picks → head ≡ Heads.Refused k → (stamps-before picks-before : List ℕ)
-    → ReadsAs s n m stamps-before picks-before k stamps-before picks-before
+pub reads_refused : {s : List ℕ} {n m : ℕ} {read : Result Head Refusal} {k : Refusal} {stamps-own stamps picks-own picks : List ℕ}
+    → AnswerRead s n m read stamps-own stamps picks-own picks → read ≡ Err k → (stamps-before picks-before : List ℕ)
+    → ReadsAs s n m stamps-before picks-before (number_of k) stamps-before picks-before
 unfolding answer_outcome
-reads_refused {s} {n} {m} {k = k} r e stamps-before picks-before = go k (refused_by_lem (answer_refusal s n m) (class_field s, span_field s, start_field s) r.answered e)
+reads_refused {s} {n} {m} {k = k} r e stamps-before picks-before =
+    let h = was_err told_by (answer_refusal s n m) (class_field s, span_field s, start_field s) r.answered e in
+    go (number_of k) h.0 (number_range k).0
   where
-    go : (j : ℕ) → (j ≡ answer_refusal s n m) × (answer_refusal s n m ≡ 0 → ⊥) → ReadsAs s n m stamps-before picks-before j stamps-before picks-before
-    go zero h = absurd (h.1 (sym h.0))
-    go (suc j) h = ReadsAs.turned_away (sym h.0)
+    go : (j : ℕ) → answer_refusal s n m ≡ j → 0 < j → ReadsAs s n m stamps-before picks-before j stamps-before picks-before
+    go zero h some = absurd (omega arith)
+    go (suc j) h some = ReadsAs.turned_away h

@@ -1,7 +1,8 @@
 -- What merging answers as a number.
 use Prim.Native.Nat.{ℕ, suc, ◌*◌, ◌≤◌}
-use mathlib.Core.Path.{◌≡◌, ap, sym}
+use mathlib.Core.Path.{◌≡◌, ap}
 use mathlib.Core.List.{List}
+use Rattle.std.specs.Prelude.{Result}
 use native.Mathlib.Omega.{arith}
 use lib.IntN.{ℤ}
 use Rattle.definitions.specs.Limits.{signed_bytes, merged_most}
@@ -9,11 +10,9 @@ use Rattle.definitions.specs.Bytes.{Outcome, refusal, gives}
 use Rattle.definitions.specs.ProblemRecord.{n_field, problem_refusal}
 use Rattle.definitions.specs.Merging.{merge_refusal, Merges, turned_away, rule_broken, too_early, stamps}
 use Rattle.definitions.proofs.Refusals.{or_else_none, record_fits}
+use Rattle.records.specs.declared.refusal.Refusal.{Refusal}
 use Rattle.merging.specs.Outcome.{merged_of}
-use Rattle.merging.specs.declared.merge.Merged.{Merged}
-use Rattle.merging.specs.declared.merge.Merged.TheVariants.{Stamps, Refused}
-use Rattle.capi.specs.Numbers.{written_number}
-use Rattle.capi.specs.Merged.{SmallMerged}
+use Rattle.capi.specs.Numbers.{Small}
 
 refusal_not_gives : {k size : ℕ} → refusal k ≡ gives size → ⊥
 refusal_not_gives e = let z : ◌≡◌ {A = ℕ} 0 1 = cc in omega arith
@@ -29,14 +28,5 @@ few_stamps p a b t before after size (stamps e f g) q =
     let fits = (record_fits _ p).0 ((or_else_none (problem_refusal p) _).0 e).0 in
     omega (arith, fits.header.n_most)
 
-pub small_merged : {p a b : List ℕ} {t : ℤ} {before after : List ℕ} {r : Merged} → Merges p a b t before (merged_of r) after → SmallMerged r
-unfolding merged_of
-small_merged {p} {a} {b} {t} {before} {after} m = record { size_small = λ {size} e. few_stamps p a b t before after size m (ap merged_of e) }
-
-pub stamps_number : {r : Merged} {size : ℕ} → r ≡ Stamps size → 256 * size ≡ written_number (merged_of r)
-unfolding written_number merged_of
-stamps_number e = sym (ap (λ (x : Merged). written_number (merged_of x)) e)
-
-pub unmerged_number : {r : Merged} {k : ℕ} → r ≡ Refused k → k ≡ written_number (merged_of r)
-unfolding written_number merged_of
-unmerged_number e = sym (ap (λ (x : Merged). written_number (merged_of x)) e)
+pub small_merged : {p a b : List ℕ} {t : ℤ} {before after : List ℕ} {r : Result ℕ Refusal} → Merges p a b t before (merged_of r) after → Small r
+small_merged {p} {a} {b} {t} {before} {after} m = record { small = λ {k = size} e. let h = few_stamps p a b t before after size m (ap merged_of e) in omega arith }

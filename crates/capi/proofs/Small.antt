@@ -1,8 +1,9 @@
 -- The numbers fit 64 bits: few trials, a small class and span, a short record.
-use Prim.Native.Nat.{ℕ, ◌+◌, ◌*◌, ◌≤◌, ◌<◌}
-use mathlib.Core.Path.{◌≡◌, refl, ap, sym, ◌∙◌}
+use Prim.Native.Nat.{ℕ, ◌+◌, ◌≤◌, ◌<◌}
+use mathlib.Core.Path.{◌≡◌, refl, ap, ◌∙◌}
 use mathlib.Core.Bool.{true}
 use mathlib.Core.List.{List}
+use Rattle.std.specs.Prelude.{Result}
 use mathlib.Core.Logic.{⊎_elim}
 use native.Mathlib.Omega.{arith}
 use native.Mathlib.Nat.{mul-le-mul_right}
@@ -21,20 +22,17 @@ use Rattle.definitions.proofs.AnswerFits.{answer_fits, writer_fits}
 use Rattle.definitions.proofs.Solved.{asked_few}
 use Rattle.definitions.proofs.RoundTrip.{class_most, span_within, size_most}
 use Rattle.duality.proofs.SmallLeads.{trials_few, turn_few}
-use Rattle.answer_writer.specs.declared.writer.Written.{Written}
-use Rattle.answer_writer.specs.declared.writer.Written.TheVariants as Results
+use Rattle.records.specs.declared.refusal.Refusal.{Refusal}
+use Rattle.records.proofs.Refusing.{was_ok}
 use Rattle.answer_writer.specs.AnswerWriting.{AnswerWritten, written_of}
-use Rattle.answer_writer.proofs.Trips.{record_by}
-use Rattle.engine.specs.declared.solve.Solved.{Solved}
-use Rattle.engine.specs.declared.solve.Solved.TheVariants as Solutions
+use Rattle.engine.specs.declared.solve.Solution.{Solution}
 use Rattle.engine.specs.Outcome.{solved_of}
-use Rattle.checker.specs.declared.check.Verdict.{Verdict}
-use Rattle.checker.specs.declared.check.Verdict.TheVariants as Turned
-use Rattle.checker.specs.Outcome.{verdict_of}
 use Rattle.engine.proofs.Outcomes.{own_wrote, own_wrote_all}
-use Rattle.capi.specs.Numbers.{FewTrials, SmallFields, SmallRecord, Numbered, WritesAs, solved_number, fields_number, written_number, low_byte, low_half}
+use Rattle.checker.specs.declared.check.Certified.{Certified}
+use Rattle.checker.specs.Outcome.{verdict_of}
+use Rattle.capi.specs.Numbers.{Small, FewTrials, SmallFields, WritesAs, written_number, low_byte, low_half}
 
-pub few_trials : {p before after : List ℕ} {r : Solved} → Solves p before (solved_of r) after → FewTrials r
+pub few_trials : {p before after : List ℕ} {r : Result Solution Refusal} → Solves p before (solved_of r) after → FewTrials r
 few_trials {p} h = record {
   few = λ e. let w = own_wrote h e in trials_few p w.within w.answers.found;
   all_few = λ e.
@@ -62,51 +60,20 @@ accepted_small p a (Verdicts.certified e g) class span f =
     small_answer p a e class span c s
 accepted_small p a (Verdicts.uncertified e g) class span f = absurd (let z : ◌≡◌ {A = ℕ} 0 1 = cc in omega arith)
 
-pub small_fields : {p a : List ℕ} {v : Verdict} → Judged p a (verdict_of v) → SmallFields v
-unfolding verdict_of
+pub small_fields : {p a : List ℕ} {v : Result Certified Refusal} → Judged p a (verdict_of v) → SmallFields v
 small_fields {p} {a} j = record {
   class_small = λ e. (accepted_small p a j _ _ (ap verdict_of e)).0;
   span_small = λ e. (accepted_small p a j _ _ (ap verdict_of e)).1;
 }
 
-pub small_record : (a : Answer) (n m : ℕ) {r : Written} (before after : List ℕ) → AnswerWritten a n m r before after → SmallRecord r
+pub small_record : (a : Answer) (n m : ℕ) {r : Result ℕ Refusal} (before after : List ℕ) → AnswerWritten a n m r before after → Small r
 unfolding writer_outcome
 small_record a n m before after w = record {
-  size_small = λ {size} e.
-      let h = record_by (writer_refusal a n m (length before)) (answer_size a.class n m) w.answered e in
+  small = λ {k = size} e.
+      let h = was_ok (λ k. k) (writer_refusal a n m (length before)) (answer_size a.class n m) w.answered e in
       let f = (writer_fits a n m (length before)).0 h.0 in
       omega (arith, h.1, size_most a.class n m f.n_most f.m_most);
 }
 
--- ---- the numbers of the cases
-
-pub refused_number : {r : Solved} {k : ℕ} → r ≡ Solutions.Refused k → k ≡ solved_number (solved_of r)
-unfolding solved_number solved_of
-refused_number e = sym (ap (λ (x : Solved). solved_number (solved_of x)) e)
-
-pub answered_number : {r : Solved} {class span trials size : ℕ} → r ≡ Solutions.Answered class span trials size → low_byte * trials ≡ solved_number (solved_of r)
-unfolding solved_number solved_of
-answered_number e = sym (ap (λ (x : Solved). solved_number (solved_of x)) e)
-
-pub all_answered_number : {r : Solved} {count trials size : ℕ} → r ≡ Solutions.AllAnswered count trials size → low_byte * trials ≡ solved_number (solved_of r)
-unfolding solved_number solved_of
-all_answered_number e = sym (ap (λ (x : Solved). solved_number (solved_of x)) e)
-
-pub accepted_numbered : {v : Verdict} {class span : ℕ} → v ≡ Turned.Accepted class span → Numbered (verdict_of v) (fields_number class span)
-unfolding verdict_of
-accepted_numbered {class = class} {span} e = rw e (Numbered.accepted class span)
-
-pub refused_numbered : {v : Verdict} {k : ℕ} → v ≡ Turned.Refused k → Numbered (verdict_of v) k
-unfolding verdict_of
-refused_numbered {k = k} e = rw e (Numbered.refused k)
-
-pub record_number : {r : Written} {size : ℕ} → r ≡ Results.Record size → low_byte * size ≡ written_number (written_of r)
-unfolding written_number written_of
-record_number e = sym (ap (λ (x : Written). written_number (written_of x)) e)
-
-pub unwritten_number : {r : Written} {k : ℕ} → r ≡ Results.Refused k → k ≡ written_number (written_of r)
-unfolding written_number written_of
-unwritten_number e = sym (ap (λ (x : Written). written_number (written_of x)) e)
-
-pub writes_as : (a : Answer) (n m : ℕ) {r : Written} (before after : List ℕ) {number : ℕ} → AnswerWritten a n m r before after → number ≡ written_number (written_of r) → WritesAs a n m number before after
+pub writes_as : (a : Answer) (n m : ℕ) {r : Result ℕ Refusal} (before after : List ℕ) {number : ℕ} → AnswerWritten a n m r before after → number ≡ written_number (written_of r) → WritesAs a n m number before after
 writes_as a n m before after w e = record { number_is = e ∙ ap written_number w.answered; buffer = w.buffer }

@@ -1,10 +1,7 @@
 -- The converter's result as one number: the low byte is the refusal, 0 where there is none.
-use Rattle.std.specs.Prelude.{ℕ, ◌≤◌, ◌≡◌, List}
+use Rattle.std.specs.Prelude.{ℕ, ◌≡◌, List}
 use Rattle.definitions.specs.Bytes.{Outcome}
 use Rattle.definitions.specs.Conversion.{Converts}
-use Rattle.converter.specs.Steps.{record_most}
-use Rattle.converter.specs.declared.convert.Conversion.{Conversion}
-use Rattle.converter.specs.declared.convert.Conversion.TheVariants.{Record}
 use Rattle.capi.specs.Numbers.{written_number}
 
 -- 256 × the size of the record, or the refusal; and the buffer.
@@ -12,7 +9,3 @@ pub record ConvertsAs (s before : List ℕ) (number : ℕ) (after : List ℕ) : 
   pub result : Outcome ℕ
   pub converts : Converts s before result after
   pub number_is : number ≡ written_number result
-
--- A record that was written is short.
-pub record SmallConversion (r : Conversion) : Type 0 where
-  pub size_small : {size : ℕ} → r ≡ Record size → size ≤ record_most

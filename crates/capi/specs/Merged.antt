@@ -1,10 +1,7 @@
 -- What merging answers as one number: the low byte is the refusal, 0 where there is none.
-use Rattle.std.specs.Prelude.{ℕ, ◌≤◌, ◌≡◌, List, ℤ}
-use Rattle.definitions.specs.Limits.{merged_most}
+use Rattle.std.specs.Prelude.{ℕ, ◌≡◌, List, ℤ}
 use Rattle.definitions.specs.Bytes.{Outcome}
 use Rattle.definitions.specs.Merging.{Merges}
-use Rattle.merging.specs.declared.merge.Merged.{Merged}
-use Rattle.merging.specs.declared.merge.Merged.TheVariants.{Stamps}
 use Rattle.capi.specs.Numbers.{written_number}
 
 -- 256 × the bytes of the merged stamps, or the refusal; and the buffer.
@@ -12,7 +9,3 @@ pub record MergesAs (p a b : List ℕ) (t : ℤ) (before : List ℕ) (number : �
   pub result : Outcome ℕ
   pub merges : Merges p a b t before result after
   pub number_is : number ≡ written_number result
-
--- The merged stamps are few.
-pub record SmallMerged (r : Merged) : Type 0 where
-  pub size_small : {size : ℕ} → r ≡ Stamps size → size ≤ merged_most

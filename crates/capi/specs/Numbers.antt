@@ -1,6 +1,6 @@
 -- Results as one number: the low byte is the refusal, 0 where there is none, 255 where the reader is lent too few places.
-use Rattle.std.specs.Prelude.{ℕ, suc, ◌+◌, ◌*◌, ◌<◌, ◌≤◌, ◌≡◌, List, ◌⊎◌, length}
-use Rattle.definitions.specs.Limits.{highest_n, highest_m, byte_values, short_full, signed_full, most_trials, most_questions, answer_most}
+use Rattle.std.specs.Prelude.{ℕ, suc, ◌+◌, ◌*◌, ◌<◌, ◌≤◌, ◌≡◌, List, ◌⊎◌, length, Result, Ok}
+use Rattle.definitions.specs.Limits.{highest_n, highest_m, byte_values, short_full, signed_full, most_trials, most_questions}
 use Rattle.definitions.specs.Bytes.{put, Outcome, refusal, gives}
 use Rattle.definitions.specs.Offset.{trop_of}
 use Rattle.definitions.specs.AnswerRecord.{Answer, answer_refusal, answer_bytes, writer_refusal, writer_outcome, written}
@@ -12,12 +12,11 @@ use Rattle.answer_reader.specs.Fields.{Padded, stamps_of, picks_of}
 use Rattle.answer_reader.specs.AnswerReading.{head_in}
 use Rattle.answer_reader.specs.declared.answer.Head.{Head}
 use Rattle.answer_writer.specs.AnswerWriting.{unless_refused}
-use Rattle.answer_writer.specs.declared.writer.Written.{Written}
-use Rattle.answer_writer.specs.declared.writer.Written.TheVariants.{Record}
-use Rattle.engine.specs.declared.solve.Solved.{Solved}
-use Rattle.engine.specs.declared.solve.Solved.TheVariants.{Answered, AllAnswered}
-use Rattle.checker.specs.declared.check.Verdict.{Verdict}
-use Rattle.checker.specs.declared.check.Verdict.TheVariants as Turned
+use Rattle.engine.specs.declared.solve.Answered.{Answered}
+use Rattle.engine.specs.declared.solve.Solution.{Solution}
+use Rattle.engine.specs.declared.solve.Solution.TheVariants.{One, All}
+use Rattle.checker.specs.declared.check.Certified.{Certified}
+use Rattle.records.specs.declared.refusal.Refusal.{Refusal}
 
 -- What is not the refusal counts 256 times, the start behind the class 2¹⁶ times, the span 2³² times.
 abbrev pub low_byte : ℕ
@@ -32,7 +31,7 @@ low_half = signed_full
 -- ---- span_solve
 
 -- The engine's result: 256 × trials where answered, of several questions their sum, else the refusal.
-unfoldable pub solved_number : Results.Solved → ℕ
+abbrev pub solved_number : Results.Solved → ℕ
 solved_number (Results.refused k) = k
 solved_number (Results.answered class span trials size) = low_byte * trials
 solved_number (Results.all_answered count trials size) = low_byte * trials
@@ -62,20 +61,24 @@ pub record JudgedAs (p a : List ℕ) (number : ℕ) : Type 0 where
 
 -- ---- sizes, so that the numbers fit 64 bits
 
+-- What is given is below 2³².
+pub record Small (r : Result ℕ Refusal) : Type 0 where
+  pub small : {k : ℕ} → r ≡ Ok k → k < low_half
+
 -- The trials of an answered result are few.
-pub record FewTrials (r : Solved) : Type 0 where
-  pub few : {class span trials size : ℕ} → r ≡ Answered class span trials size → trials ≤ most_trials
-  pub all_few : {count trials size : ℕ} → r ≡ AllAnswered count trials size → trials ≤ most_questions * most_trials
+pub record FewTrials (r : Result Solution Refusal) : Type 0 where
+  pub few : {one : Answered} → r ≡ Ok (One one) → one.trials ≤ most_trials
+  pub all_few : {count trials size : ℕ} → r ≡ Ok (All count trials size) → trials ≤ most_questions * most_trials
 
 -- Class and span of an accepted answer are small.
-pub record SmallFields (v : Verdict) : Type 0 where
-  pub class_small : {class span : ℕ} → v ≡ Turned.Accepted class span → class < low_byte
-  pub span_small : {class span : ℕ} → v ≡ Turned.Accepted class span → span < low_half
+pub record SmallFields (r : Result Certified Refusal) : Type 0 where
+  pub class_small : {c : Certified} → r ≡ Ok c → c.class < low_byte
+  pub span_small : {c : Certified} → r ≡ Ok c → c.span < low_half
 
 -- ---- span_write
 
 -- The writer's result: 256 × the record's size where written, else the refusal.
-unfoldable pub written_number : Outcome ℕ → ℕ
+abbrev pub written_number : Outcome ℕ → ℕ
 written_number (refusal k) = k
 written_number (gives size) = low_byte * size
 
@@ -88,10 +91,6 @@ pub record WritesAs (a : Answer) (n m number : ℕ) (before after : List ℕ) : 
 -- Class, the span's offset number and the start, as they are handed over.
 abbrev pub head_with : ℕ → ℕ → ℕ → Head
 head_with class span start = record { class = class; span = span; start = start }
-
--- A record that was written is short.
-pub record SmallRecord (r : Written) : Type 0 where
-  pub size_small : {size : ℕ} → r ≡ Record size → size ≤ answer_most
 
 -- ---- span_read
 

@@ -5,28 +5,21 @@ ghost use Rattle.checker.specs.Outcome.{verdict_of};
 ghost use Rattle.engine.specs.Outcome.{solved_of};
 ghost use Rattle.capi.specs.Numbers.{solved_number, SolvesAs, Numbered, JudgedAs, FewTrials, SmallFields};
 
-use checker::check::{Verdict, check};
-use engine::solve::{Solved, solve};
+use checker::check::{Certified, check};
+use engine::solve::{Solution, solve};
 use records::limits::{BYTE, FULL};
+use records::refusal::Refusal;
 
 // 256 × trials where answered, else the refusal.
-fn solved_number(solved: Solved) -> u64
+#[tactic(auto, unfolding(engine::specs::Outcome::solved_of))]
+fn solved_number(solved: Result<Solution, Refusal>) -> u64
     requires { FewTrials solved }
     ensures { result ≡ solved_number (solved_of solved) }
 {
     match solved {
-        Solved::Refused(k) => k as u64,
-        Solved::Answered {
-            class: _,
-            span: _,
-            trials,
-            size: _,
-        } => BYTE * trials,
-        Solved::AllAnswered {
-            count: _,
-            trials: sum,
-            size: _,
-        } => BYTE * sum,
+        Ok(Solution::One(one)) => BYTE * one.trials,
+        Ok(Solution::All { trials, .. }) => BYTE * trials,
+        Err(refusal) => refusal.number() as u64,
     }
 }
 
@@ -36,18 +29,17 @@ fn solved_number(solved: Solved) -> u64
 pub extern "C" fn span_solve(problem: &[u8], answer: &mut [u8]) -> u64
     ensures { SolvesAs (meant problem.now) answer.old result answer.new }
 {
-    let solved = solve(problem, answer);
-    solved_number(solved)
+    solved_number(solve(problem, answer))
 }
 
 // 256 × class + 2³² × the span's offset number where accepted, else the refusal.
-fn verdict_number(verdict: Verdict) -> u64
+fn verdict_number(verdict: Result<Certified, Refusal>) -> u64
     requires { SmallFields verdict }
     ensures { Numbered (verdict_of verdict) result }
 {
     match verdict {
-        Verdict::Accepted { class, span } => BYTE * class + FULL * span,
-        Verdict::Refused(k) => k as u64,
+        Ok(accepted) => BYTE * accepted.class + FULL * accepted.span,
+        Err(refused) => refused.number() as u64,
     }
 }
 
@@ -56,6 +48,5 @@ fn verdict_number(verdict: Verdict) -> u64
 pub extern "C" fn span_check(problem: &[u8], answer: &[u8]) -> u64
     ensures { JudgedAs (meant problem.now) answer.now result }
 {
-    let verdict = check(problem, answer);
-    verdict_number(verdict)
+    verdict_number(check(problem, answer))
 }

@@ -2,21 +2,22 @@
 ghost use Rattle.std.specs.Prelude.{◌≡◌, [], ◌∷◌};
 ghost use Rattle.capi.specs.Census.{CensusAs, CountsAs};
 
-use crate::fields::{TOO_FEW_PLACES, copy};
-use counting::census::{Census, take_census};
+use crate::numbers::TOO_FEW_PLACES;
+use counting::census::take_census;
+use counting::tally::Tally;
 
 // What `span_census` is lent for the counts.
 const COUNT_PLACES: usize = 4;
 
 // Puts the four counts in the first of the lent places, where there are enough.
-fn lend_counts(least: u64, bottomless: u64, none: u64, silent: u64, counts: &mut [u64]) -> u64
-    ensures { CountsAs (least ∷ bottomless ∷ none ∷ silent ∷ []) counts.old result counts.new }
+fn lend_counts(tally: Tally, counts: &mut [u64]) -> u64
+    ensures { CountsAs (tally.least ∷ tally.bottomless ∷ tally.none ∷ tally.silent ∷ []) counts.old result counts.new }
 {
     if counts.len() < COUNT_PLACES {
         return TOO_FEW_PLACES;
     }
-    let found = [least, bottomless, none, silent];
-    copy(&found, counts);
+    let found = [tally.least, tally.bottomless, tally.none, tally.silent];
+    counts[..COUNT_PLACES].copy_from_slice(&found);
     0
 }
 
@@ -25,14 +26,8 @@ fn lend_counts(least: u64, bottomless: u64, none: u64, silent: u64, counts: &mut
 pub extern "C" fn span_census(n: u64, m: u64, w: u64, counts: &mut [u64]) -> u64
     ensures { CensusAs n m w counts.old result counts.new }
 {
-    let census = take_census(n, m, w);
-    match census {
-        Census::Counted {
-            least: a,
-            bottomless: b,
-            none: c,
-            silent: d,
-        } => lend_counts(a, b, c, d, counts),
-        Census::Refused(k) => k as u64,
+    match take_census(n, m, w) {
+        Ok(tally) => lend_counts(tally, counts),
+        Err(refusal) => refusal.number() as u64,
     }
 }

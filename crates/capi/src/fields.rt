@@ -1,34 +1,17 @@
 // The answer reader and writer over lent numbers and bytes, with results as one number.
 ghost use Rattle.std.specs.Prelude.{◌≡◌, List, ℕ, ◌≤◌, ◌<◌, length};
-ghost use Rattle.definitions.specs.Bytes.{put};
 ghost use Rattle.answer_reader.specs.Fields.{fields_of};
-ghost use Rattle.answer_writer.specs.AnswerWriting.{written_of};
-ghost use Rattle.capi.specs.Numbers.{WritesAs, SmallRecord, ReadsAs, PlacesAs, written_number, low_byte, low_quarter, low_half, head_with, head_number};
+ghost use Rattle.capi.specs.Numbers.{WritesAs, ReadsAs, PlacesAs, low_byte, low_quarter, low_half, head_with, head_number};
 
-use answer_reader::answer::{AnswerHead, Head, read_answer};
-use answer_writer::writer::{Written, write_answer};
+use crate::numbers::{QUARTER, TOO_FEW_PLACES, size_number};
+use answer_reader::answer::{Head, read_answer};
+use answer_writer::writer::write_answer;
 use records::limits::{BYTE, FULL, ROWS, STRIDE};
 
-// What `span_read` is lent for stamps and for picks, and its result where that is fewer.
+// What `span_read` is lent for stamps and for picks.
 const STAMP_PLACES: usize = STRIDE;
 
 const PICK_PLACES: usize = ROWS;
-
-pub const TOO_FEW_PLACES: u64 = 255;
-
-// The start stands above the class, below the span.
-pub const QUARTER: u64 = BYTE * BYTE;
-
-// 256 × size where written, else the refusal.
-fn written_number(written: Written) -> u64
-    requires { SmallRecord written }
-    ensures { result ≡ written_number (written_of written) }
-{
-    match written {
-        Written::Record(size) => BYTE * size as u64,
-        Written::Refused(k) => k as u64,
-    }
-}
 
 // Writes an answer for a problem of n and m; span and stamps are offset numbers, the start is a number by itself.
 #[unsafe(no_mangle)]
@@ -44,24 +27,8 @@ pub extern "C" fn span_write(
 ) -> u64
     ensures { WritesAs (fields_of (head_with class span start) stamps.now picks.now) n m result buffer.old buffer.new }
 {
-    let head = Head {
-        class: class,
-        span: span,
-        start: start,
-    };
-    let written = write_answer(head, stamps, picks, n as usize, m as usize, buffer);
-    written_number(written)
-}
-
-// Copies numbers to the first of the lent places. Public for `census`.
-pub fn copy(from: &[u64], to: &mut [u64])
-    requires { length from.now ≤ length to.old }
-    ensures { to.new ≡ put to.old 0 from.now }
-{
-    let count = from.len();
-    for i in 0..count {
-        to[i] = from[i];
-    }
+    let head = Head { class, span, start };
+    size_number(write_answer(head, stamps, picks, n as usize, m as usize, buffer))
 }
 
 // Class, start and span as a number, stamps and picks in the lent places, where there are enough.
@@ -75,14 +42,11 @@ fn lend(
     requires { (head.class < low_byte) × (head.start < low_quarter) × (head.span < low_half) }
     ensures { PlacesAs (head_number head) stamps.now picks.now stamps_out.old picks_out.old result stamps_out.new picks_out.new }
 {
-    if stamps_out.len() < STAMP_PLACES {
+    if stamps_out.len() < STAMP_PLACES || picks_out.len() < PICK_PLACES {
         return TOO_FEW_PLACES;
     }
-    if picks_out.len() < PICK_PLACES {
-        return TOO_FEW_PLACES;
-    }
-    copy(stamps, stamps_out);
-    copy(picks, picks_out);
+    stamps_out[..STAMP_PLACES].copy_from_slice(stamps);
+    picks_out[..PICK_PLACES].copy_from_slice(picks);
     BYTE * head.class + QUARTER * head.start + FULL * head.span
 }
 
@@ -107,7 +71,7 @@ pub extern "C" fn span_read(
         &mut own_picks,
     );
     match read {
-        AnswerHead::Fields(head) => lend(head, &own_stamps, &own_picks, stamps, picks),
-        AnswerHead::Refused(k) => k as u64,
+        Ok(head) => lend(head, &own_stamps, &own_picks, stamps, picks),
+        Err(refusal) => refusal.number() as u64,
     }
 }

@@ -8,6 +8,7 @@ pub mod conversion;
 pub mod desks;
 pub mod fields;
 pub mod marks;
+pub mod numbers;
 pub mod opening;
 pub mod plans;
 pub mod sheet;

@@ -3,18 +3,20 @@ ghost use Rattle.std.specs.Prelude.{◌≡◌};
 ghost use Rattle.opening_hours.specs.Lookup.{admission_of};
 ghost use Rattle.capi.specs.Opening.{AdmitsAs, SmallMinute, admission_number};
 
-use opening_hours::lookup::{Admission, first_open};
+use opening_hours::lookup::first_open;
 use records::limits::FULL;
+use records::refusal::Refusal;
 
 // 2³² × the minute's offset number where there is one, 0 for never, else the refusal.
-fn admission_number(admission: Admission) -> u64
+#[tactic(auto, using(crate::proofs::FirstOpen::offset_minute))]
+fn admission_number(admission: Result<Option<u64>, Refusal>) -> u64
     requires { SmallMinute admission }
     ensures { result ≡ admission_number (admission_of admission) }
 {
     match admission {
-        Admission::At(minute) => FULL * minute,
-        Admission::Never => 0,
-        Admission::Refused(k) => k as u64,
+        Ok(Some(minute)) => FULL * minute,
+        Ok(None) => 0,
+        Err(refusal) => refusal.number() as u64,
     }
 }
 
@@ -23,6 +25,5 @@ fn admission_number(admission: Admission) -> u64
 pub extern "C" fn span_first_open(week: &[u64], minute: u64) -> u64
     ensures { AdmitsAs week.now minute result }
 {
-    let admission = first_open(week, minute);
-    admission_number(admission)
+    admission_number(first_open(week, minute))
 }

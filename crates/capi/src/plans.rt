@@ -1,24 +1,10 @@
 // Two plans into one over lent bytes (document 02, 2.13), with the result as one number.
-ghost use Rattle.std.specs.Prelude.{◌≡◌};
 ghost use Rattle.definitions.specs.ProblemRecord.{meant};
 ghost use Rattle.definitions.specs.Merging.{shift_of};
-ghost use Rattle.merging.specs.Outcome.{merged_of};
-ghost use Rattle.capi.specs.Numbers.{written_number};
-ghost use Rattle.capi.specs.Merged.{MergesAs, SmallMerged};
+ghost use Rattle.capi.specs.Merged.{MergesAs};
 
-use merging::merge::{Merged, merge};
-use records::limits::BYTE;
-
-// 256 × the bytes of the merged stamps where merged, else the refusal.
-fn merged_number(merged: Merged) -> u64
-    requires { SmallMerged merged }
-    ensures { result ≡ written_number (merged_of merged) }
-{
-    match merged {
-        Merged::Stamps(size) => BYTE * size as u64,
-        Merged::Refused(k) => k as u64,
-    }
-}
+use crate::numbers::size_number;
+use merging::merge::merge;
 
 // Writes the stamps of two plans merged at the start of the lent buffer. The shift is a signed number of 64 bits: C and Rust hand it over as
 // such, and here it is the unsigned one with the same bits. No bytes mean the idle day.
@@ -32,6 +18,5 @@ pub extern "C" fn span_merge(
 ) -> u64
     ensures { MergesAs (meant problem.now) first.now second.now (shift_of shift) buffer.old result buffer.new }
 {
-    let merged = merge(problem, first, second, shift, buffer);
-    merged_number(merged)
+    size_number(merge(problem, first, second, shift, buffer))
 }

@@ -1,21 +1,24 @@
 // The reader and the writer of hours and minutes over lent bytes, with results as one number.
 ghost use Rattle.std.specs.Prelude.{◌≡◌};
 ghost use Rattle.definitions.specs.Offset.{trop_of};
-ghost use Rattle.hour_texts.specs.Outcome.{reading_of, writing_of};
-ghost use Rattle.capi.specs.HoursNumbers.{HoursNumbered, ReadsHoursAs, SmallValue, writing_number, WritesHoursAs, SmallText};
+ghost use Rattle.hour_texts.specs.Outcome.{reading_of};
+ghost use Rattle.capi.specs.Numbers.{Small};
+ghost use Rattle.capi.specs.HoursNumbers.{HoursNumbered, ReadsHoursAs, WritesHoursAs};
 
-use hour_texts::reader::{Read, read_hours};
-use hour_texts::writer::{Written, write_hours};
-use records::limits::{BYTE, FULL};
+use crate::numbers::size_number;
+use hour_texts::reader::read_hours;
+use hour_texts::writer::write_hours;
+use records::limits::FULL;
+use records::refusal::Refusal;
 
 // 2³² × the value's offset number where read, else the refusal.
-fn read_number(read: Read) -> u64
-    requires { SmallValue read }
+fn read_number(read: Result<u64, Refusal>) -> u64
+    requires { Small read }
     ensures { HoursNumbered (reading_of read) result }
 {
     match read {
-        Read::Value(value) => FULL * value,
-        Read::Refused(k) => k as u64,
+        Ok(value) => FULL * value,
+        Err(refusal) => refusal.number() as u64,
     }
 }
 
@@ -24,19 +27,7 @@ fn read_number(read: Read) -> u64
 pub extern "C" fn span_hours_read(text: &[u8]) -> u64
     ensures { ReadsHoursAs text.now result }
 {
-    let read = read_hours(text);
-    read_number(read)
-}
-
-// 256 × the size of the text where written, else the refusal.
-fn text_number(written: Written) -> u64
-    requires { SmallText written }
-    ensures { result ≡ writing_number (writing_of written) }
-{
-    match written {
-        Written::Text(size) => BYTE * size as u64,
-        Written::Refused(k) => k as u64,
-    }
+    read_number(read_hours(text))
 }
 
 // Writes the text of a value, an offset number.
@@ -44,6 +35,5 @@ fn text_number(written: Written) -> u64
 pub extern "C" fn span_hours_write(value: u64, buffer: &mut [u8]) -> u64
     ensures { WritesHoursAs (trop_of value) result buffer.old buffer.new }
 {
-    let written = write_hours(value, buffer);
-    text_number(written)
+    size_number(write_hours(value, buffer))
 }

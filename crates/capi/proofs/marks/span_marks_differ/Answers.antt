@@ -1,17 +1,14 @@
 use mathlib.Core.Logic.{inl, inr}
-use borrow.Author.Rules.{rules}
-use Rattle.definitions.proofs.Marks.{says_yes, says_no, told_yes, told_no}
-use Rattle.capi.specs.Marks.{too_few, compared}
+use Rattle.capi.specs.Marks.{too_few}
+use Rattle.capi.proofs.Compared.{compared_by}
+use Rattle.capi.proofs.marks.span_marks_differ.Goals.{then-old-places-via-then-old-places, then-old-places-via-else-old-places+then-new-places}
 use Rattle.capi.proofs.marks.span_marks_differ.Goals as goal
 
 pub returns-then-old-places : goal.returns-then-old-places
-returns-then-old-places c = too_few (inl c.if-old-places.true)
-
-pub returns-then-new-places : goal.returns-then-new-places
-returns-then-new-places c = too_few (inr c.if-new-places.true)
-
-pub returns-then-marks_differ : goal.returns-then-marks_differ
-returns-then-marks_differ c = compared (search rules) (search rules) (says_yes (told_yes c.marks_differ.ensures c.if-marks_differ.true))
+returns-then-old-places c = elim c.then-old-places.branch [
+  | then-old-places-via-then-old-places w ↦ too_few (inl w.if-old-places.true)
+  | then-old-places-via-else-old-places+then-new-places w ↦ too_few (inr w.if-new-places.true)
+]
 
 pub returns : goal.returns
-returns c = compared (search rules) (search rules) (says_no (told_no c.marks_differ.ensures c.if-marks_differ.false))
+returns c = compared_by _ c.if-old-places.false c.if-new-places.false c.marks_differ.ensures c.from.ensures

@@ -1,12 +1,8 @@
-use native.Mathlib.Omega.{arith}
-use Rattle.capi.proofs.Hours.{value_numbered, unread_numbered}
+use Rattle.capi.specs.HoursNumbers.{HoursNumbered}
 use Rattle.capi.proofs.sheet.read_number.Goals as goal
 
-pub overflow_mul-result : goal.overflow_mul-result
-overflow_mul-result c = omega (arith, c.requires.value_small c.in-Value.is)
+pub returns-in-Ok : goal.returns-in-Ok
+returns-in-Ok c = rw c.in-Ok.is (HoursNumbered.value _)
 
-pub returns-in-Value : goal.returns-in-Value
-returns-in-Value c = value_numbered c.in-Value.is
-
-pub returns-in-Refused : goal.returns-in-Refused
-returns-in-Refused c = unread_numbered c.in-Refused.is
+pub returns-in-Err : goal.returns-in-Err
+returns-in-Err c = rw (c.in-Err.is, c.number.ensures) (HoursNumbered.refused _)

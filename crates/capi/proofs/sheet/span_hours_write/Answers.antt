@@ -1,8 +1,9 @@
-use Rattle.capi.proofs.Hours.{small_text}
+use mathlib.Core.Path.{◌∙◌}
+use Rattle.capi.proofs.Hours.{small_text, text_number}
 use Rattle.capi.proofs.sheet.span_hours_write.Goals as goal
 
-pub text_number-requires : goal.text_number-requires
-text_number-requires c = small_text _ c.write_hours-written.ensures
+pub size_number-requires : goal.size_number-requires
+size_number-requires c = small_text _ c.write_hours.ensures
 
 pub returns : goal.returns
-returns c = record { writing = _; writes = c.write_hours-written.ensures; number_is = c.text_number.ensures }
+returns c = record { writing = _; writes = c.write_hours.ensures; number_is = c.size_number.ensures ∙ text_number _ }
