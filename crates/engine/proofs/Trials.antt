@@ -39,6 +39,7 @@ use Rattle.look.proofs.Tables.{decoded_held}
 use Rattle.class_answers.specs.declared.answer.Answer.{Answer}
 use Rattle.class_answers.specs.Answered.{answer_in, AnswerOf}
 use Rattle.class_answers.proofs.Found.{looked_found, looked_possible}
+use Rattle.engine.specs.declared.solve.Answered as Own
 use Rattle.engine.specs.declared.one_trial.Pending.{Pending}
 use Rattle.engine.specs.Outcome.{FoundFor, Read, LayoutRead}
 use Rattle.engine.specs.Packing.{stamp_in, pick_at, Packable, PackedCells}
