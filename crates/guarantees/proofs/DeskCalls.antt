@@ -28,8 +28,13 @@ use Rattle.duality.proofs.Classes.{found_one}
 use Rattle.duality.proofs.SmallLeads.{layout_within}
 use Rattle.tickets.proofs.Reported.{from_run, run_on}
 use Rattle.tickets.proofs.Holds.{desk_holds}
+use Rattle.std.specs.Prelude.{Option, None, Result, Ok, Err}
+use Rattle.records.specs.declared.class.Class.{Class}
+use Rattle.records.specs.declared.refusal.Refusal.{Refusal}
+use Rattle.records.specs.Refusals.{number_of}
+use Rattle.records.proofs.Refusing.{number_range}
 use Rattle.engine.specs.declared.one_trial.Pending.{Pending}
-use Rattle.engine.specs.OneTrial.{PendingFor, AnsweredFor}
+use Rattle.engine.specs.OneTrial.{PendingFor, AnsweredFor, Onward}
 use Rattle.engine.specs.Outcome.{Gives, Writes}
 use Rattle.engine.proofs.One.{gives_one}
 use Rattle.desk.proofs.Taking.{memory_enough}
@@ -342,26 +347,31 @@ module _ (calls : TrialCalls) (meet : TrialsMeet calls) (p : List ℕ) (slice : 
   answered_some a = record { class = _; span = _; trials = _; answer = _; answers = a.answers; gives = a.gives }
 
   -- One trial: it is answered, or goes on.
-  next_some : (q : Pending) → LeadTo calls p q → PendingFor (meant p) q → ((calls.trial p q).class ≡ 0 → SomeGiven Gives (meant p)) → Dec ((calls.trial p q).class ≡ 0) → SomeGiven Gives (meant p)
-  next_some q led pending on (yes still) = on still
-  next_some q led pending on (no closed) = answered_some ((meet.tries p q slice led pending).ends closed).0
+  next_some : (q : Pending) → LeadTo calls p q → PendingFor (meant p) q → (Onward (meant p) q.search.made (calls.trial p q) → SomeGiven Gives (meant p)) → SomeGiven Gives (meant p)
+  next_some q led pending on = go (calls.trial p q).search.class refl
+    where
+      go : (c : Option Class) → (calls.trial p q).search.class ≡ c → SomeGiven Gives (meant p)
+      go None e = on ((meet.tries p q slice led pending).goes_on e)
+      go (Option.Some c) e = answered_some ((meet.tries p q slice led pending).ends (λ f. let g : Option.Some c ≡ None = sym e ∙ f in let z : ◌≡◌ {A = ℕ} 0 1 = cc in omega arith)).0
 
   -- All trials that its class and span ask for.
-  tried_some : (fuel : ℕ) {class trials : ℕ} {span : Trop} → Found (problem_of (meant p)) class span trials → (q : Pending) → LeadTo calls p q → PendingFor (meant p) q → trials ≤ q.made + fuel → SomeGiven Gives (meant p)
-  tried_some zero {class} {trials} {span} found q led pending enough =
-      next_some q led pending (λ still. absurd (omega (arith, ((meet.tries p q slice led pending).goes_on still).more class trials span found))) (ℕ_discrete (calls.trial p q).class 0)
-  tried_some (suc fuel) found q led pending enough = next_some q led pending
-      (λ still. let on = (meet.tries p q slice led pending).goes_on still in tried_some fuel found (calls.trial p q) (LeadTo.tried led) on.pending (omega (arith, on.made_is)))
-      (ℕ_discrete (calls.trial p q).class 0)
+  tried_some : (fuel : ℕ) {class trials : ℕ} {span : Trop} → Found (problem_of (meant p)) class span trials → (q : Pending) → LeadTo calls p q → PendingFor (meant p) q → trials ≤ q.search.made + fuel
+      → SomeGiven Gives (meant p)
+  tried_some zero {class} {trials} {span} found q led pending enough = next_some q led pending (λ on. absurd (omega (arith, on.more class trials span found)))
+  tried_some (suc fuel) found q led pending enough =
+      next_some q led pending (λ on. tried_some fuel found (calls.trial p q) (LeadTo.tried led) on.pending (omega (arith, on.made_is)))
 
-  pub some_given : WithinDesk (meant p) → SomeGiven Gives (meant p)
+  -- The problem begun, which nothing refuses.
+  begun_some : (r : Result Pending Refusal) → calls.begin p ≡ r → WithinDesk (meant p) → SomeGiven Gives (meant p)
   unfolding problem_of
-  some_given w =
+  begun_some (Err k) e w = absurd (let none = (meet.begins p slice).refused_is ∙ w in let z : number_of k ≡ 0 = rw e at none in omega (arith, z, (number_range k).0))
+  begun_some (Ok q) e w =
       let own = desk_within (meant p) w in
       let s = answer_exists (problem_of (meant p)) (problem_fits (meant p) own).n_most (layout_within (meant p) own) in
-      let b = meet.begins p slice in
-      let none = b.refused_is ∙ w in
-      tried_some s.trials s.answers.found (calls.begin p).pending LeadTo.begun (b.begun none) (omega arith)
+      tried_some s.trials s.answers.found q (LeadTo.begun e) ((meet.begins p slice).begun q e) (omega arith)
+
+  pub some_given : WithinDesk (meant p) → SomeGiven Gives (meant p)
+  some_given = begun_some (calls.begin p) refl
 
   -- So too for a record that the desk takes as it stands.
   pub desk_given : WithinDesk p → SomeGiven Gives p

@@ -19,7 +19,9 @@ use Rattle.definitions.proofs.RoundTrip.{answer_length}
 use Rattle.definitions.proofs.Solved.{OneAsked, one_asked, none_refused, answer_takes}
 use Rattle.duality.proofs.Classes.{found_one}
 use Rattle.checker.proofs.Judgement.{judged_unique}
-use Rattle.engine.specs.declared.solve.Solved.{Solved}
+use Rattle.std.specs.Prelude.{Result}
+use Rattle.records.specs.declared.refusal.Refusal.{Refusal}
+use Rattle.engine.specs.declared.solve.Solution.{Solution}
 use Rattle.engine.specs.Outcome.{solved_of, SolvedAs, Writes}
 use Rattle.engine.proofs.One.{gives_one, gives_in_turn_one}
 use Rattle.guarantees.specs.Called.{CheckCalled, SolveCalled}
@@ -82,7 +84,7 @@ writes_one {p} {x} (Writes.several k t) (Writes.several l u) e = ap (written x) 
 pub check_called : {p a : List ℕ} {v : Verdict} → Slice p → Slice a → Judged (meant p) a v → CheckCalled p a v
 check_called {p} {a} b c j = record { judged = j; every = λ check m. judged_unique (m p a b c) j }
 
-pub solve_called : {p before after : List ℕ} {r : Solved} → Slice p → Slice before → SolvedAs (meant p) before r after → SolveCalled p before (solved_of r) after
+pub solve_called : {p before after : List ℕ} {r : Result Solution Refusal} → Slice p → Slice before → SolvedAs (meant p) before r after → SolveCalled p before (solved_of r) after
 solve_called {p} {before} b c s = record {
   solves = s.solves;
   every = λ engine m. solves_one (m p before b c) s.solves;
