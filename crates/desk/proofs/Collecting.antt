@@ -7,7 +7,7 @@ use native.Mathlib.Omega.{arith}
 use native.Mathlib.Nat.{eq-zero-or-pos}
 use lib.ListN.{length}
 use Rattle.std.specs.Prelude.{Option, Some, None, Ok, Err}
-use Rattle.definitions.specs.Limits.{desk_places, desk_memory, problem_most, answer_most}
+use Rattle.definitions.specs.Limits.{desk_memory, problem_most, answer_most}
 use Rattle.definitions.specs.Bytes.{Bytes}
 use Rattle.definitions.specs.ProblemRecord.{meant}
 use Rattle.definitions.specs.AnswerRecord.{answer_size}
@@ -16,9 +16,9 @@ use Rattle.definitions.specs.Desk.{place_at, Stands, NotHeld, Collects, handed_o
 use Rattle.definitions.proofs.IdleDay.{meant_bytes}
 use Rattle.records.specs.declared.refusal.Refusal.TheVariants.{Memory, Room, Ticket}
 use Rattle.records.specs.Classes.{class_number}
-use Rattle.search.specs.Underway.{class_word}
 use Rattle.engine.specs.declared.solve.Answered.{Answered}
 use Rattle.engine.specs.OneTrial.{class_in, IsAnswered, HandedOver}
+use Rattle.engine.proofs.Trials.{handed_class}
 use Rattle.desk.specs.declared.state.Place.{Place}
 use Rattle.desk.specs.State.{Desk, place_in, FirstWith, HoldsTicket, bytes_at, PlaceIs, is_empty}
 use Rattle.desk.specs.Calls.{Left, stands_at, DidCollect, CanCollect, CollectedAt}
@@ -26,16 +26,6 @@ use Rattle.tickets.proofs.Sound.{beyond_empty}
 use Rattle.desk.proofs.Kept.{part_bytes}
 use Rattle.desk.proofs.Holding.{place_empty, place_ticket, place_open, AnsweredAs, place_closed, others_stay, holds_moved}
 use Rattle.desk.proofs.Taking.{memory_enough}
-
-not_held : {d : Desk} {memory : List ℕ} {ticket : ℕ} {r : Option ℕ} (left : Left d memory) → HoldsTicket d ticket r → r ≡ None → NotHeld left.state ticket
-not_held {d} {ticket = ticket} left t nowhere i some same =
-    let inside = beyond_empty left.state i left.holds.places_size some in
-    let is = left.holds.places i inside in
-    let mine : (place_in d i).ticket ≡ ticket = sym (place_ticket is) ∙ same in
-    ⊎_elim
-    (λ (z : ticket ≡ 0). some (place_empty is (mine ∙ z)))
-    (λ (z : 0 < ticket). t.nowhere nowhere z i inside mine)
-    (eq-zero-or-pos ticket)
 
 -- A place that is given stands somewhere,
 record StandsAs (d : Desk) (c : Place) (r : Option ℕ) : Type 0 where
@@ -48,9 +38,19 @@ stands_somewhere (Some i) e = record { at = i; at_is = refl; here = cc }
 stands_somewhere None e = absurd cc
 
 -- and none stands nowhere.
-stands_nowhere : {d : Desk} (r : Option ℕ) → None ≡ stands_at d r → r ≡ None
-stands_nowhere (Some i) e = absurd cc
-stands_nowhere None e = refl
+stands_nowhere : (d : Desk) (r : Option ℕ) → None ≡ stands_at d r → r ≡ None
+stands_nowhere d (Some i) e = absurd cc
+stands_nowhere d None e = refl
+
+not_held : {d : Desk} {memory : List ℕ} {ticket : ℕ} {r : Option ℕ} (left : Left d memory) → HoldsTicket d ticket r → None ≡ stands_at d r → NotHeld left.state ticket
+not_held {d} {ticket = ticket} {r} left t here i some same =
+    let inside = beyond_empty left.state i left.holds.places_size some in
+    let is = left.holds.places i inside in
+    let mine : (place_in d i).ticket ≡ ticket = sym (place_ticket is) ∙ same in
+    ⊎_elim
+    (λ (z : ticket ≡ 0). some (place_empty is (mine ∙ z)))
+    (λ (z : 0 < ticket). t.nowhere (stands_nowhere d r here) z i inside mine)
+    (eq-zero-or-pos ticket)
 
 module _ {c : Place} {memory : List ℕ} {d : Desk} {ticket : ℕ} {r : Option ℕ} (left : Left d memory) (found : HoldsTicket d ticket r) (here : Some c ≡ stands_at d r) where
   stands : StandsAs d c r
@@ -87,7 +87,7 @@ module _ (memory buffer : List ℕ) where
     unfolding DidCollect
     collected_none = record {
       short = λ l. absurd (omega arith);
-      moves = λ _ left found here. (Collects.no_such_ticket (memory_enough (length memory) h) (not_held left found (stands_nowhere _ here)), refl);
+      moves = λ _ left found here. (Collects.no_such_ticket (memory_enough (length memory) h) (not_held left found here), refl);
     }
 
     module _ (c : Place) where
@@ -114,7 +114,8 @@ module _ (memory buffer : List ℕ) where
             let left = can.left h in
             let a = answered left can.found can.here e in
             let f = first left can.found can.here in
-            record { problem = meant (bytes_at memory _ c.size); bytes = meant_bytes _ (part_bytes memory _ c.size b (omega (arith, a.seated.size_most, f.inside))); answered = a.answer }
+            let place = (stands left can.found can.here).at in
+            record { problem = meant (bytes_at memory place c.size); bytes = meant_bytes _ (part_bytes memory (place * problem_most) c.size b (omega (arith, a.seated.size_most, f.inside))); answered = a.answer }
 
         -- and handed over.
         pub collected_handed : {buffer' : List ℕ} {r : Answered} → answer_most ≤ length buffer → length buffer' ≡ length buffer → HandedOver c.pending buffer r buffer'
@@ -127,7 +128,7 @@ module _ (memory buffer : List ℕ) where
               let a = w.answer in
               let s = stands left found here in
               let f = first left found here in
-              let class_is : class_number r.class ≡ class_in c.pending = sym (ap class_word handed.class_is) in (
+              let class_is : class_number r.class ≡ class_in c.pending = handed_class handed in (
                 s.at,
                 s.at_is,
                 record {

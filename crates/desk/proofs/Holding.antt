@@ -7,7 +7,8 @@ use native.Mathlib.Omega.{arith}
 use native.Mathlib.Decide.{ℕ_discrete}
 use lib.ListN.{get_or, set, length-set}
 use lib.Seq.{get_or-set_same, get_or-set_other}
-use Rattle.std.specs.Prelude.{None}
+use Rattle.std.specs.Prelude.{Option, Some, None, true, false}
+use Rattle.std.specs.Option.{is_some}
 use Rattle.definitions.specs.Limits.{desk_places, problem_most}
 use Rattle.definitions.specs.Offset.{trop_of}
 use Rattle.definitions.specs.ProblemRecord.{meant}
@@ -22,6 +23,16 @@ use Rattle.tickets.proofs.Line.{At}
 use Rattle.tickets.proofs.Sound.{Sound, waiting_inside, empty_not_waits, answered_not_waits}
 use Rattle.tickets.proofs.Places.{held_less, held_all}
 use Rattle.desk.proofs.Ring.{ring_head}
+
+-- ---- tests of an option
+
+pub some_not_none : {A : Type 0} (o : Option A) → is_some o ≡ true → o ≡ None → ⊥
+some_not_none None e f = cc
+some_not_none (Some x) e f = cc
+
+pub none_is : {A : Type 0} (o : Option A) → is_some o ≡ false → o ≡ None
+none_is None e = refl
+none_is (Some x) e = absurd cc
 
 -- ---- what stands at a place
 

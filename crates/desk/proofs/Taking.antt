@@ -1,6 +1,6 @@
 -- Opening and taking in, as the machine's transitions.
 use Prim.Native.Nat.{ℕ, zero, suc, ◌+◌, ◌*◌, ◌%◌, ◌≤◌, ◌<◌}
-use mathlib.Core.Path.{◌≡◌, refl, sym, ap, subst, ◌∙◌}
+use mathlib.Core.Path.{◌≡◌, refl, sym, ap, ◌∙◌}
 use mathlib.Core.Bool.{Bool, cond}
 use mathlib.Core.Logic.{⊎_elim}
 use mathlib.Core.List.{List, [], ◌∷◌, ◌++◌}
@@ -62,6 +62,10 @@ opened_short h = record { short = λ _. refl; ready = λ l. absurd (omega arith)
 
 -- ---- refusals of taking in
 
+-- A problem that was begun has none.
+none_refused : {s : List ℕ} {b : Result Pending Refusal} {begun : Pending} → BegunFor s b → b ≡ Ok begun → desk_refusal s ≡ 0
+none_refused g z = sym g.refused_is ∙ ap refused_by z
+
 module _ {f : Front} {at : Option ℕ} {memory p : List ℕ} where
   pub took_short : length memory < desk_memory → TookAt f at memory p (Err Memory) memory
   took_short h = record { short = λ _. (refl, refl); moves = λ l. absurd (omega arith) }
@@ -92,29 +96,26 @@ module _ {f : Front} {at : Option ℕ} {memory p : List ℕ} where
         took_nothing k (λ places left free. rw (memory_enough (length memory) enough, refused) (or_else_suc (number_of k) _ some))
 
     module _ {b : Result Pending Refusal} {begun : Pending} (g : BegunFor (meant p) b) (z : b ≡ Ok begun) where
-      none_refused : desk_refusal (meant p) ≡ 0
-      none_refused = sym g.refused_is ∙ ap refused_by z
-
       -- then 21: all places are held,
       pub took_full : at ≡ None → TookAt f at memory p (Err Full) memory
       unfolding take_refusal
       took_full e = took_nothing Full (λ places left free.
           let all = held_sixteen left.holds (free.nowhere e) in
-          rw (memory_enough (length memory) enough, none_refused, le-leb desk_places (held left.state.places) (omega arith)) refl)
+          rw (memory_enough (length memory) enough, none_refused g z, le-leb desk_places (held left.state.places) (omega arith)) refl)
 
       -- or the tickets are used up.
       pub took_last : {i : ℕ} → at ≡ Some i → f.given ≡ last_ticket → TookAt f at memory p (Err Full) memory
       unfolding take_refusal
       took_last e last = took_nothing Full (λ places left free.
           let some = held_fewer left.holds (free.found _ e) in
-          rw (memory_enough (length memory) enough, none_refused, lt-leb desk_places (held left.state.places) some, le-leb last_ticket left.state.given (omega (arith, left.holds.given_is))) refl)
+          rw (memory_enough (length memory) enough, none_refused g z, lt-leb desk_places (held left.state.places) some, le-leb last_ticket left.state.given (omega (arith, left.holds.given_is))) refl)
 
 -- ---- one taken in
 
 module _ (f : Front) (free : Option ℕ) (at : ℕ) (memory p : List ℕ) {b : Result Pending Refusal} {begun : Pending} (enough : desk_memory ≤ length memory) (g : BegunFor (meant p) b) (z : b ≡ Ok begun)
     (here : free ≡ Some at) (below : f.given < last_ticket) where
   within : WithinDesk (meant p)
-  within = sym g.refused_is ∙ ap refused_by z
+  within = none_refused g z
 
   abbrev c : Place
   c = (entry f at p begun).place

@@ -5,5 +5,5 @@ use Rattle.desk.proofs.calls.open_desk.Goals as goal
 pub returns-then-memory-lt-MEMORY : goal.returns-then-memory-lt-MEMORY
 returns-then-memory-lt-MEMORY c = opened_short c.if-memory-lt-MEMORY.true
 
-pub returns-else-memory-lt-MEMORY : goal.returns-else-memory-lt-MEMORY
-returns-else-memory-lt-MEMORY c = opened_ready _ c.no_place-place.ensures (omega (arith, c.if-memory-lt-MEMORY.false))
+pub returns : goal.returns
+returns c = opened_ready (omega (arith, c.if-memory-lt-MEMORY.false))
