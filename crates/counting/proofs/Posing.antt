@@ -28,8 +28,13 @@ use Rattle.definitions.proofs.Put.{take_put, length_put}
 use Rattle.definitions.proofs.IdleDay.{meant_some}
 use Rattle.answer_writer.proofs.Writing.{trail_start, trail_put}
 use Rattle.engine.specs.Outcome.{solved_of}
-use Rattle.engine.specs.declared.solve.Solved as declared
-use Rattle.engine.specs.declared.solve.Solved.TheVariants.{Refused, Answered, AllAnswered}
+use Rattle.engine.specs.declared.solve.Answered.{Answered}
+use Rattle.engine.specs.declared.solve.Solution.{Solution}
+use Rattle.engine.specs.declared.solve.Solution.TheVariants.{One, All}
+use Rattle.records.specs.declared.refusal.Refusal.{Refusal}
+use Rattle.records.specs.Classes.{class_number}
+use Rattle.records.specs.Refusals.{number_of}
+use Rattle.std.specs.Prelude.{Result, Ok, Err}
 use Rattle.definitions.specs.Census.{CountsAs, least, bottomless, none, silent, Small, leads_up_to, leads_record, lead_count}
 use Rattle.counting.specs.Steps.{small_most, few_leads, Posed, CensusFits, Headed, leads_at, record_at}
 use Rattle.counting.proofs.Leads.{lead_small}
@@ -138,14 +143,12 @@ found_counts w (Results.unbounded u) = bottomless w u
 found_counts w (Results.infeasible n) = none w n
 
 -- A refusal is 17, and an answer's class the problem's; it is never answered like several questions.
-refused_by_lem : {s before after : List ℕ} {q : Solved} {k : ℕ} → Posed s → answer_most ≤ length before → Solves s before q after → q ≡ Results.refused k → CountsAs s k
-refused_by_lem {s} {k = k} p h (Results.turned_away {k = j} e) f =
+refused_as : {s before after : List ℕ} {q : Solved} {k : ℕ} → Posed s → answer_most ≤ length before → Solves s before q after → q ≡ Results.refused k → CountsAs s refused_silent
+refused_as {s} p h (Results.turned_away {k = j} e) f =
     let own = sym (engine_refusal_lem _ p h) ∙ e in
-    let is : suc j ≡ refused_silent = silent_or (silent_refused s) j (sym p.refusal_is ∙ own) in
-    let same : suc j ≡ k = cc in
-    subst (CountsAs s) (sym is ∙ same) (silent (own ∙ is))
-refused_by_lem p h (solved a k e ans) f = absurd (let z : ◌≡◌ {A = ℕ} 0 1 = cc in omega arith)
-refused_by_lem p h (all_solved k e turn) f = absurd (let z : ◌≡◌ {A = ℕ} 0 1 = cc in omega arith)
+    silent (own ∙ silent_or (silent_refused s) j (sym p.refusal_is ∙ own))
+refused_as p h (solved a k e ans) f = absurd (let z : ◌≡◌ {A = ℕ} 0 1 = cc in omega arith)
+refused_as p h (all_solved k e turn) f = absurd (let z : ◌≡◌ {A = ℕ} 0 1 = cc in omega arith)
 
 answered_as : {s before after : List ℕ} {q : Solved} {class trials size : ℕ} {span : Trop} → Posed s → answer_most ≤ length before → Solves s before q after
     → q ≡ Results.answered class span trials size → CountsAs s class
@@ -161,20 +164,21 @@ not_several p (solved a k e ans) f = absurd (let z : ◌≡◌ {A = ℕ} 0 1 = c
 not_several p (all_solved k e turn) f = absurd (let z : ◌≡◌ {A = ℕ} 1 3 = sym p.kind_is ∙ k in omega arith)
 
 -- The same of the code's result.
-pub counts_refused_lem : {s before after : List ℕ} {r : declared.Solved} {k : ℕ} → Posed s → answer_most ≤ length before → Solves (meant s) before (solved_of r) after → r ≡ Refused k → CountsAs s k
-unfolding solved_of
-counts_refused_lem {s} {r = r} {k = k} p h t e = let is : solved_of r ≡ Results.refused k = rw e refl in refused_by_lem p h (rw (meant_some s p.some) at t) is
+module _ {s before after : List ℕ} (r : Result Solution Refusal) (p : Posed s) (t : Solves (meant s) before (solved_of r) after) where
+  own : {q : Solved} → solved_of r ≡ q → Solves s before q after
+  own e = rw e at (rw (meant_some s p.some) at t)
 
-pub counts_answered : {s before after : List ℕ} {r : declared.Solved} {class span trials size : ℕ} → Posed s → answer_most ≤ length before → Solves (meant s) before (solved_of r) after
-    → r ≡ Answered class span trials size → CountsAs s class
-unfolding solved_of
-counts_answered {s} {r = r} {class = class} {span = span} {trials = trials} {size = size} p h t e =
-    let is : solved_of r ≡ Results.answered class (trop_of span) trials size = rw e refl in answered_as p h (rw (meant_some s p.some) at t) is
+  pub counts_silent : {k : Refusal} → answer_most ≤ length before → r ≡ Err k → CountsAs s refused_silent
+  unfolding solved_of
+  counts_silent {k} h e = let is : solved_of r ≡ Results.refused (number_of k) = rw e refl in refused_as p h (own is) refl
 
-pub counts_no_several : {s before after : List ℕ} {r : declared.Solved} {count trials size : ℕ} → Posed s → Solves (meant s) before (solved_of r) after → r ≡ AllAnswered count trials size → ⊥
-unfolding solved_of
-counts_no_several {s} {r = r} {count = count} {trials = trials} {size = size} p t e =
-    let is : solved_of r ≡ Results.all_answered count trials size = rw e refl in not_several p (rw (meant_some s p.some) at t) is
+  pub counts_answered : {a : Answered} → answer_most ≤ length before → r ≡ Ok (One a) → CountsAs s (class_number a.class)
+  unfolding solved_of
+  counts_answered {a} h e = let is : solved_of r ≡ Results.answered (class_number a.class) (trop_of a.span) a.trials a.size = rw e refl in answered_as p h (own is) refl
+
+  pub counts_no_several : {count trials size : ℕ} → r ≡ Ok (All count trials size) → ⊥
+  unfolding solved_of
+  counts_no_several {count} {trials} {size} e = let is : solved_of r ≡ Results.all_answered count trials size = rw e refl in not_several p (own is) refl
 
 -- ---- the record of a number
 

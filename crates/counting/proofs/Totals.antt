@@ -1,13 +1,12 @@
 -- The total of a census as a power, multiplied as far as it is at most 65,536; and refusal 27.
 use Prim.Native.Nat.{ℕ, ◌+◌, ◌*◌, ◌^◌, ◌≤◌, ◌<◌, min}
-use mathlib.Core.Path.{◌≡◌, refl, sym, subst, ◌∙◌}
+use mathlib.Core.Path.{◌≡◌, refl, sym, ◌∙◌}
 use mathlib.Core.Bool.{Bool, true, false, cond}
 use mathlib.Core.Logic.{◌↔◌, ◌⊎◌, inl, inr, ⊎_elim}
 use lib.Dec.{eqb, ltb}
 use borrow.Author.Tests.{eqb-false, ne_eqb}
 use native.Mathlib.Omega.{arith}
-use native.Mathlib.Numerals.{add-one}
-use native.Mathlib.Nat.{pow-suc, pow-le-pow_left, pow-le-pow_right, mul-le-mul_left, mul-le-mul_right}
+use native.Mathlib.Nat.{pow-le-pow_left, pow-le-pow_right}
 use Rattle.base.proofs.Numbers.{nat_le_or_lt}
 use Rattle.definitions.specs.Limits.{highest_n, highest_m, lead_limit, census_most, refused_census}
 use Rattle.definitions.specs.Bytes.{outcome}
@@ -48,6 +47,15 @@ census_either n m w = one_of (eqb w 0) _ (one_of (ltb lead_limit w) _ (one_of (a
 
 pub census_refused : (n m w : ℕ) → (CensusFits n m w → ⊥) → census_refusal n m w ≡ refused_census
 census_refused n m w h = ⊎_elim (λ e. absurd (h ((census_fits n m w).0 e))) (λ (e : census_refusal n m w ≡ refused_census). e) (census_either n m w)
+
+-- One of the first four tests fails.
+pub outside : {n m w : ℕ}
+    → (w ≡ 0) ⊎ (((w ≡ 0 → ⊥) × (lead_limit < w)) ⊎ (((w ≡ 0 → ⊥) × (w ≤ lead_limit) × (highest_n < n)) ⊎ ((w ≡ 0 → ⊥) × (w ≤ lead_limit) × (n ≤ highest_n) × (highest_m < m))))
+    → CensusFits n m w → ⊥
+outside (inl e) f = f.some e
+outside (inr (inl h)) f = absurd (omega (arith, h.1, f.w_most))
+outside (inr (inr (inl h))) f = absurd (omega (arith, h.2, f.n_most))
+outside (inr (inr (inr h))) f = absurd (omega (arith, h.3, f.m_most))
 
 -- What the code answers.
 pub judged_away : (n m w : ℕ) → (CensusFits n m w → ⊥) → total_of (Err RefusalCensus) ≡ outcome (census_refusal n m w) (census_total n m w)

@@ -1,5 +1,5 @@
 -- What the steps of a census ask and leave, and its answer in the words of the definitions.
-use Rattle.std.specs.Prelude.{ℕ, zero, suc, ◌+◌, ◌*◌, ◌^◌, ◌/◌, ◌%◌, ◌≤◌, ◌<◌, ◌≡◌, cond, List, [], ◌∷◌, eqb, length, take, Option, Some, None, Result, Ok, Err}
+use Rattle.std.specs.Prelude.{ℕ, zero, suc, ◌+◌, ◌*◌, ◌/◌, ◌%◌, ◌≤◌, ◌<◌, ◌≡◌, cond, List, [], ◌∷◌, eqb, length, take, Option, Some, None, Result, Ok, Err}
 use Rattle.definitions.specs.Limits.{highest_n, highest_m, lead_limit, problem_header, signed_bytes, problem_kind, class_optimal, class_unbounded, class_infeasible, refused_silent, census_most}
 use Rattle.definitions.specs.Tropical.{Trop}
 use Rattle.definitions.specs.Bytes.{Outcome}

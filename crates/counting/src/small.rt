@@ -46,7 +46,11 @@ pub fn put_leads(buffer: &mut [u8], leads: usize, w: u64, number: u64)
     let base = 2 * w + 2;
     let mut rest = number;
     for i in 0..leads {
-        put_word(buffer, PROBLEM_HEADER + LEAD_BYTES * i, lead_field(w, rest % base));
+        put_word(
+            buffer,
+            PROBLEM_HEADER + LEAD_BYTES * i,
+            lead_field(w, rest % base),
+        );
         rest /= base;
     }
 }

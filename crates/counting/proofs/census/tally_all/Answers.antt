@@ -10,7 +10,7 @@ pub put_head-requires : goal.put_head-requires
 put_head-requires c = let few = leads_few _ _ _ c.requires.0 in (omega arith, omega arith, omega (arith, few))
 
 pub loop-number-init : goal.loop-number-init
-loop-number-init c = (headed_start _ _ _ refl c.put_head.ensures, tallied_none _ _ _ refl refl refl refl)
+loop-number-init c = (headed_start _ _ _ refl c.put_head.ensures, let h = c.default-tally.ensures in tallied_none _ _ _ h.0 h.1.0 h.1.1.0 h.1.1.1)
 
 pub slice_bounds-put_leads-end : goal.slice_bounds-put_leads-end
 slice_bounds-put_leads-end c = sym c.loop-number.invariant.0.size_is
