@@ -42,7 +42,7 @@ use Rattle.lent_desk.specs.Entries.{handed_number}
 use Rattle.lent_desk.specs.Sequence.{Seen, took_in, collected, Calls, SinceOpening, collecting, SeenAs}
 use Rattle.lent_desk.proofs.Sequence.{since_lent, cut, opened_standing, TookNext, took_next, CollectingNext, collecting_next, RunsOn, calls_run, since_run}
 use Rattle.guarantees.specs.DeskCalls.{sum, one_step, one_trial, one_ticket, Some, ReportsDone, HandsOver, TakenWith, TakenBoth, Collecting, CollectedWith, HandedOver, DeskCalls, TrialCalls, LeadTo, TrialsMeet}
-use Rattle.guarantees.proofs.Engine.{accepts_it, within_itself}
+use Rattle.guarantees.proofs.Engine.{one_not_several, accepts_it, within_itself}
 use Rattle.guarantees.proofs.Solvable.{answer_exists}
 use Rattle.guarantees.proofs.Seen.{sum_total, sum_append, step_by, step_same, run_steps, trial_by, trial_same, run_trials, ticket_by, ticket_same, run_tickets, seen_some, told_some, DoneBy, run_done, done_run, done_seen, seen_told, HandsBy, run_hands, hands_run, hands_told, hands_seen, waits_number, refused_number, handed_number_lem, handed_as}
 
@@ -248,7 +248,7 @@ module _ {p before after : List ℕ} {ticket number : ℕ} {between : List Seen}
 result_found : {q before after : List ℕ} {r : Results.Solved} {class own : ℕ} {span : Trop} → Solves q before r after → AsksOne q → engine_refusal q (length before) ≡ 0 → Found (problem_of q) class span own
     → r ≡ answered class span own (answer_size class (n_field q) (m_field q))
 result_found (Results.turned_away e) k h f = absurd (let z : suc _ ≡ 0 = sym e ∙ h in omega arith)
-result_found {q} (all_solved three e all) k h f = absurd (false≢true (sym k ∙ eq-eqb (kind_field q) questions_kind three))
+result_found {q} (all_solved three e all) k h f = absurd (one_not_several q k three)
 result_found (solved a one e ans) k h f = let same = found_one ans.found f in rw (same.0, same.1, same.2) refl
 
 record_written : {q before after : List ℕ} {r : Results.Solved} {class own size : ℕ} {span : Trop} {a : Answer} → Writes q before r after → r ≡ answered class span own size → Gives q a

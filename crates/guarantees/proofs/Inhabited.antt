@@ -42,6 +42,7 @@ use Rattle.answer_reader.proofs.Judging.{span_meant}
 use Rattle.answer_reader.proofs.Passing.{stamps_at_length, picks_at_length}
 use Rattle.answer_reader.proofs.ByClass.{stamps_most, picks_most}
 use Rattle.answer_writer.specs.AnswerWriting.{unless_refused}
+use Rattle.answer_writer.proofs.Writing.{kept_if}
 use Rattle.engine.specs.declared.solve.Solution.{Solution}
 use Rattle.engine.specs.declared.solve.Solution.TheVariants.{One, All}
 use Rattle.engine.specs.Outcome.{solved_of}
@@ -60,13 +61,7 @@ use Rattle.guarantees.proofs.Solvable.{answer_exists}
 use Rattle.guarantees.proofs.Contracts.{engine_of, checker_of, problem_reader_of, reader_of, writer_of, program_of}
 use Rattle.guarantees.proofs.Demands.{demands}
 
--- ---- a buffer that a refusal leaves as it was
-
-unless_refused_lem : (k : ℕ) (before after : List ℕ) → 0 < k → unless_refused k before after ≡ before
-unfolding unless_refused
-unless_refused_lem zero before after h = absurd (omega arith)
-unless_refused_lem (suc k) before after h = refl
-
+-- Where nothing is refused, what is written stands.
 unless_none : (k : ℕ) (before after : List ℕ) → k ≡ 0 → unless_refused k before after ≡ after
 unfolding unless_refused
 unless_none k before after e = rw e refl
@@ -167,8 +162,8 @@ the_read_problem left₀ right₀ = record {
   contract = λ p b. record {
     result = result_back layout_in (record_refusal (meant p)) (the_layout (meant p)) (layout_of (meant p)) (problem_few engine_kinds (meant p))
         (λ e. layout_back engine_kinds (meant p) (length (meant p)) ((or_else_none (header_refusal engine_kinds (meant p) (length (meant p))) _).0 e).0);
-    left_kept = λ h. unless_refused_lem (record_refusal (meant p)) left₀ (left_table (asking (meant p) 0)) h;
-    right_kept = λ h. unless_refused_lem (record_refusal (meant p)) right₀ (right_table (asking (meant p) 0)) h;
+    left_kept = λ h. sym (kept_if (record_refusal (meant p)) left₀ (left_table (asking (meant p) 0)) h);
+    right_kept = λ h. sym (kept_if (record_refusal (meant p)) right₀ (right_table (asking (meant p) 0)) h);
     left_read = λ w. unless_none (record_refusal (meant p)) left₀ (left_table (asking (meant p) 0)) w;
     right_read = λ w. unless_none (record_refusal (meant p)) right₀ (right_table (asking (meant p) 0)) w;
   };
@@ -185,7 +180,7 @@ the_read_answer stamps₀ picks₀ = record {
   contract = λ s n m b v w. record {
     answered = result_back told_by (answer_refusal s n m) (head_in s) (class_field s, span_field s, start_field s) (answer_few s n m)
         (λ e. ap (λ (x : Trop). (class_field s, x, start_field s)) (span_meant b.bytes n m));
-    kept = λ d. let some = above (answer_refusal s n m) d in (unless_refused_lem (answer_refusal s n m) stamps₀ _ some, unless_refused_lem (answer_refusal s n m) picks₀ _ some);
+    kept = λ d. let some = above (answer_refusal s n m) d in (sym (kept_if (answer_refusal s n m) stamps₀ _ some), sym (kept_if (answer_refusal s n m) picks₀ _ some));
     stamps_read = λ e. rw (unless_none (answer_refusal s n m) stamps₀ (pad 32 (stamps_of s n)) e)
         (padded 32 (stamps_of s n) (rw stamps_at_length (stamps_most (class_field s) n ((answer_fits s n m).0 e).n_most)));
     picks_read = λ e. let f = (answer_fits s n m).0 e in rw (unless_none (answer_refusal s n m) picks₀ (pad 64 (picks_of s n m)) e)

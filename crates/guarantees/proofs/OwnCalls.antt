@@ -1,14 +1,12 @@
 -- What the calls of the code give is what every function of the demands gives: verdict and result have one value.
 use Prim.Native.Nat.{ℕ, ◌+◌, ◌≤◌}
 use mathlib.Core.Path.{◌≡◌, refl, sym, ap, ap₂, subst, ◌∙◌}
-use mathlib.Core.Bool.{false≢true}
 use mathlib.Core.List.{List}
 use native.Mathlib.Omega.{arith}
 use lib.ListN.{length, length-append}
-use borrow.Author.Tests.{eq-eqb}
 use Rattle.definitions.specs.Limits.{answer_most, questions_kind}
 use Rattle.definitions.specs.Tropical.{Trop}
-use Rattle.definitions.specs.ProblemRecord.{meant, AsksOne, WithinLayouts, problem_of, kind_field, n_field, m_field, count_field}
+use Rattle.definitions.specs.ProblemRecord.{meant, WithinLayouts, problem_of, kind_field, n_field, m_field, count_field}
 use Rattle.definitions.specs.Questions.{alone}
 use Rattle.definitions.specs.AnswerRecord.{Answer, answer_size, answer_bytes, written}
 use Rattle.definitions.specs.Verdict.{Verdict, Judged}
@@ -25,6 +23,7 @@ use Rattle.engine.specs.declared.solve.Solution.{Solution}
 use Rattle.engine.specs.Outcome.{solved_of, SolvedAs, Writes}
 use Rattle.engine.proofs.One.{gives_one, gives_in_turn_one}
 use Rattle.guarantees.specs.Called.{CheckCalled, SolveCalled}
+use Rattle.guarantees.proofs.Engine.{one_not_several}
 
 -- ---- the result alone, by document 01
 
@@ -49,10 +48,6 @@ turns_one {p} k w h (Results.one_more {q = q} {class = class} {bytes = x} a t f)
     sized p {q} {a = a} o f =
         rw (← o.n_is, ← o.m_is) (answer_length a (n_field (alone p q)) (m_field (alone p q)) answer_most (answer_takes (alone p q) o.within a f)
         ∙ ap (λ (c : ℕ). answer_size c (n_field (alone p q)) (m_field (alone p q))) f.class_is)
-
--- A record asks one question or several, not both.
-one_not_several : (p : List ℕ) → AsksOne p → kind_field p ≡ questions_kind → ⊥
-one_not_several p a k = false≢true (sym a ∙ eq-eqb (kind_field p) questions_kind k)
 
 -- Class, span, trials and size have one value, whatever is free in the answer.
 pub solves_one : {p x a b : List ℕ} {r s : Results.Solved} → Solves p x r a → Solves p x s b → r ≡ s
