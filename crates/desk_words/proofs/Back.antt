@@ -1,35 +1,54 @@
 -- A front and a place that were stored as words read back, and the other places stay.
 use Prim.Native.Nat.{ℕ, zero, suc, ◌+◌, ◌*◌, ◌≤◌, ◌<◌}
-use mathlib.Core.Path.{◌≡◌, refl, sym, ap, ◌∙◌}
+use mathlib.Core.Path.{◌≡◌, refl, sym, ap, subst, ◌∙◌}
 use mathlib.Core.Bool.{true}
 use mathlib.Core.Logic.{⊎_elim}
 use mathlib.Core.List.{List, ◌++◌}
 use native.Mathlib.Omega.{arith}
 use native.Mathlib.Decide.{ℕ_discrete}
-use lib.ListN.{length, get_or, set, drop, replicate, length-set, length-drop, length-replicate, get_or-replicate}
-use lib.Seq.{ext_get_or, get_or-drop, get_or-set_same, get_or-set_other}
+use borrow.Rule.Slice.PartMut.{put_mid}
+use lib.ListN.{length, get_or, set, take, drop, replicate, length-set, length-drop, length-replicate, get_or-replicate}
+use lib.Seq.{take-length, ext_get_or, get_or-drop, get_or-set_same, get_or-set_other}
 use lib.Dec.{ltb}
 use borrow.Author.Tests.{ltb-true}
 use Rattle.base.proofs.Numbers.{nat_le_or_lt}
-use Rattle.base.specs.Filled.{Filled}
+use Rattle.std.specs.Prelude.{Option, Some, None}
+use Rattle.std.specs.Array.{IsFromFnResult, IsFromFnResultFrom}
+use Rattle.std.specs.Fn.{Called}
+use denote.Param.Members.{Mut}
 use Rattle.definitions.specs.Limits.{desk_places, stride}
 use Rattle.definitions.specs.Bytes.{put}
 use Rattle.definitions.specs.Questions.{part}
-use Rattle.definitions.proofs.Put.{put_put, get_d_put_after}
+use Rattle.definitions.proofs.Put.{length_put, put_nil, put_put, put_more, get_d_put_after}
 use Rattle.definitions.proofs.Questions.{part_length, part_at}
+use Rattle.records.specs.declared.class.Class.{Class}
+use Rattle.search.proofs.Underway.{class_back}
 use Rattle.desk.specs.declared.state.Place.{Place}
 use Rattle.desk.specs.declared.state.Front.{Front}
-use Rattle.desk.specs.State.{Desk, desk_of, no_place, place_in}
-use Rattle.desk.proofs.Kept.{part_put, part_before, part_after}
-use Rattle.desk_words.specs.Words.{place_words_is, front_words_is, desk_words, place_words, place_from, front_words, PutAt, places_from, places_in, front_from, desk_from, told_in, seated_in, DeskPut}
+use Rattle.desk.specs.State.{Desk, desk_of, no_place, place_in, Finds}
+use Rattle.desk.proofs.Kept.{copied_put, part_put, part_before, part_after}
+use Rattle.desk_words.specs.Words.{place_words_is, front_words_is, desk_words, place_words, place_of, place_from, front_words, PutAt, places_from, places_in, front_from, desk_from, told_in, seated_in, DeskPut}
 
 -- ---- runs
 
--- An array filled from a run is the run.
-pub is_part : (words out : List ℕ) (at n : ℕ) → at + n ≤ length words → Filled (λ k v. v ≡ get_or words (at + k) 0) n n out → out ≡ part words at n
-is_part words out at n h f =
-    ext_get_or 0 out (part words at n) (f.size_is ∙ sym (part_length words at n h))
-    (λ k l. f.each k (omega (arith, f.size_is)) ∙ sym (part_at words at n k (omega (arith, f.size_is))))
+-- An array made element by element, by a closure that keeps what it captured, holds what the closure gives.
+made_from : {F : Type 0} (g : Mut F (ℕ × Unit {0}) ℕ) (h : ℕ → ℕ) (f : F) (ys : List ℕ) (a n : ℕ) → ((i y : ℕ) (q : F) → Called g f (i, tt) y q → (q ≡ f) × (y ≡ h i))
+    → IsFromFnResultFrom g f ys a n → (k : ℕ) → a ≤ k → k < a + n → get_or ys k 0 ≡ h k
+made_from g h f ys a zero keeps each k low high = absurd (omega arith)
+made_from {F} g h f ys a (suc n) keeps (q, y, is, called, rest) k low high =
+    let kept = keeps a y q called in
+    ⊎_elim
+    (λ (l : a + 1 ≤ k). made_from g h f ys (a + 1) n keeps (subst (λ (x : F). IsFromFnResultFrom g x ys (a + 1) n) kept.0 rest) k l (omega arith))
+    (λ (l : k < a + 1). let s : a ≡ k = omega arith in subst (λ (j : ℕ). get_or ys j 0 ≡ h j) s (is.1 0 ∙ kept.1))
+    (nat_le_or_lt (a + 1) k)
+
+-- Made of a run it is the run.
+pub is_part : {F : Type 0} (g : Mut F (ℕ × Unit {0}) ℕ) (f : F) (out words : List ℕ) (at n : ℕ) → ((i y : ℕ) (q : F) → Called g f (i, tt) y q → (q ≡ f) × (y ≡ get_or words (at + i) 0))
+    → at + n ≤ length words → IsFromFnResult g f out n → out ≡ part words at n
+is_part g f out words at n keeps h made =
+    let long = made.long in
+    ext_get_or 0 out (part words at n) (long ∙ sym (part_length words at n h))
+    (λ k l. made_from g (λ i. get_or words (at + i) 0) f out 0 n keeps made.each k (omega arith) (omega arith) ∙ sym (part_at words at n k (omega arith)))
 
 -- What a run holds at a numeral, and from there on.
 pub number_at : (words : List ℕ) (at n k : ℕ) → ltb k n ≡ true → get_or (part words at n) k 0 ≡ get_or words (at + k) 0
@@ -43,6 +62,28 @@ part_rest words at n m h =
     (λ k l.
     let e : at + n + k ≡ at + (n + k) = omega arith in
     part_at words (at + n) m k (omega arith) ∙ rw (e, get_or-drop, part_at words at (n + m) (n + k) (omega arith)) refl)
+
+-- Numbers that are copied are put.
+pub copied : {l part : List ℕ} {at n : ℕ} (vs : List ℕ) → at + length vs ≤ length l → n ≡ length vs → part ≡ vs → PutAt l at vs (put_mid at n l part)
+copied {l} {at = at} {n} vs h e is = let same = copied_put l at n vs e in rw is (record { same = ap length same ∙ length_put l at vs (omega arith) h; is = same })
+
+-- The first j of a run are put.
+pub record Putting (before : List ℕ) (at : ℕ) (run : List ℕ) (j : ℕ) (after : List ℕ) : Type 0 where
+  pub is : after ≡ put before at (take j run)
+  pub same : length after ≡ length before
+
+pub putting_none : (before : List ℕ) (at : ℕ) (run : List ℕ) → Putting before at run 0 before
+putting_none before at run = record { is = sym (put_nil before at); same = refl }
+
+pub putting_more : {words before after a run : List ℕ} {first at j v : ℕ} → PutAt words first a before → at + length run ≤ length words → j < length run → v ≡ get_or run j 0 → Putting before at run j after
+    → Putting before at run (j + 1) (set after (at + j) v)
+putting_more {before = before} {after} {run = run} {at = at} {j} {v} p h l e c = record {
+  is = rw (e, c.is) (put_more before at run j l (omega (arith, p.same)));
+  same = length-set after (at + j) v ∙ c.same;
+}
+
+pub putting_all : {before after run : List ℕ} {at j : ℕ} → j ≡ length run → Putting before at run j after → PutAt before at run after
+putting_all {before} {after} {run} {at} e c = record { same = c.same; is = c.is ∙ ap (λ (z : List ℕ). put before at z) (rw e (take-length run)) }
 
 -- Runs put one after another.
 pub put_two : {l x y : List ℕ} {at n : ℕ} (a b : List ℕ) → at + length a ≤ length l → n ≡ at + length a → PutAt l at a x → PutAt x n b y → PutAt l at (a ++ b) y
@@ -75,14 +116,47 @@ ticket_in words k h =
     let e : front_words_is + k * place_words_is + 0 ≡ front_words_is + k * place_words_is = omega arith in
     ap (λ (z : Place). z.ticket) (place_in_lem words k h) ∙ part_at words (front_words_is + k * place_words_is) place_words_is 0 (omega arith) ∙ rw e refl
 
+-- None of the first i places has the ticket.
+pub record Passed (words : List ℕ) (ticket i : ℕ) : Type 0 where
+  pub before : (k : ℕ) → k < i → (place_in (desk_from words) k).ticket ≡ ticket → ⊥
+
+pub passed_none : (words : List ℕ) (ticket : ℕ) → Passed words ticket 0
+passed_none words ticket = record { before = λ k h. absurd (omega arith) }
+
+pub passed_more : {words : List ℕ} {ticket i : ℕ} → Passed words ticket i → i < desk_places → (get_or words (front_words_is + i * place_words_is) 0 ≡ ticket → ⊥) → Passed words ticket (i + 1)
+passed_more {words} {ticket} {i} p h n = record {
+  before = λ k b e. ⊎_elim
+      (λ (g : i ≤ k). let same : k ≡ i = omega arith in n (sym (ticket_in words i h) ∙ subst (λ (z : ℕ). (place_in (desk_from words) z).ticket ≡ ticket) same e))
+      (λ (g : k < i). p.before k g e)
+      (nat_le_or_lt i k);
+}
+
+-- The first that has it, or none.
+pub passed_found : {words : List ℕ} {ticket i : ℕ} → Passed words ticket i → i < desk_places → get_or words (front_words_is + i * place_words_is) 0 ≡ ticket → Finds (desk_from words) ticket (Some i)
+passed_found {words} {ticket} {i} p h e = record {
+  found = λ k f. let same : i ≡ k = cc in rw (← same) (record { inside = h; here = ticket_in words i h ∙ e; before = p.before });
+  nowhere = λ f. absurd cc;
+}
+
+pub passed_all : {words : List ℕ} {ticket i : ℕ} → Passed words ticket i → desk_places ≤ i → Finds (desk_from words) ticket None
+passed_all p h = record { found = λ k f. absurd cc; nowhere = λ f k b. p.before k (omega arith) }
+
 -- Places are those of a list where each of them is.
 places_are : (words : List ℕ) (places : List Place) → length places ≡ desk_places → ((k : ℕ) → k < desk_places → place_in (desk_from words) k ≡ get_or places k no_place) → places_in words ≡ places
 places_are words places size each = let long = from_length words front_words_is desk_places in ext_get_or no_place (places_in words) places (long ∙ sym size) (λ k h. each k (omega arith))
 
+-- The place that the words of one are.
+place_back : (p : Place) → place_of (place_words p) ≡ p
+place_back p = ap (λ (c : Option Class). record {
+  ticket = p.ticket;
+  size = p.size;
+  pending = record { n = p.pending.n; m = p.pending.m; search = record { made = p.pending.search.made; bracket = p.pending.search.bracket; class = c }; kept = p.pending.kept };
+}) (class_back p.pending.search.class)
+
 -- ---- front and one place stored
 
 module _ (f : Front) (told at : ℕ) (p : Place) (before between after : List ℕ) (long : desk_words ≤ length before) (inside : at < desk_places) (line_size : length f.line ≡ desk_places)
-    (cells_size : length p.pending.cells ≡ stride) (a : PutAt before 0 (front_words f told) between) (c : PutAt between (front_words_is + at * place_words_is) (place_words p) after) where
+    (cells_size : length p.pending.kept.picks ≡ stride) (a : PutAt before 0 (front_words f told) between) (c : PutAt between (front_words_is + at * place_words_is) (place_words p) after) where
   room : front_words_is + at * place_words_is + length (place_words p) ≤ length between
   room = omega (arith, a.same)
 
@@ -103,7 +177,7 @@ module _ (f : Front) (told at : ℕ) (p : Place) (before between after : List �
       (nat_le_or_lt (suc at) k) ∙ old k)
 
   each : (k : ℕ) → k < desk_places → Dec (k ≡ at) → place_in (desk_from after) k ≡ get_or (set (places_in before) at p) k no_place
-  each k h (yes e) = let size = from_length before front_words_is desk_places in rw e (place_in_lem after at inside ∙ rw (here, get_or-set_same (places_in before) at p no_place (omega arith)) refl)
+  each k h (yes e) = let size = from_length before front_words_is desk_places in rw e (place_in_lem after at inside ∙ rw (here, get_or-set_same (places_in before) at p no_place (omega arith)) (place_back p))
   each k h (no n) = place_in_lem after k h ∙ rw (there k n, get_or-set_other (places_in before) at k p no_place n) (sym (place_in_lem before k h))
 
   pub front_put : DeskPut (seated_in before f at p) told before after

@@ -5,6 +5,8 @@ use Rattle.definitions.specs.Bytes.{put}
 use Rattle.definitions.specs.Questions.{part}
 use Rattle.desk.specs.declared.state.Place.{Place}
 use Rattle.desk.specs.declared.state.Front.{Front}
+use Rattle.search.specs.Underway.{class_from}
+use Rattle.engine.specs.OneTrial.{class_in}
 use Rattle.desk.specs.State.{Desk, desk_of}
 
 -- The words of a place: ten numbers, then its cells. Of a desk: four numbers, the line, then the places.
@@ -26,8 +28,8 @@ desk_words = front_words_is + desk_places * place_words_is
 -- A place as words, and the place that words are.
 abbrev pub place_words : Place → List ℕ
 place_words p =
-    (p.ticket ∷ p.size ∷ p.pending.n ∷ p.pending.m ∷ p.pending.made ∷ p.pending.class
-    ∷ p.pending.low ∷ p.pending.high ∷ p.pending.start ∷ p.pending.second ∷ []) ++ p.pending.cells
+    (p.ticket ∷ p.size ∷ p.pending.n ∷ p.pending.m ∷ p.pending.search.made ∷ class_in p.pending
+    ∷ p.pending.search.bracket.low ∷ p.pending.search.bracket.high ∷ p.pending.kept.start ∷ p.pending.kept.second ∷ []) ++ p.pending.kept.picks
 
 abbrev pub place_of : List ℕ → Place
 place_of words = record {
@@ -36,13 +38,8 @@ place_of words = record {
   pending = record {
     n = get_or words 2 0;
     m = get_or words 3 0;
-    made = get_or words 4 0;
-    class = get_or words 5 0;
-    low = get_or words 6 0;
-    high = get_or words 7 0;
-    start = get_or words 8 0;
-    second = get_or words 9 0;
-    cells = drop place_numbers words;
+    search = record { made = get_or words 4 0; class = class_from (get_or words 5 0); bracket = record { low = get_or words 6 0; high = get_or words 7 0 } };
+    kept = record { start = get_or words 8 0; second = get_or words 9 0; picks = drop place_numbers words };
   };
 }
 

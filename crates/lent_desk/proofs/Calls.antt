@@ -1,125 +1,137 @@
 -- The calls over lent words, from the calls over the desk that the words hold.
 use Prim.Native.Nat.{ℕ, ◌≤◌, ◌<◌}
-use mathlib.Core.Path.{◌≡◌, refl, ap, subst}
+use mathlib.Core.Path.{◌≡◌, refl, sym, ap, subst, ◌∙◌}
 use mathlib.Core.List.{List}
 use native.Mathlib.Omega.{arith}
-use lib.ListN.{length}
+use lib.ListN.{length, replicate}
+use Rattle.std.specs.Prelude.{Bool, true, false, cond, Option, Some, None, Result, Ok, Err, IsOk, IsSome, MatchOption}
+use Rattle.std.specs.Option.{IsSomeAnd}
 use Rattle.definitions.specs.Limits.{desk_memory, desk_places, most_trials}
 use Rattle.definitions.specs.Tropical.{Trop}
 use Rattle.definitions.specs.Problem.{Problem}
 use Rattle.definitions.specs.Solved.{Found, optimal, unbounded, infeasible}
 use Rattle.definitions.specs.Desk as Machine
 use Rattle.definitions.specs.Desk.{FromOpening, Collects}
+use Rattle.records.specs.declared.refusal.Refusal.{Refusal}
+use Rattle.records.specs.Classes.{class_number}
+use Rattle.records.specs.Refusals.{number_of}
+use Rattle.engine.specs.declared.solve.Answered.{Answered}
 use Rattle.engine.specs.Outcome.{Gives}
 use Rattle.desk.specs.declared.state.Front.{Front}
 use Rattle.desk.specs.declared.state.Place.{Place}
 use Rattle.desk.specs.declared.calls.Taking.{Taking}
 use Rattle.desk.specs.declared.calls.Stepping.{Stepping}
-use Rattle.desk.specs.declared.calls.Collected.{Collected}
-use Rattle.desk.specs.declared.calls.TakenIn.TheVariants as Takings
-use Rattle.desk.specs.declared.calls.Stepped.TheVariants as Steppings
-use Rattle.desk.specs.declared.calls.Collected.TheVariants as Collections
-use Rattle.desk.specs.State.{Desk, desk_of, Fits, place_in, head_of, FirstFree, HoldsTicket, blank_place}
-use Rattle.desk.specs.Calls.{Left, OpenedBy, CanTake, TookIn, TookAt, AtHead, CanStep, HeadTried, DidStep, StepAt, CanCollect, DidCollect, CollectedAt}
+use Rattle.desk.specs.State.{desk_of, Fits, place_in, head_of, FirstFree, HoldsTicket, blank_place}
+use Rattle.desk.specs.Calls.{Left, OpenedBy, CanTake, TookIn, TookAt, AtHead, CanStep, HeadTried, stepped_as, DidStep, StepAt, stands_at, CanCollect, DidCollect, CollectedAt}
 use Rattle.tickets.proofs.Holds.{desk_holds}
 use Rattle.desk.proofs.Taking.{memory_enough}
 use Rattle.desk_words.specs.Words.{desk_words, places_in, front_from, desk_from, seated_in, DeskPut}
-use Rattle.lent_desk.specs.Entries.{AsLent, OverLent, OpenedAs, TakenFrom, TakenAs, Tells, SteppedFrom, SteppedAs, CollectedFrom, CollectedAs, handed_number}
+use Rattle.lent_desk.specs.Entries.{AsLent, OverLent, TooShort, Inside, OpenedAs, TakenFrom, TakenAs, Tells, done_number, goes_on_number, SteppedFrom, SteppedAs, CollectedFrom, CollectedAs, handed_number}
+
+-- What is lent is too short: nothing changes.
+pub over_short : {memory words : List ℕ} {number : ℕ} {Still : ℕ → Type 0} {Made : Type 0} → TooShort memory words number → Still number → OverLent memory words Still Made
+over_short (TooShort.short h) s = OverLent.short h s
+over_short (TooShort.too_few h f) s = OverLent.too_few h f s
 
 -- ---- opening
 
-pub opened_words : {memory words after : List ℕ} {refused : ℕ} {d : Desk} → desk_memory ≤ length memory → desk_words ≤ length words → OpenedBy memory refused d → DeskPut d 0 words after
-    → OpenedAs memory words 0 after
-opened_words {memory} h w o put = OverLent.makes h w (refl, Machine.opens (memory_enough (length memory) h), rw put.back (o.ready h).1, rw put.back put)
+pub opens : {memory : List ℕ} {r : Result Front Refusal} → desk_memory ≤ length memory → OpenedBy memory r → IsOk r
+opens h o = rw (o.ready h).1 refl
+
+pub opened_words : {memory words after : List ℕ} {r : Result Front Refusal} {f : Front} {c : Place} → desk_memory ≤ length memory → desk_words ≤ length words → OpenedBy memory r → r ≡ Ok f → c ≡ blank_place
+    → DeskPut (desk_of f (replicate desk_places c)) 0 words after → OpenedAs memory words 0 after
+opened_words {memory} {f = f} h w o e z put =
+    let ready = o.ready h in
+    let same : ready.0 ≡ f = (let both : Ok ready.0 ≡ Ok f = sym ready.1 ∙ e in cc) in
+    let put = rw z at put in
+    OverLent.makes h w (refl, Machine.opens (memory_enough (length memory) h), rw (put.back, ← same) ready.2, rw put.back put)
 
 -- ---- taking in
 
--- What the call on the desk in the words is known to do: memory and words are enough, and it moves every state that they can hold.
-pub record Took (memory words p : List ℕ) (at : ℕ) (r : Taking) (memory' : List ℕ) : Type 0 where
-  pub enough : desk_memory ≤ length memory
-  pub long : desk_words ≤ length words
-  pub left : Left (desk_from words) memory
-  pub moves : (left : Left (desk_from words) memory) → TookIn (desk_from words) memory p left.state at r.outcome (seated_in words r.front at r.place) memory'
-
-module _ {memory words : List ℕ} {front : Front} {at : ℕ} (w : desk_words ≤ length words) (lent : AsLent memory words) (e : front ≡ front_from words) (free : FirstFree (desk_from words) at) where
+module _ {memory words : List ℕ} {front : Front} {at : Option ℕ} (h : desk_memory ≤ length memory) (w : desk_words ≤ length words) (lent : AsLent memory words) (e : front ≡ front_from words)
+    (free : FirstFree (desk_from words) at) where
   pub can_take : CanTake front at memory
   can_take = rw e (record { places = places_in words; left = lent.left w; free = free })
 
-  pub took : {p memory' : List ℕ} {r : Taking} → desk_memory ≤ length memory → TookAt front at memory p r memory' → Took memory words p at r memory'
-  took {p} {memory'} {r} h t = record { enough = h; long = w; left = lent.left w h; moves = λ left. (subst (λ (z : Front). TookAt z at memory p r memory') e t).moves h left free }
+  took : {p memory' : List ℕ} {r : Result Taking Refusal} → TookAt front at memory p r memory' → (left : Left (desk_from words) memory) → TookIn (desk_from words) memory p left.state at r memory'
+  took {p} {memory'} {r} t left = (subst (λ (z : Front). TookAt z at memory p r memory') e t).moves h left free
 
-module _ {memory words p memory' : List ℕ} {at : ℕ} {r : Taking} (t : Took memory words p at r memory') where
-  pub take_refused : {k : ℕ} → r.outcome ≡ Takings.Refused k → TakenAs memory words p k memory' words
-  unfolding TookIn
-  take_refused f = rw (rw f at (t.moves t.left)).2 (OverLent.makes t.enough t.long (λ left. TakenFrom.refused (rw f at (t.moves left)).0))
+  pub take_refused : {p memory' : List ℕ} {k : Refusal} → TookAt front at memory p (Err k) memory' → TakenAs memory words p (number_of k) memory' words
+  unfolding TookIn took
+  take_refused t = rw (took t (lent.left w h)).1 (OverLent.makes h w (λ left. TakenFrom.refused (took t left).0))
 
-  module _ {told : ℕ} (f : r.outcome ≡ Takings.Ticket told) where
-    -- A ticket has a place.
-    pub take_inside : at < desk_places
-    unfolding TookIn
-    take_inside = (rw f at (t.moves t.left)).first.inside
+  module _ {p memory' : List ℕ} {r : Taking} (t : TookAt front at memory p (Ok r) memory') where
+    -- What is taken in has a place.
+    pub take_some : IsSome at
+    unfolding TookIn took
+    take_some = rw (took t (lent.left w h)).1 refl
 
-    pub take_ticket : {number : ℕ} {after : List ℕ} → number ≡ 0 → DeskPut (seated_in words r.front at r.place) told words after → TakenAs memory words p number memory' after
-    unfolding TookIn
-    take_ticket n put = rw n (OverLent.makes t.enough t.long (λ left. TakenFrom.taken (rw (← put.back) at (rw f at (t.moves left))) (rw put.back put)))
+    module _ {i : ℕ} (s : at ≡ Some i) where
+      pub take_inside : i < desk_places
+      take_inside = (free.found i s).inside
+
+      pub take_ticket : {after : List ℕ} → DeskPut (seated_in words r.front i r.place) r.ticket words after → TakenAs memory words p 0 memory' after
+      unfolding TookIn took
+      take_ticket put = OverLent.makes h w (λ left.
+          let m = took t left in
+          let same : m.0 ≡ i = (let both : Some m.0 ≡ Some i = sym m.1 ∙ s in cc) in
+          TakenFrom.taken (rw (← put.back) at (rw same at m.2)) (rw put.back put))
 
 -- ---- a step
 
-pub record Stepped-on (memory words : List ℕ) (at : ℕ) (r : Stepping) : Type 0 where
-  pub enough : desk_memory ≤ length memory
-  pub long : desk_words ≤ length words
-  pub left : Left (desk_from words) memory
-  pub at_is : at ≡ head_of (front_from words)
-  pub moves : (left : Left (desk_from words) memory) → DidStep (desk_from words) memory left.state r.outcome (seated_in words r.front at r.place)
-
--- The head was tried.
-abbrev pub Tried : List ℕ → List ℕ → ℕ → Stepping → Machine.Stepped → Type 0
-Tried memory words at r o = (left : Left (desk_from words) memory) → HeadTried (desk_from words) memory left.state o (seated_in words r.front at r.place)
-
 -- The head and the line of a front that was loaded.
-pub front_fits : {memory words : List ℕ} {front : Front} → desk_words ≤ length words → AsLent memory words → front ≡ front_from words → desk_memory ≤ length memory → Fits front
-front_fits w lent e h = rw e (lent.left w h).holds.fits
+pub front_fits : {memory words : List ℕ} {front : Front} → desk_memory ≤ length memory → desk_words ≤ length words → AsLent memory words → front ≡ front_from words → Fits front
+front_fits h w lent e = rw e (lent.left w h).holds.fits
 
-module _ {memory words : List ℕ} {front : Front} {c : Place} (w : desk_words ≤ length words) (lent : AsLent memory words) (e : front ≡ front_from words) (here : AtHead front (places_in words) c) where
+tells : (s : Stepping) (b : Bool) → s.done ≡ b → Tells (stepped_as s) s.ticket (cond b done_number goes_on_number)
+tells s true e = rw e Tells.done
+tells s false e = rw e Tells.goes_on
+
+module _ {memory words : List ℕ} {front : Front} {at : ℕ} {c : Place} (h : desk_memory ≤ length memory) (w : desk_words ≤ length words) (lent : AsLent memory words) (e : front ≡ front_from words)
+    (head : at ≡ head_of front) (here : at < desk_places → place_in (desk_from words) at ≡ c) where
+  stands : AtHead front (places_in words) c
+  stands = rw head at here
+
   pub can_step : CanStep front c memory
-  can_step = record { places = places_in words; left = rw e (lent.left w); here = here }
+  can_step = record { places = places_in words; left = rw e (lent.left w); here = stands }
 
-  pub stepped : {r : Stepping} → desk_memory ≤ length memory → StepAt front c memory r → Stepped-on memory words (head_of front) r
-  stepped {r} h t = record {
-    enough = h;
-    long = w;
-    left = lent.left w h;
-    at_is = ap head_of e;
-    moves = subst
-        (λ (z : Front). (left : Left (desk_of z (places_in words)) memory) → DidStep (desk_of z (places_in words)) memory left.state r.outcome (seated_in words r.front (head_of front) r.place))
-        e (λ left. t.moves h left here);
-  }
+  did : {r : Result (Option Stepping) Refusal} → StepAt front c memory r → (left : Left (desk_from words) memory) → DidStep (desk_from words) memory left.state r
+  did {r} t = subst (λ (z : Front). (left : Left (desk_of z (places_in words)) memory) → DidStep (desk_of z (places_in words)) memory left.state r) e (λ left. t.moves h left stands)
 
-module _ {memory words : List ℕ} {at : ℕ} {r : Stepping} (t : Stepped-on memory words at r) where
-  pub step_refused : {k : ℕ} → r.outcome ≡ Steppings.Refused k → SteppedAs memory words k words
-  unfolding DidStep
-  step_refused f = absurd (rw f at (t.moves t.left))
+  pub step_refused : {k : Refusal} → StepAt front c memory (Err k) → ⊥
+  unfolding DidStep did
+  step_refused t = did t (lent.left w h)
 
-  pub step_none : r.outcome ≡ Steppings.NoneWaits → SteppedAs memory words 0 words
-  unfolding DidStep
-  step_none f = OverLent.makes t.enough t.long (λ left. SteppedFrom.idle (rw f at (t.moves left)).0)
+  pub step_none : StepAt front c memory (Ok None) → SteppedAs memory words 0 words
+  unfolding DidStep did
+  step_none t = OverLent.makes h w (λ left. SteppedFrom.idle (did t left))
 
-  pub on_tried : {told : ℕ} → r.outcome ≡ Steppings.GoesOn told → Tried memory words at r (Machine.goes_on told)
-  unfolding DidStep
-  on_tried f left = rw f at (t.moves left)
+  at_is : head_of (front_from words) ≡ at
+  at_is = sym (ap head_of e) ∙ sym head
 
-  pub done_tried : {told : ℕ} → r.outcome ≡ Steppings.Done told → Tried memory words at r (Machine.done told)
-  unfolding DidStep
-  done_tried f left = rw f at (t.moves left)
+  module _ {s : Stepping} (t : StepAt front c memory (Ok (Some s))) where
+    tried : (left : Left (desk_from words) memory) → HeadTried (desk_from words) memory left.state (stepped_as s) (seated_in words s.front at s.place)
+    unfolding DidStep did
+    tried left = rw at_is at (did t left)
 
-  pub step_inside : {o : Machine.Stepped} → Tried memory words at r o → at < desk_places
-  step_inside f = rw t.at_is (f t.left).inside
+    pub step_inside : at < desk_places
+    step_inside = rw (← at_is) (tried (lent.left w h)).inside
 
-  pub step_told : {o : Machine.Stepped} {told number n : ℕ} {after : List ℕ} → Tried memory words at r o → Tells o told n → number ≡ n → DeskPut (seated_in words r.front at r.place) told words after
-      → SteppedAs memory words number after
-  step_told f tells n put = rw n (OverLent.makes t.enough t.long (λ left. SteppedFrom.tried tells (rw (← put.back) at (f left)) (rw put.back put)))
+    pub step_told : {b : Bool} {after : List ℕ} → s.done ≡ b → DeskPut (seated_in words s.front at s.place) s.ticket words after → SteppedAs memory words (cond b done_number goes_on_number) after
+    step_told d put = OverLent.makes h w (λ left. SteppedFrom.tried (tells s _ d) (rw (← put.back) at (tried left)) (rw put.back put))
 
 -- ---- collecting
+
+-- The place that is told, as it is loaded.
+pub held_as : (words : List ℕ) (at : Option ℕ) (held : Option Place) {Q : ℕ → Place → Type 0} → Inside at
+    → ((i : ℕ) (p : Place) → Q i p → i < desk_places → place_in (desk_from words) i ≡ p) → MatchOption at (held ≡ None) (λ i. IsSomeAnd held (Q i)) → held ≡ stands_at (desk_from words) at
+held_as words None held inside loads m = m
+held_as words (Some i) None inside loads m = absurd m
+held_as words (Some i) (Some p) inside loads m = ap Some (sym (loads i p m inside))
+
+pub held_inside : (words : List ℕ) {ticket : ℕ} (at : Option ℕ) → HoldsTicket (desk_from words) ticket at → Inside at
+held_inside words None found = tt
+held_inside words (Some i) found = (found.held i refl).1.inside
 
 found_class : {p : Problem} {class trials : ℕ} {span : Trop} → Found p class span trials → class ≤ 3
 found_class (optimal o) = omega arith
@@ -131,38 +143,43 @@ collected_few : {memory number class own size : ℕ} {span : Trop} {state next :
     → Collects memory state number before (Machine.collected class span own size) next after → (class ≤ 3) × (own ≤ most_trials)
 collected_few o (Collects.handed_over e g l) = (found_class (desk_holds.answers_alone o g).1.found, desk_holds.trials_of_answered o g)
 
-pub record Handing (memory words : List ℕ) (ticket : ℕ) (buffer : List ℕ) (at : ℕ) (r : Collected) (buffer' : List ℕ) : Type 0 where
-  pub enough : desk_memory ≤ length memory
-  pub long : desk_words ≤ length words
-  pub left : Left (desk_from words) memory
-  pub moves : (left : Left (desk_from words) memory) → DidCollect (desk_from words) memory left.state ticket buffer at r buffer'
+module _ {memory words : List ℕ} {at : Option ℕ} {ticket : ℕ} {c : Option Place} (h : desk_memory ≤ length memory) (w : desk_words ≤ length words) (lent : AsLent memory words)
+    (found : HoldsTicket (desk_from words) ticket at) (here : c ≡ stands_at (desk_from words) at) where
+  pub can_collect : CanCollect c memory
+  can_collect = record { desk = desk_from words; ticket = ticket; at = at; left = lent.left w; found = found; here = here }
 
-module _ {memory words : List ℕ} {at ticket : ℕ} {c : Place} (w : desk_words ≤ length words) (lent : AsLent memory words) (found : HoldsTicket (desk_from words) ticket at)
-    (here : at < desk_places → place_in (desk_from words) at ≡ c) where
-  pub can_collect : CanCollect at c memory
-  can_collect = record { desk = desk_from words; ticket = ticket; left = lent.left w; found = found; here = here }
+  gave : {buffer buffer' : List ℕ} {r : Result (Option Answered) Refusal} → CollectedAt c memory buffer r buffer' → (left : Left (desk_from words) memory)
+      → DidCollect (desk_from words) memory left.state ticket buffer at r buffer'
+  gave t left = t.moves h left found here
 
-  pub collected : {buffer buffer' : List ℕ} {r : Collected} → desk_memory ≤ length memory → CollectedAt at c memory buffer r buffer' → Handing memory words ticket buffer at r buffer'
-  collected h t = record { enough = h; long = w; left = lent.left w h; moves = λ left. t.moves h left found here }
+  pub collect_refused : {buffer buffer' : List ℕ} {k : Refusal} → CollectedAt c memory buffer (Err k) buffer' → CollectedAs memory words ticket buffer (number_of k) words buffer'
+  unfolding DidCollect gave
+  collect_refused t = rw (gave t (lent.left w h)).1 (OverLent.makes h w (λ left. CollectedFrom.refused (gave t left).0))
 
-module _ {memory words : List ℕ} {ticket at : ℕ} {buffer buffer' : List ℕ} {r : Collected} (t : Handing memory words ticket buffer at r buffer') where
-  pub collect_refused : {k : ℕ} → r ≡ Collections.Refused k → CollectedAs memory words ticket buffer k words buffer'
-  unfolding DidCollect
-  collect_refused f = rw (rw f at (t.moves t.left)).1 (OverLent.makes t.enough t.long (λ left. CollectedFrom.refused (rw f at (t.moves left)).0))
+  pub collect_waits : {buffer buffer' : List ℕ} → CollectedAt c memory buffer (Ok None) buffer' → CollectedAs memory words ticket buffer 0 words buffer'
+  unfolding DidCollect gave
+  collect_waits t = rw (gave t (lent.left w h)).1 (OverLent.makes h w (λ left. CollectedFrom.still_waits (gave t left).0))
 
-  pub collect_waits : r ≡ Collections.StillWaits → CollectedAs memory words ticket buffer 0 words buffer'
-  unfolding DidCollect
-  collect_waits f = rw (rw f at (t.moves t.left)).1 (OverLent.makes t.enough t.long (λ left. CollectedFrom.still_waits (rw f at (t.moves left)).0))
-
-  module _ {class span own size : ℕ} (f : r ≡ Collections.Handed class span own size) where
+  module _ {buffer buffer' : List ℕ} {a : Answered} (t : CollectedAt c memory buffer (Ok (Some a)) buffer') where
     -- What is handed over has a place, and its numbers are small.
-    pub collect_inside : (at < desk_places) × (class ≤ 3) × (own ≤ most_trials)
-    unfolding DidCollect
-    collect_inside = let g = rw f at (t.moves t.left) in let few = collected_few t.left.from_opening g.collects in (g.inside, few.0, few.1)
+    pub collect_some : IsSome at
+    unfolding DidCollect gave
+    collect_some = rw (gave t (lent.left w h)).1 refl
 
-    pub collect_handed : {number : ℕ} {after : List ℕ} {front : Front} {free : Place} → number ≡ handed_number class own → front ≡ front_from words → free ≡ blank_place
-        → DeskPut (seated_in words front at free) ticket words after → CollectedAs memory words ticket buffer number after buffer'
-    unfolding DidCollect
-    collect_handed n e b put =
-        let put = rw (e, b) at put in
-        rw n (OverLent.makes t.enough t.long (λ left. CollectedFrom.handed (rw (← put.back) at (rw f at (t.moves left))) (rw put.back put)))
+    pub collect_few : (class_number a.class ≤ 3) × (a.trials ≤ most_trials)
+    unfolding DidCollect gave
+    collect_few = let left = lent.left w h in collected_few left.from_opening (gave t left).2.collects
+
+    module _ {i : ℕ} (s : at ≡ Some i) where
+      pub collect_inside : i < desk_places
+      collect_inside = (found.held i s).1.inside
+
+      pub collect_handed : {number : ℕ} {after : List ℕ} {front : Front} {free : Place} → number ≡ handed_number (class_number a.class) a.trials → front ≡ front_from words → free ≡ blank_place
+          → DeskPut (seated_in words front i free) ticket words after → CollectedAs memory words ticket buffer number after buffer'
+      unfolding DidCollect gave
+      collect_handed n e b put =
+          let put = rw (e, b) at put in
+          rw n (OverLent.makes h w (λ left.
+          let m = gave t left in
+          let same : m.0 ≡ i = (let both : Some m.0 ≡ Some i = sym m.1 ∙ s in cc) in
+          CollectedFrom.handed (rw (← put.back) at (rw same at m.2)) (rw put.back put)))

@@ -1,6 +1,6 @@
 -- The desk's four calls over lent memory and lent words, each result as one number. Document 02, 2.11.
-use Rattle.std.specs.Prelude.{ℕ, ◌+◌, ◌*◌, ◌≤◌, ◌<◌, ◌≡◌, List, length}
-use Rattle.definitions.specs.Limits.{desk_memory, refused_memory}
+use Rattle.std.specs.Prelude.{ℕ, ◌+◌, ◌*◌, ◌≤◌, ◌<◌, ◌≡◌, List, length, Option, Some, None}
+use Rattle.definitions.specs.Limits.{desk_memory, desk_places, refused_memory}
 use Rattle.definitions.specs.Tropical.{Trop}
 use Rattle.definitions.specs.Desk as Machine
 use Rattle.definitions.specs.Desk.{Opens, TakesIn, Steps, Collects}
@@ -44,6 +44,20 @@ pub data OverLent (memory words : List ℕ) (Still : ℕ → Type 0) (Made : Typ
   short : length memory < desk_memory → Still refused_memory → OverLent memory words Still Made
   too_few : desk_memory ≤ length memory → length words < desk_words → Still few_words → OverLent memory words Still Made
   makes : desk_memory ≤ length memory → desk_words ≤ length words → Made → OverLent memory words Still Made
+
+-- What is lent is too short, with the number that a call gives then; or it is long enough.
+pub data TooShort (memory words : List ℕ) : ℕ → Type 0 where
+  short : length memory < desk_memory → TooShort memory words refused_memory
+  too_few : desk_memory ≤ length memory → length words < desk_words → TooShort memory words few_words
+
+abbrev pub LentFor : List ℕ → List ℕ → Option ℕ → Type 0
+LentFor memory words (Some number) = TooShort memory words number
+LentFor memory words None = (desk_memory ≤ length memory) × (desk_words ≤ length words)
+
+-- A place, if there is one, is one of the desk's.
+abbrev pub Inside : Option ℕ → Type 0
+Inside (Some i) = i < desk_places
+Inside None = Unit {0}
 
 -- A call that moves the machine: this holds of every state of it that memory and words can hold.
 abbrev pub Moves : List ℕ → List ℕ → (Machine.Desk → Type 0) → Type 0

@@ -1,35 +1,34 @@
 use mathlib.Core.Path.{refl}
 use native.Mathlib.Omega.{arith}
-use Rattle.lent_desk.proofs.Calls.{can_collect, collected, collect_refused, collect_waits, collect_inside, collect_handed}
-use Rattle.lent_desk.specs.Entries.{OverLent}
+use Rattle.lent_desk.proofs.Calls.{over_short, held_inside, can_collect, collect_refused, collect_waits, collect_some, collect_few, collect_inside, collect_handed}
 use Rattle.lent_desk.proofs.entries.collect_words.Goals as goal
 
-pub returns-then-memory-lt-MEMORY : goal.returns-then-memory-lt-MEMORY
-returns-then-memory-lt-MEMORY c = OverLent.short c.if-memory-lt-MEMORY.true (refl, refl, refl)
+pub returns-in-Some : goal.returns-in-Some
+returns-in-Some c = over_short c.in-Some.ensures (refl, refl, refl)
 
-pub returns-then-words-lt-DESK_WORDS : goal.returns-then-words-lt-DESK_WORDS
-returns-then-words-lt-DESK_WORDS c = OverLent.too_few (omega arith) c.if-words-lt-DESK_WORDS.true (refl, refl, refl)
+pub held_at-held-requires : goal.held_at-held-requires
+held_at-held-requires c = (c.in_default.ensures.1, held_inside _ _ c.place_of-at.ensures)
 
-pub collect-outcome-requires : goal.collect-outcome-requires
-collect-outcome-requires c = can_collect (omega arith) c.requires c.place_of-at.ensures c.place_at-place.ensures
+pub collect-requires : goal.collect-requires
+collect-requires c = can_collect c.in_default.ensures.0 c.in_default.ensures.1 c.requires c.place_of-at.ensures c.held_at-held.ensures
 
-pub overflow_mul-class : goal.overflow_mul-class
-overflow_mul-class c = let g = collect_inside (collected (omega arith) c.requires c.place_of-at.ensures c.place_at-place.ensures (omega arith) c.collect-outcome.ensures) c.in-Handed.is in omega arith
+pub returns-in-Err : goal.returns-in-Err
+returns-in-Err c = rw c.number.ensures (collect_refused c.in_default.ensures.0 c.in_default.ensures.1 c.requires c.place_of-at.ensures c.held_at-held.ensures c.in-Err.ensures)
 
-pub overflow_mul-own : goal.overflow_mul-own
-overflow_mul-own c = let g = collect_inside (collected (omega arith) c.requires c.place_of-at.ensures c.place_at-place.ensures (omega arith) c.collect-outcome.ensures) c.in-Handed.is in omega arith
+pub returns-in-Ok-None : goal.returns-in-Ok-None
+returns-in-Ok-None c = collect_waits c.in_default.ensures.0 c.in_default.ensures.1 c.requires c.place_of-at.ensures c.held_at-held.ensures (rw c.in-Ok-None.field-0-is at c.in-Ok-None.ensures)
 
-pub overflow_add-class : goal.overflow_add-class
-overflow_add-class c = let g = collect_inside (collected (omega arith) c.requires c.place_of-at.ensures c.place_at-place.ensures (omega arith) c.collect-outcome.ensures) c.in-Handed.is in omega arith
+pub unwrap-requires : goal.unwrap-requires
+unwrap-requires c = collect_some c.in_default.ensures.0 c.in_default.ensures.1 c.requires c.place_of-at.ensures c.held_at-held.ensures (rw c.in-Ok-Some.field-0-is at c.in-Ok-Some.ensures)
 
-pub told-requires : goal.told-requires
-told-requires c = (omega arith, (collect_inside (collected (omega arith) c.requires c.place_of-at.ensures c.place_at-place.ensures (omega arith) c.collect-outcome.ensures) c.in-Handed.is).0)
+pub store-requires : goal.store-requires
+store-requires c = (c.in_default.ensures.1, collect_inside c.in_default.ensures.0 c.in_default.ensures.1 c.requires c.place_of-at.ensures c.held_at-held.ensures (rw c.in-Ok-Some.field-0-is at c.in-Ok-Some.ensures) c.unwrap.ensures)
 
-pub returns-in-Refused : goal.returns-in-Refused
-returns-in-Refused c = collect_refused (collected (omega arith) c.requires c.place_of-at.ensures c.place_at-place.ensures (omega arith) c.collect-outcome.ensures) c.in-Refused.is
+pub overflow_mul-result-in-Ok-Some : goal.overflow_mul-result-in-Ok-Some
+overflow_mul-result-in-Ok-Some c = let few = collect_few c.in_default.ensures.0 c.in_default.ensures.1 c.requires c.place_of-at.ensures c.held_at-held.ensures (rw c.in-Ok-Some.field-0-is at c.in-Ok-Some.ensures) in omega arith
 
-pub returns-in-StillWaits : goal.returns-in-StillWaits
-returns-in-StillWaits c = collect_waits (collected (omega arith) c.requires c.place_of-at.ensures c.place_at-place.ensures (omega arith) c.collect-outcome.ensures) c.in-StillWaits.is
+pub overflow_add-result : goal.overflow_add-result
+overflow_add-result c = let few = collect_few c.in_default.ensures.0 c.in_default.ensures.1 c.requires c.place_of-at.ensures c.held_at-held.ensures (rw c.in-Ok-Some.field-0-is at c.in-Ok-Some.ensures) in omega (arith, c.number-in-Ok-Some.ensures)
 
-pub returns-in-Handed : goal.returns-in-Handed
-returns-in-Handed c = collect_handed (collected (omega (arith, c.if-words-lt-DESK_WORDS.false)) c.requires c.place_of-at.ensures c.place_at-place.ensures (omega (arith, c.if-memory-lt-MEMORY.false)) c.collect-outcome.ensures) c.in-Handed.is c.told.ensures.0 c.load_front-front.ensures c.no_place-free.ensures c.told.ensures.1
+pub returns-in-Ok-Some : goal.returns-in-Ok-Some
+returns-in-Ok-Some c = collect_handed c.in_default.ensures.0 c.in_default.ensures.1 c.requires c.place_of-at.ensures c.held_at-held.ensures (rw c.in-Ok-Some.field-0-is at c.in-Ok-Some.ensures) c.unwrap.ensures (rw c.number-in-Ok-Some.ensures refl) c.load_front-front.ensures c.no_place.ensures c.store.ensures

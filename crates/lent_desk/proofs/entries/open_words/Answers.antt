@@ -1,14 +1,12 @@
 use mathlib.Core.Path.{refl}
-use native.Mathlib.Omega.{arith}
-use Rattle.lent_desk.proofs.Calls.{opened_words}
-use Rattle.lent_desk.specs.Entries.{OverLent}
+use Rattle.lent_desk.proofs.Calls.{over_short, opens, opened_words}
 use Rattle.lent_desk.proofs.entries.open_words.Goals as goal
 
-pub returns-then-memory-lt-MEMORY : goal.returns-then-memory-lt-MEMORY
-returns-then-memory-lt-MEMORY c = OverLent.short c.if-memory-lt-MEMORY.true (refl, refl)
+pub returns-in-Some : goal.returns-in-Some
+returns-in-Some c = over_short c.in-Some.ensures (refl, refl)
 
-pub returns-then-words-lt-DESK_WORDS : goal.returns-then-words-lt-DESK_WORDS
-returns-then-words-lt-DESK_WORDS c = OverLent.too_few (omega arith) c.if-words-lt-DESK_WORDS.true (refl, refl)
+pub unwrap-requires : goal.unwrap-requires
+unwrap-requires c = opens c.in_default.ensures.0 c.open_desk.ensures
 
 pub returns : goal.returns
-returns c = opened_words (omega arith) (omega arith) c.open_desk-opening.ensures c.store_all.ensures
+returns c = opened_words c.in_default.ensures.0 c.in_default.ensures.1 c.open_desk.ensures c.unwrap.ensures c.no_place.ensures c.store_all.ensures

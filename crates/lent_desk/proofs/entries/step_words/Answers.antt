@@ -1,38 +1,27 @@
 use mathlib.Core.Path.{refl}
-use native.Mathlib.Omega.{arith}
-use Rattle.lent_desk.proofs.Calls.{front_fits, can_step, stepped, step_refused, step_none, on_tried, done_tried, step_inside, step_told}
-use Rattle.lent_desk.specs.Entries.{OverLent, Tells}
+use Rattle.lent_desk.proofs.Calls.{over_short, front_fits, can_step, step_refused, step_none, step_inside, step_told}
 use Rattle.lent_desk.proofs.entries.step_words.Goals as goal
 
-pub returns-then-memory-lt-MEMORY : goal.returns-then-memory-lt-MEMORY
-returns-then-memory-lt-MEMORY c = OverLent.short c.if-memory-lt-MEMORY.true (refl, refl)
+pub returns-in-Some : goal.returns-in-Some
+returns-in-Some c = over_short c.in-Some.ensures (refl, refl)
 
-pub returns-then-words-lt-DESK_WORDS : goal.returns-then-words-lt-DESK_WORDS
-returns-then-words-lt-DESK_WORDS c = OverLent.too_few (omega arith) c.if-words-lt-DESK_WORDS.true (refl, refl)
+pub first-at-requires : goal.first-at-requires
+first-at-requires c = front_fits c.in_default.ensures.0 c.in_default.ensures.1 c.requires c.load_front-front.ensures
 
-pub offset_bounds-front-head : goal.offset_bounds-front-head
-offset_bounds-front-head c = omega (arith, front_fits (omega arith) c.requires c.load_front-front.ensures (omega arith))
+pub step-requires : goal.step-requires
+step-requires c = can_step c.in_default.ensures.0 c.in_default.ensures.1 c.requires c.load_front-front.ensures c.first-at.ensures c.place_at-place.ensures
 
-pub bounds-front-head : goal.bounds-front-head
-bounds-front-head c = omega (arith, front_fits (omega arith) c.requires c.load_front-front.ensures (omega arith))
+pub returns-in-Err : goal.returns-in-Err
+returns-in-Err c = absurd (step_refused c.in_default.ensures.0 c.in_default.ensures.1 c.requires c.load_front-front.ensures c.first-at.ensures c.place_at-place.ensures c.in-Err.ensures)
 
-pub step-stepping-requires : goal.step-stepping-requires
-step-stepping-requires c = search (can_step, arith)
+pub returns-in-Ok-None : goal.returns-in-Ok-None
+returns-in-Ok-None c = step_none c.in_default.ensures.0 c.in_default.ensures.1 c.requires c.load_front-front.ensures c.first-at.ensures c.place_at-place.ensures (rw c.in-Ok-None.field-0-is at c.in-Ok-None.ensures)
 
-pub told-requires : goal.told-requires
-told-requires c = let t = stepped (omega arith) c.requires c.load_front-front.ensures c.place_at-place.ensures (omega arith) c.step-stepping.ensures in (omega arith, step_inside t (on_tried t c.in-GoesOn.is))
+pub store-requires : goal.store-requires
+store-requires c = (c.in_default.ensures.1, step_inside c.in_default.ensures.0 c.in_default.ensures.1 c.requires c.load_front-front.ensures c.first-at.ensures c.place_at-place.ensures (rw c.in-Ok-Some.field-0-is at c.in-Ok-Some.ensures))
 
-pub told-requires-in-Done : goal.told-requires-in-Done
-told-requires-in-Done c = let t = stepped (omega arith) c.requires c.load_front-front.ensures c.place_at-place.ensures (omega arith) c.step-stepping.ensures in (omega arith, step_inside t (done_tried t c.in-Done.is))
+pub returns-then-stepping : goal.returns-then-stepping
+returns-then-stepping c = step_told c.in_default.ensures.0 c.in_default.ensures.1 c.requires c.load_front-front.ensures c.first-at.ensures c.place_at-place.ensures (rw c.in-Ok-Some.field-0-is at c.in-Ok-Some.ensures) c.if-stepping.true c.store.ensures
 
-pub returns-in-Refused : goal.returns-in-Refused
-returns-in-Refused c = step_refused (stepped (omega arith) c.requires c.load_front-front.ensures c.place_at-place.ensures (omega arith) c.step-stepping.ensures) c.in-Refused.is
-
-pub returns-in-NoneWaits : goal.returns-in-NoneWaits
-returns-in-NoneWaits c = step_none (stepped (omega arith) c.requires c.load_front-front.ensures c.place_at-place.ensures (omega arith) c.step-stepping.ensures) c.in-NoneWaits.is
-
-pub returns-in-GoesOn : goal.returns-in-GoesOn
-returns-in-GoesOn c = let t = stepped (omega arith) c.requires c.load_front-front.ensures c.place_at-place.ensures (omega arith) c.step-stepping.ensures in step_told t (on_tried t c.in-GoesOn.is) Tells.goes_on c.told.ensures.0 c.told.ensures.1
-
-pub returns-in-Done : goal.returns-in-Done
-returns-in-Done c = let t = stepped (omega arith) c.requires c.load_front-front.ensures c.place_at-place.ensures (omega arith) c.step-stepping.ensures in step_told t (done_tried t c.in-Done.is) Tells.done c.told-in-Done.ensures.0 c.told-in-Done.ensures.1
+pub returns-else-stepping : goal.returns-else-stepping
+returns-else-stepping c = step_told c.in_default.ensures.0 c.in_default.ensures.1 c.requires c.load_front-front.ensures c.first-at.ensures c.place_at-place.ensures (rw c.in-Ok-Some.field-0-is at c.in-Ok-Some.ensures) c.if-stepping.false c.store.ensures

@@ -1,23 +1,21 @@
 use mathlib.Core.Path.{refl}
-use native.Mathlib.Omega.{arith}
-use Rattle.lent_desk.proofs.Calls.{can_take, took, take_refused, take_inside, take_ticket}
-use Rattle.lent_desk.specs.Entries.{OverLent}
+use Rattle.lent_desk.proofs.Calls.{over_short, can_take, take_refused, take_some, take_inside, take_ticket}
 use Rattle.lent_desk.proofs.entries.take_words.Goals as goal
 
-pub returns-then-memory-lt-MEMORY : goal.returns-then-memory-lt-MEMORY
-returns-then-memory-lt-MEMORY c = OverLent.short c.if-memory-lt-MEMORY.true (refl, refl, refl)
+pub returns-in-Some : goal.returns-in-Some
+returns-in-Some c = over_short c.in-Some.ensures (refl, refl, refl)
 
-pub returns-then-words-lt-DESK_WORDS : goal.returns-then-words-lt-DESK_WORDS
-returns-then-words-lt-DESK_WORDS c = OverLent.too_few (omega arith) c.if-words-lt-DESK_WORDS.true (refl, refl, refl)
+pub take_in-requires : goal.take_in-requires
+take_in-requires c = can_take c.in_default.ensures.0 c.in_default.ensures.1 c.requires c.load_front-front.ensures c.first_free-free.ensures
 
-pub take_in-taking-requires : goal.take_in-taking-requires
-take_in-taking-requires c = search (can_take, arith)
+pub returns-in-Err : goal.returns-in-Err
+returns-in-Err c = rw c.number.ensures (take_refused c.in_default.ensures.0 c.in_default.ensures.1 c.requires c.load_front-front.ensures c.first_free-free.ensures c.in-Err.ensures)
 
-pub told-requires : goal.told-requires
-told-requires c = (omega arith, take_inside (took (omega arith) c.requires c.load_front-front.ensures c.first_free-at.ensures (omega arith) c.take_in-taking.ensures) c.in-Ticket.is)
+pub unwrap-requires : goal.unwrap-requires
+unwrap-requires c = take_some c.in_default.ensures.0 c.in_default.ensures.1 c.requires c.load_front-front.ensures c.first_free-free.ensures c.in-Ok.ensures
 
-pub returns-in-Refused : goal.returns-in-Refused
-returns-in-Refused c = take_refused (took (omega arith) c.requires c.load_front-front.ensures c.first_free-at.ensures (omega arith) c.take_in-taking.ensures) c.in-Refused.is
+pub store-requires : goal.store-requires
+store-requires c = (c.in_default.ensures.1, take_inside c.in_default.ensures.0 c.in_default.ensures.1 c.requires c.load_front-front.ensures c.first_free-free.ensures c.in-Ok.ensures c.unwrap.ensures)
 
-pub returns-in-Ticket : goal.returns-in-Ticket
-returns-in-Ticket c = take_ticket (took (omega arith) c.requires c.load_front-front.ensures c.first_free-at.ensures (omega arith) c.take_in-taking.ensures) c.in-Ticket.is c.told.ensures.0 c.told.ensures.1
+pub returns-in-Ok : goal.returns-in-Ok
+returns-in-Ok c = take_ticket c.in_default.ensures.0 c.in_default.ensures.1 c.requires c.load_front-front.ensures c.first_free-free.ensures c.in-Ok.ensures c.unwrap.ensures c.store.ensures
