@@ -14,19 +14,18 @@ use Rattle.definitions.specs.AnswerRecord.{Answer, answer_refusal, answer_outcom
 use Rattle.definitions.specs.Programs.{VerdictOutput}
 use Rattle.definitions.specs.Demands.{Word, Slice, Handed, Engine, Checker, ProblemReader, Reader, Writer, Program, EngineSolves, CheckerJudges, ProblemReaderRefuses, ReadsProblems, ReaderRefuses, ReadsFields, WriterRefuses, WritesRecord, ProgramsAnswer}
 use Rattle.definitions.proofs.Outcomes.{refusal-outcome}
-use Rattle.records.specs.declared.problem.Header.{Header}
+use Rattle.std.specs.Prelude.{Result, Ok, Err}
 use Rattle.records.specs.declared.problem.Layout.{Layout}
+use Rattle.records.specs.declared.refusal.Refusal.{Refusal}
 use Rattle.definitions.specs.ProblemRecord as Problems
 use Rattle.definitions.proofs.Solved.{first_asked}
 use Rattle.definitions.proofs.IdleDay.{meant_bytes}
-use Rattle.records.specs.declared.problem.Header.TheVariants as Headers
-use Rattle.records.specs.ProblemHeader.{header_of}
-use Rattle.records.proofs.ProblemHeader.{answer_told_lem, answer_refused_lem}
-use Rattle.answer_reader.specs.declared.answer.AnswerHead.{AnswerHead}
-use Rattle.answer_reader.specs.declared.answer.AnswerHead.TheVariants as Heads
+use Rattle.records.specs.Refusals.{number_of}
+use Rattle.records.specs.ProblemHeader.{layout_in, header_of}
+use Rattle.records.proofs.Refusing.{was_ok, was_err}
+use Rattle.answer_reader.specs.declared.answer.Head.{Head}
 use Rattle.answer_reader.specs.Fields.{fields_of}
-use Rattle.answer_reader.specs.AnswerReading.{head_of}
-use Rattle.answer_reader.proofs.Heads.{fields_by, refused_by_lem}
+use Rattle.answer_reader.specs.AnswerReading.{told_by, head_of}
 use Rattle.problem_records.proofs.LeadTables.{problem_decoded}
 use Rattle.answer_writer.specs.AnswerWriting.{AnswerWritten, written_of, unless_refused}
 use Rattle.answer_writer.proofs.Trips.{counted}
@@ -53,15 +52,15 @@ checker_meets check = check.contract
 -- ---- `read_problem`
 
 -- The problem in two tables.
-unfoldable pub problem_in : Header → List ℕ → List ℕ → Problem
-problem_in (Headers.Told l) left right =
+unfoldable pub problem_in : Result Layout Refusal → List ℕ → List ℕ → Problem
+problem_in (Ok l) left right =
     record { n = l.n; m = l.m; left = λ i j. trop_of (get_or left (i * 32 + j) 0); right = λ i j. trop_of (get_or right (i * 32 + j) 0) }
-problem_in (Headers.Refused k) left right = record { n = 0; m = 0; left = λ i j. trop_of 0; right = λ i j. trop_of 0 }
+problem_in (Err k) left right = record { n = 0; m = 0; left = λ i j. trop_of 0; right = λ i j. trop_of 0 }
 
 -- A header with the problem's n and m.
-record Given (p : List ℕ) (h : Header) : Type 0 where
+record Given (p : List ℕ) (h : Result Layout Refusal) : Type 0 where
   layout : Layout
-  is : h ≡ Headers.Told layout
+  is : h ≡ Ok layout
   n_is : layout.n ≡ n_field p
   m_is : layout.m ≡ m_field p
 
@@ -84,13 +83,12 @@ module _ {left₀ right₀ : List ℕ} (read : ReadProblem left₀ right₀) whe
   }
 
   -- A header that nothing refuses tells the layout.
-  header_given : (p : List ℕ) → WithinLayouts p → (h : Header) → header_of h ≡ problem_outcome engine_kinds p → Given p h
+  header_given : (p : List ℕ) → WithinLayouts p → (h : Result Layout Refusal) → header_of h ≡ problem_outcome engine_kinds p → Given p h
   unfolding problem_outcome
-  header_given p w (Headers.Told l) e =
-      let f = answer_told_lem (record_refusal p) (layout_of p) {r = Headers.Told l} e refl in
+  header_given p w (Ok l) e =
+      let f = was_ok layout_in (record_refusal p) (layout_of p) e refl in
       record { layout = l; is = refl; n_is = ap (λ (x : Problems.Layout). x.n) f.1; m_is = ap (λ (x : Problems.Layout). x.m) f.1 }
-  header_given p w (Headers.Refused k) e =
-      absurd (let f = answer_refused_lem (record_refusal p) (layout_of p) {r = Headers.Refused k} e refl in omega (arith, f.0, f.1))
+  header_given p w (Err k) e = absurd (omega (arith, (was_err layout_in (record_refusal p) (layout_of p) e refl).1))
 
   pub problem_reader_reads : ReadsProblems problem_reader_of
   unfolding problem_in problem_of
@@ -109,9 +107,9 @@ module _ {left₀ right₀ : List ℕ} (read : ReadProblem left₀ right₀) whe
 -- ---- `read_answer`
 
 -- What the reader gives: the refusal, or the fields, stamps and picks as many as the class has.
-unfoldable pub reading_of : AnswerHead → List ℕ → List ℕ → ℕ → ℕ → Outcome Answer
-reading_of (Heads.Refused k) stamps picks n m = refusal k
-reading_of (Heads.Fields head) stamps picks n m = gives (fields_of head (take (stamp_count head.class n) stamps) (take (pick_count head.class n m) picks))
+unfoldable pub reading_of : Result Head Refusal → List ℕ → List ℕ → ℕ → ℕ → Outcome Answer
+reading_of (Err k) stamps picks n m = refusal (number_of k)
+reading_of (Ok head) stamps picks n m = gives (fields_of head (take (stamp_count head.class n) stamps) (take (pick_count head.class n m) picks))
 
 module _ {stamps₀ picks₀ : List ℕ} (read : ReadAnswer stamps₀ picks₀) where
   abbrev pub reader_of : Reader
@@ -130,18 +128,18 @@ module _ {stamps₀ picks₀ : List ℕ} (read : ReadAnswer stamps₀ picks₀) 
     untouched = λ s b n m k v w e. (read.contract s n m b v w).kept (λ z. omega arith);
   }
     where
-      go : (s : List ℕ) (n m k : ℕ) → answer_refusal s n m ≡ suc k → (h : AnswerHead) → head_of h ≡ outcome (answer_refusal s n m) (class_field s, span_field s, start_field s)
+      go : (s : List ℕ) (n m k : ℕ) → answer_refusal s n m ≡ suc k → (h : Result Head Refusal) → head_of h ≡ outcome (answer_refusal s n m) (class_field s, span_field s, start_field s)
           → reading_of h (read.stamps s n m) (read.picks s n m) n m ≡ refusal (suc k)
-      go s n m k e (Heads.Fields head) a = absurd (let f = fields_by (answer_refusal s n m) _ {r = Heads.Fields head} a refl in omega (arith, f.0))
-      go s n m k e (Heads.Refused j) a = let f = refused_by_lem (answer_refusal s n m) _ {r = Heads.Refused j} a refl in ap refusal (f.0 ∙ e)
+      go s n m k e (Ok head) a = absurd (omega (arith, (was_ok told_by (answer_refusal s n m) _ a refl).0))
+      go s n m k e (Err j) a = ap refusal (sym (was_err told_by (answer_refusal s n m) _ a refl).0 ∙ e)
 
   pub reader_reads : ReadsFields reader_of
   unfolding reading_of answer_outcome
   reader_reads s b n m v w e = go (read.head s n m) refl
     where
-      go : (h : AnswerHead) → read.head s n m ≡ h → reading_of h (read.stamps s n m) (read.picks s n m) n m ≡ gives (answer_of s n m)
-      go (Heads.Fields head) f = ap gives (counted (read.contract s n m b v w) f b.bytes)
-      go (Heads.Refused j) f = absurd (let g = refused_by_lem (answer_refusal s n m) _ (read.contract s n m b v w).answered f in g.1 e)
+      go : (h : Result Head Refusal) → read.head s n m ≡ h → reading_of h (read.stamps s n m) (read.picks s n m) n m ≡ gives (answer_of s n m)
+      go (Ok head) f = ap gives (counted (read.contract s n m b v w) f b.bytes)
+      go (Err j) f = absurd (omega (arith, (was_err told_by (answer_refusal s n m) _ (read.contract s n m b v w).answered f).1))
 
 -- ---- `write_answer`
 

@@ -28,8 +28,13 @@ use Rattle.duality.proofs.Classes.{found_one}
 use Rattle.duality.proofs.SmallLeads.{layout_within}
 use Rattle.tickets.proofs.Reported.{from_run, run_on}
 use Rattle.tickets.proofs.Holds.{desk_holds}
+use Rattle.std.specs.Prelude.{Option, None, Result, Ok, Err}
+use Rattle.records.specs.declared.class.Class.{Class}
+use Rattle.records.specs.declared.refusal.Refusal.{Refusal}
+use Rattle.records.specs.Refusals.{number_of}
+use Rattle.records.proofs.Refusing.{number_range}
 use Rattle.engine.specs.declared.one_trial.Pending.{Pending}
-use Rattle.engine.specs.OneTrial.{PendingFor, AnsweredFor}
+use Rattle.engine.specs.OneTrial.{PendingFor, AnsweredFor, Onward}
 use Rattle.engine.specs.Outcome.{Gives, Writes}
 use Rattle.engine.proofs.One.{gives_one}
 use Rattle.desk.proofs.Taking.{memory_enough}
@@ -37,7 +42,7 @@ use Rattle.lent_desk.specs.Entries.{handed_number}
 use Rattle.lent_desk.specs.Sequence.{Seen, took_in, collected, Calls, SinceOpening, collecting, SeenAs}
 use Rattle.lent_desk.proofs.Sequence.{since_lent, cut, opened_standing, TookNext, took_next, CollectingNext, collecting_next, RunsOn, calls_run, since_run}
 use Rattle.guarantees.specs.DeskCalls.{sum, one_step, one_trial, one_ticket, Some, ReportsDone, HandsOver, TakenWith, TakenBoth, Collecting, CollectedWith, HandedOver, DeskCalls, TrialCalls, LeadTo, TrialsMeet}
-use Rattle.guarantees.proofs.Engine.{accepts_it, within_itself}
+use Rattle.guarantees.proofs.Engine.{one_not_several, accepts_it, within_itself}
 use Rattle.guarantees.proofs.Solvable.{answer_exists}
 use Rattle.guarantees.proofs.Seen.{sum_total, sum_append, step_by, step_same, run_steps, trial_by, trial_same, run_trials, ticket_by, ticket_same, run_tickets, seen_some, told_some, DoneBy, run_done, done_run, done_seen, seen_told, HandsBy, run_hands, hands_run, hands_told, hands_seen, waits_number, refused_number, handed_number_lem, handed_as}
 
@@ -243,7 +248,7 @@ module _ {p before after : List ℕ} {ticket number : ℕ} {between : List Seen}
 result_found : {q before after : List ℕ} {r : Results.Solved} {class own : ℕ} {span : Trop} → Solves q before r after → AsksOne q → engine_refusal q (length before) ≡ 0 → Found (problem_of q) class span own
     → r ≡ answered class span own (answer_size class (n_field q) (m_field q))
 result_found (Results.turned_away e) k h f = absurd (let z : suc _ ≡ 0 = sym e ∙ h in omega arith)
-result_found {q} (all_solved three e all) k h f = absurd (false≢true (sym k ∙ eq-eqb (kind_field q) questions_kind three))
+result_found {q} (all_solved three e all) k h f = absurd (one_not_several q k three)
 result_found (solved a one e ans) k h f = let same = found_one ans.found f in rw (same.0, same.1, same.2) refl
 
 record_written : {q before after : List ℕ} {r : Results.Solved} {class own size : ℕ} {span : Trop} {a : Answer} → Writes q before r after → r ≡ answered class span own size → Gives q a
@@ -342,26 +347,31 @@ module _ (calls : TrialCalls) (meet : TrialsMeet calls) (p : List ℕ) (slice : 
   answered_some a = record { class = _; span = _; trials = _; answer = _; answers = a.answers; gives = a.gives }
 
   -- One trial: it is answered, or goes on.
-  next_some : (q : Pending) → LeadTo calls p q → PendingFor (meant p) q → ((calls.trial p q).class ≡ 0 → SomeGiven Gives (meant p)) → Dec ((calls.trial p q).class ≡ 0) → SomeGiven Gives (meant p)
-  next_some q led pending on (yes still) = on still
-  next_some q led pending on (no closed) = answered_some ((meet.tries p q slice led pending).ends closed).0
+  next_some : (q : Pending) → LeadTo calls p q → PendingFor (meant p) q → (Onward (meant p) q.search.made (calls.trial p q) → SomeGiven Gives (meant p)) → SomeGiven Gives (meant p)
+  next_some q led pending on = go (calls.trial p q).search.class refl
+    where
+      go : (c : Option Class) → (calls.trial p q).search.class ≡ c → SomeGiven Gives (meant p)
+      go None e = on ((meet.tries p q slice led pending).goes_on e)
+      go (Option.Some c) e = answered_some ((meet.tries p q slice led pending).ends (λ f. let g : Option.Some c ≡ None = sym e ∙ f in let z : ◌≡◌ {A = ℕ} 0 1 = cc in omega arith)).0
 
   -- All trials that its class and span ask for.
-  tried_some : (fuel : ℕ) {class trials : ℕ} {span : Trop} → Found (problem_of (meant p)) class span trials → (q : Pending) → LeadTo calls p q → PendingFor (meant p) q → trials ≤ q.made + fuel → SomeGiven Gives (meant p)
-  tried_some zero {class} {trials} {span} found q led pending enough =
-      next_some q led pending (λ still. absurd (omega (arith, ((meet.tries p q slice led pending).goes_on still).more class trials span found))) (ℕ_discrete (calls.trial p q).class 0)
-  tried_some (suc fuel) found q led pending enough = next_some q led pending
-      (λ still. let on = (meet.tries p q slice led pending).goes_on still in tried_some fuel found (calls.trial p q) (LeadTo.tried led) on.pending (omega (arith, on.made_is)))
-      (ℕ_discrete (calls.trial p q).class 0)
+  tried_some : (fuel : ℕ) {class trials : ℕ} {span : Trop} → Found (problem_of (meant p)) class span trials → (q : Pending) → LeadTo calls p q → PendingFor (meant p) q → trials ≤ q.search.made + fuel
+      → SomeGiven Gives (meant p)
+  tried_some zero {class} {trials} {span} found q led pending enough = next_some q led pending (λ on. absurd (omega (arith, on.more class trials span found)))
+  tried_some (suc fuel) found q led pending enough =
+      next_some q led pending (λ on. tried_some fuel found (calls.trial p q) (LeadTo.tried led) on.pending (omega (arith, on.made_is)))
 
-  pub some_given : WithinDesk (meant p) → SomeGiven Gives (meant p)
+  -- The problem begun, which nothing refuses.
+  begun_some : (r : Result Pending Refusal) → calls.begin p ≡ r → WithinDesk (meant p) → SomeGiven Gives (meant p)
   unfolding problem_of
-  some_given w =
+  begun_some (Err k) e w = absurd (let none = (meet.begins p slice).refused_is ∙ w in let z : number_of k ≡ 0 = rw e at none in omega (arith, z, (number_range k).0))
+  begun_some (Ok q) e w =
       let own = desk_within (meant p) w in
       let s = answer_exists (problem_of (meant p)) (problem_fits (meant p) own).n_most (layout_within (meant p) own) in
-      let b = meet.begins p slice in
-      let none = b.refused_is ∙ w in
-      tried_some s.trials s.answers.found (calls.begin p).pending LeadTo.begun (b.begun none) (omega arith)
+      tried_some s.trials s.answers.found q (LeadTo.begun e) ((meet.begins p slice).begun q e) (omega arith)
+
+  pub some_given : WithinDesk (meant p) → SomeGiven Gives (meant p)
+  some_given = begun_some (calls.begin p) refl
 
   -- So too for a record that the desk takes as it stands.
   pub desk_given : WithinDesk p → SomeGiven Gives p

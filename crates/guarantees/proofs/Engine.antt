@@ -49,6 +49,10 @@ engine_refuses engine solves = record {
 
 -- ---- answers
 
+-- A record asks one question or several, not both.
+pub one_not_several : (p : List ℕ) → AsksOne p → kind_field p ≡ questions_kind → ⊥
+one_not_several p a k = false≢true (sym a ∙ eq-eqb (kind_field p) questions_kind k)
+
 -- What the engine gives where nothing is refused.
 pub record EngineAnswer (engine : Engine) (p buffer : List ℕ) : Type 0 where
   pub class : ℕ
@@ -62,7 +66,7 @@ pub record EngineAnswer (engine : Engine) (p buffer : List ℕ) : Type 0 where
 answered_by : (engine : Engine) (p buffer : List ℕ) {r : Solved} {after : List ℕ} → Solves (meant p) buffer r after → AsksOne (meant p) → engine_refusal (meant p) (length buffer) ≡ 0
     → engine.result p buffer ≡ r → engine.buffer p buffer ≡ after → EngineAnswer engine p buffer
 answered_by engine p buffer (Results.turned_away e) k h r-is b-is = absurd (let z : suc _ ≡ 0 = sym e ∙ h in omega arith)
-answered_by engine p buffer (all_solved three e turn) k h r-is b-is = absurd (false≢true (sym k ∙ eq-eqb (kind_field (meant p)) questions_kind three))
+answered_by engine p buffer (all_solved three e turn) k h r-is b-is = absurd (one_not_several (meant p) k three)
 answered_by engine p buffer (solved a one e ans) k h r-is b-is = record { class = _; span = _; trials = _; answer = a; answers = ans; result_is = r-is; buffer_is = b-is }
 
 module _ (engine : Engine) (solves : EngineSolves engine) (p buffer : List ℕ) (b : Slice p) (c : Slice buffer) (w : WithinLayout (meant p)) (long : answer_most ≤ length buffer) where
@@ -209,7 +213,7 @@ all_answered_by : (engine : Engine) (check : Checker) → CheckerJudges check �
     → AllAnswered engine check read p buffer
 unfolding written
 all_answered_by engine check judges read reads p buffer b (Results.turned_away e) k w h r-is b-is = absurd (let z : suc _ ≡ 0 = sym e ∙ h in omega arith)
-all_answered_by engine check judges read reads p buffer b (solved a one e ans) k w h r-is b-is = absurd (false≢true (sym one ∙ eq-eqb (kind_field p) questions_kind k))
+all_answered_by engine check judges read reads p buffer b (solved a one e ans) k w h r-is b-is = absurd (one_not_several p one k)
 all_answered_by engine check judges read reads p buffer b (all_solved {bytes = bytes} {trials} three e turn) k w h r-is b-is = record {
   trials = trials;
   size = length bytes;

@@ -12,7 +12,7 @@ use Rattle.definitions.specs.Limits.{kept_bytes, length_bytes, span_limit, probl
 use Rattle.definitions.specs.Tropical.{Trop}
 use Rattle.definitions.specs.Problem.{Problem}
 use Rattle.definitions.specs.Bytes.{Bytes, outcome}
-use Rattle.definitions.specs.ProblemRecord.{AsksOne, engine_kinds, checker_kinds, length_field, kind_field, n_field, m_field, count_field, leads_place, questions_asked, layout_of, header_refusal, header_outcome, problem_refusal, record_refusal, problem_outcome, WithinLayout, WithinLayouts, problem_of, refusal_for, meant}
+use Rattle.definitions.specs.ProblemRecord.{AsksOne, engine_kinds, checker_kinds, length_field, kind_field, n_field, m_field, count_field, layout_of, header_refusal, header_outcome, problem_refusal, record_refusal, problem_outcome, WithinLayout, WithinLayouts, problem_of, refusal_for, meant}
 use Rattle.definitions.specs.AnswerRecord.{Answer, answer_refusal, answer_outcome, answer_of, answer_header_refusal, class_field, span_field, start_field, answer_size, answer_bytes, writer_refusal, writer_outcome, written}
 use Rattle.definitions.specs.Verdict as Verdicts
 use Rattle.definitions.specs.Verdict.{Judged, turned_away, certified, uncertified, check_refusal}
@@ -30,27 +30,23 @@ use Rattle.definitions.proofs.AnswerFits.{answer_fits, form_fits}
 use Rattle.definitions.proofs.RoundTrip.{span_within}
 use Rattle.definitions.proofs.IdleDay.{meant_some}
 use Rattle.definitions.proofs.Inputs.{kept_whole, kept_at, header_agrees, header_most, n_agrees, m_agrees, span_read, verdict_read}
-use Rattle.records.specs.declared.problem.Header.{Header}
-use Rattle.records.specs.declared.problem.Header.TheVariants as Headers
-use Rattle.records.specs.ProblemHeader.{header_of, problem_refused}
+use Rattle.std.specs.Prelude.{Result, Ok, Err}
+use Rattle.records.specs.declared.refusal.Refusal.{Refusal}
+use Rattle.records.specs.Refusals.{number_of}
+use Rattle.records.specs.ProblemHeader.{layout_in, header_of}
 use Rattle.definitions.proofs.Solved.{none_refused, one_asked}
 use Rattle.problem_records.specs.Tables.{left_table, right_table}
-use Rattle.answer_reader.specs.declared.answer.Head.{Head}
-use Rattle.answer_reader.specs.declared.answer.AnswerHead.{AnswerHead}
-use Rattle.answer_reader.specs.declared.answer.AnswerHead.TheVariants as Heads
 use Rattle.answer_reader.specs.Fields.{fields_of, stamps_of, picks_of}
-use Rattle.answer_reader.specs.AnswerReading.{head_of, told_by, head_in}
+use Rattle.answer_reader.specs.AnswerReading.{told_by, head_in}
 use Rattle.answer_reader.proofs.Judging.{span_meant}
 use Rattle.answer_reader.proofs.Passing.{stamps_at_length, picks_at_length}
 use Rattle.answer_reader.proofs.ByClass.{stamps_most, picks_most}
-use Rattle.answer_writer.specs.declared.writer.Written.{Written}
-use Rattle.answer_writer.specs.declared.writer.Written.TheVariants as Writes
-use Rattle.answer_writer.specs.AnswerWriting.{written_of, unless_refused}
-use Rattle.engine.specs.declared.solve.Solved.{Solved}
-use Rattle.engine.specs.declared.solve.Solved.TheVariants as Solutions
+use Rattle.answer_writer.specs.AnswerWriting.{unless_refused}
+use Rattle.answer_writer.proofs.Writing.{kept_if}
+use Rattle.engine.specs.declared.solve.Solution.{Solution}
+use Rattle.engine.specs.declared.solve.Solution.TheVariants.{One, All}
 use Rattle.engine.specs.Outcome.{solved_of}
-use Rattle.checker.specs.declared.check.Verdict.{Verdict}
-use Rattle.checker.specs.declared.check.Verdict.TheVariants as Turned
+use Rattle.checker.specs.declared.check.Certified.{Certified}
 use Rattle.checker.specs.Outcome.{verdict_of}
 use Rattle.checker.proofs.Judgement.{the_checker, the_checker_judges}
 use Rattle.checker.proofs.Verdicts.{HeaderRead, turned}
@@ -58,48 +54,14 @@ use Rattle.checker.proofs.Decided.{pad, padded}
 use Rattle.checker.proofs.LongInputs.{kept_longer, judged_long, long_past, long_cut, header_turned, long_refused, long_answered, header_small, problem_kept}
 use Rattle.guarantees.specs.Entries as Entries
 use Rattle.guarantees.specs.Entries.{Solve, Check, ReadProblem, ReadAnswer, WriteAnswer, WriterFields}
+use Rattle.guarantees.proofs.Numbered.{refusal_at, refusal_back, result_by, result_back, header_few, problem_few, answer_few, check_few, writer_few, engine_few, the_layout, layout_back, class_found}
 use Rattle.guarantees.proofs.Handing.{number_for, number_back, within_numbered}
 use Rattle.duality.proofs.SmallLeads.{layout_within}
 use Rattle.guarantees.proofs.Solvable.{answer_exists}
 use Rattle.guarantees.proofs.Contracts.{engine_of, checker_of, problem_reader_of, reader_of, writer_of, program_of}
 use Rattle.guarantees.proofs.Demands.{demands}
 
--- ---- cases of the code by numbers
-
--- The case of each enum that a refusal's number, 0 for none, and what is given have.
-header_by : ℕ → List ℕ → Header
-header_by zero s =
-    Headers.Told (record { kind = kind_field s; n = n_field s; m = m_field s; leads = leads_place (kind_field s) (m_field s); questions = questions_asked (kind_field s) (count_field s) })
-header_by (suc k) s = Headers.Refused (suc k)
-
-header_by_lem : (k : ℕ) (s : List ℕ) → header_of (header_by k s) ≡ outcome k (layout_of s)
-unfolding header_by header_of outcome
-header_by_lem zero s = refl
-header_by_lem (suc k) s = refl
-
-head_by : ℕ → Head → AnswerHead
-head_by zero head = Heads.Fields head
-head_by (suc k) head = Heads.Refused (suc k)
-
-head_by_lem : (k : ℕ) (head : Head) → head_of (head_by k head) ≡ outcome k (told_by head)
-unfolding head_by head_of outcome
-head_by_lem zero head = refl
-head_by_lem (suc k) head = refl
-
-written_by : ℕ → ℕ → Written
-written_by zero size = Writes.Record size
-written_by (suc k) size = Writes.Refused (suc k)
-
-written_by_lem : (k size : ℕ) → written_of (written_by k size) ≡ outcome k size
-unfolding written_by written_of outcome
-written_by_lem zero size = refl
-written_by_lem (suc k) size = refl
-
-unless_refused_lem : (k : ℕ) (before after : List ℕ) → 0 < k → unless_refused k before after ≡ before
-unfolding unless_refused
-unless_refused_lem zero before after h = absurd (omega arith)
-unless_refused_lem (suc k) before after h = refl
-
+-- Where nothing is refused, what is written stands.
 unless_none : (k : ℕ) (before after : List ℕ) → k ≡ 0 → unless_refused k before after ≡ after
 unfolding unless_refused
 unless_none k before after e = rw e refl
@@ -107,7 +69,7 @@ unless_none k before after e = rw e refl
 -- ---- `solve`
 
 record SomeSolution (p before : List ℕ) : Type 0 where
-  result : Solved
+  result : Result Solution Refusal
   buffer : List ℕ
   solves : Solves p before (solved_of result) buffer
 
@@ -139,21 +101,26 @@ unfolding solved_of problem_of
 solution_exists p before = go (engine_refusal p (length before)) refl
   where
     go : (k : ℕ) → engine_refusal p (length before) ≡ k → SomeSolution p before
-    go (suc k) e = record { result = Solutions.Refused (suc k); buffer = before; solves = Results.turned_away e }
+    go (suc k) e = record {
+      result = Err (refusal_at (suc k));
+      buffer = before;
+      solves = rw (refusal_back (suc k) (omega arith) (omega (arith, engine_few p (length before)))) (Results.turned_away e);
+    }
     go zero e =
         let w = ((none_refused p (length before)).0 e).0 in
         ⊎_elim
         (λ (k : AsksOne p).
         let own : WithinLayout p = sym (one_question p k) ∙ w in
         let s = answer_exists (problem_of p) (problem_fits p own).n_most (layout_within p own) in
+        let c = class_found s.answers.found in
         record {
-          result = Solutions.Answered s.class (number_for s.span) s.trials (answer_size s.class (n_field p) (m_field p));
+          result = Ok (One (record { class = c.class; span = number_for s.span; trials = s.trials; size = answer_size s.class (n_field p) (m_field p) }));
           buffer = written before (answer_bytes (n_field p) s.answer);
-          solves = rw (number_back s.span (span_numbered s.answers)) (Results.solved s.answer k e s.answers);
+          solves = rw (c.is, number_back s.span (span_numbered s.answers)) (Results.solved s.answer k e s.answers);
         })
         (λ (k : kind_field p ≡ questions_kind).
         let s = answers_exist p k w (count_field p) (omega arith) in
-        record { result = Solutions.AllAnswered (count_field p) s.trials (length s.bytes); buffer = written before s.bytes; solves = Results.all_solved k e s.turn })
+        record { result = Ok (All (count_field p) s.trials (length s.bytes)); buffer = written before s.bytes; solves = Results.all_solved k e s.turn })
         (either_kind p w)
 
 pub the_solve : Solve
@@ -165,37 +132,38 @@ the_solve = record {
 
 -- ---- `check`
 
--- The case of a verdict.
-verdict_by : Verdicts.Verdict → Verdict
-verdict_by (Verdicts.accepted class span) = Turned.Accepted class (number_for span)
-verdict_by (Verdicts.refused k) = Turned.Refused k
+-- What the code gives for a verdict.
+verdict_by : Verdicts.Verdict → Result Certified Refusal
+verdict_by (Verdicts.accepted class span) = Ok (record { class = class; span = number_for span })
+verdict_by (Verdicts.refused k) = Err (refusal_at k)
 
-verdict_by_lem : {p a : List ℕ} {v : Verdicts.Verdict} → Judged p a v → verdict_of (verdict_by v) ≡ v
-unfolding verdict_by verdict_of check_refusal answer_of
-verdict_by_lem (turned_away e) = refl
-verdict_by_lem {p} {a} (certified e h) =
+verdict_back : {p a : List ℕ} {v : Verdicts.Verdict} → Judged p a v → verdict_of (verdict_by v) ≡ v
+unfolding verdict_by check_refusal answer_of
+verdict_back {p} {a} (turned_away {k = k} e) = ap Verdicts.refused (refusal_back (suc k) (omega arith) (omega (arith, check_few p a)))
+verdict_back {p} {a} (certified e h) =
     let fits = (answer_fits a (n_field p) (m_field p)).0 ((or_else_none (problem_refusal p) _).0 e).1 in
     ap (Verdicts.accepted (class_field a)) (number_back (span_field a) (within_numbered span_limit (span_field a) (omega arith) (span_within (class_field a) (span_field a) fits.form.span_fits_is)))
-verdict_by_lem (uncertified e h) = refl
+verdict_back (uncertified e h) = ap Verdicts.refused (refusal_back 14 (omega arith) (omega arith))
 
 pub the_check : Check
 the_check = record {
   verdict = λ p a. verdict_by (the_checker p a);
-  contract = λ p a b c. let j = the_checker_judges p a b c in rw (verdict_by_lem j) j;
+  contract = λ p a b c. let j = the_checker_judges p a b c in rw (verdict_back j) j;
 }
 
 -- ---- `read_problem`
 
 pub the_read_problem : (left₀ right₀ : List ℕ) → ReadProblem left₀ right₀
-unfolding problem_outcome
+unfolding problem_outcome refusal_for
 the_read_problem left₀ right₀ = record {
-  header = λ p. header_by (record_refusal (meant p)) (meant p);
+  header = λ p. result_by (record_refusal (meant p)) (the_layout (meant p));
   left = λ p. unless_refused (record_refusal (meant p)) left₀ (left_table (asking (meant p) 0));
   right = λ p. unless_refused (record_refusal (meant p)) right₀ (right_table (asking (meant p) 0));
   contract = λ p b. record {
-    result = header_by_lem (record_refusal (meant p)) (meant p);
-    left_kept = λ h. unless_refused_lem (record_refusal (meant p)) left₀ (left_table (asking (meant p) 0)) h;
-    right_kept = λ h. unless_refused_lem (record_refusal (meant p)) right₀ (right_table (asking (meant p) 0)) h;
+    result = result_back layout_in (record_refusal (meant p)) (the_layout (meant p)) (layout_of (meant p)) (problem_few engine_kinds (meant p))
+        (λ e. layout_back engine_kinds (meant p) (length (meant p)) ((or_else_none (header_refusal engine_kinds (meant p) (length (meant p))) _).0 e).0);
+    left_kept = λ h. sym (kept_if (record_refusal (meant p)) left₀ (left_table (asking (meant p) 0)) h);
+    right_kept = λ h. sym (kept_if (record_refusal (meant p)) right₀ (right_table (asking (meant p) 0)) h);
     left_read = λ w. unless_none (record_refusal (meant p)) left₀ (left_table (asking (meant p) 0)) w;
     right_read = λ w. unless_none (record_refusal (meant p)) right₀ (right_table (asking (meant p) 0)) w;
   };
@@ -206,12 +174,13 @@ the_read_problem left₀ right₀ = record {
 pub the_read_answer : (stamps₀ picks₀ : List ℕ) → ReadAnswer stamps₀ picks₀
 unfolding answer_outcome answer_of stamps_of picks_of
 the_read_answer stamps₀ picks₀ = record {
-  head = λ s n m. head_by (answer_refusal s n m) (head_in s);
+  head = λ s n m. result_by (answer_refusal s n m) (head_in s);
   stamps = λ s n m. unless_refused (answer_refusal s n m) stamps₀ (pad 32 (stamps_of s n));
   picks = λ s n m. unless_refused (answer_refusal s n m) picks₀ (pad 64 (picks_of s n m));
   contract = λ s n m b v w. record {
-    answered = head_by_lem (answer_refusal s n m) (head_in s) ∙ ap (λ (x : Trop). outcome (answer_refusal s n m) (class_field s, x, start_field s)) (span_meant b.bytes n m);
-    kept = λ d. let some = above (answer_refusal s n m) d in (unless_refused_lem (answer_refusal s n m) stamps₀ _ some, unless_refused_lem (answer_refusal s n m) picks₀ _ some);
+    answered = result_back told_by (answer_refusal s n m) (head_in s) (class_field s, span_field s, start_field s) (answer_few s n m)
+        (λ e. ap (λ (x : Trop). (class_field s, x, start_field s)) (span_meant b.bytes n m));
+    kept = λ d. let some = above (answer_refusal s n m) d in (sym (kept_if (answer_refusal s n m) stamps₀ _ some), sym (kept_if (answer_refusal s n m) picks₀ _ some));
     stamps_read = λ e. rw (unless_none (answer_refusal s n m) stamps₀ (pad 32 (stamps_of s n)) e)
         (padded 32 (stamps_of s n) (rw stamps_at_length (stamps_most (class_field s) n ((answer_fits s n m).0 e).n_most)));
     picks_read = λ e. let f = (answer_fits s n m).0 e in rw (unless_none (answer_refusal s n m) picks₀ (pad 64 (picks_of s n m)) e)
@@ -224,19 +193,16 @@ the_read_answer stamps₀ picks₀ = record {
 
 -- ---- `write_answer`
 
--- The refusal of what is handed over, and the answer that it means.
+-- The answer that is meant by what is handed over.
 abbrev meant_by : WriterFields → Answer
 meant_by f = fields_of f.head f.stamps f.picks
-
-abbrev refused_by : WriterFields → List ℕ → ℕ
-refused_by f before = writer_refusal (meant_by f) f.n f.m (length before)
 
 pub the_write_answer : WriteAnswer
 unfolding writer_outcome
 the_write_answer = record {
-  result = λ f before. written_by (refused_by f before) (answer_size f.head.class f.n f.m);
-  buffer = λ f before. unless_refused (refused_by f before) before (written before (answer_bytes f.n (meant_by f)));
-  contract = λ f before h b. record { answered = written_by_lem (refused_by f before) (answer_size f.head.class f.n f.m); buffer = refl };
+  result = λ f before. result_by (writer_refusal (meant_by f) f.n f.m (length before)) (answer_size f.head.class f.n f.m);
+  buffer = λ f before. unless_refused (writer_refusal (meant_by f) f.n f.m (length before)) before (written before (answer_bytes f.n (meant_by f)));
+  contract = λ f before h b. record { answered = result_back (λ size. size) _ _ _ (writer_few (meant_by f) f.n f.m (length before)) (λ e. refl); buffer = refl };
 }
 
 -- ---- `answer` of the span program
@@ -329,18 +295,20 @@ module _ (kept : List ℕ) (size : ℕ) (h : kept_bytes < size) (cut : length_fi
   end : ℕ
   end = length_field kept + length_bytes
 
-  header_numbered : (k : ℕ) → header_refusal checker_kinds kept end ≡ k → header_of (header_by k kept) ≡ header_outcome checker_kinds kept end
+  header_numbered : (k : ℕ) → header_refusal checker_kinds kept end ≡ k → header_of (result_by k (the_layout kept)) ≡ header_outcome checker_kinds kept end
   unfolding header_outcome
-  header_numbered k e = header_by_lem k kept ∙ ap (λ (i : ℕ). outcome i (layout_of kept)) (sym e)
+  header_numbered k e =
+      result_back layout_in k (the_layout kept) (layout_of kept) (omega (arith, e, header_few checker_kinds kept end)) (λ z. layout_back checker_kinds kept end (e ∙ z))
+      ∙ ap (λ (i : ℕ). outcome i (layout_of kept)) (sym e)
 
   -- Its problem is refused by its header, by a lead, or its answer by its header.
   verdict_cut : KeptVerdict kept size
-  unfolding end header_by problem_refused check_refusal
+  unfolding end result_by the_layout check_refusal
   verdict_cut = by_header (header_refusal checker_kinds kept end) refl
     where
       by_answer : header_refusal checker_kinds kept end ≡ 0 → problem_refusal (take end kept) ≡ 0 → KeptVerdict kept size
       by_answer e w =
-          let small = header_small kept end {header = header_by 0 kept} (header_numbered 0 e) refl in
+          let small = header_small kept end (header_numbered 0 e) refl in
           let some = long_refused (drop end kept) (size - end) (n_field kept) (m_field kept) small.2 small.3 (omega (arith, small.1)) in
           let same : (i : ℕ) → i < problem_header → get_or (take end kept) i 0 ≡ get_or kept i 0 = λ i b. get_or-take end kept i 0 (omega (arith, small.0)) in
           let read : HeaderRead (take end kept) (n_field kept) (m_field kept) =
@@ -356,7 +324,7 @@ module _ (kept : List ℕ) (size : ℕ) (h : kept_bytes < size) (cut : length_fi
       by_problem : header_refusal checker_kinds kept end ≡ 0 → (j : ℕ) → problem_refusal (take end kept) ≡ j → KeptVerdict kept size
       by_problem e zero w = by_answer e w
       by_problem e (suc j) w =
-          let small = header_small kept end {header = header_by 0 kept} (header_numbered 0 e) refl in
+          let small = header_small kept end (header_numbered 0 e) refl in
           record {
             verdict = Verdicts.refused (suc j);
             judged = λ b l input k.
@@ -368,10 +336,10 @@ module _ (kept : List ℕ) (size : ℕ) (h : kept_bytes < size) (cut : length_fi
       by_header : (k : ℕ) → header_refusal checker_kinds kept end ≡ k → KeptVerdict kept size
       by_header zero e = by_problem e (problem_refusal (take end kept)) refl
       by_header (suc k) e = record {
-        verdict = Verdicts.refused (suc k);
+        verdict = Verdicts.refused (number_of (refusal_at (suc k)));
         judged = λ b l input f.
             let longer = kept_longer f h in
-            judged_long input (omega (arith, longer.size_is)) (long_cut longer h cut) (header_turned longer cut {header = header_by (suc k) kept} (header_numbered (suc k) e) refl refl);
+            judged_long input (omega (arith, longer.size_is)) (long_cut longer h cut) (header_turned longer cut (refusal_at (suc k)) (header_numbered (suc k) e));
       }
 
 verdict_kept : (kept : List ℕ) (size : ℕ) → KeptVerdict kept size

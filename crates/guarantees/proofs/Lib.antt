@@ -16,6 +16,7 @@ pub mod Solvable
 pub mod DeskGoes
 pub mod Seen
 pub mod DeskCalls
+pub mod Numbered
 pub mod Inhabited
 pub mod OneAnswer
 pub mod OwnCalls

@@ -1,11 +1,9 @@
 -- An engine whose result and buffer are those of the contract of `engine::solve::solve` writes what depends on the record alone.
 use Prim.Native.Nat.{ℕ, suc, ◌≤◌, ◌<◌}
 use mathlib.Core.Path.{◌≡◌, refl, sym, ap, ap₂, ◌∙◌}
-use mathlib.Core.Bool.{false≢true}
 use mathlib.Core.List.{List, ◌++◌}
 use native.Mathlib.Omega.{arith}
 use native.Mathlib.Nat.{zero-add}
-use borrow.Author.Tests.{eq-eqb}
 use lib.ListN.{length, take}
 use Rattle.definitions.specs.Limits.{questions_kind, answer_most}
 use Rattle.definitions.specs.ProblemRecord.{engine_kinds, meant, AsksOne, WithinLayouts, kind_field, count_field, n_field}
@@ -23,7 +21,7 @@ use Rattle.duality.proofs.Classes.{found_one}
 use Rattle.engine.specs.Outcome.{solved_of, Gives, GivesInTurn, Writes}
 use Rattle.engine.proofs.One.{gives_one, gives_in_turn_one}
 use Rattle.guarantees.specs.Entries.{SolveGiving}
-use Rattle.guarantees.proofs.Engine.{within_itself, alone_slice}
+use Rattle.guarantees.proofs.Engine.{one_not_several, within_itself, alone_slice}
 
 -- What an engine does with a record: document 01's result and buffer, and the answers that are given.
 pub record SolvesGiving (engine : Engine) : Type 0 where
@@ -39,9 +37,6 @@ not_refused : {p before after : List ℕ} {r : Solved} {k : ℕ} → Solves p be
 not_refused (Results.turned_away e) h f = let z : suc _ ≡ 0 = sym e ∙ h in omega arith
 not_refused (Results.solved a k e ans) h f = let z : ◌≡◌ {A = ℕ} 0 1 = cc in omega arith
 not_refused (Results.all_solved k e t) h f = let z : ◌≡◌ {A = ℕ} 0 1 = cc in omega arith
-
-one_not_several : (p : List ℕ) → AsksOne p → kind_field p ≡ questions_kind → ⊥
-one_not_several p a k = false≢true (sym a ∙ eq-eqb (kind_field p) questions_kind k)
 
 -- Two calls with a record.
 written_one : {p x y a b : List ℕ} {r s : Solved} → Writes p x r a → Writes p y s b → ((k : ℕ) → r ≡ Results.refused k → ⊥) → ((k : ℕ) → s ≡ Results.refused k → ⊥)

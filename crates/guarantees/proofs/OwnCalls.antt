@@ -1,14 +1,12 @@
 -- What the calls of the code give is what every function of the demands gives: verdict and result have one value.
 use Prim.Native.Nat.{ℕ, ◌+◌, ◌≤◌}
 use mathlib.Core.Path.{◌≡◌, refl, sym, ap, ap₂, subst, ◌∙◌}
-use mathlib.Core.Bool.{false≢true}
 use mathlib.Core.List.{List}
 use native.Mathlib.Omega.{arith}
 use lib.ListN.{length, length-append}
-use borrow.Author.Tests.{eq-eqb}
 use Rattle.definitions.specs.Limits.{answer_most, questions_kind}
 use Rattle.definitions.specs.Tropical.{Trop}
-use Rattle.definitions.specs.ProblemRecord.{meant, AsksOne, WithinLayouts, problem_of, kind_field, n_field, m_field, count_field}
+use Rattle.definitions.specs.ProblemRecord.{meant, WithinLayouts, problem_of, kind_field, n_field, m_field, count_field}
 use Rattle.definitions.specs.Questions.{alone}
 use Rattle.definitions.specs.AnswerRecord.{Answer, answer_size, answer_bytes, written}
 use Rattle.definitions.specs.Verdict.{Verdict, Judged}
@@ -19,10 +17,13 @@ use Rattle.definitions.proofs.RoundTrip.{answer_length}
 use Rattle.definitions.proofs.Solved.{OneAsked, one_asked, none_refused, answer_takes}
 use Rattle.duality.proofs.Classes.{found_one}
 use Rattle.checker.proofs.Judgement.{judged_unique}
-use Rattle.engine.specs.declared.solve.Solved.{Solved}
+use Rattle.std.specs.Prelude.{Result}
+use Rattle.records.specs.declared.refusal.Refusal.{Refusal}
+use Rattle.engine.specs.declared.solve.Solution.{Solution}
 use Rattle.engine.specs.Outcome.{solved_of, SolvedAs, Writes}
 use Rattle.engine.proofs.One.{gives_one, gives_in_turn_one}
 use Rattle.guarantees.specs.Called.{CheckCalled, SolveCalled}
+use Rattle.guarantees.proofs.Engine.{one_not_several}
 
 -- ---- the result alone, by document 01
 
@@ -47,10 +48,6 @@ turns_one {p} k w h (Results.one_more {q = q} {class = class} {bytes = x} a t f)
     sized p {q} {a = a} o f =
         rw (← o.n_is, ← o.m_is) (answer_length a (n_field (alone p q)) (m_field (alone p q)) answer_most (answer_takes (alone p q) o.within a f)
         ∙ ap (λ (c : ℕ). answer_size c (n_field (alone p q)) (m_field (alone p q))) f.class_is)
-
--- A record asks one question or several, not both.
-one_not_several : (p : List ℕ) → AsksOne p → kind_field p ≡ questions_kind → ⊥
-one_not_several p a k = false≢true (sym a ∙ eq-eqb (kind_field p) questions_kind k)
 
 -- Class, span, trials and size have one value, whatever is free in the answer.
 pub solves_one : {p x a b : List ℕ} {r s : Results.Solved} → Solves p x r a → Solves p x s b → r ≡ s
@@ -82,7 +79,7 @@ writes_one {p} {x} (Writes.several k t) (Writes.several l u) e = ap (written x) 
 pub check_called : {p a : List ℕ} {v : Verdict} → Slice p → Slice a → Judged (meant p) a v → CheckCalled p a v
 check_called {p} {a} b c j = record { judged = j; every = λ check m. judged_unique (m p a b c) j }
 
-pub solve_called : {p before after : List ℕ} {r : Solved} → Slice p → Slice before → SolvedAs (meant p) before r after → SolveCalled p before (solved_of r) after
+pub solve_called : {p before after : List ℕ} {r : Result Solution Refusal} → Slice p → Slice before → SolvedAs (meant p) before r after → SolveCalled p before (solved_of r) after
 solve_called {p} {before} b c s = record {
   solves = s.solves;
   every = λ engine m. solves_one (m p before b c) s.solves;

@@ -2,15 +2,13 @@
 -- with the class and span of the theory.
 use Prim.Native.Nat.{ℕ, suc, ◌+◌}
 use mathlib.Core.Path.{◌≡◌, refl, ap, sym, ◌∙◌}
-use mathlib.Core.Bool.{false≢true}
-use borrow.Author.Tests.{eq-eqb}
 use mathlib.Core.List.{List, ◌++◌}
 use native.Mathlib.Omega.{arith}
 use lib.ListN.{length, length-append}
 use lib.Seq.{take-append_seam, drop-append_seam}
-use Rattle.definitions.specs.Limits.{kept_bytes, length_bytes, questions_kind}
+use Rattle.definitions.specs.Limits.{kept_bytes, length_bytes}
 use Rattle.definitions.specs.Bytes.{Bytes}
-use Rattle.definitions.specs.ProblemRecord.{WithinLayout, kind_field, length_field}
+use Rattle.definitions.specs.ProblemRecord.{WithinLayout, length_field}
 use Rattle.definitions.specs.Programs as Programs
 use Rattle.definitions.specs.Programs.{SpanOutput, VerdictOutput, ReadFrom, verdict_line, cut_place, problem_part, answer_part}
 use Rattle.definitions.specs.Demands.{Word, Program, ProgramsAnswer}
@@ -18,7 +16,7 @@ use Rattle.definitions.proofs.Bytes.{num_at_front}
 use Rattle.definitions.proofs.Inputs.{cut_inside}
 use Rattle.definitions.proofs.Layouts.{problem_fits, within_asks, one_question}
 use Rattle.guarantees.specs.Pipe.{Piped}
-use Rattle.guarantees.proofs.Engine.{verdict_on, within_itself}
+use Rattle.guarantees.proofs.Engine.{one_not_several, verdict_on, within_itself}
 
 -- ---- where a problem with bytes behind it is cut
 
@@ -46,7 +44,7 @@ module _ (p rest : List ℕ) (w : WithinLayout p) where
 pub span_then_verdict : (p out line : List ℕ) → WithinLayout p → SpanOutput p out → VerdictOutput (p ++ out) line → Piped p out line
 span_then_verdict p out line w (Programs.refusal e) v =
     absurd (let z : suc _ ≡ 0 = sym e ∙ one_question p (within_asks p w) ∙ w in omega arith)
-span_then_verdict p out line w (Programs.answers k e turn) v = absurd (false≢true (sym (within_asks p w) ∙ eq-eqb (kind_field p) questions_kind k))
+span_then_verdict p out line w (Programs.answers k e turn) v = absurd (one_not_several p (within_asks p w) k)
 span_then_verdict p out line w (Programs.answer a k e ans) v =
     record {
       within = w;

@@ -1,5 +1,5 @@
 -- The desk as its caller sees it: what document 02, 2.11 says of the code's calls, one after another since an opening (`SinceOpening`).
-use Rattle.std.specs.Prelude.{ℕ, suc, ◌+◌, ◌≤◌, ◌<◌, ◌≡◌, cond, ◌⊎◌, List, [], ◌∷◌, ◌++◌, eqb, length}
+use Rattle.std.specs.Prelude.{ℕ, suc, ◌+◌, ◌≤◌, ◌<◌, ◌≡◌, cond, ◌⊎◌, List, [], ◌∷◌, ◌++◌, eqb, length, Result, Ok}
 use Rattle.definitions.specs.Limits.{most_trials, desk_steps, answer_most, refused_room, refused_ticket}
 use Rattle.definitions.specs.Tropical.{Trop}
 use Rattle.definitions.specs.ProblemRecord.{problem_of, meant, n_field, m_field}
@@ -8,8 +8,8 @@ use Rattle.definitions.specs.Solved.{Found, answered}
 use Rattle.definitions.specs.Verdict.{accepted}
 use Rattle.definitions.specs.Demands.{Slice, Checker}
 use Rattle.definitions.specs.Desk.{opened}
-use Rattle.engine.specs.declared.solve.Solved.{Solved}
-use Rattle.engine.specs.declared.one_trial.Begun.{Begun}
+use Rattle.records.specs.declared.refusal.Refusal.{Refusal}
+use Rattle.engine.specs.declared.solve.Solution.{Solution}
 use Rattle.engine.specs.declared.one_trial.Pending.{Pending}
 use Rattle.engine.specs.OneTrial.{PendingFor, BegunFor, TrialFor}
 use Rattle.engine.specs.Outcome.{solved_of, Gives, SolvedAs}
@@ -98,7 +98,7 @@ pub record HandedOver (check : Checker) (p before : List ℕ) (number : ℕ) (af
   pub buffer_is : after ≡ written before bytes
   pub accepted_is : Slice p → check p bytes ≡ accepted class span
   pub solve_writes :
-      {buffer solved : List ℕ} {r : Solved} → answer_most ≤ length buffer → SolvedAs (meant p) buffer r solved
+      {buffer solved : List ℕ} {r : Result Solution Refusal} → answer_most ≤ length buffer → SolvedAs (meant p) buffer r solved
       → (solved_of r ≡ answered class span own (length bytes)) × (solved ≡ written buffer bytes)
 
 -- ---- the laws
@@ -147,11 +147,11 @@ pub record DeskCalls (check : Checker) : Type 0 where
 
 -- `engine::one_trial::begin` and `one_trial` as functions; and the problems under way that they lead to from the bytes p.
 pub record TrialCalls : Type 0 where
-  pub begin : List ℕ → Begun
+  pub begin : List ℕ → Result Pending Refusal
   pub trial : List ℕ → Pending → Pending
 
 pub data LeadTo (calls : TrialCalls) (p : List ℕ) : Pending → Type 0 where
-  begun : LeadTo calls p (calls.begin p).pending
+  begun : {q : Pending} → calls.begin p ≡ Ok q → LeadTo calls p q
   tried : {q : Pending} → LeadTo calls p q → LeadTo calls p (calls.trial p q)
 
 -- Their contracts, for whatever can be handed over.

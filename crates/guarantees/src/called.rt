@@ -4,18 +4,19 @@ ghost use Rattle.checker.specs.Outcome.{verdict_of};
 ghost use Rattle.engine.specs.Outcome.{solved_of};
 ghost use Rattle.guarantees.specs.Called.{CheckCalled, SolveCalled};
 
-use checker::check::{Verdict, check};
-use engine::solve::{Solved, solve};
+use checker::check::{Certified, check};
+use engine::solve::{Solution, solve};
+use records::refusal::Refusal;
 
 // The checker's verdict.
-pub fn checked(problem: &[u8], answer: &[u8]) -> Verdict
+pub fn checked(problem: &[u8], answer: &[u8]) -> Result<Certified, Refusal>
     ensures { CheckCalled problem.now answer.now (verdict_of result) }
 {
     check(problem, answer)
 }
 
 // The engine's result, and the buffer afterwards.
-pub fn solved(problem: &[u8], answer: &mut [u8]) -> Solved
+pub fn solved(problem: &[u8], answer: &mut [u8]) -> Result<Solution, Refusal>
     ensures { SolveCalled problem.now answer.old (solved_of result) answer.new }
 {
     solve(problem, answer)

@@ -5,30 +5,20 @@ ghost use Rattle.answer_reader.specs.AnswerReading.{head_of, AnswerRead};
 ghost use Rattle.guarantees.specs.OwnAnswers.{OwnVerdict, OwnReading};
 ghost use Rattle.checker.specs.Outcome.{verdict_of};
 
-use answer_reader::answer::{AnswerHead, read_answer};
-use checker::check::{Verdict, check};
-use engine::solve::{Solved, solve};
-use records::limits::{REFUSED_KIND, ROWS, STRIDE};
-use records::problem::{CHECKER_KINDS, Header, read_header};
+use answer_reader::answer::{Head, read_answer};
+use checker::check::{Certified, check};
+use engine::solve::{Solution, solve};
+use records::limits::{ROWS, STRIDE};
+use records::problem::{CHECKER_KINDS, read_header};
+use records::refusal::Refusal;
 
 // The engine, then the checker on what it wrote: accepted, with the engine's class and span.
-pub fn solve_then_check(problem: &[u8], answer: &mut [u8]) -> Verdict
+pub fn solve_then_check(problem: &[u8], answer: &mut [u8]) -> Result<Certified, Refusal>
     ensures { OwnVerdict (meant problem.now) answer.old (verdict_of result) answer.new }
 {
-    let solved = solve(problem, answer);
-    match solved {
-        Solved::Refused(k) => Verdict::Refused(k),
-        Solved::Answered {
-            class: _,
-            span: _,
-            trials: _,
-            size,
-        } => check(problem, &answer[..size]),
-        Solved::AllAnswered {
-            count: _,
-            trials: _,
-            size: _,
-        } => Verdict::Refused(REFUSED_KIND),
+    match solve(problem, answer)? {
+        Solution::One(one) => check(problem, &answer[..one.size]),
+        Solution::All { .. } => Err(Refusal::Kind),
     }
 }
 
@@ -38,17 +28,14 @@ fn read_own(
     written: &[u8],
     stamps: &mut [u64; STRIDE],
     picks: &mut [u64; ROWS],
-) -> AnswerHead
+) -> Result<Head, Refusal>
     ensures { WithinLayout (meant problem.now) → AnswerRead written.now (n_field (meant problem.now)) (m_field (meant problem.now)) result stamps.old stamps.new picks.old picks.new }
 {
-    if problem.len() == 0 {
+    if problem.is_empty() {
         return read_answer(written, 0, 0, stamps, picks);
     }
-    let header = read_header(problem, problem.len(), CHECKER_KINDS);
-    match header {
-        Header::Refused(k) => AnswerHead::Refused(k),
-        Header::Told(layout) => read_answer(written, layout.n, layout.m, stamps, picks),
-    }
+    let layout = read_header(problem, problem.len(), CHECKER_KINDS)?;
+    read_answer(written, layout.n, layout.m, stamps, picks)
 }
 
 // The engine, then the reader on what it wrote: the engine's class and span, the start, and its stamps and picks in two arrays.
@@ -57,22 +44,11 @@ pub fn solve_then_read(
     answer: &mut [u8],
     stamps: &mut [u64; STRIDE],
     picks: &mut [u64; ROWS],
-) -> AnswerHead
+) -> Result<Head, Refusal>
     ensures { OwnReading (meant problem.now) answer.old stamps.old picks.old (head_of result) answer.new stamps.new picks.new }
 {
-    let solved = solve(problem, answer);
-    match solved {
-        Solved::Refused(k) => AnswerHead::Refused(k),
-        Solved::Answered {
-            class: _,
-            span: _,
-            trials: _,
-            size,
-        } => read_own(problem, &answer[..size], stamps, picks),
-        Solved::AllAnswered {
-            count: _,
-            trials: _,
-            size: _,
-        } => AnswerHead::Refused(REFUSED_KIND),
+    match solve(problem, answer)? {
+        Solution::One(one) => read_own(problem, &answer[..one.size], stamps, picks),
+        Solution::All { .. } => Err(Refusal::Kind),
     }
 }
