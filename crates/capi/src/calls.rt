@@ -1,5 +1,5 @@
 // The engine and the checker, with results as one number: the low byte is the refusal, 0 where there is none.
-ghost use Rattle.std.specs.Prelude.{◌≡◌, ◌≤◌, ◌<◌};
+ghost use Rattle.std.specs.Prelude.{◌≡◌};
 ghost use Rattle.definitions.specs.ProblemRecord.{meant};
 ghost use Rattle.checker.specs.Outcome.{verdict_of};
 ghost use Rattle.engine.specs.Outcome.{solved_of};

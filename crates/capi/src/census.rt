@@ -1,5 +1,5 @@
 // A census of small problems (document 02, 2.14), with the counts in lent places.
-ghost use Rattle.std.specs.Prelude.{◌≡◌, [], ◌∷◌};
+ghost use Rattle.std.specs.Prelude.{[], ◌∷◌};
 ghost use Rattle.capi.specs.Census.{CensusAs, CountsAs};
 
 use crate::numbers::TOO_FEW_PLACES;

@@ -1,5 +1,5 @@
 // The answer reader and writer over lent numbers and bytes, with results as one number.
-ghost use Rattle.std.specs.Prelude.{◌≡◌, List, ℕ, ◌≤◌, ◌<◌, length};
+ghost use Rattle.std.specs.Prelude.{◌<◌};
 ghost use Rattle.answer_reader.specs.Fields.{fields_of};
 ghost use Rattle.capi.specs.Numbers.{WritesAs, ReadsAs, PlacesAs, low_byte, low_quarter, low_half, head_with, head_number};
 

@@ -1,5 +1,4 @@
 // The reader and the writer of hours and minutes over lent bytes, with results as one number.
-ghost use Rattle.std.specs.Prelude.{◌≡◌};
 ghost use Rattle.definitions.specs.Offset.{trop_of};
 ghost use Rattle.hour_texts.specs.Outcome.{reading_of};
 ghost use Rattle.capi.specs.Numbers.{Small};

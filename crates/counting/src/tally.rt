@@ -1,5 +1,5 @@
 // The four counts of a census.
-ghost use Rattle.std.specs.Prelude.{◌≡◌, ◌+◌, ◌≤◌, ◌<◌};
+ghost use Rattle.std.specs.Prelude.{◌+◌, ◌<◌};
 ghost use Rattle.definitions.specs.Limits.{census_most};
 ghost use Rattle.counting.specs.Steps.{counts_as, OneMore};
 

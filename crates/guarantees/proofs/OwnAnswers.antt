@@ -13,7 +13,7 @@ use Rattle.definitions.specs.AnswerRecord.{Answer, answer_refusal, answer_outcom
 use Rattle.definitions.specs.Verdict as Verdicts
 use Rattle.definitions.specs.Verdict.{Verdict, accepted, Judged, point_of, strategy_of}
 use Rattle.definitions.specs.Solved as Results
-use Rattle.definitions.specs.Solved.{Solved, answered, Solves, solved, all_solved}
+use Rattle.definitions.specs.Solved.{Solved, Solves, solved, all_solved}
 use Rattle.definitions.proofs.Inputs.{header_none}
 use Rattle.definitions.proofs.IdleDay.{meant_none, meant_some, idle_n, idle_m}
 use Rattle.definitions.proofs.RoundTrip.{answer_back, answer_accepted, answer_bytes_lem}

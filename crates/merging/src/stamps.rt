@@ -1,5 +1,5 @@
 // The stamps of the merged plan: the later of two, where the second is moved back. Stamps are offset numbers.
-ghost use Rattle.std.specs.Prelude.{◌≡◌, false, ℕ, ◌≤◌, ◌<◌};
+ghost use Rattle.std.specs.Prelude.{◌≡◌, false, ◌≤◌, ◌<◌};
 ghost use Rattle.base.specs.Filled.{Filled};
 ghost use Rattle.definitions.specs.Limits.{stamp_limit, word_half, signed_full, stride};
 ghost use Rattle.definitions.specs.Offset.{trop_of};
