@@ -1,7 +1,7 @@
 -- The laws of the desk hold of the code's calls, one after another since an opening.
 use Prim.Native.Nat.{ℕ, zero, suc, ◌+◌, ◌≤◌, ◌<◌}
 use mathlib.Core.Path.{◌≡◌, refl, sym, ap, ap₂, subst, ◌∙◌}
-use mathlib.Core.Bool.{cond, false≢true}
+use mathlib.Core.Bool.{cond}
 use mathlib.Core.Logic.{◌⊎◌, inl, inr, ⊎_elim}
 use mathlib.Core.List.{List, [], ◌∷◌, ◌++◌, append_assoc}
 use native.Mathlib.Omega.{arith}
@@ -9,10 +9,10 @@ use native.Mathlib.Decide.{ℕ_discrete}
 use lib.Dec.{eqb}
 use lib.ListN.{length}
 use borrow.Author.Tests.{eq-eqb, ne_eqb}
-use Rattle.definitions.specs.Limits.{most_trials, desk_steps, answer_most, questions_kind, refused_room, refused_ticket}
+use Rattle.definitions.specs.Limits.{most_trials, desk_steps, answer_most, refused_room, refused_ticket}
 use Rattle.definitions.specs.Tropical.{Trop}
 use Rattle.definitions.specs.Bytes.{first}
-use Rattle.definitions.specs.ProblemRecord.{AsksOne, WithinLayout, kind_field, problem_of, meant, n_field, m_field}
+use Rattle.definitions.specs.ProblemRecord.{AsksOne, WithinLayout, problem_of, meant, n_field, m_field}
 use Rattle.definitions.specs.AnswerRecord.{Answer, answer_size, answer_bytes, written}
 use Rattle.definitions.specs.Solved as Results
 use Rattle.definitions.specs.Solved.{Found, Solves, solved, all_solved, answered, engine_refusal}
