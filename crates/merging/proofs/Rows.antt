@@ -1,5 +1,5 @@
 -- A plan at the rows of two tables: its stamps as low numbers, and what a pass over the rows tells of the problem that stands in the tables.
-use Prim.Native.Nat.{ℕ, suc, ◌+◌, ◌-◌, ◌≤◌, ◌<◌}
+use Prim.Native.Nat.{ℕ, zero, suc, ◌+◌, ◌-◌, ◌≤◌, ◌<◌}
 use mathlib.Core.Path.{◌≡◌, refl, ap, ◌∙◌}
 use mathlib.Core.Bool.{Bool, true, false}
 use mathlib.Core.List.{List, []}
@@ -10,6 +10,7 @@ use Rattle.base.proofs.Numbers.{nat_le_or_lt}
 use borrow.Author.Tests.{ne_eqb}
 use Rattle.base.specs.Decides.{Decides}
 use Rattle.base.proofs.Decides.{said_no}
+use Rattle.definitions.specs.Limits.{stamp_limit}
 use Rattle.definitions.specs.Problem.{Problem, side}
 use Rattle.definitions.specs.Offset.{trop_of}
 use Rattle.definitions.specs.Merging.{KeepsRules}
@@ -23,13 +24,10 @@ use Rattle.merging.specs.Plans.{LowPlan, Stand}
 
 -- ---- low numbers
 
-pub low_blank : {stamp : ℕ} → stamp ≡ 0 → high 0 ≡ stamp
+pub low_is : (stamp : ℕ) → Near stamp_limit stamp → high (stamp - low_half) ≡ stamp
 unfolding high
-low_blank e = rw e refl
-
-pub low_whole : (stamp : ℕ) → low_half < stamp → high (stamp - low_half) ≡ stamp
-unfolding high
-low_whole stamp h = rw (ne_eqb (stamp - low_half) 0 (omega arith)) (omega arith)
+low_is zero near = let e : 0 - low_half ≡ 0 = omega arith in rw e refl
+low_is (suc k) near = let h = near.lo (omega arith) in rw (ne_eqb (suc k - low_half) 0 (omega arith)) (omega arith)
 
 high_zero : high 0 ≡ 0
 unfolding high
@@ -85,8 +83,8 @@ module _ {p : Problem} {n m : ℕ} {left right : List ℕ} (t : InTables p n m l
 -- ---- two answers
 
 -- The one does not hold; or it does, and the other decides.
-pub first_no : {P Q : Type 0} {r : Bool} → Decides P r → r ≡ false → Decides (P × Q) false
-first_no d e = said_no (λ k. d.no e k.0)
+pub first_no : {P Q : Type 0} {r : Bool} → Decides P r → r ≡ false → Decides (P × Q) r
+first_no d e = rw e (said_no (λ k. d.no e k.0))
 
 pub then_second : {P Q : Type 0} {r s : Bool} → Decides P r → r ≡ true → Decides Q s → Decides (P × Q) s
 then_second d e f = record { yes = λ g. (d.yes e, f.yes g); no = λ g k. f.no g k.1 }

@@ -20,11 +20,7 @@ fn low_stamp(stamp: u64) -> u32
     requires { Near stamp_limit stamp }
     ensures { high result ≡ stamp }
 {
-    if stamp == 0 {
-        0
-    } else {
-        (stamp - LOW as u64) as u32
-    }
+    stamp.saturating_sub(LOW as u64) as u32
 }
 
 // The stamps of a plan the same way, then blanks.
@@ -60,9 +56,6 @@ pub fn both_keep(
         count: m,
     };
     let x = low_plan(first, n + 1);
-    if !rows_stand(&rows, &x) {
-        return false;
-    }
     let y = low_plan(second, n + 1);
-    rows_stand(&rows, &y)
+    rows_stand(&rows, &x) && rows_stand(&rows, &y)
 }

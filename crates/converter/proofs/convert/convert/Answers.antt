@@ -13,9 +13,6 @@ returns-in_err-layout c = let p = err_from_is_err_and c.from_residual.result c.f
 pub invariant_of-record : goal.invariant_of-record
 invariant_of-record c = record { stored = stored_of (leads_told converter_kinds c.judge_leads.ensures c.in_ok-layout.was) }
 
-pub size_left-size-requires : goal.size_left-size-requires
-size_left-size-requires c = let st = stored_of (leads_told converter_kinds c.judge_leads.ensures c.in_ok-layout.was) in omega (arith, st.m_most, st.questions_most, c.rules_left-left.ensures.1)
-
 pub returns-then-out-size : goal.returns-then-out-size
 returns-then-out-size c = let t = leads_told converter_kinds c.judge_leads.ensures c.in_ok-layout.was in
     refuses_room _ _ t (size_is (stored_of t) c.rules_left-left.ensures.0 c.size_left-size.ensures.0) (omega arith)

@@ -12,9 +12,6 @@ put_head-requires c = let few = leads_few _ _ _ c.requires.0 in (omega arith, om
 pub loop-number-init : goal.loop-number-init
 loop-number-init c = (headed_start _ _ _ refl c.put_head.ensures, let h = c.default-tally.ensures in tallied_none _ _ _ h.0 h.1.0 h.1.1.0 h.1.1.1)
 
-pub slice_bounds-put_leads-end : goal.slice_bounds-put_leads-end
-slice_bounds-put_leads-end c = sym c.loop-number.invariant.0.size_is
-
 pub put_leads-requires : goal.put_leads-requires
 put_leads-requires c = let few = leads_few _ _ _ c.requires.0 in (omega (arith, few, c.loop-number.invariant.0.size_is), c.requires.0.w_most)
 
@@ -26,9 +23,6 @@ slice_bounds-counted_as-end c = let d = made c.loop-number.number c.requires.0 c
 
 pub counted_as-requires : goal.counted_as-requires
 counted_as-requires c = let d = made c.loop-number.number c.requires.0 c.lead_count-leads.ensures.0 c.loop-number.invariant.0 c.put_leads.ensures in rw d.here d.posed
-
-pub add-requires : goal.add-requires
-add-requires c = omega (arith, c.loop-number.invariant.1.sum_is, c.requires.0.total_most)
 
 pub loop-number-preserved : goal.loop-number-preserved
 loop-number-preserved c = let d = made c.loop-number.number c.requires.0 c.lead_count-leads.ensures.0 c.loop-number.invariant.0 c.put_leads.ensures in

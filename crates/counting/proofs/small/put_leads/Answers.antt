@@ -1,16 +1,9 @@
 use native.Mathlib.Omega.{arith}
-use native.Mathlib.Nat.{mod-lt}
 use Rattle.counting.proofs.Leads.{putting_start, putting_turn, putting_end}
 use Rattle.counting.proofs.small.put_leads.Goals as goal
 
 pub loop-i-init : goal.loop-i-init
 loop-i-init c = putting_start _ _ _ _
-
-pub lead_field-requires : goal.lead_field-requires
-lead_field-requires c = (c.requires.1, mod-lt c.loop-i.rest (omega arith))
-
-pub put_word-requires : goal.put_word-requires
-put_word-requires c = omega (arith, c.loop-i.invariant.same_length)
 
 pub loop-i-preserved : goal.loop-i-preserved
 loop-i-preserved c = putting_turn c.loop-i.invariant (omega arith) c.requires.0 c.lead_field.ensures c.put_word.ensures

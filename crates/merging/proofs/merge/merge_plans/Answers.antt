@@ -37,9 +37,6 @@ invariant_of-pair c =
     let held = held_of c.type_inv.first c.type_inv.second c.stamps_in-x.ensures c.stamps_in-y.ensures pre.first_fits pre.second_fits in
     record { first_stamps = held_first held; second_stamps = held_second held; back_most = c.minutes_back.ensures.1 }
 
-pub merge_back-requires : goal.merge_back-requires
-merge_back-requires c = (read_n_most c.requires.read, c.requires.room_enough)
-
 pub returns : goal.returns
 returns c p read =
     let pre = c.requires in

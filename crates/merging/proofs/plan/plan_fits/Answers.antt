@@ -4,9 +4,6 @@ use borrow.Author.Tests.{ne_eqb}
 use Rattle.merging.proofs.Plans.{plan_missized, plan_sized}
 use Rattle.merging.proofs.plan.plan_fits.Goals as goal
 
-pub slice_bounds-stamps_fit-end : goal.slice_bounds-stamps_fit-end
-slice_bounds-stamps_fit-end c = omega (arith, c.stamps_in.ensures.width_is)
-
 pub returns-then-bytes-count : goal.returns-then-bytes-count
 returns-then-bytes-count c = plan_sized c.args.n (record { byte = λ i. (c.type_inv.bytes i).fits }) c.if-bytes-count.true (omega arith) c.stamps_in.ensures c.stamps_fit.ensures
 

@@ -1,6 +1,6 @@
 use mathlib.Core.Path.{◌∙◌}
 use native.Mathlib.Omega.{arith}
-use Rattle.base.proofs.Filled.{filled_none, filled_more, filled_end}
+use Rattle.base.proofs.Filled.{filled_none, filled_more}
 use Rattle.merging.proofs.Plans.{joined_at, joined_late}
 use Rattle.merging.proofs.stamps.Pair.merged_stamps.Goals as goal
 
@@ -13,6 +13,3 @@ later_of-requires c = let p = c.args.self.now in (p.first_stamps.near _, p.secon
 pub loop-j-preserved : goal.loop-j-preserved
 loop-j-preserved c = let p = c.args.self.now in
     filled_more c.loop-j.invariant (omega arith) (c.later_of.ensures.0 ∙ joined_at p.back p.first.now p.second.now c.loop-j.j, c.later_of.ensures.1)
-
-pub returns : goal.returns
-returns c = filled_end c.loop-j.invariant (omega arith) c.loop-j-test.false
