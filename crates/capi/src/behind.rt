@@ -10,7 +10,8 @@ use crate::numbers::{QUARTER, TOO_FEW_PLACES};
 use grounds::reasons::{Grounds, reasons};
 use records::limits::{BYTE, ROWS, STRIDE};
 
-// Copies numbers to the first of the lent places.
+// Copies numbers to the first of the lent places. By index: `copy_from_slice` changes no type, and of what a loop over an adapter of
+// `iter_mut` wrote the proof knows nothing.
 fn copy_numbers(from: &[usize], to: &mut [u64])
     requires { length from.now ≤ length to.old }
     ensures { to.new ≡ put to.old 0 from.now }
@@ -20,7 +21,8 @@ fn copy_numbers(from: &[usize], to: &mut [u64])
     }
 }
 
-// Both counts as a number, the rules and the moments of the round in the lent places, where there are enough.
+// Both counts as a number, the rules and the moments of the round in the lent places, where there are enough. (One function for this and
+// `fields::lend` would take the way of copying as a closure with clauses: no plainer.)
 fn lend_numbers(
     rules: &[usize],
     round: &[usize],
