@@ -61,7 +61,10 @@ use Rattle.guarantees.proofs.Solvable.{answer_exists}
 use Rattle.guarantees.proofs.Contracts.{engine_of, checker_of, problem_reader_of, reader_of, writer_of, program_of}
 use Rattle.guarantees.proofs.Demands.{demands}
 
--- Where nothing is refused, what is written stands.
+-- A refusal leaves what was; where nothing is refused, what is written stands.
+unless_refused_lem : (k : ℕ) (before after : List ℕ) → 0 < k → unless_refused k before after ≡ before
+unless_refused_lem k before after h = sym (kept_if k before after h)
+
 unless_none : (k : ℕ) (before after : List ℕ) → k ≡ 0 → unless_refused k before after ≡ after
 unfolding unless_refused
 unless_none k before after e = rw e refl
@@ -137,18 +140,18 @@ verdict_by : Verdicts.Verdict → Result Certified Refusal
 verdict_by (Verdicts.accepted class span) = Ok (record { class = class; span = number_for span })
 verdict_by (Verdicts.refused k) = Err (refusal_at k)
 
-verdict_back : {p a : List ℕ} {v : Verdicts.Verdict} → Judged p a v → verdict_of (verdict_by v) ≡ v
+verdict_by_lem : {p a : List ℕ} {v : Verdicts.Verdict} → Judged p a v → verdict_of (verdict_by v) ≡ v
 unfolding verdict_by check_refusal answer_of
-verdict_back {p} {a} (turned_away {k = k} e) = ap Verdicts.refused (refusal_back (suc k) (omega arith) (omega (arith, check_few p a)))
-verdict_back {p} {a} (certified e h) =
+verdict_by_lem {p} {a} (turned_away {k = k} e) = ap Verdicts.refused (refusal_back (suc k) (omega arith) (omega (arith, check_few p a)))
+verdict_by_lem {p} {a} (certified e h) =
     let fits = (answer_fits a (n_field p) (m_field p)).0 ((or_else_none (problem_refusal p) _).0 e).1 in
     ap (Verdicts.accepted (class_field a)) (number_back (span_field a) (within_numbered span_limit (span_field a) (omega arith) (span_within (class_field a) (span_field a) fits.form.span_fits_is)))
-verdict_back (uncertified e h) = ap Verdicts.refused (refusal_back 14 (omega arith) (omega arith))
+verdict_by_lem (uncertified e h) = ap Verdicts.refused (refusal_back 14 (omega arith) (omega arith))
 
 pub the_check : Check
 the_check = record {
   verdict = λ p a. verdict_by (the_checker p a);
-  contract = λ p a b c. let j = the_checker_judges p a b c in rw (verdict_back j) j;
+  contract = λ p a b c. let j = the_checker_judges p a b c in rw (verdict_by_lem j) j;
 }
 
 -- ---- `read_problem`
@@ -162,8 +165,8 @@ the_read_problem left₀ right₀ = record {
   contract = λ p b. record {
     result = result_back layout_in (record_refusal (meant p)) (the_layout (meant p)) (layout_of (meant p)) (problem_few engine_kinds (meant p))
         (λ e. layout_back engine_kinds (meant p) (length (meant p)) ((or_else_none (header_refusal engine_kinds (meant p) (length (meant p))) _).0 e).0);
-    left_kept = λ h. sym (kept_if (record_refusal (meant p)) left₀ (left_table (asking (meant p) 0)) h);
-    right_kept = λ h. sym (kept_if (record_refusal (meant p)) right₀ (right_table (asking (meant p) 0)) h);
+    left_kept = λ h. unless_refused_lem (record_refusal (meant p)) left₀ (left_table (asking (meant p) 0)) h;
+    right_kept = λ h. unless_refused_lem (record_refusal (meant p)) right₀ (right_table (asking (meant p) 0)) h;
     left_read = λ w. unless_none (record_refusal (meant p)) left₀ (left_table (asking (meant p) 0)) w;
     right_read = λ w. unless_none (record_refusal (meant p)) right₀ (right_table (asking (meant p) 0)) w;
   };
@@ -180,7 +183,7 @@ the_read_answer stamps₀ picks₀ = record {
   contract = λ s n m b v w. record {
     answered = result_back told_by (answer_refusal s n m) (head_in s) (class_field s, span_field s, start_field s) (answer_few s n m)
         (λ e. ap (λ (x : Trop). (class_field s, x, start_field s)) (span_meant b.bytes n m));
-    kept = λ d. let some = above (answer_refusal s n m) d in (sym (kept_if (answer_refusal s n m) stamps₀ _ some), sym (kept_if (answer_refusal s n m) picks₀ _ some));
+    kept = λ d. let some = above (answer_refusal s n m) d in (unless_refused_lem (answer_refusal s n m) stamps₀ _ some, unless_refused_lem (answer_refusal s n m) picks₀ _ some);
     stamps_read = λ e. rw (unless_none (answer_refusal s n m) stamps₀ (pad 32 (stamps_of s n)) e)
         (padded 32 (stamps_of s n) (rw stamps_at_length (stamps_most (class_field s) n ((answer_fits s n m).0 e).n_most)));
     picks_read = λ e. let f = (answer_fits s n m).0 e in rw (unless_none (answer_refusal s n m) picks₀ (pad 64 (picks_of s n m)) e)
