@@ -45,13 +45,13 @@ fn show_read(
 }
 
 // Reads the bytes for a problem's n and m and prints what came of it.
-pub fn run(rt: &(impl Print + AllocGlobal), case: Case<'_>) -> io::Result<()> {
-    let Record { bytes, n, m, .. } = Record::read(rt.alloc(), case.marks())?;
+pub fn run(rt: &impl Print, case: Case<'_>) -> io::Result<()> {
+    let record = Record::read(case.marks());
     let mut stamps = [NUMBER; STRIDE];
     let mut picks = [NUMBER; ROWS];
     edge(rt, "answer", case)?;
-    match read_answer(&bytes, n, m, &mut stamps, &mut picks) {
-        Ok(head) => show_read(rt, head, n, m, &stamps, &picks)?,
+    match read_answer(record.bytes(), record.n, record.m, &mut stamps, &mut picks) {
+        Ok(head) => show_read(rt, head, record.n, record.m, &stamps, &picks)?,
         Err(refusal) => {
             print!(rt; "refused {}", refusal.number())?;
             show_touched(rt, &stamps, &NUMBER, "stamps")?;

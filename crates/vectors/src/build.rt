@@ -2,7 +2,6 @@
 use crate::noise::BUFFER;
 use crate::script::{Marks, minus};
 use records::limits::{LEAD_BYTES, OFFSET, PROBLEM_HEADER, STRIDE, TABLE};
-use std::alloc::{AllocError, Global};
 
 // The room of a record: the largest problem that is tried has n 32 and m 63, 10 + 8 × 33 × 64 bytes.
 const ROOM: usize = 16906;
@@ -14,9 +13,11 @@ const LEADS_MOST: usize = 2 * TABLE;
 const ROW: usize = 2 * LEAD_BYTES * STRIDE;
 
 // The bytes of a record, and what is handed over beside it.
+// An array and a count, as a list on the heap would put more C functions under what is trusted.
 #[derive(Drop)]
 pub struct Record {
-    pub bytes: Vec<u8>,
+    bytes: [u8; ROOM],
+    size: usize,
     pub n: usize,
     pub m: usize,
     pub room: usize,
@@ -60,25 +61,16 @@ fn put_ring(bytes: &mut [u8], left: u64) {
     }
 }
 
-// The first so many elements of a list are left; none where it has fewer.
-pub fn cut<T: Drop>(list: &mut Vec<T>, size: usize) {
-    if list.len() < size {
-        list.clear();
-    } else {
-        list.truncate(size);
-    }
-}
-
 impl Record {
     // The record of some marks.
-    pub fn read(alloc: Global, marks: Marks<'_>) -> Result<Record, AllocError> {
+    pub fn read(marks: Marks<'_>) -> Record {
         let mut record = Record {
-            bytes: vec![in alloc; 0; ROOM]?,
+            bytes: [0; ROOM],
+            size: 0,
             n: 0,
             m: 0,
             room: BUFFER,
         };
-        let mut size = 0;
         let mut at = 0;
         for (mark, x) in marks {
             match mark {
@@ -86,7 +78,7 @@ impl Record {
                 b'w' => at = put_word(&mut record.bytes, at, x),
                 b'f' => put_blanks(&mut record.bytes),
                 b'r' => put_ring(&mut record.bytes, x),
-                b'z' => size = x as usize,
+                b'z' => record.size = x as usize,
                 b'@' => at = x as usize,
                 b'n' => record.n = x as usize,
                 b'm' => record.m = x as usize,
@@ -94,7 +86,11 @@ impl Record {
                 _ => (),
             }
         }
-        cut(&mut record.bytes, size);
-        Ok(record)
+        record
+    }
+
+    // As many bytes as the size says, none where it says more than there is room for.
+    pub fn bytes(&self) -> &[u8] {
+        self.bytes.get(..self.size).unwrap_or(&[])
     }
 }

@@ -6,10 +6,10 @@ use crate::{
 use std::io;
 
 // No more of the cases is read.
-const CASES_MOST: u64 = 65536;
+const CASES_MOST: usize = 65536;
 
 // Runs a case by its letter; an empty line and one that starts with # are remarks.
-fn run_case(rt: &(impl Print + AllocGlobal), case: Case<'_>) -> io::Result<()> {
+fn run_case(rt: &impl Print, case: Case<'_>) -> io::Result<()> {
     match case.letter() {
         Some(b'p') => problem_runs::run(rt, case),
         Some(b'l') => problem_runs::run_places(rt, case),
@@ -26,10 +26,23 @@ fn run_case(rt: &(impl Print + AllocGlobal), case: Case<'_>) -> io::Result<()> {
     }
 }
 
+// Reads until the buffer is full, the input ends or a read fails: how many bytes stand at its start.
+fn read_full(input: &mut impl Read, buffer: &mut [u8]) -> usize {
+    let mut size = 0;
+    while size < buffer.len() {
+        match input.read(&mut buffer[size..]) {
+            Ok(0) | Err(_) => break,
+            Ok(n) => size += n,
+        }
+    }
+    size
+}
+
 // Reads the cases and runs each. Where a read fails, those before it are run.
-pub fn run(rt: &(impl Input + Print + AllocGlobal)) -> io::Result<()> {
-    let mut text = Vec::new(rt.alloc());
-    let _ = rt.reader().take(CASES_MOST).read_to_end(&mut text);
+pub fn run(rt: &(impl Input + Print)) -> io::Result<()> {
+    let mut buffer = [0u8; CASES_MOST];
+    let size = read_full(&mut rt.reader(), &mut buffer);
+    let text = buffer.get(..size).unwrap_or(&[]);
     for line in text.split(|byte| *byte == b'\n') {
         run_case(rt, Case(line))?;
     }

@@ -5,11 +5,11 @@ use crate::script::Case;
 use crate::verdicts::judged;
 use std::io;
 
-pub fn run(rt: &(impl Print + AllocGlobal), case: Case<'_>) -> io::Result<()> {
+pub fn run(rt: &impl Print, case: Case<'_>) -> io::Result<()> {
     let (problem, answer) = case.two_marks();
-    let problem = Record::read(rt.alloc(), problem)?;
-    let answer = Record::read(rt.alloc(), answer)?;
+    let problem = Record::read(problem);
+    let answer = Record::read(answer);
     edge(rt, "checker", case)?;
-    judged(rt, &problem.bytes, &answer.bytes)?;
+    judged(rt, problem.bytes(), answer.bytes())?;
     println!(rt)
 }

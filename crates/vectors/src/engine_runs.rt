@@ -37,12 +37,13 @@ fn show_solved(
 }
 
 // Runs the engine with so many bytes of room and prints what came of it.
-pub fn run(rt: &(impl Print + AllocGlobal), case: Case<'_>) -> io::Result<()> {
-    let Record { bytes, room, .. } = Record::read(rt.alloc(), case.marks())?;
+pub fn run(rt: &impl Print, case: Case<'_>) -> io::Result<()> {
+    let record = Record::read(case.marks());
     let mut buffer = [BYTE; BUFFER];
     edge(rt, "engine", case)?;
-    match solve(&bytes, buffer.get_mut(..room).unwrap_or(&mut [])) {
-        Ok(solution) => show_solved(rt, &bytes, solution, &buffer)?,
+    let room = buffer.get_mut(..record.room).unwrap_or(&mut []);
+    match solve(record.bytes(), room) {
+        Ok(solution) => show_solved(rt, record.bytes(), solution, &buffer)?,
         Err(refusal) => show_refused(rt, refusal, &buffer)?,
     }
     println!(rt)

@@ -16,8 +16,7 @@ mod sheet_runs;
 mod verdicts;
 mod writer_runs;
 
-use std::io;
-
-fn main(rt: HostRuntime) -> io::Result<()> {
-    cases::run(&rt)
+// A write that fails leaves the output short.
+fn main(rt: HostRuntime) {
+    let _ = cases::run(&rt);
 }

@@ -23,12 +23,12 @@ fn show_read(rt: &impl Print, layout: Layout, left: &[u32], right: &[u32]) -> io
 }
 
 // Reads the bytes and prints what came of it.
-pub fn run(rt: &(impl Print + AllocGlobal), case: Case<'_>) -> io::Result<()> {
-    let record = Record::read(rt.alloc(), case.marks())?;
+pub fn run(rt: &impl Print, case: Case<'_>) -> io::Result<()> {
+    let record = Record::read(case.marks());
     let mut left = [LEAD; TABLE];
     let mut right = [LEAD; TABLE];
     edge(rt, "problem", case)?;
-    match read_problem(&record.bytes, CHECKER_KINDS, &mut left, &mut right) {
+    match read_problem(record.bytes(), CHECKER_KINDS, &mut left, &mut right) {
         Ok(layout) => show_read(rt, layout, &left, &right)?,
         Err(refusal) => {
             print!(rt; "refused {}", refusal.number())?;
@@ -50,12 +50,12 @@ fn show_rows(rt: &impl Print, table: &[u32]) -> io::Result<()> {
 }
 
 // Reads the bytes and prints places of both tables.
-pub fn run_places(rt: &(impl Print + AllocGlobal), case: Case<'_>) -> io::Result<()> {
-    let record = Record::read(rt.alloc(), case.marks())?;
+pub fn run_places(rt: &impl Print, case: Case<'_>) -> io::Result<()> {
+    let record = Record::read(case.marks());
     let mut left = [LEAD; TABLE];
     let mut right = [LEAD; TABLE];
     edge(rt, "problem", case)?;
-    let _ = read_problem(&record.bytes, CHECKER_KINDS, &mut left, &mut right);
+    let _ = read_problem(record.bytes(), CHECKER_KINDS, &mut left, &mut right);
     print!(rt; "left")?;
     show_rows(rt, &left)?;
     print!(rt; ", right")?;

@@ -26,8 +26,8 @@ fn back(fields: &Fields) -> bool {
     let mut picks = [NUMBER; ROWS];
     let head = write_then_read(
         fields.head,
-        &fields.stamps,
-        &fields.picks,
+        fields.stamps(),
+        fields.picks(),
         fields.n,
         fields.m,
         &mut buffer,
@@ -35,13 +35,13 @@ fn back(fields: &Fields) -> bool {
         &mut picks,
     );
     head == Ok(fields.head)
-        && same_list(&fields.stamps, &stamps)
-        && same_list(&fields.picks, &picks)
+        && same_list(fields.stamps(), &stamps)
+        && same_list(fields.picks(), &picks)
 }
 
 // Writes the fields, reads the record, and compares.
-pub fn run_written(rt: &(impl Print + AllocGlobal), case: Case<'_>) -> io::Result<()> {
-    let fields = Fields::read(rt.alloc(), case.marks())?;
+pub fn run_written(rt: &impl Print, case: Case<'_>) -> io::Result<()> {
+    let fields = Fields::read(case.marks());
     edge(rt, "written and read", case)?;
     show(rt, back(&fields))
 }
@@ -49,23 +49,23 @@ pub fn run_written(rt: &(impl Print + AllocGlobal), case: Case<'_>) -> io::Resul
 // What was read is written again to the same bytes, and the rest of the buffer is noise.
 fn again(record: &Record) -> bool {
     let mut buffer = [BYTE; BUFFER];
-    let written = read_then_write(&record.bytes, record.n, record.m, &mut buffer);
-    written == Ok(record.bytes.len())
+    let written = read_then_write(record.bytes(), record.n, record.m, &mut buffer);
+    written == Ok(record.bytes().len())
         && buffer
-            .strip_prefix(record.bytes.as_slice())
+            .strip_prefix(record.bytes())
             .is_some_and(|rest| !touched(rest, &BYTE))
 }
 
 // Reads the bytes, writes the answer, and compares.
-pub fn run_read(rt: &(impl Print + AllocGlobal), case: Case<'_>) -> io::Result<()> {
-    let record = Record::read(rt.alloc(), case.marks())?;
+pub fn run_read(rt: &impl Print, case: Case<'_>) -> io::Result<()> {
+    let record = Record::read(case.marks());
     edge(rt, "read and written", case)?;
     show(rt, again(&record))
 }
 
 // Writes the fields and prints the record.
-pub fn run_bytes(rt: &(impl Print + AllocGlobal), case: Case<'_>) -> io::Result<()> {
-    let fields = Fields::read(rt.alloc(), case.marks())?;
+pub fn run_bytes(rt: &impl Print, case: Case<'_>) -> io::Result<()> {
+    let fields = Fields::read(case.marks());
     let mut buffer = [BYTE; BUFFER];
     edge(rt, "bytes", case)?;
     match fields.write(&mut buffer) {

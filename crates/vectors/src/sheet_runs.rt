@@ -19,8 +19,8 @@ pub fn run_read(rt: &impl Print, case: Case<'_>) -> io::Result<()> {
 }
 
 // Writes a value with so many bytes of room and prints what came of it.
-pub fn run_write(rt: &(impl Print + AllocGlobal), case: Case<'_>) -> io::Result<()> {
-    let Fields { head, room, .. } = Fields::read(rt.alloc(), case.marks())?;
+pub fn run_write(rt: &impl Print, case: Case<'_>) -> io::Result<()> {
+    let Fields { head, room, .. } = Fields::read(case.marks());
     let mut buffer = [BYTE; BUFFER];
     edge(rt, "hours written", case)?;
     match write_hours(head.span, buffer.get_mut(..room).unwrap_or(&mut [])) {

@@ -1,6 +1,5 @@
 // The answer writer run on fields. Spans and stamps are handed over as offset numbers: 0 is blank, any other k stands for
 // k − 2³¹.
-use crate::build::cut;
 use crate::noise::{BUFFER, BYTE, show_refused, show_written};
 use crate::print::edge;
 use crate::script::{Case, Marks};
@@ -8,18 +7,20 @@ use answer_reader::answer::Head;
 use answer_writer::writer::write_answer;
 use records::limits::{ANSWER_MOST, OFFSET};
 use records::refusal::Refusal;
-use std::alloc::{AllocError, Global};
 use std::io;
 
 // The most stamps and picks that a list here has.
 const LONGEST: usize = 70;
 
 // What is handed to the writer: the buffer is the first `room` bytes.
+// Arrays and counts, as lists on the heap would put more C functions under what is trusted.
 #[derive(Drop)]
 pub struct Fields {
     pub head: Head,
-    pub stamps: Vec<u64>,
-    pub picks: Vec<u64>,
+    stamps: [u64; LONGEST],
+    stamp_count: usize,
+    picks: [u64; LONGEST],
+    pick_count: usize,
     pub n: usize,
     pub m: usize,
     pub room: usize,
@@ -34,21 +35,21 @@ fn put(list: &mut [u64], at: usize, x: u64) {
 
 impl Fields {
     // The fields of some marks. Stamps and picks are all 0 before any mark.
-    pub fn read(alloc: Global, marks: Marks<'_>) -> Result<Fields, AllocError> {
+    pub fn read(marks: Marks<'_>) -> Fields {
         let mut fields = Fields {
             head: Head {
                 class: 0,
                 span: 0,
                 start: 0,
             },
-            stamps: vec![in alloc; OFFSET; LONGEST]?,
-            picks: vec![in alloc; 0; LONGEST]?,
+            stamps: [OFFSET; LONGEST],
+            stamp_count: 0,
+            picks: [0; LONGEST],
+            pick_count: 0,
             n: 0,
             m: 0,
             room: ANSWER_MOST,
         };
-        let mut stamps = 0;
-        let mut picks = 0;
         let mut at = 0;
         for (mark, x) in marks {
             match mark {
@@ -57,8 +58,8 @@ impl Fields {
                 b'r' => fields.head.start = x,
                 b'e' => put(&mut fields.stamps, at, x),
                 b'p' => put(&mut fields.picks, at, x),
-                b't' => stamps = x as usize,
-                b'k' => picks = x as usize,
+                b't' => fields.stamp_count = x as usize,
+                b'k' => fields.pick_count = x as usize,
                 b'n' => fields.n = x as usize,
                 b'm' => fields.m = x as usize,
                 b'b' => fields.room = x as usize,
@@ -66,21 +67,29 @@ impl Fields {
                 _ => (),
             }
         }
-        cut(&mut fields.stamps, stamps);
-        cut(&mut fields.picks, picks);
-        Ok(fields)
+        fields
+    }
+
+    // As many stamps as their count says, none where it says more than there is room for.
+    pub fn stamps(&self) -> &[u64] {
+        self.stamps.get(..self.stamp_count).unwrap_or(&[])
+    }
+
+    // The picks likewise.
+    pub fn picks(&self) -> &[u64] {
+        self.picks.get(..self.pick_count).unwrap_or(&[])
     }
 
     // The answer written into the room of a buffer.
     pub fn write(&self, buffer: &mut [u8]) -> Result<usize, Refusal> {
         let room = buffer.get_mut(..self.room).unwrap_or(&mut []);
-        write_answer(self.head, &self.stamps, &self.picks, self.n, self.m, room)
+        write_answer(self.head, self.stamps(), self.picks(), self.n, self.m, room)
     }
 }
 
 // Writes an answer of the fields and prints what came of it.
-pub fn run(rt: &(impl Print + AllocGlobal), case: Case<'_>) -> io::Result<()> {
-    let fields = Fields::read(rt.alloc(), case.marks())?;
+pub fn run(rt: &impl Print, case: Case<'_>) -> io::Result<()> {
+    let fields = Fields::read(case.marks());
     let mut buffer = [BYTE; BUFFER];
     edge(rt, "writer", case)?;
     match fields.write(&mut buffer) {
