@@ -10,6 +10,3 @@ returns-then-words-i c = passed_found c.loop-i.invariant c.loop-i-test.true c.if
 
 pub loop-i-preserved : goal.loop-i-preserved
 loop-i-preserved c = passed_more c.loop-i.invariant c.loop-i-test.true c.if-words-i.false
-
-pub returns : goal.returns
-returns c = passed_all c.loop-i.invariant (omega (arith, c.loop-i-test.false))

@@ -8,9 +8,6 @@ use Rattle.desk_words.proofs.stored.store.Goals as goal
 pub put_run-requires : goal.put_run-requires
 put_run-requires c = let s : length c.args.front.line ≡ 16 = (let g = c.well_formed in search rules) in omega (arith, s)
 
-pub store_place-requires : goal.store_place-requires
-store_place-requires c = omega (arith, c.put_run.ensures.same)
-
 pub returns : goal.returns
 returns c = let s : length c.args.front.line ≡ 16 = (let g = c.well_formed in search rules) in
     front_put c.args.front c.args.told c.args.at c.args.place c.args.words.now _ _ c.requires.0 c.requires.1 s c.store_place.ensures.1 c.put_run.ensures c.store_place.ensures.0
