@@ -1,5 +1,4 @@
 use mathlib.Core.Path.{sym, ◌∙◌}
-use native.Mathlib.Omega.{arith}
 use Rattle.desk_words.proofs.Back.{place_in_lem}
 use Rattle.desk_words.proofs.stored.place_at.Goals as goal
 

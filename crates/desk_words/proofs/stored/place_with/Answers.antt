@@ -1,5 +1,4 @@
-use native.Mathlib.Omega.{arith}
-use Rattle.desk_words.proofs.Back.{passed_none, passed_more, passed_found, passed_all}
+use Rattle.desk_words.proofs.Back.{passed_none, passed_more, passed_found}
 use Rattle.desk_words.proofs.stored.place_with.Goals as goal
 
 pub loop-i-init : goal.loop-i-init
