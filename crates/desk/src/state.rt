@@ -6,7 +6,7 @@ ghost use Rattle.desk.specs.State.{Fits, head_of, front_joined, front_gone};
 use crate::limits::PLACES;
 use engine::one_trial::Pending;
 
-// A place: its ticket, 0 where it is empty; the size of its problem in the lent memory; the problem under way.
+// A place: its ticket, 0 where it is empty, as in the words that C lends; the size of its problem in the lent memory; the problem under way.
 #[derive(Clone, Copy)]
 pub struct Place {
     pub ticket: u64,

@@ -1,5 +1,6 @@
 // An answer's stamps and picks in one number a variable, for a caller that keeps many: the stamp's offset number, then the pick at the
-// variable's place and the one 32 places further on.
+// variable's place and the one 32 places further on. They share a number because a desk's words are at most 1,000 (document 02, 2.11), which
+// a number each would exceed.
 ghost use Rattle.std.specs.Prelude.{◌≡◌, ◌<◌, length, get_or};
 ghost use Rattle.base.specs.Filled.{Filled};
 ghost use Rattle.definitions.specs.Limits.{signed_full, stride, table_rows};

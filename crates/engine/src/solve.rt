@@ -19,7 +19,8 @@ use records::limits::{ANSWER_MOST, TABLE};
 use records::problem::{ENGINE_KINDS, Kind, Kinds, Layout};
 use records::refusal::Refusal;
 
-// A problem from its bytes, into two lent tables: its layout, or the first refusal that applies in an entry that knows these kinds.
+// A problem from its bytes, into two lent tables, which stay apart as in `read_problem` and `solve_tables`: its layout, or the first
+// refusal that applies in an entry that knows these kinds.
 pub fn read_layout(
     problem: &[u8],
     kinds: Kinds,

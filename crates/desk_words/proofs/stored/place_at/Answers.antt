@@ -1,10 +1,6 @@
 use mathlib.Core.Path.{sym, ◌∙◌}
-use native.Mathlib.Omega.{arith}
 use Rattle.desk_words.proofs.Back.{place_in_lem}
 use Rattle.desk_words.proofs.stored.place_at.Goals as goal
 
 pub returns-then-at-lt-PLACES : goal.returns-then-at-lt-PLACES
 returns-then-at-lt-PLACES c = λ h. place_in_lem _ _ h ∙ sym c.load_place.ensures
-
-pub returns-else-at-lt-PLACES : goal.returns-else-at-lt-PLACES
-returns-else-at-lt-PLACES c = λ h. absurd (omega (arith, c.if-at-lt-PLACES.false))

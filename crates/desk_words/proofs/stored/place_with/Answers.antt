@@ -1,5 +1,4 @@
-use native.Mathlib.Omega.{arith}
-use Rattle.desk_words.proofs.Back.{passed_none, passed_more, passed_found, passed_all}
+use Rattle.desk_words.proofs.Back.{passed_none, passed_more, passed_found}
 use Rattle.desk_words.proofs.stored.place_with.Goals as goal
 
 pub loop-i-init : goal.loop-i-init
@@ -10,6 +9,3 @@ returns-then-words-i c = passed_found c.loop-i.invariant c.loop-i-test.true c.if
 
 pub loop-i-preserved : goal.loop-i-preserved
 loop-i-preserved c = passed_more c.loop-i.invariant c.loop-i-test.true c.if-words-i.false
-
-pub returns : goal.returns
-returns c = passed_all c.loop-i.invariant (omega (arith, c.loop-i-test.false))

@@ -1,15 +1,8 @@
 use mathlib.Core.Path.{◌≡◌}
 use lib.ListN.{length}
-use native.Mathlib.Omega.{arith}
 use Rattle.desk_words.proofs.Back.{front_put}
 use borrow.Author.Rules.{rules}
 use Rattle.desk_words.proofs.stored.store.Goals as goal
-
-pub put_run-requires : goal.put_run-requires
-put_run-requires c = let s : length c.args.front.line ≡ 16 = (let g = c.well_formed in search rules) in omega (arith, s)
-
-pub store_place-requires : goal.store_place-requires
-store_place-requires c = omega (arith, c.put_run.ensures.same)
 
 pub returns : goal.returns
 returns c = let s : length c.args.front.line ≡ 16 = (let g = c.well_formed in search rules) in

@@ -5,14 +5,8 @@ use Rattle.desk_words.proofs.stored.store_all.Goals as goal
 pub loop-i-init : goal.loop-i-init
 loop-i-init c = all_none _ _ _
 
-pub store-requires : goal.store-requires
-store-requires c = (omega (arith, c.loop-i.invariant.same), c.loop-i-test.true)
-
 pub loop-i-preserved : goal.loop-i-preserved
 loop-i-preserved c = all_more c.loop-i.invariant c.loop-i-test.true c.store.ensures
-
-pub shape_of-words : goal.shape_of-words
-shape_of-words c = omega (arith, c.loop-i.invariant.same)
 
 pub returns : goal.returns
 returns c = all_end c.loop-i.invariant (omega (arith, c.loop-i-test.false))

@@ -5,9 +5,6 @@ use Rattle.engine.proofs.cells.pack.Goals as goal
 pub loop-j-init : goal.loop-j-init
 loop-j-init c = filled_none 32
 
-pub cell-requires : goal.cell-requires
-cell-requires c = let p = c.requires in (p.stamps_most _, p.picks_most _, p.picks_most _)
-
 pub loop-j-preserved : goal.loop-j-preserved
 loop-j-preserved c = search (filled_more, arith)
 

@@ -8,12 +8,6 @@ loop-q-init c = search turns_none
 pub read_question-requires : goal.read_question-requires
 read_question-requires c = search turn_held
 
-pub slice_bounds-solve_one-count : goal.slice_bounds-solve_one-count
-slice_bounds-solve_one-count c = omega arith
-
-pub slice_bounds-solve_one-start : goal.slice_bounds-solve_one-start
-slice_bounds-solve_one-start c = omega arith
-
 pub solve_one-one-requires : goal.solve_one-one-requires
 solve_one-one-requires c = (search turn_tables, omega arith)
 
@@ -25,9 +19,6 @@ overflow_add-trials c = search turn_trials
 
 pub loop-q-preserved : goal.loop-q-preserved
 loop-q-preserved c = search turn_more
-
-pub shape_of-answer : goal.shape_of-answer
-shape_of-answer c = c.loop-q.invariant.same
 
 pub returns : goal.returns
 returns c = search turns_all
