@@ -82,8 +82,8 @@ pub fn order_of(marks: &[u8; STRIDE], width: usize) -> Order
 }
 
 // A round: each variable of an order raises the values at the ends of its arcs, unless it has done so with this value; `done` has
-// for each variable one more than the value with which it last did, 0 for none. Values of this round count in it already. It
-// says whether a variable raised others. It stops at the first variable whose value is above the limit, and says nothing.
+// for each variable one more than the value with which it last did, 0 for none (with options the test would be `done[j] < Some(by)`, no
+// plainer). Values of this round count in it already. It says whether a variable raised others. It stops at the first variable whose value is above the limit, and says nothing.
 fn push_round(
     arcs: &[u32; ARCS],
     order: &Order,
