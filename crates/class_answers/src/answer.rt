@@ -9,7 +9,7 @@ ghost use Rattle.look.specs.Frames.{Coefficients, Ready};
 ghost use Rattle.look.specs.Look.{Looked};
 ghost use Rattle.class_answers.specs.Answered.{Stamps, StartMarks, ShownPicks, ByTrials, AnswerOf, ShowsTried, Answered};
 
-use look::frame::{Frame, frame_of, raised, row_of};
+use look::frame::{Frame, frame_of, raise, row_of};
 use look::greatest::{Look, look_at};
 use look::point::point_at;
 use look::second::second_met;
@@ -103,7 +103,8 @@ impl Tried<'_> {
         let frame = self.frame;
         let width = frame.n + 1;
         let rows = frame.m + 1;
-        let lowered = raised(frame.right, frame.m, LOWEST);
+        let mut lowered = *frame.right;
+        raise(&mut lowered, frame.m, LOWEST);
         let point = point_at(frame, &lowered);
         let targets = induced(&lowered, &point, width, rows);
         let second = second_met(&row_of(frame.right, frame.m), &point, width);
@@ -125,7 +126,8 @@ impl Tried<'_> {
         ensures { ShowsTried self.now result }
     {
         let frame = self.frame;
-        let table = raised(frame.right, frame.m, self.found.span);
+        let mut table = *frame.right;
+        raise(&mut table, frame.m, self.found.span);
         let point = point_at(frame, &table);
         Answer {
             class: Class::Optimal,

@@ -62,15 +62,13 @@ fn shift(k: u32, t: u64) -> u32
     (u64::from(k) + t - OFFSET) as u32
 }
 
-// The right table with the objective's row raised by t.
-pub fn raised(right: &[u32; TABLE], row: usize, t: u64) -> [u32; TABLE]
-    requires { Table lead_limit right.now × (row < table_rows) × Trialled t }
-    ensures { Raised right.now row t stride result }
+// Raises the objective's row of a copy of the right table by t. In place: a table that is handed back would be copied once more.
+pub fn raise(table: &mut [u32; TABLE], row: usize, t: u64)
+    requires { Table lead_limit table.old × (row < table_rows) × Trialled t }
+    ensures { Raised table.old row t stride table.new }
 {
     let base = row * STRIDE;
-    let mut out = *right;
     for l in 0..STRIDE {
-        out[base + l] = shift(right[base + l], t);
+        table[base + l] = shift(table[base + l], t);
     }
-    out
 }
