@@ -1,5 +1,5 @@
 -- Arrays that hold a list and 0 behind it: filled one element after the other, and what they hold in the end.
-use Prim.Native.Nat.{ℕ, ◌+◌, ◌≤◌, ◌<◌}
+use Prim.Native.Nat.{ℕ, zero, suc, ◌+◌, ◌≤◌, ◌<◌}
 use mathlib.Core.Path.{◌≡◌, ap, sym, subst, ◌∙◌}
 use mathlib.Core.List.{List}
 use mathlib.Core.Logic.{⊎_elim}
@@ -8,6 +8,9 @@ use lib.ListN.{length, get_or, set, take, replicate, length-set, length-replicat
 use lib.Seq.{ext_get_or, get_or-take, get_or-set_same, get_or-set_other, length-take-le, take_all}
 use Rattle.base.proofs.Numbers.{nat_le_or_lt}
 use Rattle.base.proofs.Filled.{zeros}
+use Rattle.std.specs.Array.{IsFromFnResult, IsFromFnResultFrom}
+use Rattle.std.specs.Fn.{Called}
+use denote.Param.Members.{Mut}
 use Rattle.answer_reader.specs.Fields.{Padded}
 
 -- What stands in the first n elements of a list, and 0 behind them.
@@ -16,6 +19,28 @@ take_below n xs k h = get_or-take n xs k 0 h
 
 take_past : (n : ℕ) (xs : List ℕ) (k : ℕ) → n ≤ k → get_or (take n xs) k 0 ≡ 0
 take_past n xs k h = get_or-eq_default (take n xs) 0 (rw length-take (omega arith))
+
+-- An array made element by element, by a closure that keeps what it captured, holds what the closure gives.
+made_from : {F : Type 0} (g : Mut F (ℕ × Unit {0}) ℕ) (h : ℕ → ℕ) (f : F) (ys : List ℕ) (a n : ℕ) → ((i y : ℕ) (q : F) → Called g f (i, tt) y q → (q ≡ f) × (y ≡ h i))
+    → IsFromFnResultFrom g f ys a n → (k : ℕ) → a ≤ k → k < a + n → get_or ys k 0 ≡ h k
+made_from g h f ys a zero keeps each k low high = absurd (omega arith)
+made_from {F} g h f ys a (suc n) keeps (q, y, is, called, rest) k low high =
+    let kept = keeps a y q called in
+    ⊎_elim
+    (λ (l : a + 1 ≤ k). made_from g h f ys (a + 1) n keeps (subst (λ (x : F). IsFromFnResultFrom g x ys (a + 1) n) kept.0 rest) k l (omega arith))
+    (λ (l : k < a + 1). let s : a ≡ k = omega arith in subst (λ (j : ℕ). get_or ys j 0 ≡ h j) s (is.1 0 ∙ kept.1))
+    (nat_le_or_lt (a + 1) k)
+
+pub padded_made : {F : Type 0} (g : Mut F (ℕ × Unit {0}) ℕ) (f : F) (ys : List ℕ) (width : ℕ) (xs : List ℕ) → ((i y : ℕ) (q : F) → Called g f (i, tt) y q → (q ≡ f) × (y ≡ get_or xs i 0))
+    → length xs ≤ width → IsFromFnResult g f ys width → Padded width xs ys
+padded_made g f ys width xs keeps most made =
+    record {
+      width_is = made.long;
+      element = λ k. ⊎_elim
+          (λ (l : width ≤ k). get_or-eq_default ys 0 (rw made.long l) ∙ sym (get_or-eq_default xs 0 (omega arith)))
+          (λ (l : k < width). made_from g (λ i. get_or xs i 0) f ys 0 width keeps made.each k (omega arith) (omega arith))
+          (nat_le_or_lt width k);
+    }
 
 -- An array that holds the first i elements of the list, and 0 behind them.
 pub record Filling (width : ℕ) (xs : List ℕ) (i : ℕ) (array : List ℕ) : Type 0 where
