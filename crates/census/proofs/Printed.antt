@@ -12,8 +12,10 @@ use Rattle.definitions.proofs.Put.{take_put}
 use Rattle.printing.specs.Text.{Putting}
 use Rattle.printing.proofs.Copy.{put_nothing, put_then}
 use Rattle.counting.specs.Steps.{census_of}
-use Rattle.counting.specs.declared.census.Census.{Census}
-use Rattle.counting.specs.declared.census.Census.TheVariants.{Refused, Counted}
+use Rattle.std.specs.Prelude.{Result, Ok, Err}
+use Rattle.records.specs.Refusals.{number_of}
+use Rattle.records.specs.declared.refusal.Refusal.{Refusal}
+use Rattle.counting.specs.declared.tally.Tally.{Tally}
 
 -- Each number with a space behind it.
 unfoldable pub each : List ℕ → List ℕ
@@ -67,20 +69,21 @@ put_all {l} {numbers} {i} p e inside q r =
 put_shown : {l values after : List ℕ} {size : ℕ} → Putting l 0 values after size → take size after ≡ values
 put_shown {l} {values} p = rw (p.after_is, p.next_is) (take_put l 0 values (omega arith))
 
-pub shows_refused : {n m w k : ℕ} {r : Census} {l after : List ℕ} {size : ℕ} → Censuses n m w (census_of r) → r ≡ Refused k → Putting l 0 (refused_line k) after size → CensusOutput n m w (take size after)
-unfolding census_of census_line
+pub shows_refused : {n m w : ℕ} {r : Result Tally Refusal} {k : Refusal} {l after : List ℕ} {size : ℕ} → Censuses n m w (census_of r) → r ≡ Err k → Putting l 0 (refused_line (number_of k)) after size
+    → CensusOutput n m w (take size after)
+unfolding census_line
 shows_refused {r = r} c e p = record { census = census_of r; is = c; line = put_shown p ∙ rw e refl }
 
-pub shows_counts : {n m w a b c d : ℕ} {r : Census} {l after : List ℕ} {size : ℕ} → Censuses n m w (census_of r) → r ≡ Counted a b c d
-    → Putting l 0 (numbers_line (a ∷ b ∷ c ∷ d ∷ [])) after size → CensusOutput n m w (take size after)
-unfolding census_of census_line
+pub shows_counts : {n m w : ℕ} {r : Result Tally Refusal} {t : Tally} {l after : List ℕ} {size : ℕ} → Censuses n m w (census_of r) → r ≡ Ok t
+    → Putting l 0 (numbers_line (t.least ∷ t.bottomless ∷ t.none ∷ t.silent ∷ [])) after size → CensusOutput n m w (take size after)
+unfolding census_line
 shows_counts {r = r} x e p = record { census = census_of r; is = x; line = put_shown p ∙ rw e refl }
 
-pub shows_nothing : {n m w k : ℕ} {r : Census} → Censuses n m w (census_of r) → r ≡ Refused k → TableOutput n m w []
-unfolding census_of table_line
+pub shows_nothing : {n m w : ℕ} {r : Result Tally Refusal} {k : Refusal} → Censuses n m w (census_of r) → r ≡ Err k → TableOutput n m w []
+unfolding table_line
 shows_nothing {r = r} c e = record { census = census_of r; is = c; line = rw e refl }
 
-pub shows_row : {n m w a b c d : ℕ} {r : Census} {l after : List ℕ} {size : ℕ} → Censuses n m w (census_of r) → r ≡ Counted a b c d
-    → Putting l 0 (numbers_line (n ∷ m ∷ w ∷ a ∷ b ∷ c ∷ d ∷ [])) after size → TableOutput n m w (take size after)
-unfolding census_of table_line
+pub shows_row : {n m w : ℕ} {r : Result Tally Refusal} {t : Tally} {l after : List ℕ} {size : ℕ} → Censuses n m w (census_of r) → r ≡ Ok t
+    → Putting l 0 (numbers_line (n ∷ m ∷ w ∷ t.least ∷ t.bottomless ∷ t.none ∷ t.silent ∷ [])) after size → TableOutput n m w (take size after)
+unfolding table_line
 shows_row {r = r} x e p = record { census = census_of r; is = x; line = put_shown p ∙ rw e refl }

@@ -5,7 +5,7 @@ ghost use Rattle.definitions.specs.Census.{numbers_line, CensusOutput, TableOutp
 ghost use Rattle.printing.specs.Text.{Putting};
 ghost use Rattle.census.specs.Words.{line_room, put_out};
 
-use counting::census::{Census, take_census};
+use counting::census::take_census;
 use printing::lines::refused_line;
 use printing::text::{copy, put_decimal};
 
@@ -41,13 +41,11 @@ pub fn census_line(n: u64, m: u64, w: u64, line: &mut [u8]) -> usize
     ensures { (result ≤ line_room) × CensusOutput n m w (take result line.new) }
 {
     match take_census(n, m, w) {
-        Census::Refused(number) => refused_line(line, number),
-        Census::Counted {
-            least,
-            bottomless,
-            none,
-            silent,
-        } => put_numbers(line, &[least, bottomless, none, silent]),
+        Err(refusal) => refused_line(line, refusal),
+        Ok(tally) => put_numbers(
+            line,
+            &[tally.least, tally.bottomless, tally.none, tally.silent],
+        ),
     }
 }
 
@@ -57,13 +55,17 @@ pub fn table_line(n: u64, m: u64, w: u64, line: &mut [u8]) -> Option<usize>
     ensures inside { IfSome result (λ size. size ≤ line_room) }
     ensures shown { TableOutput n m w (put_out result line.new) }
 {
-    match take_census(n, m, w) {
-        Census::Refused(_) => None,
-        Census::Counted {
-            least,
-            bottomless,
-            none,
-            silent,
-        } => Some(put_numbers(line, &[n, m, w, least, bottomless, none, silent])),
-    }
+    let tally = take_census(n, m, w).ok()?;
+    Some(put_numbers(
+        line,
+        &[
+            n,
+            m,
+            w,
+            tally.least,
+            tally.bottomless,
+            tally.none,
+            tally.silent,
+        ],
+    ))
 }

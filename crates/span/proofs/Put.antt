@@ -44,6 +44,7 @@ refused_output (all_solved k f turn) e b s = absurd (let z : ◌≡◌ {A = ℕ}
 -- an answer its record, and several theirs.
 pub span_output : {input before after out : List ℕ} (r : Result Solution Refusal) → Solves input before (solved_of r) after → length before ≡ out_most → length after ≡ length before → Shown r after out
     → SpanOutput input out
+unfolding solved_of
 span_output (Err k) j b l s = refused_output j refl b s
 span_output {input} (Ok (One a)) j b l s =
     let w = own_wrote {r = Ok (One a)} j refl in

@@ -4,6 +4,7 @@ use crate::{
     answer_runs, checker_runs, engine_runs, problem_runs, round_trips, sheet_runs, writer_runs,
 };
 use std::io;
+use std::io::Read;
 
 // No more of the cases is read.
 const CASES_MOST: usize = 65536;

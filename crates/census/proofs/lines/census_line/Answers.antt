@@ -2,8 +2,8 @@ use native.Mathlib.Omega.{arith}
 use Rattle.census.proofs.Printed.{shows_refused, shows_counts}
 use Rattle.census.proofs.lines.census_line.Goals as goal
 
-pub returns-in-Refused : goal.returns-in-Refused
-returns-in-Refused c = (omega arith, shows_refused c.take_census.ensures c.in-Refused.is c.refused_line.ensures.0)
+pub returns-in-Err : goal.returns-in-Err
+returns-in-Err c = (omega arith, shows_refused c.take_census.ensures c.in-Err.is c.refused_line.ensures.0)
 
-pub returns-in-Counted : goal.returns-in-Counted
-returns-in-Counted c = (omega arith, shows_counts c.take_census.ensures c.in-Counted.is c.put_numbers.ensures.0)
+pub returns-in-Ok : goal.returns-in-Ok
+returns-in-Ok c = (omega arith, shows_counts c.take_census.ensures c.in-Ok.is c.put_numbers.ensures.0)
