@@ -55,17 +55,8 @@ pub fn table_line(n: u64, m: u64, w: u64, line: &mut [u8]) -> Option<usize>
     ensures inside { IfSome result (λ size. size ≤ line_room) }
     ensures shown { TableOutput n m w (put_out result line.new) }
 {
-    let tally = take_census(n, m, w).ok()?;
-    Some(put_numbers(
-        line,
-        &[
-            n,
-            m,
-            w,
-            tally.least,
-            tally.bottomless,
-            tally.none,
-            tally.silent,
-        ],
-    ))
+    match take_census(n, m, w) {
+        Err(_) => None,
+        Ok(t) => Some(put_numbers(line, &[n, m, w, t.least, t.bottomless, t.none, t.silent])),
+    }
 }

@@ -48,9 +48,9 @@ pub struct Pair<'a> {
     pub first: &'a [u64; STRIDE],
     pub second: &'a [u64; STRIDE],
     pub back: u64,
-    ghost first_stamps: { Stamped first.now },
-    ghost second_stamps: { Stamped second.now },
-    ghost back_most: { back ≤ word_half },
+    pub ghost first_stamps: { Stamped first.now },
+    pub ghost second_stamps: { Stamped second.now },
+    pub ghost back_most: { back ≤ word_half },
 }
 
 impl Pair<'_> {
