@@ -23,11 +23,12 @@ use Rattle.definitions.proofs.Put.{length_put, put_nil, put_put, put_more, get_d
 use Rattle.definitions.proofs.Questions.{part_length, part_at}
 use Rattle.records.specs.declared.class.Class.{Class}
 use Rattle.search.proofs.Underway.{class_back}
+use Rattle.engine.specs.OneTrial.{class_in}
 use Rattle.desk.specs.declared.state.Place.{Place}
 use Rattle.desk.specs.declared.state.Front.{Front}
 use Rattle.desk.specs.State.{Desk, desk_of, no_place, place_in, Finds}
 use Rattle.desk.proofs.Kept.{copied_put, part_put, part_before, part_after}
-use Rattle.desk_words.specs.Words.{place_words_is, front_words_is, desk_words, place_words, place_of, place_from, front_words, PutAt, places_from, places_in, front_from, desk_from, told_in, seated_in, DeskPut}
+use Rattle.desk_words.specs.Words.{place_words_is, front_words_is, desk_words, place_words, place_of, place_from, front_words, PutAt, places_from, places_in, front_from, desk_from, told_in, seated_in, DeskPut, class_place, ClassTold, ClassPut}
 
 -- ---- runs
 
@@ -190,6 +191,18 @@ module _ (f : Front) (told at : ℕ) (p : Place) (before between after : List �
         (get_d_put_after before 0 (front_words f told) (omega arith) k (omega arith));
   }
 
+  pub class_put : ClassPut at before after
+  class_put = record {
+    here =
+        let seated : place_in (desk_from after) at ≡ p = place_in_lem after at inside ∙ rw here (place_back p) in
+        let word : get_or after (class_place at) 0 ≡ class_in p.pending =
+        sym (part_at after (front_words_is + at * place_words_is) place_words_is 5 (omega arith)) ∙ rw here refl in
+        word ∙ ap (λ (c : Place). class_in c.pending) (sym seated);
+    there = λ k h n.
+        sym (part_at after (front_words_is + k * place_words_is) place_words_is 5 (omega arith)) ∙ ap (λ (l : List ℕ). get_or l 5 0) (there k n)
+        ∙ part_at before (front_words_is + k * place_words_is) place_words_is 5 (omega arith);
+  }
+
 -- ---- every place the same
 
 -- The first i places are stored.
@@ -199,25 +212,35 @@ pub record AllPut (f : Front) (p : Place) (before : List ℕ) (i : ℕ) (after :
   pub front_is : 0 < i → front_from after ≡ f
   pub told_is : 0 < i → told_in after ≡ 0
   pub each : (k : ℕ) → k < i → place_in (desk_from after) k ≡ p
+  pub classes : (k : ℕ) → k < i → ClassTold after k
   pub behind : (k : ℕ) → desk_words ≤ k → get_or after k 0 ≡ get_or before k 0
 
 pub all_none : (f : Front) (p : Place) (before : List ℕ) → AllPut f p before 0 before
-all_none f p before = record { inside = omega arith; same = refl; front_is = λ h. absurd (omega arith); told_is = λ h. absurd (omega arith); each = λ k h. absurd (omega arith); behind = λ k h. refl }
+all_none f p before = record { inside = omega arith; same = refl; front_is = λ h. absurd (omega arith); told_is = λ h. absurd (omega arith); each = λ k h. absurd (omega arith); classes = λ k h. absurd (omega arith); behind = λ k h. refl }
 
 module _ {f : Front} {p : Place} {before after : List ℕ} {i : ℕ} (g : AllPut f p before i after) where
-  pub all_more : {after' : List ℕ} → i < desk_places → DeskPut (seated_in after f i p) 0 after after' → AllPut f p before (i + 1) after'
-  all_more {after'} h d = record {
+  pub all_more : {after' : List ℕ} → i < desk_places → DeskPut (seated_in after f i p) 0 after after' → ClassPut i after after' → AllPut f p before (i + 1) after'
+  all_more {after'} h d c = record {
     inside = omega arith;
     same = d.same ∙ g.same;
     front_is = λ _. ap (λ (z : Desk). z.front) d.back;
     told_is = λ _. d.told_is;
-    each = λ k l. ap (λ (z : Desk). place_in z k) d.back ∙ at k l (ℕ_discrete k i);
+    each = each;
+    classes = λ k l. told k l (ℕ_discrete k i);
     behind = λ k l. d.behind k l ∙ g.behind k l;
   }
     where
       at : (k : ℕ) → k < i + 1 → Dec (k ≡ i) → get_or (set (places_in after) i p) k no_place ≡ p
       at k l (yes e) = rw e (get_or-set_same (places_in after) i p no_place (omega (arith, from_length after front_words_is desk_places)))
       at k l (no n) = get_or-set_other (places_in after) i k p no_place n ∙ g.each k (omega arith)
+
+      each : (k : ℕ) → k < i + 1 → place_in (desk_from after') k ≡ p
+      each k l = ap (λ (z : Desk). place_in z k) d.back ∙ at k l (ℕ_discrete k i)
+
+      told : (k : ℕ) → k < i + 1 → Dec (k ≡ i) → ClassTold after' k
+      told k l (yes e) = rw e c.here
+      told k l (no n) =
+          c.there k (omega arith) n ∙ g.classes k (omega arith) ∙ ap (λ (z : Place). class_in z.pending) (g.each k (omega arith) ∙ sym (each k l))
 
   pub all_end : desk_places ≤ i → DeskPut (desk_of f (replicate desk_places p)) 0 before after
   all_end h = record {
@@ -226,3 +249,6 @@ module _ {f : Front} {p : Place} {before after : List ℕ} {i : ℕ} (g : AllPut
     told_is = g.told_is (omega arith);
     behind = g.behind;
   }
+
+  pub all_told : desk_places ≤ i → (k : ℕ) → k < desk_places → ClassTold after k
+  all_told h k l = g.classes k (omega arith)

@@ -1,5 +1,5 @@
 -- A place and a desk as words.
-use Rattle.std.specs.Prelude.{ℕ, zero, suc, ◌+◌, ◌*◌, ◌≤◌, ◌≡◌, List, [], ◌∷◌, ◌++◌, length, get_or, set, drop}
+use Rattle.std.specs.Prelude.{ℕ, zero, suc, ◌+◌, ◌*◌, ◌≤◌, ◌<◌, ◌≡◌, List, [], ◌∷◌, ◌++◌, length, get_or, set, drop}
 use Rattle.definitions.specs.Limits.{desk_places, stride}
 use Rattle.definitions.specs.Bytes.{put}
 use Rattle.definitions.specs.Questions.{part}
@@ -7,7 +7,7 @@ use Rattle.desk.specs.declared.state.Place.{Place}
 use Rattle.desk.specs.declared.state.Front.{Front}
 use Rattle.search.specs.Underway.{class_from}
 use Rattle.engine.specs.OneTrial.{class_in}
-use Rattle.desk.specs.State.{Desk, desk_of}
+use Rattle.desk.specs.State.{Desk, desk_of, place_in}
 
 -- The words of a place: ten numbers, then its cells. Of a desk: four numbers, the line, then the places.
 abbrev pub place_numbers : ℕ
@@ -87,3 +87,15 @@ pub record DeskPut (d : Desk) (told : ℕ) (before after : List ℕ) : Type 0 wh
   pub back : desk_from after ≡ d
   pub told_is : told_in after ≡ told
   pub behind : (k : ℕ) → desk_words ≤ k → get_or after k 0 ≡ get_or before k 0
+
+-- The word that keeps the class of place k, and that it tells this class by its number, 0 for none: other words than 0 to 3 read as none too.
+abbrev pub class_place : ℕ → ℕ
+class_place k = front_words_is + k * place_words_is + 5
+
+abbrev pub ClassTold : List ℕ → ℕ → Type 0
+ClassTold words k = get_or words (class_place k) 0 ≡ class_in (place_in (desk_from words) k).pending
+
+-- The class word of one place tells its class, and those of the others are as they were.
+pub record ClassPut (at : ℕ) (before after : List ℕ) : Type 0 where
+  pub here : ClassTold after at
+  pub there : (k : ℕ) → k < desk_places → (k ≡ at → ⊥) → get_or after (class_place k) 0 ≡ get_or before (class_place k) 0

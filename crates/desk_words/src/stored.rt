@@ -1,9 +1,9 @@
 // A place and a desk as words: ten numbers of a place, then its cells; four numbers of a desk, its line, then its places. C and Rust lend the
 // words, so that their order stands.
-ghost use Rattle.std.specs.Prelude.{◌≡◌, ◌+◌, ◌≤◌, ◌<◌, length, replicate};
+ghost use Rattle.std.specs.Prelude.{◌≡◌, ℕ, ◌+◌, ◌≤◌, ◌<◌, length, replicate};
 ghost use Rattle.definitions.specs.Limits.{desk_places, stride};
 ghost use Rattle.desk.specs.State.{desk_of, place_in, Finds, FirstFree, HoldsTicket};
-ghost use Rattle.desk_words.specs.Words.{place_words_is, desk_words, place_words, place_from, PutAt, front_from, desk_from, seated_in, DeskPut};
+ghost use Rattle.desk_words.specs.Words.{place_words_is, desk_words, place_words, place_from, PutAt, front_from, desk_from, seated_in, DeskPut, ClassTold, ClassPut};
 
 use crate::runs::{put_run, run_at};
 use desk::calls::no_place;
@@ -135,7 +135,7 @@ pub fn place_of(words: &[u64], ticket: u64) -> Option<usize>
 // Stores the front and one place, with what the call tells; the other places stay.
 pub fn store(words: &mut [u64], front: Front, at: usize, place: Place, told: u64)
     requires { (desk_words ≤ length words.old) × (at < desk_places) }
-    ensures { DeskPut (seated_in words.old front at place) told words.old words.new }
+    ensures { DeskPut (seated_in words.old front at place) told words.old words.new × ClassPut at words.old words.new }
 {
     let numbers = [front.given, front.head as u64, front.waiting as u64, told];
     put_run(words, 0, &numbers, &front.line);
@@ -145,7 +145,7 @@ pub fn store(words: &mut [u64], front: Front, at: usize, place: Place, told: u64
 // Stores a desk on which every place is the same.
 pub fn store_all(words: &mut [u64], front: Front, place: Place)
     requires { desk_words ≤ length words.old }
-    ensures { DeskPut (desk_of front (replicate desk_places place)) 0 words.old words.new }
+    ensures { DeskPut (desk_of front (replicate desk_places place)) 0 words.old words.new × ((k : ℕ) → k < desk_places → ClassTold words.new k) }
 {
     for i in 0..PLACES {
         store(words, front, i, place, 0);

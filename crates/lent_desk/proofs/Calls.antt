@@ -1,9 +1,11 @@
 -- The calls over lent words, from the calls over the desk that the words hold.
 use Prim.Native.Nat.{ℕ, ◌≤◌, ◌<◌}
 use mathlib.Core.Path.{◌≡◌, refl, sym, ap, subst, ◌∙◌}
+use mathlib.Core.Logic.{◌⊎◌, inl, inr}
 use mathlib.Core.List.{List}
 use native.Mathlib.Omega.{arith}
-use lib.ListN.{length, replicate}
+use native.Mathlib.Decide.{ℕ_discrete}
+use lib.ListN.{length, replicate, get_or}
 use Rattle.std.specs.Prelude.{Bool, true, false, cond, Option, Some, None, Result, Ok, Err, IsOk, IsSome, MatchOption}
 use Rattle.std.specs.Option.{IsSomeAnd}
 use Rattle.definitions.specs.Limits.{desk_memory, desk_places, most_trials}
@@ -25,13 +27,21 @@ use Rattle.desk.specs.State.{desk_of, Fits, place_in, head_of, FirstFree, HoldsT
 use Rattle.desk.specs.Calls.{Left, OpenedBy, CanTake, TookIn, TookAt, AtHead, CanStep, HeadTried, stepped_as, DidStep, StepAt, stands_at, CanCollect, DidCollect, CollectedAt}
 use Rattle.tickets.proofs.Holds.{desk_holds}
 use Rattle.desk.proofs.Taking.{memory_enough}
-use Rattle.desk_words.specs.Words.{desk_words, places_in, front_from, desk_from, seated_in, DeskPut}
-use Rattle.lent_desk.specs.Entries.{AsLent, OverLent, TooShort, Inside, OpenedAs, TakenFrom, TakenAs, Tells, done_number, goes_on_number, SteppedFrom, SteppedAs, CollectedFrom, CollectedAs, handed_number}
+use Rattle.desk_words.specs.Words.{desk_words, places_in, front_from, desk_from, seated_in, DeskPut, class_place, ClassTold, ClassPut}
+use Rattle.lent_desk.specs.Entries.{AsLent, OverLent, TooShort, Inside, ClassesKept, OpenedAs, TakenFrom, TakenAs, Tells, done_number, goes_on_number, SteppedFrom, SteppedAs, CollectedFrom, CollectedAs, handed_number}
 
 -- What is lent is too short: nothing changes.
 pub over_short : {memory words : List ℕ} {number : ℕ} {Still : ℕ → Type 0} {Made : Type 0} → TooShort memory words number → Still number → OverLent memory words Still Made
 over_short (TooShort.short h) s = OverLent.short h s
 over_short (TooShort.too_few h f) s = OverLent.too_few h f s
+
+-- The class words of one place stored.
+kept_put : {at : ℕ} {words after : List ℕ} → ClassPut at words after → ClassesKept words after
+kept_put {at} {words} {after} p k h = at_place (ℕ_discrete k at)
+  where
+    at_place : Dec (k ≡ at) → ClassTold after k ⊎ (get_or after (class_place k) 0 ≡ get_or words (class_place k) 0)
+    at_place (yes e) = inl (rw e p.here)
+    at_place (no n) = inr (p.there k h n)
 
 -- ---- opening
 
@@ -39,12 +49,13 @@ pub opens : {memory : List ℕ} {r : Result Front Refusal} → desk_memory ≤ l
 opens h o = rw (o.ready h).1 refl
 
 pub opened_words : {memory words after : List ℕ} {r : Result Front Refusal} {f : Front} {c : Place} → desk_memory ≤ length memory → desk_words ≤ length words → OpenedBy memory r → r ≡ Ok f → c ≡ blank_place
-    → DeskPut (desk_of f (replicate desk_places c)) 0 words after → OpenedAs memory words 0 after
-opened_words {memory} {f = f} h w o e z put =
+    → DeskPut (desk_of f (replicate desk_places c)) 0 words after → ((k : ℕ) → k < desk_places → ClassTold after k) → OpenedAs memory words 0 after
+opened_words {memory} {words} {after} {f = f} h w o e z put classes =
     let ready = o.ready h in
     let same : ready.0 ≡ f = (let both : Ok ready.0 ≡ Ok f = sym ready.1 ∙ e in cc) in
     let put = rw z at put in
-    OverLent.makes h w (refl, Machine.opens (memory_enough (length memory) h), rw (put.back, ← same) ready.2, rw put.back put)
+    let stored : DeskPut (desk_from after) 0 words after = rw put.back put in
+    OverLent.makes h w (refl, Machine.opens (memory_enough (length memory) h), rw (put.back, ← same) ready.2, (stored, λ k l. inl (classes k l)))
 
 -- ---- taking in
 
@@ -70,12 +81,12 @@ module _ {memory words : List ℕ} {front : Front} {at : Option ℕ} (h : desk_m
       pub take_inside : i < desk_places
       take_inside = (free.found i s).inside
 
-      pub take_ticket : {after : List ℕ} → DeskPut (seated_in words r.front i r.place) r.ticket words after → TakenAs memory words p 0 memory' after
+      pub take_ticket : {after : List ℕ} → DeskPut (seated_in words r.front i r.place) r.ticket words after → ClassPut i words after → TakenAs memory words p 0 memory' after
       unfolding TookIn took
-      take_ticket put = OverLent.makes h w (λ left.
+      take_ticket put classes = OverLent.makes h w (λ left.
           let m = took t left in
           let same : m.0 ≡ i = (let both : Some m.0 ≡ Some i = sym m.1 ∙ s in cc) in
-          TakenFrom.taken (rw (← put.back) at (rw same at m.2)) (rw put.back put))
+          TakenFrom.taken (rw (← put.back) at (rw same at m.2)) (rw put.back put, kept_put classes))
 
 -- ---- a step
 
@@ -117,8 +128,8 @@ module _ {memory words : List ℕ} {front : Front} {at : ℕ} {c : Place} (h : d
     pub step_inside : at < desk_places
     step_inside = rw (← at_is) (tried (lent.left w h)).inside
 
-    pub step_told : {b : Bool} {after : List ℕ} → s.done ≡ b → DeskPut (seated_in words s.front at s.place) s.ticket words after → SteppedAs memory words (cond b done_number goes_on_number) after
-    step_told d put = OverLent.makes h w (λ left. SteppedFrom.tried (tells s _ d) (rw (← put.back) at (tried left)) (rw put.back put))
+    pub step_told : {b : Bool} {after : List ℕ} → s.done ≡ b → DeskPut (seated_in words s.front at s.place) s.ticket words after → ClassPut at words after → SteppedAs memory words (cond b done_number goes_on_number) after
+    step_told d put classes = OverLent.makes h w (λ left. SteppedFrom.tried (tells s _ d) (rw (← put.back) at (tried left)) (rw put.back put, kept_put classes))
 
 -- ---- collecting
 
@@ -175,11 +186,11 @@ module _ {memory words : List ℕ} {at : Option ℕ} {ticket : ℕ} {c : Option 
       collect_inside = (found.held i s).1.inside
 
       pub collect_handed : {number : ℕ} {after : List ℕ} {front : Front} {free : Place} → number ≡ handed_number (class_number a.class) a.trials → front ≡ front_from words → free ≡ blank_place
-          → DeskPut (seated_in words front i free) ticket words after → CollectedAs memory words ticket buffer number after buffer'
+          → DeskPut (seated_in words front i free) ticket words after → ClassPut i words after → CollectedAs memory words ticket buffer number after buffer'
       unfolding DidCollect gave
-      collect_handed n e b put =
+      collect_handed n e b put classes =
           let put = rw (e, b) at put in
           rw n (OverLent.makes h w (λ left.
           let m = gave t left in
           let same : m.0 ≡ i = (let both : Some m.0 ≡ Some i = sym m.1 ∙ s in cc) in
-          CollectedFrom.handed (rw (← put.back) at (rw same at m.2)) (rw put.back put)))
+          CollectedFrom.handed (rw (← put.back) at (rw same at m.2)) (rw put.back put, kept_put classes)))

@@ -59,7 +59,7 @@ pub record Standing (n : ℕ) (d : Machine.Desk) (memory words : List ℕ) : Typ
 pub opened_standing : {memory words first : List ℕ} → OpenedAs memory words 0 first → Standing (length memory) Machine.opened memory first
 opened_standing (OverLent.short h s) = absurd (omega (arith, s.0))
 opened_standing (OverLent.too_few h f s) = absurd (omega (arith, s.0))
-opened_standing (OverLent.makes h w m) = record { from_opening = record { steps = 0; run = Machine.nothing }; enough = h; long = omega (arith, m.3.same); same_length = refl; holds = m.2 }
+opened_standing (OverLent.makes h w m) = record { from_opening = record { steps = 0; run = Machine.nothing }; enough = h; long = omega (arith, m.3.0.same); same_length = refl; holds = m.2 }
 
 -- A problem was taken in.
 pub record TookNext (n : ℕ) (d : Machine.Desk) (p : List ℕ) (told : ℕ) (memory words : List ℕ) : Type 0 where
@@ -129,11 +129,11 @@ module _ {n : ℕ} {d : Machine.Desk} {memory words : List ℕ} (s : Standing n 
   took_zero : {p memory₁ words₁ : List ℕ} {number : ℕ} → number ≡ 0 → TakenFrom memory words p d number memory₁ words₁ → TookNext n d p (told_in words₁) memory₁ words₁
   took_zero z (TakenFrom.refused t) = absurd (omega (arith, taking_refused t))
   took_zero {p} z (TakenFrom.taken {told = told} t p₁) =
-      let takes = subst (λ (k : ℕ). TakesIn n d p (Machine.ticket k) t.next) (sym p₁.told_is) (subst (λ (l : ℕ). TakesIn l d p (Machine.ticket told) t.next) s.same_length t.takes) in
+      let takes = subst (λ (k : ℕ). TakesIn n d p (Machine.ticket k) t.next) (sym p₁.0.told_is) (subst (λ (l : ℕ). TakesIn l d p (Machine.ticket told) t.next) s.same_length t.takes) in
       record {
         next = t.next;
         takes = takes;
-        standing = record { from_opening = takes_on takes; enough = s.enough; long = omega (arith, s.long, p₁.same); same_length = t.same_length ∙ s.same_length; holds = t.holds };
+        standing = record { from_opening = takes_on takes; enough = s.enough; long = omega (arith, s.long, p₁.0.same); same_length = t.same_length ∙ s.same_length; holds = t.holds };
       }
 
   pub took_next : {p memory₁ words₁ : List ℕ} → TakenAs memory words p 0 memory₁ words₁ → TookNext n d p (told_in words₁) memory₁ words₁
@@ -166,12 +166,12 @@ module _ {n : ℕ} {d : Machine.Desk} {memory words : List ℕ} (s : Standing n 
       record {
         next = t.next;
         report = _;
-        seen = SeenAs.tried (subst (λ (k : ℕ). Tells r k number) (sym p₁.told_is) tells);
+        seen = SeenAs.tried (subst (λ (k : ℕ). Tells r k number) (sym p₁.0.told_is) tells);
         extends = λ run. extends_step steps run;
         standing = record {
           from_opening = record { steps = _; run = Machine.one_step_is s.from_opening.run steps };
           enough = s.enough;
-          long = omega (arith, s.long, p₁.same);
+          long = omega (arith, s.long, p₁.0.same);
           same_length = s.same_length;
           holds = t.holds;
         };
@@ -216,7 +216,7 @@ module _ {n : ℕ} {d : Machine.Desk} {memory words : List ℕ} (s : Standing n 
         standing = record {
           from_opening = record { steps = _; run = Machine.collect s.from_opening.run collects };
           enough = s.enough;
-          long = omega (arith, s.long, p₁.same);
+          long = omega (arith, s.long, p₁.0.same);
           same_length = s.same_length;
           holds = t.holds;
         };

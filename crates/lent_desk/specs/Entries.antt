@@ -1,5 +1,5 @@
 -- The desk's four calls over lent memory and lent words, each result as one number. Document 02, 2.11.
-use Rattle.std.specs.Prelude.{ℕ, ◌+◌, ◌*◌, ◌≤◌, ◌<◌, ◌≡◌, List, length, Option, Some, None}
+use Rattle.std.specs.Prelude.{ℕ, ◌+◌, ◌*◌, ◌≤◌, ◌<◌, ◌≡◌, ◌⊎◌, List, get_or, length, Option, Some, None}
 use Rattle.definitions.specs.Limits.{desk_memory, desk_places, refused_memory}
 use Rattle.definitions.specs.Tropical.{Trop}
 use Rattle.definitions.specs.Desk as Machine
@@ -7,7 +7,7 @@ use Rattle.definitions.specs.Desk.{Opens, TakesIn, Steps, Collects}
 use Rattle.engine.specs.Outcome.{Gives}
 use Rattle.desk.specs.State.{Holds}
 use Rattle.desk.specs.Calls.{Left, AsLeft, TakenAt, HeadTried, FreedAt}
-use Rattle.desk_words.specs.Words.{desk_words, desk_from, DeskPut}
+use Rattle.desk_words.specs.Words.{desk_words, desk_from, DeskPut, class_place, ClassTold}
 
 -- ---- numbers
 
@@ -35,9 +35,13 @@ pub record AsLent (memory words : List ℕ) : Type 0 where
 
 -- ---- what the calls leave
 
+-- The class word of each place tells its class, or is as it was.
+abbrev pub ClassesKept : List ℕ → List ℕ → Type 0
+ClassesKept before after = (k : ℕ) → k < desk_places → ClassTold after k ⊎ (get_or after (class_place k) 0 ≡ get_or before (class_place k) 0)
+
 -- As many words as before, with the ticket that the call tells; those behind the desk are as they were.
 abbrev pub Stored : List ℕ → ℕ → List ℕ → Type 0
-Stored words told after = DeskPut (desk_from after) told words after
+Stored words told after = DeskPut (desk_from after) told words after × ClassesKept words after
 
 -- 23 where the memory is too short, 255 where the words are too few, and nothing is changed; else what the call makes of them.
 pub data OverLent (memory words : List ℕ) (Still : ℕ → Type 0) (Made : Type 0) : Type 0 where

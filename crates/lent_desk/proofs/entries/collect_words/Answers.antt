@@ -31,4 +31,4 @@ pub overflow_add-result : goal.overflow_add-result
 overflow_add-result c = let few = collect_few c.in_default.ensures.0 c.in_default.ensures.1 c.requires c.place_of-at.ensures c.held_at-held.ensures (rw c.in-Ok-Some.field-0-is at c.in-Ok-Some.ensures) in omega (arith, c.number-in-Ok-Some.ensures)
 
 pub returns-in-Ok-Some : goal.returns-in-Ok-Some
-returns-in-Ok-Some c = collect_handed c.in_default.ensures.0 c.in_default.ensures.1 c.requires c.place_of-at.ensures c.held_at-held.ensures (rw c.in-Ok-Some.field-0-is at c.in-Ok-Some.ensures) c.unwrap.ensures (rw c.number-in-Ok-Some.ensures refl) c.load_front-front.ensures c.no_place.ensures c.store.ensures
+returns-in-Ok-Some c = collect_handed c.in_default.ensures.0 c.in_default.ensures.1 c.requires c.place_of-at.ensures c.held_at-held.ensures (rw c.in-Ok-Some.field-0-is at c.in-Ok-Some.ensures) c.unwrap.ensures (rw c.number-in-Ok-Some.ensures refl) c.load_front-front.ensures c.no_place.ensures c.store.ensures.0 c.store.ensures.1

@@ -9,4 +9,4 @@ pub unwrap-requires : goal.unwrap-requires
 unwrap-requires c = opens c.in_default.ensures.0 c.open_desk.ensures
 
 pub returns : goal.returns
-returns c = opened_words c.in_default.ensures.0 c.in_default.ensures.1 c.open_desk.ensures c.unwrap.ensures c.no_place.ensures c.store_all.ensures
+returns c = opened_words c.in_default.ensures.0 c.in_default.ensures.1 c.open_desk.ensures c.unwrap.ensures c.no_place.ensures c.store_all.ensures.0 c.store_all.ensures.1

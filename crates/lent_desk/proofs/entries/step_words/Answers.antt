@@ -21,7 +21,7 @@ pub store-requires : goal.store-requires
 store-requires c = (c.in_default.ensures.1, step_inside c.in_default.ensures.0 c.in_default.ensures.1 c.requires c.load_front-front.ensures c.first-at.ensures c.place_at-place.ensures (rw c.in-Ok-Some.field-0-is at c.in-Ok-Some.ensures))
 
 pub returns-then-stepping : goal.returns-then-stepping
-returns-then-stepping c = step_told c.in_default.ensures.0 c.in_default.ensures.1 c.requires c.load_front-front.ensures c.first-at.ensures c.place_at-place.ensures (rw c.in-Ok-Some.field-0-is at c.in-Ok-Some.ensures) c.if-stepping.true c.store.ensures
+returns-then-stepping c = step_told c.in_default.ensures.0 c.in_default.ensures.1 c.requires c.load_front-front.ensures c.first-at.ensures c.place_at-place.ensures (rw c.in-Ok-Some.field-0-is at c.in-Ok-Some.ensures) c.if-stepping.true c.store.ensures.0 c.store.ensures.1
 
 pub returns-else-stepping : goal.returns-else-stepping
-returns-else-stepping c = step_told c.in_default.ensures.0 c.in_default.ensures.1 c.requires c.load_front-front.ensures c.first-at.ensures c.place_at-place.ensures (rw c.in-Ok-Some.field-0-is at c.in-Ok-Some.ensures) c.if-stepping.false c.store.ensures
+returns-else-stepping c = step_told c.in_default.ensures.0 c.in_default.ensures.1 c.requires c.load_front-front.ensures c.first-at.ensures c.place_at-place.ensures (rw c.in-Ok-Some.field-0-is at c.in-Ok-Some.ensures) c.if-stepping.false c.store.ensures.0 c.store.ensures.1

@@ -18,4 +18,4 @@ pub store-requires : goal.store-requires
 store-requires c = (c.in_default.ensures.1, take_inside c.in_default.ensures.0 c.in_default.ensures.1 c.requires c.load_front-front.ensures c.first_free-free.ensures c.in-Ok.ensures c.unwrap.ensures)
 
 pub returns-in-Ok : goal.returns-in-Ok
-returns-in-Ok c = take_ticket c.in_default.ensures.0 c.in_default.ensures.1 c.requires c.load_front-front.ensures c.first_free-free.ensures c.in-Ok.ensures c.unwrap.ensures c.store.ensures
+returns-in-Ok c = take_ticket c.in_default.ensures.0 c.in_default.ensures.1 c.requires c.load_front-front.ensures c.first_free-free.ensures c.in-Ok.ensures c.unwrap.ensures c.store.ensures.0 c.store.ensures.1
