@@ -13,8 +13,8 @@
  * - BUFFERS DO NOT OVERLAP: what a function writes shares no byte with what it reads, and nobody else writes either during the call;
  * - a desk's memory and state come as the call before left them (below);
  * - the stack: a call has SPAN_STACK bytes of it left. No theorem is about the stack. Measured, in units of 1,024 bytes (benches/stack.c):
- *     span_reasons 72, span_census 52, span_solve 52, span_desk_step 51, span_check 44, span_merge 35, span_desk_take 33,
- *     span_read 3, span_desk_collect 2, span_write 1, span_convert 1, span_hours_read 1, span_hours_write 1, span_first_open 1,
+ *     span_reasons 87, span_check 60, span_desk_step 44, span_solve 43, span_census 43, span_merge 35, span_desk_take 33,
+ *     span_read 4, span_convert 4, span_desk_collect 4, span_write 1, span_hours_read 1, span_hours_write 1, span_first_open 1,
  *     span_marks_differ 1, span_desk_open 1, span_version 1, span_release_4_2 1.
  *   A test runs each of them on a thread whose whole stack has SPAN_STACK bytes.
  *
