@@ -41,7 +41,7 @@ pub fn census_line(n: u64, m: u64, w: u64, line: &mut [u8]) -> usize
     ensures { (result ≤ line_room) × CensusOutput n m w (take result line.new) }
 {
     match take_census(n, m, w) {
-        Err(refusal) => refused_line(line, refusal),
+        Err(refusal) => refused_line(line, refusal.number()),
         Ok(tally) => put_numbers(
             line,
             &[tally.least, tally.bottomless, tally.none, tally.silent],

@@ -25,7 +25,7 @@ fn put_out(out: &mut [u8], buffer: &[u8], converted: Result<usize, Refusal>) -> 
 {
     match converted {
         Ok(size) => write_front(out, buffer, size),
-        Err(refusal) => write_refused(out, refusal),
+        Err(refusal) => write_refused(out, refusal.number()),
     }
 }
 

@@ -5,13 +5,11 @@ ghost use Rattle.std.specs.Prelude.{◌≡◌, ◌≤◌, length, take};
 ghost use Rattle.definitions.specs.Offset.{trop_of};
 ghost use Rattle.definitions.specs.Programs.{refused_line, verdict_line};
 ghost use Rattle.definitions.specs.Verdict.{accepted, refused};
-ghost use Rattle.records.specs.Refusals.{number_of};
 ghost use Rattle.printing.specs.Text.{Appended, Output, line_most};
 ghost use Rattle.output.specs.Written.{writer_after};
 
 use printing::lines::{LINE_MOST, accepted_line, refused_line, turned_away_line};
 use printing::text::append;
-use records::refusal::Refusal;
 
 // A lent slice, and the place in it where the next record or line goes.
 #[derive(Drop)]
@@ -74,12 +72,12 @@ pub fn write_front(buf: &mut [u8], from: &[u8], size: usize) -> usize
 
 // What the span program puts out for a refusal: its line. Public for `span` and `convert`. The two below do the same with other lines:
 // a closure that puts the line would take its law as a parameter, and be no plainer.
-pub fn write_refused(buf: &mut [u8], refusal: Refusal) -> usize
-    ensures shown { Output buf.old (refused_line (number_of refusal)) buf.new result }
-    ensures short { length (refused_line (number_of refusal)) ≤ line_most }
+pub fn write_refused(buf: &mut [u8], number: usize) -> usize
+    ensures shown { Output buf.old (refused_line number) buf.new result }
+    ensures short { length (refused_line number) ≤ line_most }
 {
     let mut line = [0u8; LINE_MOST];
-    let size = refused_line(&mut line, refusal);
+    let size = refused_line(&mut line, number);
     write(buf, 0, &line[..size])
 }
 
@@ -94,11 +92,11 @@ pub fn write_accepted(buf: &mut [u8], class: u64, span: u64) -> usize
 }
 
 // What it puts out for one that is turned away. Public for `verdict` and `reasons`.
-pub fn write_turned_away(buf: &mut [u8], refusal: Refusal) -> usize
-    ensures shown { Output buf.old (verdict_line (refused (number_of refusal))) buf.new result }
-    ensures short { length (verdict_line (refused (number_of refusal))) ≤ line_most }
+pub fn write_turned_away(buf: &mut [u8], number: usize) -> usize
+    ensures shown { Output buf.old (verdict_line (refused number)) buf.new result }
+    ensures short { length (verdict_line (refused number)) ≤ line_most }
 {
     let mut line = [0u8; LINE_MOST];
-    let size = turned_away_line(&mut line, refusal);
+    let size = turned_away_line(&mut line, number);
     write(buf, 0, &line[..size])
 }

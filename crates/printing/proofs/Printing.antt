@@ -10,10 +10,6 @@ use Rattle.definitions.specs.Limits.{signed_half, class_optimal, class_unbounded
 use Rattle.definitions.specs.Tropical.{Trop}
 use Rattle.definitions.specs.Offset.{trop_of}
 use Rattle.definitions.specs.Verdict.{refused, not_certified}
-use Rattle.records.specs.declared.refusal.Refusal.{Refusal}
-use Rattle.records.specs.declared.refusal.Refusal.TheVariants.{NotCertified}
-use Rattle.records.specs.Refusals.{number_of}
-use Rattle.records.proofs.Refusing.{not_fourteen}
 use Rattle.definitions.specs.Programs.{decimal, whole_decimal, span_decimal, text_least, text_bottomless, text_none, text_not_certified, newline, class_words, refused_line, verdict_line}
 use Rattle.definitions.proofs.Offset.{trop_zero, trop_show}
 use Rattle.printing.specs.Text.{Putting}
@@ -77,7 +73,6 @@ unfolding verdict_line
 verdict_uncertified p = p
 
 -- Any other by its number.
-pub verdict_refused : {l : List ℕ} (r : Refusal) {after : List ℕ} {next : ℕ} → Putting l 0 (refused_line (number_of r)) after next → (r ≡ NotCertified → ⊥)
-    → Putting l 0 (verdict_line (refused (number_of r))) after next
+pub verdict_refused : {l : List ℕ} (k : ℕ) {after : List ℕ} {next : ℕ} → Putting l 0 (refused_line k) after next → (k ≡ not_certified → ⊥) → Putting l 0 (verdict_line (refused k)) after next
 unfolding verdict_line
-verdict_refused r p n = rw (ne_eqb (number_of r) not_certified (not_fourteen r n)) p
+verdict_refused k p n = rw (ne_eqb k not_certified n) p

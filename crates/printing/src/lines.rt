@@ -3,7 +3,6 @@ ghost use Rattle.std.specs.Prelude.{◌+◌, ◌≤◌, ◌++◌, length};
 ghost use Rattle.definitions.specs.Offset.{trop_of};
 ghost use Rattle.definitions.specs.Verdict.{accepted, refused};
 ghost use Rattle.definitions.specs.Programs.{text_least, span_decimal, class_words, refused_line, verdict_line};
-ghost use Rattle.records.specs.Refusals.{number_of};
 ghost use Rattle.printing.specs.Text.{Putting, line_most};
 
 use crate::text::{copy, put_decimal};
@@ -61,22 +60,23 @@ pub fn accepted_line(line: &mut [u8], class: u64, span: u64) -> usize
 }
 
 // Puts the line of a refusal. Public for `output::writer`.
-pub fn refused_line(line: &mut [u8], refusal: Refusal) -> usize
+pub fn refused_line(line: &mut [u8], number: usize) -> usize
     requires { line_most ≤ length line.old }
-    ensures { Putting line.old 0 (refused_line (number_of refusal)) line.new result × (result ≤ line_most) }
+    ensures { Putting line.old 0 (refused_line number) line.new result × (result ≤ line_most) }
 {
     let a = copy(line, 0, b"refused ");
-    let b = put_decimal(line, a, refusal.number() as u64);
+    let b = put_decimal(line, a, number as u64);
     copy(line, b, b"\n")
 }
 
 // Puts the line of a verdict that turns an answer away: a form that is right is told in words. Public for `output::writer`.
-pub fn turned_away_line(line: &mut [u8], refusal: Refusal) -> usize
+pub fn turned_away_line(line: &mut [u8], number: usize) -> usize
     requires { line_most ≤ length line.old }
-    ensures { Putting line.old 0 (verdict_line (refused (number_of refusal))) line.new result × (result ≤ line_most) }
+    ensures { Putting line.old 0 (verdict_line (refused number)) line.new result × (result ≤ line_most) }
 {
-    match refusal {
-        Refusal::NotCertified => copy(line, 0, b"not certified\n"),
-        _ => refused_line(line, refusal),
+    if number == Refusal::NotCertified.number() {
+        copy(line, 0, b"not certified\n")
+    } else {
+        refused_line(line, number)
     }
 }

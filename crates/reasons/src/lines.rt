@@ -48,7 +48,7 @@ pub fn put_lines(lines: &mut [u8], reasons: Result<Grounds, Refusal>) -> usize
     ensures lines_are { take result lines.new ≡ reasons_lines (reasons_of reasons) }
 {
     match reasons {
-        Err(refusal) => write_turned_away(lines, refusal),
+        Err(refusal) => write_turned_away(lines, refusal.number()),
         Ok(Grounds { rules, round }) => {
             let next = put_line(lines, 0, b"rules", rules.as_slice());
             match round {

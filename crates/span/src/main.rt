@@ -26,7 +26,7 @@ fn put_out(out: &mut [u8], buffer: &[u8], solved: Result<Solution, Refusal>) -> 
     match solved {
         Ok(Solution::One(Answered { size, .. })) => write_front(out, buffer, size),
         Ok(Solution::All { size: all, .. }) => write_front(out, buffer, all),
-        Err(refusal) => write_refused(out, refusal),
+        Err(refusal) => write_refused(out, refusal.number()),
     }
 }
 

@@ -22,7 +22,7 @@ fn put_line(line: &mut [u8], verdict: Result<Certified, Refusal>) -> usize
 {
     match verdict {
         Ok(Certified { class, span }) => write_accepted(line, class, span),
-        Err(refusal) => write_turned_away(line, refusal),
+        Err(refusal) => write_turned_away(line, refusal.number()),
     }
 }
 

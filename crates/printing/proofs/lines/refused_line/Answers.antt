@@ -5,4 +5,4 @@ use Rattle.printing.proofs.lines.refused_line.Goals as goal
 
 pub returns : goal.returns
 unfolding refused_line text_refused
-returns c = (rw (← c.number.ensures) (line_puts c.copy-a.ensures c.put_decimal-b.ensures.0 c.copy.ensures (omega arith)), omega arith)
+returns c = (line_puts c.copy-a.ensures c.put_decimal-b.ensures.0 c.copy.ensures (omega arith), omega arith)
