@@ -54,6 +54,8 @@ fn certify_optimal(
 }
 
 // Class 2, bottomless: judged at the lowest trial from a start, on tables: a cycle that uses the objective then weighs below zero.
+// It is not inlined, so that the stack of the other classes does not hold the tables.
+#[inline(never)]
 fn certify_unbounded(rows: &Rows, picks: &[u64; ROWS], start: [u8; STRIDE]) -> bool
     requires { Picked picks.now (rows.now.n + 1) × Flags start }
     ensures { Decides (AcceptedUnbounded (Begins start (rows.now.n + 1)) (problem_of rows.now.bytes.now) (strategy_of picks.now)) result }

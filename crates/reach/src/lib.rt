@@ -64,9 +64,9 @@ fn mark_row(arcs: &[u32; ARCS], base: usize, marks: &mut [u8; STRIDE])
 
 // Marks, and which variables are done: they have marked all to which they lead.
 #[derive(Clone, Copy)]
-struct Spread {
-    marks: [u8; STRIDE],
-    done: [u8; STRIDE],
+pub struct Spread {
+    pub marks: [u8; STRIDE],
+    pub done: [u8; STRIDE],
 }
 
 impl Spread {

@@ -4,7 +4,7 @@ use crate::script::{Marks, minus};
 use records::limits::{LEAD_BYTES, OFFSET, PROBLEM_HEADER, STRIDE, TABLE};
 
 // The room of a record: the largest problem that is tried has n 32 and m 63, 10 + 8 × 33 × 64 bytes.
-const ROOM: usize = 16906;
+pub const ROOM: usize = 16906;
 
 // How many leads the largest problem has.
 const LEADS_MOST: usize = 2 * TABLE;
@@ -14,7 +14,7 @@ const ROW: usize = 2 * LEAD_BYTES * STRIDE;
 
 // The bytes of a record, and what is handed over beside it.
 // An array and a count, as a list on the heap would put more C functions under what is trusted.
-#[derive(Drop)]
+#[derive(Clone, Copy)]
 pub struct Record {
     bytes: [u8; ROOM],
     size: usize,

@@ -1,4 +1,7 @@
 // The cases: one line of standard input each.
+ghost use Rattle.std.specs.Prelude.{◌≤◌, length};
+
+use crate::print::Lasting;
 use crate::script::Case;
 use crate::{
     answer_runs, checker_runs, engine_runs, problem_runs, round_trips, sheet_runs, writer_runs,
@@ -28,7 +31,9 @@ fn run_case(rt: &impl Print, case: Case<'_>) -> io::Result<()> {
 }
 
 // Reads until the buffer is full, the input ends or a read fails: how many bytes stand at its start.
-fn read_full(input: &mut impl Read, buffer: &mut [u8]) -> usize {
+fn read_full(input: &mut impl Read, buffer: &mut [u8]) -> usize
+    ensures { result ≤ length buffer.new }
+{
     let mut size = 0;
     while size < buffer.len() {
         match input.read(&mut buffer[size..]) {
@@ -39,13 +44,13 @@ fn read_full(input: &mut impl Read, buffer: &mut [u8]) -> usize {
     size
 }
 
-// Reads the cases and runs each. Where a read fails, those before it are run.
+// Reads the cases and runs each. Where a read fails, those before it are run; where a write fails, the output is short, and what is
+// behind it is written all the same.
 pub fn run(rt: &(impl Input + Print)) -> io::Result<()> {
     let mut buffer = [0u8; CASES_MOST];
     let size = read_full(&mut rt.reader(), &mut buffer);
-    let text = buffer.get(..size).unwrap_or(&[]);
-    for line in text.split(|byte| *byte == b'\n') {
-        run_case(rt, Case(line))?;
+    for line in buffer[..size].split(|byte| *byte == b'\n') {
+        run_case(&Lasting(rt), Case(line))?;
     }
     Ok(())
 }

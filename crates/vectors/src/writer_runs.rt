@@ -10,11 +10,11 @@ use records::refusal::Refusal;
 use std::io;
 
 // The most stamps and picks that a list here has.
-const LONGEST: usize = 70;
+pub const LONGEST: usize = 70;
 
 // What is handed to the writer: the buffer is the first `room` bytes.
 // Arrays and counts, as lists on the heap would put more C functions under what is trusted.
-#[derive(Drop)]
+#[derive(Clone, Copy)]
 pub struct Fields {
     pub head: Head,
     stamps: [u64; LONGEST],
