@@ -8,6 +8,7 @@ use Rattle.records.specs.declared.class.Class.TheVariants.{Optimal, Unbounded, I
 use Rattle.records.specs.Classes.{class_number}
 use Rattle.search.specs.declared.search.Found.{Found}
 use Rattle.search.specs.declared.steps.Search.{Search}
+use Rattle.search.specs.declared.steps.Told.{Told}
 use Rattle.search.specs.Trials.{whole_of, top_offset, lowest_offset, PossibleBy, bracket_of, Halving, FoundBy}
 
 -- The word of a search that is open.
@@ -55,13 +56,17 @@ span_for None high = 0
 abbrev pub span_of : Search → ℕ
 span_of s = span_for s.class s.bracket.high
 
--- What a search found: nothing while it is open.
-abbrev found_for : Option Class → ℕ → ℕ → Option Found
-found_for None span made = None
-found_for (Some c) span made = Some (record { class = c; span = span; trials = made })
+-- What a search tells: its class, none while it is open, its span and its trials.
+abbrev pub found_of : Search → Told
+found_of s = record { class = s.class; span = span_of s; trials = s.made }
 
-abbrev pub found_of : Search → Option Found
-found_of s = found_for s.class (span_of s) s.made
+-- What was found: nothing while the search is open.
+abbrev found_for : Option Class → ℕ → ℕ → Option Found
+found_for None span trials = None
+found_for (Some c) span trials = Some (record { class = c; span = span; trials = trials })
+
+abbrev pub closed_of : Told → Option Found
+closed_of r = found_for r.class r.span r.trials
 
 -- The trial that was made: at document 01's next t, with this outcome. It is counted; the first two leave the bracket as it is, each
 -- further one leaves document 01's next bracket.

@@ -1,7 +1,7 @@
 // The same search one trial at a time, for a desk. Document 02, 2.11.
 ghost use Rattle.std.specs.Prelude.{◌≡◌, ◌<◌};
 ghost use Rattle.definitions.specs.Limits.{signed_full};
-ghost use Rattle.search.specs.Underway.{class_word, class_from, at_start, found_of, Underway, Tried};
+ghost use Rattle.search.specs.Underway.{class_word, class_from, at_start, found_of, closed_of, Underway, Tried};
 
 use crate::bracket::Bracket;
 use crate::search::Found;
@@ -75,16 +75,38 @@ pub fn next_trial(second: u64, search: Search) -> Search
     }
 }
 
-// What a search found, none while it is open: the span is its high where it closed as least.
-pub fn found_of(search: Search) -> Option<Found>
+// What a search tells: its class, none while it is open; its high where it closed as least, else 0; and the trials made.
+#[derive(Clone, Copy)]
+pub struct Told {
+    pub class: Option<Class>,
+    pub span: u64,
+    pub trials: u64,
+}
+
+// What a search tells.
+pub fn found_of(search: Search) -> Told
     ensures { result ≡ found_of search }
 {
-    search.class.map(|class| Found {
-        class,
-        span: match class {
-            Class::Optimal => search.bracket.high,
-            Class::Unbounded | Class::Infeasible => 0,
-        },
+    let span = match search.class {
+        Some(Class::Optimal) => search.bracket.high,
+        Some(Class::Unbounded | Class::Infeasible) | None => 0,
+    };
+    Told {
+        class: search.class,
+        span,
         trials: search.made,
-    })
+    }
+}
+
+impl Told {
+    // What was found, none while the search is open.
+    pub fn closed(self) -> Option<Found>
+        ensures { result ≡ closed_of self }
+    {
+        self.class.map(|class| Found {
+            class,
+            span: self.span,
+            trials: self.trials,
+        })
+    }
 }
