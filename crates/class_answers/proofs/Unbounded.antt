@@ -10,8 +10,9 @@ use mathlib.Core.List.{List}
 use native.Mathlib.Omega.{arith}
 use native.Mathlib.Numerals.{add-one}
 use lib.Dec.{leb, ltb}
-use lib.ListN.{get_or, take, replicate, length-replicate}
+use lib.ListN.{length, get_or, take, replicate, length-replicate, get_or-eq_default}
 use borrow.Author.Tests.{le-leb, lt-ltb}
+use Rattle.base.proofs.Numbers.{nat_le_or_lt}
 use Rattle.base.proofs.Filled.{zeros}
 use Rattle.definitions.specs.Limits.{lead_limit, span_limit}
 use Rattle.definitions.specs.Tropical.{Trop, plus, Finite}
@@ -76,13 +77,23 @@ rows_induced left right x rows n m s a f i h g =
 start_inside : (k n : ℕ) → k < n + 1 → (ltb 0 (k + 1) && leb (k + 1) (suc n)) ≡ true
 start_inside k n h = (and-eq-true_iff (ltb 0 (k + 1)) (leb (k + 1) (suc n))).1 (lt-ltb 0 (k + 1) (omega arith), le-leb (k + 1) (suc n) (omega arith))
 
--- A point that shows t possible is met: some variable of the second list has a value there.
-point_met : {p : Problem} {n m t : ℕ} {left right row x : List ℕ} → Held p n m left right → n ≤ 31 → Copied right m 32 row → PointAt p t x
-    → SecondIs row x (n + 1) (n + 1) → ⊥
-point_met {n = n} q b c x m =
+-- Both marks are among the 32.
+pub anchored_below : {k : ℕ} {start : List ℕ} → AnchoredAnd k start → k < 32
+anchored_below {k} {start} a = ⊎_elim
+    (λ (h : 32 ≤ k). let b : length start ≤ k = omega (arith, a.flags.length_is) in absurd (omega (arith, a.other, get_or-eq_default start 0 b)))
+    (λ h. h)
+    (nat_le_or_lt 32 k)
+
+-- A point that shows t possible is met: a variable of the second list has a value there.
+point_second : {p : Problem} {n m t : ℕ} {left right row x : List ℕ} {k : ℕ} → Held p n m left right → n ≤ 31 → Copied right m 32 row → PointAt p t x
+    → SecondIs row x (n + 1) k → k < n + 1
+point_second {n = n} {k = k} q b c x m = ⊎_elim
+    (λ (h : n + 1 ≤ k).
     let s = x.second in
     let g = (second_held q b c s.at).0 s.started in
-    m.none (omega arith) s.at g.0 (g.1, (number_finite _).0 s.finite)
+    absurd (m.none h s.at g.0 (g.1, (number_finite _).0 s.finite)))
+    (λ h. h)
+    (nat_le_or_lt (n + 1) k)
 
 -- The lowest trial is possible: bottomless.
 module _ {f : Frame} {raised : List ℕ} {l : Look} {found : Found} {x row rows : List ℕ} (y : Ready f)
@@ -103,10 +114,17 @@ module _ {f : Frame} {raised : List ℕ} {l : Look} {found : Found} {x row rows 
 
   -- The second list has a variable with a value.
   pub second_some : (o : Option ℕ) → MatchOption o (SecondIs row x (f.n + 1) (f.n + 1)) (λ k. (k < f.n + 1) × SecondIs row x (f.n + 1) k) → IsSome o
-  second_some None m = let q = problem_in_lem f.n f.m f.left.now f.right.now in absurd (point_met q c.n_most copied (shows _ q) m)
+  second_some None m = let q = problem_in_lem f.n f.m f.left.now f.right.now in let far : f.n + 1 < f.n + 1 = point_second q c.n_most copied (shows _ q) m in absurd (omega arith)
   second_some (Some k) m = search rules
 
-  module _ {k : ℕ} (inside : k < f.n + 1) (met : SecondIs row x (f.n + 1) k) where
+  module _ {k : ℕ} (met : SecondIs row x (f.n + 1) k) where
+    inside : k < f.n + 1
+    inside = let q = problem_in_lem f.n f.m f.left.now f.right.now in point_second q c.n_most copied (shows _ q) met
+
+    -- It is among the 32.
+    pub second_below : k < 32
+    second_below = omega (arith, inside, c.n_most)
+
     -- The row strategy of the point saves there, from the anchor and that variable.
     saves : (p : Problem) → Held p f.n f.m f.left.now f.right.now → Saves (system_at p (lower span_limit)) (AnchorAnd k) (pick_of rows)
     unfolding system_at

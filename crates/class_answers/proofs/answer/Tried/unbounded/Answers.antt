@@ -22,4 +22,4 @@ unwrap-k-requires c = let k = c.requires.0 in
 pub returns : goal.returns
 returns c = let k = c.requires.0 in
     let met = rw c.unwrap-k.ensures at c.second_met-second.ensures in
-    unbounded_answer k.ready k.looked k.found_by c.requires.1 c.raise.ensures c.point_at-point.ensures c.induced-targets.ensures c.row_of.ensures met.0 met.1 c.anchor_and.ensures c.row_picks-picks.ensures
+    unbounded_answer k.ready k.looked k.found_by c.requires.1 c.raise.ensures c.point_at-point.ensures c.induced-targets.ensures c.row_of.ensures met.1 c.anchor_and.ensures c.row_picks-picks.ensures
