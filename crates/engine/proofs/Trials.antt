@@ -28,7 +28,7 @@ use Rattle.problem_records.specs.Tables.{left_table, right_table}
 use Rattle.search.specs.declared.search.Found.{Found}
 use Rattle.search.specs.declared.steps.Search.{Search}
 use Rattle.search.specs.Trials.{FoundBy, whole_of, Trialled, PossibleBy}
-use Rattle.search.specs.Underway.{class_word, span_of, found_of, Underway, Tried}
+use Rattle.search.specs.Underway.{class_word, span_of, found_of, closed_of, Underway, Tried}
 use Rattle.search.proofs.Trials.{finds}
 use Rattle.search.proofs.Underway.{start_underway, underway_more}
 use Rattle.look.specs.declared.frame.Frame.{Frame}
@@ -147,14 +147,14 @@ pub record FoundIn (s : Search) (f : Found) : Type 0 where
   pub span_is : f.span ≡ span_of s
   pub trials_is : f.trials ≡ s.made
 
-pub open_search : (s : Search) → found_of s ≡ None → s.class ≡ None
+pub open_search : (s : Search) → closed_of (found_of s) ≡ None → s.class ≡ None
 open_search s e = go s.class refl
   where
     go : (c : Option Class) → s.class ≡ c → s.class ≡ None
     go None f = f
     go (Some c) f = absurd (let z = rw f at e in cc)
 
-pub found_in : (s : Search) {f : Found} → found_of s ≡ Some f → FoundIn s f
+pub found_in : (s : Search) {f : Found} → closed_of (found_of s) ≡ Some f → FoundIn s f
 found_in s {f} e = go s.class refl
   where
     go : (c : Option Class) → s.class ≡ c → FoundIn s f
@@ -190,7 +190,7 @@ module _ {s : List ℕ} {p : Pending} {k : Look} {r : Search} (g : PendingFor s 
       omega (arith, t.trial.counted, (Classes.found_one (looked_found (stands_tables stands) l.looked (problem_of s) held f.found) found).2, underway_more (t.goes_on e) f.found)
 
   -- It goes on,
-  pub trial_open : found_of r ≡ None → TrialFor s p (moved k)
+  pub trial_open : closed_of (found_of r) ≡ None → TrialFor s p (moved k)
   trial_open none =
       let e = open_search r none in
       record {
@@ -203,7 +203,7 @@ module _ {s : List ℕ} {p : Pending} {k : Look} {r : Search} (g : PendingFor s 
         ends = λ d. absurd (d e);
       }
 
-  module _ {f : Found} (some : found_of r ≡ Some f) where
+  module _ {f : Found} (some : closed_of (found_of r) ≡ Some f) where
     in_search : FoundIn r f
     in_search = found_in r some
 
@@ -249,15 +249,15 @@ module _ {s : List ℕ} {p : Pending} {k : Look} {r : Search} (g : PendingFor s 
 -- ---- writing
 
 -- What was found of an answered problem is told by its search,
-pub answered_found : {p : Pending} → IsAnswered p → IsSome (found_of p.search)
+pub answered_found : {p : Pending} → IsAnswered p → IsSome (closed_of (found_of p.search))
 answered_found {p} g = go p.search.class refl
   where
-    go : (c : Option Class) → p.search.class ≡ c → IsSome (found_of p.search)
+    go : (c : Option Class) → p.search.class ≡ c → IsSome (closed_of (found_of p.search))
     go None e = absurd (g.answered.closed e)
     go (Some c) e = rw e refl
 
 -- its stamps and picks can be written,
-module _ {p : Pending} {f : Found} {stamps picks : List ℕ} (g : IsAnswered p) (some : found_of p.search ≡ Some f) (x : Filled (λ j v. v ≡ stamp_in (get_or p.kept.picks j 0)) 32 32 stamps)
+module _ {p : Pending} {f : Found} {stamps picks : List ℕ} (g : IsAnswered p) (some : closed_of (found_of p.search) ≡ Some f) (x : Filled (λ j v. v ≡ stamp_in (get_or p.kept.picks j 0)) 32 32 stamps)
     (y : Filled (λ k v. v ≡ pick_at p.kept.picks k) 64 64 picks) where
   in_pending : FoundIn p.search f
   in_pending = found_in p.search some

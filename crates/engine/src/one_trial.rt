@@ -101,7 +101,7 @@ pub fn one_trial(problem: &[u8], pending: Pending) -> Pending
 {
     let look = looked(problem, pending);
     let search = next_trial(look.second, pending.search);
-    let kept = match found_of(search) {
+    let kept = match found_of(search).closed() {
         None => look,
         Some(found) => answered(problem, look, found),
     };
@@ -117,7 +117,7 @@ pub fn hand_over(pending: Pending, answer: &mut [u8]) -> Answered
     requires { IsAnswered pending × (answer_most ≤ length answer.old) }
     ensures { HandedOver pending answer.old result answer.new }
 {
-    let found = found_of(pending.search).unwrap();
+    let found = found_of(pending.search).closed().unwrap();
     let shown = Answer {
         class: found.class,
         span: found.span,
