@@ -1,10 +1,10 @@
 // Numbers in turn, at most so many.
-ghost use Rattle.std.specs.Prelude.{◌≡◌, ℕ, ◌≤◌, ◌<◌, List, [], ◌∷◌, ◌++◌, length, take};
+ghost use Rattle.std.specs.Prelude.{◌≡◌, ◌≤◌, ◌<◌, [], ◌∷◌, ◌++◌, length};
 
 use std::marker::Model;
 
-// The numbers stand at the first `count` places.
-#[derive(Drop)]
+// The numbers stand at the first `count` places, and 0 behind them: so they tell each field, and are copied as the fields are.
+#[derive(Clone, Copy)]
 pub struct Numbers<const N: usize> {
     places: [usize; N],
     count: usize,
@@ -12,11 +12,23 @@ pub struct Numbers<const N: usize> {
 
 // Clauses see the numbers.
 impl<const N: usize> Model for Numbers<N> {
+    ghost use Rattle.std.specs.Prelude.{◌≡◌, ℕ, ◌-◌, ◌≤◌, List, ◌++◌, length, take, drop, replicate};
+    ghost use Rattle.std.proofs.Common.{◌∙◌, ap, subst, sym, take-append-drop, length-take-le};
+
     ghost Value = { List ℕ };
 
     ghost view = { λ s. take s.count s.places };
 
-    ghost invariant = { λ s. s.count ≤ N };
+    ghost invariant = { λ s. (s.count ≤ N) × (length s.places ≡ N) × (drop s.count s.places ≡ replicate (N - s.count) 0) };
+
+    ghost inverse = { λ numbers. record { places = numbers ++ replicate (N - length numbers) 0; count = length numbers } };
+
+    ghost inverse_ok = { λ s h i.
+      let counted : length (take s.count s.places) ≡ s.count = length-take-le s.count s.places (subst (λ (n : ℕ). s.count ≤ n) (sym h.1) h.0) in
+      record {
+        places = (ap (λ (k : ℕ). take s.count s.places ++ replicate (N - k) 0) counted ∙ ap (λ (l : List ℕ). take s.count s.places ++ l) (sym h.2) ∙ take-append-drop s.count s.places) i;
+        count = counted i;
+      } };
 }
 
 impl<const N: usize> Numbers<N> {

@@ -19,7 +19,7 @@ use records::problem::CHECKER_KINDS;
 use records::refusal::Refusal;
 
 // The numbers of the rules behind an answer, and for a least span the moments of the round in turn.
-#[derive(Drop)]
+#[derive(Clone, Copy)]
 pub struct Grounds {
     pub rules: Numbers<HIGHEST_M>,
     pub round: Option<Numbers<STRIDE>>,

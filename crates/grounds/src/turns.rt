@@ -8,7 +8,7 @@ use crate::plan::Plan;
 use records::limits::STRIDE;
 
 // The moments that came, in turn, and the place of the one that comes again.
-#[derive(Drop)]
+#[derive(Clone, Copy)]
 pub struct Turns {
     pub came: Numbers<STRIDE>,
     pub back: usize,

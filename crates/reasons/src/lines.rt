@@ -3,14 +3,12 @@ ghost use Rattle.std.specs.Prelude.{◌≡◌, ◌++◌, ◌+◌, ◌*◌, ◌�
 ghost use Rattle.definitions.specs.Programs.{newline};
 ghost use Rattle.definitions.specs.Reasons.{spaced, reasons_lines};
 ghost use Rattle.printing.specs.Text.{Putting};
-ghost use Rattle.grounds.specs.Outcome.{reasons_of};
-ghost use Rattle.reasons.specs.Lines.{number_most, lines_most};
+ghost use Rattle.reasons.specs.Lines.{number_most, lines_most, numbered};
 
 use grounds::reasons::Grounds;
 use output::writer::write_turned_away;
 use printing::text::{copy, put_decimal};
 use records::limits::{HIGHEST_M, STRIDE};
-use records::refusal::Refusal;
 
 // A space and a number take no more bytes.
 const NUMBER_MOST: usize = 21;
@@ -41,14 +39,14 @@ fn put_line(lines: &mut [u8], at: usize, word: &[u8], numbers: &[usize]) -> usiz
     copy(lines, b, b"\n")
 }
 
-// Puts the lines of the reasons at the front of a buffer, and gives their size.
-pub fn put_lines(lines: &mut [u8], reasons: Result<Grounds, Refusal>) -> usize
+// Puts the lines of the reasons, or of a refusal's number, at the front of a buffer, and gives their size.
+pub fn put_lines(lines: &mut [u8], reasons: Result<Grounds, usize>) -> usize
     requires { length lines.old ≡ lines_most }
     ensures inside { result ≤ lines_most }
-    ensures lines_are { take result lines.new ≡ reasons_lines (reasons_of reasons) }
+    ensures lines_are { take result lines.new ≡ reasons_lines (numbered reasons) }
 {
     match reasons {
-        Err(refusal) => write_turned_away(lines, refusal.number()),
+        Err(number) => write_turned_away(lines, number),
         Ok(Grounds { rules, round }) => {
             let next = put_line(lines, 0, b"rules", rules.as_slice());
             match round {

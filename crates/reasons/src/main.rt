@@ -20,7 +20,8 @@ fn answer(kept: &[u8; KEPT], size: u64, lines: &mut [u8]) -> usize
     ensures inside { result ≤ lines_most }
     ensures lines_are { (input : List ℕ) → ReadFrom kept.now size input → ReasonsOutput input (take result lines.new) }
 {
-    put_lines(lines, input_reasons(kept, size))
+    let reasons = input_reasons(kept, size).map_err(|refusal| refusal.number());
+    put_lines(lines, reasons)
 }
 
 fn main(rt: HostRuntime) {
