@@ -16,6 +16,7 @@ use Rattle.base.proofs.Filled.{zeros}
 use Rattle.definitions.specs.Certificate.{Reachable, Anchor, AnchorAnd, start, onward}
 use Rattle.definitions.specs.Marks.{DifferBelow}
 use Rattle.definitions.proofs.Marks.{differ_here}
+use Rattle.duality.specs.Starts.{StartBelow}
 use Rattle.duality.proofs.Height.{total_falls}
 use Rattle.duality.proofs.Reach.{reach_keep, reach_map}
 use Rattle.reach.specs.Marks.{Marked, Led, Begins, Flags, StartMarked, Anchored, AnchoredAnd, Reached}
@@ -283,6 +284,19 @@ coefficients_flags coefficients {begin} m = record {
   length_is = m.size_is;
   flag = λ j. ⊎_elim (λ (h : 32 ≤ j). omega (arith, m.rest j h)) (λ (h : j < 32). rw (m.each j h) (mark_flag 0 _ (omega arith))) (nat_le_or_lt 32 j);
 }
+
+-- Whether a variable is one of the start is decided by its mark.
+pub marked_start : {Start : ℕ → Type 0} {width : ℕ} {begin : List ℕ} → StartMarked Start width begin → StartBelow width Start
+marked_start {Start} {width} {begin} s = record { decided = decided; inside = λ j h. (s.marked j h).inside }
+  where
+    decided : (j : ℕ) → Start j ⊎ (Start j → ⊥)
+    decided j = ⊎_elim
+        (λ (h : width ≤ j). inr (λ b. omega (arith, (s.marked j b).inside)))
+        (λ (h : j < width). ⊎_elim
+        (λ (z : get_or begin j 0 ≡ 0). inr (λ b. omega (arith, (s.marked j b).marked)))
+        (λ m. inl (s.only j (record { inside = h; marked = m })))
+        (eq-zero-or-pos (get_or begin j 0)))
+        (nat_le_or_lt width j)
 
 -- What is reached from these marks is reachable from the start, and what is reachable from it is reached.
 module _ {Start : ℕ → Type 0} {arcs : List ℕ} {width : ℕ} {begin marks : List ℕ} (starts : StartMarked Start width begin)
