@@ -55,7 +55,7 @@ opened_words {memory} {words} {after} {f = f} h w o e z put classes =
     let same : ready.0 ≡ f = (let both : Ok ready.0 ≡ Ok f = sym ready.1 ∙ e in cc) in
     let put = rw z at put in
     let stored : DeskPut (desk_from after) 0 words after = rw put.back put in
-    OverLent.makes h w (refl, Machine.opens (memory_enough (length memory) h), rw (put.back, ← same) ready.2, (stored, λ k l. inl (classes k l)))
+    OverLent.makes h w (refl, Machine.opens (memory_enough (length memory) h), rw (put.back, ← same) ready.2, (stored, classes))
 
 -- ---- taking in
 

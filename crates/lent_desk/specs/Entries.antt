@@ -43,6 +43,10 @@ ClassesKept before after = (k : ℕ) → k < desk_places → ClassTold after k �
 abbrev pub Stored : List ℕ → ℕ → List ℕ → Type 0
 Stored words told after = DeskPut (desk_from after) told words after × ClassesKept words after
 
+-- The same, where the call writes every place: each class word tells its class, whatever the words held.
+abbrev pub StoredAll : List ℕ → ℕ → List ℕ → Type 0
+StoredAll words told after = DeskPut (desk_from after) told words after × ((k : ℕ) → k < desk_places → ClassTold after k)
+
 -- 23 where the memory is too short, 255 where the words are too few, and nothing is changed; else what the call makes of them.
 pub data OverLent (memory words : List ℕ) (Still : ℕ → Type 0) (Made : Type 0) : Type 0 where
   short : length memory < desk_memory → Still refused_memory → OverLent memory words Still Made
@@ -70,7 +74,7 @@ Moves memory words From = (left : Left (desk_from words) memory) → From left.s
 -- Opening: 0, with the words of a desk with nothing on it, whatever memory and words held.
 abbrev pub OpenedAs : List ℕ → List ℕ → ℕ → List ℕ → Type 0
 OpenedAs memory words number after = OverLent memory words (λ k. (number ≡ k) × (after ≡ words))
-    ((number ≡ 0) × Opens (length memory) Machine.ready Machine.opened × Holds (desk_from after) memory Machine.opened × Stored words 0 after)
+    ((number ≡ 0) × Opens (length memory) Machine.ready Machine.opened × Holds (desk_from after) memory Machine.opened × StoredAll words 0 after)
 
 -- Taking in, from the state of the machine that memory and words hold: the refusal, and both as they were; or 0, with the ticket told, the
 -- problem put into the memory at the first empty place, its search begun there, and every other byte and every other place as it was.
