@@ -54,8 +54,6 @@ fn certify_optimal(
 }
 
 // Class 2, bottomless: judged at the lowest trial from a start, on tables: a cycle that uses the objective then weighs below zero.
-// It is not inlined, so that the stack of the other classes does not hold the tables.
-#[inline(never)]
 fn certify_unbounded(rows: &Rows, picks: &[u64; ROWS], start: [u8; STRIDE]) -> bool
     requires { Picked picks.now (rows.now.n + 1) × Flags start }
     ensures { Decides (AcceptedUnbounded (Begins start (rows.now.n + 1)) (problem_of rows.now.bytes.now) (strategy_of picks.now)) result }
@@ -131,7 +129,9 @@ fn check_in_force(problem: &[u8], n: usize, m: usize, answer: &[u8]) -> Result<C
     requires { StatesHeld problem.now n m }
     ensures { Answered (problem_of problem.now) n m answer.now (verdict_of result) }
 {
-    check_room(problem, &in_force(problem, n, m), n, m, answer)
+    // By a name: handed on without one it is copied, in time and on the stack.
+    let room = in_force(problem, n, m);
+    check_room(problem, &room, n, m, answer)
 }
 
 // The verdict on a problem record and the bytes of an answer.

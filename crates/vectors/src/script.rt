@@ -88,7 +88,7 @@ fn longer(x: u64, digit: u8) -> u64 {
 
 // The number after a byte: `-` makes it the field of −x, `+` and `~` the offset numbers of x and −x, `_` is a blank's field, and what
 // is no digit ends it.
-fn number_after(x: u64, byte: u8) -> u64 {
+pub fn number_after(x: u64, byte: u8) -> u64 {
     match byte {
         b'0'..=b'9' => longer(x, byte - b'0'),
         b'-' => minus(x),
