@@ -24,11 +24,11 @@ impl<const N: usize> Model for Numbers<N> {
     ghost inverse = { λ numbers. record { places = numbers ++ replicate (N - length numbers) 0; count = length numbers } };
 
     ghost inverse_ok = { λ s h i.
-      let counted : length (take s.count s.places) ≡ s.count = length-take-le s.count s.places (subst (λ (n : ℕ). s.count ≤ n) (sym h.1) h.0) in
-      record {
-        places = (ap (λ (k : ℕ). take s.count s.places ++ replicate (N - k) 0) counted ∙ ap (λ (l : List ℕ). take s.count s.places ++ l) (sym h.2) ∙ take-append-drop s.count s.places) i;
-        count = counted i;
-      } };
+        let counted : length (take s.count s.places) ≡ s.count = length-take-le s.count s.places (subst (λ (n : ℕ). s.count ≤ n) (sym h.1) h.0) in
+        record {
+          places = (ap (λ (k : ℕ). take s.count s.places ++ replicate (N - k) 0) counted ∙ ap (λ (l : List ℕ). take s.count s.places ++ l) (sym h.2) ∙ take-append-drop s.count s.places) i;
+          count = counted i;
+        } };
 }
 
 impl<const N: usize> Numbers<N> {
