@@ -1,3 +1,4 @@
+pub mod Numbering
 pub mod Sums
 pub mod Picking
 pub mod Reaching
