@@ -47,9 +47,9 @@ pub fn put_lines(lines: &mut [u8], reasons: Result<Grounds, usize>) -> usize
 {
     match reasons {
         Err(number) => write_turned_away(lines, number),
-        Ok(Grounds { rules, round }) => {
-            let next = put_line(lines, 0, b"rules", rules.as_slice());
-            match round {
+        Ok(grounds) => {
+            let next = put_line(lines, 0, b"rules", grounds.rules.as_slice());
+            match grounds.round {
                 None => next,
                 Some(round) => put_line(lines, next, b"round", round.as_slice()),
             }

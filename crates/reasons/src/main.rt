@@ -20,8 +20,10 @@ fn answer(kept: &[u8; KEPT], size: u64, lines: &mut [u8]) -> usize
     ensures inside { result ≤ lines_most }
     ensures lines_are { (input : List ℕ) → ReadFrom kept.now size input → ReasonsOutput input (take result lines.new) }
 {
-    let reasons = input_reasons(kept, size).map_err(|refusal| refusal.number());
-    put_lines(lines, reasons)
+    match input_reasons(kept, size) {
+        Ok(grounds) => put_lines(lines, Ok(grounds)),
+        Err(refusal) => put_lines(lines, Err(refusal.number())),
+    }
 }
 
 fn main(rt: HostRuntime) {
