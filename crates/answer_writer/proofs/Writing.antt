@@ -135,6 +135,11 @@ module _ (head : Head) (stamps picks : List ℕ) (n m room : ℕ) where
       → j ≡ form_refusal (fields_of head stamps picks) n m → j ≡ writer_refusal (fields_of head stamps picks) n m room
   counts_then_form e f = rw (refusal_split, ← e) f
 
+  -- The same of fields that were judged with the same n and m.
+  pub counts_then_judged : {j a b : ℕ} → 0 ≡ writer_judged head.class head.start (length stamps) (length picks) n m room
+      → j ≡ form_refusal (fields_of head stamps picks) a b → a ≡ n → b ≡ m → j ≡ writer_refusal (fields_of head stamps picks) n m room
+  counts_then_judged e f p q = counts_then_form e (rw (p, q) at f)
+
 -- ---- the record is the answer's
 
 -- The field of what an offset number within a limit below 2³¹ stands for is the number's own.

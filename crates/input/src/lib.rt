@@ -28,9 +28,13 @@ fn read_some<R: Read>(input: &mut R, kept: &mut [u8; KEPT], size: u64) -> io::Re
     ensures taken { OnceTaken (R.remaining input.old) (R.remaining input.new) kept.old size result kept.new }
 {
     let mut buf = [0u8; READ_SIZE];
-    let n = input.read(&mut buf)?;
-    keep(kept, size, &buf[..n]);
-    Ok(n as u64)
+    match input.read(&mut buf) {
+        Err(e) => Err(e),
+        Ok(n) => {
+            keep(kept, size, &buf[..n]);
+            Ok(n as u64)
+        }
+    }
 }
 
 // Reads an input to its end, or until so much was counted that no outcome changes; keeps its first 20,000 bytes, and

@@ -12,7 +12,7 @@ returns-in_err-layout c = let p = err_from_is_err_and c.from_residual.result c.f
 
 pub read_in_force-requires : goal.read_in_force-requires
 read_in_force-requires c = let t = told_of _ c.judge_problem.ensures c.in_ok-layout.was in
-    (states_held t (ap kind_number c.in-States.is), search rules, search rules)
+    (states_held t (omega (arith, ap kind_number c.in-States.is)), search rules, search rules)
 
 pub overflow_sub-behind : goal.overflow_sub-behind
 overflow_sub-behind c = let t = told_of _ c.judge_problem.ensures c.in_ok-layout.was in omega (arith, t.fits.leads_least)
@@ -29,7 +29,7 @@ read_tables-requires c = let t = told_of _ c.judge_problem.ensures c.in_ok-layou
 
 pub returns-in-States : goal.returns-in-States
 returns-in-States c = let t = told_of _ c.judge_problem.ensures c.in_ok-layout.was in
-    states_read t (ap kind_number c.in-States.is) c.read_in_force.ensures c.in_ok-layout.ensures
+    states_read t (omega (arith, ap kind_number c.in-States.is)) c.read_in_force.ensures c.in_ok-layout.ensures
 
 pub returns-in-Problem : goal.returns-in-Problem
 returns-in-Problem c = let t = told_of _ c.judge_problem.ensures c.in_ok-layout.was in
