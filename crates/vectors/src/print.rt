@@ -4,6 +4,7 @@ use records::limits::OFFSET;
 use std::{fmt, io};
 
 // Printing that goes on: what cannot be written is left out.
+#[derive(Drop)]
 pub struct Lasting<'a, P>(pub &'a P);
 
 impl<P: Print> Print for Lasting<'_, P> {
