@@ -129,9 +129,7 @@ fn check_in_force(problem: &[u8], n: usize, m: usize, answer: &[u8]) -> Result<C
     requires { StatesHeld problem.now n m }
     ensures { Answered (problem_of problem.now) n m answer.now (verdict_of result) }
 {
-    // By a name: handed on without one it is copied, in time and on the stack.
-    let room = in_force(problem, n, m);
-    check_room(problem, &room, n, m, answer)
+    check_room(problem, &in_force(problem, n, m), n, m, answer)
 }
 
 // The verdict on a problem record and the bytes of an answer.
