@@ -2,7 +2,7 @@
 ghost use Rattle.std.specs.Prelude.{◌≡◌, ◌+◌, ◌*◌, ◌-◌, ◌≤◌, ◌<◌, not, length};
 ghost use Rattle.definitions.specs.Limits.{highest_m, most_questions, length_bytes, signed_bytes};
 ghost use Rattle.definitions.specs.Bytes.{put};
-ghost use Rattle.definitions.specs.ProblemRecord.{m_field, blank_left};
+ghost use Rattle.definitions.specs.ProblemRecord.{m_field, run_blank, blank_left};
 ghost use Rattle.definitions.specs.Questions.{part};
 ghost use Rattle.definitions.specs.Conversion.{rules_left, rows_left, converted_size, converted, Converts};
 ghost use Rattle.converter.specs.Steps.{record_most, Stored, head_left, conversion_of};
@@ -31,13 +31,20 @@ impl Record<'_> {
         2 * LEAD_BYTES * (self.layout.n + 1)
     }
 
+    // The left list of rule i begins with so many blanks.
+    fn begins_blank(&self, i: usize, count: usize) -> bool
+        requires { (i < self.now.layout.m) × (count ≤ self.now.layout.n + 1) }
+        ensures { result ≡ run_blank self.now.bytes.now count (self.now.layout.leads + 2 * signed_bytes * (self.now.layout.n + 1) * i) }
+    {
+        all_blank(self.bytes, self.layout.leads + self.row() * i, count)
+    }
+
     // Rule i stays: its left list is not all blank.
     fn stays(&self, i: usize) -> bool
         requires { i < self.now.layout.m }
         ensures { result ≡ not (blank_left self.now.bytes.now i) }
     {
-        let start = self.layout.leads + self.row() * i;
-        !all_blank(self.bytes, start, self.layout.n + 1)
+        !self.begins_blank(i, self.layout.n + 1)
     }
 
     // How many rules stay.

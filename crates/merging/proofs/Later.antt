@@ -208,9 +208,9 @@ later_moved back k l h le = rw (moved_number back l h, trop_larger k (l - back),
 later_kept : (back k l : ℕ) → back < l → l - back < k → trop_of k ≡ later_of back k l
 later_kept back k l h lt = rw (moved_number back l h, trop_larger k (l - back), lt-leb k (l - back) lt) refl
 
--- So the later of the first and what is left of the second is the later of the two.
-pub later_is : (back k l : ℕ) → Near stamp_limit k → Near stamp_limit l → early (later_of back k l) ≡ false → (trop_of (max k (l - back)) ≡ later_of back k l) × (max k (l - back) < signed_full)
-later_is back k l near near₂ e = (
+-- So a number that is the later of the first and what is left of the second is the later of the two.
+pub later_is : (back k l : ℕ) {v : ℕ} → Near stamp_limit k → Near stamp_limit l → early (later_of back k l) ≡ false → v ≡ max k (l - back) → (trop_of v ≡ later_of back k l) × (v < signed_full)
+later_is back k l near near₂ e is = rw is (
   ⊎_elim
       (λ (h : l ≤ back). let q : max k (l - back) ≡ k = omega arith in rw q (later_first back k l near e h))
       (λ (h : back < l). ⊎_elim

@@ -1,9 +1,6 @@
-use native.Mathlib.Omega.{arith}
-use Rattle.converter.proofs.Steps.{row_inside, rule_stays}
+use borrow.Author.Rules.{rules}
+use Rattle.converter.proofs.Steps.{rule_stays}
 use Rattle.converter.proofs.convert.Record.stays.Goals as goal
 
-pub all_blank-requires : goal.all_blank-requires
-all_blank-requires c = rw c.row.ensures (omega (arith, row_inside c.args.self.now.stored c.args.i (omega arith)))
-
 pub returns : goal.returns
-returns c = rule_stays c.args.self.now.stored c.args.i (rw c.row.ensures at c.all_blank.ensures)
+returns c = rule_stays c.args.self.now.stored c.args.i (search rules)
