@@ -100,9 +100,9 @@ module _ (f : Front) (c : Place) (memory : List ℕ) (enough : desk_memory ≤ l
       line_is = line_head left.holds (omega arith)
 
     -- It is answered,
-    pub stepped_done : (r.pending.search.class ≡ None → ⊥) → StepAt f c memory (Ok (Some (record { ticket = r.ticket; done = true; front = rest; place = r })))
+    pub stepped_done : {ticket : ℕ} → ticket ≡ r.ticket → (r.pending.search.class ≡ None → ⊥) → StepAt f c memory (Ok (Some (record { ticket = ticket; done = true; front = rest; place = r })))
     unfolding DidStep
-    stepped_done e = rw gone (record {
+    stepped_done told e = rw (told, gone) (record {
       short = λ l. absurd (omega arith);
       moves = λ _ left here.
           let s = (trial left here).ends e in
@@ -112,9 +112,9 @@ module _ (f : Front) (c : Place) (memory : List ℕ) (enough : desk_memory ≤ l
     })
 
     -- or goes on, at the end of the line.
-    pub stepped_on : {next : Front} → next ≡ front_joined rest (head_of f) → r.pending.search.class ≡ None → StepAt f c memory (Ok (Some (record { ticket = r.ticket; done = false; front = next; place = r })))
+    pub stepped_on : {next : Front} {ticket : ℕ} → ticket ≡ r.ticket → next ≡ front_joined rest (head_of f) → r.pending.search.class ≡ None → StepAt f c memory (Ok (Some (record { ticket = ticket; done = false; front = next; place = r })))
     unfolding DidStep
-    stepped_on j e = rw (j, gone) (record {
+    stepped_on told j e = rw (told, j, gone) (record {
       short = λ l. absurd (omega arith);
       moves = λ _ left here.
           let g = (trial left here).goes_on e in

@@ -25,11 +25,11 @@ joined-requires c = gone_fits (head_fits _ _ _ (omega arith) c.if-front-eq0.fals
 pub returns-then-done : goal.returns-then-done
 returns-then-done c = rw c.if-done.true (
     stepped_done _ _ _ (omega arith) c.if-front-eq0.false _ (rw c.first-at.ensures at c.tried-next.ensures) c.left_line-rest.ensures
-    (some_not_none _ (sym c.is_some-done.ensures ∙ c.if-done.true))
+    (omega arith) (some_not_none _ (sym c.is_some-done.ensures ∙ c.if-done.true))
     )
 
 pub returns-else-done : goal.returns-else-done
 returns-else-done c = rw c.if-done.false (
     stepped_on _ _ _ (omega arith) c.if-front-eq0.false _ (rw c.first-at.ensures at c.tried-next.ensures) c.left_line-rest.ensures
-    (rw c.first-at.ensures at c.joined.ensures) (none_is _ (sym c.is_some-done.ensures ∙ c.if-done.false))
+    (omega arith) (rw c.first-at.ensures at c.joined.ensures) (none_is _ (sym c.is_some-done.ensures ∙ c.if-done.false))
     )
