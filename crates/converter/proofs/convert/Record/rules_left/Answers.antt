@@ -9,4 +9,4 @@ pub returns : goal.returns
 returns c = let r = c.args.self.now in
     counted_all r.stored
     (count_from_yields_List c.filter.result _ c.count.ensures.ran
-    (YieldsList-from_filter _ (λ i. not (blank_left r.bytes.now i)) (YieldsList-from_range 0 r.layout.m r.layout.m (cc) (omega arith)) c.filter.ensures.closure (λ x b q k. search (rules, tests, rule_stays r.stored))))
+    (YieldsList-from_filter _ (λ i. not (blank_left r.bytes.now i)) (YieldsList-from_range 0 r.layout.m r.layout.m (cc) (omega arith)) c.filter.ensures.closure (λ x b q k. (search rules, search (rules, tests, rule_stays r.stored)))))
