@@ -29,10 +29,10 @@ put_shown {l} {v} p h = let room : 0 + length v ≤ length l = omega (arith, p.n
 module _ {l after : List ℕ} {r : ℕ} (long : length l ≡ lines_most) where
   -- What the program puts out for a refusal, for none, and for least.
   pub shown_refused :
-      (number : ℕ) → Output l (verdict_line (Verdicts.refused number)) after r → length (verdict_line (Verdicts.refused number)) ≤ 64
+      (number : ℕ) {told : ℕ} → told ≡ number → Output l (verdict_line (Verdicts.refused told)) after r → length (verdict_line (Verdicts.refused told)) ≤ 64
       → (r ≤ lines_most) × (take r after ≡ reasons_lines (Reasons.refused number))
   unfolding reasons_lines
-  shown_refused number p h = let s = p.shown (omega arith) in (omega (arith, s.0, h), s.1)
+  shown_refused number e p h = rw (← e) (let s = p.shown (omega arith) in (omega (arith, s.0, h), s.1))
 
   pub shown_none : (rules : List ℕ) → Putting l 0 (text_rules ++ (spaced rules ++ newline)) after r → r ≤ lines_most → take r after ≡ reasons_lines (of_none rules)
   unfolding reasons_lines

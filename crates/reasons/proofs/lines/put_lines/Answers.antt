@@ -4,7 +4,7 @@ use Rattle.reasons.proofs.Shown.{shown_refused, shown_none, shown_least}
 use Rattle.reasons.proofs.lines.put_lines.Goals as goal
 
 pub returns-in-Err-clause-lines_are : goal.returns-in-Err-clause-lines_are
-returns-in-Err-clause-lines_are c = rw c.in-Err.is (shown_refused c.requires _ c.write_turned_away.ensures.shown c.write_turned_away.ensures.short).1
+returns-in-Err-clause-lines_are c = rw c.in-Err.is (shown_refused c.requires c.in-Err.number (omega arith) c.write_turned_away.ensures.shown c.write_turned_away.ensures.short).1
 
 pub returns-in-None-clause-lines_are : goal.returns-in-None-clause-lines_are
 unfolding text_rules
