@@ -49,18 +49,42 @@ use Rattle.engine.specs.Outcome.{solved_of, shown_in, Gives, Writes, SolvedAs, F
 
 -- ---- writing what was found
 
+-- What can be written into a buffer, which has room for every answer, can be written into each that has.
+pub found_room : {n m room : ℕ} {a : Answer} → FoundFor n m room a → answer_most ≤ room
+found_room {n} {m} {room} {a} f = ((writer_fits (shown_in n m a) n m room).0 f.taken).room_enough
+
+found_in : {n m room other : ℕ} {a : Answer} → FoundFor n m room a → answer_most ≤ other → FoundFor n m other a
+found_in {n} {m} {room} {other} {a} f h =
+    let w = (writer_fits (shown_in n m a) n m room).0 f.taken in
+    record {
+      n_most = f.n_most;
+      m_most = f.m_most;
+      stamps_enough = f.stamps_enough;
+      picks_enough = f.picks_enough;
+      taken = (writer_fits (shown_in n m a) n m other).1 (record {
+        n_most = w.n_most;
+        m_most = w.m_most;
+        room_enough = h;
+        class_known = w.class_known;
+        start_fits_is = w.start_fits_is;
+        stamps_count = w.stamps_count;
+        picks_count = w.picks_count;
+        form = w.form;
+      });
+    }
+
 -- The writer was handed what was found, cut to the counts of the class.
 module _
-    {n m k s p : ℕ} {a : Answer} {before after : List ℕ} {r : Result ℕ Refusal} (found : FoundFor n m (length before) a)
+    {n m room k s p : ℕ} {a : Answer} {before after : List ℕ} {r : Result ℕ Refusal}
     (wrote : AnswerWritten (fields_of (record { class = k; span = a.span; start = a.start }) (take s a.stamps) (take p a.picks)) n m r before after)
-    (k-is : k ≡ class_number a.class) (s-is : s ≡ stamp_count k n) (p-is : p ≡ pick_count k n m)
+    (found : FoundFor n m room a) (enough : answer_most ≤ length before) (k-is : k ≡ class_number a.class) (s-is : s ≡ stamp_count k n) (p-is : p ≡ pick_count k n m)
   where
     handed : AnswerWritten (shown_in n m a) n m r before after
     handed = rw (s-is, p-is, k-is) at wrote
 
     record_answered : written_of r ≡ gives (answer_size (class_number a.class) n m)
     unfolding writer_outcome
-    record_answered = handed.answered ∙ outcome-none _ (answer_size (class_number a.class) n m) found.taken
+    record_answered = handed.answered ∙ outcome-none _ (answer_size (class_number a.class) n m) (found_in found enough).taken
 
     -- The writer does not refuse it.
     pub never_refused : IsOk r
@@ -76,7 +100,7 @@ module _
 
     pub wrote_for : after ≡ written before (answer_bytes n (shown_in n m a))
     unfolding unless_refused
-    wrote_for = rw found.taken at handed.buffer
+    wrote_for = rw (found_in found enough).taken at handed.buffer
 
 -- ---- what was found can be written
 

@@ -6,7 +6,7 @@ use Rattle.checker.proofs.check.check_answer.Goals as goal
 
 pub returns-in_err-head : goal.returns-in_err-head
 returns-in_err-head c = let p = err_from_is_err_and c.from_residual.result c.from_residual.ensures.1 in
-    rw (p.1, p.2) (answered_refused _ _ _ _ c.in_err-head.field-0.0 c.in_err-head.ensures.answered)
+    rw (p.1, p.2) (answered_refused _ _ _ _ c.in_err-head.field-0.0 (rw c.in_err-head.was at c.read_answer.ensures.answered))
 
 pub certify-requires : goal.certify-requires
 certify-requires c = let bytes : Bytes c.args.answer.now = record { byte = λ i. (c.type_inv.answer i).fits } in

@@ -9,7 +9,7 @@ returns-then-memory-lt-MEMORY c = took_short c.if-memory-lt-MEMORY.true
 
 pub returns-in_err-pending : goal.returns-in_err-pending
 returns-in_err-pending c = let p = err_from_is_err_and c.from_residual.result c.from_residual.ensures.1 in
-    rw (p.1, p.2) (took_refused (omega arith) c.in_err-pending.ensures refl)
+    rw (p.1, p.2) (took_refused (omega arith) (rw c.in_err-pending.was at c.begin.ensures) refl)
 
 pub returns-in_default : goal.returns-in_default
 returns-in_default c = took_full (omega arith) c.begin.ensures c.in_ok-pending.was c.in_default.is
