@@ -61,10 +61,10 @@ judged_problem p a r e =
     first_counts (suc k) r e h = e
 
 -- The answer is refused.
-pub answered_refused : (p : Problem) (n m : ℕ) (a : List ℕ) (r : Refusal) → head_of (Err r) ≡ answer_outcome a n m → Answered p n m a (refused (number_of r))
+pub answered_refused : (p : Problem) (n m : ℕ) (a : List ℕ) (r : Refusal) {read : Result Head Refusal} → read ≡ Err r → head_of read ≡ answer_outcome a n m → Answered p n m a (refused (number_of r))
 unfolding answer_outcome
-answered_refused p n m a r e =
-    let q = was_err told_by (answer_refusal a n m) (class_field a, span_field a, start_field a) e refl in
+answered_refused p n m a r f e =
+    let q = was_err told_by (answer_refusal a n m) (class_field a, span_field a, start_field a) e f in
     answer_turned p n m a (number_of r) q.0 (number_range r).0
 
 -- The answer is of the right form, and judged.

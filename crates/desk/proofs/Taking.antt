@@ -88,14 +88,14 @@ module _ {f : Front} {at : Option ℕ} {memory p : List ℕ} where
             go (suc number) h e = TakesIn.turned_away e
 
     -- The problem's refusals come first,
-    pub took_refused : {b : Result Pending Refusal} {k : Refusal} → BegunFor (meant p) b → b ≡ Err k → TookAt f at memory p (Err k) memory
+    pub took_refused : {b : Result Pending Refusal} {k : Refusal} → b ≡ Err k → BegunFor (meant p) b → TookAt f at memory p (Err k) memory
     unfolding take_refusal
-    took_refused {b} {k} g e =
+    took_refused {b} {k} e g =
         let refused : desk_refusal (meant p) ≡ number_of k = sym g.refused_is ∙ ap refused_by e in
         let some = (number_range k).0 in
         took_nothing k (λ places left free. rw (memory_enough (length memory) enough, refused) (or_else_suc (number_of k) _ some))
 
-    module _ {b : Result Pending Refusal} {begun : Pending} (g : BegunFor (meant p) b) (z : b ≡ Ok begun) where
+    module _ {b : Result Pending Refusal} {begun : Pending} (z : b ≡ Ok begun) (g : BegunFor (meant p) b) where
       -- then 21: all places are held,
       pub took_full : at ≡ None → TookAt f at memory p (Err Full) memory
       unfolding take_refusal
@@ -112,7 +112,7 @@ module _ {f : Front} {at : Option ℕ} {memory p : List ℕ} where
 
 -- ---- one taken in
 
-module _ (f : Front) (free : Option ℕ) (at : ℕ) (memory p : List ℕ) {b : Result Pending Refusal} {begun : Pending} (enough : desk_memory ≤ length memory) (g : BegunFor (meant p) b) (z : b ≡ Ok begun)
+module _ (f : Front) (free : Option ℕ) (at : ℕ) (memory p : List ℕ) {b : Result Pending Refusal} {begun : Pending} (enough : desk_memory ≤ length memory) (z : b ≡ Ok begun) (g : BegunFor (meant p) b)
     (here : free ≡ Some at) (below : f.given < last_ticket) where
   within : WithinDesk (meant p)
   within = none_refused g z
